@@ -1,0 +1,10 @@
+pub mod Range
+pub mod Config
+pub mod Record
+pub mod Kept
+pub mod Device
+pub mod DeviceParts
+pub mod Items
+pub mod Legal
+pub mod Fifo
+pub mod Written

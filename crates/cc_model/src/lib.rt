@@ -1,0 +1,18 @@
+//! The words that every crate of the broker shares: configurations, calls and answers, histories, and devices.
+#![tactic(auto)]
+
+mod call;
+mod config;
+mod device;
+mod history;
+mod laws;
+mod pen;
+mod tag;
+
+pub use call::{Answer, Call, CloseAnswer, Entry, Item, Pass, SendAnswer, TakeAnswer};
+pub use config::{Config, ConfigFault, is_within};
+pub use device::{Device, DeviceFault, Sink, Source};
+pub use history::History;
+pub use laws::legal_gives_fifo;
+pub use pen::{Pen, WriteFault, write_bytes};
+pub use tag::{pack, unpack};
