@@ -1,5 +1,5 @@
 //! A history that was played, as its owner stores it.
-ghost use Rattle.std.specs.Prelude.{◌≡◌, ◌≤◌, ◌<◌, ◌+◌, length, OnOk, OnErr};
+ghost use Rattle.std.specs.Prelude.{◌≡◌, ◌≤◌, ◌<◌, ◌+◌, length, max, OnOk, OnErr};
 
 use crate::{Answer, Entry};
 use std::alloc::{AllocError, Global};
@@ -71,24 +71,26 @@ impl History {
         self.d_answers.as_slice()
     }
 
-    /// Makes room for so many further calls of senders, and for the answers of all of their calls.
+    /// Makes room for so many further calls of senders, and as many further answers.
     pub fn reserve_e(&mut self, further: usize) -> Result<(), AllocError>
         ensures lists { self.new.lists ≡ self.old.lists }
-        ensures ok { OnOk result (length self.old.lists.e_calls + further ≤ self.new.e_room) }
+        ensures calls { OnOk result (length self.old.lists.e_calls + further ≤ self.new.e_room) }
+        ensures answers { OnOk result (length self.old.lists.e_answers + further ≤ self.new.e_room) }
         ensures keeps { self.old.e_room ≤ self.new.e_room }
         ensures other_side { self.new.d_room ≡ self.old.d_room }
-        ensures refused { OnErr result (self.old.e_room < length self.old.lists.e_calls + further) }
+        ensures refused { OnErr result (self.old.e_room < max (length self.old.lists.e_calls) (length self.old.lists.e_answers) + further) }
     {
         reserve(&mut self.e_calls, &mut self.e_answers, further)
     }
 
-    /// Makes room for so many further calls of receivers, and for the answers of all of their calls.
+    /// Makes room for so many further calls of receivers, and as many further answers.
     pub fn reserve_d(&mut self, further: usize) -> Result<(), AllocError>
         ensures lists { self.new.lists ≡ self.old.lists }
-        ensures ok { OnOk result (length self.old.lists.d_calls + further ≤ self.new.d_room) }
+        ensures calls { OnOk result (length self.old.lists.d_calls + further ≤ self.new.d_room) }
+        ensures answers { OnOk result (length self.old.lists.d_answers + further ≤ self.new.d_room) }
         ensures keeps { self.old.d_room ≤ self.new.d_room }
         ensures other_side { self.new.e_room ≡ self.old.e_room }
-        ensures refused { OnErr result (self.old.d_room < length self.old.lists.d_calls + further) }
+        ensures refused { OnErr result (self.old.d_room < max (length self.old.lists.d_calls) (length self.old.lists.d_answers) + further) }
     {
         reserve(&mut self.d_calls, &mut self.d_answers, further)
     }
@@ -128,19 +130,20 @@ impl History {
 
 ghost use Rattle.cc_model.specs.Kept.{room_of};
 
-/// Makes room for so many further calls, and for the answers of all calls.
+/// Makes room for so many further calls and answers.
 fn reserve(
     calls: &mut Vec<Entry>,
     answers: &mut Vec<Answer>,
     further: usize,
 ) -> Result<(), AllocError>
-    ensures calls { calls.new.items ≡ calls.old.items }
-    ensures answers { answers.new.items ≡ answers.old.items }
-    ensures ok { OnOk result (length calls.old.items + further ≤ room_of calls.new answers.new) }
+    ensures calls_kept { calls.new.items ≡ calls.old.items }
+    ensures answers_kept { answers.new.items ≡ answers.old.items }
+    ensures calls { OnOk result (length calls.old.items + further ≤ room_of calls.new answers.new) }
+    ensures answers { OnOk result (length answers.old.items + further ≤ room_of calls.new answers.new) }
     ensures keeps { room_of calls.old answers.old ≤ room_of calls.new answers.new }
-    ensures refused { OnErr result (room_of calls.old answers.old < length calls.old.items + further) }
+    ensures refused { OnErr result (room_of calls.old answers.old < max (length calls.old.items) (length answers.old.items) + further) }
 {
-    calls.reserve(further)?;
-    let all = calls.len().saturating_add(further);
-    answers.reserve(all.saturating_sub(answers.len()))
+    let most = calls.len().max(answers.len());
+    calls.reserve((most - calls.len()).saturating_add(further))?;
+    answers.reserve((most - answers.len()).saturating_add(further))
 }

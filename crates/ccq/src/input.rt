@@ -1,0 +1,47 @@
+//! Reading the whole of an input.
+ghost use Rattle.std.specs.Prelude.{◌≡◌, ◌≤◌, ◌<◌, ◌+◌, ◌-◌, ◌^◌, IfOk, OnOk, IsErrOf, length};
+ghost use Rattle.std.specs.Io.KnownBytes.{Consumes, IsAtEnd};
+ghost use Rattle.ccq.specs.declared.input.InputFault.TheVariants.{NoMemory};
+
+use cc_model::Source;
+use std::alloc::{AllocError, Global};
+
+/// How many bytes an input may have.
+pub const INPUT_LIMIT: usize = 16_777_216;
+
+#[derive(Clone, Copy, Debug, PartialEq, Eq)]
+pub enum InputFault {
+    Read,
+    NoMemory,
+}
+
+impl From<AllocError> for InputFault {
+    ghost from_gives = { λ _ e. e ≡ NoMemory };
+
+    fn from(_: AllocError) -> InputFault {
+        InputFault::NoMemory
+    }
+}
+
+/// Reads to the end of the source, or to one byte past the limit.
+pub fn read_input<R: Source>(alloc: Global, source: &mut R) -> Result<Vec<u8>, InputFault>
+    requires { R.read_failures source.old < 2 ^ 64 - 1 }
+    ensures bytes { IfOk result (λ input. Consumes (R.bytes_left source.old) (R.bytes_left source.new) input.items) }
+    ensures end { IfOk result (λ input. length input.items ≤ INPUT_LIMIT → IsAtEnd (R.bytes_left source.new)) }
+    ensures no_failure { OnOk result (R.read_failures source.new ≡ R.read_failures source.old) }
+    ensures memory { IsErrOf result InputFault.NoMemory → R.read_failures source.new ≡ R.read_failures source.old }
+    ensures failure { IsErrOf result InputFault.Read → R.read_failures source.new ≡ R.read_failures source.old + 1 }
+{
+    let mut input = Vec::new(alloc);
+    let mut chunk = [0u8; 16_384];
+    while input.len() <= INPUT_LIMIT {
+        let room = (INPUT_LIMIT + 1 - input.len()).min(chunk.len());
+        let n = match source.read_some(&mut chunk[..room]) {
+            Ok(0) => return Ok(input),
+            Ok(n) => n,
+            Err(_) => return Err(InputFault::Read),
+        };
+        input.extend_from_slice(&chunk[..n])?;
+    }
+    Ok(input)
+}
