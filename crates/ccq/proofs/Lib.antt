@@ -1,5 +1,3 @@
-pub mod Trees
-pub mod Shapes
-pub mod Scans
-pub mod Lines
-pub mod Lawful
+pub mod Turns
+pub mod Followed
+pub mod Clean

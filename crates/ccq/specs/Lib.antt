@@ -1,7 +1,3 @@
-pub mod Json
-pub mod Plan
-pub mod PlanOf
-pub mod Whole
-pub mod Report
+pub mod Schedule
 pub mod Play
 pub mod Run

@@ -1,25 +1,29 @@
 -- What a command line answers, and what it says on standard error.
-use Rattle.std.specs.Prelude.{ℕ, ◌≡◌, ◌++◌, Bool, true, false, List, [], ◌∷◌, codes, Option, Result, Ok, Err, String, string_bytes}
+use Rattle.std.specs.Prelude.{ℕ, ◌≡◌, ◌++◌, Bool, List, [], ◌∷◌, codes, if◌then◌else◌, Option, Some, None, Result, Ok, Err, String, string_bytes}
 use Rattle.std.specs.Global.{Global}
 use Rattle.std.specs.Str.{bytes_eq}
 use Rattle.std.specs.Io.KnownBytes.{Keeps}
 use Rattle.cc_model.specs.Written.{Writes, word_text}
-use Rattle.ccq.specs.declared.fault.PlanFault.{PlanFault}
-use Rattle.ccq.specs.declared.fault.PlanFault.TheVariants.{P1, P2, P3, P4, P5}
+use Rattle.cc_plan.specs.declared.fault.PlanFault.{PlanFault}
+use Rattle.cc_plan.specs.declared.fault.PlanFault.TheVariants.{P1, P2, P3, P4, P5}
 use Rattle.ccq.specs.declared.fault.PlayFault.{PlayFault}
 use Rattle.ccq.specs.declared.fault.PlayFault.TheVariants as fault
-use Rattle.ccq.specs.declared.fault.Verdict.{Verdict}
-use Rattle.ccq.specs.Play.{Plays}
+use Rattle.cc_audit.specs.declared.receipt.Verdict.{Verdict}
+use Rattle.cc_audit.specs.declared.receipt.Verdict.TheVariants.{Clean, Fault}
+use Rattle.ccq.specs.declared.run.Command.{Command}
+use Rattle.ccq.specs.declared.run.Command.TheVariants.{Play, Audit}
+use Rattle.ccq.specs.Play.{Plays, Audits}
 
--- the one word play
-abbrev pub is_play : List (String Global) → Bool
-is_play [] = false
-is_play (word ∷ []) = bytes_eq (string_bytes word) (codes "play")
-is_play (word ∷ other ∷ words) = false
+-- the one word play, or the one word audit
+abbrev pub command_of : List (String Global) → Option Command
+command_of [] = None
+command_of (word ∷ []) = if bytes_eq (string_bytes word) (codes "play") then Some Play else (if bytes_eq (string_bytes word) (codes "audit") then Some Audit else None)
+command_of (word ∷ other ∷ words) = None
 
 -- the exit status
 abbrev pub status_of : Result Verdict PlayFault → ℕ
-status_of (Ok verdict) = 0
+status_of (Ok Clean) = 0
+status_of (Ok (Fault kind place)) = 1
 status_of (Err (fault.Plan P5)) = 3
 status_of (Err (fault.Plan f)) = 2
 status_of (Err fault.Read) = 4
@@ -49,8 +53,11 @@ pub record Told (old new : Option (List ℕ)) (before after : ℕ) (text : List 
   pub failed : Bool
   pub writes : Writes failed old new before after text
 
--- the word play: the plan was played, and its outcome was told; any other line is refused, and nothing is read or written
-abbrev pub Runs : (line_is_play : Bool) → (left_old left_new old new : Option (List ℕ)) → (status : ℕ) → (errors_old errors_new : Option (List ℕ)) → (before after : ℕ) → Type 0
-Runs true left_old left_new old new status errors_old errors_new before after =
+-- The input was worked on as the command says, and its outcome was told; a command line that is refused reads and writes
+-- nothing.
+abbrev pub Runs : Option Command → (left_old left_new old new : Option (List ℕ)) → (status : ℕ) → (errors_old errors_new : Option (List ℕ)) → (before after : ℕ) → Type 0
+Runs (Some Play) left_old left_new old new status errors_old errors_new before after =
     (outcome : Result Verdict PlayFault) × Plays left_old left_new outcome old new × (status ≡ status_of outcome) × Told errors_old errors_new before after (line_of outcome)
-Runs false left_old left_new old new status errors_old errors_new before after = (status ≡ 64) × Keeps left_old left_new × Keeps old new
+Runs (Some Audit) left_old left_new old new status errors_old errors_new before after =
+    (outcome : Result Verdict PlayFault) × Audits left_old left_new outcome old new × (status ≡ status_of outcome) × Told errors_old errors_new before after (line_of outcome)
+Runs None left_old left_new old new status errors_old errors_new before after = (status ≡ 64) × Keeps left_old left_new × Keeps old new

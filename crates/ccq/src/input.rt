@@ -1,14 +1,14 @@
 //! Reading the whole of an input.
 ghost use Rattle.std.specs.Prelude.{◌≡◌, ◌≤◌, ◌<◌, ◌+◌, ◌-◌, ◌^◌, IfOk, OnOk, IsErrOf, length};
 ghost use Rattle.std.specs.Io.KnownBytes.{Consumes, IsAtEnd};
+ghost use Rattle.cc_plan.specs.Refusal.{input_limit};
 ghost use Rattle.ccq.specs.declared.input.InputFault.TheVariants.{NoMemory};
 
 use cc_model::Source;
+use cc_plan::INPUT_LIMIT;
 use std::alloc::{AllocError, Global};
 
-/// How many bytes an input may have.
-pub const INPUT_LIMIT: usize = 16_777_216;
-
+/// Why an input wasn't read to its end.
 #[derive(Clone, Copy, Debug, PartialEq, Eq)]
 pub enum InputFault {
     Read,
@@ -27,7 +27,7 @@ impl From<AllocError> for InputFault {
 pub fn read_input<R: Source>(alloc: Global, source: &mut R) -> Result<Vec<u8>, InputFault>
     requires { R.read_failures source.old < 2 ^ 64 - 1 }
     ensures bytes { IfOk result (λ input. Consumes (R.bytes_left source.old) (R.bytes_left source.new) input.items) }
-    ensures end { IfOk result (λ input. length input.items ≤ INPUT_LIMIT → IsAtEnd (R.bytes_left source.new)) }
+    ensures end { IfOk result (λ input. length input.items ≤ input_limit → IsAtEnd (R.bytes_left source.new)) }
     ensures no_failure { OnOk result (R.read_failures source.new ≡ R.read_failures source.old) }
     ensures memory { IsErrOf result InputFault.NoMemory → R.read_failures source.new ≡ R.read_failures source.old }
     ensures failure { IsErrOf result InputFault.Read → R.read_failures source.new ≡ R.read_failures source.old + 1 }

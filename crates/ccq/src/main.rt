@@ -1,17 +1,14 @@
-//! Plays a plan and writes the history of its run.
+//! Plays plans, and audits receipts.
 #![tactic(auto)]
 
+mod audit;
 mod fault;
 mod input;
-mod json;
-mod plan;
 mod play;
-mod report;
+mod player;
 mod run;
-mod scan;
 #[cfg(test)]
 mod tests;
-mod whole;
 
 use cc_model::Device;
 use std::env;

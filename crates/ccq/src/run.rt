@@ -2,16 +2,22 @@
 ghost use Rattle.std.specs.Prelude.{◌≡◌, ◌<◌, ◌-◌, ◌^◌, ◌++◌, codes, Err};
 ghost use Rattle.cc_model.specs.Written.{word_text};
 ghost use Rattle.ccq.specs.declared.fault.PlayFault.TheVariants as play_fault;
-ghost use Rattle.ccq.specs.Run.{is_play, status_of, no_memory_line, refusal_line, line_of, Told, Runs};
+ghost use Rattle.std.specs.Prelude.{if◌then◌else◌, Some, None};
+ghost use Rattle.std.specs.Str.{bytes_eq};
+ghost use Rattle.ccq.specs.Run.{command_of, status_of, no_memory_line, refusal_line, line_of, Told, Runs};
 
-use crate::fault::{PlanFault, PlayFault, Verdict};
+use crate::audit::audit_bytes;
+use crate::fault::PlayFault;
 use crate::play::play;
+use cc_audit::Verdict;
 use cc_model::{Pen, Sink, Source, write_bytes};
+use cc_plan::PlanFault;
 use std::alloc::Global;
 
-/// One command line, without the program's name: plays the plan of the source, and answers the exit status. It is 0
-/// where the plan was played, 2 where it is refused, 3 where memory is, 4 where a device fails, and 64 where the line
-/// isn't the one word `play`. What went wrong is told on `errors`, whose own failures change nothing.
+/// One command line, without the program's name: plays the plan of the source, or audits its receipts, and answers the
+/// exit status. It is 0 where that was done and the verdict is clean, 1 where the audit found a fault, 2 where the input
+/// is refused, 3 where memory is, 4 where a device fails, and 64 where the line is refused. What went wrong is told on
+/// `errors`, whose own failures change nothing.
 pub fn run<R: Source, W: Sink, E: Sink>(
     alloc: Global,
     words: &[String],
@@ -23,25 +29,50 @@ pub fn run<R: Source, W: Sink, E: Sink>(
     requires writes { W.write_failures sink.old < 2 ^ 64 - 1 }
     requires errors { E.write_failures errors.old < 2 ^ 64 - 1 }
 
-    ensures { Runs (is_play words.now) (R.bytes_left source.old) (R.bytes_left source.new)
+    ensures { Runs (command_of words.now) (R.bytes_left source.old) (R.bytes_left source.new)
         (W.bytes_written sink.old) (W.bytes_written sink.new) result
         (E.bytes_written errors.old) (E.bytes_written errors.new)
         (E.write_failures errors.old) (E.write_failures errors.new) }
 {
-    if !is_play(words) {
-        return usage(errors);
+    match asked(words) {
+        Some(Command::Play) => {
+            let outcome = play(alloc, source, sink);
+            tell(errors, outcome)
+        }
+        Some(Command::Audit) => {
+            let outcome = audit_bytes(alloc, source, sink);
+            tell(errors, outcome)
+        }
+        None => usage(errors),
     }
-    let outcome = play(alloc, source, sink);
-    tell(errors, outcome)
 }
 
-fn is_play(words: &[String]) -> bool
-    ensures { result ≡ is_play words.now }
+/// What a command line asks for.
+#[derive(Clone, Copy, Debug, PartialEq, Eq)]
+pub enum Command {
+    /// A plan is played.
+    Play,
+    /// Receipts are audited.
+    Audit,
+}
+
+fn asked(words: &[String]) -> Option<Command>
+    ensures { result ≡ command_of words.now }
 {
     match words {
-        [] => false,
-        [word] => word.as_str() == "play",
-        [_, _, ..] => false,
+        [] => None,
+        [word] => named(word.as_str()),
+        [_, _, ..] => None,
+    }
+}
+
+fn named(word: &str) -> Option<Command>
+    ensures { result ≡ (if bytes_eq word.now (codes "play") then Some Command.Play else (if bytes_eq word.now (codes "audit") then Some Command.Audit else None)) }
+{
+    match word {
+        "play" => Some(Command::Play),
+        "audit" => Some(Command::Audit),
+        _ => None,
     }
 }
 
@@ -54,7 +85,8 @@ fn tell<E: Sink>(errors: &mut E, outcome: Result<Verdict, PlayFault>) -> u8
         (E.write_failures errors.old) (E.write_failures errors.new) (line_of outcome) }
 {
     match outcome {
-        Ok(_) => told(errors, b"", 0),
+        Ok(Verdict::Clean) => told(errors, b"", 0),
+        Ok(Verdict::Fault { .. }) => told(errors, b"", 1),
         Err(PlayFault::Plan(fault)) => refused(errors, fault),
         Err(PlayFault::Read) => told(errors, b"ccq: reading failed\n", 4),
         Err(PlayFault::Write) => told(errors, b"ccq: writing failed\n", 4),
@@ -79,7 +111,7 @@ pub fn usage<E: Sink>(errors: &mut E) -> u8
 {
     told(
         errors,
-        b"usage: ccq play\nIt reads a plan on standard input and writes the report of its run on standard output.\n",
+        b"usage: ccq play | audit\nplay reads a plan on standard input and writes the report of its run on standard output;\naudit reads receipts and writes the verdict on them.\n",
         64,
     )
 }

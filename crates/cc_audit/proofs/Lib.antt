@@ -1,0 +1,12 @@
+pub mod Counts
+pub mod InOrder
+pub mod Soonest
+pub mod Sought
+pub mod Turns
+pub mod Copies
+pub mod Faults
+pub mod Found
+pub mod Clean
+pub mod Lawful
+pub mod Ends
+pub mod Orders

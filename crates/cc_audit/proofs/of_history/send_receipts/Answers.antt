@@ -1,0 +1,6 @@
+use Rattle.std.proofs.lemmas.Slice.Zip.{either_empty_from_Zip}
+use Rattle.cc_audit.proofs.Ends.{all_sends}
+use Rattle.cc_audit.proofs.of_history.send_receipts.Goals as goal
+
+pub returns : goal.returns
+returns c = all_sends c.loop-entry.receipts.items _ _ _ (either_empty_from_Zip c.loop-entry.entry-iterator c.next.new.self c.next.result c.in-None.is c.next.ensures.steps) c.loop-entry.invariant

@@ -1,0 +1,53 @@
+-- The receipts of a history.
+use Rattle.std.specs.Prelude.{ℕ, List, [], ◌∷◌, ◌++◌, map, Option, Some, None}
+use Rattle.cc_model.specs.Record.{Record}
+use Rattle.cc_model.specs.Items.{accepted}
+use Rattle.cc_model.specs.Legal.{Legal}
+use Rattle.cc_model.specs.declared.config.Config.{Config}
+use Rattle.cc_model.specs.declared.call.Pass.{Pass}
+use Rattle.cc_model.specs.declared.call.Pass.TheVariants as pass
+use Rattle.cc_model.specs.declared.call.Item.{Item}
+use Rattle.cc_model.specs.declared.call.Entry.{Entry}
+use Rattle.cc_model.specs.declared.call.Answer.{Answer}
+use Rattle.cc_model.specs.declared.call.Answer.TheVariants as answer
+use Rattle.cc_model.specs.declared.call.CloseAnswer.TheVariants as close
+use Rattle.cc_model.specs.declared.call.TakeAnswer.TheVariants as take
+use Rattle.cc_audit.specs.declared.receipt.SendReceipt.{SendReceipt}
+use Rattle.cc_audit.specs.declared.receipt.TakeReceipt.{TakeReceipt}
+use Rattle.cc_audit.specs.declared.receipt.Verdict.TheVariants.{Clean}
+use Rattle.cc_audit.specs.Verdict.{IsVerdict}
+
+-- the receipt of the send that an item comes from
+abbrev pub send_receipt : Item → SendReceipt
+send_receipt x = record { sender = x.sender; number = x.number; place = x.place; body = x.body }
+
+-- one receipt for each send answered Accepted
+abbrev pub sends_of : Record → List SendReceipt
+sends_of h = map send_receipt (accepted h)
+
+-- the receipt of a take answered Got
+abbrev pub take_receipt : Pass → Answer → List TakeReceipt
+take_receipt (pass.Receiver r) (answer.Take (take.Got item)) = record { receiver = r; item = item } ∷ []
+take_receipt _ _ = []
+
+abbrev pub takes_by : List Entry → List Answer → List TakeReceipt
+takes_by [] answers = []
+takes_by (c ∷ calls) [] = []
+takes_by (c ∷ calls) (a ∷ answers) = take_receipt c.pass a ++ takes_by calls answers
+
+-- one receipt for each take answered Got
+abbrev pub takes_of : Record → List TakeReceipt
+takes_of h = takes_by h.d_calls h.d_answers
+
+abbrev pub total_by : List Answer → Option ℕ
+total_by [] = None
+total_by (answer.Close (close.Shut total) ∷ answers) = Some total
+total_by (_ ∷ answers) = total_by answers
+
+-- the total of the first close answered Shut
+abbrev pub total_of : Record → Option ℕ
+total_of h = total_by h.e_answers
+
+-- the law: the receipts of a lawful history are clean
+abbrev pub LegalGivesClean : Type 0
+LegalGivesClean = (cfg : Config) (h : Record) → Legal cfg h → IsVerdict (sends_of h) (takes_of h) (total_of h) Clean

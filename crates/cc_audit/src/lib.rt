@@ -1,0 +1,17 @@
+//! What senders and receivers hold as proof of their calls, and the audit of it.
+#![tactic(auto)]
+
+mod judge;
+mod laws;
+mod least;
+mod of_history;
+mod places;
+mod receipt;
+mod sends;
+#[cfg(test)]
+mod tests;
+
+pub use judge::audit;
+pub use laws::{any_order, legal_gives_clean, one_verdict};
+pub use of_history::{send_receipts, take_receipts, total};
+pub use receipt::{SendReceipt, TakeReceipt, Verdict};

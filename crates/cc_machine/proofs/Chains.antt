@@ -1,0 +1,24 @@
+-- The chains of a state: as the abstract chain sees them, and that each move keeps its invariant.
+pub mod View
+pub mod Frame
+pub mod Bridge
+pub mod Sides
+pub mod Registers
+pub mod Service
+pub mod Ties
+pub mod Grown
+pub mod Facts
+pub mod Steps
+pub mod Serve
+pub mod Read
+pub mod Own
+pub mod Others
+pub mod Opening
+pub mod Runs
+pub mod Safe
+pub mod Serving
+pub mod ForList
+pub mod Last
+pub mod Told
+pub mod Decoded
+pub mod Touched

@@ -1,0 +1,132 @@
+-- A chain at the opening.
+use Rattle.std.proofs.Common.{◌≡◌, ℕ, ◌+◌, ◌-◌, ◌<◌, Bool, cond, refl, ap, sym, ◌∙◌, subst, arith, List, []}
+use Rattle.std.proofs.lemmas.Bool.{lt-ltb, le-ltb}
+use Rattle.cc_model.specs.Record.{empty}
+use Rattle.cc_model.specs.declared.config.Config.{Config}
+use Rattle.cc_model.specs.declared.call.Entry.{Entry}
+use Rattle.cc_model.specs.declared.call.Answer.{Answer}
+use Rattle.cc_machine.specs.declared.setting.Setting.{Setting}
+use Rattle.cc_machine.specs.declared.setting.Served.{Served}
+use Rattle.cc_machine.specs.declared.setting.Served.TheVariants as served
+use Rattle.cc_machine.specs.declared.word.Chain.{Chain}
+use Rattle.cc_machine.specs.declared.word.Chain.TheVariants.{Send, Take}
+use Rattle.cc_machine.specs.declared.word.Word.TheVariants.{Tail}
+use Rattle.cc_machine.specs.declared.place.Stand.{Stand}
+use Rattle.cc_machine.specs.declared.place.Place.TheVariants as place
+use Rattle.cc_machine.specs.State.{first_node}
+use Rattle.cc_machine.specs.Run.{first_word, opening, passes, passes_of, nowhere, IsFinished}
+use Rattle.cc_machine.proofs.Combining.Chain.{Ghost}
+use Rattle.cc_machine.proofs.Combining.Invariant.{Inv}
+use Rattle.cc_machine.proofs.Chains.View.{view, members, pass_on, post_at, out, request_long}
+use Rattle.cc_machine.proofs.Chains.Registers.{IsChain, calls_on, answers_on, answer_at, HasCall, HasRead}
+use Rattle.cc_machine.proofs.Chains.Ties.{Ties, Holds, stands_on}
+use Rattle.cc_machine.proofs.Chains.Others.{chain_zero}
+
+-- where a pass of the chain stands
+abbrev placed : Setting → ℕ → ℕ → Stand
+placed c p node = record { begun = 0; node = node; place = place.Idle }
+
+stood : (c : Setting) (p : ℕ) → p < passes c → (opening c).stand p ≡ placed c p (first_node c.config p)
+stood c p less = ap (λ (b : Bool). cond b (placed c p (first_node c.config p)) nowhere) (lt-ltb p (passes c) less)
+
+sender_node : (config : Config) (p : ℕ) → p < config.senders → first_node config p ≡ p + 1
+sender_node config p less = ap (λ (b : Bool). cond b (p + 1) (p - config.senders + 1)) (lt-ltb p config.senders less)
+
+receiver_node : (config : Config) (p : ℕ) → first_node config (config.senders + p) ≡ p + 1
+receiver_node config p =
+    let back : config.senders + p - config.senders ≡ p = omega arith in
+    ap (λ (b : Bool). cond b (config.senders + p + 1) (config.senders + p - config.senders + 1)) (le-ltb (config.senders + p) config.senders (omega arith)) ∙ ap (λ (z : ℕ). z + 1) back
+
+all_senders : (s : Served) (config : Config) (p : ℕ) → p < config.senders → p < passes_of s config
+all_senders served.Counter config p less = less
+all_senders served.List config p less = omega arith
+
+all_receivers : (s : Served) (config : Config) (g p : ℕ) → IsChain s (Take g) → p < config.receivers → config.senders + p < passes_of s config
+all_receivers served.List config g p ok less = omega arith
+all_receivers served.Counter config g p ok less = absurd ok
+
+pub member_in : (c : Setting) (x : Chain) → IsChain c.served x → (p : ℕ) → p < members c x → pass_on c x p < passes c
+member_in c Send ok p less = all_senders c.served c.config p less
+member_in c (Take g) ok p less = all_receivers c.served c.config g p ok less
+
+first_at : (c : Setting) (x : Chain) (p : ℕ) → p < members c x → first_node c.config (pass_on c x p) ≡ p + 1
+first_at c Send p less = sender_node c.config p less
+first_at c (Take g) p less = receiver_node c.config p
+
+first_tail : (c : Setting) (x : Chain) → IsChain c.served x → first_word c.config (Tail x) ≡ 1
+first_tail c Send ok = refl
+first_tail c (Take g) ok = ap (λ (z : ℕ). first_word c.config (Tail (Take z))) (chain_zero c.served g ok)
+
+abbrev first : Chain → Ghost
+first x = record { calls = 0; answers = 0; marked = 0; server = 0; pass_of = λ k. 0; asked = λ k j. 0; told = λ k j. 0; asks_long = λ k. request_long x; told_long = λ k. 1; chain = λ k. 0; at = λ p. 0 }
+
+module _ (c : Setting) (x : Chain) (ok : IsChain c.served x) where
+  stands : (p : ℕ) → p < members c x → (opening c).stand (pass_on c x p) ≡ placed c p (p + 1)
+  stands p pn = stood c (pass_on c x p) (member_in c x ok p pn) ∙ ap (λ (z : ℕ). placed c p z) (first_at c x p pn)
+
+  post : (p : ℕ) → p < members c x → post_at x ((opening c).stand (pass_on c x p)) ≡ out 0 (p + 1)
+  post p pn = ap (λ (z : Stand). post_at x z) (stands p pn)
+
+  tail : first_word c.config (Tail x) ≡ 1
+  tail = first_tail c x ok
+
+  inv : Inv (members c x) c.config.bound (view c x (opening c)) (first x)
+  inv = record {
+    nodes = record {
+      node_in = λ p pn. grind (arith, post p pn);
+      last_in = omega arith;
+      apart = λ p q pn qn same. grind (arith, post p pn, post q qn);
+      last_apart = λ p pn same. grind (arith, post p pn);
+      tail_is = grind (arith, tail);
+    };
+    calls = record { in_order = omega arith; in_order2 = omega arith; open_pass = λ k a b. absurd (omega arith); open_at = λ k a b. absurd (omega arith); open_low = λ k a b. absurd (omega arith); open_high = λ k a b. absurd (omega arith); open_node = λ k a b. absurd (omega arith) };
+    passes = record { at_in = λ p pn a. grind (arith, post p pn); at_is = λ p pn a. grind (arith, post p pn); at_last = λ p k a b same. absurd (omega arith); early = λ p pn a. grind (arith, post p pn); late = λ p pn a. grind (arith, post p pn) };
+    links = record { ready_next = λ p pn a b. grind (arith, post p pn); put_is = λ p pn a. grind (arith, post p pn); asks_is = λ p j pn a b. grind (arith, post p pn); linked = λ p pn a b. grind (arith, post p pn); last_next = refl };
+    words = record { written = λ p j pn a b. grind (arith, post p pn); linked_written = λ p j pn a b d. grind (arith, post p pn); serving_told = λ p j a b d e. absurd (omega arith); done_told = λ p j pn a b d. absurd (omega arith) };
+    states = record { ready_state = λ p pn a. grind (arith, post p pn); waiting = λ k a b. absurd (omega arith); free_state = λ a. refl; busy_state = λ p a b. absurd (omega arith); done_state = λ p pn a b. absurd (omega arith) };
+    server = record {
+      server_is = λ p pn a. grind (arith, post p pn);
+      server_in = λ p a. absurd (omega arith);
+      server_rank = λ p a. absurd (omega arith);
+      server_low = λ p a. absurd (omega arith);
+      server_most = λ p a. absurd (omega arith);
+      server_at = λ p a b. absurd (omega arith);
+      server_target = λ p a. absurd (omega arith);
+      server_bound = λ p a b. absurd (omega arith);
+      server_past = λ p a b. absurd (omega arith);
+    };
+    serving = record { serving = λ p a b d. absurd (omega arith); serving_next = λ p a b d. absurd (omega arith); serving_linked = λ p a b d. absurd (omega arith); undecided = λ p a b. refl; decided = λ p a b. absurd (omega arith); free_answers = λ a. refl };
+  }
+
+  ties : Ties c x [] [] (stands_on c x (opening c)) (first x)
+  ties = record {
+    calls_are = refl;
+    answers_are = refl;
+    pass_in = λ k l. absurd (omega arith);
+    entered = λ k l. absurd (omega arith);
+    asked = λ k j l. absurd (omega arith);
+    asks_long = λ k. refl;
+    answered = λ k l. absurd (omega arith);
+    told = λ k j l. absurd (omega arith);
+    told_long = λ k l. absurd (omega arith);
+    begun = λ q qn. subst (λ (z : Stand). HasCall c x q z.place) (sym (stands q qn)) tt;
+    served = λ q a. absurd (omega arith);
+    read = λ q qn. subst (λ (z : Stand). HasRead c.served x (answer_at [] 0) z.place) (sym (stands q qn)) tt;
+    ended = λ q qn f. absurd (subst (λ (z : Stand). IsFinished z.place) (stands q qn) f);
+  }
+
+no_calls : (x : Chain) → calls_on x empty ≡ []
+no_calls Send = refl
+no_calls (Take g) = refl
+
+no_answers : (x : Chain) → answers_on x empty ≡ []
+no_answers Send = refl
+no_answers (Take g) = refl
+
+pub opened : (c : Setting) (x : Chain) → IsChain c.served x → Holds c x (opening c)
+opened c x ok = record {
+  ghost = first x;
+  inv = inv c x ok;
+  ties = subst (λ (l : List Entry). Ties c x l (answers_on x empty) (stands_on c x (opening c)) (first x)) (sym (no_calls x))
+      (subst (λ (l : List Answer). Ties c x [] l (stands_on c x (opening c)) (first x)) (sym (no_answers x)) (ties c x ok));
+}

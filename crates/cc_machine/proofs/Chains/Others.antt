@@ -1,0 +1,181 @@
+-- What a step of another chain, a begin, and the taking of an answer leave of a chain.
+use Rattle.std.proofs.Common.{◌≡◌, ◌≢◌, ◌⊎◌, ℕ, ◌+◌, ◌-◌, ◌<◌, ◌≤◌, Bool, true, false, ◌&&◌, ◌==◌, cond, refl, ap, sym, ◌∙◌, subst, arith, inl, inr, Option, List}
+use Rattle.std.proofs.lemmas.Bool.{cases_eq, cases_lt, lt-ltb, le-ltb}
+use Rattle.cc_model.specs.Record.{Record}
+use Rattle.cc_model.specs.declared.config.Config.{Config}
+use Rattle.cc_model.specs.declared.call.Entry.{Entry}
+use Rattle.cc_model.specs.declared.call.Answer.{Answer}
+use Rattle.cc_machine.specs.declared.setting.Setting.{Setting}
+use Rattle.cc_machine.specs.declared.setting.Served.{Served}
+use Rattle.cc_machine.specs.declared.setting.Served.TheVariants as served
+use Rattle.cc_machine.specs.declared.word.Chain.{Chain}
+use Rattle.cc_machine.specs.declared.word.Chain.TheVariants.{Send, Take}
+use Rattle.cc_machine.specs.declared.word.NodeField.{NodeField}
+use Rattle.cc_machine.specs.declared.word.NodeField.TheVariants as node
+use Rattle.cc_machine.specs.declared.word.Word.{Word}
+use Rattle.cc_machine.specs.declared.word.Word.TheVariants.{Tail, Node}
+use Rattle.cc_machine.specs.declared.place.Stand.{Stand}
+use Rattle.cc_machine.specs.declared.place.Place.{Place}
+use Rattle.cc_machine.specs.declared.place.Place.TheVariants as place
+use Rattle.cc_machine.specs.Words.{put, same, same_chain, node_field}
+use Rattle.cc_machine.specs.Codes.{pack, ret_of}
+use Rattle.cc_machine.specs.State.{State, chain_of, hold, noted, stored, word_of}
+use Rattle.cc_machine.specs.Columns.{operation, group_of, enters, decides}
+use Rattle.cc_machine.specs.Step.{stepped_from, advanced}
+use Rattle.cc_machine.specs.Run.{passes_of, passes}
+use Rattle.cc_machine.proofs.Combining.Stay.{Stays}
+use Rattle.cc_machine.proofs.Combining.Stay as by_stay
+use Rattle.cc_machine.proofs.Chains.View.{view, members, pass_on, post_at, cell_of}
+use Rattle.cc_machine.proofs.Chains.Frame.{hold_here, hold_apart, pass_apart}
+use Rattle.cc_machine.proofs.Chains.Registers.{IsChain, calls_on, answers_on}
+use Rattle.cc_machine.proofs.Chains.Service.{send_tail, send_words, take_tail, take_words, count_tail, count_words}
+use Rattle.cc_machine.proofs.Chains.Ties.{Ties, Holds, stands_on, ties_same, ties_moved}
+use Rattle.cc_machine.proofs.Chains.Steps.{Moves}
+
+-- a senders' chain and a receivers' chain
+abbrev pub IsOther : Chain → Chain → Type 0
+IsOther Send (Take g) = Unit {0}
+IsOther (Take g) Send = Unit {0}
+IsOther _ _ = ⊥
+
+and_false : (a : Bool) → a && false ≡ false
+and_false true = refl
+and_false false = refl
+
+other_off : (x y : Chain) → IsOther x y → same_chain y x ≡ false
+other_off Send (Take g) o = refl
+other_off (Take g) Send o = refl
+other_off Send Send o = absurd o
+other_off (Take g) (Take h) o = absurd o
+
+put_other : (mem : Word → ℕ) (x y : Chain) (k i : ℕ) (f g : NodeField) (value : ℕ) → IsOther x y → put mem (Node y k f) value (Node x i g) ≡ mem (Node x i g)
+put_other mem x y k i f g value o =
+    let off : same (Node y k f) (Node x i g) ≡ false =
+    ap (λ (b : Bool). (node_field Send f == node_field Send g && b) && (k == i)) (other_off x y o) ∙ ap (λ (b : Bool). b && (k == i)) (and_false (node_field Send f == node_field Send g)) in
+    ap (λ (b : Bool). cond b value (mem (Node x i g))) off
+
+put_tail : (mem : Word → ℕ) (x y : Chain) (value : ℕ) → IsOther x y → put mem (Tail y) value (Tail x) ≡ mem (Tail x)
+put_tail mem x y value o = ap (λ (b : Bool). cond b value (mem (Tail x))) (other_off x y o)
+
+module _ (c : Setting) (mem : Word → ℕ) (x y : Chain) (o : IsOther x y) (own : ℕ) where
+  other_tail : (at : Place) → stored mem (operation c y own at) (Tail x) ≡ mem (Tail x)
+  other_tail (place.Exchange call) = put_tail mem x y (own + 1) o
+  other_tail (place.Counting job service) = count_tail c mem x job.round.at service
+  other_tail (place.Sending job service) = send_tail c mem x job.round.at service
+  other_tail (place.Taking job service) = take_tail c mem x (group_of y) service
+  other_tail _ = refl
+
+  other_words : (i : ℕ) (f : NodeField) (at : Place) → stored mem (operation c y own at) (Node x i f) ≡ mem (Node x i f)
+  other_words i f (place.ResetNext call) = put_other mem x y own i node.Next f 0 o
+  other_words i f (place.ResetState call) = put_other mem x y own i node.State f 1 o
+  other_words i f (place.WriteTag put request) = put_other mem x y own i node.Tag f request.tag o
+  other_words i f (place.WriteBody put body) = put_other mem x y own i node.Body f body o
+  other_words i f (place.Link put) = put_other mem x y own i node.Next f (put + 1) o
+  other_words i f (place.Counting job service) = count_words c mem x job.round.at i f service
+  other_words i f (place.Sending job service) = send_words c mem x job.round.at i f service
+  other_words i f (place.Taking job service) = take_words c mem x (group_of y) i f service
+  other_words i f (place.WriteAnswer job told) = put_other mem x y job.round.at i node.Ret f (ret_of c.served told) o
+  other_words i f (place.WriteAnswerTag job item) = put_other mem x y job.round.at i node.Tag f (pack item.sender item.number) o
+  other_words i f (place.WriteAnswerBody job body) = put_other mem x y job.round.at i node.Body f body o
+  other_words i f (place.MarkDone job) = put_other mem x y job.round.at i node.State f 2 o
+  other_words i f (place.HandOver at) = put_other mem x y at i node.State f 0 o
+  other_words i f _ = refl
+
+-- the history of a chain doesn't get the other's calls and answers
+pub calls_other : (x y : Chain) (h : Record) (e : Option Entry) (a : Option Answer) → IsOther x y → calls_on x (noted y h e a) ≡ calls_on x h
+calls_other Send (Take g) h e a o = refl
+calls_other (Take g) Send h e a o = refl
+calls_other Send Send h e a o = absurd o
+calls_other (Take g) (Take k) h e a o = absurd o
+
+answers_other : (x y : Chain) (h : Record) (e : Option Entry) (a : Option Answer) → IsOther x y → answers_on x (noted y h e a) ≡ answers_on x h
+answers_other Send (Take g) h e a o = refl
+answers_other (Take g) Send h e a o = refl
+answers_other Send Send h e a o = absurd o
+answers_other (Take g) (Take k) h e a o = absurd o
+
+-- a state in which the chain's words, history and passes are as they were
+unseen : (c : Setting) (x : Chain) (s t : State) → Holds c x s → t.mem (Tail x) ≡ s.mem (Tail x) → ((i : ℕ) (f : NodeField) → t.mem (Node x i f) ≡ s.mem (Node x i f)) →
+    calls_on x t.history ≡ calls_on x s.history → answers_on x t.history ≡ answers_on x s.history → ((q : ℕ) → q < members c x → t.stand (pass_on c x q) ≡ s.stand (pass_on c x q)) → Holds c x t
+unseen c x s t w tail words calls answers stands =
+    let stays : Stays (members c x) (view c x s) (view c x t) = record { tail = tail; nodes = λ i j. cell_of x (λ f. words i f j); posts = λ q qn. ap (λ (z : Stand). post_at x z) (stands q qn) } in
+    record {
+      ghost = w.ghost;
+      inv = by_stay.keeps (members c x) c.config.bound (view c x s) (view c x t) w.ghost w.inv stays;
+      ties = subst (λ (l : List Entry). Ties c x l (answers_on x t.history) (stands_on c x t) w.ghost) (sym calls)
+          (subst (λ (l : List Answer). Ties c x (calls_on x s.history) l (stands_on c x t) w.ghost) (sym answers)
+          (ties_same c x (calls_on x s.history) (answers_on x s.history) (stands_on c x s) (stands_on c x t) w.ghost 0 w.ties stands w.inv.server.server_in));
+    }
+
+-- a step of a pass of the other chain
+pub other_step : (c : Setting) (x y : Chain) → IsOther x y → (s : State) (p : ℕ) (at : Stand) → ((q : ℕ) → q < members c x → pass_on c x q ≢ p) → Holds c x s → Holds c x (stepped_from c s y p at)
+other_step c x y o s p at away w =
+    unseen c x s (stepped_from c s y p at) w (other_tail c s.mem x y o at.node at.place) (λ i f. other_words c s.mem x y o at.node i f at.place) (calls_other x y s.history (enters at.place) (decides c at.place (s.mem (word_of (operation c y at.node at.place)))) o) (answers_other x y s.history (enters at.place) (decides c at.place (s.mem (word_of (operation c y at.node at.place)))) o)
+    (λ q qn. hold_apart s.stand p (pass_on c x q) (advanced c y at (s.mem (word_of (operation c y at.node at.place)))) (away q qn))
+
+-- a move that puts a pass elsewhere and does nothing more
+abbrev pub put_there : State → ℕ → Stand → State
+put_there s p there = record { mem = s.mem; stand = hold s.stand p there; history = s.history }
+
+pub other_put : (c : Setting) (x : Chain) (s : State) (p : ℕ) (there : Stand) → ((q : ℕ) → q < members c x → pass_on c x q ≢ p) → Holds c x s → Holds c x (put_there s p there)
+other_put c x s p there away w = unseen c x s (put_there s p there) w refl (λ i f. refl) refl refl (λ q qn. hold_apart s.stand p (pass_on c x q) there (away q qn))
+
+pub own_put : (c : Setting) (x : Chain) (s : State) (p : ℕ) (there : Stand) → (w : Holds c x s) → post_at x there ≡ post_at x (s.stand (pass_on c x p)) → Moves c x s w.ghost p w.ghost.marked w.ghost.server there.place →
+    Holds c x (put_there s (pass_on c x p) there)
+own_put c x s p there w same m =
+    let others : (q : ℕ) → q ≢ p → (put_there s (pass_on c x p) there).stand (pass_on c x q) ≡ s.stand (pass_on c x q) = λ q ne. hold_apart s.stand (pass_on c x p) (pass_on c x q) there (pass_apart c x p q ne) in
+    let mine : (put_there s (pass_on c x p) there).stand (pass_on c x p) ≡ there = hold_here s.stand (pass_on c x p) there in
+    let posts : (q : ℕ) → post_at x ((put_there s (pass_on c x p) there).stand (pass_on c x q)) ≡ post_at x (s.stand (pass_on c x q)) =
+    λ q. elim (cases_eq q p) [
+      | inl is ↦
+          ap (λ (z : ℕ). post_at x ((put_there s (pass_on c x p) there).stand (pass_on c x z))) is ∙ ap (λ (z : Stand). post_at x z) mine ∙ same
+          ∙ ap (λ (z : ℕ). post_at x (s.stand (pass_on c x z))) (sym is)
+      | inr ne ↦ ap (λ (z : Stand). post_at x z) (others q ne)
+    ] in
+    record {
+      ghost = w.ghost;
+      inv = by_stay.keeps (members c x) c.config.bound (view c x s) (view c x (put_there s (pass_on c x p) there)) w.ghost w.inv record { tail = refl; nodes = λ i. refl; posts = λ q qn. posts q };
+      ties = ties_moved c x (calls_on x s.history) (answers_on x s.history) (stands_on c x s) (stands_on c x (put_there s (pass_on c x p) there)) w.ghost p w.ties there w.ghost.marked w.ghost.server mine others m.onward
+          m.call m.read m.ended m.serves m.keep;
+    }
+
+-- each pass is on a chain, and no other chain has it
+pub record IsOn (c : Setting) (x : Chain) (p : ℕ) : Type 0 where
+  pub number : ℕ
+  pub inside : number < members c x
+  pub pass_is : p ≡ pass_on c x number
+  pub chain_is : chain_of c.config p ≡ x
+
+pub record IsOff (c : Setting) (x : Chain) (p : ℕ) : Type 0 where
+  pub other : IsOther x (chain_of c.config p)
+  pub away : (q : ℕ) → q < members c x → pass_on c x q ≢ p
+
+below_all : (s : Served) (config : Config) (p g : ℕ) → IsChain s (Take g) → p < passes_of s config → p < config.senders + config.receivers
+below_all served.List config p g ok less = omega arith
+below_all served.Counter config p g ok less = absurd ok
+
+pub chain_zero : (s : Served) (g : ℕ) → IsChain s (Take g) → g ≡ 0
+chain_zero served.List g ok = ok
+chain_zero served.Counter g ok = absurd ok
+
+pub sender_chain : (config : Config) (p : ℕ) → p < config.senders → chain_of config p ≡ Send
+sender_chain config p less = ap (λ (b : Bool). cond b Send (Take 0)) (lt-ltb p config.senders less)
+
+pub receiver_chain : (config : Config) (p : ℕ) → config.senders ≤ p → chain_of config p ≡ Take 0
+receiver_chain config p far = ap (λ (b : Bool). cond b Send (Take 0)) (le-ltb p config.senders far)
+
+pub which : (c : Setting) (x : Chain) → IsChain c.served x → (p : ℕ) → p < passes c → IsOn c x p ⊎ IsOff c x p
+which c Send ok p less = elim (cases_lt p c.config.senders) [
+  | inl near ↦ inl record { number = p; inside = near; pass_is = refl; chain_is = sender_chain c.config p near }
+  | inr far ↦ inr record { other = subst (λ (y : Chain). IsOther Send y) (sym (receiver_chain c.config p far)) tt; away = λ q qn same. omega arith }
+]
+which c (Take g) ok p less = elim (cases_lt p c.config.senders) [
+  | inl near ↦ inr record { other = subst (λ (y : Chain). IsOther (Take g) y) (sym (sender_chain c.config p near)) tt; away = λ q qn same. omega arith }
+  | inr far ↦
+      inl record {
+        number = p - c.config.senders;
+        inside = omega (arith, below_all c.served c.config p g ok less);
+        pass_is = omega arith;
+        chain_is = receiver_chain c.config p far ∙ ap (λ (k : ℕ). Take k) (sym (chain_zero c.served g ok));
+      }
+]

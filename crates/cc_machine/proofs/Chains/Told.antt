@@ -1,0 +1,123 @@
+-- What a call reads as its answer is its answer in the history.
+use Rattle.std.proofs.Common.{◌≡◌, ◌≢◌, ℕ, ◌+◌, ◌-◌, ◌<◌, Bool, true, false, cond, refl, ap, sym, ◌∙◌, subst, arith, Option, Some, List, [], ◌∷◌, ◌++◌, length}
+use Rattle.std.proofs.lemmas.Bool.{lt-ltb, le-ltb, eq-eqb, ne_eqb}
+use Rattle.std.proofs.lemmas.List.{append-nil}
+use Rattle.std.proofs.lemmas.List.Elements.{filter-append}
+use Rattle.cc_model.specs.Record.{Record}
+use Rattle.cc_model.specs.Items.{is_pass, answered, calls_of}
+use Rattle.cc_model.specs.declared.call.Pass.{Pass}
+use Rattle.cc_model.specs.declared.call.Pass.TheVariants as pass
+use Rattle.cc_model.specs.declared.call.Entry.{Entry}
+use Rattle.cc_model.specs.declared.call.Answer.{Answer}
+use Rattle.cc_machine.specs.declared.setting.Setting.{Setting}
+use Rattle.cc_machine.specs.declared.word.Chain.{Chain}
+use Rattle.cc_machine.specs.declared.word.Chain.TheVariants.{Send, Take}
+use Rattle.cc_machine.specs.declared.place.Place.{Place}
+use Rattle.cc_machine.specs.declared.place.Place.TheVariants as place
+use Rattle.cc_machine.specs.State.{State, pass_at}
+use Rattle.cc_machine.specs.Run.{IsFinished}
+use Rattle.cc_machine.proofs.Chains.View.{members, pass_on}
+use Rattle.cc_machine.proofs.Chains.Registers.{calls_on, answers_on, call_at, answer_at, IsCall, IsAnswer, HasRead, reads}
+use Rattle.cc_machine.proofs.Chains.Ties.{Holds}
+use Rattle.cc_machine.proofs.Chains.Last.{chosen, chosen_none, Ends, chosen_last}
+
+-- the name of a pass of the chain
+abbrev pub named : Chain → ℕ → Pass
+named Send p = pass.Sender (p + 1)
+named (Take g) p = pass.Receiver (p + 1)
+
+pub name_is : (c : Setting) (x : Chain) (p : ℕ) → p < members c x → pass_at c.config (pass_on c x p) ≡ named x p
+name_is c Send p less = ap (λ (b : Bool). cond b (pass.Sender (p + 1)) (pass.Receiver (p - c.config.senders + 1))) (lt-ltb p c.config.senders less)
+name_is c (Take g) p less =
+    let back : c.config.senders + p - c.config.senders ≡ p = omega arith in
+    ap (λ (b : Bool). cond b (pass.Sender (c.config.senders + p + 1)) (pass.Receiver (c.config.senders + p - c.config.senders + 1))) (le-ltb (c.config.senders + p) c.config.senders (omega arith)) ∙ ap (λ (z : ℕ). pass.Receiver (z + 1)) back
+
+same_name : (x : Chain) (p : ℕ) → is_pass (named x p) (named x p) ≡ true
+same_name Send p = eq-eqb (p + 1) (p + 1) refl
+same_name (Take g) p = eq-eqb (p + 1) (p + 1) refl
+
+pub other_name : (x : Chain) (p q : ℕ) → q ≢ p → is_pass (named x p) (named x q) ≡ false
+other_name Send p q ne = ne_eqb (p + 1) (q + 1) (λ e. ne (omega arith))
+other_name (Take g) p q ne = ne_eqb (p + 1) (q + 1) (λ e. ne (omega arith))
+
+-- the other side's calls, and that none of them is a pass's of this side
+abbrev pub other_calls : Chain → Record → List Entry
+other_calls Send h = h.d_calls
+other_calls (Take g) h = h.e_calls
+
+abbrev pub other_answers : Chain → Record → List Answer
+other_answers Send h = h.d_answers
+other_answers (Take g) h = h.e_answers
+
+abbrev pub NotOther : Chain → Record → Type 0
+NotOther x h = (p j : ℕ) → j < length (other_calls x h) → is_pass (named x p) (call_at (other_calls x h) j).pass ≡ false
+
+-- the calls of a pass of one side are all on that side
+pub calls_one : (x : Chain) (h : Record) (p : ℕ) → NotOther x h → calls_of (named x p) h ≡ chosen (λ (z : Entry). is_pass (named x p) z.pass) (calls_on x h) (answers_on x h)
+calls_one Send h p none =
+    filter-append (λ (z : Entry × Option Answer). is_pass (named Send p) z.0.pass) (answered h.e_calls h.e_answers) (answered h.d_calls h.d_answers)
+    ∙ ap (λ (l : List (Entry × Option Answer)). chosen (λ (z : Entry). is_pass (named Send p) z.pass) h.e_calls h.e_answers ++ l) (chosen_none (λ (z : Entry). is_pass (named Send p) z.pass) h.d_calls h.d_answers (none p))
+    ∙ append-nil (chosen (λ (z : Entry). is_pass (named Send p) z.pass) h.e_calls h.e_answers)
+calls_one (Take g) h p none =
+    filter-append (λ (z : Entry × Option Answer). is_pass (named (Take g) p) z.0.pass) (answered h.e_calls h.e_answers) (answered h.d_calls h.d_answers)
+    ∙ ap (λ (l : List (Entry × Option Answer)). l ++ chosen (λ (z : Entry). is_pass (named (Take g) p) z.pass) h.d_calls h.d_answers) (chosen_none (λ (z : Entry). is_pass (named (Take g) p) z.pass) h.e_calls h.e_answers (none p))
+
+-- the last call of a pass is answered
+pub record HasAnswer (c : Setting) (x : Chain) (h : Record) (who : Pass) (number : ℕ) : Type 0 where
+  pub within : number < length (answers_on x h)
+  pub before : List (Entry × Option Answer)
+  pub last : calls_of who h ≡ before ++ (call_at (calls_on x h) number, Some (answer_at (answers_on x h) number)) ∷ []
+  pub sided : IsAnswer c.served x (answer_at (answers_on x h) number)
+
+module _ (c : Setting) (x : Chain) (s : State) (w : Holds c x s) (none : NotOther x s.history) (n : ℕ) (inside : n < members c x) (marked : w.ghost.at n < w.ghost.marked) (its_is : w.ghost.pass_of (w.ghost.at n) ≡ n) where
+  answered_it : w.ghost.at n < length (answers_on x s.history)
+  answered_it = omega (arith, marked, w.ties.answers_are, w.inv.calls.in_order)
+
+  called_it : w.ghost.at n < length (calls_on x s.history)
+  called_it = omega (arith, marked, w.ties.calls_are, w.inv.calls.in_order, w.inv.calls.in_order2)
+
+  pass_of_call : (k : ℕ) → k < length (calls_on x s.history) → (call_at (calls_on x s.history) k).pass ≡ named x (w.ghost.pass_of k)
+  pass_of_call k less =
+      let below : k < w.ghost.calls = omega (arith, w.ties.calls_are) in
+      let is : IsCall c x (w.ghost.pass_of k) (call_at (calls_on x s.history) k) = w.ties.entered k below in is.pass_is ∙ name_is c x (w.ghost.pass_of k) (w.ties.pass_in k below)
+
+  its : is_pass (named x n) (call_at (calls_on x s.history) (w.ghost.at n)).pass ≡ true
+  its = ap (λ (z : Pass). is_pass (named x n) z) (pass_of_call (w.ghost.at n) called_it ∙ ap (λ (z : ℕ). named x z) its_is) ∙ same_name x n
+
+  none_later : (j : ℕ) → w.ghost.at n < j → j < length (calls_on x s.history) → is_pass (named x n) (call_at (calls_on x s.history) j).pass ≡ false
+  none_later j after less =
+      ap (λ (z : Pass). is_pass (named x n) z) (pass_of_call j less) ∙ other_name x n (w.ghost.pass_of j) (λ same. w.inv.passes.at_last n j after (omega (arith, w.ties.calls_are)) same)
+
+  ends : Ends (λ (z : Entry). is_pass (named x n) z.pass) (calls_on x s.history) (answers_on x s.history) (call_at (calls_on x s.history) (w.ghost.at n)) (answer_at (answers_on x s.history) (w.ghost.at n))
+  ends = chosen_last (λ (z : Entry). is_pass (named x n) z.pass) (calls_on x s.history) (answers_on x s.history) (w.ghost.at n) called_it answered_it its none_later
+
+  pub answer_on : HasAnswer c x s.history (pass_at c.config (pass_on c x n)) (w.ghost.at n)
+  answer_on = record {
+    within = answered_it;
+    before = ends.before;
+    last = ap (λ (z : Pass). calls_of z s.history) (name_is c x n inside) ∙ calls_one x s.history n none ∙ ends.last;
+    sided = w.ties.answered (w.ghost.at n) (omega (arith, answered_it, w.ties.answers_are));
+  }
+
+-- and this is what is read of it
+pub record HasTold (c : Setting) (x : Chain) (h : Record) (who : Pass) (told : Answer) : Type 0 where
+  pub number : ℕ
+  pub within : number < length (answers_on x h)
+  pub before : List (Entry × Option Answer)
+  pub last : calls_of who h ≡ before ++ (call_at (calls_on x h) number, Some (answer_at (answers_on x h) number)) ∷ []
+  pub sided : IsAnswer c.served x (answer_at (answers_on x h) number)
+  pub read : told ≡ reads c.served x (answer_at (answers_on x h) number)
+
+pub told_on : (c : Setting) (x : Chain) (s : State) (w : Holds c x s) → NotOther x s.history → (n : ℕ) → n < members c x → (told : Answer) → (s.stand (pass_on c x n)).place ≡ place.Finished told →
+    HasTold c x s.history (pass_at c.config (pass_on c x n)) told
+told_on c x s w none n inside told e =
+    let ended : (w.ghost.at n < w.ghost.marked) × (w.ghost.pass_of (w.ghost.at n) ≡ n) = w.ties.ended n inside (subst (λ (z : Place). IsFinished z) (sym e) tt) in
+    let a : HasAnswer c x s.history (pass_at c.config (pass_on c x n)) (w.ghost.at n) = answer_on c x s w none n inside ended.0 ended.1 in
+    record {
+      number = w.ghost.at n;
+      within = a.within;
+      before = a.before;
+      last = a.last;
+      sided = a.sided;
+      read = subst (λ (z : Place). HasRead c.served x (answer_at (answers_on x s.history) (w.ghost.at n)) z) e (w.ties.read n inside);
+    }

@@ -1,0 +1,71 @@
+-- How many calls have not exchanged yet, move by move.
+use Rattle.std.proofs.Common.{◌≡◌, ℕ, zero, suc, ◌+◌, ◌<◌, ◌≤◌, arith, ap, sym, refl, inl, inr}
+use Rattle.std.proofs.lemmas.Bool.{cases_eq}
+use Rattle.cc_machine.specs.declared.setting.Setting.{Setting}
+use Rattle.cc_machine.specs.declared.word.Chain.{Chain}
+use Rattle.cc_machine.specs.declared.word.Chain.TheVariants.{Send, Take}
+use Rattle.cc_machine.specs.declared.place.Stand.{Stand}
+use Rattle.cc_machine.specs.declared.place.Place.{Place}
+use Rattle.cc_machine.specs.declared.place.Place.TheVariants as place
+use Rattle.cc_machine.specs.State.{chain_of, hold}
+use Rattle.cc_machine.specs.Lawful.{before_exchange, to_come, coming}
+
+at_most_one : (at : Place) → before_exchange at ≤ 1
+at_most_one place.Idle = omega arith
+at_most_one (place.ResetNext call) = omega arith
+at_most_one (place.ResetState call) = omega arith
+at_most_one (place.Exchange call) = omega arith
+at_most_one _ = omega arith
+
+one_on_side : (x y : Chain) (at : Place) → to_come x y at ≤ 1
+one_on_side Send Send at = at_most_one at
+one_on_side Send (Take g) at = omega arith
+one_on_side (Take g) Send at = omega arith
+one_on_side (Take g) (Take h) at = at_most_one at
+
+-- at most all of them
+pub coming_max : (c : Setting) (x : Chain) (n : ℕ) (stands : ℕ → Stand) → coming c x n stands ≤ n
+coming_max c x zero stands = omega arith
+coming_max c x (suc n) stands = omega (arith, coming_max c x n stands, one_on_side x (chain_of c.config n) (stands n).place)
+
+-- a pass past those that are counted may stand anywhere
+coming_past : (c : Setting) (x : Chain) (n p : ℕ) (stands : ℕ → Stand) (there : Stand) → n ≤ p → coming c x n (hold stands p there) ≡ coming c x n stands
+coming_past c x zero p stands there far = refl
+coming_past c x (suc n) p stands there far =
+    let here : hold stands p there n ≡ stands n = grind arith in
+    let same : to_come x (chain_of c.config n) (hold stands p there n).place ≡ to_come x (chain_of c.config n) (stands n).place = ap (λ (z : Stand). to_come x (chain_of c.config n) z.place) here in
+    omega (arith, same, coming_past c x n p stands there (omega arith))
+
+-- where one pass stands otherwise, its own part changes
+pub coming_hold : (c : Setting) (x : Chain) (n p : ℕ) (stands : ℕ → Stand) (there : Stand) → p < n →
+    coming c x n (hold stands p there) + to_come x (chain_of c.config p) (stands p).place ≡ coming c x n stands + to_come x (chain_of c.config p) there.place
+coming_hold c x zero p stands there near = absurd (omega arith)
+coming_hold c x (suc n) p stands there near =
+    elim (cases_eq p n) [
+      | inl same ↦
+          let here : hold stands p there n ≡ there = grind (arith, same) in
+          let now : to_come x (chain_of c.config n) (hold stands p there n).place ≡ to_come x (chain_of c.config n) there.place = ap (λ (z : Stand). to_come x (chain_of c.config n) z.place) here in
+          let new : to_come x (chain_of c.config n) there.place ≡ to_come x (chain_of c.config p) there.place = ap (λ (k : ℕ). to_come x (chain_of c.config k) there.place) (sym same) in
+          let old : to_come x (chain_of c.config n) (stands n).place ≡ to_come x (chain_of c.config p) (stands p).place = ap (λ (k : ℕ). to_come x (chain_of c.config k) (stands k).place) (sym same) in
+          omega (arith, now, new, old, coming_past c x n p stands there (omega (arith, same)))
+      | inr other ↦
+          let here : hold stands p there n ≡ stands n = grind (arith, other) in
+          let now : to_come x (chain_of c.config n) (hold stands p there n).place ≡ to_come x (chain_of c.config n) (stands n).place = ap (λ (z : Stand). to_come x (chain_of c.config n) z.place) here in
+          omega (arith, now, coming_hold c x n p stands there (omega (arith, other, near)))
+    ]
+
+-- one that has a call to come is counted
+pub coming_some : (c : Setting) (x : Chain) (n p : ℕ) (stands : ℕ → Stand) → p < n → to_come x (chain_of c.config p) (stands p).place ≤ coming c x n stands
+coming_some c x zero p stands near = absurd (omega arith)
+coming_some c x (suc n) p stands near =
+    elim (cases_eq p n) [
+      | inl same ↦
+          let here : to_come x (chain_of c.config n) (stands n).place ≡ to_come x (chain_of c.config p) (stands p).place = ap (λ (k : ℕ). to_come x (chain_of c.config k) (stands k).place) (sym same) in
+          omega arith
+      | inr other ↦ omega (arith, coming_some c x n p stands (omega (arith, other, near)))
+    ]
+
+-- none where all are idle
+pub coming_none : (c : Setting) (x : Chain) (n : ℕ) (stands : ℕ → Stand) → ((p : ℕ) → to_come x (chain_of c.config p) (stands p).place ≡ 0) → coming c x n stands ≡ 0
+coming_none c x zero stands none = refl
+coming_none c x (suc n) stands none = omega (arith, none n, coming_none c x n stands none)

@@ -1,0 +1,129 @@
+-- What a step adds to the calls of its chain, it takes from those to come.
+use Rattle.std.proofs.Common.{◌≡◌, ℕ, zero, suc, ◌+◌, ◌≤◌, ◌==◌, arith, refl, length, List, Bool, true, false, if◌then◌else◌}
+use Rattle.std.proofs.lemmas.List.{length_push}
+use Rattle.cc_model.specs.declared.config.Config.{Config}
+use Rattle.cc_model.specs.declared.call.Entry.{Entry}
+use Rattle.cc_model.specs.declared.call.Answer.{Answer}
+use Rattle.cc_model.specs.declared.call.Answer.TheVariants as answer
+use Rattle.cc_model.specs.declared.call.TakeAnswer.TheVariants as take
+use Rattle.cc_machine.specs.declared.setting.Setting.{Setting}
+use Rattle.cc_machine.specs.declared.setting.Served.{Served}
+use Rattle.cc_machine.specs.declared.setting.Served.TheVariants as served
+use Rattle.cc_machine.specs.declared.word.Chain.{Chain}
+use Rattle.cc_machine.specs.declared.word.Chain.TheVariants.{Send, Take}
+use Rattle.cc_machine.specs.declared.place.Request.{Request}
+use Rattle.cc_machine.specs.declared.place.Parcel.{Parcel}
+use Rattle.cc_machine.specs.declared.place.Round.{Round}
+use Rattle.cc_machine.specs.declared.place.Job.{Job}
+use Rattle.cc_machine.specs.declared.place.Place.{Place}
+use Rattle.cc_machine.specs.declared.place.Place.TheVariants as place
+use Rattle.cc_machine.specs.declared.place.Counting.{Counting}
+use Rattle.cc_machine.specs.declared.place.Counting.TheVariants as counting
+use Rattle.cc_machine.specs.declared.place.Sending.{Sending}
+use Rattle.cc_machine.specs.declared.place.Sending.TheVariants as sending
+use Rattle.cc_machine.specs.declared.place.Taking.{Taking}
+use Rattle.cc_machine.specs.declared.place.Taking.TheVariants as taking
+use Rattle.cc_machine.specs.Codes.{code_of}
+use Rattle.cc_machine.specs.State.{appended}
+use Rattle.cc_machine.specs.Columns.{after_exchange, after_state, serves, after_next, after_answer, after_done, after_ret, goes, enters}
+use Rattle.cc_machine.specs.CountColumns as count_side
+use Rattle.cc_machine.specs.SendColumns as send_side
+use Rattle.cc_machine.specs.TakeColumns as take_side
+use Rattle.cc_machine.specs.Lawful.{before_exchange}
+
+-- a place of a call that has exchanged, or of none
+abbrev Past : Place → Type 0
+Past at = before_exchange at ≡ 0
+
+either : (b : Bool) (u v : Place) → Past u → Past v → Past (if b then u else v)
+either true u v pu pv = pu
+either false u v pu pv = pv
+
+past_exchange : (x : Chain) (own : ℕ) (call : Entry) → Past (after_exchange x own call)
+past_exchange Send own call = refl
+past_exchange (Take g) own call = refl
+
+past_state : (own found : ℕ) → Past (after_state own found)
+past_state own zero = refl
+past_state own (suc zero) = refl
+past_state own (suc (suc n)) = refl
+
+past_serves : (what : Served) (x : Chain) (job : Job) → Past (serves what x job)
+past_serves served.Counter x job = refl
+past_serves served.List Send job = refl
+past_serves served.List (Take g) job = refl
+
+past_next : (what : Served) (x : Chain) (round : Round) (found : ℕ) → Past (after_next what x round found)
+past_next what x round zero = refl
+past_next what x round (suc next) = past_serves what x record { round = round; next = next }
+
+past_answer : (job : Job) (told : Answer) → Past (after_answer job told)
+past_answer job (answer.Take (take.Got item)) = refl
+past_answer job _ = refl
+
+past_done : (bound : ℕ) (job : Job) → Past (after_done bound job)
+past_done bound job = either (job.round.served + 1 == bound) _ _ refl refl
+
+past_ret : (what : Served) (x : Chain) (ret : ℕ) → Past (after_ret what x ret)
+past_ret what Send ret = refl
+past_ret what (Take g) ret = either (code_of ret == 1) _ _ refl (either (code_of ret == 2) _ _ refl refl)
+
+past_count : (job : Job) (service : Counting) (found : ℕ) → Past (count_side.goes job service found)
+past_count job counting.ReadTag found = refl
+past_count job _ found = refl
+
+past_shut : (job : Job) (request : Request) (found : ℕ) → Past (send_side.after_shut job request found)
+past_shut job request zero = refl
+past_shut job request (suc n) = either (request.tag == 0) _ _ refl refl
+
+past_total : (c : Config) (job : Job) (request : Request) (count : ℕ) → Past (send_side.after_count c job request count)
+past_total c job request count = either (request.tag == 0) _ _ refl (either (count == c.life) _ _ refl refl)
+
+past_passed : (c : Config) (job : Job) (parcel : Parcel) (at reads passed : ℕ) → Past (send_side.after_passed c job parcel at reads passed)
+past_passed c job parcel at reads passed = either (passed == 1) _ _ refl (either (reads == c.capacity + 1) _ _ refl refl)
+
+past_send : (c : Config) (job : Job) (service : Sending) (found : ℕ) → Past (send_side.goes c job service found)
+past_send c job (sending.ReadShut request) found = past_shut job request found
+past_send c job (sending.ReadCount request) found = past_total c job request found
+past_send c job (sending.ReadPassed parcel at reads) found = past_passed c job parcel at reads found
+past_send c job _ found = refl
+
+past_dummy : (job : Job) (dummy taken found : ℕ) → Past (take_side.after_next job dummy taken found)
+past_dummy job dummy taken zero = refl
+past_dummy job dummy taken (suc at) = refl
+
+past_tag : (job : Job) (dummy taken at found : ℕ) → Past (take_side.after_tag job dummy taken at found)
+past_tag job dummy taken at zero = refl
+past_tag job dummy taken at (suc tag) = refl
+
+past_take : (job : Job) (service : Taking) (found : ℕ) → Past (take_side.goes job service found)
+past_take job (taking.ReadDummyNext dummy taken) found = past_dummy job dummy taken found
+past_take job (taking.ReadItemTag dummy taken at) found = past_tag job dummy taken at found
+past_take job _ found = refl
+
+same : (calls : List Entry) (there : Place) (n : ℕ) → Past there → length calls + before_exchange there ≤ length calls + n
+same calls there n past = omega (arith, past)
+
+pub gained : (c : Setting) (x : Chain) (own : ℕ) (at : Place) (found : ℕ) (calls : List Entry) →
+    length (appended calls (enters at)) + before_exchange (goes c x own at found) ≤ length calls + before_exchange at
+gained c x own place.Idle found calls = omega arith
+gained c x own (place.ResetNext call) found calls = omega arith
+gained c x own (place.ResetState call) found calls = omega arith
+gained c x own (place.Exchange call) found calls = omega (arith, length_push calls call, past_exchange x own call)
+gained c x own (place.WriteTag put request) found calls = omega arith
+gained c x own (place.WriteBody put body) found calls = omega arith
+gained c x own (place.Link put) found calls = omega arith
+gained c x own place.ReadState found calls = same calls _ 0 (past_state own found)
+gained c x own (place.ReadNext round) found calls = same calls _ 0 (past_next c.served x round found)
+gained c x own (place.Counting job service) found calls = same calls _ 0 (past_count job service found)
+gained c x own (place.Sending job service) found calls = same calls _ 0 (past_send c.config job service found)
+gained c x own (place.Taking job service) found calls = same calls _ 0 (past_take job service found)
+gained c x own (place.WriteAnswer job told) found calls = same calls _ 0 (past_answer job told)
+gained c x own (place.WriteAnswerTag job item) found calls = omega arith
+gained c x own (place.WriteAnswerBody job body) found calls = omega arith
+gained c x own (place.MarkDone job) found calls = same calls _ 0 (past_done c.config.bound job)
+gained c x own (place.HandOver at) found calls = omega arith
+gained c x own place.ReadAnswer found calls = same calls _ 0 (past_ret c.served x found)
+gained c x own (place.ReadAnswerTag at) found calls = omega arith
+gained c x own (place.ReadAnswerBody at tag) found calls = omega arith
+gained c x own (place.Finished told) found calls = omega arith

@@ -1,0 +1,26 @@
+-- The list in the runs of the machine.
+pub mod View
+pub mod SendSteps
+pub mod TakeSteps
+pub mod Fits
+pub mod Decided
+pub mod Ties
+pub mod SendTurn
+pub mod TakeTurn
+pub mod Facts
+pub mod Posts
+pub mod Still
+pub mod Whole
+pub mod ServeSend
+pub mod ServeTake
+pub mod Least
+pub mod EnterSend
+pub mod EnterTake
+pub mod PostSteps
+pub mod Steps
+pub mod Runs
+pub mod Safe
+pub mod FromChains
+pub mod Laws
+pub mod Within
+pub mod Ready

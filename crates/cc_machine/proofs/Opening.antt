@@ -1,0 +1,45 @@
+-- What the stores of an opening leave.
+use Rattle.std.proofs.Common.{if◌then◌else◌, ◌==◌, ◌≡◌, ℕ, ◌+◌, ◌<◌, nat_lt, refl, arith}
+use Rattle.cc_model.specs.declared.config.Config.{Config}
+use Rattle.cc_machine.specs.declared.word.Chain.TheVariants.{Send, Take}
+use Rattle.cc_machine.specs.declared.word.ItemField.TheVariants as item
+use Rattle.cc_machine.specs.declared.word.Object.TheVariants as object
+use Rattle.cc_machine.specs.declared.word.Word.{Word}
+use Rattle.cc_machine.specs.declared.word.Word.TheVariants as word
+use Rattle.cc_machine.specs.Words.{groups, put}
+use Rattle.cc_machine.specs.Run.{first_word}
+
+-- the words after the passed counts of ordinary nodes below n were set
+abbrev pub freed : Config → ℕ → Word → ℕ
+freed c n (word.Item i item.Passed) = if i == 0 then 0 else if nat_lt i n then groups c else 0
+freed c n w = first_word c w
+
+pub freed_all : (c : Config) → freed c (c.capacity + 1) ≡ first_word c
+freed_all c = λ i w. at w i
+  where
+    at : (w : Word) → freed c (c.capacity + 1) w ≡ first_word c w
+    at (word.Item i item.Passed) = refl
+    at _ = refl
+
+pub freed_more : (c : Config) (n : ℕ) → 0 < n → put (freed c n) (word.Item n item.Passed) 1 ≡ freed c (n + 1)
+freed_more c n some = λ i w. at w i
+  where
+    at : (w : Word) → put (freed c n) (word.Item n item.Passed) 1 w ≡ freed c (n + 1) w
+    at (word.Item i item.Passed) = grind arith
+    at _ = refl
+
+abbrev pub first_stores : (Word → ℕ) → Word → ℕ
+first_stores m = put (put (put (put (put m (word.Tail Send) 1) (word.Tail (Take 0)) 1) (word.Object object.Last) 1) (word.Object object.Cursor) 1) (word.Object (object.Head 0)) 1
+
+pub started : (c : Config) (m : Word → ℕ) → ((w : Word) → m w ≡ 0) → first_stores m ≡ freed c 1
+started c m none = λ i w. at w i
+  where
+    at : (w : Word) → first_stores m w ≡ freed c 1 w
+    at (word.Tail Send) = refl
+    at (word.Tail (Take g)) = grind (arith, none (word.Tail (Take g)))
+    at (word.Object object.Last) = refl
+    at (word.Object object.Cursor) = refl
+    at (word.Object (object.Head g)) = grind (arith, none (word.Object (object.Head g)))
+    at (word.Object (object.Taken g)) = grind (arith, none (word.Object (object.Taken g)))
+    at (word.Item i item.Passed) = grind (arith, none (word.Item i item.Passed))
+    at w = none w

@@ -1,0 +1,23 @@
+use Rattle.std.proofs.Common.{◌≡◌, ap, sym, subst, ◌∙◌}
+use Rattle.cc_machine.specs.declared.board.Board.{Board}
+use Rattle.cc_machine.specs.declared.word.Chain.{Chain}
+use Rattle.cc_machine.specs.State.{chain_of}
+use Rattle.cc_machine.specs.Run.{Begin, May}
+use Rattle.cc_machine.specs.View.{View, state_in}
+use Rattle.cc_machine.specs.Shown.{view_of, state_of}
+use Rattle.cc_machine.specs.Lawful.{HasRoomToCome}
+use Rattle.cc_machine.proofs.Faults.{may_begin}
+use Rattle.cc_machine.proofs.LawfulMoves.{lawful_view, lawful_begin}
+use Rattle.cc_machine.proofs.board.Board.begin_call.Goals as goal
+
+pub returns-clause-lawful : goal.returns-clause-lawful
+returns-clause-lawful c =
+    let old : Board = c.args.self.now in
+    let mid : Board = c.reserve.new.self in
+    let may : May mid.setting (state_of mid) (Begin c.in_ok-index.index c.args.call c.args.known) =
+    subst (λ (m : View). May m.setting (state_in m) (Begin c.in_ok-index.index c.args.call c.args.known)) (sym c.reserve.ensures.view)
+    (may_begin (view_of old) c.args.pass c.args.call c.args.known c.in_ok-index.index c.in_ok-index.ensures.place c.in_ok-index.ensures.ok c.requires.known) in
+    let side : c.chain.result ≡ chain_of mid.setting.config c.in_ok-index.index = c.chain.ensures ∙ ap (λ (m : View). chain_of m.setting.config c.in_ok-index.index) (sym c.reserve.ensures.view) in
+    lawful_begin mid c.begin.new.self c.in_ok-index.index c.args.call c.args.known
+    (lawful_view old mid c.reserve.ensures.view c.reserve.ensures.e_room c.reserve.ensures.d_room c.requires.lawful)
+    (subst (λ (y : Chain). HasRoomToCome mid y) side c.in-Ok.ensures.room) may c.begin.ensures.keeps c.begin.ensures.state

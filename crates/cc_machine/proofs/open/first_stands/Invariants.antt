@@ -1,0 +1,17 @@
+use Rattle.std.proofs.Common.{◌≡◌, ◌+◌, ◌<◌, ℕ, length, slice_index_or}
+use Rattle.cc_machine.specs.declared.place.Place.TheVariants as place
+use Rattle.cc_machine.specs.Run.{nowhere}
+use Rattle.cc_machine.specs.State.{first_node}
+use Rattle.cc_machine.proofs.open.first_stands.Given as goal
+
+abbrev pub invariant-loop-sender : goal.invariant-loop-sender
+invariant-loop-sender l = record {
+  all : length l.stands.items ≡ l.sender;
+  each : (p : ℕ) → p < l.sender → slice_index_or l.stands.items p nowhere ≡ record { begun = 0; node = p + 1; place = place.Idle };
+}
+
+abbrev pub invariant-loop-receiver : goal.invariant-loop-receiver
+invariant-loop-receiver l = record {
+  all : length l.stands.items ≡ l.fn.setting.config.senders + l.receiver;
+  each : (p : ℕ) → p < l.fn.setting.config.senders + l.receiver → slice_index_or l.stands.items p nowhere ≡ record { begun = 0; node = first_node l.fn.setting.config p; place = place.Idle };
+}

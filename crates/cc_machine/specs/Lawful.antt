@@ -1,0 +1,61 @@
+-- The boards that runs lead to, with room in the history for every call to come.
+use Rattle.std.specs.Prelude.{◌≡◌, ℕ, zero, suc, ◌+◌, ◌≤◌, length, Ok}
+use Rattle.cc_model.specs.Config.{config_fault}
+use Rattle.cc_machine.specs.declared.setting.Setting.{Setting}
+use Rattle.cc_machine.specs.declared.setting.Served.TheVariants as served
+use Rattle.cc_machine.specs.declared.word.Chain.{Chain}
+use Rattle.cc_machine.specs.declared.word.Chain.TheVariants.{Send, Take}
+use Rattle.cc_machine.specs.declared.place.Stand.{Stand}
+use Rattle.cc_machine.specs.declared.place.Place.{Place}
+use Rattle.cc_machine.specs.declared.place.Place.TheVariants as place
+use Rattle.cc_machine.specs.declared.board.Board.{Board}
+use Rattle.cc_machine.specs.declared.known.Known.{Known}
+use Rattle.cc_machine.specs.Known.{IsKnown}
+use Rattle.cc_machine.specs.State.{chain_of}
+use Rattle.cc_machine.specs.Run.{passes}
+use Rattle.cc_machine.specs.Shown.{view_of, state_of, IsLaid}
+use Rattle.cc_machine.specs.Machine.{IsReached}
+
+-- a call that was begun and hasn't exchanged
+abbrev pub before_exchange : Place → ℕ
+before_exchange (place.ResetNext call) = 1
+before_exchange (place.ResetState call) = 1
+before_exchange (place.Exchange call) = 1
+before_exchange _ = 0
+
+-- such a call of a sender, or of a receiver
+abbrev pub to_come : Chain → Chain → Place → ℕ
+to_come Send Send at = before_exchange at
+to_come (Take g) (Take h) at = before_exchange at
+to_come x y at = 0
+
+-- how many of the first n passes have such a call on the side of chain x
+abbrev pub coming : Setting → Chain → ℕ → (ℕ → Stand) → ℕ
+coming c x zero stands = 0
+coming c x (suc n) stands = to_come x (chain_of c.config n) (stands n).place + coming c x n stands
+
+-- room in the history of this side for a call of every pass
+abbrev pub HasRoomToCome : Board → Chain → Type 0
+HasRoomToCome b Send = length b.history.lists.e_calls + length b.stands.items ≤ b.history.e_room
+HasRoomToCome b (Take g) = length b.history.lists.d_calls + length b.stands.items ≤ b.history.d_room
+
+-- a run leads to it
+pub record IsLawful (b : Board) : Type 0 where
+  pub checked : config_fault b.setting.config ≡ Ok tt
+  pub laid : IsLaid b
+  pub reached : IsReached (view_of b)
+  pub e_room : length b.history.lists.e_calls + coming b.setting Send (passes b.setting) (state_of b).stand ≤ b.history.e_room
+  pub d_room : length b.history.lists.d_calls + coming b.setting (Take 0) (passes b.setting) (state_of b).stand ≤ b.history.d_room
+
+-- the board of a counter
+pub record IsCounter (b : Board) : Type 0 where
+  pub served_is : b.setting.served ≡ served.Counter
+  pub lawful : IsLawful b
+
+-- the board of a list, with what there is to be known of its history; no answer stands there before its call
+pub record IsMachine (b : Board) (k : Known) : Type 0 where
+  pub served_is : b.setting.served ≡ served.List
+  pub lawful : IsLawful b
+  pub known : IsKnown b.history.lists k
+  pub e_order : length b.history.lists.e_answers ≤ length b.history.lists.e_calls
+  pub d_order : length b.history.lists.d_answers ≤ length b.history.lists.d_calls

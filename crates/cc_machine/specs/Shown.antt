@@ -1,0 +1,98 @@
+-- The state that a board shows, and what its steps ask for and do.
+use Rattle.std.specs.Prelude.{List, ◌≡◌, ◌≢◌, ℕ, ◌<◌, ◌≤◌, slice_index_or, length}
+use Rattle.cc_model.specs.Kept.{Kept}
+use Rattle.cc_machine.specs.declared.setting.Setting.{Setting}
+use Rattle.cc_machine.specs.declared.word.Chain.{Chain}
+use Rattle.cc_machine.specs.declared.word.Chain.TheVariants.{Send, Take}
+use Rattle.cc_machine.specs.declared.place.Kind.{Kind}
+use Rattle.cc_machine.specs.declared.place.Event.{Event}
+use Rattle.cc_machine.specs.declared.place.Event.TheVariants.{Did, Idle}
+use Rattle.cc_machine.specs.declared.place.Stand.{Stand}
+use Rattle.cc_machine.specs.declared.place.Place.{Place}
+use Rattle.cc_machine.specs.declared.place.Place.TheVariants as place
+use Rattle.cc_machine.specs.declared.board.Board.{Board}
+use Rattle.cc_machine.specs.declared.board.Seat.{Seat}
+use Rattle.cc_machine.specs.Words.{Layout, layout_of, size}
+use Rattle.cc_machine.specs.State.{State, first_node, chain_of}
+use Rattle.cc_machine.specs.Columns.{event_at}
+use Rattle.cc_machine.specs.Safe.{IsSafe, WhileUndecided}
+use Rattle.cc_machine.specs.Step.{stepped_from, stepped}
+use Rattle.cc_machine.specs.Run.{passes, nowhere}
+use Rattle.cc_machine.specs.View.{View, state_in}
+
+-- the view of a board
+abbrev pub view_of : Board → View
+view_of b = record { setting = b.setting; words = b.words.items; stands = b.stands.items; history = b.history.lists }
+
+-- the state of a board
+abbrev pub state_of : Board → State
+state_of b = state_in (view_of b)
+
+-- so small that addresses are numbers of a machine
+pub record IsSmall (l : Layout) : Type 0 where
+  pub senders : l.senders ≤ 64
+  pub receivers : l.receivers ≤ 64
+  pub groups : l.groups ≤ 8
+  pub capacity : l.capacity ≤ 4096
+
+-- a board has all its words and passes
+pub record IsLaid (b : Board) : Type 0 where
+  pub small : IsSmall (layout_of b.setting.config)
+  pub words : length b.words.items ≡ size (layout_of b.setting.config)
+  pub stands : length b.stands.items ≡ passes b.setting
+
+-- room for a further call of this chain
+abbrev pub HasCallRoom : Kept → Chain → Type 0
+HasCallRoom h Send = length h.lists.e_calls < h.e_room
+HasCallRoom h (Take g) = length h.lists.d_calls < h.d_room
+
+-- room for a further answer
+abbrev pub HasAnswerRoom : Kept → Chain → Type 0
+HasAnswerRoom h Send = length h.lists.e_answers < h.e_room
+HasAnswerRoom h (Take g) = length h.lists.d_answers < h.d_room
+
+-- room for what the step at this place puts into the history
+abbrev pub HasRoom : Kept → Chain → Place → Type 0
+HasRoom h x (place.Exchange call) = HasCallRoom h x
+HasRoom h x at = WhileUndecided at (HasAnswerRoom h x)
+
+-- a pass during its step, at this place
+abbrev pub stand_of : Seat → Place → Stand
+stand_of seat at = record { begun = seat.begun; node = seat.node; place = at }
+
+-- the step of this seat, at this place, can be done
+pub record CanStep (b : Board) (seat : Seat) (at : Place) : Type 0 where
+  pub laid : IsLaid b
+  pub pass : seat.pass < passes b.setting
+  pub safe : IsSafe b.setting (state_of b) seat.chain seat.node at
+  pub room : HasRoom b.history seat.chain at
+
+-- what no step changes
+pub record Keeps (old new : Board) : Type 0 where
+  pub setting : new.setting ≡ old.setting
+  pub words : length new.words.items ≡ length old.words.items
+  pub stands : length new.stands.items ≡ length old.stands.items
+  pub e_room : new.history.e_room ≡ old.history.e_room
+  pub d_room : new.history.d_room ≡ old.history.d_room
+
+-- the step of this seat, at this place, was done
+pub record Stepped (old : Board) (seat : Seat) (at : Place) (kind : Kind) (new : Board) : Type 0 where
+  pub kind_is : event_at at ≡ Did kind
+  pub state : state_of new ≡ stepped_from old.setting (state_of old) seat.chain seat.pass (stand_of seat at)
+  pub keeps : Keeps old new
+
+-- a pass as it stands
+abbrev pub seat_at : Board → ℕ → Seat
+seat_at b p = record { pass = p; chain = chain_of b.setting.config p; begun = ((state_of b).stand p).begun; node = ((state_of b).stand p).node }
+
+-- an event is the one step of its pass, and Idle where the pass has none: then nothing changes
+pub record Moved (old : Board) (p : ℕ) (event : Event) (new : Board) : Type 0 where
+  pub event_is : event ≡ event_at ((state_of old).stand p).place
+  pub state : event ≢ Idle → state_of new ≡ stepped old.setting (state_of old) p
+  pub idle : event ≡ Idle → new ≡ old
+  pub keeps : Keeps old new
+
+-- the places at the opening, of a list that ends there
+pub record StandFirst (c : Setting) (stands : List Stand) : Type 0 where
+  pub all : length stands ≡ passes c
+  pub each : (p : ℕ) → p < passes c → slice_index_or stands p nowhere ≡ record { begun = 0; node = first_node c.config p; place = place.Idle }

@@ -1,0 +1,274 @@
+ghost use Rattle.cc_machine.specs.Shown.{CanStep, Stepped};
+ghost use Rattle.std.specs.Prelude.{◌≡◌};
+ghost use Rattle.cc_machine.specs.Columns.{serves};
+
+use crate::board::{Board, Seat};
+use crate::codes::{CODE, item_of, request_in, ret_of, sender_reads};
+use crate::place::{Counting, Job, Kind, Place, Request, Round, Sending, Taking};
+use crate::setting::Served;
+use crate::word::{Chain, NodeField, Word};
+use cc_model::{Answer, Entry, Item, TakeAnswer, pack};
+
+/// Where a combiner begins: with its own node.
+fn first_round(node: u64) -> Place
+    ensures { result ≡ Place.ReadNext record { at = node; served = 0 } }
+{
+    Place::ReadNext {
+        round: Round {
+            at: node,
+            served: 0,
+        },
+    }
+}
+
+/// The steps of a call on its chain.
+impl Board {
+    pub fn reset_next(&mut self, seat: Seat, call: Entry) -> Kind
+        requires { CanStep self.old seat (Place.ResetNext call) }
+        ensures { Stepped self.old seat (Place.ResetNext call) result self.new }
+    {
+        self.store(Word::Node(seat.chain, seat.node, NodeField::Next), 0);
+        self.go(seat, Place::ResetState { call });
+        Kind::ResetNext
+    }
+
+    pub fn reset_state(&mut self, seat: Seat, call: Entry) -> Kind
+        requires { CanStep self.old seat (Place.ResetState call) }
+        ensures { Stepped self.old seat (Place.ResetState call) result self.new }
+    {
+        self.store(Word::Node(seat.chain, seat.node, NodeField::State), 1);
+        self.go(seat, Place::Exchange { call });
+        Kind::ResetState
+    }
+
+    pub fn exchange(&mut self, seat: Seat, call: Entry) -> Kind
+        requires { CanStep self.old seat (Place.Exchange call) }
+        ensures { Stepped self.old seat (Place.Exchange call) result self.new }
+    {
+        let word = Word::Tail(seat.chain);
+        let found = self.load(word);
+        self.enter(seat.chain, call);
+        self.store(word, seat.node + 1);
+        let place = match seat.chain {
+            Chain::Send => Place::WriteTag {
+                put: seat.node,
+                request: request_in(call),
+            },
+            Chain::Take(_) => Place::Link { put: seat.node },
+        };
+        self.go(
+            Seat {
+                node: found - 1,
+                ..seat
+            },
+            place,
+        );
+        Kind::Exchange
+    }
+
+    pub fn write_tag(&mut self, seat: Seat, put: u64, request: Request) -> Kind
+        requires { CanStep self.old seat (Place.WriteTag put request) }
+        ensures { Stepped self.old seat (Place.WriteTag put request) result self.new }
+    {
+        self.store(
+            Word::Node(seat.chain, seat.node, NodeField::Tag),
+            request.tag,
+        );
+        self.go(
+            seat,
+            Place::WriteBody {
+                put,
+                body: request.body,
+            },
+        );
+        Kind::WriteRequest
+    }
+
+    pub fn write_body(&mut self, seat: Seat, put: u64, body: u64) -> Kind
+        requires { CanStep self.old seat (Place.WriteBody put body) }
+        ensures { Stepped self.old seat (Place.WriteBody put body) result self.new }
+    {
+        self.store(Word::Node(seat.chain, seat.node, NodeField::Body), body);
+        self.go(seat, Place::Link { put });
+        Kind::WriteRequest
+    }
+
+    pub fn link(&mut self, seat: Seat, put: u64) -> Kind
+        requires { CanStep self.old seat (Place.Link put) }
+        ensures { Stepped self.old seat (Place.Link put) result self.new }
+    {
+        self.store(Word::Node(seat.chain, seat.node, NodeField::Next), put + 1);
+        self.go(seat, Place::ReadState);
+        Kind::Link
+    }
+
+    pub fn read_state(&mut self, seat: Seat) -> Kind
+        requires { CanStep self.old seat Place.ReadState }
+        ensures { Stepped self.old seat Place.ReadState result self.new }
+    {
+        let place = match self.load(Word::Node(seat.chain, seat.node, NodeField::State)) {
+            0 => first_round(seat.node),
+            1 => Place::ReadState,
+            _ => Place::ReadAnswer,
+        };
+        self.go(seat, place);
+        Kind::ReadState
+    }
+
+    /// Where the service of a request begins.
+    fn serves(&self, chain: Chain, job: Job) -> Place
+        ensures { result ≡ serves self.now.setting.served chain job }
+    {
+        match (self.setting.served, chain) {
+            (Served::Counter, _) => Place::Counting {
+                job,
+                service: Counting::ReadTag,
+            },
+            (Served::List, Chain::Send) => Place::Sending {
+                job,
+                service: Sending::ReadTag,
+            },
+            (Served::List, Chain::Take(_)) => Place::Taking {
+                job,
+                service: Taking::ReadHead,
+            },
+        }
+    }
+
+    pub fn read_next(&mut self, seat: Seat, round: Round) -> Kind
+        requires { CanStep self.old seat (Place.ReadNext round) }
+        ensures { Stepped self.old seat (Place.ReadNext round) result self.new }
+    {
+        let next = self.load(Word::Node(seat.chain, round.at, NodeField::Next));
+        let place = if next == 0 {
+            Place::HandOver { at: round.at }
+        } else {
+            let job = Job {
+                round,
+                next: next - 1,
+            };
+            self.serves(seat.chain, job)
+        };
+        self.go(seat, place);
+        Kind::ReadNext
+    }
+
+    pub fn write_answer(&mut self, seat: Seat, job: Job, answer: Answer) -> Kind
+        requires { CanStep self.old seat (Place.WriteAnswer job answer) }
+        ensures { Stepped self.old seat (Place.WriteAnswer job answer) result self.new }
+    {
+        self.store(
+            Word::Node(seat.chain, job.round.at, NodeField::Ret),
+            ret_of(self.setting.served, answer),
+        );
+        let place = match answer {
+            Answer::Take(TakeAnswer::Got(item)) => Place::WriteAnswerTag { job, item },
+            _ => Place::MarkDone { job },
+        };
+        self.go(seat, place);
+        Kind::WriteAnswer
+    }
+
+    pub fn write_answer_tag(&mut self, seat: Seat, job: Job, item: Item) -> Kind
+        requires { CanStep self.old seat (Place.WriteAnswerTag job item) }
+        ensures { Stepped self.old seat (Place.WriteAnswerTag job item) result self.new }
+    {
+        self.store(
+            Word::Node(seat.chain, job.round.at, NodeField::Tag),
+            pack(item.sender, item.number),
+        );
+        self.go(
+            seat,
+            Place::WriteAnswerBody {
+                job,
+                body: item.body,
+            },
+        );
+        Kind::WriteAnswer
+    }
+
+    pub fn write_answer_body(&mut self, seat: Seat, job: Job, body: u64) -> Kind
+        requires { CanStep self.old seat (Place.WriteAnswerBody job body) }
+        ensures { Stepped self.old seat (Place.WriteAnswerBody job body) result self.new }
+    {
+        self.store(Word::Node(seat.chain, job.round.at, NodeField::Body), body);
+        self.go(seat, Place::MarkDone { job });
+        Kind::WriteAnswer
+    }
+
+    pub fn mark_done(&mut self, seat: Seat, job: Job) -> Kind
+        requires { CanStep self.old seat (Place.MarkDone job) }
+        ensures { Stepped self.old seat (Place.MarkDone job) result self.new }
+    {
+        self.store(Word::Node(seat.chain, job.round.at, NodeField::State), 2);
+        let served = job.round.served + 1;
+        let place = if served == self.setting.config.bound {
+            Place::HandOver { at: job.next }
+        } else {
+            Place::ReadNext {
+                round: Round {
+                    at: job.next,
+                    served,
+                },
+            }
+        };
+        self.go(seat, place);
+        Kind::MarkDone
+    }
+
+    pub fn hand_over(&mut self, seat: Seat, at: u64) -> Kind
+        requires { CanStep self.old seat (Place.HandOver at) }
+        ensures { Stepped self.old seat (Place.HandOver at) result self.new }
+    {
+        self.store(Word::Node(seat.chain, at, NodeField::State), 0);
+        self.go(seat, Place::ReadAnswer);
+        Kind::HandOver
+    }
+
+    pub fn read_answer(&mut self, seat: Seat) -> Kind
+        requires { CanStep self.old seat Place.ReadAnswer }
+        ensures { Stepped self.old seat Place.ReadAnswer result self.new }
+    {
+        let ret = self.load(Word::Node(seat.chain, seat.node, NodeField::Ret));
+        let place = match seat.chain {
+            Chain::Send => Place::Finished {
+                answer: sender_reads(self.setting.served, ret),
+            },
+            Chain::Take(_) => match ret / CODE {
+                1 => Place::ReadAnswerTag { place: ret % CODE },
+                2 => Place::Finished {
+                    answer: Answer::Take(TakeAnswer::Empty),
+                },
+                _ => Place::Finished {
+                    answer: Answer::Take(TakeAnswer::Ended { total: ret % CODE }),
+                },
+            },
+        };
+        self.go(seat, place);
+        Kind::ReadAnswer
+    }
+
+    pub fn read_answer_tag(&mut self, seat: Seat, place: u64) -> Kind
+        requires { CanStep self.old seat (Place.ReadAnswerTag place) }
+        ensures { Stepped self.old seat (Place.ReadAnswerTag place) result self.new }
+    {
+        let tag = self.load(Word::Node(seat.chain, seat.node, NodeField::Tag));
+        self.go(seat, Place::ReadAnswerBody { place, tag });
+        Kind::ReadAnswer
+    }
+
+    pub fn read_answer_body(&mut self, seat: Seat, place: u64, tag: u64) -> Kind
+        requires { CanStep self.old seat (Place.ReadAnswerBody place tag) }
+        ensures { Stepped self.old seat (Place.ReadAnswerBody place tag) result self.new }
+    {
+        let body = self.load(Word::Node(seat.chain, seat.node, NodeField::Body));
+        let item = item_of(place, tag, body);
+        self.go(
+            seat,
+            Place::Finished {
+                answer: Answer::Take(TakeAnswer::Got(item)),
+            },
+        );
+        Kind::ReadAnswer
+    }
+}

@@ -1,0 +1,77 @@
+ghost use Rattle.cc_machine.specs.Shown.{CanStep, Stepped};
+
+use crate::board::{Board, Seat};
+use crate::place::{Counting, Job, Kind, Place};
+use crate::word::{Chain, NodeField, Object, Word};
+use cc_model::{Answer, SendAnswer};
+
+/// The steps of the combiner in the service of one request to the counter.
+impl Board {
+    fn read_count_tag(&mut self, seat: Seat, job: Job) -> Kind
+        requires { CanStep self.old seat (Place.Counting job Counting.ReadTag) }
+        ensures { Stepped self.old seat (Place.Counting job Counting.ReadTag) result self.new }
+    {
+        let _tag = self.load(Word::Node(Chain::Send, job.round.at, NodeField::Tag));
+        self.go(
+            seat,
+            Place::Counting {
+                job,
+                service: Counting::ReadBody,
+            },
+        );
+        Kind::ReadRequest
+    }
+
+    fn read_count_body(&mut self, seat: Seat, job: Job) -> Kind
+        requires { CanStep self.old seat (Place.Counting job Counting.ReadBody) }
+        ensures { Stepped self.old seat (Place.Counting job Counting.ReadBody) result self.new }
+    {
+        let _body = self.load(Word::Node(Chain::Send, job.round.at, NodeField::Body));
+        self.go(
+            seat,
+            Place::Counting {
+                job,
+                service: Counting::ReadCount,
+            },
+        );
+        Kind::ReadRequest
+    }
+
+    fn read_number(&mut self, seat: Seat, job: Job) -> Kind
+        requires { CanStep self.old seat (Place.Counting job Counting.ReadCount) }
+        ensures { Stepped self.old seat (Place.Counting job Counting.ReadCount) result self.new }
+    {
+        let count = self.load(Word::Object(Object::Count));
+        self.go(
+            seat,
+            Place::Counting {
+                job,
+                service: Counting::WriteCount { count },
+            },
+        );
+        Kind::ReadObject
+    }
+
+    fn write_number(&mut self, seat: Seat, job: Job, count: u64) -> Kind
+        requires { CanStep self.old seat (Place.Counting job (Counting.WriteCount count)) }
+        ensures { Stepped self.old seat (Place.Counting job (Counting.WriteCount count)) result self.new }
+    {
+        let answer = Answer::Send(SendAnswer::Accepted { place: count });
+        self.decide(seat.chain, answer);
+        self.store(Word::Object(Object::Count), count + 1);
+        self.go(seat, Place::WriteAnswer { job, answer });
+        Kind::WriteObject
+    }
+
+    pub fn count(&mut self, seat: Seat, job: Job, service: Counting) -> Kind
+        requires { CanStep self.old seat (Place.Counting job service) }
+        ensures { Stepped self.old seat (Place.Counting job service) result self.new }
+    {
+        match service {
+            Counting::ReadTag => self.read_count_tag(seat, job),
+            Counting::ReadBody => self.read_count_body(seat, job),
+            Counting::ReadCount => self.read_number(seat, job),
+            Counting::WriteCount { count } => self.write_number(seat, job, count),
+        }
+    }
+}

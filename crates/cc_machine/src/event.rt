@@ -1,0 +1,78 @@
+ghost use Rattle.std.specs.Prelude.{◌≡◌, ◌<◌, length, IfSome, IfNone};
+ghost use Rattle.cc_machine.specs.Shown.{state_of, CanStep, Stepped, seat_at, Moved};
+ghost use Rattle.cc_machine.specs.State.{chain_of};
+ghost use Rattle.cc_machine.specs.Columns.{event_at};
+
+use crate::board::{Board, Seat};
+use crate::place::{Event, Kind, Place, Stand};
+use crate::word::Chain;
+
+impl Board {
+    /// Where a pass stands.
+    #[tactic(auto, unfolding(crate::specs::View::state_in))]
+    pub fn stand(&self, pass: usize) -> Stand
+        requires { pass < length self.now.stands.items }
+        ensures { result ≡ (state_of self.now).stand pass }
+    {
+        self.stands[pass]
+    }
+
+    pub fn chain(&self, pass: usize) -> Chain
+        ensures { result ≡ chain_of self.now.setting.config pass }
+    {
+        if pass < self.setting.config.senders as usize {
+            Chain::Send
+        } else {
+            Chain::Take(0)
+        }
+    }
+
+    fn step(&mut self, seat: Seat, place: Place) -> Option<Kind>
+        requires { CanStep self.old seat place }
+        ensures some { IfSome result (λ kind. Stepped self.old seat place kind self.new) }
+        ensures none { IfNone result (self.new ≡ self.old) }
+        ensures idle { IfNone result (event_at place ≡ Event.Idle) }
+    {
+        match place {
+            Place::ResetNext { call } => Some(self.reset_next(seat, call)),
+            Place::ResetState { call } => Some(self.reset_state(seat, call)),
+            Place::Exchange { call } => Some(self.exchange(seat, call)),
+            Place::WriteTag { put, request } => Some(self.write_tag(seat, put, request)),
+            Place::WriteBody { put, body } => Some(self.write_body(seat, put, body)),
+            Place::Link { put } => Some(self.link(seat, put)),
+            Place::ReadState => Some(self.read_state(seat)),
+            Place::ReadNext { round } => Some(self.read_next(seat, round)),
+            Place::WriteAnswer { job, answer } => Some(self.write_answer(seat, job, answer)),
+            Place::WriteAnswerTag { job, item } => Some(self.write_answer_tag(seat, job, item)),
+            Place::WriteAnswerBody { job, body } => Some(self.write_answer_body(seat, job, body)),
+            Place::MarkDone { job } => Some(self.mark_done(seat, job)),
+            Place::HandOver { at } => Some(self.hand_over(seat, at)),
+            Place::ReadAnswer => Some(self.read_answer(seat)),
+            Place::ReadAnswerTag { place } => Some(self.read_answer_tag(seat, place)),
+            Place::ReadAnswerBody { place, tag } => Some(self.read_answer_body(seat, place, tag)),
+            Place::Counting { job, service } => Some(self.count(seat, job, service)),
+            Place::Sending { job, service } => Some(self.send(seat, job, service)),
+            Place::Taking { job, service } => Some(self.take(seat, job, service)),
+            Place::Idle | Place::Finished { .. } => None,
+        }
+    }
+
+    /// The next atomic step of a pass, where it has one.
+    pub fn event(&mut self, pass: usize) -> Event
+        requires pass { pass < length self.old.stands.items }
+        requires can { CanStep self.old (seat_at self.old pass) ((state_of self.old).stand pass).place }
+        ensures { Moved self.old pass result self.new }
+    {
+        let stand = self.stand(pass);
+        let seat = Seat {
+            pass,
+            chain: self.chain(pass),
+            begun: stand.begun,
+            node: stand.node,
+        };
+        match self.step(seat, stand.place) {
+            Some(kind) => Event::Did(kind),
+            None => Event::Idle,
+        }
+    }
+}

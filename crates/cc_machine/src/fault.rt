@@ -1,0 +1,25 @@
+use cc_model::ConfigFault;
+
+/// Why a machine wasn't opened.
+#[derive(Clone, Copy, Debug, PartialEq, Eq)]
+pub enum OpenFault {
+    /// A field of the configuration is out of its range: the first such field.
+    Config(ConfigFault),
+    NoMemory,
+}
+
+/// Why a call wasn't begun. Where several causes hold, the one that is answered is the first of no such pass, wrong side,
+/// busy, worn, no memory.
+#[derive(Clone, Copy, Debug, PartialEq, Eq)]
+pub enum BeginFault {
+    /// The pass has a call that runs, or one whose answer wasn't taken.
+    Busy,
+    /// The machine has no pass of this name.
+    NoSuchPass,
+    /// A take by a sender, or a send or a close by a receiver.
+    WrongSide,
+    /// The sender began as many sends as the configuration allows it.
+    Worn,
+    /// There is no room in the history for the call and its answer, and none could be had.
+    NoMemory,
+}

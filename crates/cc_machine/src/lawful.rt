@@ -1,0 +1,148 @@
+ghost use Rattle.std.specs.Prelude.{◌≡◌, ◌≤◌, ◌<◌, ℕ, Some, Ok, OnOk, OnErr, IfOk, IfErr};
+ghost use Rattle.cc_model.specs.Config.{config_fault};
+ghost use Rattle.cc_model.specs.Items.{known_at};
+ghost use Rattle.cc_machine.specs.Safe.{IsReady};
+ghost use Rattle.cc_machine.specs.Shown.{view_of, state_of};
+ghost use Rattle.cc_machine.specs.Run.{passes};
+ghost use Rattle.cc_machine.specs.Machine.{IsOpened, OnSide, index_of, begin_fault, IsBeginFault, IsOpenFault, HasBegun, event_of, HasStepped, answer_of, HasTaken};
+ghost use Rattle.cc_machine.specs.Lawful.{HasRoomToCome, IsLawful};
+
+use crate::board::Board;
+use crate::fault::{BeginFault, OpenFault};
+use crate::open::open;
+use crate::place::{Event, Place};
+use crate::setting::{Served, Setting};
+use crate::word::Chain;
+use cc_model::{Answer, Call, Pass};
+use std::alloc::{AllocError, Global};
+
+/// A board whose passes are called by their names, and that is only ever moved as a run moves it.
+impl Board {
+    /// A board at its opening, of a configuration that is checked here.
+    pub fn open(alloc: Global, setting: Setting) -> Result<Board, OpenFault>
+        ensures opened { IfOk result (λ b. IsOpened setting.served setting.config (view_of b)) }
+        ensures lawful { IfOk result (λ b. IsLawful b) }
+        ensures checked { OnOk result (config_fault setting.config ≡ Ok tt) }
+        ensures fault { IfErr result (λ fault. IsOpenFault setting.config fault) }
+    {
+        if let Err(fault) = setting.config.check() {
+            return Err(OpenFault::Config(fault));
+        }
+        match open(alloc, setting) {
+            Ok(board) => Ok(board),
+            Err(_) => Err(OpenFault::NoMemory),
+        }
+    }
+
+    /// The place of a pass in the row of all passes, from 0.
+    pub fn index(&self, pass: Pass) -> Option<usize>
+        ensures { result ≡ index_of self.now.setting pass }
+    {
+        let config = self.setting.config;
+        match (pass, self.setting.served) {
+            (Pass::Sender(n), _) if 1 <= n && n <= config.senders => Some(n as usize - 1),
+            (Pass::Receiver(n), Served::List) if 1 <= n && n <= config.receivers => {
+                Some(config.senders as usize + (n as usize - 1))
+            }
+            _ => None,
+        }
+    }
+
+    /// Whether a call is made on the side of its pass.
+    fn is_on_side(&self, chain: Chain, call: Call) -> bool
+        ensures { OnSide self.now.setting.served chain call result }
+    {
+        match (chain, call, self.setting.served) {
+            (Chain::Send, Call::Send(_), _) => true,
+            (Chain::Send, Call::Close, Served::List) => true,
+            (Chain::Take(_), Call::Take, Served::List) => true,
+            _ => false,
+        }
+    }
+
+    /// The place in the row of a pass that can begin this call.
+    fn may_begin(&self, pass: Pass, call: Call) -> Result<usize, BeginFault>
+        requires lawful { IsLawful self.now }
+        ensures place { IfOk result (λ p. index_of self.now.setting pass ≡ Some p) }
+        ensures ok { OnOk result (begin_fault (view_of self.now) pass call ≡ Ok tt) }
+        ensures fault { IfErr result (λ fault. begin_fault (view_of self.now) pass call ≡ Err fault) }
+    {
+        let Some(index) = self.index(pass) else {
+            return Err(BeginFault::NoSuchPass);
+        };
+        if !self.is_on_side(self.chain(index), call) {
+            return Err(BeginFault::WrongSide);
+        }
+        let stand = self.stand(index);
+        let Place::Idle = stand.place else {
+            return Err(BeginFault::Busy);
+        };
+        let begun = match call {
+            Call::Send(_) => stand.begun as u64 + 1,
+            _ => stand.begun as u64,
+        };
+        if begun > self.setting.config.per_sender as u64 {
+            return Err(BeginFault::Worn);
+        }
+        Ok(index)
+    }
+
+    /// Makes room in the history of this side for a call of every pass, and for the answers of all calls.
+    fn reserve(&mut self, chain: Chain) -> Result<(), AllocError>
+        ensures view { view_of self.new ≡ view_of self.old }
+        ensures e_room { self.old.history.e_room ≤ self.new.history.e_room }
+        ensures d_room { self.old.history.d_room ≤ self.new.history.d_room }
+        ensures room { OnOk result (HasRoomToCome self.new chain) }
+    {
+        let passes = self.stands.len();
+        match chain {
+            Chain::Send => self.history.reserve_e(passes),
+            Chain::Take(_) => self.history.reserve_d(passes),
+        }
+    }
+
+    /// Begins a call that knows so much of the history. A refused call changes nothing that its callers see.
+    pub fn begin_call(&mut self, pass: Pass, call: Call, known: u64) -> Result<(), BeginFault>
+        requires lawful { IsLawful self.old }
+        requires known { known ≤ known_at pass (state_of self.old).history }
+        ensures ok { OnOk result (HasBegun (view_of self.old) (index_of self.old.setting pass) call known (view_of self.new)) }
+        ensures may { OnOk result (begin_fault (view_of self.old) pass call ≡ Ok tt) }
+        ensures err { OnErr result (view_of self.new ≡ view_of self.old) }
+        ensures fault { IfErr result (λ fault. IsBeginFault (view_of self.old) pass call fault) }
+        ensures lawful { IsLawful self.new }
+    {
+        let index = self.may_begin(pass, call)?;
+        let Ok(()) = self.reserve(self.chain(index)) else {
+            return Err(BeginFault::NoMemory);
+        };
+        self.begin(index, call, known);
+        Ok(())
+    }
+
+    /// Does the next step of a pass, where it has one.
+    pub fn event_by(&mut self, pass: Pass) -> Event
+        requires lawful { IsLawful self.old }
+        requires ready { (p : ℕ) → p < passes self.old.setting → IsReady self.old.setting (state_of self.old) p }
+        ensures event { result ≡ event_of (view_of self.old) pass }
+        ensures state { HasStepped (view_of self.old) (index_of self.old.setting pass) result (view_of self.new) }
+        ensures lawful { IsLawful self.new }
+    {
+        match self.index(pass) {
+            Some(index) => self.event(index),
+            None => Event::Idle,
+        }
+    }
+
+    /// Takes the answer of a pass whose call has read it.
+    pub fn answer_to(&mut self, pass: Pass) -> Option<Answer>
+        requires lawful { IsLawful self.old }
+        ensures answer { result ≡ answer_of (view_of self.old) pass }
+        ensures state { HasTaken (view_of self.old) (index_of self.old.setting pass) result (view_of self.new) }
+        ensures lawful { IsLawful self.new }
+    {
+        match self.index(pass) {
+            Some(index) => self.answer(index),
+            None => None,
+        }
+    }
+}

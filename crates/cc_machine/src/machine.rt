@@ -1,0 +1,101 @@
+use crate::board::Board;
+use crate::fault::{BeginFault, OpenFault};
+use crate::known::Known;
+use crate::place::Event;
+use crate::setting::{Served, Setting};
+use cc_model::{Answer, Call, Config, History, Pass};
+use std::alloc::Global;
+use std::marker::Model;
+
+/// A queue as its senders' chain and its receivers' chain round one list: CC-Queue (Fatourou and Kallimanis, PPoPP 2012)
+/// over the two-lock list queue (Michael and Scott, PODC 1996), one atomic step at a time.
+///
+/// A caller chooses which pass steps next, so any order of the steps of all passes can be played.
+#[derive(Drop)]
+pub struct Machine {
+    board: Board,
+    known: Known,
+}
+
+impl Model for Machine {
+    ghost use Rattle.cc_machine.specs.View.{View};
+    ghost use Rattle.cc_machine.specs.Shown.{view_of};
+    ghost use Rattle.cc_machine.specs.Lawful.{IsMachine};
+
+    ghost Value = { View };
+
+    ghost view = { λ m. view_of m.board };
+
+    ghost invariant = { λ m. IsMachine m.board m.known };
+}
+
+impl Machine {
+    ghost use Rattle.std.specs.Prelude.{◌≡◌, Ok, OnOk, OnErr, IfOk, IfErr, IfSome};
+    ghost use Rattle.cc_model.specs.Config.{config_fault};
+    ghost use Rattle.cc_model.specs.Items.{known_at};
+    ghost use Rattle.cc_model.specs.Legal.{Legal};
+    ghost use Rattle.cc_model.specs.Fifo.{Fifo};
+    ghost use Rattle.cc_machine.specs.Machine.{IsOpened, index_of, begin_fault, IsBeginFault, IsOpenFault, IsReached, IsLastAnswer, HasBegun, event_of, HasStepped, answer_of, HasTaken};
+
+    /// A machine with every pass idle and an empty list. The whole configuration is checked.
+    pub fn open(alloc: Global, config: &Config) -> Result<Machine, OpenFault>
+        ensures opened { IfOk result (λ m. IsOpened Served.List config.now m) }
+        ensures checked { OnOk result (config_fault config.now ≡ Ok tt) }
+        ensures fault { IfErr result (λ fault. IsOpenFault config.now fault) }
+    {
+        let setting = Setting {
+            served: Served::List,
+            config: *config,
+        };
+        let board = Board::open(alloc, setting)?;
+        Ok(Machine {
+            board,
+            known: Known::nothing(),
+        })
+    }
+
+    /// Begins a call of an idle pass. It knows the machine's whole history at this moment. A refused call changes nothing.
+    pub fn begin(&mut self, pass: Pass, call: Call) -> Result<(), BeginFault>
+        ensures ok { OnOk result (HasBegun self.old (index_of self.old.setting pass) call (known_at pass self.old.history) self.new) }
+        ensures may { OnOk result (begin_fault self.old pass call ≡ Ok tt) }
+        ensures err { OnErr result (self.new ≡ self.old) }
+        ensures fault { IfErr result (λ fault. IsBeginFault self.old pass call fault) }
+    {
+        let known = self.known.at(pass);
+        self.board.begin_call(pass, call, known)
+    }
+
+    /// Does the next atomic step of a pass and tells its kind; `Idle`, and nothing is changed, where the pass has no
+    /// running call or doesn't exist.
+    pub fn event(&mut self, pass: Pass) -> Event
+        ensures event { result ≡ event_of self.old pass }
+        ensures state { HasStepped self.old (index_of self.old.setting pass) result self.new }
+        ensures run { IsReached self.new }
+    {
+        let sent = self.board.history.e_answers().len();
+        let taken = self.board.history.d_answers().len();
+        let event = self.board.event_by(pass);
+        self.known = self.known.after(&self.board.history, sent, taken);
+        event
+    }
+
+    /// Takes the answer of the pass's call, once the call has read it. `None`, and nothing is changed, where there is none.
+    pub fn answer(&mut self, pass: Pass) -> Option<Answer>
+        ensures answer { result ≡ answer_of self.old pass }
+        ensures state { HasTaken self.old (index_of self.old.setting pass) result self.new }
+        ensures history { IfSome result (λ answer. IsLastAnswer pass self.old.history answer) }
+    {
+        self.board.answer_to(pass)
+    }
+
+    /// The calls that have exchanged, in the order of their exchanges on each side, and the answers decided so far.
+    /// It is that of a run, it is lawful, and items come out first in, first out.
+    pub fn history(&self) -> &History
+        ensures history { result.now.lists ≡ self.now.history }
+        ensures run { IsReached self.now }
+        ensures legal { Legal self.now.setting.config self.now.history }
+        ensures fifo { Fifo self.now.history }
+    {
+        &self.board.history
+    }
+}

@@ -1,0 +1,207 @@
+use crate::fault::{BeginFault, OpenFault};
+use crate::machine::Machine;
+use crate::place::{Event, Kind};
+use cc_model::{Answer, Call, Config, ConfigFault, Entry, Item, Pass, SendAnswer, TakeAnswer};
+use std::alloc::Global;
+
+const S1: Pass = Pass::Sender(1);
+
+const S2: Pass = Pass::Sender(2);
+
+const R1: Pass = Pass::Receiver(1);
+
+const R2: Pass = Pass::Receiver(2);
+
+const SEND: [Kind; 28] = [
+    Kind::ResetNext,
+    Kind::ResetState,
+    Kind::Exchange,
+    Kind::WriteRequest,
+    Kind::WriteRequest,
+    Kind::Link,
+    Kind::ReadState,
+    Kind::ReadNext,
+    Kind::ReadRequest,
+    Kind::ReadRequest,
+    Kind::ReadObject,
+    Kind::ReadObject,
+    Kind::ReadObject,
+    Kind::ReadPassed,
+    Kind::ResetListNode,
+    Kind::ResetListNode,
+    Kind::WriteItem,
+    Kind::WriteItem,
+    Kind::ReadObject,
+    Kind::LinkLast,
+    Kind::WriteObject,
+    Kind::WriteObject,
+    Kind::WriteObject,
+    Kind::WriteAnswer,
+    Kind::MarkDone,
+    Kind::ReadNext,
+    Kind::HandOver,
+    Kind::ReadAnswer,
+];
+
+const TAKE: [Kind; 23] = [
+    Kind::ResetNext,
+    Kind::ResetState,
+    Kind::Exchange,
+    Kind::Link,
+    Kind::ReadState,
+    Kind::ReadNext,
+    Kind::ReadObject,
+    Kind::ReadObject,
+    Kind::ReadDummyNext,
+    Kind::ReadItem,
+    Kind::ReadItem,
+    Kind::WriteObject,
+    Kind::WriteObject,
+    Kind::AddPassed,
+    Kind::WriteAnswer,
+    Kind::WriteAnswer,
+    Kind::WriteAnswer,
+    Kind::MarkDone,
+    Kind::ReadNext,
+    Kind::HandOver,
+    Kind::ReadAnswer,
+    Kind::ReadAnswer,
+    Kind::ReadAnswer,
+];
+
+fn config(senders: u32, receivers: u32, capacity: u32, bound: u32, life: u64) -> Config {
+    Config {
+        senders,
+        receivers,
+        capacity,
+        bound,
+        life,
+        per_sender: 4,
+    }
+}
+
+fn accepted(place: u64) -> Answer {
+    Answer::Send(SendAnswer::Accepted { place })
+}
+
+fn got(place: u64, sender: u32, number: u32, body: u64) -> Answer {
+    Answer::Take(TakeAnswer::Got(Item {
+        place,
+        sender,
+        number,
+        body,
+    }))
+}
+
+/// A machine after so many events of each pass in turn, each of which begins its next call where it is idle, and takes
+/// the answer of a finished one at once.
+fn played(
+    alloc: Global,
+    config: &Config,
+    calls: &[(Pass, &[Call])],
+    turns: &[(usize, u32)],
+) -> Result<Machine, OpenFault> {
+    let mut machine = Machine::open(alloc, config)?;
+    let mut begun: [usize; 4] = [0; 4];
+    for (place, events) in turns {
+        let (Some((pass, list)), Some(next)) = (calls.get(*place), begun.get_mut(*place)) else {
+            continue;
+        };
+        for _ in 0..*events {
+            if let Some(call) = list.get(*next) {
+                if machine.begin(*pass, *call).is_ok() {
+                    *next += 1;
+                }
+            }
+            let _event = machine.event(*pass);
+            let _answer = machine.answer(*pass);
+        }
+    }
+    Ok(machine)
+}
+
+fn has(machine: &Machine, e_answers: &[Answer], d_answers: &[Answer]) -> bool {
+    let history = machine.history();
+    history.e_answers() == e_answers && history.d_answers() == d_answers
+}
+
+#[test]
+fn lone_calls(rt: HostRuntime) {
+    let mut machine = Machine::open(rt.alloc(), &config(1, 1, 2, 2, 10)).expect(&rt, "opens");
+    assert_eq!(rt; machine.begin(S1, Call::Send(7)), Ok(()));
+    for kind in SEND {
+        assert_eq!(rt; machine.answer(S1), None);
+        assert_eq!(rt; machine.event(S1), Event::Did(kind));
+    }
+    assert_eq!(rt; machine.event(S1), Event::Idle);
+    assert_eq!(rt; machine.answer(S1), Some(accepted(0)));
+    assert_eq!(rt; machine.begin(R1, Call::Take), Ok(()));
+    for kind in TAKE {
+        assert_eq!(rt; machine.answer(R1), None);
+        assert_eq!(rt; machine.event(R1), Event::Did(kind));
+    }
+    assert_eq!(rt; machine.answer(R1), Some(got(0, 1, 1, 7)));
+    assert_eq!(rt; machine.answer(R1), None);
+    let want = [Entry {
+        pass: R1,
+        call: Call::Take,
+        number: 0,
+        known: 1,
+    }];
+    assert!(rt; machine.history().d_calls() == &want[..]);
+}
+
+#[test]
+fn node_used_again(rt: HostRuntime) {
+    let full = Answer::Send(SendAnswer::Full);
+    let small = config(2, 1, 1, 2, 10);
+    let calls: [(Pass, &[Call]); 3] = [
+        (S1, &[Call::Send(5)]),
+        (S2, &[Call::Send(7), Call::Send(8)]),
+        (R1, &[Call::Take]),
+    ];
+    let turns = [(0, 100), (2, 13), (1, 20), (2, 1), (1, 100)];
+    let machine = played(rt.alloc(), &small, &calls, &turns).expect(&rt, "opens");
+    assert!(rt;
+        has(
+            &machine,
+            &[accepted(0), full, accepted(1)],
+            &[got(0, 1, 1, 5)]
+        )
+    );
+}
+
+#[test]
+fn machine_refuses(rt: HostRuntime) {
+    let narrow = Machine::open(rt.alloc(), &config(1, 0, 2, 2, 10));
+    assert_eq!(rt;
+        narrow.err(),
+        Some(OpenFault::Config(ConfigFault::Receivers))
+    );
+    let mut machine = Machine::open(rt.alloc(), &config(1, 1, 4, 2, 10)).expect(&rt, "opens");
+    for pass in [Pass::Sender(0), S2, Pass::Receiver(0), R2] {
+        assert_eq!(rt;
+            machine.begin(pass, Call::Take),
+            Err(BeginFault::NoSuchPass)
+        );
+        assert_eq!(rt; machine.event(pass), Event::Idle);
+        assert_eq!(rt; machine.answer(pass), None);
+    }
+    assert_eq!(rt; machine.begin(S1, Call::Take), Err(BeginFault::WrongSide));
+    assert_eq!(rt;
+        machine.begin(R1, Call::Send(5)),
+        Err(BeginFault::WrongSide)
+    );
+    assert_eq!(rt; machine.begin(R1, Call::Close), Err(BeginFault::WrongSide));
+    for place in 0..4 {
+        assert_eq!(rt; machine.begin(S1, Call::Send(5)), Ok(()));
+        assert_eq!(rt; machine.begin(S1, Call::Close), Err(BeginFault::Busy));
+        for _ in 0..28 {
+            let _event = machine.event(S1);
+        }
+        assert_eq!(rt; machine.begin(S1, Call::Close), Err(BeginFault::Busy));
+        assert_eq!(rt; machine.answer(S1), Some(accepted(place)));
+    }
+    assert_eq!(rt; machine.begin(S1, Call::Send(5)), Err(BeginFault::Worn));
+    assert_eq!(rt; machine.begin(S1, Call::Close), Ok(()));
+}

@@ -1,0 +1,68 @@
+ghost use Rattle.std.specs.Prelude.{◌≡◌, IfOk};
+ghost use Rattle.cc_machine.specs.Words.{layout_of};
+ghost use Rattle.cc_machine.specs.Shown.{state_of, IsLaid, IsSmall, StandFirst};
+ghost use Rattle.cc_machine.specs.Run.{opening};
+
+use crate::board::Board;
+use crate::place::{Place, Stand};
+use crate::setting::{Served, Setting};
+use crate::word::{Chain, ItemField, Object, Word};
+use cc_model::History;
+use std::alloc::{AllocError, Global};
+
+fn first_stand(node: u64) -> Stand
+    ensures { result ≡ record { begun = 0; node = node; place = Place.Idle } }
+{
+    Stand {
+        begun: 0,
+        node,
+        place: Place::Idle,
+    }
+}
+
+/// Where the passes stand at the opening.
+fn first_stands(alloc: Global, setting: Setting) -> Result<Vec<Stand>, AllocError>
+    requires small { IsSmall (layout_of setting.config) }
+    ensures { IfOk result (λ s. StandFirst setting s.items) }
+{
+    let mut stands = Vec::new(alloc);
+    for sender in 0..setting.config.senders {
+        stands.push(first_stand(sender as u64 + 1))?;
+    }
+    let receivers = match setting.served {
+        Served::Counter => 0,
+        Served::List => setting.config.receivers,
+    };
+    for receiver in 0..receivers {
+        stands.push(first_stand(receiver as u64 + 1))?;
+    }
+    Ok(stands)
+}
+
+/// A board at its opening.
+#[tactic(auto, using(crate::proofs::Opening::freed_all, crate::proofs::Opening::freed_more))]
+pub fn open(alloc: Global, setting: Setting) -> Result<Board, AllocError>
+    requires small { IsSmall (layout_of setting.config) }
+    ensures state { IfOk result (λ b. state_of b ≡ opening setting) }
+    ensures setting { IfOk result (λ b. b.setting ≡ setting) }
+    ensures laid { IfOk result (λ b. IsLaid b) }
+{
+    let config = setting.config;
+    let nodes = config.senders as usize + 1 + config.receivers as usize + 1;
+    let words = vec![in alloc; 0u64; 16 + 5 * nodes + 4 * (config.capacity as usize + 2)]?;
+    let mut board = Board {
+        setting,
+        words,
+        stands: first_stands(alloc, setting)?,
+        history: History::new(alloc),
+    };
+    board.store(Word::Tail(Chain::Send), 1);
+    board.store(Word::Tail(Chain::Take(0)), 1);
+    board.store(Word::Object(Object::Last), 1);
+    board.store(Word::Object(Object::Cursor), 1);
+    board.store(Word::Object(Object::Head(0)), 1);
+    for node in 1..config.capacity + 1 {
+        board.store(Word::Item(node as u64, ItemField::Passed), 1);
+    }
+    Ok(board)
+}

@@ -1,0 +1,391 @@
+ghost use Rattle.cc_machine.specs.Shown.{CanStep, Stepped};
+
+use crate::board::{Board, Seat};
+use crate::place::{Job, Kind, Parcel, Place, Request, Sending};
+use crate::word::{Chain, ItemField, NodeField, Object, Word};
+use cc_model::{Answer, CloseAnswer, SendAnswer};
+
+/// The steps of the senders' combiner in the service of one request.
+impl Board {
+    fn read_tag(&mut self, seat: Seat, job: Job) -> Kind
+        requires { CanStep self.old seat (Place.Sending job Sending.ReadTag) }
+        ensures { Stepped self.old seat (Place.Sending job Sending.ReadTag) result self.new }
+    {
+        let tag = self.load(Word::Node(Chain::Send, job.round.at, NodeField::Tag));
+        self.go(
+            seat,
+            Place::Sending {
+                job,
+                service: Sending::ReadBody { tag },
+            },
+        );
+        Kind::ReadRequest
+    }
+
+    fn read_body(&mut self, seat: Seat, job: Job, tag: u64) -> Kind
+        requires { CanStep self.old seat (Place.Sending job (Sending.ReadBody tag)) }
+        ensures { Stepped self.old seat (Place.Sending job (Sending.ReadBody tag)) result self.new }
+    {
+        let body = self.load(Word::Node(Chain::Send, job.round.at, NodeField::Body));
+        self.go(
+            seat,
+            Place::Sending {
+                job,
+                service: Sending::ReadShut {
+                    request: Request { tag, body },
+                },
+            },
+        );
+        Kind::ReadRequest
+    }
+
+    fn read_shut(&mut self, seat: Seat, job: Job, request: Request) -> Kind
+        requires { CanStep self.old seat (Place.Sending job (Sending.ReadShut request)) }
+        ensures { Stepped self.old seat (Place.Sending job (Sending.ReadShut request)) result self.new }
+    {
+        let place = if self.load(Word::Object(Object::Shut)) == 0 {
+            Place::Sending {
+                job,
+                service: Sending::ReadCount { request },
+            }
+        } else if request.tag == 0 {
+            Place::Sending {
+                job,
+                service: Sending::ReadTotal,
+            }
+        } else {
+            let answer = Answer::Send(SendAnswer::Closed);
+            self.decide(seat.chain, answer);
+            Place::WriteAnswer { job, answer }
+        };
+        self.go(seat, place);
+        Kind::ReadObject
+    }
+
+    fn read_total(&mut self, seat: Seat, job: Job) -> Kind
+        requires { CanStep self.old seat (Place.Sending job Sending.ReadTotal) }
+        ensures { Stepped self.old seat (Place.Sending job Sending.ReadTotal) result self.new }
+    {
+        let total = self.load(Word::Object(Object::Count));
+        let answer = Answer::Close(CloseAnswer::Already { total });
+        self.decide(seat.chain, answer);
+        self.go(seat, Place::WriteAnswer { job, answer });
+        Kind::ReadObject
+    }
+
+    fn read_count(&mut self, seat: Seat, job: Job, request: Request) -> Kind
+        requires { CanStep self.old seat (Place.Sending job (Sending.ReadCount request)) }
+        ensures { Stepped self.old seat (Place.Sending job (Sending.ReadCount request)) result self.new }
+    {
+        let count = self.load(Word::Object(Object::Count));
+        let place = if request.tag == 0 {
+            Place::Sending {
+                job,
+                service: Sending::ReadLastToClose { total: count },
+            }
+        } else if count == self.setting.config.life {
+            let answer = Answer::Send(SendAnswer::Spent);
+            self.decide(seat.chain, answer);
+            Place::WriteAnswer { job, answer }
+        } else {
+            let parcel = Parcel {
+                place: count,
+                tag: request.tag,
+                body: request.body,
+            };
+            Place::Sending {
+                job,
+                service: Sending::ReadCursor { parcel },
+            }
+        };
+        self.go(seat, place);
+        Kind::ReadObject
+    }
+
+    fn read_last_to_close(&mut self, seat: Seat, job: Job, total: u64) -> Kind
+        requires { CanStep self.old seat (Place.Sending job (Sending.ReadLastToClose total)) }
+        ensures { Stepped self.old seat (Place.Sending job (Sending.ReadLastToClose total)) result self.new }
+    {
+        let last = self.load(Word::Object(Object::Last));
+        self.go(
+            seat,
+            Place::Sending {
+                job,
+                service: Sending::LinkMark {
+                    total,
+                    last: last - 1,
+                },
+            },
+        );
+        Kind::ReadObject
+    }
+
+    fn link_mark(&mut self, seat: Seat, job: Job, total: u64, last: u64) -> Kind
+        requires { CanStep self.old seat (Place.Sending job (Sending.LinkMark total last)) }
+        ensures { Stepped self.old seat (Place.Sending job (Sending.LinkMark total last)) result self.new }
+    {
+        let answer = Answer::Close(CloseAnswer::Shut { total });
+        self.decide(seat.chain, answer);
+        let mark = self.setting.config.capacity as u64 + 1;
+        self.store(Word::Item(last, ItemField::Next), mark + 1);
+        self.go(
+            seat,
+            Place::Sending {
+                job,
+                service: Sending::WriteLastMark { total },
+            },
+        );
+        Kind::LinkLast
+    }
+
+    fn write_last_mark(&mut self, seat: Seat, job: Job, total: u64) -> Kind
+        requires { CanStep self.old seat (Place.Sending job (Sending.WriteLastMark total)) }
+        ensures { Stepped self.old seat (Place.Sending job (Sending.WriteLastMark total)) result self.new }
+    {
+        let mark = self.setting.config.capacity as u64 + 1;
+        self.store(Word::Object(Object::Last), mark + 1);
+        self.go(
+            seat,
+            Place::Sending {
+                job,
+                service: Sending::WriteShut { total },
+            },
+        );
+        Kind::WriteObject
+    }
+
+    fn write_shut(&mut self, seat: Seat, job: Job, total: u64) -> Kind
+        requires { CanStep self.old seat (Place.Sending job (Sending.WriteShut total)) }
+        ensures { Stepped self.old seat (Place.Sending job (Sending.WriteShut total)) result self.new }
+    {
+        self.store(Word::Object(Object::Shut), 1);
+        let answer = Answer::Close(CloseAnswer::Shut { total });
+        self.go(seat, Place::WriteAnswer { job, answer });
+        Kind::WriteObject
+    }
+
+    fn read_cursor(&mut self, seat: Seat, job: Job, parcel: Parcel) -> Kind
+        requires { CanStep self.old seat (Place.Sending job (Sending.ReadCursor parcel)) }
+        ensures { Stepped self.old seat (Place.Sending job (Sending.ReadCursor parcel)) result self.new }
+    {
+        let node = self.load(Word::Object(Object::Cursor));
+        self.go(
+            seat,
+            Place::Sending {
+                job,
+                service: Sending::ReadPassed {
+                    parcel,
+                    node,
+                    reads: 1,
+                },
+            },
+        );
+        Kind::ReadObject
+    }
+
+    fn read_passed(&mut self, seat: Seat, job: Job, parcel: Parcel, node: u64, reads: u32) -> Kind
+        requires { CanStep self.old seat (Place.Sending job (Sending.ReadPassed parcel node reads)) }
+        ensures { Stepped self.old seat (Place.Sending job (Sending.ReadPassed parcel node reads)) result self.new }
+    {
+        let ordinary = self.setting.config.capacity as u64 + 1;
+        let place = if self.load(Word::Item(node, ItemField::Passed)) == 1 {
+            Place::Sending {
+                job,
+                service: Sending::ResetPassed { parcel, node },
+            }
+        } else if reads as u64 == ordinary {
+            let answer = Answer::Send(SendAnswer::Full);
+            self.decide(seat.chain, answer);
+            Place::WriteAnswer { job, answer }
+        } else {
+            let node = (node + 1) % ordinary;
+            Place::Sending {
+                job,
+                service: Sending::ReadPassed {
+                    parcel,
+                    node,
+                    reads: reads + 1,
+                },
+            }
+        };
+        self.go(seat, place);
+        Kind::ReadPassed
+    }
+
+    fn reset_passed(&mut self, seat: Seat, job: Job, parcel: Parcel, node: u64) -> Kind
+        requires { CanStep self.old seat (Place.Sending job (Sending.ResetPassed parcel node)) }
+        ensures { Stepped self.old seat (Place.Sending job (Sending.ResetPassed parcel node)) result self.new }
+    {
+        self.store(Word::Item(node, ItemField::Passed), 0);
+        self.go(
+            seat,
+            Place::Sending {
+                job,
+                service: Sending::ResetItemNext { parcel, node },
+            },
+        );
+        Kind::ResetListNode
+    }
+
+    fn reset_item_next(&mut self, seat: Seat, job: Job, parcel: Parcel, node: u64) -> Kind
+        requires { CanStep self.old seat (Place.Sending job (Sending.ResetItemNext parcel node)) }
+        ensures { Stepped self.old seat (Place.Sending job (Sending.ResetItemNext parcel node)) result self.new }
+    {
+        self.store(Word::Item(node, ItemField::Next), 0);
+        self.go(
+            seat,
+            Place::Sending {
+                job,
+                service: Sending::WriteItemTag { parcel, node },
+            },
+        );
+        Kind::ResetListNode
+    }
+
+    fn write_item_tag(&mut self, seat: Seat, job: Job, parcel: Parcel, node: u64) -> Kind
+        requires { CanStep self.old seat (Place.Sending job (Sending.WriteItemTag parcel node)) }
+        ensures { Stepped self.old seat (Place.Sending job (Sending.WriteItemTag parcel node)) result self.new }
+    {
+        self.store(Word::Item(node, ItemField::Tag), parcel.tag);
+        self.go(
+            seat,
+            Place::Sending {
+                job,
+                service: Sending::WriteItemBody {
+                    place: parcel.place,
+                    body: parcel.body,
+                    node,
+                },
+            },
+        );
+        Kind::WriteItem
+    }
+
+    fn write_item_body(&mut self, seat: Seat, job: Job, place: u64, body: u64, node: u64) -> Kind
+        requires { CanStep self.old seat (Place.Sending job (Sending.WriteItemBody place body node)) }
+        ensures { Stepped self.old seat (Place.Sending job (Sending.WriteItemBody place body node)) result self.new }
+    {
+        self.store(Word::Item(node, ItemField::Body), body);
+        self.go(
+            seat,
+            Place::Sending {
+                job,
+                service: Sending::ReadLast { place, node },
+            },
+        );
+        Kind::WriteItem
+    }
+
+    fn read_last(&mut self, seat: Seat, job: Job, place: u64, node: u64) -> Kind
+        requires { CanStep self.old seat (Place.Sending job (Sending.ReadLast place node)) }
+        ensures { Stepped self.old seat (Place.Sending job (Sending.ReadLast place node)) result self.new }
+    {
+        let last = self.load(Word::Object(Object::Last));
+        self.go(
+            seat,
+            Place::Sending {
+                job,
+                service: Sending::LinkItem {
+                    place,
+                    node,
+                    last: last - 1,
+                },
+            },
+        );
+        Kind::ReadObject
+    }
+
+    fn link_item(&mut self, seat: Seat, job: Job, place: u64, node: u64, last: u64) -> Kind
+        requires { CanStep self.old seat (Place.Sending job (Sending.LinkItem place node last)) }
+        ensures { Stepped self.old seat (Place.Sending job (Sending.LinkItem place node last)) result self.new }
+    {
+        let answer = Answer::Send(SendAnswer::Accepted { place });
+        self.decide(seat.chain, answer);
+        self.store(Word::Item(last, ItemField::Next), node + 1);
+        self.go(
+            seat,
+            Place::Sending {
+                job,
+                service: Sending::WriteLast { place, node },
+            },
+        );
+        Kind::LinkLast
+    }
+
+    fn write_last(&mut self, seat: Seat, job: Job, place: u64, node: u64) -> Kind
+        requires { CanStep self.old seat (Place.Sending job (Sending.WriteLast place node)) }
+        ensures { Stepped self.old seat (Place.Sending job (Sending.WriteLast place node)) result self.new }
+    {
+        self.store(Word::Object(Object::Last), node + 1);
+        self.go(
+            seat,
+            Place::Sending {
+                job,
+                service: Sending::WriteCount { place, node },
+            },
+        );
+        Kind::WriteObject
+    }
+
+    fn write_count(&mut self, seat: Seat, job: Job, place: u64, node: u64) -> Kind
+        requires { CanStep self.old seat (Place.Sending job (Sending.WriteCount place node)) }
+        ensures { Stepped self.old seat (Place.Sending job (Sending.WriteCount place node)) result self.new }
+    {
+        self.store(Word::Object(Object::Count), place + 1);
+        self.go(
+            seat,
+            Place::Sending {
+                job,
+                service: Sending::WriteCursor { place, node },
+            },
+        );
+        Kind::WriteObject
+    }
+
+    fn write_cursor(&mut self, seat: Seat, job: Job, place: u64, node: u64) -> Kind
+        requires { CanStep self.old seat (Place.Sending job (Sending.WriteCursor place node)) }
+        ensures { Stepped self.old seat (Place.Sending job (Sending.WriteCursor place node)) result self.new }
+    {
+        let ordinary = self.setting.config.capacity as u64 + 1;
+        self.store(Word::Object(Object::Cursor), (node + 1) % ordinary);
+        let answer = Answer::Send(SendAnswer::Accepted { place });
+        self.go(seat, Place::WriteAnswer { job, answer });
+        Kind::WriteObject
+    }
+
+    pub fn send(&mut self, seat: Seat, job: Job, service: Sending) -> Kind
+        requires { CanStep self.old seat (Place.Sending job service) }
+        ensures { Stepped self.old seat (Place.Sending job service) result self.new }
+    {
+        match service {
+            Sending::ReadTag => self.read_tag(seat, job),
+            Sending::ReadBody { tag } => self.read_body(seat, job, tag),
+            Sending::ReadShut { request } => self.read_shut(seat, job, request),
+            Sending::ReadTotal => self.read_total(seat, job),
+            Sending::ReadCount { request } => self.read_count(seat, job, request),
+            Sending::ReadLastToClose { total } => self.read_last_to_close(seat, job, total),
+            Sending::LinkMark { total, last } => self.link_mark(seat, job, total, last),
+            Sending::WriteLastMark { total } => self.write_last_mark(seat, job, total),
+            Sending::WriteShut { total } => self.write_shut(seat, job, total),
+            Sending::ReadCursor { parcel } => self.read_cursor(seat, job, parcel),
+            Sending::ReadPassed {
+                parcel,
+                node,
+                reads,
+            } => self.read_passed(seat, job, parcel, node, reads),
+            Sending::ResetPassed { parcel, node } => self.reset_passed(seat, job, parcel, node),
+            Sending::ResetItemNext { parcel, node } => self.reset_item_next(
+                seat, job, parcel, node,
+            ),
+            Sending::WriteItemTag { parcel, node } => self.write_item_tag(seat, job, parcel, node),
+            Sending::WriteItemBody { place, body, node } => self.write_item_body(
+                seat, job, place, body, node,
+            ),
+            Sending::ReadLast { place, node } => self.read_last(seat, job, place, node),
+            Sending::LinkItem { place, node, last } => self.link_item(seat, job, place, node, last),
+            Sending::WriteLast { place, node } => self.write_last(seat, job, place, node),
+            Sending::WriteCount { place, node } => self.write_count(seat, job, place, node),
+            Sending::WriteCursor { place, node } => self.write_cursor(seat, job, place, node),
+        }
+    }
+}

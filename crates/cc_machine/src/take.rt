@@ -1,0 +1,189 @@
+ghost use Rattle.cc_machine.specs.Shown.{CanStep, Stepped};
+
+use crate::board::{Board, Seat};
+use crate::codes::item_of;
+use crate::place::{Job, Kind, Parcel, Place, Taking};
+use crate::word::{ItemField, Object, Word};
+use cc_model::{Answer, TakeAnswer};
+
+/// The steps of a group's combiner in the service of one take.
+impl Board {
+    fn read_head(&mut self, seat: Seat, job: Job) -> Kind
+        requires { CanStep self.old seat (Place.Taking job Taking.ReadHead) }
+        ensures { Stepped self.old seat (Place.Taking job Taking.ReadHead) result self.new }
+    {
+        let head = self.load(Word::Object(Object::Head(seat.group())));
+        self.go(
+            seat,
+            Place::Taking {
+                job,
+                service: Taking::ReadTaken { dummy: head - 1 },
+            },
+        );
+        Kind::ReadObject
+    }
+
+    fn read_taken(&mut self, seat: Seat, job: Job, dummy: u64) -> Kind
+        requires { CanStep self.old seat (Place.Taking job (Taking.ReadTaken dummy)) }
+        ensures { Stepped self.old seat (Place.Taking job (Taking.ReadTaken dummy)) result self.new }
+    {
+        let taken = self.load(Word::Object(Object::Taken(seat.group())));
+        self.go(
+            seat,
+            Place::Taking {
+                job,
+                service: Taking::ReadDummyNext { dummy, taken },
+            },
+        );
+        Kind::ReadObject
+    }
+
+    fn read_dummy_next(&mut self, seat: Seat, job: Job, dummy: u64, taken: u64) -> Kind
+        requires { CanStep self.old seat (Place.Taking job (Taking.ReadDummyNext dummy taken)) }
+        ensures { Stepped self.old seat (Place.Taking job (Taking.ReadDummyNext dummy taken)) result self.new }
+    {
+        let next = self.load(Word::Item(dummy, ItemField::Next));
+        let place = if next == 0 {
+            let answer = Answer::Take(TakeAnswer::Empty);
+            self.decide(seat.chain, answer);
+            Place::WriteAnswer { job, answer }
+        } else {
+            Place::Taking {
+                job,
+                service: Taking::ReadItemTag {
+                    dummy,
+                    taken,
+                    node: next - 1,
+                },
+            }
+        };
+        self.go(seat, place);
+        Kind::ReadDummyNext
+    }
+
+    fn read_item_tag(&mut self, seat: Seat, job: Job, dummy: u64, taken: u64, node: u64) -> Kind
+        requires { CanStep self.old seat (Place.Taking job (Taking.ReadItemTag dummy taken node)) }
+        ensures { Stepped self.old seat (Place.Taking job (Taking.ReadItemTag dummy taken node)) result self.new }
+    {
+        let tag = self.load(Word::Item(node, ItemField::Tag));
+        let place = if tag == 0 {
+            let answer = Answer::Take(TakeAnswer::Ended { total: taken });
+            self.decide(seat.chain, answer);
+            Place::WriteAnswer { job, answer }
+        } else {
+            Place::Taking {
+                job,
+                service: Taking::ReadItemBody {
+                    dummy,
+                    taken,
+                    node,
+                    tag,
+                },
+            }
+        };
+        self.go(seat, place);
+        Kind::ReadItem
+    }
+
+    fn read_item_body(
+        &mut self,
+        seat: Seat,
+        job: Job,
+        dummy: u64,
+        taken: u64,
+        node: u64,
+        tag: u64,
+    ) -> Kind
+        requires { CanStep self.old seat (Place.Taking job (Taking.ReadItemBody dummy taken node tag)) }
+        ensures { Stepped self.old seat (Place.Taking job (Taking.ReadItemBody dummy taken node tag)) result self.new }
+    {
+        let body = self.load(Word::Item(node, ItemField::Body));
+        let parcel = Parcel {
+            place: taken,
+            tag,
+            body,
+        };
+        self.go(
+            seat,
+            Place::Taking {
+                job,
+                service: Taking::WriteHead {
+                    dummy,
+                    node,
+                    parcel,
+                },
+            },
+        );
+        Kind::ReadItem
+    }
+
+    fn write_head(&mut self, seat: Seat, job: Job, dummy: u64, node: u64, parcel: Parcel) -> Kind
+        requires { CanStep self.old seat (Place.Taking job (Taking.WriteHead dummy node parcel)) }
+        ensures { Stepped self.old seat (Place.Taking job (Taking.WriteHead dummy node parcel)) result self.new }
+    {
+        self.store(Word::Object(Object::Head(seat.group())), node + 1);
+        self.go(
+            seat,
+            Place::Taking {
+                job,
+                service: Taking::WriteTaken { dummy, parcel },
+            },
+        );
+        Kind::WriteObject
+    }
+
+    fn write_taken(&mut self, seat: Seat, job: Job, dummy: u64, parcel: Parcel) -> Kind
+        requires { CanStep self.old seat (Place.Taking job (Taking.WriteTaken dummy parcel)) }
+        ensures { Stepped self.old seat (Place.Taking job (Taking.WriteTaken dummy parcel)) result self.new }
+    {
+        self.store(Word::Object(Object::Taken(seat.group())), parcel.place + 1);
+        self.go(
+            seat,
+            Place::Taking {
+                job,
+                service: Taking::AddPassed { dummy, parcel },
+            },
+        );
+        Kind::WriteObject
+    }
+
+    fn add_passed(&mut self, seat: Seat, job: Job, dummy: u64, parcel: Parcel) -> Kind
+        requires { CanStep self.old seat (Place.Taking job (Taking.AddPassed dummy parcel)) }
+        ensures { Stepped self.old seat (Place.Taking job (Taking.AddPassed dummy parcel)) result self.new }
+    {
+        let word = Word::Item(dummy, ItemField::Passed);
+        let found = self.load(word);
+        let answer = Answer::Take(TakeAnswer::Got(item_of(parcel.place, parcel.tag, parcel.body)));
+        self.decide(seat.chain, answer);
+        self.store(word, found + 1);
+        self.go(seat, Place::WriteAnswer { job, answer });
+        Kind::AddPassed
+    }
+
+    pub fn take(&mut self, seat: Seat, job: Job, service: Taking) -> Kind
+        requires { CanStep self.old seat (Place.Taking job service) }
+        ensures { Stepped self.old seat (Place.Taking job service) result self.new }
+    {
+        match service {
+            Taking::ReadHead => self.read_head(seat, job),
+            Taking::ReadTaken { dummy } => self.read_taken(seat, job, dummy),
+            Taking::ReadDummyNext { dummy, taken } => self.read_dummy_next(seat, job, dummy, taken),
+            Taking::ReadItemTag { dummy, taken, node } => self.read_item_tag(
+                seat, job, dummy, taken, node,
+            ),
+            Taking::ReadItemBody {
+                dummy,
+                taken,
+                node,
+                tag,
+            } => self.read_item_body(seat, job, dummy, taken, node, tag),
+            Taking::WriteHead {
+                dummy,
+                node,
+                parcel,
+            } => self.write_head(seat, job, dummy, node, parcel),
+            Taking::WriteTaken { dummy, parcel } => self.write_taken(seat, job, dummy, parcel),
+            Taking::AddPassed { dummy, parcel } => self.add_passed(seat, job, dummy, parcel),
+        }
+    }
+}

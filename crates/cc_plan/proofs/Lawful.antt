@@ -1,0 +1,227 @@
+-- Every plan that an input describes is lawful.
+use Rattle.std.proofs.Common.{ℕ, suc, nat_lt, codes, ◌≡◌, ◌≤◌, ◌<◌, ◌^◌, Bool, true, false, not, cond, List, [], ◌∷◌, length, get_or, All, Option, Some, None, option_map, option_and_then, Result, Ok, Err, IfOk, refl, ap, sym, ◌∙◌, subst, arith}
+use Rattle.std.specs.List.{AllByRecursion, position, position_or_len}
+use Rattle.std.proofs.lemmas.List.Elements.{All-from_recursion}
+use Rattle.std.proofs.lemmas.List.Sums.{prefix_len_passes}
+use Rattle.std.proofs.lemmas.Bool.Decides.{nat_tests}
+use Rattle.serde_json.specs.Data.{Data}
+use Rattle.serde_json.specs.Find.{get}
+use Rattle.cc_model.specs.Range.{within}
+use Rattle.cc_model.specs.Config.{config_fault}
+use Rattle.cc_model.specs.declared.call.Call.{Call}
+use Rattle.cc_model.specs.declared.call.Call.TheVariants as call
+use Rattle.cc_model.specs.declared.call.Pass.{Pass}
+use Rattle.cc_plan.specs.Json.{elements, pair_of, each, ranged, number_in, whole_number, is_word}
+use Rattle.cc_plan.specs.Refusal.{◌>>=◌, Refusal, wrong_shape, or_range, value_at, tree_of}
+use Rattle.cc_plan.specs.declared.plan.Plan.{Plan}
+use Rattle.cc_plan.specs.declared.fault.PlanFault.{PlanFault}
+use Rattle.cc_plan.specs.Answers.{Gives}
+use Rattle.cc_plan.specs.Plan.{PlanValue, plan_value}
+use Rattle.cc_plan.specs.PlanShape.{named, has_plan_shape}
+use Rattle.cc_plan.specs.PlanValues.{version_of, counted, call_of, calls_of, senders_of, receivers_of, entry_of, schedule_of}
+use Rattle.cc_plan.specs.PlanOf.{config_of, plan_of_values, has_pass, known_passes, with_known_passes, plan_of_tree, plan_of}
+use Rattle.cc_plan.specs.PlanLaws.{IsOfSender, Lawful}
+
+-- ---- steps that gave something
+
+some_step : {A B : Type 0} (o : Option A) (f : A → Option B) (y : B) → option_and_then f o ≡ Some y → (x : A) × (o ≡ Some x) × (f x ≡ Some y)
+some_step None f y e = cc e
+some_step (Some x) f y e = (x, refl, e)
+
+ok_step : {A B : Type 0} (r : Result A Refusal) (f : A → Result B Refusal) (y : B) → (r >>= f) ≡ Ok y → (x : A) × (r ≡ Ok x) × (f x ≡ Ok y)
+ok_step (Ok x) f y e = (x, refl, e)
+ok_step (Err fault) f y e = cc e
+
+in_range : {A : Type 0} (key : List ℕ) (o : Option A) (x : A) → or_range key o ≡ Ok x → o ≡ Some x
+in_range key (Some y) x e = cc e
+in_range key None x e = cc e
+
+ok_same : {A : Type 0} (x y : A) → ◌≡◌ {A = Result A Refusal} (Ok x) (Ok y) → x ≡ y
+ok_same x y e = cc e
+
+-- the tree at the key gave the value
+at_key : {A : Type 0} (read : Data → Option A) (key : List ℕ) (d : Data) (x : A) → value_at read key d ≡ Ok x → (v : Data) × (read v ≡ Some x)
+at_key read key d x e = let s = some_step (get key d) read x (in_range key _ x e) in (s.0, s.2)
+
+-- ---- ranges
+
+chosen : {A : Type 0} (b : Bool) (x y : A) → cond b (Some x) None ≡ Some y → (b ≡ true) × (x ≡ y)
+chosen true x y e = (refl, cc e)
+chosen false x y e = cc e
+
+number_within : (low high : ℕ) (d : Data) (n : ℕ) → number_in low high d ≡ Some n → within low high n ≡ true
+number_within low high d n e =
+    let s = some_step (whole_number d) (ranged low high) n e in
+    let c = chosen (within low high s.0) s.0 n s.2 in
+    sym (ap (within low high) c.1) ∙ c.0
+
+bounds : (low high n : ℕ) → within low high n ≡ true → (low ≤ n) × (n ≤ high)
+bounds low high n e = (grind (arith, nat_tests, e), grind (arith, nat_tests, e))
+
+count_within : (low high : ℕ) (d : Data) (ds : List Data) → counted low high d ≡ Some ds → within low high (length ds) ≡ true
+count_within low high d ds e =
+    let s = some_step (elements d) (λ l. cond (within low high (length l)) (Some l) None) ds e in
+    let c = chosen (within low high (length s.0)) s.0 ds s.2 in
+    sym (ap (λ (l : List Data). within low high (length l)) c.1) ∙ c.0
+
+-- ---- lists
+
+each_step : {A : Type 0} (f : Data → Option A) (d : Data) (ds : List Data) (xs : List A) → each f (d ∷ ds) ≡ Some xs
+    → (y : A) × (ys : List A) × (f d ≡ Some y) × (each f ds ≡ Some ys) × (y ∷ ys ≡ xs)
+each_step f d ds xs e =
+    let s = some_step (f d) (λ x. option_map (λ xs. x ∷ xs) (each f ds)) xs e in
+    let r = mapped s.0 (each f ds) xs s.2 in
+    (s.0, r.0, s.1, r.1, r.2)
+  where
+    mapped : {A : Type 0} (y : A) (o : Option (List A)) (xs : List A) → option_map (λ l. y ∷ l) o ≡ Some xs → (ys : List A) × (o ≡ Some ys) × (y ∷ ys ≡ xs)
+    mapped y None xs e = cc e
+    mapped y (Some ys) xs e = (ys, refl, cc e)
+
+each_holds : {A : Type 0} (P : A → Type 0) (f : Data → Option A) → ((d : Data) (x : A) → f d ≡ Some x → P x) → (ds : List Data) (xs : List A) → each f ds ≡ Some xs → AllByRecursion P xs
+each_holds P f h [] [] e = tt
+each_holds P f h [] (x ∷ xs) e = cc e
+each_holds P f h (d ∷ ds) xs e =
+    let s = each_step f d ds xs e in
+    subst (AllByRecursion P) s.4 (h d s.0 s.2, each_holds P f h ds s.1 s.3)
+
+each_all : {A : Type 0} (P : A → Type 0) (f : Data → Option A) → ((d : Data) (x : A) → f d ≡ Some x → P x) → (ds : List Data) (xs : List A) → each f ds ≡ Some xs → All P xs
+each_all P f h ds xs e = All-from_recursion P xs (each_holds P f h ds xs e)
+
+each_length : {A : Type 0} (f : Data → Option A) (ds : List Data) (xs : List A) → each f ds ≡ Some xs → length ds ≡ length xs
+each_length f [] [] e = refl
+each_length f [] (x ∷ xs) e = cc e
+each_length f (d ∷ ds) xs e = let s = each_step f d ds xs e in ap (λ (n : ℕ). suc n) (each_length f ds s.1 s.3) ∙ ap length s.4
+
+-- ---- calls
+
+of_sender : (b : Bool) (o : Option ℕ) (c : Call) → cond b (Some call.Close) (option_map call.Send o) ≡ Some c → IsOfSender c
+of_sender true o c e = let same : call.Close ≡ c = cc e in subst IsOfSender same tt
+of_sender false (Some n) c e = let same : call.Send n ≡ c = cc e in subst IsOfSender same tt
+of_sender false None c e = cc e
+
+all_of_sender : (d : Data) (calls : List Call) → calls_of d ≡ Some calls → All IsOfSender calls
+all_of_sender d calls e =
+    let s = some_step (counted 0 65536 d) (each call_of) calls e in
+    each_all IsOfSender call_of (λ v c h. of_sender (is_word (codes "close") v) (whole_number v) c h) s.0 calls s.2
+
+few_calls : (d : Data) (calls : List Call) → calls_of d ≡ Some calls → length calls ≤ 65536
+few_calls d calls e =
+    let s = some_step (counted 0 65536 d) (each call_of) calls e in
+    let n = each_length call_of s.0 calls s.2 in
+    let b = bounds 0 65536 (length s.0) (count_within 0 65536 d s.0 s.1) in
+    omega arith
+
+-- ---- the schedule
+
+entry_steps : (d : Data) (x : Pass × ℕ) → entry_of d ≡ Some x → (1 ≤ x.1) × (x.1 ≤ 100000)
+entry_steps d x e =
+    let a = some_step (elements d) _ x e in
+    let b = some_step (pair_of a.0) _ x a.2 in
+    let c = some_step (named b.0.0) _ x b.2 in
+    let n = some_step (number_in 1 100000 b.0.1) (λ m. Some (c.0, m)) x c.2 in
+    let same : (c.0, n.0) ≡ x = cc (n.2) in
+    subst (λ (y : Pass × ℕ). (1 ≤ y.1) × (y.1 ≤ 100000)) same (bounds 1 100000 n.0 (number_within 1 100000 b.0.1 n.0 n.1))
+
+far_when : (b : Bool) (n m k : ℕ) → nat_lt n m ≡ b → cond b (Some n) None ≡ None → k < m → k < n
+far_when true n m k is none h = cc none
+far_when false n m k is none h = grind (arith, nat_tests, is, h)
+
+twice : (b : Bool) → not (not b) ≡ true → b ≡ true
+twice true e = refl
+twice false e = e
+
+-- the first entry that fails is nowhere
+passes_all : {A : Type 0} (test : A → Bool) (xs : List A) → position (λ x. not (test x)) xs ≡ None → All (λ x. test x ≡ true) xs
+passes_all test xs none k d h =
+    let n = position_or_len (λ x. not (test x)) xs in
+    twice (test (get_or xs k d)) (prefix_len_passes (λ x. not (not (test x))) xs k d (far_when (nat_lt n (length xs)) n (length xs) k refl none h))
+
+known_ones : (o : Option ℕ) (q p : PlanValue) → known_passes o q ≡ Ok p → (o ≡ None) × (q ≡ p)
+known_ones None q p e = (refl, cc e)
+known_ones (Some i) q p e = cc e
+
+-- ---- the whole plan
+
+-- all but that the schedule's passes are there
+record Valued (p : PlanValue) : Type 0 where
+  config : config_fault p.config ≡ Ok tt
+  senders : length p.senders ≡ p.config.senders
+  receivers : length p.receivers ≡ p.config.receivers
+  calls : All (All IsOfSender) p.senders
+  sends : All (λ calls. length calls ≤ 65536) p.senders
+  takes : All (λ n. n ≤ 65536) p.receivers
+  entries : length p.schedule ≤ 65536
+  steps : All (λ e. (1 ≤ e.1) × (e.1 ≤ 100000)) p.schedule
+
+fields_lawful : (senders receivers capacity bound life : ℕ) → within 1 64 senders ≡ true → within 1 64 receivers ≡ true → within 1 4096 capacity ≡ true → within 1 1024 bound ≡ true → within 1 (2 ^ 48) life ≡ true
+    → config_fault (config_of senders receivers capacity bound life) ≡ Ok tt
+fields_lawful senders receivers capacity bound life a b c d e = rw (a, b, c, d, e) refl
+
+values_lawful : (d : Data) (p : PlanValue) → plan_of_values d ≡ Ok p → Valued p
+unfolding plan_of_values
+values_lawful d p e =
+    let version = ok_step (or_range (codes "version") (version_of d)) _ p e in
+    let capacity = ok_step (value_at (number_in 1 4096) (codes "capacity") d) _ p version.2 in
+    let bound = ok_step (value_at (number_in 1 1024) (codes "bound") d) _ p capacity.2 in
+    let life = ok_step (value_at (number_in 1 (2 ^ 48)) (codes "life") d) _ p bound.2 in
+    let senders = ok_step (value_at senders_of (codes "senders") d) _ p life.2 in
+    let receivers = ok_step (value_at receivers_of (codes "receivers") d) _ p senders.2 in
+    let schedule = ok_step (value_at schedule_of (codes "schedule") d) _ p receivers.2 in
+    let capacity_at = at_key (number_in 1 4096) (codes "capacity") d capacity.0 capacity.1 in
+    let bound_at = at_key (number_in 1 1024) (codes "bound") d bound.0 bound.1 in
+    let life_at = at_key (number_in 1 (2 ^ 48)) (codes "life") d life.0 life.1 in
+    let senders_at = at_key senders_of (codes "senders") d senders.0 senders.1 in
+    let receivers_at = at_key receivers_of (codes "receivers") d receivers.0 receivers.1 in
+    let schedule_at = at_key schedule_of (codes "schedule") d schedule.0 schedule.1 in
+    let s = some_step (counted 1 64 senders_at.0) (each calls_of) senders.0 senders_at.1 in
+    let r = some_step (counted 1 64 receivers_at.0) (each (number_in 0 65536)) receivers.0 receivers_at.1 in
+    let t = some_step (counted 0 65536 schedule_at.0) (each entry_of) schedule.0 schedule_at.1 in
+    let few = bounds 0 65536 (length t.0) (count_within 0 65536 schedule_at.0 t.0 t.1) in
+    let all_entries = each_length entry_of t.0 schedule.0 t.2 in
+    subst Valued (ok_same _ p schedule.2) (record {
+      config = fields_lawful (length senders.0) (length receivers.0) capacity.0 bound.0 life.0
+          (sym (ap (within 1 64) (each_length calls_of s.0 senders.0 s.2)) ∙ count_within 1 64 senders_at.0 s.0 s.1)
+          (sym (ap (within 1 64) (each_length (number_in 0 65536) r.0 receivers.0 r.2)) ∙ count_within 1 64 receivers_at.0 r.0 r.1)
+          (number_within 1 4096 capacity_at.0 capacity.0 capacity_at.1)
+          (number_within 1 1024 bound_at.0 bound.0 bound_at.1)
+          (number_within 1 (2 ^ 48) life_at.0 life.0 life_at.1);
+      senders = refl;
+      receivers = refl;
+      calls = each_all (All IsOfSender) calls_of all_of_sender s.0 senders.0 s.2;
+      sends = each_all (λ calls. length calls ≤ 65536) calls_of few_calls s.0 senders.0 s.2;
+      takes = each_all (λ n. n ≤ 65536) (number_in 0 65536) (λ v n h. (bounds 0 65536 n (number_within 0 65536 v n h)).1) r.0 receivers.0 r.2;
+      entries = omega arith;
+      steps = each_all (λ x. (1 ≤ x.1) × (x.1 ≤ 100000)) entry_of entry_steps t.0 schedule.0 t.2;
+    })
+
+with_passes : (q p : PlanValue) → Valued q → with_known_passes q ≡ Ok p → Lawful p
+with_passes q p v e =
+    let known = known_ones (position (λ x. not (has_pass q.config x.0)) q.schedule) q p e in
+    subst Lawful known.1 (record {
+      config = v.config;
+      senders = v.senders;
+      receivers = v.receivers;
+      calls = v.calls;
+      sends = v.sends;
+      takes = v.takes;
+      entries = v.entries;
+      passes = passes_all (λ x. has_pass q.config x.0) q.schedule known.0;
+      steps = v.steps;
+    })
+
+shaped : {A : Type 0} (b : Bool) (r : Result A Refusal) (p : A) → cond b r (Err wrong_shape) ≡ Ok p → r ≡ Ok p
+shaped true r p e = e
+shaped false r p e = cc e
+
+-- the plan of an input is lawful
+plan_lawful : (bytes : List ℕ) (p : PlanValue) → plan_of bytes ≡ Ok p → Lawful p
+unfolding plan_of
+plan_lawful bytes p e =
+    let tree = ok_step (tree_of bytes) plan_of_tree p e in
+    let values = ok_step (plan_of_values tree.0) with_known_passes p (shaped (has_plan_shape tree.0) _ p tree.2) in
+    with_passes values.0 p (values_lawful tree.0 values.0 values.1) values.2
+
+-- what a reading function gave is lawful
+pub lawful_if_given : (r : Result Plan PlanFault) (bytes : List ℕ) → Gives plan_value r (plan_of bytes) → IfOk r (λ p. Lawful (plan_value p))
+lawful_if_given (Ok p) bytes given = plan_lawful bytes (plan_value p) given
+lawful_if_given (Err fault) bytes given = tt

@@ -1,0 +1,5 @@
+pub mod Trees
+pub mod Each
+pub mod Digits
+pub mod Lines
+pub mod Lawful

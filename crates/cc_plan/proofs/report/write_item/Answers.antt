@@ -1,0 +1,7 @@
+use Rattle.cc_model.proofs.Writing.{then}
+use Rattle.cc_plan.specs.Report.{item_text}
+use Rattle.cc_plan.proofs.report.write_item.Goals as goal
+
+pub returns : goal.returns
+unfolding item_text
+returns g c = then (then (then c.word.ensures c.word-2.ensures) c.word-3.ensures) c.word-4.ensures

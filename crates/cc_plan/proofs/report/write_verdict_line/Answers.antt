@@ -1,0 +1,11 @@
+use Rattle.cc_model.proofs.Writing.{then}
+use Rattle.cc_plan.specs.Report.{verdict_text}
+use Rattle.cc_plan.proofs.report.write_verdict_line.Goals as goal
+
+pub returns-in-Clean : goal.returns-in-Clean
+unfolding verdict_text
+returns-in-Clean g c = rw c.in-Clean.is c.text.ensures
+
+pub returns-in-Fault : goal.returns-in-Fault
+unfolding verdict_text
+returns-in-Fault g c = rw c.in-Fault.is (then (then c.word.ensures c.word-in-Fault.ensures) c.text-in-Fault.ensures)

@@ -1,0 +1,14 @@
+pub mod Json
+pub mod Closures
+pub mod Refusal
+pub mod Answers
+pub mod Plan
+pub mod PlanShape
+pub mod PlanValues
+pub mod PlanOf
+pub mod PlanLaws
+pub mod Receipts
+pub mod ReceiptsShape
+pub mod ReceiptsValues
+pub mod ReceiptsOf
+pub mod Report

@@ -1,0 +1,16 @@
+-- What a plan says.
+use Rattle.std.specs.Prelude.{ℕ, List, map}
+use Rattle.cc_model.specs.declared.config.Config.{Config}
+use Rattle.cc_model.specs.declared.call.Call.{Call}
+use Rattle.cc_model.specs.declared.call.Pass.{Pass}
+use Rattle.cc_plan.specs.declared.plan.Plan.{Plan}
+
+-- the configuration, each sender's calls, how often each receiver takes, and who makes how many steps in turn
+pub record PlanValue : Type 0 where
+  pub config : Config
+  pub senders : List (List Call)
+  pub receivers : List ℕ
+  pub schedule : List (Pass × ℕ)
+
+abbrev pub plan_value : Plan → PlanValue
+plan_value p = record { config = p.config; senders = map (λ v. v.items) p.senders.items; receivers = p.receivers.items; schedule = p.schedule.items }

@@ -1,0 +1,26 @@
+-- What holds of every plan that an input describes.
+use Rattle.std.specs.Prelude.{true, ◌≡◌, ◌≤◌, length, All, Ok, ⊤}
+use Rattle.cc_model.specs.Config.{config_fault}
+use Rattle.cc_model.specs.declared.call.Call.{Call}
+use Rattle.cc_model.specs.declared.call.Call.TheVariants as call
+use Rattle.cc_plan.specs.Plan.{PlanValue}
+use Rattle.cc_plan.specs.PlanOf.{has_pass}
+
+-- a call that a sender makes
+abbrev pub IsOfSender : Call → Type 0
+IsOfSender (call.Send body) = ⊤
+IsOfSender call.Close = ⊤
+IsOfSender call.Take = ⊥
+
+-- the configuration is lawful and has as many passes as there are lists of calls; the lists are no longer than the limits, and
+-- each sender's calls are those of senders; each entry names a pass of the configuration and a number of steps in its range
+pub record Lawful (p : PlanValue) : Type 0 where
+  pub config : config_fault p.config ≡ Ok tt
+  pub senders : length p.senders ≡ p.config.senders
+  pub receivers : length p.receivers ≡ p.config.receivers
+  pub calls : All (All IsOfSender) p.senders
+  pub sends : All (λ calls. length calls ≤ 65536) p.senders
+  pub takes : All (λ n. n ≤ 65536) p.receivers
+  pub entries : length p.schedule ≤ 65536
+  pub passes : All (λ e. has_pass p.config e.0 ≡ true) p.schedule
+  pub steps : All (λ e. (1 ≤ e.1) × (e.1 ≤ 100000)) p.schedule

@@ -1,0 +1,43 @@
+//! Why an input is refused.
+ghost use Rattle.std.specs.Prelude.{◌≡◌};
+ghost use Rattle.cc_plan.specs.declared.fault.PlanFault.TheVariants.{P5};
+
+use std::alloc::{AllocError, AllocFailed};
+use thiserror::Error;
+
+/// Why an input is no plan, or no receipts. Where several reasons hold, the first of this list is told, and of two
+/// keys out of range the one that stands first in the table of keys.
+#[derive(Clone, Copy, Debug, PartialEq, Eq, Error)]
+pub enum PlanFault {
+    /// The input is no JSON text: not UTF-8, not JSON's grammar, or nested deeper than 127.
+    #[error("no JSON")]
+    P1,
+    /// The tree has another shape: a key is missing or unknown, a value is of another kind, or a pass name is malformed.
+    #[error("of another shape than it should be")]
+    P2,
+    /// The value at this key is out of its range; `input` stands for the length of the whole input.
+    #[error("{0} is out of its range")]
+    P3(&'static str),
+    /// The schedule entry at this place, counted from 0, names a pass that isn't there.
+    #[error("entry {0} names a pass that isn't there")]
+    P4(usize),
+    /// Memory ran out. Where a growth was refused, this may stand in place of any other answer.
+    #[error("out of memory")]
+    P5,
+}
+
+impl From<AllocError> for PlanFault {
+    ghost from_gives = { λ _ e. e ≡ P5 };
+
+    fn from(_: AllocError) -> PlanFault {
+        PlanFault::P5
+    }
+}
+
+impl<T: Drop> From<AllocFailed<T>> for PlanFault {
+    ghost from_gives = { λ _ e. e ≡ P5 };
+
+    fn from(_: AllocFailed<T>) -> PlanFault {
+        PlanFault::P5
+    }
+}

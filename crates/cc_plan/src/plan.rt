@@ -1,0 +1,84 @@
+//! A plan, and how it is read.
+ghost use Rattle.std.specs.Prelude.{◌≡◌, not, IfOk};
+ghost use Rattle.std.specs.List.{position};
+ghost use Rattle.serde_json.specs.View.{view};
+ghost use Rattle.cc_plan.specs.Answers.{Gives};
+ghost use Rattle.cc_plan.specs.Plan.{plan_value};
+ghost use Rattle.cc_plan.specs.PlanLaws.{Lawful};
+ghost use Rattle.cc_plan.specs.PlanOf.{plan_of, plan_of_tree, has_pass};
+
+use crate::fault::PlanFault;
+use crate::json;
+use cc_model::{Call, Config, Pass, is_within};
+use serde_json::Value;
+use std::alloc::Global;
+
+/// What is to be played.
+#[derive(Drop)]
+pub struct Plan {
+    /// A lawful configuration with as many senders and receivers as the next two lists have elements. Each sender may
+    /// send up to 2^32 - 1 times.
+    pub config: Config,
+    /// The calls of each of the 1 to 64 senders, at most 65,536 sends and closes each, in their order.
+    pub senders: Vec<Vec<Call>>,
+    /// How often each of the 1 to 64 receivers takes, at most 65,536 times.
+    pub receivers: Vec<u32>,
+    /// Who goes on next, by up to how many steps, from 1 to 100,000. At most 65,536 entries.
+    pub schedule: Vec<(Pass, u32)>,
+}
+
+mod shape;
+mod values;
+
+use shape::has_plan_shape;
+use values::values;
+
+/// The plan that the bytes describe, or why they describe none: a fault of the whole shape is told before one of a
+/// range, a range in the order of the keys, and an unknown pass last.
+pub fn read_plan(alloc: Global, bytes: &[u8]) -> Result<Plan, PlanFault>
+    ensures plan { Gives plan_value result (plan_of bytes.now) }
+    ensures lawful { IfOk result (λ plan. Lawful (plan_value plan)) }
+{
+    read(alloc, bytes)
+}
+
+#[tactic(auto, unfolding(crate::specs::PlanOf::plan_of))]
+fn read(alloc: Global, bytes: &[u8]) -> Result<Plan, PlanFault>
+    ensures { Gives plan_value result (plan_of bytes.now) }
+{
+    let tree = json::parse(alloc, bytes)?;
+    plan_in(alloc, &tree)
+}
+
+/// The plan that the tree describes.
+fn plan_in(alloc: Global, tree: &Value) -> Result<Plan, PlanFault>
+    ensures { Gives plan_value result (plan_of_tree (view tree.now)) }
+{
+    if !has_plan_shape(tree) {
+        return Err(PlanFault::P2);
+    }
+    let plan = values(alloc, tree)?;
+    match stranger(&plan) {
+        Some(place) => Err(PlanFault::P4(place)),
+        None => Ok(plan),
+    }
+}
+
+/// The place of the first schedule entry whose pass isn't there.
+fn stranger(plan: &Plan) -> Option<usize>
+    ensures { result ≡ position (λ e. not (has_pass plan.now.config e.0)) plan.now.schedule.items }
+{
+    plan.schedule
+        .iter()
+        .position(|e| !has_pass(&plan.config, e.0))
+}
+
+/// Whether the configuration has this pass.
+fn has_pass(config: &Config, pass: Pass) -> bool
+    ensures { result ≡ has_pass config.now pass }
+{
+    match pass {
+        Pass::Sender(s) => is_within(u64::from(s), 1, u64::from(config.senders)),
+        Pass::Receiver(r) => is_within(u64::from(r), 1, u64::from(config.receivers)),
+    }
+}

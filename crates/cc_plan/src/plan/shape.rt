@@ -1,0 +1,124 @@
+//! The shape of a plan's tree, whatever its numbers are.
+ghost use Rattle.std.specs.Prelude.{◌≡◌, codes};
+ghost use Rattle.std.specs.List.{list_all};
+ghost use Rattle.std.specs.Char.{is_ascii_digit};
+ghost use Rattle.serde_json.specs.View.{view};
+ghost use Rattle.cc_plan.specs.Json.{is_list_of, is_number, has_only, has, may_have};
+ghost use Rattle.cc_plan.specs.PlanShape.{is_call, is_pass_number, pass_number, numbered, pass_of, named, is_entry, is_plan_key, has_plan_shape};
+
+use crate::json::{elements, has_only, is_list_of, is_number, is_numbers, is_word, pair};
+use cc_model::{Pass, is_within};
+use serde_json::Value;
+
+/// Whether the tree is an object of a plan's keys, each but `version` there, with values of their shapes.
+#[tactic(auto, unfolding(crate::specs::PlanShape::has_plan_shape))]
+pub fn has_plan_shape(tree: &Value) -> bool
+    ensures { result ≡ has_plan_shape (view tree.now) }
+{
+    has_plan_keys(tree)
+        && tree.get("version").is_none_or(is_number)
+        && tree.get("capacity").is_some_and(is_number)
+        && tree.get("bound").is_some_and(is_number)
+        && tree.get("life").is_some_and(is_number)
+        && tree.get("senders").is_some_and(is_senders)
+        && tree.get("receivers").is_some_and(is_numbers)
+        && tree.get("schedule").is_some_and(is_schedule)
+}
+
+fn has_plan_keys(tree: &Value) -> bool
+    ensures { result ≡ has_only is_plan_key (view tree.now) }
+{
+    has_only(tree, is_plan_key)
+}
+
+fn is_plan_key(key: &str) -> bool
+    ensures { result ≡ is_plan_key key.now }
+{
+    matches!(
+        key,
+        "version" | "capacity" | "bound" | "life" | "senders" | "receivers" | "schedule"
+    )
+}
+
+/// Whether the value is a number or the text `close`.
+fn is_call(value: &Value) -> bool
+    ensures { result ≡ is_call (view value.now) }
+{
+    is_number(value) || is_word(value, "close")
+}
+
+fn is_calls(value: &Value) -> bool
+    ensures { result ≡ is_list_of is_call (view value.now) }
+{
+    is_list_of(value, is_call)
+}
+
+fn is_senders(value: &Value) -> bool
+    ensures { result ≡ is_list_of (is_list_of is_call) (view value.now) }
+{
+    is_list_of(value, is_calls)
+}
+
+/// Whether the value is a pass name and a number.
+fn is_entry(value: &Value) -> bool
+    ensures { result ≡ is_entry (view value.now) }
+{
+    match elements(value).and_then(pair) {
+        Some((name, number)) => named(name).is_some() && is_number(number),
+        None => false,
+    }
+}
+
+fn is_schedule(value: &Value) -> bool
+    ensures { result ≡ is_list_of is_entry (view value.now) }
+{
+    is_list_of(value, is_entry)
+}
+
+/// The pass that the value names.
+pub fn named(value: &Value) -> Option<Pass>
+    ensures { result ≡ named (view value.now) }
+{
+    pass(value.as_str()?.as_bytes())
+}
+
+/// The pass of a name: `s` and a number, or `r` and a number.
+fn pass(name: &[u8]) -> Option<Pass>
+    ensures { result ≡ pass_of name.now }
+{
+    match name {
+        [] => None,
+        [b's', digits @ ..] => Some(Pass::Sender(numbered(digits)?)),
+        [b'r', digits @ ..] => Some(Pass::Receiver(numbered(digits)?)),
+        [_, ..] => None,
+    }
+}
+
+/// The number of a pass: one to ten digits of which the first isn't 0. One that no 32 bits hold is told as the greatest
+/// that they hold, which is no pass of any plan.
+fn numbered(digits: &[u8]) -> Option<u32>
+    ensures { result ≡ numbered digits.now }
+{
+    if !is_pass_number(digits) {
+        return None;
+    }
+    let mut n = 0u32;
+    for digit in digits {
+        n = n
+            .saturating_mul(10)
+            .saturating_add(u32::from(digit.saturating_sub(b'0')));
+    }
+    Some(n)
+}
+
+fn is_pass_number(digits: &[u8]) -> bool
+    ensures { result ≡ is_pass_number digits.now }
+{
+    is_within(digits.len() as u64, 1, 10) && digits[0] != b'0' && are_digits(digits)
+}
+
+fn are_digits(bytes: &[u8]) -> bool
+    ensures { result ≡ list_all is_ascii_digit bytes.now }
+{
+    bytes.iter().all(u8::is_ascii_digit)
+}

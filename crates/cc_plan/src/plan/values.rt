@@ -1,0 +1,175 @@
+//! The values of a plan's tree that has its shape.
+ghost use Rattle.std.specs.Prelude.{◌≡◌, ◌≤◌, IfOk, IfSome, codes, map, option_map, option_and_then, length};
+ghost use Rattle.serde_json.specs.Find.{get};
+ghost use Rattle.serde_json.specs.View.{view};
+ghost use Rattle.cc_plan.specs.Json.{each, number_in};
+ghost use Rattle.cc_plan.specs.Answers.{Gives};
+ghost use Rattle.cc_plan.specs.Plan.{plan_value};
+ghost use Rattle.cc_plan.specs.PlanOf.{plan_of_values};
+ghost use Rattle.cc_plan.specs.PlanValues.{counted, call_of, calls_of, senders_of, receivers_of, entry_of, schedule_of, version_of};
+
+use super::Plan;
+use super::shape::named;
+use crate::fault::PlanFault;
+use crate::json::{each, elements, is_word, number_in, pair};
+use cc_model::{Call, Config, Pass, is_within};
+use serde_json::Value;
+use std::alloc::{AllocError, Global};
+
+/// The values in their ranges, or the first key whose value is out of its range.
+#[tactic(auto, unfolding(crate::specs::PlanOf::plan_of_values))]
+pub fn values(alloc: Global, tree: &Value) -> Result<Plan, PlanFault>
+    ensures { Gives plan_value result (plan_of_values (view tree.now)) }
+{
+    let Some(_) = version(tree) else {
+        return Err(PlanFault::P3("version"));
+    };
+    let Some(capacity) = number_at(tree, "capacity", 4096) else {
+        return Err(PlanFault::P3("capacity"));
+    };
+    let Some(bound) = number_at(tree, "bound", 1024) else {
+        return Err(PlanFault::P3("bound"));
+    };
+    let Some(life) = number_at(tree, "life", 1 << 48) else {
+        return Err(PlanFault::P3("life"));
+    };
+    let Some(senders) = senders(alloc, tree)? else {
+        return Err(PlanFault::P3("senders"));
+    };
+    let Some(receivers) = receivers(alloc, tree)? else {
+        return Err(PlanFault::P3("receivers"));
+    };
+    let Some(schedule) = schedule(alloc, tree)? else {
+        return Err(PlanFault::P3("schedule"));
+    };
+    let config = Config {
+        senders: senders.len() as u32,
+        receivers: receivers.len() as u32,
+        capacity: capacity as u32,
+        bound: bound as u32,
+        life,
+        per_sender: u32::MAX,
+    };
+    Ok(Plan {
+        config,
+        senders,
+        receivers,
+        schedule,
+    })
+}
+
+/// Version 1, which is also meant where none is given.
+fn version(tree: &Value) -> Option<u64>
+    ensures { result ≡ version_of (view tree.now) }
+{
+    match tree.get("version") {
+        Some(value) => number_in(value, 1, 1),
+        None => Some(1),
+    }
+}
+
+/// The whole number at the key, from 1 to a limit.
+fn number_at(tree: &Value, key: &str, high: u64) -> Option<u64>
+    ensures value { result ≡ option_and_then (number_in 1 high) (get key.now (view tree.now)) }
+    ensures range { IfSome result (λ n. n ≤ high) }
+{
+    number_in(tree.get(key)?, 1, high)
+}
+
+/// The elements, if they are so many as the range allows.
+fn counted(value: &Value, low: u64, high: u64) -> Option<&[Value]>
+    ensures value { option_map (λ l. map view l.now) result ≡ counted low high (view value.now) }
+    ensures range { IfSome result (λ l. length l.now ≤ high) }
+{
+    let list = elements(value)?;
+    if is_within(list.len() as u64, low, high) {
+        Some(list)
+    } else {
+        None
+    }
+}
+
+/// What each sender calls, in its order.
+fn senders(alloc: Global, tree: &Value) -> Result<Option<Vec<Vec<Call>>>, AllocError>
+    ensures value { IfOk result (λ all. option_map (λ v. map (λ c. c.items) v.items) all
+        ≡ option_and_then senders_of (get (codes "senders") (view tree.now))) }
+    ensures range { IfOk result (λ all. IfSome all (λ v. length v.items ≤ 64)) }
+{
+    let Some(list) = tree.get("senders").and_then(|v| counted(v, 1, 64)) else {
+        return Ok(None);
+    };
+    each_calls(alloc, list)
+}
+
+fn each_calls(alloc: Global, list: &[Value]) -> Result<Option<Vec<Vec<Call>>>, AllocError>
+    ensures value { IfOk result (λ all. option_map (λ v. map (λ c. c.items) v.items) all
+        ≡ each calls_of (map view list.now)) }
+    ensures count { IfOk result (λ all. IfSome all (λ v. length v.items ≡ length list.now)) }
+{
+    let mut all = Vec::new(alloc);
+    for element in list {
+        let Some(calls) = calls(alloc, element)? else {
+            return Ok(None);
+        };
+        all.push(calls)?;
+    }
+    Ok(Some(all))
+}
+
+/// The calls of one sender.
+fn calls(alloc: Global, value: &Value) -> Result<Option<Vec<Call>>, AllocError>
+    ensures { IfOk result (λ all. option_map (λ v. v.items) all ≡ calls_of (view value.now)) }
+{
+    let Some(list) = counted(value, 0, 65_536) else {
+        return Ok(None);
+    };
+    each(alloc, list, call)
+}
+
+/// `close`, or a send of any 64-bit number.
+fn call(value: &Value) -> Option<Call>
+    ensures { result ≡ call_of (view value.now) }
+{
+    if is_word(value, "close") {
+        return Some(Call::Close);
+    }
+    Some(Call::Send(value.as_u64()?))
+}
+
+/// How often each receiver takes.
+fn receivers(alloc: Global, tree: &Value) -> Result<Option<Vec<u32>>, AllocError>
+    ensures value { IfOk result (λ all. option_map (λ v. v.items) all
+        ≡ option_and_then receivers_of (get (codes "receivers") (view tree.now))) }
+    ensures range { IfOk result (λ all. IfSome all (λ v. length v.items ≤ 64)) }
+{
+    let Some(list) = tree.get("receivers").and_then(|v| counted(v, 1, 64)) else {
+        return Ok(None);
+    };
+    each(alloc, list, takes)
+}
+
+fn takes(value: &Value) -> Option<u32>
+    ensures { result ≡ number_in 0 65536 (view value.now) }
+{
+    Some(number_in(value, 0, 65_536)? as u32)
+}
+
+/// The entries of the schedule.
+fn schedule(alloc: Global, tree: &Value) -> Result<Option<Vec<(Pass, u32)>>, AllocError>
+    ensures { IfOk result (λ all. option_map (λ v. v.items) all
+        ≡ option_and_then schedule_of (get (codes "schedule") (view tree.now))) }
+{
+    let Some(list) = tree.get("schedule").and_then(|v| counted(v, 0, 65_536)) else {
+        return Ok(None);
+    };
+    each(alloc, list, entry)
+}
+
+/// A pass, and up to how many steps it makes.
+fn entry(value: &Value) -> Option<(Pass, u32)>
+    ensures { result ≡ entry_of (view value.now) }
+{
+    let (name, number) = pair(elements(value)?)?;
+    let pass = named(name)?;
+    Some((pass, number_in(number, 1, 100_000)? as u32))
+}

@@ -1,0 +1,45 @@
+//! Receipts, and how they are read.
+ghost use Rattle.std.specs.Prelude.{◌≡◌};
+ghost use Rattle.serde_json.specs.View.{view};
+ghost use Rattle.cc_plan.specs.Answers.{Gives};
+ghost use Rattle.cc_plan.specs.Receipts.{receipts_value};
+ghost use Rattle.cc_plan.specs.ReceiptsOf.{receipts_of, receipts_of_tree};
+
+use crate::fault::PlanFault;
+use crate::json;
+use cc_audit::{SendReceipt, TakeReceipt};
+use serde_json::Value;
+use std::alloc::Global;
+
+/// What was told to the senders and receivers of one topic, in any order, and the total that its close told, if one did.
+#[derive(Drop)]
+pub struct Receipts {
+    pub accepted: Vec<SendReceipt>,
+    pub taken: Vec<TakeReceipt>,
+    pub total: Option<u64>,
+}
+
+mod shape;
+mod values;
+
+use shape::has_receipts_shape;
+use values::values;
+
+/// The receipts that the bytes describe.
+#[tactic(auto, unfolding(crate::specs::ReceiptsOf::receipts_of))]
+pub fn read_receipts(alloc: Global, bytes: &[u8]) -> Result<Receipts, PlanFault>
+    ensures { Gives receipts_value result (receipts_of bytes.now) }
+{
+    let tree = json::parse(alloc, bytes)?;
+    receipts_in(alloc, &tree)
+}
+
+/// The receipts that the tree describes.
+fn receipts_in(alloc: Global, tree: &Value) -> Result<Receipts, PlanFault>
+    ensures { Gives receipts_value result (receipts_of_tree (view tree.now)) }
+{
+    if !has_receipts_shape(tree) {
+        return Err(PlanFault::P2);
+    }
+    values(alloc, tree)
+}

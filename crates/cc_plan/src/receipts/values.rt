@@ -1,0 +1,118 @@
+//! The values of a tree that has the shape of receipts.
+ghost use Rattle.std.specs.Prelude.{◌≡◌, ◌≤◌, IfOk, IfSome, codes, map, option_map, option_and_then};
+ghost use Rattle.serde_json.specs.Find.{get};
+ghost use Rattle.serde_json.specs.View.{view};
+ghost use Rattle.cc_plan.specs.Answers.{Gives};
+ghost use Rattle.cc_plan.specs.Receipts.{receipts_value};
+ghost use Rattle.cc_plan.specs.ReceiptsValues.{part, total_of, accepted_of, send_receipt_of, taken_of, take_receipt_of};
+ghost use Rattle.cc_plan.specs.ReceiptsOf.{receipts_of_values};
+
+use super::Receipts;
+use crate::fault::PlanFault;
+use crate::json::{each, elements, number_in};
+use cc_audit::{SendReceipt, TakeReceipt};
+use cc_model::Item;
+use serde_json::Value;
+use std::alloc::{AllocError, Global};
+
+/// The values in their ranges, or the first key whose value is out of its range.
+#[tactic(auto, unfolding(crate::specs::ReceiptsOf::receipts_of_values))]
+pub fn values(alloc: Global, tree: &Value) -> Result<Receipts, PlanFault>
+    ensures { Gives receipts_value result (receipts_of_values (view tree.now)) }
+{
+    let Some(total) = total(tree) else {
+        return Err(PlanFault::P3("total"));
+    };
+    let Some(accepted) = accepted(alloc, tree)? else {
+        return Err(PlanFault::P3("accepted"));
+    };
+    let Some(taken) = taken(alloc, tree)? else {
+        return Err(PlanFault::P3("taken"));
+    };
+    Ok(Receipts {
+        accepted,
+        taken,
+        total,
+    })
+}
+
+/// The total, where one is given.
+fn total(tree: &Value) -> Option<Option<u64>>
+    ensures { result ≡ total_of (view tree.now) }
+{
+    let Some(value) = tree.get("total") else {
+        return Some(None);
+    };
+    if value.is_null() {
+        return Some(None);
+    }
+    Some(Some(value.as_u64()?))
+}
+
+/// The receipts of the senders.
+fn accepted(alloc: Global, tree: &Value) -> Result<Option<Vec<SendReceipt>>, AllocError>
+    ensures { IfOk result (λ all. option_map (λ v. v.items) all
+        ≡ option_and_then accepted_of (get (codes "accepted") (view tree.now))) }
+{
+    let Some(list) = tree.get("accepted").and_then(elements) else {
+        return Ok(None);
+    };
+    each(alloc, list, send_receipt)
+}
+
+/// A sender, its send's number, the item's place and its body.
+fn send_receipt(value: &Value) -> Option<SendReceipt>
+    ensures { result ≡ send_receipt_of (view value.now) }
+{
+    let list = elements(value)?;
+    let sender = part(list, 0, 1, 64)?;
+    let number = part(list, 1, 1, u64::from(u32::MAX))?;
+    let place = part(list, 2, 0, u64::MAX)?;
+    let body = part(list, 3, 0, u64::MAX)?;
+    Some(SendReceipt {
+        sender: sender as u32,
+        number: number as u32,
+        place,
+        body,
+    })
+}
+
+/// The receipts of the receivers.
+fn taken(alloc: Global, tree: &Value) -> Result<Option<Vec<TakeReceipt>>, AllocError>
+    ensures { IfOk result (λ all. option_map (λ v. v.items) all
+        ≡ option_and_then taken_of (get (codes "taken") (view tree.now))) }
+{
+    let Some(list) = tree.get("taken").and_then(elements) else {
+        return Ok(None);
+    };
+    each(alloc, list, take_receipt)
+}
+
+/// A receiver, the item's place, its sender, its send's number and its body.
+fn take_receipt(value: &Value) -> Option<TakeReceipt>
+    ensures { result ≡ take_receipt_of (view value.now) }
+{
+    let list = elements(value)?;
+    let receiver = part(list, 0, 1, 64)?;
+    let place = part(list, 1, 0, u64::MAX)?;
+    let sender = part(list, 2, 1, 64)?;
+    let number = part(list, 3, 1, u64::from(u32::MAX))?;
+    let body = part(list, 4, 0, u64::MAX)?;
+    Some(TakeReceipt {
+        receiver: receiver as u32,
+        item: Item {
+            place,
+            sender: sender as u32,
+            number: number as u32,
+            body,
+        },
+    })
+}
+
+/// The whole number at a place of the row, if it is in its range.
+fn part(list: &[Value], place: usize, low: u64, high: u64) -> Option<u64>
+    ensures value { result ≡ part place low high (map view list.now) }
+    ensures range { IfSome result (λ n. (low ≤ n) × (n ≤ high)) }
+{
+    number_in(list.get(place)?, low, high)
+}

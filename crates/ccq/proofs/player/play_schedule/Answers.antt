@@ -1,0 +1,22 @@
+use Rattle.std.proofs.Common.{ℕ, ◌<◌, ◌≡◌, length, [], refl, sym, ap, ◌∙◌, subst, arith}
+use Rattle.cc_plan.specs.Plan.{plan_value}
+use Rattle.ccq.specs.Schedule.{IsAt}
+use Rattle.ccq.proofs.Followed.{back, opened, followed, finished}
+use Rattle.ccq.proofs.player.play_schedule.Goals as goal
+
+pub loop-pass-init : goal.loop-pass-init
+loop-pass-init c = ([], opened (plan_value c.args.plan.now) _ _ _ c.in-Ok.ensures.opened (c.in-Ok-vec.ensures.items_if_clones_equal (λ y e. e)) (omega arith), refl)
+
+pub loop-pass-preserved : goal.loop-pass-preserved
+loop-pass-preserved c =
+    let before = c.loop-pass.invariant in
+    let whole = ap length c.as_mut_slice.ensures.value in
+    let now = c.in_ok-follow_entry.ensures.followed before.0 (rw c.as_mut_slice.ensures.value before.1) in
+    let all = ap length c.deref-pass-items.ensures.value in
+    (_, back (plan_value c.args.plan.now) _ _ _ _ _ (c.follow_entry.ensures.rows ∙ whole) (sym c.as_mut_slice.ensures.len ∙ whole) now, followed (plan_value c.args.plan.now) c.args.plan.now.schedule.items c.deref-pass-items.result.now c.loop-pass.pass-index _ before.0 c.deref-pass-items.ensures.value (omega (arith, all, c.loop-pass-test.true)) before.2)
+
+pub returns-clause-played : goal.returns-clause-played
+returns-clause-played c =
+    let at = c.loop-pass.invariant in
+    let all = ap length c.deref-pass-items.ensures.value in
+    finished (plan_value c.args.plan.now) _ _ at.0 c.loop-pass.pass-index at.1 (omega (arith, all, c.loop-pass-test.false)) at.2

@@ -1,0 +1,18 @@
+use Rattle.std.proofs.Common.{sym, ◌∙◌}
+use Rattle.ccq.proofs.Turns.{did_turned, begun_turned, none_turned}
+use Rattle.cc_plan.specs.Plan.{plan_value}
+use Rattle.ccq.proofs.player.turn.Goals as goal
+
+pub returns-in-Did-clause-turned : goal.returns-in-Did-clause-turned
+returns-in-Did-clause-turned c =
+    did_turned (plan_value c.args.plan.now) c.args.pass c.args.row c.requires.pass _ _ _ _ c.in-Did.field-0 _ c.in-Did.ensures.event c.in-Did.ensures.state c.answer.ensures.answer c.answer.ensures.state
+
+pub returns-in_ok-begin-in-Some-clause-turned : goal.returns-in_ok-begin-in-Some-clause-turned
+returns-in_ok-begin-in-Some-clause-turned c =
+    begun_turned (plan_value c.args.plan.now) c.args.pass c.args.row c.requires.pass _ _ _ _ _ c.in-Some.call _ _ c.requires.row (sym c.next_call.ensures.call ∙ c.in-Some.is)
+    (rw (← c.in-Idle.ensures.state) c.in_ok-begin-in-Some.ensures.may) (rw (← c.in-Idle.ensures.state) c.in_ok-begin-in-Some.ensures.begun)
+    c.event-in-Some.ensures.event c.event-in-Some.ensures.state c.answer-in-Some.ensures.answer c.answer-in-Some.ensures.state
+
+pub returns-in-None-clause-turned : goal.returns-in-None-clause-turned
+returns-in-None-clause-turned c =
+    none_turned (plan_value c.args.plan.now) c.args.pass c.args.row c.requires.pass _ _ _ _ _ c.requires.row c.in-Idle.ensures.event c.in-Idle.ensures.state (sym c.next_call.ensures.call ∙ c.in-None.is) c.answer-in-None.ensures.answer c.answer-in-None.ensures.state

@@ -1,9 +1,0 @@
-use Rattle.cc_model.proofs.Writing.{then}
-use Rattle.ccq.specs.Report.{line_text}
-use Rattle.ccq.proofs.report.write_line.Goals as goal
-
-pub returns : goal.returns
-unfolding line_text
-returns g c =
-    then (then (then (then (then (then (then (then c.text.ensures c.word.ensures) c.text-2.ensures)
-    c.write_pass.ensures) c.text-3.ensures) c.write_call.ensures) c.text-4.ensures) c.write_answer.ensures) c.text-5.ensures
