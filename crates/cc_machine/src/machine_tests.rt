@@ -4,13 +4,13 @@ use crate::place::{Event, Kind};
 use cc_model::{Answer, Call, Config, ConfigFault, Entry, Item, Pass, SendAnswer, TakeAnswer};
 use std::alloc::Global;
 
-const S1: Pass = Pass::Sender(1);
+const FIRST_SENDER: Pass = Pass::Sender(1);
 
-const S2: Pass = Pass::Sender(2);
+const SECOND_SENDER: Pass = Pass::Sender(2);
 
-const R1: Pass = Pass::Receiver(1);
+const FIRST_RECEIVER: Pass = Pass::Receiver(1);
 
-const R2: Pass = Pass::Receiver(2);
+const SECOND_RECEIVER: Pass = Pass::Receiver(2);
 
 const SEND: [Kind; 28] = [
     Kind::ResetNext,
@@ -128,22 +128,22 @@ fn has(machine: &Machine, e_answers: &[Answer], d_answers: &[Answer]) -> bool {
 #[test]
 fn lone_calls(rt: HostRuntime) {
     let mut machine = Machine::open(rt.alloc(), &config(1, 1, 2, 2, 10)).expect(&rt, "opens");
-    assert_eq!(rt; machine.begin(S1, Call::Send(7)), Ok(()));
+    assert_eq!(rt; machine.begin(FIRST_SENDER, Call::Send(7)), Ok(()));
     for kind in SEND {
-        assert_eq!(rt; machine.answer(S1), None);
-        assert_eq!(rt; machine.event(S1), Event::Did(kind));
+        assert_eq!(rt; machine.answer(FIRST_SENDER), None);
+        assert_eq!(rt; machine.event(FIRST_SENDER), Event::Did(kind));
     }
-    assert_eq!(rt; machine.event(S1), Event::Idle);
-    assert_eq!(rt; machine.answer(S1), Some(accepted(0)));
-    assert_eq!(rt; machine.begin(R1, Call::Take), Ok(()));
+    assert_eq!(rt; machine.event(FIRST_SENDER), Event::Idle);
+    assert_eq!(rt; machine.answer(FIRST_SENDER), Some(accepted(0)));
+    assert_eq!(rt; machine.begin(FIRST_RECEIVER, Call::Take), Ok(()));
     for kind in TAKE {
-        assert_eq!(rt; machine.answer(R1), None);
-        assert_eq!(rt; machine.event(R1), Event::Did(kind));
+        assert_eq!(rt; machine.answer(FIRST_RECEIVER), None);
+        assert_eq!(rt; machine.event(FIRST_RECEIVER), Event::Did(kind));
     }
-    assert_eq!(rt; machine.answer(R1), Some(got(0, 1, 1, 7)));
-    assert_eq!(rt; machine.answer(R1), None);
+    assert_eq!(rt; machine.answer(FIRST_RECEIVER), Some(got(0, 1, 1, 7)));
+    assert_eq!(rt; machine.answer(FIRST_RECEIVER), None);
     let want = [Entry {
-        pass: R1,
+        pass: FIRST_RECEIVER,
         call: Call::Take,
         number: 0,
         known: 1,
@@ -156,9 +156,9 @@ fn node_used_again(rt: HostRuntime) {
     let full = Answer::Send(SendAnswer::Full);
     let small = config(2, 1, 1, 2, 10);
     let calls: [(Pass, &[Call]); 3] = [
-        (S1, &[Call::Send(5)]),
-        (S2, &[Call::Send(7), Call::Send(8)]),
-        (R1, &[Call::Take]),
+        (FIRST_SENDER, &[Call::Send(5)]),
+        (SECOND_SENDER, &[Call::Send(7), Call::Send(8)]),
+        (FIRST_RECEIVER, &[Call::Take]),
     ];
     let turns = [(0, 100), (2, 13), (1, 20), (2, 1), (1, 100)];
     let machine = played(rt.alloc(), &small, &calls, &turns).expect(&rt, "opens");
@@ -179,7 +179,12 @@ fn machine_refuses(rt: HostRuntime) {
         Some(OpenFault::Config(ConfigFault::Receivers))
     );
     let mut machine = Machine::open(rt.alloc(), &config(1, 1, 4, 2, 10)).expect(&rt, "opens");
-    for pass in [Pass::Sender(0), S2, Pass::Receiver(0), R2] {
+    for pass in [
+        Pass::Sender(0),
+        SECOND_SENDER,
+        Pass::Receiver(0),
+        SECOND_RECEIVER,
+    ] {
         assert_eq!(rt;
             machine.begin(pass, Call::Take),
             Err(BeginFault::NoSuchPass)
@@ -187,21 +192,36 @@ fn machine_refuses(rt: HostRuntime) {
         assert_eq!(rt; machine.event(pass), Event::Idle);
         assert_eq!(rt; machine.answer(pass), None);
     }
-    assert_eq!(rt; machine.begin(S1, Call::Take), Err(BeginFault::WrongSide));
     assert_eq!(rt;
-        machine.begin(R1, Call::Send(5)),
+        machine.begin(FIRST_SENDER, Call::Take),
         Err(BeginFault::WrongSide)
     );
-    assert_eq!(rt; machine.begin(R1, Call::Close), Err(BeginFault::WrongSide));
+    assert_eq!(rt;
+        machine.begin(FIRST_RECEIVER, Call::Send(5)),
+        Err(BeginFault::WrongSide)
+    );
+    assert_eq!(rt;
+        machine.begin(FIRST_RECEIVER, Call::Close),
+        Err(BeginFault::WrongSide)
+    );
     for place in 0..4 {
-        assert_eq!(rt; machine.begin(S1, Call::Send(5)), Ok(()));
-        assert_eq!(rt; machine.begin(S1, Call::Close), Err(BeginFault::Busy));
+        assert_eq!(rt; machine.begin(FIRST_SENDER, Call::Send(5)), Ok(()));
+        assert_eq!(rt;
+            machine.begin(FIRST_SENDER, Call::Close),
+            Err(BeginFault::Busy)
+        );
         for _ in 0..28 {
-            let _event = machine.event(S1);
+            let _event = machine.event(FIRST_SENDER);
         }
-        assert_eq!(rt; machine.begin(S1, Call::Close), Err(BeginFault::Busy));
-        assert_eq!(rt; machine.answer(S1), Some(accepted(place)));
+        assert_eq!(rt;
+            machine.begin(FIRST_SENDER, Call::Close),
+            Err(BeginFault::Busy)
+        );
+        assert_eq!(rt; machine.answer(FIRST_SENDER), Some(accepted(place)));
     }
-    assert_eq!(rt; machine.begin(S1, Call::Send(5)), Err(BeginFault::Worn));
-    assert_eq!(rt; machine.begin(S1, Call::Close), Ok(()));
+    assert_eq!(rt;
+        machine.begin(FIRST_SENDER, Call::Send(5)),
+        Err(BeginFault::Worn)
+    );
+    assert_eq!(rt; machine.begin(FIRST_SENDER, Call::Close), Ok(()));
 }
