@@ -1,5 +1,5 @@
 -- A lawful history's receipts have no other verdict than Clean.
-use Rattle.std.proofs.Common.{◌≡◌, refl, sym, ap, ◌∙◌, subst}
+use Rattle.std.proofs.Common.{◌≡◌, refl, ap, ◌∙◌, subst}
 use Rattle.cc_model.specs.Record.{Record}
 use Rattle.cc_model.specs.Items.{accepted}
 use Rattle.cc_model.specs.Legal.{Legal}

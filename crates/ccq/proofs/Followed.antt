@@ -1,5 +1,5 @@
 -- One entry of a schedule after another.
-use Rattle.std.proofs.Common.{◌≡◌, ◌<◌, ◌≤◌, ℕ, zero, suc, ◌+◌, List, [], ◌∷◌, ◌++◌, length, get_or, take, drop, replicate, Option, refl, sym, ap, ◌∙◌, subst, arith, add-one, rules}
+use Rattle.std.proofs.Common.{◌≡◌, ◌<◌, ◌≤◌, ℕ, suc, ◌+◌, List, [], ◌∷◌, ◌++◌, length, get_or, take, drop, replicate, sym, ap, ◌∙◌, arith, add-one}
 use Rattle.std.proofs.lemmas.Grind.{common_steps}
 use Rattle.std.proofs.Math.Seq.{drop-cons}
 use Rattle.std.proofs.lemmas.List.{drop_all, length-replicate, get_or-replicate}
@@ -10,7 +10,7 @@ use Rattle.cc_machine.specs.Run.{Move, reached, passes}
 use Rattle.cc_machine.specs.Machine.{index_of, IsOpened}
 use Rattle.cc_machine.specs.View.{View, state_in}
 use Rattle.cc_plan.specs.Plan.{PlanValue}
-use Rattle.ccq.specs.Schedule.{setting_of, entry, follow, run_of, history_of, begun_in, IsAt}
+use Rattle.ccq.specs.Schedule.{setting_of, entry, follow, run_of, history_of, IsAt}
 
 -- what a slice of a whole list is after a write
 pub written_back : (n : ℕ) (xs ys : List ℕ) → length ys ≡ length xs → n ≡ length xs → take n (ys ++ drop (length ys) xs) ≡ ys

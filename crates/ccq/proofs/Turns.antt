@@ -1,5 +1,5 @@
 -- One turn of a pass, and what it leaves.
-use Rattle.std.proofs.Common.{◌≡◌, ◌<◌, ◌≤◌, ◌==◌, ℕ, zero, suc, ◌+◌, ◌-◌, List, [], ◌∷◌, length, get_or, set, Bool, true, false, cond, Option, Some, None, Result, Ok, Err, refl, sym, ap, ◌∙◌, subst, arith, rules}
+use Rattle.std.proofs.Common.{◌≡◌, ◌<◌, ◌==◌, ℕ, zero, suc, ◌+◌, ◌-◌, List, ◌∷◌, length, get_or, set, Bool, true, false, cond, Option, Some, None, Result, Ok, refl, sym, ap, ◌∙◌, subst, arith, rules}
 use Rattle.std.specs.Bool.{⊤}
 use Rattle.std.proofs.lemmas.Bool.Decides.{nat_tests}
 use Rattle.std.proofs.lemmas.List.{get_or-set_same, get_or-set_other}
@@ -21,7 +21,7 @@ use Rattle.cc_machine.specs.declared.place.Place.{Place}
 use Rattle.cc_machine.specs.declared.place.Place.TheVariants as place
 use Rattle.cc_machine.specs.Columns.{event_at}
 use Rattle.cc_machine.specs.State.{State}
-use Rattle.cc_machine.specs.Run.{Move, Begin, Step, Take, reached, moved, passes, rests}
+use Rattle.cc_machine.specs.Run.{Move, Begin, Step, Take, reached, moved, rests}
 use Rattle.cc_machine.specs.Machine.{index_of, IsAfter, event_of, event_in, HasStepped, told_at, told_in, answer_of, HasTaken, HasBegun, begin_fault, fault_at, unless_busy, unless_wrong}
 use Rattle.cc_machine.specs.View.{View, state_in}
 use Rattle.cc_plan.specs.Plan.{PlanValue}

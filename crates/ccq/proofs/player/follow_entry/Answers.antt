@@ -1,9 +1,5 @@
-use Rattle.std.proofs.Common.{◌≡◌, ◌+◌, ◌-◌, ℕ, List, Option, Some, sym, ap, ◌∙◌, subst, arith}
-use Rattle.cc_model.specs.declared.call.Pass.{Pass}
-use Rattle.cc_machine.specs.Run.{Move}
-use Rattle.cc_machine.specs.View.{View}
-use Rattle.cc_plan.specs.Plan.{PlanValue, plan_value}
-use Rattle.ccq.specs.Schedule.{IsAt, HasTurned, turns, entry}
+use Rattle.std.proofs.Common.{sym, arith}
+use Rattle.cc_plan.specs.Plan.{plan_value}
 use Rattle.ccq.proofs.Turns.{all_turned, no_more_turned}
 use Rattle.ccq.proofs.player.follow_entry.Goals as goal
 

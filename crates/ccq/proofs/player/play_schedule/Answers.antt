@@ -1,6 +1,5 @@
-use Rattle.std.proofs.Common.{ℕ, ◌<◌, ◌≡◌, length, [], refl, sym, ap, ◌∙◌, subst, arith}
+use Rattle.std.proofs.Common.{length, [], refl, sym, ap, ◌∙◌, arith}
 use Rattle.cc_plan.specs.Plan.{plan_value}
-use Rattle.ccq.specs.Schedule.{IsAt}
 use Rattle.ccq.proofs.Followed.{back, opened, followed, finished}
 use Rattle.ccq.proofs.player.play_schedule.Goals as goal
 

@@ -1,7 +1,7 @@
-use Rattle.std.proofs.Common.{◌≡◌, length, List, drop}
-use Rattle.cc_machine.specs.Run.{Move, passes}
+use Rattle.std.proofs.Common.{◌≡◌, List, drop}
+use Rattle.cc_machine.specs.Run.{Move}
 use Rattle.cc_plan.specs.Plan.{plan_value}
-use Rattle.ccq.specs.Schedule.{setting_of, IsAt, follow, run_of}
+use Rattle.ccq.specs.Schedule.{IsAt, follow, run_of}
 use Rattle.ccq.proofs.player.play_schedule.Given as goal
 
 -- the machine stands at a run from which the rest of the schedule leads to the plan's
