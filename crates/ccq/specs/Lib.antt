@@ -1,3 +1,4 @@
+pub mod CommandLine
 pub mod Schedule
 pub mod Play
 pub mod Run

@@ -1,8 +1,10 @@
 -- What a command line answers, and what it says on standard error.
-use Rattle.std.specs.Prelude.{ℕ, ◌≡◌, ◌++◌, Bool, List, [], ◌∷◌, codes, if◌then◌else◌, Option, Some, None, Result, Ok, Err, String, string_bytes}
-use Rattle.std.specs.Global.{Global}
-use Rattle.std.specs.Str.{bytes_eq}
-use Rattle.std.specs.Io.KnownBytes.{Keeps}
+use Rattle.std.specs.Prelude.{ℕ, ◌≡◌, ◌⊎◌, ◌++◌, Bool, List, [], ◌∷◌, codes, Option, Some, None, Result, Ok, Err}
+use Rattle.std.specs.Io.KnownBytes.{Keeps, Appends}
+use Rattle.clap.specs.Words.{IsAmong, Kinds}
+use Rattle.clap.specs.declared.error.kind.ErrorKind.{ErrorKind}
+use Rattle.clap.specs.declared.error.kind.ErrorKind.TheVariants.{DisplayHelp, OutOfMemory}
+use Rattle.cc_model.specs.Items.{IsFront}
 use Rattle.cc_model.specs.Written.{Writes, word_text}
 use Rattle.cc_plan.specs.declared.fault.PlanFault.{PlanFault}
 use Rattle.cc_plan.specs.declared.fault.PlanFault.TheVariants.{P1, P2, P3, P4, P5}
@@ -10,15 +12,9 @@ use Rattle.ccq.specs.declared.fault.PlayFault.{PlayFault}
 use Rattle.ccq.specs.declared.fault.PlayFault.TheVariants as fault
 use Rattle.cc_audit.specs.declared.receipt.Verdict.{Verdict}
 use Rattle.cc_audit.specs.declared.receipt.Verdict.TheVariants.{Clean, Fault}
-use Rattle.ccq.specs.declared.run.Command.{Command}
-use Rattle.ccq.specs.declared.run.Command.TheVariants.{Play, Audit}
+use Rattle.ccq.specs.declared.command_line.Task.{Task}
+use Rattle.ccq.specs.declared.command_line.Task.TheVariants.{Play, Audit}
 use Rattle.ccq.specs.Play.{Plays, Audits}
-
--- the one word play, or the one word audit
-abbrev pub command_of : List (String Global) → Option Command
-command_of [] = None
-command_of (word ∷ []) = if bytes_eq (string_bytes word) (codes "play") then Some Play else (if bytes_eq (string_bytes word) (codes "audit") then Some Audit else None)
-command_of (word ∷ other ∷ words) = None
 
 -- the exit status
 abbrev pub status_of : Result Verdict PlayFault → ℕ
@@ -53,11 +49,34 @@ pub record Told (old new : Option (List ℕ)) (before after : ℕ) (text : List 
   pub failed : Bool
   pub writes : Writes failed old new before after text
 
--- The input was worked on as the command says, and its outcome was told; a command line that is refused reads and writes
--- nothing.
-abbrev pub Runs : Option Command → (left_old left_new old new : Option (List ℕ)) → (status : ℕ) → (errors_old errors_new : Option (List ℕ)) → (before after : ℕ) → Type 0
-Runs (Some Play) left_old left_new old new status errors_old errors_new before after =
-    (outcome : Result Verdict PlayFault) × Plays left_old left_new outcome old new × (status ≡ status_of outcome) × Told errors_old errors_new before after (line_of outcome)
-Runs (Some Audit) left_old left_new old new status errors_old errors_new before after =
-    (outcome : Result Verdict PlayFault) × Audits left_old left_new outcome old new × (status ≡ status_of outcome) × Told errors_old errors_new before after (line_of outcome)
-Runs None left_old left_new old new status errors_old errors_new before after = (status ≡ 64) × Keeps left_old left_new × Keeps old new
+-- What a line that asks for no task leaves on both outputs, the number of failed writes on standard error, and the status.
+module _ (old new errors_old errors_new : Option (List ℕ)) (before after status : ℕ) where
+  -- there was no memory to read the line or to answer it
+  abbrev pub RunsOut : Type 0
+  RunsOut = (status ≡ 3) × Keeps old new × Told errors_old errors_new before after no_memory_line
+
+  -- a text of help was written; or a front of it was, and a write failed
+  abbrev pub Helps : Type 0
+  Helps = (text : List ℕ) × (((status ≡ 0) × Appends old new text × Told errors_old errors_new before after [])
+      ⊎ ((status ≡ 4) × ((front : List ℕ) × IsFront front text × Appends old new front) × Told errors_old errors_new before after (line_of (Err fault.Write))))
+
+  -- what is wrong with the line was told
+  abbrev pub Complains : Type 0
+  Complains = (status ≡ 64) × Keeps old new × ((text : List ℕ) × Told errors_old errors_new before after text)
+
+  -- how the line is answered, by what was found in it
+  abbrev pub Declines : ErrorKind → Type 0
+  Declines DisplayHelp = Helps ⊎ RunsOut
+  Declines OutOfMemory = RunsOut
+  Declines _ = Complains ⊎ RunsOut
+
+-- What a line leaves on its input as well. It asks for this task, which is done, or as far as that went, and its outcome told;
+-- or for none, where the parser of command lines finds these faults in it, and then nothing is read.
+module _ (left_old left_new old new errors_old errors_new : Option (List ℕ)) (before after status : ℕ) where
+  abbrev pub Does : (Option (List ℕ) → Option (List ℕ) → Result Verdict PlayFault → Option (List ℕ) → Option (List ℕ) → Type 0) → Type 0
+  Does Work = (outcome : Result Verdict PlayFault) × Work left_old left_new outcome old new × (status ≡ status_of outcome) × Told errors_old errors_new before after (line_of outcome)
+
+  abbrev pub Runs : Option Task → Kinds → Type 0
+  Runs (Some Play) faults = Does Plays
+  Runs (Some Audit) faults = Does Audits
+  Runs None faults = Keeps left_old left_new × ((found : ErrorKind) × IsAmong found (OutOfMemory ∷ faults) × Declines old new errors_old errors_new before after status found)

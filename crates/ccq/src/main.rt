@@ -2,6 +2,7 @@
 #![tactic(auto)]
 
 mod audit;
+mod command_line;
 mod fault;
 mod input;
 mod play;
@@ -11,27 +12,36 @@ mod run;
 mod tests;
 
 use cc_model::Device;
+use clap::Error;
+use command_line::not_text;
+use run::{decline, run};
+use std::alloc::AllocError;
 use std::env;
 use std::io::ErrorKind;
 use std::process::ExitCode;
 
 fn main(rt: HostRuntime) -> ExitCode {
-    let status = match env::args(&rt) {
-        Ok(args) => match args.skip(1).collect::<Vec<String>>(rt.alloc()) {
-            Ok(words) => played(&rt, words.as_slice()),
-            Err(_) => run::out_of_memory(&mut Device::new(rt.stderr())),
-        },
-        Err(e) if e.kind() == ErrorKind::OutOfMemory => {
-            run::out_of_memory(&mut Device::new(rt.stderr()))
-        }
-        Err(_) => run::usage(&mut Device::new(rt.stderr())),
+    let mut source = Device::new(rt.stdin());
+    let mut sink = Device::new(rt.stdout());
+    let mut errors = Device::new(rt.stderr());
+    let status = match words(&rt) {
+        Ok(words) => run(
+            rt.alloc(),
+            words.as_slice(),
+            &mut source,
+            &mut sink,
+            &mut errors,
+        ),
+        Err(error) => decline(rt.alloc(), &error, &mut sink, &mut errors),
     };
     ExitCode::from(status)
 }
 
-fn played(rt: &HostRuntime, words: &[String]) -> u8 {
-    let mut source = Device::new(rt.stdin());
-    let mut sink = Device::new(rt.stdout());
-    let mut errors = Device::new(rt.stderr());
-    run::run(rt.alloc(), words, &mut source, &mut sink, &mut errors)
+/// The words of the command line, the program's name first.
+fn words(rt: &HostRuntime) -> Result<Vec<String>, Error> {
+    match env::args(rt) {
+        Ok(args) => Ok(args.collect(rt.alloc())?),
+        Err(e) if e.kind() == ErrorKind::OutOfMemory => Err(Error::from(AllocError)),
+        Err(_) => Err(not_text(rt.alloc())?),
+    }
 }

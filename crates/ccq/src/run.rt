@@ -1,23 +1,26 @@
 //! The command line.
-ghost use Rattle.std.specs.Prelude.{◌≡◌, ◌<◌, ◌-◌, ◌^◌, ◌++◌, codes, Err};
+ghost use Rattle.std.specs.Prelude.{◌≡◌, ◌<◌, ◌-◌, ◌^◌, ◌++◌, codes, Err, map, string_bytes};
 ghost use Rattle.cc_model.specs.Written.{word_text};
+ghost use Rattle.clap.specs.Words.{fault_of, kind_of};
 ghost use Rattle.ccq.specs.declared.fault.PlayFault.TheVariants as play_fault;
-ghost use Rattle.std.specs.Prelude.{if◌then◌else◌, Some, None};
-ghost use Rattle.std.specs.Str.{bytes_eq};
-ghost use Rattle.ccq.specs.Run.{command_of, status_of, no_memory_line, refusal_line, line_of, Told, Runs};
+ghost use Rattle.ccq.specs.CommandLine.{commands, task_of};
+ghost use Rattle.ccq.specs.Run.{Declines, Helps, Runs, Told, line_of, no_memory_line, refusal_line, status_of};
 
 use crate::audit::audit_bytes;
+use crate::command_line::{Task, asked};
 use crate::fault::PlayFault;
 use crate::play::play;
 use cc_audit::Verdict;
 use cc_model::{Pen, Sink, Source, write_bytes};
 use cc_plan::PlanFault;
+use clap::Error;
+use clap::error::ErrorKind;
 use std::alloc::Global;
 
-/// One command line, without the program's name: plays the plan of the source, or audits its receipts, and answers the
-/// exit status. It is 0 where that was done and the verdict is clean, 1 where the audit found a fault, 2 where the input
-/// is refused, 3 where memory is, 4 where a device fails, and 64 where the line is refused. What went wrong is told on
-/// `errors`, whose own failures change nothing.
+/// One command line, the program's name first: plays the plan of the source, or audits its receipts, and answers the exit
+/// status. It is 0 where that was done and the verdict is clean, or help was asked for and went to the sink; 1 where the
+/// audit found a fault, 2 where the input is refused, 3 where memory is, 4 where a device fails, and 64 where the line is
+/// refused. What went wrong is told on `errors`, whose own failures change nothing.
 pub fn run<R: Source, W: Sink, E: Sink>(
     alloc: Global,
     words: &[String],
@@ -29,50 +32,53 @@ pub fn run<R: Source, W: Sink, E: Sink>(
     requires writes { W.write_failures sink.old < 2 ^ 64 - 1 }
     requires errors { E.write_failures errors.old < 2 ^ 64 - 1 }
 
-    ensures { Runs (command_of words.now) (R.bytes_left source.old) (R.bytes_left source.new)
-        (W.bytes_written sink.old) (W.bytes_written sink.new) result
+    ensures { Runs (R.bytes_left source.old) (R.bytes_left source.new)
+        (W.bytes_written sink.old) (W.bytes_written sink.new)
         (E.bytes_written errors.old) (E.bytes_written errors.new)
-        (E.write_failures errors.old) (E.write_failures errors.new) }
+        (E.write_failures errors.old) (E.write_failures errors.new) result
+        (task_of (map string_bytes words.now)) (fault_of commands (map string_bytes words.now)) }
 {
-    match asked(words) {
-        Some(Command::Play) => {
+    match asked(alloc, words) {
+        Ok(Task::Play) => {
             let outcome = play(alloc, source, sink);
             tell(errors, outcome)
         }
-        Some(Command::Audit) => {
+        Ok(Task::Audit) => {
             let outcome = audit_bytes(alloc, source, sink);
             tell(errors, outcome)
         }
-        None => usage(errors),
+        Err(error) => decline(alloc, &error, sink, errors),
     }
 }
 
-/// What a command line asks for.
-#[derive(Clone, Copy, Debug, PartialEq, Eq)]
-pub enum Command {
-    /// A plan is played.
-    Play,
-    /// Receipts are audited.
-    Audit,
-}
-
-fn asked(words: &[String]) -> Option<Command>
-    ensures { result ≡ command_of words.now }
+/// Answers a command line that asks for no task: writes the help that it asks for, or tells what is wrong with it, and
+/// answers the status.
+pub fn decline<W: Sink, E: Sink>(alloc: Global, error: &Error, sink: &mut W, errors: &mut E) -> u8
+    requires writes { W.write_failures sink.old < 2 ^ 64 - 1 }
+    requires errors { E.write_failures errors.old < 2 ^ 64 - 1 }
+    ensures { Declines (W.bytes_written sink.old) (W.bytes_written sink.new)
+        (E.bytes_written errors.old) (E.bytes_written errors.new)
+        (E.write_failures errors.old) (E.write_failures errors.new) result (kind_of error.now) }
 {
-    match words {
-        [] => None,
-        [word] => named(word.as_str()),
-        [_, _, ..] => None,
+    let kind = error.kind();
+    match (kind, format!(in alloc; "{error}")) {
+        (ErrorKind::OutOfMemory, _) | (_, Err(_)) => out_of_memory(errors),
+        (ErrorKind::DisplayHelp, Ok(text)) => help(sink, errors, text.as_bytes()),
+        (_, Ok(text)) => told(errors, text.as_bytes(), 64),
     }
 }
 
-fn named(word: &str) -> Option<Command>
-    ensures { result ≡ (if bytes_eq word.now (codes "play") then Some Command.Play else (if bytes_eq word.now (codes "audit") then Some Command.Audit else None)) }
+/// Writes a text of help, and answers the status.
+fn help<W: Sink, E: Sink>(sink: &mut W, errors: &mut E, text: &[u8]) -> u8
+    requires writes { W.write_failures sink.old < 2 ^ 64 - 1 }
+    requires errors { E.write_failures errors.old < 2 ^ 64 - 1 }
+    ensures { Helps (W.bytes_written sink.old) (W.bytes_written sink.new)
+        (E.bytes_written errors.old) (E.bytes_written errors.new)
+        (E.write_failures errors.old) (E.write_failures errors.new) result }
 {
-    match word {
-        "play" => Some(Command::Play),
-        "audit" => Some(Command::Audit),
-        _ => None,
+    match write_bytes(sink, text) {
+        Ok(()) => told(errors, b"", 0),
+        Err(_) => tell(errors, Err(PlayFault::Write)),
     }
 }
 
@@ -102,18 +108,6 @@ pub fn out_of_memory<E: Sink>(errors: &mut E) -> u8
         (E.write_failures errors.old) (E.write_failures errors.new) no_memory_line }
 {
     told(errors, b"ccq: out of memory\n", 3)
-}
-
-/// Tells how the program is called, and answers the status of a command line that is refused.
-pub fn usage<E: Sink>(errors: &mut E) -> u8
-    requires { E.write_failures errors.old < 2 ^ 64 - 1 }
-    ensures { result ≡ 64 }
-{
-    told(
-        errors,
-        b"usage: ccq play | audit\nplay reads a plan on standard input and writes the report of its run on standard output;\naudit reads receipts and writes the verdict on them.\n",
-        64,
-    )
 }
 
 /// Writes a line, whether or not that fails, and answers the status.

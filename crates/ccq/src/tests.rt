@@ -4,6 +4,7 @@ use cc_model::Device;
 use std::alloc::{AllocError, Global};
 
 mod audits;
+mod command_lines;
 mod devices;
 mod plays;
 mod refusals;
@@ -22,11 +23,18 @@ struct Outcome {
     errors: Vec<u8>,
 }
 
-fn ran(alloc: Global, line: &[&str], input: &[u8]) -> Result<Outcome, AllocError> {
+/// The words of a command line, after the program's name.
+fn words_of(alloc: Global, line: &[&str]) -> Result<Vec<String>, AllocError> {
     let mut words = Vec::new(alloc);
+    words.push(String::from_str(alloc, "ccq")?)?;
     for word in line {
         words.push(String::from_str(alloc, word)?)?;
     }
+    Ok(words)
+}
+
+fn ran(alloc: Global, line: &[&str], input: &[u8]) -> Result<Outcome, AllocError> {
+    let words = words_of(alloc, line)?;
     let mut output = Vec::new(alloc);
     let mut errors = Vec::new(alloc);
     let mut source = Device::new(input);

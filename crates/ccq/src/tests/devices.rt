@@ -1,5 +1,5 @@
 //! Devices that fail, and how often they are called.
-use super::{FIRST, REPORT};
+use super::{FIRST, REPORT, words_of};
 use crate::fault::PlayFault;
 use crate::play::play;
 use crate::run::run;
@@ -175,7 +175,7 @@ fn devices_are_called_by_the_block(rt: HostRuntime) -> Result<(), Fail> {
 #[test]
 fn failing_devices_have_a_status(rt: HostRuntime) -> Result<(), Fail> {
     let alloc = rt.alloc();
-    let words = vec![in alloc; String::from_str(alloc, "play")?; 1]?;
+    let words = words_of(alloc, &["play"])?;
     let mut source = CutReader {
         rest: FIRST.as_bytes(),
         gives: 5,

@@ -1,5 +1,5 @@
 //! Inputs and command lines that are refused.
-use super::{FIRST, REPORT, played, ran};
+use super::{FIRST, REPORT, played};
 use std::test::Fail;
 
 #[test]
@@ -91,18 +91,6 @@ fn inputs_are_refused(rt: HostRuntime) -> Result<(), Fail> {
         "{\"version\":1,\"capacity\":2,\"bound\":2,\"life\":10,\"senders\":[[7]],\"receivers\":[1],\"schedule\":[[\"s1\",100],[\"r1\",100]]}";
     let outcome = played(rt.alloc(), "play", version.as_bytes())?;
     assert_eq!(rt; outcome.output.as_slice(), REPORT.as_bytes());
-    Ok(())
-}
-
-#[test]
-fn command_lines_are_refused(rt: HostRuntime) -> Result<(), Fail> {
-    let lines: [&[&str]; 4] = [&[], &["plaz"], &["play", "x"], &["audit", "play"]];
-    for line in lines {
-        let outcome = ran(rt.alloc(), line, FIRST.as_bytes())?;
-        assert_eq!(rt; outcome.status, 64);
-        assert_eq!(rt; outcome.output.len(), 0);
-        assert!(rt; !outcome.errors.is_empty());
-    }
     Ok(())
 }
 

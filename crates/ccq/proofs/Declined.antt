@@ -1,0 +1,24 @@
+-- A line that is declined is answered as its task says, or asks for none.
+use Rattle.std.proofs.Common.{◌≡◌, ◌⊎◌, ℕ, List, Option, Some, None, Err, inl, inr, refl, subst}
+use Rattle.std.specs.Io.KnownBytes.{Keeps}
+use Rattle.clap.specs.Words.{IsAmong, Kinds}
+use Rattle.clap.specs.declared.error.kind.ErrorKind.{ErrorKind}
+use Rattle.clap.specs.declared.error.kind.ErrorKind.TheVariants.{OutOfMemory}
+use Rattle.ccq.specs.declared.command_line.Task.{Task}
+use Rattle.ccq.specs.declared.command_line.Task.TheVariants.{Play, Audit}
+use Rattle.ccq.specs.declared.fault.PlayFault.TheVariants as fault
+use Rattle.ccq.specs.Run.{Declines, Runs, line_of}
+
+kept : (bytes : Option (List ℕ)) → Keeps bytes bytes
+kept None = tt
+kept (Some xs) = refl
+
+module _ (left old new errors_old errors_new : Option (List ℕ)) (before after status : ℕ) where
+  pub declined : (asked : Option Task) (faults : Kinds) (kind : ErrorKind) → (kind ≡ OutOfMemory) ⊎ ((asked ≡ None) × IsAmong kind faults) → Declines old new errors_old errors_new before after status kind
+      → Runs left left old new errors_old errors_new before after status asked faults
+  unfolding line_of
+  declined (Some Play) faults kind (inl memory) d = let out = subst (Declines old new errors_old errors_new before after status) memory d in (Err fault.NoMemory, out.1, out.0, out.2)
+  declined (Some Audit) faults kind (inl memory) d = let out = subst (Declines old new errors_old errors_new before after status) memory d in (Err fault.NoMemory, out.1, out.0, out.2)
+  declined (Some t) faults kind (inr h) d = cc
+  declined None faults kind (inl memory) d = (kept left, (kind, inl memory, d))
+  declined None faults kind (inr h) d = (kept left, (kind, inr h.1, d))
