@@ -1,7 +1,8 @@
 #!/bin/bash
-# Refuses each allocation of `ccq play` on one example plan in turn, from outside: the program must then end with status 3,
-# say so on standard error and have written nothing, or write the whole report. It stops at the third run in a row
-# that wrote the whole report, where the run has made fewer allocations than that. Exit status 0 where all runs did so.
+# Refuses one allocation of `ccq play` on one example plan, from outside, in one run after another: the first, and then each
+# one that is EVERY further on (8 where nothing is said; EVERY=1 refuses each in turn). The program must end with status 3,
+# say so on standard error and have written nothing, or write the whole report. It stops at the third run in a row that
+# wrote the whole report, where the run has made fewer allocations than that. Exit status 0 where all runs did so.
 set -u
 cd "$(dirname "$0")/../crates/ccq" || exit 1
 plan=../../examples/one_item.json
@@ -9,6 +10,7 @@ report=$(cat stdout)
 out=$(mktemp -d) || exit 1
 trap 'rm -rf "$out"' EXIT
 at_once=${AT_ONCE:-4}
+every=${EVERY:-8}
 
 # One run with the allocation of this number refused: its outcome is `refused`, `whole`, or what it was else.
 run_with() {
@@ -29,12 +31,12 @@ first=1
 refused=0
 whole=0
 while [ "$first" -lt 400 ]; do
-    last=$((first + at_once - 1))
-    for n in $(seq "$first" "$last"); do
+    next=$((first + at_once * every))
+    for n in $(seq "$first" "$every" $((next - 1))); do
         run_with "$n" &
     done
     wait
-    for n in $(seq "$first" "$last"); do
+    for n in $(seq "$first" "$every" $((next - 1))); do
         case $(cat "$out/$n") in
         refused) refused=$((refused + 1)); whole=0 ;;
         whole) whole=$((whole + 1)) ;;
@@ -45,11 +47,11 @@ while [ "$first" -lt 400 ]; do
                 echo "no allocation was refused"
                 exit 1
             fi
-            echo "allocations refused in turn: $refused ended with status 3 and nothing written; then the report is whole"
+            echo "allocations refused, every ${every}th: $refused ended with status 3 and nothing written; then the report is whole"
             exit 0
         fi
     done
-    first=$((last + 1))
+    first=$next
 done
 echo "no run met fewer than 400 allocations"
 exit 1
