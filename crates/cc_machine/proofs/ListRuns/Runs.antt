@@ -19,7 +19,7 @@ use Rattle.cc_machine.specs.State.{State, chain_of, pass_at, first_node, word_of
 use Rattle.cc_machine.specs.Columns.{operation, goes}
 use Rattle.cc_machine.specs.Step.{stepped_from}
 use Rattle.cc_machine.specs.Run as run
-use Rattle.cc_machine.specs.Run.{Move, Begin, Step, passes, nowhere, first_word, opening, begun_after, number_of, begins, rests, moved, reached, IsOn, IsIdle, IsFinished, May, IsRun}
+use Rattle.cc_machine.specs.Run.{Move, Begin, Step, passes, nowhere, first_word, opening, begun_after, number_of, begins, rests, moved, reached, IsIdle, IsFinished, May, IsRun}
 use Rattle.cc_model.proofs.Grows.{get_front, get_last}
 use Rattle.cc_machine.specs.MachineLaws.{links_at, linked_nodes}
 use Rattle.cc_machine.proofs.Ranges.{InRange}

@@ -17,7 +17,6 @@ use Rattle.cc_machine.proofs.LinkedList.Runs.{Held}
 use Rattle.cc_machine.proofs.ListRuns.View.{Duty, Regs, enq_at, regs_at, queue_from, queue_of, hold_here, hold_same, hold_all}
 use Rattle.cc_machine.proofs.ListRuns.Ties.{ReadsAt, IsBegun, IsServing, IsUndecidedAt, IsTaking, IsNextSend, IsNextTake}
 use Rattle.cc_machine.proofs.ListRuns.SendTurn as send_turn
-use Rattle.cc_machine.proofs.ListRuns.SendTurn.{Caller}
 use Rattle.cc_machine.proofs.ListRuns.Facts.{lists}
 use Rattle.cc_machine.proofs.ListRuns.Still.{StillTake, send_still}
 use Rattle.cc_machine.proofs.ListRuns.Whole.{Parts, OnwardBy}
