@@ -4,7 +4,7 @@ use Rattle.std.specs.List.{filter}
 use Rattle.std.proofs.lemmas.Bool.{cases_eq, eq-eqb, ne_eqb, lt-ltb}
 use Rattle.std.proofs.lemmas.List.{append-nil}
 use Rattle.std.proofs.lemmas.List.Elements.{filter-append}
-use Rattle.cc_model.specs.Record.{Record, empty}
+use Rattle.cc_model.specs.Record.{Record}
 use Rattle.cc_model.specs.Items.{is_pass, calls_of}
 use Rattle.cc_model.specs.declared.call.Pass.{Pass}
 use Rattle.cc_model.specs.declared.call.Pass.TheVariants as pass
@@ -43,6 +43,7 @@ use Rattle.cc_machine.specs.Run.{Move, Begin, Step, Take as Taken, IsRun, IsIdle
 use Rattle.cc_machine.specs.Sides.{calls_on, answers_on}
 use Rattle.cc_machine.proofs.Ranges.{in_range}
 use Rattle.cc_machine.proofs.ChainRuns.{not_other}
+use Rattle.cc_machine.proofs.Chains.Opening.{no_calls}
 use Rattle.cc_machine.proofs.Chains.View.{pass_on}
 use Rattle.cc_machine.proofs.Chains.Frame.{hold_here, hold_apart}
 use Rattle.cc_machine.proofs.Chains.Registers.{HasCall}
@@ -211,11 +212,6 @@ own_calls c s p less none =
     ap (λ (w : Pass). bare (calls_of w s.history)) name ∙ ap bare (calls_one (chain_of c.config p) s.history on.number none)
     ∙ chosen_calls (λ (z : Entry). is_pass (named (chain_of c.config p) on.number) z.pass) (calls_on (chain_of c.config p) s.history) (answers_on (chain_of c.config p) s.history)
     ∙ ap (λ (w : Pass). filter (λ (z : Entry). is_pass w z.pass) (calls_on (chain_of c.config p) s.history)) (sym name)
-
--- nothing is called at the opening
-no_calls : (x : Chain) → calls_on x empty ≡ []
-no_calls Send = refl
-no_calls (Take g) = refl
 
 -- a call that is about to exchange is of its pass
 exchange_pass : (c : Setting) (s : State) (k : Chains c s) (q : ℕ) → q < passes c → (call : Entry) → (s.stand q).place ≡ place.Exchange call → call.pass ≡ pass_at c.config q

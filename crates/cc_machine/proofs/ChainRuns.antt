@@ -1,10 +1,8 @@
 -- The chains over every run: what a call is told, and that each step can be done.
-use Rattle.std.proofs.Common.{◌≡◌, ℕ, ◌^◌, ◌<◌, refl, ap, sym, ◌∙◌, subst, arith, Option, Some, List, [], ◌∷◌, ◌++◌, length, Ok}
-use Rattle.cc_model.specs.Record.{Record}
-use Rattle.cc_model.specs.Items.{is_pass, calls_of}
+use Rattle.std.proofs.Common.{◌≡◌, ℕ, ◌^◌, ◌<◌, refl, ap, sym, ◌∙◌, subst, arith, Some, List, [], ◌∷◌, ◌++◌, length, Ok}
+use Rattle.cc_model.specs.Items.{is_pass}
 use Rattle.cc_model.specs.Config.{config_fault}
 use Rattle.cc_model.specs.declared.call.Pass.{Pass}
-use Rattle.cc_model.specs.declared.call.Entry.{Entry}
 use Rattle.cc_model.specs.declared.call.Answer.{Answer}
 use Rattle.cc_model.specs.declared.call.Answer.TheVariants as answer
 use Rattle.cc_model.specs.declared.call.SendAnswer.TheVariants as send
@@ -19,6 +17,7 @@ use Rattle.cc_machine.specs.Codes.{ret_of}
 use Rattle.cc_machine.specs.State.{State, chain_of, pass_at}
 use Rattle.cc_machine.specs.Step.{stepped_from}
 use Rattle.cc_machine.specs.Run.{Move, Begin, Step, Take as Taken, IsRun, reached, passes}
+use Rattle.cc_machine.specs.Machine.{IsLastAnswer}
 use Rattle.cc_machine.specs.Safe.{IsStepSafe, IsReady}
 use Rattle.cc_machine.proofs.Ranges.{InRange, in_range}
 use Rattle.cc_machine.proofs.Counted.{Counts, senders_only}
@@ -77,16 +76,10 @@ has_told c some moves run p less told e =
     (told_on c (chain_of c.config p) (reached c moves) (k.holds (chain_of c.config p) ok) (not_other c some moves run (chain_of c.config p)) on.number on.inside told
     (ap (λ (z : ℕ). ((reached c moves).stand z).place) (sym on.pass_is) ∙ e))
 
--- the last call of a pass in a history has this answer
-pub record LastAnswer (who : Pass) (h : Record) (told : Answer) : Type 0 where
-  pub before : List (Entry × Option Answer)
-  pub entry : Entry
-  pub last : calls_of who h ≡ before ++ (entry, Some told) ∷ []
-
 -- a call is told its answer in the history, where the numbers of the answers fit their words
 pub last_answer : (c : Setting) → 0 < c.config.bound → (moves : List Move) → IsRun c moves → (p : ℕ) → p < passes c → (told : Answer) → ((reached c moves).stand p).place ≡ place.Finished told →
     ((n : ℕ) → n < length (answers_on (chain_of c.config p) (reached c moves).history) → FitsIn c.served (answer_at (answers_on (chain_of c.config p) (reached c moves).history) n)) →
-    LastAnswer (pass_at c.config p) (reached c moves).history told
+    IsLastAnswer (pass_at c.config p) (reached c moves).history told
 last_answer c some moves run p less told e fits =
     let t : HasTold c (chain_of c.config p) (reached c moves).history (pass_at c.config p) told = has_told c some moves run p less told e in
     let same : answer_at (answers_on (chain_of c.config p) (reached c moves).history) t.number ≡ told =
@@ -103,7 +96,7 @@ fits_counter served.List e a = absurd (cc)
 
 -- for a counter no number is in the way
 pub counter_answer : (c : Setting) → c.served ≡ served.Counter → 0 < c.config.bound → (moves : List Move) → IsRun c moves → (p : ℕ) → p < passes c → (told : Answer) →
-    ((reached c moves).stand p).place ≡ place.Finished told → LastAnswer (pass_at c.config p) (reached c moves).history told
+    ((reached c moves).stand p).place ≡ place.Finished told → IsLastAnswer (pass_at c.config p) (reached c moves).history told
 counter_answer c counter some moves run p less told e = last_answer c some moves run p less told e (λ n within. fits_counter c.served counter _)
 
 -- and the answer is the number of its call among all calls, from 0 on

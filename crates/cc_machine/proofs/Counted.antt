@@ -26,6 +26,7 @@ use Rattle.cc_machine.specs.State.{State, hold, appended, word_of}
 use Rattle.cc_machine.specs.Columns.{operation, goes, event_at, enters, decides, after_state, after_next, after_answer}
 use Rattle.cc_machine.specs.Step.{stepped_from, advanced}
 use Rattle.cc_machine.specs.Run.{passes, passes_of}
+use Rattle.cc_machine.specs.Lawful.{before_exchange}
 use Rattle.cc_machine.proofs.Chains.Frame.{hold_here, hold_apart}
 use Rattle.cc_machine.proofs.Chains.View.{post_of, post_at}
 use Rattle.cc_machine.proofs.Chains.Registers.{call_at, answer_at, no_answer, HasService}
@@ -37,16 +38,9 @@ abbrev pub HasCount : ℕ → Place → Type 0
 HasCount n (place.Counting job (counting.WriteCount count)) = count ≡ n
 HasCount n _ = Unit {0}
 
--- a call that was begun and hasn't exchanged
-abbrev pub waits : Place → ℕ
-waits (place.ResetNext call) = 1
-waits (place.ResetState call) = 1
-waits (place.Exchange call) = 1
-waits _ = 0
-
 -- where a step doesn't touch the counter, and comes neither from nor to a wait for the exchange
 pub record IsCalm (there : Place) : Type 0 where
-  pub waits_not : waits there ≡ 0
+  pub waits_not : before_exchange there ≡ 0
   pub counts_not : (n : ℕ) → HasCount n there
 
 calm_state : (own found : ℕ) → IsCalm (after_state own found)
@@ -72,7 +66,7 @@ calm_done job false = record { waits_not = refl; counts_not = λ n. tt }
 
 -- the calls of a pass that have exchanged, and those of the first n passes
 abbrev pub gone : Stand → ℕ
-gone at = at.begun - waits at.place
+gone at = at.begun - before_exchange at.place
 
 abbrev pub total : (ℕ → Stand) → ℕ → ℕ
 total stands zero = 0
@@ -109,7 +103,7 @@ pub record Counts (c : Setting) (s : State) : Type 0 where
   pub counted : (p : ℕ) → p < passes c → HasCount (length s.history.e_answers) (s.stand p).place
   pub kth : (k : ℕ) → k < length s.history.e_answers → answer_at s.history.e_answers k ≡ answer.Send (send.Accepted k)
   pub begun_in : (p : ℕ) → p < passes c → (s.stand p).begun ≤ c.config.per_sender
-  pub began : (p : ℕ) → p < passes c → waits (s.stand p).place ≤ (s.stand p).begun
+  pub began : (p : ℕ) → p < passes c → before_exchange (s.stand p).place ≤ (s.stand p).begun
   pub calls : length s.history.e_calls ≡ total s.stand (passes c)
 
 module _ (c : Setting) (s : State) (p : ℕ) (inside : p < passes c) (k : Counts c s) (there : Stand) where
@@ -119,10 +113,10 @@ module _ (c : Setting) (s : State) (p : ℕ) (inside : p < passes c) (k : Counts
     | inr ne ↦ subst (λ (z : Stand). z.begun ≤ c.config.per_sender) (sym (hold_apart s.stand p q there ne)) (k.begun_in q qn)
   ]
 
-  began_all : waits there.place ≤ there.begun → (q : ℕ) → q < passes c → waits (hold s.stand p there q).place ≤ (hold s.stand p there q).begun
+  began_all : before_exchange there.place ≤ there.begun → (q : ℕ) → q < passes c → before_exchange (hold s.stand p there q).place ≤ (hold s.stand p there q).begun
   began_all few q qn = elim (cases_eq q p) [
-    | inl same ↦ subst (λ (z : Stand). waits z.place ≤ z.begun) (sym (hold_here s.stand p there) ∙ ap (hold s.stand p there) (sym same)) few
-    | inr ne ↦ subst (λ (z : Stand). waits z.place ≤ z.begun) (sym (hold_apart s.stand p q there ne)) (k.began q qn)
+    | inl same ↦ subst (λ (z : Stand). before_exchange z.place ≤ z.begun) (sym (hold_here s.stand p there) ∙ ap (hold s.stand p there) (sym same)) few
+    | inr ne ↦ subst (λ (z : Stand). before_exchange z.place ≤ z.begun) (sym (hold_apart s.stand p q there ne)) (k.began q qn)
   ]
 
   counted_all : (n : ℕ) → HasCount n there.place → ((q : ℕ) → q < passes c → q ≢ p → HasCount n (s.stand q).place) → (q : ℕ) → q < passes c → HasCount n (hold s.stand p there q).place
@@ -133,21 +127,21 @@ module _ (c : Setting) (s : State) (p : ℕ) (inside : p < passes c) (k : Counts
 
   -- the pass goes there, and the history stays but for calls
   pub counts_on : (t : State) → t.stand ≡ hold s.stand p there → t.mem (Object object.Count) ≡ s.mem (Object object.Count) → t.history.e_answers ≡ s.history.e_answers →
-      length t.history.e_calls + gone (s.stand p) ≡ length s.history.e_calls + gone there → HasCount (length s.history.e_answers) there.place → there.begun ≤ c.config.per_sender → waits there.place ≤ there.begun → Counts c t
+      length t.history.e_calls + gone (s.stand p) ≡ length s.history.e_calls + gone there → HasCount (length s.history.e_answers) there.place → there.begun ≤ c.config.per_sender → before_exchange there.place ≤ there.begun → Counts c t
   counts_on t stands mem answers calls counted begun began = record {
     count = mem ∙ k.count ∙ ap length (sym answers);
     counted = λ q qn. subst (λ (l : List Answer). HasCount (length l) (t.stand q).place) (sym answers)
         (subst (λ (f : ℕ → Stand). HasCount (length s.history.e_answers) (f q).place) (sym stands) (counted_all (length s.history.e_answers) counted (λ r rn ne. k.counted r rn) q qn));
     kth = λ j l. subst (λ (z : List Answer). answer_at z j ≡ answer.Send (send.Accepted j)) (sym answers) (k.kth j (omega (arith, ap length answers)));
     begun_in = λ q qn. subst (λ (f : ℕ → Stand). (f q).begun ≤ c.config.per_sender) (sym stands) (begun_after_all begun q qn);
-    began = λ q qn. subst (λ (f : ℕ → Stand). waits (f q).place ≤ (f q).begun) (sym stands) (began_all began q qn);
+    began = λ q qn. subst (λ (f : ℕ → Stand). before_exchange (f q).place ≤ (f q).begun) (sym stands) (began_all began q qn);
     calls = omega (arith, k.calls, total_near s.stand p (passes c) there inside, ap (λ (f : ℕ → Stand). total f (passes c)) stands);
   }
 
   -- one answer more
   counts_more : (t : State) (others : (q : ℕ) → q < passes c → q ≢ p → (n : ℕ) → HasCount n (s.stand q).place) → t.stand ≡ hold s.stand p there →
       t.mem (Object object.Count) ≡ length s.history.e_answers + 1 → t.history.e_answers ≡ s.history.e_answers ++ answer.Send (send.Accepted (length s.history.e_answers)) ∷ [] →
-      t.history.e_calls ≡ s.history.e_calls → gone there ≡ gone (s.stand p) → ((n : ℕ) → HasCount n there.place) → there.begun ≤ c.config.per_sender → waits there.place ≤ there.begun → Counts c t
+      t.history.e_calls ≡ s.history.e_calls → gone there ≡ gone (s.stand p) → ((n : ℕ) → HasCount n there.place) → there.begun ≤ c.config.per_sender → before_exchange there.place ≤ there.begun → Counts c t
   counts_more t others stands mem answers calls same counted begun began =
       let a : Answer = answer.Send (send.Accepted (length s.history.e_answers)) in
       let long : length t.history.e_answers ≡ length s.history.e_answers + 1 = ap length answers ∙ length_push s.history.e_answers a in
@@ -160,7 +154,7 @@ module _ (c : Setting) (s : State) (p : ℕ) (inside : p < passes c) (k : Counts
           | inr ne ↦ let less : j < length s.history.e_answers = omega (arith, long) in get_or_append_left s.history.e_answers (a ∷ []) no_answer j less ∙ k.kth j less
         ]);
         begun_in = λ q qn. subst (λ (f : ℕ → Stand). (f q).begun ≤ c.config.per_sender) (sym stands) (begun_after_all begun q qn);
-        began = λ q qn. subst (λ (f : ℕ → Stand). waits (f q).place ≤ (f q).begun) (sym stands) (began_all began q qn);
+        began = λ q qn. subst (λ (f : ℕ → Stand). before_exchange (f q).place ≤ (f q).begun) (sym stands) (began_all began q qn);
         calls = omega (arith, k.calls, total_near s.stand p (passes c) there inside, ap (λ (f : ℕ → Stand). total f (passes c)) stands, ap length calls);
       }
 
@@ -190,19 +184,19 @@ module _ (c : Setting) (counter : c.served ≡ served.Counter) (s : State) (k : 
   begun_is : (at : Place) → Here at → begun ≤ c.config.per_sender
   begun_is at e = subst (λ (z : Stand). z.begun ≤ c.config.per_sender) e (k.begun_in p inside)
 
-  waits_is : (at : Place) → Here at → waits at ≤ begun
-  waits_is at e = subst (λ (z : Stand). waits z.place ≤ z.begun) e (k.began p inside)
+  waits_is : (at : Place) → Here at → before_exchange at ≤ begun
+  waits_is at e = subst (λ (z : Stand). before_exchange z.place ≤ z.begun) e (k.began p inside)
 
-  quiet : (at there : Place) → Here at → goes c Send own at (found at) ≡ there → waits there ≡ waits at → HasCount (length s.history.e_answers) there → (next at).mem (Object object.Count) ≡ s.mem (Object object.Count) →
+  quiet : (at there : Place) → Here at → goes c Send own at (found at) ≡ there → before_exchange there ≡ before_exchange at → HasCount (length s.history.e_answers) there → (next at).mem (Object object.Count) ≡ s.mem (Object object.Count) →
       enters at ≡ None → decides c at (found at) ≡ None → Counts c (next at)
   quiet at there e go wait counted mem enter none =
-      let old : gone (s.stand p) ≡ begun - waits at = ap gone e in
-      let same : waits (goes c Send own at (found at)) ≡ waits at = ap waits go ∙ wait in
+      let old : gone (s.stand p) ≡ begun - before_exchange at = ap gone e in
+      let same : before_exchange (goes c Send own at (found at)) ≡ before_exchange at = ap before_exchange go ∙ wait in
       counts_on c s p inside k (advanced c Send record { begun = begun; node = own; place = at } (found at)) (next at) refl mem (ap (λ (z : Option Answer). appended s.history.e_answers z) none)
       (omega (arith, old, same, ap (λ (z : Option Entry). length (appended s.history.e_calls z)) enter))
       (subst (λ (z : Place). HasCount (length s.history.e_answers) z) (sym go) counted) (begun_is at e) (omega (arith, same, waits_is at e))
 
-  calm : (at there : Place) → Here at → goes c Send own at (found at) ≡ there → waits at ≡ 0 → IsCalm there → (next at).mem (Object object.Count) ≡ s.mem (Object object.Count) → enters at ≡ None → decides c at (found at) ≡ None → Counts c (next at)
+  calm : (at there : Place) → Here at → goes c Send own at (found at) ≡ there → before_exchange at ≡ 0 → IsCalm there → (next at).mem (Object object.Count) ≡ s.mem (Object object.Count) → enters at ≡ None → decides c at (found at) ≡ None → Counts c (next at)
   calm at there e go wait is mem enter none = quiet at there e go (is.waits_not ∙ sym wait) (is.counts_not (length s.history.e_answers)) mem enter none
 
   exchange : (call : Entry) → Here (place.Exchange call) → Counts c (next (place.Exchange call))

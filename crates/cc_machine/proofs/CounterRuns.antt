@@ -27,8 +27,9 @@ use Rattle.cc_machine.specs.Columns.{event_at}
 use Rattle.cc_machine.specs.Step.{stepped_from, stepped}
 use Rattle.cc_machine.specs.Run.{Move, Begin, Step, Take, May, IsRun, IsOn, IsIdle, IsFinished, reached, moved, passes, begun_after, begins, rests, opening, nowhere}
 use Rattle.cc_machine.specs.Safe.{IsSafe, IsReady, IsOpenAt}
+use Rattle.cc_machine.specs.Lawful.{before_exchange}
 use Rattle.cc_machine.proofs.Ranges.{InRange, in_range}
-use Rattle.cc_machine.proofs.Counted.{Counts, HasCount, waits, gone, total, total_most, total_none, counts_on, counts_step, senders_only, not_both}
+use Rattle.cc_machine.proofs.Counted.{Counts, HasCount, gone, total, total_most, total_none, counts_on, counts_step, senders_only, not_both}
 use Rattle.cc_machine.proofs.Chains.View.{post_of}
 use Rattle.cc_machine.proofs.Chains.Registers.{answer_at, HasService, call_at}
 use Rattle.cc_machine.proofs.Chains.Ties.{Holds}
@@ -47,7 +48,7 @@ counts_opened c = record {
   counted = λ p less. subst (λ (z : Stand). HasCount 0 z.place) (sym (opened_stand c p less)) tt;
   kth = λ k l. absurd (omega arith);
   begun_in = λ p less. subst (λ (z : Stand). z.begun ≤ c.config.per_sender) (sym (opened_stand c p less)) (omega arith);
-  began = λ p less. subst (λ (z : Stand). waits z.place ≤ z.begun) (sym (opened_stand c p less)) (omega arith);
+  began = λ p less. subst (λ (z : Stand). before_exchange z.place ≤ z.begun) (sym (opened_stand c p less)) (omega arith);
   calls = sym (total_none (opening c).stand (passes c) (λ p less. ap (λ (z : Stand). z.begun) (opened_stand c p less)));
 }
 
@@ -59,11 +60,11 @@ only_sends served.Counter Send call.Take e on begun = absurd on
 only_sends served.Counter (chain.Take g) call.Take e on begun = absurd on
 only_sends served.List x it e on begun = absurd (cc)
 
-idle_waits : (at : Place) → IsIdle at → waits at ≡ 0
+idle_waits : (at : Place) → IsIdle at → before_exchange at ≡ 0
 idle_waits place.Idle a = refl
 idle_waits _ a = absurd a
 
-finished_waits : (at : Place) → IsFinished at → waits at ≡ 0
+finished_waits : (at : Place) → IsFinished at → before_exchange at ≡ 0
 finished_waits (place.Finished told) a = refl
 finished_waits _ a = absurd a
 

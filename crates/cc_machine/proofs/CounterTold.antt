@@ -12,9 +12,7 @@ use Rattle.cc_machine.proofs.BoardLaws.{AlwaysTold, AlwaysNumber}
 
 -- its answer in the history
 pub counter_told : (c : Setting) → c.served ≡ served.Counter → config_fault c.config ≡ Ok tt → AlwaysTold c
-counter_told c what checked moves run p near told is =
-    let l = counter_answer c what (in_range c.config checked).bound.0 moves run p near told is in
-    record { before = l.before; entry = l.entry; last = l.last }
+counter_told c what checked moves run p near told is = counter_answer c what (in_range c.config checked).bound.0 moves run p near told is
 
 -- a number
 pub number_told : (c : Setting) → c.served ≡ served.Counter → config_fault c.config ≡ Ok tt → AlwaysNumber c

@@ -16,9 +16,7 @@ use Rattle.cc_machine.proofs.ListRuns.Laws.{history_is_legal}
 
 -- its answer in the history
 pub list_told : (c : Setting) → c.served ≡ served.List → config_fault c.config ≡ Ok tt → AlwaysTold c
-list_told c what checked moves run p near told is =
-    let l = list_answer c what checked moves run p near told is in
-    record { before = l.before; entry = l.entry; last = l.last }
+list_told c what checked moves run p near told is = list_answer c what checked moves run p near told is
 
 legal_in : (b : Board) → b.setting.served ≡ served.List → IsLawful b → Legal b.setting.config (state_of b).history
 legal_in b what l = subst (λ (s : State). Legal b.setting.config s.history) l.reached.leads (history_is_legal b.setting l.reached.moves what l.checked l.reached.run)

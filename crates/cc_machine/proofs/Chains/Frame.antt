@@ -1,5 +1,6 @@
 -- What a store changes of a chain's words, and what a step changes of where the passes stand.
-use Rattle.std.proofs.Common.{◌≡◌, ◌≢◌, ℕ, zero, suc, Bool, true, false, ◌&&◌, ◌==◌, cond, refl, ap, sym, ◌∙◌, arith}
+use Rattle.std.proofs.Common.{◌≡◌, ◌≢◌, ℕ, zero, suc, Bool, false, ◌&&◌, ◌==◌, cond, refl, ap, sym, ◌∙◌, arith}
+use Rattle.std.proofs.Math.Bool.{and-false}
 use Rattle.std.proofs.lemmas.Bool.{eq-eqb, ne_eqb}
 use Rattle.cc_machine.specs.declared.setting.Setting.{Setting}
 use Rattle.cc_machine.specs.declared.word.Chain.{Chain}
@@ -25,14 +26,10 @@ use Rattle.cc_machine.proofs.Chains.View.{pass_on, cell_of, request_words, answe
 pub put_here : (mem : Word → ℕ) (w : Word) (value : ℕ) → put mem w value w ≡ value
 put_here mem w value = ap (λ (b : Bool). cond b value (mem w)) (same_self w)
 
-and_false : (a : Bool) → a && false ≡ false
-and_false true = refl
-and_false false = refl
-
 -- another node
 pub put_apart : (mem : Word → ℕ) (x : Chain) (k i : ℕ) (f g : NodeField) (value : ℕ) → i ≢ k → put mem (Node x k f) value (Node x i g) ≡ mem (Node x i g)
 put_apart mem x k i f g value ne =
-    let off : same (Node x k f) (Node x i g) ≡ false = ap (λ (b : Bool). (node_field Send f == node_field Send g && same_chain x x) && b) (ne_eqb k i (λ e. ne (sym e))) ∙ and_false (node_field Send f == node_field Send g && same_chain x x) in
+    let off : same (Node x k f) (Node x i g) ≡ false = ap (λ (b : Bool). (node_field Send f == node_field Send g && same_chain x x) && b) (ne_eqb k i (λ e. ne (sym e))) ∙ and-false (node_field Send f == node_field Send g && same_chain x x) in
     ap (λ (b : Bool). cond b value (mem (Node x i g))) off
 
 pub cell_apart : (mem : Word → ℕ) (x : Chain) (k i : ℕ) (f : NodeField) (value : ℕ) → i ≢ k →

@@ -115,7 +115,8 @@ module _ (c : Setting) (x : Chain) (ok : IsChain c.served x) where
     ended = λ q qn f. absurd (subst (λ (z : Stand). IsFinished z.place) (stands q qn) f);
   }
 
-no_calls : (x : Chain) → calls_on x empty ≡ []
+-- nothing is called at the opening
+pub no_calls : (x : Chain) → calls_on x empty ≡ []
 no_calls Send = refl
 no_calls (Take g) = refl
 

@@ -1,5 +1,6 @@
 -- What a step of another chain, a begin, and the taking of an answer leave of a chain.
-use Rattle.std.proofs.Common.{◌≡◌, ◌≢◌, ◌⊎◌, ℕ, ◌+◌, ◌-◌, ◌<◌, ◌≤◌, Bool, true, false, ◌&&◌, ◌==◌, cond, refl, ap, sym, ◌∙◌, subst, arith, inl, inr, Option, List}
+use Rattle.std.proofs.Common.{◌≡◌, ◌≢◌, ◌⊎◌, ℕ, ◌+◌, ◌-◌, ◌<◌, ◌≤◌, Bool, false, ◌&&◌, ◌==◌, cond, refl, ap, sym, ◌∙◌, subst, arith, inl, inr, Option, List}
+use Rattle.std.proofs.Math.Bool.{and-false}
 use Rattle.std.proofs.lemmas.Bool.{cases_eq, cases_lt, lt-ltb, le-ltb}
 use Rattle.cc_model.specs.Record.{Record}
 use Rattle.cc_model.specs.declared.config.Config.{Config}
@@ -38,10 +39,6 @@ IsOther Send (Take g) = Unit {0}
 IsOther (Take g) Send = Unit {0}
 IsOther _ _ = ⊥
 
-and_false : (a : Bool) → a && false ≡ false
-and_false true = refl
-and_false false = refl
-
 other_off : (x y : Chain) → IsOther x y → same_chain y x ≡ false
 other_off Send (Take g) o = refl
 other_off (Take g) Send o = refl
@@ -51,7 +48,7 @@ other_off (Take g) (Take h) o = absurd o
 put_other : (mem : Word → ℕ) (x y : Chain) (k i : ℕ) (f g : NodeField) (value : ℕ) → IsOther x y → put mem (Node y k f) value (Node x i g) ≡ mem (Node x i g)
 put_other mem x y k i f g value o =
     let off : same (Node y k f) (Node x i g) ≡ false =
-    ap (λ (b : Bool). (node_field Send f == node_field Send g && b) && (k == i)) (other_off x y o) ∙ ap (λ (b : Bool). b && (k == i)) (and_false (node_field Send f == node_field Send g)) in
+    ap (λ (b : Bool). (node_field Send f == node_field Send g && b) && (k == i)) (other_off x y o) ∙ ap (λ (b : Bool). b && (k == i)) (and-false (node_field Send f == node_field Send g)) in
     ap (λ (b : Bool). cond b value (mem (Node x i g))) off
 
 put_tail : (mem : Word → ℕ) (x y : Chain) (value : ℕ) → IsOther x y → put mem (Tail y) value (Tail x) ≡ mem (Tail x)

@@ -22,6 +22,7 @@ use Rattle.cc_machine.specs.declared.place.Sending.TheVariants as sending
 use Rattle.cc_machine.specs.State.{State, chain_of, pass_at}
 use Rattle.cc_machine.specs.Safe.{IsSafe, IsReady}
 use Rattle.cc_machine.specs.Run.{Move, passes, reached, IsRun}
+use Rattle.cc_machine.specs.Machine.{IsLastAnswer}
 use Rattle.cc_machine.specs.MachineLaws.{AnswerWithin, IsWithin, StepsAreReady}
 use Rattle.cc_machine.proofs.Ranges.{InRange, in_range}
 use Rattle.cc_machine.proofs.Chains.View.{members, pass_on}
@@ -31,7 +32,7 @@ use Rattle.cc_machine.proofs.Chains.Serving.{Chains, chains_hold, chain_is, on_c
 use Rattle.cc_machine.proofs.Chains.Safe as safe
 use Rattle.cc_machine.proofs.Chains.Decoded.{Fits, word_fits}
 use Rattle.cc_machine.proofs.Chains.Safe.{IsService}
-use Rattle.cc_machine.proofs.ChainRuns.{ready, LastAnswer, last_answer}
+use Rattle.cc_machine.proofs.ChainRuns.{ready, last_answer}
 use Rattle.cc_machine.proofs.ListRuns.Facts.{lists}
 use Rattle.cc_machine.proofs.ListRuns.Posts.{Well, all_get}
 use Rattle.cc_machine.proofs.ListRuns.Runs.{AfterRun}
@@ -100,7 +101,7 @@ module _ (c : Config) (fits : InRange c) (moves : List Move) (run : IsRun (lists
   ready_here : config_fault c ≡ Ok tt → IsReady (lists c) s p
   ready_here checked = ready (lists c) checked moves run p less (λ n l. word_fits (answer_at (answers_on x s.history) n) (told_fits n l)) (service_safe (s.stand p).place refl)
 
-  answer_here : (told : Answer) → (s.stand p).place ≡ place.Finished told → LastAnswer (pass_at c p) s.history told
+  answer_here : (told : Answer) → (s.stand p).place ≡ place.Finished told → IsLastAnswer (pass_at c p) s.history told
   answer_here told is = last_answer (lists c) (omega (arith, fits.bound)) moves run p less told is told_fits
 
 -- ---- for a setting
@@ -112,9 +113,9 @@ list_ready c serves checked moves run p less =
     (λ ok r l. ready_here c.config (in_range c.config ok) moves r p l ok) checked run less
 
 -- and a call that is finished was told its answer in the history
-pub list_answer : (c : Setting) → c.served ≡ served.List → config_fault c.config ≡ Ok tt → (moves : List Move) → IsRun c moves → (p : ℕ) → p < passes c → (told : Answer) → ((reached c moves).stand p).place ≡ place.Finished told → LastAnswer (pass_at c.config p) (reached c moves).history told
+pub list_answer : (c : Setting) → c.served ≡ served.List → config_fault c.config ≡ Ok tt → (moves : List Move) → IsRun c moves → (p : ℕ) → p < passes c → (told : Answer) → ((reached c moves).stand p).place ≡ place.Finished told → IsLastAnswer (pass_at c.config p) (reached c moves).history told
 list_answer c serves checked moves run p less told is =
-    of_setting (λ (z : Setting). config_fault z.config ≡ Ok tt → IsRun z moves → p < passes z → ((reached z moves).stand p).place ≡ place.Finished told → LastAnswer (pass_at z.config p) (reached z moves).history told) c serves
+    of_setting (λ (z : Setting). config_fault z.config ≡ Ok tt → IsRun z moves → p < passes z → ((reached z moves).stand p).place ≡ place.Finished told → IsLastAnswer (pass_at z.config p) (reached z moves).history told) c serves
     (λ ok r l e. answer_here c.config (in_range c.config ok) moves r p l told e) checked run less is
 
 pub list_steps_ready : StepsAreReady

@@ -1,4 +1,4 @@
-use Rattle.std.proofs.Common.{◌≡◌, ℕ, ◌+◌, ◌<◌, ◌∙◌, ap, sym, subst, arith, length, refl, List, Bool, true, false, cond, if◌then◌else◌, ◌*◌, replicate, slice_index_or, ◌≤◌, ⊎_elim}
+use Rattle.std.proofs.Common.{◌≡◌, ℕ, ◌+◌, ◌<◌, ◌∙◌, ap, sym, arith, length, refl, List, Bool, true, false, cond, if◌then◌else◌, ◌*◌, replicate, slice_index_or, ◌≤◌, ⊎_elim}
 use Rattle.std.proofs.lemmas.List.{get_or-replicate, get_or_past, length-replicate}
 use Rattle.std.proofs.lemmas.Bool.{cases_lt, lt-ltb, le-ltb}
 use Rattle.cc_machine.specs.declared.setting.Setting.{Setting}
@@ -10,20 +10,14 @@ use Rattle.cc_machine.specs.declared.board.Board.{Board}
 use Rattle.cc_machine.specs.declared.word.Word.{Word}
 use Rattle.cc_machine.specs.declared.word.Word.TheVariants as word
 use Rattle.cc_machine.specs.declared.word.ItemField.TheVariants as item
-use Rattle.cc_machine.specs.Words.{Layout, put, layout_of, size, address, exists, word_at}
+use Rattle.cc_machine.specs.Words.{Layout, put, layout_of, address, exists, word_at}
 use Rattle.cc_machine.specs.State.{State, first_node}
 use Rattle.cc_machine.specs.View.{state_in}
-use Rattle.cc_machine.specs.Shown.{state_of, IsLaid, IsSmall, Keeps, StandFirst}
+use Rattle.cc_machine.specs.Shown.{state_of, StandFirst}
 use Rattle.cc_machine.specs.Run.{opening, passes, nowhere}
+use Rattle.cc_machine.proofs.LawfulMoves.{laid_kept}
 use Rattle.cc_machine.proofs.Opening.{freed, freed_all, freed_more, started}
 use Rattle.cc_machine.proofs.open.open.Goals as goal
-
-laid_kept : (old new : Board) → Keeps old new → IsLaid old → IsLaid new
-laid_kept old new k l = record {
-  small = subst (λ (c : Setting). IsSmall (layout_of c.config)) (sym k.setting) l.small;
-  words = k.words ∙ l.words ∙ ap (λ (c : Setting). size (layout_of c.config)) (sym k.setting);
-  stands = k.stands ∙ l.stands ∙ ap (λ (c : Setting). passes c) (sym k.setting);
-}
 
 pub loop-node-preserved : goal.loop-node-preserved
 loop-node-preserved c = record {
