@@ -34,20 +34,6 @@ impl Board {
         }
     }
 
-    /// The place of a pass in the row of all passes, from 0.
-    pub fn index(&self, pass: Pass) -> Option<usize>
-        ensures { result ≡ index_of self.now.setting pass }
-    {
-        let config = self.setting.config;
-        match (pass, self.setting.served) {
-            (Pass::Sender(n), _) if 1 <= n && n <= config.senders => Some(n as usize - 1),
-            (Pass::Receiver(n), Served::List) if 1 <= n && n <= config.receivers => {
-                Some(config.senders as usize + (n as usize - 1))
-            }
-            _ => None,
-        }
-    }
-
     /// Whether a call is made on the side of its pass.
     fn is_on_side(&self, chain: Chain, call: Call) -> bool
         ensures { OnSide self.now.setting.served chain call result }
@@ -67,7 +53,7 @@ impl Board {
         ensures ok { OnOk result (begin_fault (view_of self.now) pass call ≡ Ok tt) }
         ensures fault { IfErr result (λ fault. begin_fault (view_of self.now) pass call ≡ Err fault) }
     {
-        let Some(index) = self.index(pass) else {
+        let Some(index) = self.setting.row(pass) else {
             return Err(BeginFault::NoSuchPass);
         };
         if !self.is_on_side(self.chain(index), call) {
@@ -127,7 +113,7 @@ impl Board {
         ensures state { HasStepped (view_of self.old) (index_of self.old.setting pass) result (view_of self.new) }
         ensures lawful { IsLawful self.new }
     {
-        match self.index(pass) {
+        match self.setting.row(pass) {
             Some(index) => self.event(index),
             None => Event::Idle,
         }
@@ -140,7 +126,7 @@ impl Board {
         ensures state { HasTaken (view_of self.old) (index_of self.old.setting pass) result (view_of self.new) }
         ensures lawful { IsLawful self.new }
     {
-        match self.index(pass) {
+        match self.setting.row(pass) {
             Some(index) => self.answer(index),
             None => None,
         }

@@ -37,21 +37,35 @@ impl Machine {
     ghost use Rattle.cc_model.specs.Fifo.{Fifo};
     ghost use Rattle.cc_machine.specs.Machine.{IsOpened, index_of, begin_fault, IsBeginFault, IsOpenFault, IsReached, IsLastAnswer, HasBegun, event_of, HasStepped, answer_of, HasTaken};
 
+    /// The setting of a machine of this configuration.
+    fn setting_of(config: &Config) -> Setting
+        ensures { result ≡ record { served = Served.List; config = config.now } }
+    {
+        Setting {
+            served: Served::List,
+            config: *config,
+        }
+    }
+
     /// A machine with every pass idle and an empty list. The whole configuration is checked.
     pub fn open(alloc: Global, config: &Config) -> Result<Machine, OpenFault>
         ensures opened { IfOk result (λ m. IsOpened Served.List config.now m) }
         ensures checked { OnOk result (config_fault config.now ≡ Ok tt) }
         ensures fault { IfErr result (λ fault. IsOpenFault config.now fault) }
     {
-        let setting = Setting {
-            served: Served::List,
-            config: *config,
-        };
-        let board = Board::open(alloc, setting)?;
+        let board = Board::open(alloc, Machine::setting_of(config))?;
         Ok(Machine {
             board,
             known: Known::nothing(),
         })
+    }
+
+    /// The place of a pass in the row of all passes of a machine of this configuration, from 0: the senders first, then
+    /// the receivers. `None` where there is no such pass.
+    pub fn row(config: &Config, pass: Pass) -> Option<usize>
+        ensures { result ≡ index_of (record { served = Served.List; config = config.now }) pass }
+    {
+        Machine::setting_of(config).row(pass)
     }
 
     /// Begins a call of an idle pass. It knows the machine's whole history at this moment. A refused call changes nothing.

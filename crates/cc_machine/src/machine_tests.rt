@@ -172,6 +172,20 @@ fn node_used_again(rt: HostRuntime) {
 }
 
 #[test]
+fn rows_of_passes(rt: HostRuntime) {
+    let config = config(2, 1, 1, 2, 10);
+    for (pass, row) in [
+        (Pass::Sender(0), None),
+        (FIRST_SENDER, Some(0)),
+        (SECOND_SENDER, Some(1)),
+        (FIRST_RECEIVER, Some(2)),
+        (SECOND_RECEIVER, None),
+    ] {
+        assert_eq!(rt; Machine::row(&config, pass), row);
+    }
+}
+
+#[test]
 fn machine_refuses(rt: HostRuntime) {
     let narrow = Machine::open(rt.alloc(), &config(1, 0, 2, 2, 10));
     assert_eq!(rt;

@@ -2,7 +2,6 @@
 ghost use Rattle.std.specs.Prelude.{◌≡◌, ◌<◌, Some, Ok, List, length, IfOk, IfErr, IfSome, OnOk, ◌^◌, ◌-◌};
 ghost use Rattle.cc_model.specs.Items.{known_at};
 ghost use Rattle.cc_machine.specs.Run.{Move, passes};
-ghost use Rattle.cc_machine.specs.declared.setting.Served.TheVariants as served;
 ghost use Rattle.cc_machine.specs.Machine.{index_of, HasBegun, begin_fault};
 ghost use Rattle.cc_plan.specs.Plan.{plan_value};
 ghost use Rattle.ccq.specs.Schedule.{setting_of, next_call, IsAt, HasTurned, entry, history_of};
@@ -10,22 +9,9 @@ ghost use Rattle.ccq.specs.declared.fault.PlayFault.TheVariants as play_fault;
 
 use crate::fault::PlayFault;
 use cc_machine::{Event, Machine};
-use cc_model::{Call, Config, Pass};
+use cc_model::{Call, Pass};
 use cc_plan::Plan;
 use std::alloc::Global;
-
-/// The row of a pass, from 0: the senders first, then the receivers.
-fn row_of(config: &Config, pass: Pass) -> Option<usize>
-    ensures { result ≡ index_of (record { served = served.List; config = config.now }) pass }
-{
-    match pass {
-        Pass::Sender(n) if 1 <= n && n <= config.senders => Some(n as usize - 1),
-        Pass::Receiver(n) if 1 <= n && n <= config.receivers => {
-            Some(config.senders as usize + (n as usize - 1))
-        }
-        _ => None,
-    }
-}
 
 /// The call that a pass makes after so many calls, where the plan has one.
 fn next_call(plan: &Plan, pass: Pass, begun: usize) -> Option<Call>
@@ -106,7 +92,7 @@ fn follow_entry(
     ensures rows { length begun.new ≡ length begun.old }
     ensures fault { IfErr result (λ fault. fault ≡ play_fault.NoMemory) }
 {
-    let Some(row) = row_of(&plan.config, pass) else {
+    let Some(row) = Machine::row(&plan.config, pass) else {
         return Ok(());
     };
     for _done in 0..events {
