@@ -101,15 +101,15 @@ module _ (c : Config) (fits : InRange c) (s : State) (p begun own : ℕ) (within
   few_sends : c.per_sender < 2 ^ 32
   few_sends = omega (arith, fits.per_sender)
 
+  limit_at : (at : Place) → s.stand p ≡ stand_at at → begun ≤ c.per_sender
+  limit_at at stands = subst (λ (z : Stand). z.begun ≤ c.per_sender) stands (w.posts.limit p)
+
   module _ (of : OfSend c p) where
     well_at : (at : Place) → s.stand p ≡ stand_at at → Well h Send (Sender (p + 1)) begun at
     well_at at stands = subst (λ (x : Chain). Well h x (Sender (p + 1)) begun at) of.chain_is (subst (λ (z : Pass). Well h (chain_of c p) z begun at) of.pass_is (subst (λ (z : Stand). Well h (chain_of c p) (pass_at c p) z.begun z.place) stands (w.posts.well p)))
 
     sent_at : (at : Place) → s.stand p ≡ stand_at at → length (send_numbers (p + 1) h.e_calls) + waits at ≡ begun
     sent_at at stands = subst (λ (z : Stand). length (send_numbers (p + 1) h.e_calls) + waits z.place ≡ z.begun) stands (w.posts.sent p of.within)
-
-    limit_at : (at : Place) → s.stand p ≡ stand_at at → begun ≤ c.per_sender
-    limit_at at stands = subst (λ (z : Stand). z.begun ≤ c.per_sender) stands (w.posts.limit p)
 
     send_well : (at : Place) (later : Record) → s.stand p ≡ stand_at at → ((pass : Pass) → known_at pass h ≤ known_at pass later) → Well later (chain_of c p) (pass_at c p) begun (goes (lists c) Send own at (finds Send at))
     send_well at later stands up = subst (λ (x : Chain). Well later x (pass_at c p) begun (goes (lists c) Send own at (finds Send at))) (sym of.chain_is) (subst (λ (z : Pass). Well later Send z begun (goes (lists c) Send own at (finds Send at))) (sym of.pass_is)
@@ -147,9 +147,6 @@ module _ (c : Config) (fits : InRange c) (s : State) (p begun own : ℕ) (within
     take_well_at : (at : Place) → s.stand p ≡ stand_at at → Well h (Take 0) (pass_at c p) begun at
     take_well_at at stands = subst (λ (x : Chain). Well h x (pass_at c p) begun at) of.chain_is (subst (λ (z : Stand). Well h (chain_of c p) (pass_at c p) z.begun z.place) stands (w.posts.well p))
 
-    take_limit : (at : Place) → s.stand p ≡ stand_at at → begun ≤ c.per_sender
-    take_limit at stands = subst (λ (z : Stand). z.begun ≤ c.per_sender) stands (w.posts.limit p)
-
     take_well : (at : Place) (later : Record) → s.stand p ≡ stand_at at → ((pass : Pass) → known_at pass h ≤ known_at pass later) → Well later (chain_of c p) (pass_at c p) begun (goes (lists c) (Take 0) own at (finds (Take 0) at))
     take_well at later stands up = subst (λ (x : Chain). Well later x (pass_at c p) begun (goes (lists c) (Take 0) own at (finds (Take 0) at))) (sym of.chain_is)
         (next_well c (Take 0) own at (finds (Take 0) at) h later (pass_at c p) begun (inr refl) (up (pass_at c p)) (take_well_at at stands))
@@ -161,14 +158,14 @@ module _ (c : Config) (fits : InRange c) (s : State) (p begun own : ℕ) (within
         let up = handed_up c s (to (Take 0) (place.Exchange e)) w.parts _ on in
         let d_up = entries_up c s (to (Take 0) (place.Exchange e)) w.parts _ on in
         let known = known_up c s (to (Take 0) (place.Exchange e)) w.parts _ on in (
-          posts_on c s p _ _ _ w.posts within known (take_limit (place.Exchange e) stands) (take_well (place.Exchange e) _ stands known)
+          posts_on c s p _ _ _ w.posts within known (limit_at (place.Exchange e) stands) (take_well (place.Exchange e) _ stands known)
               (λ l. absurd (omega (arith, l, of.low)))
               (λ q ne. refl),
           d_calls_on c h later (p - c.senders + 1) begun e refl refl up d_up (omega arith) (omega (arith, within, of.low)) b w.calls,
         )
     take_rest at stands on =
         let known = known_up c s (to (Take 0) at) w.parts _ on in (
-          posts_on c s p _ _ _ w.posts within known (take_limit at stands) (take_well at _ stands known)
+          posts_on c s p _ _ _ w.posts within known (limit_at at stands) (take_well at _ stands known)
               (λ l. absurd (omega (arith, l, of.low)))
               (λ q ne. refl),
           calls_on c h _ refl refl (handed_up c s (to (Take 0) at) w.parts _ on) (entries_up c s (to (Take 0) at) w.parts _ on) w.calls,
