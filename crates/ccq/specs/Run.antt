@@ -1,10 +1,9 @@
 -- What a command line answers, and what it says on standard error.
-use Rattle.std.specs.Prelude.{ℕ, ◌≡◌, ◌⊎◌, ◌++◌, Bool, List, [], ◌∷◌, codes, Option, Some, None, Result, Ok, Err}
-use Rattle.std.specs.Io.KnownBytes.{Keeps, Appends}
+use Rattle.std.specs.Prelude.{ℕ, ◌≡◌, ◌⊎◌, ◌+◌, ◌++◌, if◌then◌else◌, Bool, true, List, [], ◌∷◌, codes, Option, Some, None, Result, Ok, Err}
+use Rattle.std.specs.Io.KnownBytes.{Keeps}
 use Rattle.clap.specs.Words.{IsAmong, Kinds}
 use Rattle.clap.specs.declared.error.kind.ErrorKind.{ErrorKind}
 use Rattle.clap.specs.declared.error.kind.ErrorKind.TheVariants.{DisplayHelp, OutOfMemory}
-use Rattle.cc_model.specs.Items.{IsFront}
 use Rattle.cc_model.specs.Written.{Writes, word_text}
 use Rattle.cc_plan.specs.declared.fault.PlanFault.{PlanFault}
 use Rattle.cc_plan.specs.declared.fault.PlanFault.TheVariants.{P1, P2, P3, P4, P5}
@@ -14,7 +13,7 @@ use Rattle.cc_audit.specs.declared.receipt.Verdict.{Verdict}
 use Rattle.cc_audit.specs.declared.receipt.Verdict.TheVariants.{Clean, Fault}
 use Rattle.ccq.specs.declared.command_line.Task.{Task}
 use Rattle.ccq.specs.declared.command_line.Task.TheVariants.{Play, Audit}
-use Rattle.ccq.specs.Play.{Plays, Audits}
+use Rattle.ccq.specs.Play.{Plays, Audits, failed_writes}
 
 -- the exit status
 abbrev pub status_of : Result Verdict PlayFault → ℕ
@@ -49,20 +48,19 @@ pub record Told (old new : Option (List ℕ)) (before after : ℕ) (text : List 
   pub failed : Bool
   pub writes : Writes failed old new before after text
 
--- What a line that asks for no task leaves on both outputs, the number of failed writes on standard error, and the status.
-module _ (old new errors_old errors_new : Option (List ℕ)) (before after status : ℕ) where
+-- What a line that asks for no task leaves on both outputs, each with its number of failed writes, and the status.
+module _ (old new : Option (List ℕ)) (fails fails_after : ℕ) (errors_old errors_new : Option (List ℕ)) (before after status : ℕ) where
   -- there was no memory to read the line or to answer it
   abbrev pub RunsOut : Type 0
-  RunsOut = (status ≡ 3) × Keeps old new × Told errors_old errors_new before after no_memory_line
+  RunsOut = (status ≡ 3) × Keeps old new × (fails_after ≡ fails) × Told errors_old errors_new before after no_memory_line
 
   -- a text of help was written; or a front of it was, and a write failed
   abbrev pub Helps : Type 0
-  Helps = (text : List ℕ) × (((status ≡ 0) × Appends old new text × Told errors_old errors_new before after [])
-      ⊎ ((status ≡ 4) × ((front : List ℕ) × IsFront front text × Appends old new front) × Told errors_old errors_new before after (line_of (Err fault.Write))))
+  Helps = (text : List ℕ) × ((failed : Bool) × Writes failed old new fails fails_after text × (status ≡ (if failed then 4 else 0)) × Told errors_old errors_new before after (if failed then line_of (Err fault.Write) else []))
 
   -- what is wrong with the line was told
   abbrev pub Complains : Type 0
-  Complains = (status ≡ 64) × Keeps old new × ((text : List ℕ) × Told errors_old errors_new before after text)
+  Complains = (status ≡ 64) × Keeps old new × (fails_after ≡ fails) × ((text : List ℕ) × Told errors_old errors_new before after text)
 
   -- how the line is answered, by what was found in it
   abbrev pub Declines : ErrorKind → Type 0
@@ -72,11 +70,11 @@ module _ (old new errors_old errors_new : Option (List ℕ)) (before after statu
 
 -- What a line leaves on its input as well. It asks for this task, which is done, or as far as that went, and its outcome told;
 -- or for none, where the parser of command lines finds these faults in it, and then nothing is read.
-module _ (left_old left_new old new errors_old errors_new : Option (List ℕ)) (before after status : ℕ) where
+module _ (left_old left_new old new : Option (List ℕ)) (fails fails_after : ℕ) (errors_old errors_new : Option (List ℕ)) (before after status : ℕ) where
   abbrev pub Does : (Option (List ℕ) → Option (List ℕ) → Result Verdict PlayFault → Option (List ℕ) → Option (List ℕ) → Type 0) → Type 0
-  Does Work = (outcome : Result Verdict PlayFault) × Work left_old left_new outcome old new × (status ≡ status_of outcome) × Told errors_old errors_new before after (line_of outcome)
+  Does Work = (outcome : Result Verdict PlayFault) × Work left_old left_new outcome old new × (fails_after ≡ fails + failed_writes outcome) × (status ≡ status_of outcome) × Told errors_old errors_new before after (line_of outcome)
 
   abbrev pub Runs : Option Task → Kinds → Type 0
   Runs (Some Play) faults = Does Plays
   Runs (Some Audit) faults = Does Audits
-  Runs None faults = Keeps left_old left_new × ((found : ErrorKind) × IsAmong found (OutOfMemory ∷ faults) × Declines old new errors_old errors_new before after status found)
+  Runs None faults = Keeps left_old left_new × ((found : ErrorKind) × IsAmong found (OutOfMemory ∷ faults) × Declines old new fails fails_after errors_old errors_new before after status found)

@@ -34,6 +34,7 @@ pub fn run<R: Source, W: Sink, E: Sink>(
 
     ensures { Runs (R.bytes_left source.old) (R.bytes_left source.new)
         (W.bytes_written sink.old) (W.bytes_written sink.new)
+        (W.write_failures sink.old) (W.write_failures sink.new)
         (E.bytes_written errors.old) (E.bytes_written errors.new)
         (E.write_failures errors.old) (E.write_failures errors.new) result
         (task_of (map string_bytes words.now)) (fault_of commands (map string_bytes words.now)) }
@@ -57,6 +58,7 @@ pub fn decline<W: Sink, E: Sink>(alloc: Global, error: &Error, sink: &mut W, err
     requires writes { W.write_failures sink.old < 2 ^ 64 - 1 }
     requires errors { E.write_failures errors.old < 2 ^ 64 - 1 }
     ensures { Declines (W.bytes_written sink.old) (W.bytes_written sink.new)
+        (W.write_failures sink.old) (W.write_failures sink.new)
         (E.bytes_written errors.old) (E.bytes_written errors.new)
         (E.write_failures errors.old) (E.write_failures errors.new) result (kind_of error.now) }
 {
@@ -73,6 +75,7 @@ fn help<W: Sink, E: Sink>(sink: &mut W, errors: &mut E, text: &[u8]) -> u8
     requires writes { W.write_failures sink.old < 2 ^ 64 - 1 }
     requires errors { E.write_failures errors.old < 2 ^ 64 - 1 }
     ensures { Helps (W.bytes_written sink.old) (W.bytes_written sink.new)
+        (W.write_failures sink.old) (W.write_failures sink.new)
         (E.bytes_written errors.old) (E.bytes_written errors.new)
         (E.write_failures errors.old) (E.write_failures errors.new) result }
 {
