@@ -204,5 +204,16 @@ fn failing_devices_have_a_status(rt: HostRuntime) -> Result<(), Fail> {
     let mut errors = CutWriter::new(alloc, 0, usize::MAX, Refusal::Error);
     let status = run(alloc, words.as_slice(), &mut source, &mut sink, &mut errors);
     assert_eq!(rt; status, 4, "a failure on standard error changes no status");
+    let words = words_of(alloc, &["--help"])?;
+    let mut source = Device::new(FIRST.as_bytes());
+    let mut sink = CutWriter::new(alloc, 5, usize::MAX, Refusal::Error);
+    let mut errors = CutWriter::new(alloc, usize::MAX, usize::MAX, Refusal::Error);
+    let status = run(alloc, words.as_slice(), &mut source, &mut sink, &mut errors);
+    assert_eq!(rt; status, 4);
+    assert_eq!(rt; sink.taken.as_slice(), b"Plays".as_slice());
+    assert_eq!(rt;
+        errors.taken.as_slice(),
+        b"ccq: writing failed\n".as_slice()
+    );
     Ok(())
 }
