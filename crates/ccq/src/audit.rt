@@ -3,7 +3,7 @@ ghost use Rattle.std.specs.Prelude.{◌≡◌, ◌<◌, ◌+◌, ◌-◌, ◌^�
 ghost use Rattle.ccq.specs.Play.{Audits, failed_reads, failed_writes};
 
 use crate::fault::PlayFault;
-use crate::input::{InputFault, read_input};
+use crate::input::read_input;
 use cc_audit::{Verdict, audit};
 use cc_model::{Sink, Source};
 use cc_plan::{read_receipts, write_verdict};
@@ -23,23 +23,11 @@ pub fn audit_bytes<R: Source, W: Sink>(
     ensures read_failures { R.read_failures source.new ≡ R.read_failures source.old + failed_reads result }
     ensures write_failures { W.write_failures sink.new ≡ W.write_failures sink.old + failed_writes result }
 {
-    let input = match read_input(alloc, source) {
-        Ok(input) => input,
-        Err(InputFault::Read) => return Err(PlayFault::Read),
-        Err(InputFault::NoMemory) => return Err(PlayFault::NoMemory),
-    };
-    let receipts = match read_receipts(alloc, &input) {
-        Ok(receipts) => receipts,
-        Err(fault) => return Err(PlayFault::Plan(fault)),
-    };
+    let input = read_input(alloc, source)?;
+    let receipts = read_receipts(alloc, &input)?;
     let accepted = receipts.accepted.as_slice();
     let taken = receipts.taken.as_slice();
-    let verdict = match audit(alloc, accepted, taken, receipts.total) {
-        Ok(verdict) => verdict,
-        Err(_) => return Err(PlayFault::NoMemory),
-    };
-    match write_verdict(sink, verdict) {
-        Ok(()) => Ok(verdict),
-        Err(_) => Err(PlayFault::Write),
-    }
+    let verdict = audit(alloc, accepted, taken, receipts.total)?;
+    write_verdict(sink, verdict)?;
+    Ok(verdict)
 }
