@@ -76,6 +76,8 @@ fn commands<'a>(alloc: Global) -> Result<Command<'a>, AllocError>
 fn subcommand<'a>(alloc: Global, name: &'a str, about: &'a str, example: &'a str) -> Command<'a>
     ensures shape { shape_of result ≡ new_shape name.entry.now }
     ensures local { (fields_of result).has_globals ≡ false }
+    ensures about { (fields_of result).about ≡ Some about.entry }
+    ensures example { (fields_of result).after_help ≡ Some example.entry }
 {
     Command::new(alloc, name).about(about).after_help(example)
 }
