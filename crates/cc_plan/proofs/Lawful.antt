@@ -1,5 +1,5 @@
 -- Every plan that an input describes is lawful.
-use Rattle.std.proofs.Common.{ℕ, suc, nat_lt, codes, ◌≡◌, ◌≤◌, ◌<◌, ◌^◌, Bool, true, false, not, cond, List, [], ◌∷◌, length, get_or, All, Option, Some, None, option_map, option_and_then, Result, Ok, Err, IfOk, refl, ap, sym, ◌∙◌, subst, arith}
+use Rattle.std.proofs.Common.{ℕ, suc, nat_lt, codes, ◌≡◌, ◌≤◌, ◌<◌, ◌-◌, ◌^◌, Bool, true, false, not, cond, List, [], ◌∷◌, length, get_or, All, Option, Some, None, option_map, option_and_then, Result, Ok, Err, IfOk, refl, ap, sym, ◌∙◌, subst, arith}
 use Rattle.std.specs.List.{AllByRecursion, position, position_or_len}
 use Rattle.std.proofs.lemmas.List.Elements.{All-from_recursion}
 use Rattle.std.proofs.lemmas.List.Sums.{prefix_len_passes}
@@ -145,6 +145,7 @@ known_ones (Some i) q p e = cc e
 -- all but that the schedule's passes are there
 record Valued (p : PlanValue) : Type 0 where
   config : config_fault p.config ≡ Ok tt
+  limit : p.config.per_sender ≡ 2 ^ 32 - 1
   senders : length p.senders ≡ p.config.senders
   receivers : length p.receivers ≡ p.config.receivers
   calls : All (All IsOfSender) p.senders
@@ -185,6 +186,7 @@ values_lawful d p e =
           (number_within 1 4096 capacity_at.0 capacity.0 capacity_at.1)
           (number_within 1 1024 bound_at.0 bound.0 bound_at.1)
           (number_within 1 (2 ^ 48) life_at.0 life.0 life_at.1);
+      limit = refl;
       senders = refl;
       receivers = refl;
       calls = each_all (All IsOfSender) calls_of all_of_sender s.0 senders.0 s.2;
@@ -199,6 +201,7 @@ with_passes q p v e =
     let known = known_ones (position (λ x. not (has_pass q.config x.0)) q.schedule) q p e in
     subst Lawful known.1 (record {
       config = v.config;
+      limit = v.limit;
       senders = v.senders;
       receivers = v.receivers;
       calls = v.calls;

@@ -1,5 +1,5 @@
 -- What holds of every plan that an input describes.
-use Rattle.std.specs.Prelude.{true, ◌≡◌, ◌≤◌, length, All, Ok, ⊤}
+use Rattle.std.specs.Prelude.{true, ◌≡◌, ◌≤◌, ◌^◌, ◌-◌, length, All, Ok, ⊤}
 use Rattle.cc_model.specs.Config.{config_fault}
 use Rattle.cc_model.specs.declared.call.Call.{Call}
 use Rattle.cc_model.specs.declared.call.Call.TheVariants as call
@@ -12,10 +12,12 @@ IsOfSender (call.Send body) = ⊤
 IsOfSender call.Close = ⊤
 IsOfSender call.Take = ⊥
 
--- the configuration is lawful and has as many passes as there are lists of calls; the lists are no longer than the limits, and
--- each sender's calls are those of senders; each entry names a pass of the configuration and a number of steps in its range
+-- the configuration is lawful, lets each sender send 2^32 - 1 times, and has as many passes as there are lists of calls;
+-- the lists are no longer than the limits, and each sender's calls are those of senders; each entry names a pass of the
+-- configuration and a number of steps in its range
 pub record Lawful (p : PlanValue) : Type 0 where
   pub config : config_fault p.config ≡ Ok tt
+  pub limit : p.config.per_sender ≡ 2 ^ 32 - 1
   pub senders : length p.senders ≡ p.config.senders
   pub receivers : length p.receivers ≡ p.config.receivers
   pub calls : All (All IsOfSender) p.senders
