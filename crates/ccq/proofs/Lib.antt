@@ -1,4 +1,5 @@
 pub mod Turns
+pub mod Between
 pub mod Followed
 pub mod Clean
 pub mod Lines

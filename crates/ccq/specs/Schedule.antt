@@ -1,5 +1,5 @@
 -- The run of a plan: who moves when.
-use Rattle.std.specs.Prelude.{◌≡◌, ℕ, zero, suc, ◌+◌, ◌-◌, ◌<◌, ◌==◌, nat_lt, if◌then◌else◌, Bool, false, List, [], ◌∷◌, length, slice_index_or, Option, Some, None}
+use Rattle.std.specs.Prelude.{◌≡◌, ℕ, zero, suc, ◌+◌, ◌-◌, ◌<◌, ◌≤◌, ◌==◌, nat_lt, if◌then◌else◌, Bool, false, List, [], ◌∷◌, length, slice_index_or, Option, Some, None}
 use Rattle.std.specs.List.{slice_get}
 use Rattle.cc_model.specs.Record.{Record}
 use Rattle.cc_model.specs.Items.{known_at}
@@ -15,7 +15,7 @@ use Rattle.cc_machine.specs.declared.place.Place.{Place}
 use Rattle.cc_machine.specs.declared.place.Place.TheVariants as place
 use Rattle.cc_machine.specs.Columns.{event_at}
 use Rattle.cc_machine.specs.Run.{Move, Begin, Step, Take, reached, passes}
-use Rattle.cc_machine.specs.Machine.{index_of}
+use Rattle.cc_machine.specs.Machine.{index_of, told_at}
 use Rattle.cc_machine.specs.View.{View, state_in}
 use Rattle.cc_plan.specs.Plan.{PlanValue}
 
@@ -96,6 +96,12 @@ pub record IsAt (plan : PlanValue) (m : View) (begun : List ℕ) (run : List Mov
   pub state : state_in m ≡ reached (setting_of plan) run
   pub rows : length begun ≡ passes (setting_of plan)
   pub counts : (row : ℕ) → row < length begun → slice_index_or begun row 0 ≡ begun_in row run
+
+-- between turns no pass has an answer to be taken, and none made more sends than calls
+pub record IsBetweenTurns (plan : PlanValue) (m : View) (begun : List ℕ) : Type 0 where
+  pub setting : m.setting ≡ setting_of plan
+  pub taken : (row : ℕ) → told_at ((state_in m).stand row).place ≡ None
+  pub sends : (row : ℕ) → ((state_in m).stand row).begun ≤ slice_index_or begun row 0
 
 -- the pass has no call, and none to make
 pub record HasEnded (plan : PlanValue) (who : Pass) (row : ℕ) (run : List Move) : Type 0 where

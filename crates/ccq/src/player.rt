@@ -1,17 +1,16 @@
 //! Following a schedule: which pass does its next atomic step, begins its next call, has its answer taken.
-ghost use Rattle.std.specs.Prelude.{◌≡◌, ◌<◌, Some, Ok, List, length, IfOk, IfErr, IfSome, OnOk, ◌^◌, ◌-◌};
+ghost use Rattle.std.specs.Prelude.{◌≡◌, ◌<◌, Some, Ok, List, length, IfOk, IfSome, OnOk, ◌^◌, ◌-◌};
 ghost use Rattle.cc_model.specs.Items.{known_at};
 ghost use Rattle.cc_machine.specs.Run.{Move, passes};
 ghost use Rattle.cc_machine.specs.Machine.{index_of, HasBegun, begin_fault};
 ghost use Rattle.cc_plan.specs.Plan.{plan_value};
-ghost use Rattle.ccq.specs.Schedule.{setting_of, next_call, IsAt, HasTurned, entry, history_of};
-ghost use Rattle.ccq.specs.declared.fault.PlayFault.TheVariants as play_fault;
+ghost use Rattle.cc_plan.specs.PlanLaws.{Lawful};
+ghost use Rattle.ccq.specs.Schedule.{setting_of, next_call, IsAt, IsBetweenTurns, HasTurned, entry, history_of};
 
-use crate::fault::PlayFault;
-use cc_machine::{Event, Machine};
+use cc_machine::{BeginFault, Event, Machine, OpenFault};
 use cc_model::{Call, Pass};
 use cc_plan::Plan;
-use std::alloc::Global;
+use std::alloc::{AllocError, Global};
 
 /// The call that a pass makes after so many calls, where the plan has one.
 fn next_call(plan: &Plan, pass: Pass, begun: usize) -> Option<Call>
@@ -30,15 +29,15 @@ fn next_call(plan: &Plan, pass: Pass, begun: usize) -> Option<Call>
     }
 }
 
-/// Begins a call of an idle pass. Of a pass of the plan only memory can be refused.
-fn begin(machine: &mut Machine, pass: Pass, call: Call) -> Result<(), PlayFault>
-    ensures begun { OnOk result (HasBegun machine.old (index_of machine.old.setting pass) call (known_at pass machine.old.history) machine.new) }
-    ensures may { OnOk result (begin_fault machine.old pass call ≡ Ok tt) }
-    ensures fault { IfErr result (λ fault. fault ≡ play_fault.NoMemory) }
+/// Begins a call that the pass may begin, so that only memory can be refused.
+fn begin(machine: &mut Machine, pass: Pass, call: Call) -> Result<(), AllocError>
+    requires { begin_fault machine.old pass call ≡ Ok tt }
+    ensures { OnOk result (HasBegun machine.old (index_of machine.old.setting pass) call (known_at pass machine.old.history) machine.new) }
 {
     match machine.begin(pass, call) {
         Ok(()) => Ok(()),
-        Err(_) => Err(PlayFault::NoMemory),
+        Err(BeginFault::NoMemory) => Err(AllocError),
+        Err(_) => unreachable!(),
     }
 }
 
@@ -50,12 +49,14 @@ fn turn(
     plan: &Plan,
     pass: Pass,
     row: usize,
-) -> Result<bool, PlayFault>
+) -> Result<bool, AllocError>
+    requires lawful { Lawful (plan_value plan.now) }
     requires pass { index_of (setting_of (plan_value plan.now)) pass ≡ Some row }
     requires row { row < length begun.old }
+    requires between { IsBetweenTurns (plan_value plan.now) machine.old begun.old }
     ensures turned { IfOk result (λ more. HasTurned (plan_value plan.now) pass row machine.old machine.new begun.old begun.new more) }
+    ensures between { OnOk result (IsBetweenTurns (plan_value plan.now) machine.new begun.new) }
     ensures rows { length begun.new ≡ length begun.old }
-    ensures fault { IfErr result (λ fault. fault ≡ play_fault.NoMemory) }
 {
     match machine.event(pass) {
         Event::Did(_) => {
@@ -85,12 +86,14 @@ fn follow_entry(
     plan: &Plan,
     pass: Pass,
     events: u32,
-) -> Result<(), PlayFault>
+) -> Result<(), AllocError>
+    requires lawful { Lawful (plan_value plan.now) }
     requires rows { length begun.old ≡ passes (setting_of (plan_value plan.now)) }
+    requires between { IsBetweenTurns (plan_value plan.now) machine.old begun.old }
     ensures followed { OnOk result ((run : List Move) → IsAt (plan_value plan.now) machine.old begun.old run
         → IsAt (plan_value plan.now) machine.new begun.new (entry (plan_value plan.now) pass (index_of (setting_of (plan_value plan.now)) pass) events run)) }
+    ensures between { OnOk result (IsBetweenTurns (plan_value plan.now) machine.new begun.new) }
     ensures rows { length begun.new ≡ length begun.old }
-    ensures fault { IfErr result (λ fault. fault ≡ play_fault.NoMemory) }
 {
     let Some(row) = Machine::row(&plan.config, pass) else {
         return Ok(());
@@ -103,18 +106,18 @@ fn follow_entry(
     Ok(())
 }
 
-/// Plays the schedule of a plan from the opening of its machine.
-pub fn play_schedule(alloc: Global, plan: &Plan) -> Result<Machine, PlayFault>
+/// Plays the schedule of a plan from the opening of its machine. Only memory can be refused.
+pub fn play_schedule(alloc: Global, plan: &Plan) -> Result<Machine, AllocError>
+    requires lawful { Lawful (plan_value plan.now) }
     ensures played { IfOk result (λ machine. (machine.setting ≡ setting_of (plan_value plan.now)) × (machine.history ≡ history_of (plan_value plan.now))) }
-    ensures fault { IfErr result (λ fault. fault ≡ play_fault.NoMemory) }
 {
-    let Ok(mut machine) = Machine::open(alloc, &plan.config) else {
-        return Err(PlayFault::NoMemory);
+    let mut machine = match Machine::open(alloc, &plan.config) {
+        Ok(machine) => machine,
+        Err(OpenFault::NoMemory) => return Err(AllocError),
+        Err(OpenFault::Config(_)) => unreachable!(),
     };
     let rows = plan.config.senders as usize + plan.config.receivers as usize;
-    let Ok(mut begun) = vec![in alloc; 0usize; rows] else {
-        return Err(PlayFault::NoMemory);
-    };
+    let mut begun = vec![in alloc; 0usize; rows]?;
     for (pass, events) in plan.schedule.iter() {
         follow_entry(&mut machine, begun.as_mut_slice(), plan, *pass, *events)?;
     }

@@ -1,9 +1,12 @@
 use Rattle.std.proofs.Common.{◌≡◌, List, drop}
 use Rattle.cc_machine.specs.Run.{Move}
 use Rattle.cc_plan.specs.Plan.{plan_value}
-use Rattle.ccq.specs.Schedule.{IsAt, follow, run_of}
+use Rattle.ccq.specs.Schedule.{IsAt, IsBetweenTurns, follow, run_of}
 use Rattle.ccq.proofs.player.play_schedule.Given as goal
 
 -- the machine stands at a run from which the rest of the schedule leads to the plan's
 abbrev pub invariant-loop-pass : goal.invariant-loop-pass
-invariant-loop-pass l = (run : List Move) × IsAt (plan_value l.plan) l.machine l.begun.items run × (follow (plan_value l.plan) (drop l.pass-index l.plan.schedule.items) run ≡ run_of (plan_value l.plan))
+invariant-loop-pass l = record {
+  between : IsBetweenTurns (plan_value l.plan) l.machine l.begun.items;
+  leads : (run : List Move) × IsAt (plan_value l.plan) l.machine l.begun.items run × (follow (plan_value l.plan) (drop l.pass-index l.plan.schedule.items) run ≡ run_of (plan_value l.plan));
+}

@@ -1,7 +1,28 @@
 use Rattle.std.proofs.Common.{sym, ◌∙◌}
 use Rattle.ccq.proofs.Turns.{did_turned, begun_turned, none_turned}
+use Rattle.ccq.proofs.Between.{may_begin, did_between, begun_between}
+use Rattle.cc_model.specs.Items.{known_at}
+use Rattle.cc_machine.specs.declared.place.Event.TheVariants as event
 use Rattle.cc_plan.specs.Plan.{plan_value}
 use Rattle.ccq.proofs.player.turn.Goals as goal
+
+pub begin-requires : goal.begin-requires
+begin-requires c =
+    rw c.in-Idle.ensures.state (may_begin (plan_value c.args.plan.now) c.args.pass c.args.row c.args.machine.now c.args.begun.now c.in-Some.call c.requires.lawful c.requires.pass c.requires.between
+    c.in-Idle.ensures.event (sym c.next_call.ensures.call ∙ c.in-Some.is))
+
+pub returns-in-Did-clause-between : goal.returns-in-Did-clause-between
+returns-in-Did-clause-between c =
+    did_between (plan_value c.args.plan.now) c.args.pass c.args.row c.requires.pass _ _ _ _ (event.Did c.in-Did.field-0) _ c.requires.between c.in-Did.ensures.state c.answer.ensures.answer c.answer.ensures.state
+
+pub returns-in_ok-begin-in-Some-clause-between : goal.returns-in_ok-begin-in-Some-clause-between
+returns-in_ok-begin-in-Some-clause-between c =
+    begun_between (plan_value c.args.plan.now) c.args.pass c.args.row c.requires.pass c.args.machine.now _ _ _ _ c.in-Some.call (known_at c.args.pass c.args.machine.now.history) c.event-in-Some.result _ c.requires.between c.requires.row
+    (rw (← c.in-Idle.ensures.state) c.in_ok-begin-in-Some.ensures) c.event-in-Some.ensures.state c.answer-in-Some.ensures.answer c.answer-in-Some.ensures.state
+
+pub returns-in-None-clause-between : goal.returns-in-None-clause-between
+returns-in-None-clause-between c =
+    did_between (plan_value c.args.plan.now) c.args.pass c.args.row c.requires.pass _ _ _ _ event.Idle _ c.requires.between c.in-Idle.ensures.state c.answer-in-None.ensures.answer c.answer-in-None.ensures.state
 
 pub returns-in-Did-clause-turned : goal.returns-in-Did-clause-turned
 returns-in-Did-clause-turned c =
@@ -10,7 +31,7 @@ returns-in-Did-clause-turned c =
 pub returns-in_ok-begin-in-Some-clause-turned : goal.returns-in_ok-begin-in-Some-clause-turned
 returns-in_ok-begin-in-Some-clause-turned c =
     begun_turned (plan_value c.args.plan.now) c.args.pass c.args.row c.requires.pass _ _ _ _ _ c.in-Some.call _ _ c.requires.row (sym c.next_call.ensures.call ∙ c.in-Some.is)
-    (rw (← c.in-Idle.ensures.state) c.in_ok-begin-in-Some.ensures.may) (rw (← c.in-Idle.ensures.state) c.in_ok-begin-in-Some.ensures.begun)
+    (may_begin (plan_value c.args.plan.now) c.args.pass c.args.row c.args.machine.now c.args.begun.now c.in-Some.call c.requires.lawful c.requires.pass c.requires.between c.in-Idle.ensures.event (sym c.next_call.ensures.call ∙ c.in-Some.is)) (rw (← c.in-Idle.ensures.state) c.in_ok-begin-in-Some.ensures)
     c.event-in-Some.ensures.event c.event-in-Some.ensures.state c.answer-in-Some.ensures.answer c.answer-in-Some.ensures.state
 
 pub returns-in-None-clause-turned : goal.returns-in-None-clause-turned
