@@ -95,9 +95,18 @@ one_more (call.Send body) n = omega arith
 one_more call.Close n = omega arith
 one_more call.Take n = omega arith
 
+idle_place : (at : Place) → event_at at ≡ event.Idle → told_at at ≡ None → at ≡ place.Idle
+idle_place place.Idle e none = refl
+idle_place (place.Finished told) e none = cc none
+idle_place _ e none = cc e
+
 module _ (plan : PlanValue) (who : Pass) (row : ℕ) (named : index_of (setting_of plan) who ≡ Some row) where
   index : (m : View) → m.setting ≡ setting_of plan → index_of m.setting who ≡ Some row
   index m is = rw is named
+
+  -- between turns a pass without a step is idle
+  pub idle_between : (m : View) (begun : List ℕ) → IsBetweenTurns plan m begun → event.Idle ≡ event_of m who → ((state_in m).stand row).place ≡ place.Idle
+  idle_between m begun at is = idle_place ((state_in m).stand row).place (sym (is ∙ ap (event_in m) (index m at.setting))) (at.taken row)
 
   stepped_within : (m m' : View) (begun : List ℕ) (e : Event) → IsWithin plan row m begun → HasStepped m (index_of m.setting who) e m' → IsWithin plan row m' begun
   stepped_within m m' begun e at did = core e (subst (λ (o : Option ℕ). HasStepped m o e m') (index m at.setting) did)
@@ -180,11 +189,6 @@ planned plan (pass.Receiver n) row begun k lawful named next =
     let off : nat_lt row plan.config.senders ≡ false = grind (arith, nat_tests, here.1) in
     record { side = λ rest. rw (off, ← now.1) refl; few = omega (arith, inside, lawful.takes (n - 1) 0 there) }
 
-idle_place : (at : Place) → event_at at ≡ event.Idle → told_at at ≡ None → at ≡ place.Idle
-idle_place place.Idle e none = refl
-idle_place (place.Finished told) e none = cc none
-idle_place _ e none = cc e
-
 not_worn : (c : Config) (n : ℕ) → n ≤ c.per_sender → unless_worn c n ≡ Ok tt
 not_worn c n less = let test : nat_lt c.per_sender n ≡ false = grind (arith, nat_tests, less) in rw test refl
 
@@ -194,8 +198,7 @@ pub may_begin : (plan : PlanValue) (who : Pass) (row : ℕ) (m : View) (begun : 
 may_begin plan who row m begun k lawful named at is next =
     let here : index_of m.setting who ≡ Some row = rw at.setting named in
     let call : IsPlanned plan row (get_or begun row 0) k = planned plan who row (get_or begun row 0) k lawful named next in
-    let stepless : event_at ((state_in m).stand row).place ≡ event.Idle = sym (is ∙ ap (event_in m) here) in
-    let idle : ((state_in m).stand row).place ≡ place.Idle = idle_place ((state_in m).stand row).place stepless (at.taken row) in
+    let idle : ((state_in m).stand row).place ≡ place.Idle = idle_between plan who row named m begun at is in
     let sent : ((state_in m).stand row).begun ≤ get_or begun row 0 = at.sends row in
     let more : begun_after k ((state_in m).stand row).begun ≤ ((state_in m).stand row).begun + 1 = one_more k ((state_in m).stand row).begun in
     let few : get_or begun row 0 < 65536 = call.few in

@@ -1,19 +1,12 @@
 -- One turn of a pass, and what it leaves.
-use Rattle.std.proofs.Common.{◌≡◌, ◌<◌, ◌==◌, ℕ, zero, suc, ◌+◌, ◌-◌, List, ◌∷◌, length, get_or, set, Bool, true, false, cond, Option, Some, None, Result, Ok, refl, sym, ap, ◌∙◌, subst, arith, rules}
-use Rattle.std.specs.Bool.{⊤}
+use Rattle.std.proofs.Common.{◌≡◌, ◌<◌, ◌==◌, ℕ, zero, suc, ◌+◌, ◌-◌, List, ◌∷◌, length, get_or, set, Bool, true, false, cond, Option, Some, None, refl, sym, ap, ◌∙◌, subst, arith, rules}
 use Rattle.std.proofs.lemmas.Bool.Decides.{nat_tests}
 use Rattle.std.proofs.lemmas.List.{get_or-set_same, get_or-set_other}
 use Rattle.cc_model.specs.Items.{known_at}
 use Rattle.cc_model.specs.declared.call.Answer.{Answer}
 use Rattle.cc_model.specs.declared.call.Call.{Call}
-use Rattle.cc_model.specs.declared.call.Call.TheVariants as call
 use Rattle.cc_model.specs.declared.call.Pass.{Pass}
-use Rattle.cc_machine.specs.declared.fault.BeginFault.{BeginFault}
 use Rattle.cc_machine.specs.declared.setting.Setting.{Setting}
-use Rattle.cc_machine.specs.declared.setting.Served.{Served}
-use Rattle.cc_machine.specs.declared.setting.Served.TheVariants as served
-use Rattle.cc_machine.specs.declared.word.Chain.{Chain}
-use Rattle.cc_machine.specs.declared.word.Chain.TheVariants as chain
 use Rattle.cc_machine.specs.declared.place.Event.{Event}
 use Rattle.cc_machine.specs.declared.place.Event.TheVariants as event
 use Rattle.cc_machine.specs.declared.place.Kind.{Kind}
@@ -22,7 +15,7 @@ use Rattle.cc_machine.specs.declared.place.Place.TheVariants as place
 use Rattle.cc_machine.specs.Columns.{event_at}
 use Rattle.cc_machine.specs.State.{State}
 use Rattle.cc_machine.specs.Run.{Move, Begin, Step, Take, reached, moved, rests}
-use Rattle.cc_machine.specs.Machine.{index_of, IsAfter, event_of, event_in, HasStepped, told_at, told_in, answer_of, HasTaken, HasBegun, begin_fault, fault_at, unless_busy, unless_wrong}
+use Rattle.cc_machine.specs.Machine.{index_of, IsAfter, event_of, event_in, HasStepped, told_at, told_in, answer_of, HasTaken, HasBegun}
 use Rattle.cc_machine.specs.View.{View, state_in}
 use Rattle.cc_plan.specs.Plan.{PlanValue}
 use Rattle.ccq.specs.Schedule.{setting_of, place_in, begun_in, next_call, begins_at, begins, steps_at, steps, takes_at, takes, turn, turns, entry, IsAt, HasEnded, HasTurned}
@@ -49,16 +42,6 @@ taken row None run = run
 takes-told : (row : ℕ) (at : Place) (run : List Move) → takes_at row at run ≡ taken row (told_at at) run
 takes-told row (place.Finished told) run = refl
 takes-told row _ run = refl
-
-wrong_ok : (what : Served) (x : Chain) (k : Call) (rest : Result ⊤ BeginFault) → unless_wrong what x k rest ≡ Ok tt → rest ≡ Ok tt
-wrong_ok what chain.Send (call.Send body) rest e = e
-wrong_ok served.List chain.Send call.Close rest e = e
-wrong_ok served.List (chain.Take g) call.Take rest e = e
-wrong_ok _ _ _ rest e = cc
-
-busy_ok : (at : Place) (rest : Result ⊤ BeginFault) → unless_busy at rest ≡ Ok tt → at ≡ place.Idle
-busy_ok place.Idle rest e = refl
-busy_ok _ rest e = cc
 
 -- ---- one move of the machine
 
@@ -89,13 +72,6 @@ module _ (plan : PlanValue) (who : Pass) (row : ℕ) (named : index_of (setting_
       core : (x : Option Answer) → HasTaken m (Some row) x m' → IsAt plan m' begun (taken row x run)
       core (Some told) h = record { setting = h.setting ∙ at.setting; state = moves m m' begun run (Take row) at h; rows = at.rows; counts = at.counts }
       core None h = rw h at
-
-  -- a pass that may begin is idle
-  pub idle : (m : View) (begun : List ℕ) (run : List Move) (k : Call) → IsAt plan m begun run → begin_fault m who k ≡ Ok tt → place_in plan run row ≡ place.Idle
-  idle m begun run k at may =
-      let here : index_of m.setting who ≡ Some row = index m begun run at in
-      let all : fault_at m k (Some row) ≡ Ok tt = sym (ap (fault_at m k) here) ∙ may in
-      sym (ap (λ (s : State). (s.stand row).place) at.state) ∙ busy_ok ((state_in m).stand row).place _ (wrong_ok m.setting.served _ k _ all)
 
   counts_after : (begun : List ℕ) (run : List Move) (k : Call) (known n : ℕ) → ((r : ℕ) → r < length begun → get_or begun r 0 ≡ begun_in r run) → get_or begun row 0 ≡ n → row < length begun
       → (r : ℕ) → r < length begun → get_or (set begun row (n + 1)) r 0 ≡ begun_in r (Begin row k known ∷ run)
@@ -177,13 +153,14 @@ module _ (plan : PlanValue) (who : Pass) (row : ℕ) (named : index_of (setting_
 
   -- the pass was idle, and had a call to begin
   pub begun_turned : (m m1 m2 m3 : View) (begun : List ℕ) (k : Call) (e : Event) (a : Option Answer) → row < length begun → next_call plan who (get_or begun row 0) ≡ Some k
-      → begin_fault m who k ≡ Ok tt → HasBegun m (index_of m.setting who) k (known_at who m.history) m1
+      → ((state_in m).stand row).place ≡ place.Idle → HasBegun m (index_of m.setting who) k (known_at who m.history) m1
       → e ≡ event_of m1 who → HasStepped m1 (index_of m1.setting who) e m2
       → a ≡ answer_of m2 who → HasTaken m2 (index_of m2.setting who) a m3 → HasTurned plan who row m m3 begun (set begun row (get_or begun row 0 + 1)) true
   unfolding turn
-  begun_turned m m1 m2 m3 begun k e a inside next may begin is did told took = record {
+  begun_turned m m1 m2 m3 begun k e a inside next idle begin is did told took = record {
     at = λ run at.
-        let first = begun_now m m1 begun run (get_or begun row 0) k at inside refl (idle m begun run k at may) next begin in
+        let at_rest : place_in plan run row ≡ place.Idle = sym (ap (λ (s : State). (s.stand row).place) at.state) ∙ idle in
+        let first = begun_now m m1 begun run (get_or begun row 0) k at inside refl at_rest next begin in
         let counted : List ℕ = set begun row (get_or begun row 0 + 1) in
         answered m2 m3 counted (steps plan row (begins plan who row run)) a (stepped m1 m2 counted (begins plan who row run) e first is did) told took;
     ended = λ run at more. cc;

@@ -1,6 +1,6 @@
 use Rattle.std.proofs.Common.{sym, ◌∙◌}
 use Rattle.ccq.proofs.Turns.{did_turned, begun_turned, none_turned}
-use Rattle.ccq.proofs.Between.{may_begin, did_between, begun_between}
+use Rattle.ccq.proofs.Between.{idle_between, may_begin, did_between, begun_between}
 use Rattle.cc_model.specs.Items.{known_at}
 use Rattle.cc_machine.specs.declared.place.Event.TheVariants as event
 use Rattle.cc_plan.specs.Plan.{plan_value}
@@ -31,7 +31,7 @@ returns-in-Did-clause-turned c =
 pub returns-in_ok-begin-in-Some-clause-turned : goal.returns-in_ok-begin-in-Some-clause-turned
 returns-in_ok-begin-in-Some-clause-turned c =
     begun_turned (plan_value c.args.plan.now) c.args.pass c.args.row c.requires.pass _ _ _ _ _ c.in-Some.call _ _ c.requires.row (sym c.next_call.ensures.call ∙ c.in-Some.is)
-    (may_begin (plan_value c.args.plan.now) c.args.pass c.args.row c.args.machine.now c.args.begun.now c.in-Some.call c.requires.lawful c.requires.pass c.requires.between c.in-Idle.ensures.event (sym c.next_call.ensures.call ∙ c.in-Some.is)) (rw (← c.in-Idle.ensures.state) c.in_ok-begin-in-Some.ensures)
+    (idle_between (plan_value c.args.plan.now) c.args.pass c.args.row c.requires.pass _ _ c.requires.between c.in-Idle.ensures.event) (rw (← c.in-Idle.ensures.state) c.in_ok-begin-in-Some.ensures)
     c.event-in-Some.ensures.event c.event-in-Some.ensures.state c.answer-in-Some.ensures.answer c.answer-in-Some.ensures.state
 
 pub returns-in-None-clause-turned : goal.returns-in-None-clause-turned
