@@ -168,7 +168,8 @@ AnswerWithin most (answer.Take (take.Got item)) = (item.place < most) × (item.n
 AnswerWithin most (answer.Take (take.Ended total)) = total ≤ most
 AnswerWithin most _ = Unit {0}
 
--- at most `life` items are accepted, and so no answer carries a greater number
+-- at most `life` items are accepted; each place in an answer is below that, each total at most that, and each send's number
+-- below 2^32
 pub record IsWithin (c : Config) (h : Record) : Type 0 where
   pub life : length (accepted h) ≤ c.life
   pub e_answers : AllByRecursion (AnswerWithin c.life) h.e_answers

@@ -43,7 +43,8 @@ pub fn scans_are_short()
     ensures { ScansAreShort }
 {}
 
-/// At most `life` items are accepted, and no answer carries a greater number.
+/// At most `life` items are accepted; each place in an answer is below that, each total at most that, and each send's
+/// number below 2^32.
 pub fn numbers_stay_within()
     ensures { NumbersStayWithin }
 {}

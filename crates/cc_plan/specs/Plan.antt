@@ -5,7 +5,7 @@ use Rattle.cc_model.specs.declared.call.Call.{Call}
 use Rattle.cc_model.specs.declared.call.Pass.{Pass}
 use Rattle.cc_plan.specs.declared.plan.Plan.{Plan}
 
--- the configuration, each sender's calls, how often each receiver takes, and who makes how many steps in turn
+-- the configuration, each sender's calls, how often each receiver takes, and which pass goes on next, by up to how many steps
 pub record PlanValue : Type 0 where
   pub config : Config
   pub senders : List (List Call)

@@ -5,11 +5,12 @@ ghost use Rattle.cc_plan.specs.declared.fault.PlanFault.TheVariants.{P5};
 use std::alloc::{AllocError, AllocFailed};
 use thiserror::Error;
 
-/// Why an input is no plan, or no receipts. Where several reasons hold, the first of this list is told, and of two
-/// keys out of range the one that stands first in the table of keys.
+/// Why an input is no plan, or no receipts. Where several reasons hold, a too long input is told before all others, and
+/// then the first of this list; of two keys out of range, the one that stands first in the table of keys.
 #[derive(Clone, Copy, Debug, PartialEq, Eq, Error)]
 pub enum PlanFault {
-    /// The input is no JSON text: not UTF-8, not JSON's grammar, or nested deeper than 127.
+    /// The input is no JSON text: not UTF-8, not JSON's grammar, nested deeper than 127, or with a number too large for a
+    /// 64-bit float.
     #[error("no JSON")]
     P1,
     /// The tree has another shape: a key is missing or unknown, a value is of another kind, or a pass name is malformed.

@@ -16,7 +16,7 @@ use std::alloc::{AllocError, Global};
 /// The length in bytes beyond which an input is refused.
 pub const INPUT_LIMIT: usize = 16_777_216;
 
-/// The tree of an input.
+/// The tree of an input, or that it is too long or no JSON.
 #[tactic(auto, unfolding(crate::specs::Refusal::tree_of))]
 pub fn parse(alloc: Global, bytes: &[u8]) -> Result<Value, PlanFault>
     ensures { Gives view result (tree_of bytes.now) }

@@ -14,8 +14,11 @@ use std::alloc::Global;
 /// What was told to the senders and receivers of one topic, in any order, and the total that its close told, if one did.
 #[derive(Drop)]
 pub struct Receipts {
+    /// A receipt for each accepted send that a sender was told of.
     pub accepted: Vec<SendReceipt>,
+    /// A receipt for each take that got an item.
     pub taken: Vec<TakeReceipt>,
+    /// How many items were accepted, as a close was told.
     pub total: Option<u64>,
 }
 
@@ -25,7 +28,7 @@ mod values;
 use shape::has_receipts_shape;
 use values::values;
 
-/// The receipts that the bytes describe.
+/// The receipts that the bytes describe, or why they describe none.
 #[tactic(auto, unfolding(crate::specs::ReceiptsOf::receipts_of))]
 pub fn read_receipts(alloc: Global, bytes: &[u8]) -> Result<Receipts, PlanFault>
     ensures { Gives receipts_value result (receipts_of bytes.now) }

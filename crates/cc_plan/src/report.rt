@@ -12,7 +12,9 @@ use cc_model::{
 /// A history and the verdict on it.
 #[derive(Clone, Copy)]
 pub struct Report<'a> {
+    /// The whole history, calls without an answer too.
     pub history: &'a History,
+    /// The verdict on the receipts of the history.
     pub verdict: Verdict,
 }
 

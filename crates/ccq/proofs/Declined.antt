@@ -13,12 +13,12 @@ kept : (bytes : Option (List ℕ)) → Keeps bytes bytes
 kept None = tt
 kept (Some xs) = refl
 
-module _ (left old new : Option (List ℕ)) (fails fails_after : ℕ) (errors_old errors_new : Option (List ℕ)) (before after status : ℕ) where
+module _ (left : Option (List ℕ)) (reads : ℕ) (old new : Option (List ℕ)) (fails fails_after : ℕ) (errors_old errors_new : Option (List ℕ)) (before after status : ℕ) where
   pub declined : (asked : Option Task) (faults : Kinds) (kind : ErrorKind) → (kind ≡ OutOfMemory) ⊎ ((asked ≡ None) × IsAmong kind faults) → Declines old new fails fails_after errors_old errors_new before after status kind
-      → Runs left left old new fails fails_after errors_old errors_new before after status asked faults
+      → Runs left left reads reads old new fails fails_after errors_old errors_new before after status asked faults
   unfolding line_of
-  declined (Some Play) faults kind (inl memory) d = let out = subst (Declines old new fails fails_after errors_old errors_new before after status) memory d in (Err fault.NoMemory, out.1, omega (arith, out.2), out.0, out.3)
-  declined (Some Audit) faults kind (inl memory) d = let out = subst (Declines old new fails fails_after errors_old errors_new before after status) memory d in (Err fault.NoMemory, out.1, omega (arith, out.2), out.0, out.3)
+  declined (Some Play) faults kind (inl memory) d = let out = subst (Declines old new fails fails_after errors_old errors_new before after status) memory d in (Err fault.NoMemory, out.1, omega arith, omega (arith, out.2), out.0, out.3)
+  declined (Some Audit) faults kind (inl memory) d = let out = subst (Declines old new fails fails_after errors_old errors_new before after status) memory d in (Err fault.NoMemory, out.1, omega arith, omega (arith, out.2), out.0, out.3)
   declined (Some t) faults kind (inr h) d = cc
-  declined None faults kind (inl memory) d = (kept left, (kind, inl memory, d))
-  declined None faults kind (inr h) d = (kept left, (kind, inr h.1, d))
+  declined None faults kind (inl memory) d = (kept left, refl, (kind, inl memory, d))
+  declined None faults kind (inr h) d = (kept left, refl, (kind, inr h.1, d))

@@ -41,9 +41,8 @@ followed plan schedule seen i d run same within leads =
 
 -- the whole schedule
 pub finished : (plan : PlanValue) (m : View) (begun : List ℕ) (run : List Move) (i : ℕ) → IsAt plan m begun run → length plan.schedule ≤ i → follow plan (drop i plan.schedule) run ≡ run_of plan
-    → (m.setting ≡ setting_of plan) × (m.history ≡ history_of plan)
-unfolding state_in
+    → (m.setting ≡ setting_of plan) × (state_in m ≡ reached (setting_of plan) (run_of plan))
 finished plan m begun run i at past leads =
     let none : drop i plan.schedule ≡ [] = drop_all i plan.schedule past in
     let same : run ≡ run_of plan = ap (λ (es : List (Pass × ℕ)). follow plan es run) (sym none) ∙ leads in
-    (at.setting, ap (λ (s : State). s.history) at.state ∙ ap (λ (r : List Move). (reached (setting_of plan) r).history) same)
+    (at.setting, at.state ∙ ap (λ (r : List Move). reached (setting_of plan) r) same)

@@ -167,10 +167,10 @@ module _ (plan : PlanValue) (who : Pass) (row : ℕ) (named : index_of (setting_
   }
 
   -- the pass had neither a step nor a call to begin
-  pub none_turned : (m m1 m2 : View) (begun : List ℕ) (a : Option Answer) → row < length begun → event.Idle ≡ event_of m who → HasStepped m (index_of m.setting who) event.Idle m1 → next_call plan who (get_or begun row 0) ≡ None
-      → a ≡ answer_of m1 who → HasTaken m1 (index_of m1.setting who) a m2 → HasTurned plan who row m m2 begun begun false
-  none_turned m m1 m2 begun a inside is did next told took = record {
-    at = λ run at. rw (no_turn run (stepless run at) (none run at)) (answered m1 m2 begun run a (still run at) told took);
+  pub none_turned : (m m1 : View) (begun : List ℕ) → row < length begun → told_at ((state_in m).stand row).place ≡ None → event.Idle ≡ event_of m who → HasStepped m (index_of m.setting who) event.Idle m1
+      → next_call plan who (get_or begun row 0) ≡ None → HasTurned plan who row m m1 begun begun false
+  none_turned m m1 begun inside untold is did next = record {
+    at = λ run at. rw (unmoved run at) (still run at);
     ended = λ run at more. ended run (stepless run at) (none run at);
   }
     where
@@ -179,6 +179,9 @@ module _ (plan : PlanValue) (who : Pass) (row : ℕ) (named : index_of (setting_
 
       none : (run : List Move) → IsAt plan m begun run → next_call plan who (begun_in row run) ≡ None
       none run at = ap (next_call plan who) (sym (at.counts row inside)) ∙ next
+
+      unmoved : (run : List Move) → IsAt plan m begun run → turn plan who row run ≡ run
+      unmoved run at = no_turn run (stepless run at) (none run at) ∙ takes-told row (place_in plan run row) run ∙ ap (λ (told : Option Answer). taken row told run) (sym (ap (λ (s : State). told_at (s.stand row).place) at.state) ∙ untold)
 
       still : (run : List Move) → IsAt plan m begun run → IsAt plan m1 begun run
       still run at = subst (λ (r : List Move). IsAt plan m1 begun r) (rw (stepless run at) refl) (stepped m m1 begun run event.Idle at is did)

@@ -15,7 +15,7 @@ task_of (program ∷ word ∷ []) = task_named word
 task_of (program ∷ word ∷ mark ∷ []) = if bytes_eq mark (codes "--") then task_named word else None
 task_of words = None
 
--- the program without its tasks: it wants one, and has the flag for help but no task for it
+-- the program without its tasks: it wants one, and has the flag for help but no subcommand for it
 abbrev pub without_tasks : App
 without_tasks = record (new_app (codes "ccq")) {
   top = record (new_shape (codes "ccq")) { arg_required_else_help = true; subcommand_required = true; disable_help_subcommand = true };

@@ -13,7 +13,7 @@ use Rattle.cc_audit.specs.declared.receipt.Verdict.{Verdict}
 use Rattle.cc_audit.specs.declared.receipt.Verdict.TheVariants.{Clean, Fault}
 use Rattle.ccq.specs.declared.command_line.Task.{Task}
 use Rattle.ccq.specs.declared.command_line.Task.TheVariants.{Play, Audit}
-use Rattle.ccq.specs.Play.{Plays, Audits, failed_writes}
+use Rattle.ccq.specs.Play.{Plays, Audits, failed_reads, failed_writes}
 
 -- the exit status
 abbrev pub status_of : Result Verdict PlayFault → ℕ
@@ -25,9 +25,11 @@ status_of (Err fault.Read) = 4
 status_of (Err fault.Write) = 4
 status_of (Err fault.NoMemory) = 3
 
+-- the line where there is no memory
 abbrev pub no_memory_line : List ℕ
 no_memory_line = codes "ccq: out of memory\n"
 
+-- the line where the input is refused
 unfoldable pub refusal_line : PlanFault → List ℕ
 refusal_line P1 = codes "ccq: plan refused: P1\n"
 refusal_line P2 = codes "ccq: plan refused: P2\n"
@@ -68,13 +70,16 @@ module _ (old new : Option (List ℕ)) (fails fails_after : ℕ) (errors_old err
   Declines OutOfMemory = RunsOut
   Declines _ = Complains ⊎ RunsOut
 
--- What a line leaves on its input as well. It asks for this task, which is done, or as far as that went, and its outcome told;
--- or for none, where the parser of command lines finds these faults in it, and then nothing is read.
-module _ (left_old left_new old new : Option (List ℕ)) (fails fails_after : ℕ) (errors_old errors_new : Option (List ℕ)) (before after status : ℕ) where
+-- What a whole line leaves, on its input too, with the number of failed reads. Where it asks for a task, that is done as far as
+-- it goes and its outcome told. Where it asks for none, nothing is read, and it is declined for a fault that the parser of
+-- command lines finds in it, or for want of memory.
+module _ (left_old left_new : Option (List ℕ)) (reads reads_after : ℕ) (old new : Option (List ℕ)) (fails fails_after : ℕ) (errors_old errors_new : Option (List ℕ)) (before after status : ℕ) where
   abbrev pub Does : (Option (List ℕ) → Option (List ℕ) → Result Verdict PlayFault → Option (List ℕ) → Option (List ℕ) → Type 0) → Type 0
-  Does Work = (outcome : Result Verdict PlayFault) × Work left_old left_new outcome old new × (fails_after ≡ fails + failed_writes outcome) × (status ≡ status_of outcome) × Told errors_old errors_new before after (line_of outcome)
+  Does Work = (outcome : Result Verdict PlayFault) × Work left_old left_new outcome old new × (reads_after ≡ reads + failed_reads outcome) × (fails_after ≡ fails + failed_writes outcome)
+      × (status ≡ status_of outcome) × Told errors_old errors_new before after (line_of outcome)
 
   abbrev pub Runs : Option Task → Kinds → Type 0
   Runs (Some Play) faults = Does Plays
   Runs (Some Audit) faults = Does Audits
-  Runs None faults = Keeps left_old left_new × ((found : ErrorKind) × IsAmong found (OutOfMemory ∷ faults) × Declines old new fails fails_after errors_old errors_new before after status found)
+  Runs None faults = Keeps left_old left_new × (reads_after ≡ reads)
+      × ((found : ErrorKind) × IsAmong found (OutOfMemory ∷ faults) × Declines old new fails fails_after errors_old errors_new before after status found)

@@ -11,7 +11,9 @@ use std::alloc::{AllocError, Global};
 /// Why an input wasn't read to its end.
 #[derive(Clone, Copy, Debug, PartialEq, Eq)]
 pub enum InputFault {
+    /// A read failed.
     Read,
+    /// Memory was refused.
     NoMemory,
 }
 
@@ -27,6 +29,7 @@ impl From<AllocError> for InputFault {
 pub fn read_input<R: Source>(alloc: Global, source: &mut R) -> Result<Vec<u8>, InputFault>
     requires { R.read_failures source.old < 2 ^ 64 - 1 }
     ensures bytes { IfOk result (λ input. Consumes (R.bytes_left source.old) (R.bytes_left source.new) input.items) }
+    ensures most { IfOk result (λ input. length input.items ≤ input_limit + 1) }
     ensures end { IfOk result (λ input. length input.items ≤ input_limit → IsAtEnd (R.bytes_left source.new)) }
     ensures no_failure { OnOk result (R.read_failures source.new ≡ R.read_failures source.old) }
     ensures memory { IsErrOf result InputFault.NoMemory → R.read_failures source.new ≡ R.read_failures source.old }

@@ -37,7 +37,8 @@ fn main(rt: HostRuntime) -> ExitCode {
     ExitCode::from(status)
 }
 
-/// The words of the command line, the program's name first.
+/// The words of the command line, the program's name first; or why there are none: one of them is no text, or memory was
+/// refused.
 fn words(rt: &HostRuntime) -> Result<Vec<String>, Error> {
     match env::args(rt) {
         Ok(args) => Ok(args.collect(rt.alloc())?),

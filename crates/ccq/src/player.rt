@@ -1,11 +1,12 @@
 //! Following a schedule: which pass does its next atomic step, begins its next call, has its answer taken.
 ghost use Rattle.std.specs.Prelude.{◌≡◌, ◌<◌, Some, Ok, List, length, IfOk, IfSome, OnOk, ◌^◌, ◌-◌};
 ghost use Rattle.cc_model.specs.Items.{known_at};
-ghost use Rattle.cc_machine.specs.Run.{Move, passes};
+ghost use Rattle.cc_machine.specs.Run.{Move, passes, reached};
+ghost use Rattle.cc_machine.specs.View.{state_in};
 ghost use Rattle.cc_machine.specs.Machine.{index_of, HasBegun, begin_fault};
 ghost use Rattle.cc_plan.specs.Plan.{plan_value};
 ghost use Rattle.cc_plan.specs.PlanLaws.{Lawful};
-ghost use Rattle.ccq.specs.Schedule.{setting_of, next_call, IsAt, IsBetweenTurns, HasTurned, entry, history_of};
+ghost use Rattle.ccq.specs.Schedule.{setting_of, next_call, IsAt, IsBetweenTurns, HasTurned, entry, run_of};
 
 use cc_machine::{BeginFault, Event, Machine, OpenFault};
 use cc_model::{Call, Pass};
@@ -71,10 +72,7 @@ fn turn(
                 machine.answer(pass);
                 Ok(true)
             }
-            None => {
-                machine.answer(pass);
-                Ok(false)
-            }
+            None => Ok(false),
         },
     }
 }
@@ -109,7 +107,7 @@ fn follow_entry(
 /// Plays the schedule of a plan from the opening of its machine. Only memory can be refused.
 pub fn play_schedule(alloc: Global, plan: &Plan) -> Result<Machine, AllocError>
     requires lawful { Lawful (plan_value plan.now) }
-    ensures played { IfOk result (λ machine. (machine.setting ≡ setting_of (plan_value plan.now)) × (machine.history ≡ history_of (plan_value plan.now))) }
+    ensures played { IfOk result (λ machine. (machine.setting ≡ setting_of (plan_value plan.now)) × (state_in machine ≡ reached (setting_of (plan_value plan.now)) (run_of (plan_value plan.now)))) }
 {
     let mut machine = match Machine::open(alloc, &plan.config) {
         Ok(machine) => machine,

@@ -1,4 +1,4 @@
-//! The command line.
+//! Doing what a command line asks for: its exit status, and its line on standard error.
 ghost use Rattle.std.specs.Prelude.{◌≡◌, ◌<◌, ◌-◌, ◌^◌, ◌++◌, codes, Err, map, string_bytes};
 ghost use Rattle.cc_model.specs.Written.{word_text};
 ghost use Rattle.clap.specs.Words.{fault_of, kind_of};
@@ -33,6 +33,7 @@ pub fn run<R: Source, W: Sink, E: Sink>(
     requires errors { E.write_failures errors.old < 2 ^ 64 - 1 }
 
     ensures { Runs (R.bytes_left source.old) (R.bytes_left source.new)
+        (R.read_failures source.old) (R.read_failures source.new)
         (W.bytes_written sink.old) (W.bytes_written sink.new)
         (W.write_failures sink.old) (W.write_failures sink.new)
         (E.bytes_written errors.old) (E.bytes_written errors.new)
@@ -104,7 +105,7 @@ fn tell<E: Sink>(errors: &mut E, outcome: Result<Verdict, PlayFault>) -> u8
 }
 
 /// Tells that there was no memory, and answers the status.
-pub fn out_of_memory<E: Sink>(errors: &mut E) -> u8
+fn out_of_memory<E: Sink>(errors: &mut E) -> u8
     requires { E.write_failures errors.old < 2 ^ 64 - 1 }
     ensures status { result ≡ 3 }
     ensures told { Told (E.bytes_written errors.old) (E.bytes_written errors.new)

@@ -21,8 +21,7 @@ returns-in_ok-begin-in-Some-clause-between c =
     (rw (← c.in-Idle.ensures.state) c.in_ok-begin-in-Some.ensures) c.event-in-Some.ensures.state c.answer-in-Some.ensures.answer c.answer-in-Some.ensures.state
 
 pub returns-in-None-clause-between : goal.returns-in-None-clause-between
-returns-in-None-clause-between c =
-    did_between (plan_value c.args.plan.now) c.args.pass c.args.row c.requires.pass _ _ _ _ event.Idle _ c.requires.between c.in-Idle.ensures.state c.answer-in-None.ensures.answer c.answer-in-None.ensures.state
+returns-in-None-clause-between c = rw c.in-Idle.ensures.state c.requires.between
 
 pub returns-in-Did-clause-turned : goal.returns-in-Did-clause-turned
 returns-in-Did-clause-turned c =
@@ -36,4 +35,4 @@ returns-in_ok-begin-in-Some-clause-turned c =
 
 pub returns-in-None-clause-turned : goal.returns-in-None-clause-turned
 returns-in-None-clause-turned c =
-    none_turned (plan_value c.args.plan.now) c.args.pass c.args.row c.requires.pass _ _ _ _ _ c.requires.row c.in-Idle.ensures.event c.in-Idle.ensures.state (sym c.next_call.ensures.call ∙ c.in-None.is) c.answer-in-None.ensures.answer c.answer-in-None.ensures.state
+    none_turned (plan_value c.args.plan.now) c.args.pass c.args.row c.requires.pass _ _ _ c.requires.row (c.requires.between.taken c.args.row) c.in-Idle.ensures.event c.in-Idle.ensures.state (sym c.next_call.ensures.call ∙ c.in-None.is)

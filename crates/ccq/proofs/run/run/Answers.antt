@@ -7,4 +7,4 @@ use Rattle.ccq.proofs.run.run.Goals as goal
 pub returns-in-Err : goal.returns-in-Err
 returns-in-Err g c =
     let line = map string_bytes c.args.words.now in
-    declined _ _ _ _ _ _ _ _ _ _ (task_of line) (fault_of commands line) _ c.in-Err.ensures.nothing c.decline.ensures
+    declined _ _ _ _ _ _ _ _ _ _ _ (task_of line) (fault_of commands line) _ c.in-Err.ensures.nothing c.decline.ensures
