@@ -18,16 +18,12 @@ use Rattle.cc_machine.specs.declared.place.Event.TheVariants.{Idle}
 use Rattle.cc_machine.specs.declared.place.Stand.{Stand}
 use Rattle.cc_machine.specs.declared.place.Place.{Place}
 use Rattle.cc_machine.specs.declared.place.Place.TheVariants as place
+pub use Rattle.cc_machine.specs.declared.run.Move.{Move}
+pub use Rattle.cc_machine.specs.declared.run.Move.TheVariants.{Begin, Step, Take}
 use Rattle.cc_machine.specs.Words.{groups}
 use Rattle.cc_machine.specs.State.{State, chain_of, pass_at, first_node, hold}
 use Rattle.cc_machine.specs.Columns.{event_at}
 use Rattle.cc_machine.specs.Step.{stepped}
-
--- a pass begins a call and knows so much of the history, does its next step, or has its answer taken
-pub data Move : Type 0 where
-  Begin : (pass : ℕ) (call : Call) (known : ℕ) → Move
-  Step : (pass : ℕ) → Move
-  Take : (pass : ℕ) → Move
 
 -- how many passes there are: the counter has senders alone
 abbrev pub passes_of : Served → Config → ℕ

@@ -26,6 +26,7 @@ mod machine_tests;
 mod moves;
 mod open;
 mod place;
+mod run;
 mod send;
 mod setting;
 mod take;
@@ -43,5 +44,6 @@ pub use machine::Machine;
 pub use place::{
     Counting, Event, Job, Kind, Parcel, Place, Request, Round, Sending, Stand, Taking,
 };
+pub use run::Move;
 pub use setting::{Served, Setting};
 pub use word::{Chain, ItemField, NodeField, Object, Word};
