@@ -1,0 +1,4 @@
+//! The atomic steps of the queue on a table of words. Each is one step of the machine that words and views show.
+#![tactic(auto)]
+
+pub mod seats;
