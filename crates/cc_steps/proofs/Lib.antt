@@ -1,3 +1,4 @@
 pub mod Runs
 pub mod KnownMore
 pub mod Keeps
+pub mod Walks

@@ -1,2 +1,4 @@
+pub mod Topic
 pub mod Seen
 pub mod Shown
+pub mod Walk

@@ -1,4 +1,7 @@
 //! The atomic steps of the queue on a table of words. Each is one step of the machine that words and views show.
 #![tactic(auto)]
 
+mod layout;
+mod moves;
 pub mod seats;
+pub mod words;
