@@ -4,4 +4,5 @@
 mod layout;
 mod moves;
 pub mod seats;
+pub mod steps;
 pub mod words;
