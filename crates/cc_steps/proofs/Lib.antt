@@ -2,5 +2,6 @@ pub mod Runs
 pub mod KnownMore
 pub mod Keeps
 pub mod Walks
+pub mod Joined
 pub mod Told
 pub mod StepLaws

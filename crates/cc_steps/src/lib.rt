@@ -2,6 +2,7 @@
 #![tactic(auto)]
 
 mod layout;
+pub mod looks;
 mod moves;
 pub mod seats;
 pub mod steps;
