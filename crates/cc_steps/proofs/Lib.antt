@@ -5,3 +5,5 @@ pub mod Walks
 pub mod Joined
 pub mod Told
 pub mod StepLaws
+pub mod Laid
+pub mod Dealt
