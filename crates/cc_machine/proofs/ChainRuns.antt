@@ -12,6 +12,7 @@ use Rattle.cc_machine.specs.declared.setting.Served.TheVariants as served
 use Rattle.cc_machine.specs.declared.word.Chain.{Chain}
 use Rattle.cc_machine.specs.declared.word.Chain.TheVariants.{Send, Take}
 use Rattle.cc_machine.specs.declared.place.Stand.{Stand}
+use Rattle.cc_machine.specs.declared.place.Place.{Place}
 use Rattle.cc_machine.specs.declared.place.Place.TheVariants as place
 use Rattle.cc_machine.specs.Codes.{ret_of}
 use Rattle.cc_machine.specs.State.{State, chain_of, pass_at}
@@ -19,16 +20,17 @@ use Rattle.cc_machine.specs.Step.{stepped_from}
 use Rattle.cc_machine.specs.Run.{Move, Begin, Step, Take as Taken, IsRun, reached, passes}
 use Rattle.cc_machine.specs.Machine.{IsLastAnswer}
 use Rattle.cc_machine.specs.Safe.{IsStepSafe, IsReady}
+use Rattle.cc_machine.specs.ChainLaws.{IsEntering, IsLastPending, CallsWaitForTheirLink}
 use Rattle.cc_machine.proofs.Ranges.{InRange, in_range}
 use Rattle.cc_machine.proofs.Counted.{Counts, senders_only}
 use Rattle.cc_machine.proofs.CounterRuns.{counter_holds}
-use Rattle.cc_machine.proofs.Chains.View.{pass_on}
+use Rattle.cc_machine.proofs.Chains.View.{pass_on, post_at, post_of}
 use Rattle.cc_machine.proofs.Chains.Registers.{IsChain, calls_on, answers_on, call_at, answer_at, IsCall}
 use Rattle.cc_machine.proofs.Chains.Others.{IsOn, sender_chain}
 use Rattle.cc_machine.proofs.Chains.Safe as safe
 use Rattle.cc_machine.proofs.Chains.Safe.{IsService}
 use Rattle.cc_machine.proofs.Chains.Serving.{Chains, chains_hold, chain_is, on_chain}
-use Rattle.cc_machine.proofs.Chains.Told.{named, name_is, NotOther, HasTold, told_on}
+use Rattle.cc_machine.proofs.Chains.Told.{named, name_is, NotOther, HasTold, told_on, open_on}
 use Rattle.cc_machine.proofs.Chains.Decoded.{FitsIn, reads_back}
 
 -- a counter has no calls of receivers
@@ -75,6 +77,23 @@ has_told c some moves run p less told e =
     subst (λ (z : ℕ). HasTold c (chain_of c.config p) (reached c moves).history (pass_at c.config z) told) (sym on.pass_is)
     (told_on c (chain_of c.config p) (reached c moves) (k.holds (chain_of c.config p) ok) (not_other c some moves run (chain_of c.config p)) on.number on.inside told
     (ap (λ (z : ℕ). ((reached c moves).stand z).place) (sym on.pass_is) ∙ e))
+
+entering_rank : (x : Chain) (own : ℕ) (at : Place) → IsEntering at → (post_of x own at).rank ≡ 3
+entering_rank x own (place.WriteTag put request) a = refl
+entering_rank x own (place.WriteBody put body) a = refl
+entering_rank x own (place.Link put) a = refl
+entering_rank x own _ a = absurd a
+
+-- a call that has exchanged and isn't linked is pending
+pub calls_wait : CallsWaitForTheirLink
+calls_wait c checked moves run p less entering =
+    let r : InRange c.config = in_range c.config checked in
+    let k : Chains c (reached c moves) = chains_hold c r.bound.0 moves run in
+    let on : IsOn c (chain_of c.config p) p = on_chain c p less in
+    let rank : (post_at (chain_of c.config p) ((reached c moves).stand (pass_on c (chain_of c.config p) on.number))).rank ≡ 3 =
+    ap (λ (z : ℕ). (post_at (chain_of c.config p) ((reached c moves).stand z)).rank) (sym on.pass_is) ∙ entering_rank (chain_of c.config p) ((reached c moves).stand p).node ((reached c moves).stand p).place entering in
+    let ends = open_on c (chain_of c.config p) (reached c moves) (k.holds (chain_of c.config p) (chain_is c p less)) (not_other c r.bound.0 moves run (chain_of c.config p)) on.number on.inside rank in
+    subst (λ (z : ℕ). IsLastPending (pass_at c.config z) (reached c moves).history) (sym on.pass_is) record { before = ends.before; entry = _; last = ends.last }
 
 -- a call is told its answer in the history, where the numbers of the answers fit their words
 pub last_answer : (c : Setting) → 0 < c.config.bound → (moves : List Move) → IsRun c moves → (p : ℕ) → p < passes c → (told : Answer) → ((reached c moves).stand p).place ≡ place.Finished told →

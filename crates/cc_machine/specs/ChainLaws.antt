@@ -1,5 +1,5 @@
 -- What holds of each chain after every run, whatever is served; and of a counter.
-use Rattle.std.specs.Prelude.{◌≡◌, ◌≢◌, ℕ, ◌+◌, ◌<◌, ◌≤◌, List, [], ◌∷◌, ◌++◌, length, Option, Some, Ok}
+use Rattle.std.specs.Prelude.{◌≡◌, ◌≢◌, ℕ, ◌+◌, ◌<◌, ◌≤◌, List, [], ◌∷◌, ◌++◌, length, Option, Some, None, Ok}
 use Rattle.std.specs.List.{slice_get}
 use Rattle.cc_model.specs.Record.{Record}
 use Rattle.cc_model.specs.Items.{calls_of}
@@ -25,7 +25,7 @@ use Rattle.cc_machine.specs.declared.place.Place.TheVariants as place
 use Rattle.cc_machine.specs.Codes.{pack, request_in, ret_of}
 use Rattle.cc_machine.specs.State.{State, chain_of, pass_at, word_of}
 use Rattle.cc_machine.specs.Columns.{operation}
-use Rattle.cc_machine.specs.Run.{Move, IsRun, reached, passes}
+use Rattle.cc_machine.specs.Run.{Move, IsRun, reached, passes, history_of}
 use Rattle.cc_machine.specs.Safe.{WhileUndecided, IsReady}
 use Rattle.cc_machine.specs.Sides.{passes_on, calls_on, answers_on, FitsIn}
 
@@ -172,6 +172,24 @@ pub record ChainLaws (c : Setting) (s : State) : Type 0 where
 -- they hold after every run
 abbrev pub ChainLawsOfRuns : Type 0
 ChainLawsOfRuns = (c : Setting) → config_fault c.config ≡ Ok tt → (moves : List Move) → IsRun c moves → ChainLaws c (reached c moves)
+
+-- its call has exchanged, and isn't linked to the next node yet
+abbrev pub IsEntering : Place → Type 0
+IsEntering (place.WriteTag put request) = Unit {0}
+IsEntering (place.WriteBody put body) = Unit {0}
+IsEntering (place.Link put) = Unit {0}
+IsEntering _ = ⊥
+
+-- the last call of a pass in a history has no answer
+pub record IsLastPending (who : Pass) (h : Record) : Type 0 where
+  pub before : List (Entry × Option Answer)
+  pub entry : Entry
+  pub last : calls_of who h ≡ before ++ (entry, None) ∷ []
+
+-- after every run, a call that has exchanged and isn't linked is pending
+abbrev pub CallsWaitForTheirLink : Type 0
+CallsWaitForTheirLink = (c : Setting) → config_fault c.config ≡ Ok tt → (moves : List Move) → IsRun c moves →
+    (p : ℕ) → p < passes c → IsEntering ((reached c moves).stand p).place → IsLastPending (pass_at c.config p) (history_of c moves)
 
 -- the laws of a counter: it hands out the numbers from 0 on, in the order of the exchanges
 pub record CounterLaws (c : Setting) (s : State) : Type 0 where

@@ -25,8 +25,9 @@ use Rattle.cc_machine.specs.declared.place.Sending.TheVariants as sending
 use Rattle.cc_machine.specs.declared.place.Taking.{Taking}
 use Rattle.cc_machine.specs.declared.place.Taking.TheVariants as taking
 use Rattle.cc_machine.specs.Words.{groups}
-use Rattle.cc_machine.specs.State.{State}
+use Rattle.cc_machine.specs.State.{State, pass_at}
 use Rattle.cc_machine.specs.Safe.{IsReady}
+use Rattle.cc_machine.specs.Machine.{IsLastAnswer}
 use Rattle.cc_machine.specs.Run.{Move, Begin, Step, Take, passes, reached, history_of, IsRun}
 
 -- of every run of such a machine, whose configuration was checked
@@ -184,6 +185,12 @@ NumbersStayWithin = AfterEveryRun (λ c moves. IsWithin c.config (history_of c m
 -- each step finds its words, no number leaves its range, and an answer is decided of a call that has none
 abbrev pub StepsAreReady : Type 0
 StepsAreReady = AfterEveryRun (λ c moves. (p : ℕ) → p < passes c → IsReady c (reached c moves) p)
+
+-- ---- answers
+
+-- what a call has read as its answer is the answer of its pass's last call in the history
+abbrev pub AnswersAreTold : Type 0
+AnswersAreTold = AfterEveryRun (λ c moves. (p : ℕ) (told : Answer) → p < passes c → ((reached c moves).stand p).place ≡ place.Finished told → IsLastAnswer (pass_at c.config p) (history_of c moves) told)
 
 -- ---- fronts of runs, whatever is served
 

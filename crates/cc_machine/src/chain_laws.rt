@@ -1,5 +1,5 @@
 ghost use Rattle.cc_machine.specs.CallsMade.{CallsOfRuns};
-ghost use Rattle.cc_machine.specs.ChainLaws.{ChainLawsOfRuns, CounterLawsOfRuns};
+ghost use Rattle.cc_machine.specs.ChainLaws.{ChainLawsOfRuns, CounterLawsOfRuns, CallsWaitForTheirLink};
 
 /// The laws of the combining chains (CC-Synch, Fatourou and Kallimanis, PPoPP 2012), after every run of every machine,
 /// whatever its chains serve: one pass of a chain combines at most, and answers at most `bound` calls before it hands
@@ -20,4 +20,10 @@ pub fn laws_of_counters()
 /// each once and in the order of their begins, with what was handed in and known at the begin.
 pub fn laws_of_calls()
     ensures { CallsOfRuns }
+{}
+
+/// A call that has exchanged and whose pass stands before its link is pending, after every run: it is its pass's last
+/// call in the history, and has no answer there. A combiner reaches a call only over the link to the next node.
+pub fn calls_wait_for_their_link()
+    ensures { CallsWaitForTheirLink }
 {}

@@ -32,13 +32,14 @@ mod setting;
 mod take;
 mod word;
 
-pub use chain_laws::{laws_of_calls, laws_of_chains, laws_of_counters};
+pub use chain_laws::{calls_wait_for_their_link, laws_of_calls, laws_of_chains, laws_of_counters};
 pub use counter::CounterMachine;
 pub use fault::{BeginFault, OpenFault};
 pub use list_laws::{
-    busy_nodes_are_items, fronts_of_runs_begin, histories_are_fifo, histories_are_legal,
-    links_name_nodes, nodes_are_prepared_alone, nodes_are_reset_after_their_take,
-    numbers_stay_within, prepared_node_is_busy, scans_are_short, steps_are_ready,
+    answers_are_told, busy_nodes_are_items, fronts_of_runs_begin, histories_are_fifo,
+    histories_are_legal, links_name_nodes, nodes_are_prepared_alone,
+    nodes_are_reset_after_their_take, numbers_stay_within, prepared_node_is_busy, scans_are_short,
+    steps_are_ready,
 };
 pub use machine::Machine;
 pub use place::{

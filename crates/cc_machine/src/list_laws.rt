@@ -1,4 +1,4 @@
-ghost use Rattle.cc_machine.specs.MachineLaws.{HistoryIsLegal, HistoryIsFifo, BusyNodesAreItems, PreparedNodeIsBusy, ResetAfterTheTake, PreparedAlone, LinksNameNodes, ScansAreShort, NumbersStayWithin, StepsAreReady, FrontsBegin};
+ghost use Rattle.cc_machine.specs.MachineLaws.{HistoryIsLegal, HistoryIsFifo, BusyNodesAreItems, PreparedNodeIsBusy, ResetAfterTheTake, PreparedAlone, LinksNameNodes, ScansAreShort, NumbersStayWithin, StepsAreReady, AnswersAreTold, FrontsBegin};
 
 /// After every run the history is lawful: each answer is one that its call may get, and the items handed out are those
 /// accepted, in their order, with at most `capacity` of them between.
@@ -52,6 +52,11 @@ pub fn numbers_stay_within()
 /// Each step that a pass can do after any run finds its words, and no number leaves its range.
 pub fn steps_are_ready()
     ensures { StepsAreReady }
+{}
+
+/// What a call has read as its answer, after any run, is the answer of its pass's last call in the history.
+pub fn answers_are_told()
+    ensures { AnswersAreTold }
 {}
 
 /// A front of a run is a run, and its history begins that of the whole run: calls and answers are only added.

@@ -1,6 +1,6 @@
 -- What a call reads as its answer is its answer in the history.
-use Rattle.std.proofs.Common.{◌≡◌, ◌≢◌, ℕ, ◌+◌, ◌-◌, ◌<◌, Bool, true, false, cond, refl, ap, sym, ◌∙◌, subst, arith, Option, Some, List, [], ◌∷◌, ◌++◌, length}
-use Rattle.std.proofs.lemmas.Bool.{lt-ltb, le-ltb, eq-eqb, ne_eqb}
+use Rattle.std.proofs.Common.{◌≡◌, ◌≢◌, ℕ, zero, suc, ◌+◌, ◌-◌, ◌<◌, ◌≤◌, Bool, true, false, cond, refl, ap, sym, ◌∙◌, subst, arith, inl, inr, Option, Some, None, List, [], ◌∷◌, ◌++◌, length}
+use Rattle.std.proofs.lemmas.Bool.{cases_eq, lt-ltb, le-ltb, eq-eqb, ne_eqb}
 use Rattle.std.proofs.lemmas.List.{append-nil}
 use Rattle.std.proofs.lemmas.List.Elements.{filter-append}
 use Rattle.cc_model.specs.Record.{Record}
@@ -16,10 +16,10 @@ use Rattle.cc_machine.specs.declared.place.Place.{Place}
 use Rattle.cc_machine.specs.declared.place.Place.TheVariants as place
 use Rattle.cc_machine.specs.State.{State, pass_at}
 use Rattle.cc_machine.specs.Run.{IsFinished}
-use Rattle.cc_machine.proofs.Chains.View.{members, pass_on}
+use Rattle.cc_machine.proofs.Chains.View.{members, pass_on, post_at}
 use Rattle.cc_machine.proofs.Chains.Registers.{calls_on, answers_on, call_at, answer_at, IsCall, IsAnswer, HasRead, reads}
 use Rattle.cc_machine.proofs.Chains.Ties.{Holds}
-use Rattle.cc_machine.proofs.Chains.Last.{chosen, chosen_none, Ends, chosen_last}
+use Rattle.cc_machine.proofs.Chains.Last.{chosen, chosen_none, Ends, chosen_last, chosen_open}
 
 -- the name of a pass of the chain
 abbrev pub named : Chain → ℕ → Pass
@@ -69,6 +69,36 @@ pub record HasAnswer (c : Setting) (x : Chain) (h : Record) (who : Pass) (number
   pub last : calls_of who h ≡ before ++ (call_at (calls_on x h) number, Some (answer_at (answers_on x h) number)) ∷ []
   pub sided : IsAnswer c.served x (answer_at (answers_on x h) number)
 
+-- a call of pass n of the chain that is its last one
+module _ (c : Setting) (x : Chain) (s : State) (w : Holds c x s) (none : NotOther x s.history) (n : ℕ) (inside : n < members c x) (called : w.ghost.at n < length (calls_on x s.history)) (its_is : w.ghost.pass_of (w.ghost.at n) ≡ n) where
+  pass_of_call : (k : ℕ) → k < length (calls_on x s.history) → (call_at (calls_on x s.history) k).pass ≡ named x (w.ghost.pass_of k)
+  pass_of_call k less =
+      let below : k < w.ghost.calls = omega (arith, w.ties.calls_are) in
+      let is : IsCall c x (w.ghost.pass_of k) (call_at (calls_on x s.history) k) = w.ties.entered k below in is.pass_is ∙ name_is c x (w.ghost.pass_of k) (w.ties.pass_in k below)
+
+  its : is_pass (named x n) (call_at (calls_on x s.history) (w.ghost.at n)).pass ≡ true
+  its = ap (λ (z : Pass). is_pass (named x n) z) (pass_of_call (w.ghost.at n) called ∙ ap (λ (z : ℕ). named x z) its_is) ∙ same_name x n
+
+  none_later : (j : ℕ) → w.ghost.at n < j → j < length (calls_on x s.history) → is_pass (named x n) (call_at (calls_on x s.history) j).pass ≡ false
+  none_later j after less =
+      ap (λ (z : Pass). is_pass (named x n) z) (pass_of_call j less) ∙ other_name x n (w.ghost.pass_of j) (λ same. w.inv.passes.at_last n j after (omega (arith, w.ties.calls_are)) same)
+
+  abbrev pub its_calls : List (Entry × Option Answer)
+  its_calls = chosen (λ (z : Entry). is_pass (named x n) z.pass) (calls_on x s.history) (answers_on x s.history)
+
+  calls_are : calls_of (pass_at c.config (pass_on c x n)) s.history ≡ its_calls
+  calls_are = ap (λ (z : Pass). calls_of z s.history) (name_is c x n inside) ∙ calls_one x s.history n none
+
+  pub ends_with : (told : Option Answer) → Ends its_calls (call_at (calls_on x s.history) (w.ghost.at n)) told → Ends (calls_of (pass_at c.config (pass_on c x n)) s.history) (call_at (calls_on x s.history) (w.ghost.at n)) told
+  ends_with told ends = record { before = ends.before; last = calls_are ∙ ends.last }
+
+  pub ends_answered : w.ghost.at n < length (answers_on x s.history) → Ends (calls_of (pass_at c.config (pass_on c x n)) s.history) (call_at (calls_on x s.history) (w.ghost.at n)) (Some (answer_at (answers_on x s.history) (w.ghost.at n)))
+  ends_answered answered =
+      ends_with (Some (answer_at (answers_on x s.history) (w.ghost.at n))) (chosen_last (λ (z : Entry). is_pass (named x n) z.pass) (calls_on x s.history) (answers_on x s.history) (w.ghost.at n) called answered its none_later)
+
+  pub ends_open : length (answers_on x s.history) ≤ w.ghost.at n → Ends (calls_of (pass_at c.config (pass_on c x n)) s.history) (call_at (calls_on x s.history) (w.ghost.at n)) None
+  ends_open pending = ends_with None (chosen_open (λ (z : Entry). is_pass (named x n) z.pass) (calls_on x s.history) (answers_on x s.history) (w.ghost.at n) called pending its none_later)
+
 module _ (c : Setting) (x : Chain) (s : State) (w : Holds c x s) (none : NotOther x s.history) (n : ℕ) (inside : n < members c x) (marked : w.ghost.at n < w.ghost.marked) (its_is : w.ghost.pass_of (w.ghost.at n) ≡ n) where
   answered_it : w.ghost.at n < length (answers_on x s.history)
   answered_it = omega (arith, marked, w.ties.answers_are, w.inv.calls.in_order)
@@ -76,28 +106,38 @@ module _ (c : Setting) (x : Chain) (s : State) (w : Holds c x s) (none : NotOthe
   called_it : w.ghost.at n < length (calls_on x s.history)
   called_it = omega (arith, marked, w.ties.calls_are, w.inv.calls.in_order, w.inv.calls.in_order2)
 
-  pass_of_call : (k : ℕ) → k < length (calls_on x s.history) → (call_at (calls_on x s.history) k).pass ≡ named x (w.ghost.pass_of k)
-  pass_of_call k less =
-      let below : k < w.ghost.calls = omega (arith, w.ties.calls_are) in
-      let is : IsCall c x (w.ghost.pass_of k) (call_at (calls_on x s.history) k) = w.ties.entered k below in is.pass_is ∙ name_is c x (w.ghost.pass_of k) (w.ties.pass_in k below)
-
-  its : is_pass (named x n) (call_at (calls_on x s.history) (w.ghost.at n)).pass ≡ true
-  its = ap (λ (z : Pass). is_pass (named x n) z) (pass_of_call (w.ghost.at n) called_it ∙ ap (λ (z : ℕ). named x z) its_is) ∙ same_name x n
-
-  none_later : (j : ℕ) → w.ghost.at n < j → j < length (calls_on x s.history) → is_pass (named x n) (call_at (calls_on x s.history) j).pass ≡ false
-  none_later j after less =
-      ap (λ (z : Pass). is_pass (named x n) z) (pass_of_call j less) ∙ other_name x n (w.ghost.pass_of j) (λ same. w.inv.passes.at_last n j after (omega (arith, w.ties.calls_are)) same)
-
-  ends : Ends (λ (z : Entry). is_pass (named x n) z.pass) (calls_on x s.history) (answers_on x s.history) (call_at (calls_on x s.history) (w.ghost.at n)) (answer_at (answers_on x s.history) (w.ghost.at n))
-  ends = chosen_last (λ (z : Entry). is_pass (named x n) z.pass) (calls_on x s.history) (answers_on x s.history) (w.ghost.at n) called_it answered_it its none_later
-
   pub answer_on : HasAnswer c x s.history (pass_at c.config (pass_on c x n)) (w.ghost.at n)
-  answer_on = record {
-    within = answered_it;
-    before = ends.before;
-    last = ap (λ (z : Pass). calls_of z s.history) (name_is c x n inside) ∙ calls_one x s.history n none ∙ ends.last;
-    sided = w.ties.answered (w.ghost.at n) (omega (arith, answered_it, w.ties.answers_are));
-  }
+  answer_on =
+      let ends : Ends (calls_of (pass_at c.config (pass_on c x n)) s.history) (call_at (calls_on x s.history) (w.ghost.at n)) (Some (answer_at (answers_on x s.history) (w.ghost.at n))) =
+      ends_answered c x s w none n inside called_it its_is answered_it in
+      record { within = answered_it; before = ends.before; last = ends.last; sided = w.ties.answered (w.ghost.at n) (omega (arith, answered_it, w.ties.answers_are)) }
+
+-- a call that exchanged and isn't linked yet is its pass's last, and has no answer
+module _ (c : Setting) (x : Chain) (s : State) (w : Holds c x s) (none : NotOther x s.history) (n : ℕ) (inside : n < members c x) (entering : (post_at x (s.stand (pass_on c x n))).rank ≡ 3) where
+  its_call : w.ghost.pass_of (w.ghost.at n) ≡ n
+  its_call = w.inv.passes.at_is n inside (omega (arith, entering))
+
+  -- where an answer is decided and not marked, its call is linked
+  not_decided : (p : ℕ) → w.ghost.server ≡ p + 1 → (post_at x (s.stand (pass_on c x p))).stage ≡ 2 → w.ghost.at n ≢ w.ghost.marked
+  not_decided p served stage same =
+      let linked : 4 ≤ (post_at x (s.stand (pass_on c x (w.ghost.pass_of w.ghost.marked)))).rank = w.inv.serving.serving_linked p served (omega (arith, stage)) (omega (arith, stage)) in
+      let who : w.ghost.pass_of w.ghost.marked ≡ n = ap w.ghost.pass_of (sym same) ∙ its_call in
+      omega (arith, entering, subst (λ (z : ℕ). 4 ≤ (post_at x (s.stand (pass_on c x z))).rank) who linked)
+
+  open_by : (server : ℕ) → w.ghost.server ≡ server → w.ghost.answers ≤ w.ghost.at n
+  open_by zero free = omega (arith, w.inv.serving.free_answers free, w.inv.passes.early n inside entering)
+  open_by (suc p) serves =
+      let served : w.ghost.server ≡ p + 1 = omega (arith, serves) in
+      let low : w.ghost.marked ≤ w.ghost.at n = w.inv.passes.early n inside entering in
+      elim (cases_eq (post_at x (s.stand (pass_on c x p))).stage 2) [
+        | inl is ↦ let ne : w.ghost.at n ≢ w.ghost.marked = not_decided p served is in omega (arith, low, ne, w.inv.serving.decided p served is)
+        | inr ne ↦ omega (arith, low, w.inv.serving.undecided p served ne)
+      ]
+
+  pub open_on : Ends (calls_of (pass_at c.config (pass_on c x n)) s.history) (call_at (calls_on x s.history) (w.ghost.at n)) None
+  open_on =
+      let called : w.ghost.at n < length (calls_on x s.history) = omega (arith, w.ties.calls_are, w.inv.passes.at_in n inside (omega (arith, entering))) in
+      ends_open c x s w none n inside called its_call (omega (arith, w.ties.answers_are, open_by w.ghost.server refl))
 
 -- and this is what is read of it
 pub record HasTold (c : Setting) (x : Chain) (h : Record) (who : Pass) (told : Answer) : Type 0 where

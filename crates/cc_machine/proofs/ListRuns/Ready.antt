@@ -23,7 +23,7 @@ use Rattle.cc_machine.specs.State.{State, chain_of, pass_at}
 use Rattle.cc_machine.specs.Safe.{IsSafe, IsReady}
 use Rattle.cc_machine.specs.Run.{Move, passes, reached, IsRun}
 use Rattle.cc_machine.specs.Machine.{IsLastAnswer}
-use Rattle.cc_machine.specs.MachineLaws.{AnswerWithin, IsWithin, StepsAreReady}
+use Rattle.cc_machine.specs.MachineLaws.{AnswerWithin, IsWithin, StepsAreReady, AnswersAreTold}
 use Rattle.cc_machine.proofs.Ranges.{InRange, in_range}
 use Rattle.cc_machine.proofs.Chains.View.{members, pass_on}
 use Rattle.cc_machine.proofs.Chains.Registers.{IsChain, answers_on, answer_at, no_answer}
@@ -120,3 +120,6 @@ list_answer c serves checked moves run p less told is =
 
 pub list_steps_ready : StepsAreReady
 list_steps_ready c moves serves checked run p less = list_ready c serves checked moves run p less
+
+pub list_answers_told : AnswersAreTold
+list_answers_told c moves serves checked run p told less is = list_answer c serves checked moves run p less told is
