@@ -1,0 +1,3 @@
+pub mod Headline
+pub mod AnswerKinds
+pub mod Seated
