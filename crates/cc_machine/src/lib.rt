@@ -27,6 +27,7 @@ mod moves;
 mod open;
 mod place;
 mod run;
+mod run_laws;
 mod send;
 mod setting;
 mod take;
@@ -47,5 +48,6 @@ pub use place::{
     Counting, Event, Job, Kind, Parcel, Place, Request, Round, Sending, Stand, Taking,
 };
 pub use run::Move;
+pub use run_laws::{fronts_know_no_more, others_leave_a_pass};
 pub use setting::{Served, Setting};
 pub use word::{Chain, ItemField, NodeField, Object, Word};

@@ -1,5 +1,4 @@
 pub mod Runs
-pub mod KnownMore
 pub mod Keeps
 pub mod Walks
 pub mod Joined
