@@ -19,6 +19,7 @@ use cc_machine::{Chain, ItemField, NodeField, Object, Word};
 use cc_model::Call;
 
 /// Stores 0 into next of the own node: a call begins.
+#[inline(always)]
 pub fn reset_next(words: &Words, seat: &mut PassSeat, chain: Chain, node: u64, call: Call)
     requires here { IsOf words.now seat.old }
     requires at { CanBegin seat.old call (Store (Node chain node Next) 0) }
@@ -37,6 +38,7 @@ pub fn reset_next(words: &Words, seat: &mut PassSeat, chain: Chain, node: u64, c
 
 /// Stores 1 into the state of the own node.
 #[tactic(auto, using(crate::proofs::Walks::can_do, crate::proofs::StepLaws::owned))]
+#[inline(always)]
 pub fn reset_state(words: &Words, seat: &mut PassSeat, chain: Chain, node: u64)
     requires here { IsOf words.now seat.old }
     requires at { Steps seat.old kind.ResetState (Store (Node chain node State) 1) }
@@ -50,6 +52,7 @@ pub fn reset_state(words: &Words, seat: &mut PassSeat, chain: Chain, node: u64)
 
 /// Swaps the tail of the chain with the link of the own node.
 #[tactic(auto, using(crate::proofs::Walks::can_do))]
+#[inline(always)]
 pub fn exchange_tail(words: &Words, seat: &mut PassSeat, chain: Chain, link: u64) -> u64
     requires here { IsOf words.now seat.old }
     requires at { Steps seat.old kind.Exchange (Swap (Tail chain) link) }
@@ -62,6 +65,7 @@ pub fn exchange_tail(words: &Words, seat: &mut PassSeat, chain: Chain, link: u64
 
 /// Stores a request word of the current node.
 #[tactic(auto, using(crate::proofs::Walks::can_do))]
+#[inline(always)]
 pub fn write_request(words: &Words, seat: &mut PassSeat, node: u64, field: NodeField, value: u64)
     requires here { IsOf words.now seat.old }
     requires at { Steps seat.old kind.WriteRequest (Store (Node Send node field) value) }
@@ -74,6 +78,7 @@ pub fn write_request(words: &Words, seat: &mut PassSeat, node: u64, field: NodeF
 
 /// Stores the next link of the current node.
 #[tactic(auto, using(crate::proofs::Walks::can_do))]
+#[inline(always)]
 pub fn link_next(words: &Words, seat: &mut PassSeat, chain: Chain, node: u64, link: u64)
     requires here { IsOf words.now seat.old }
     requires at { Steps seat.old kind.Link (Store (Node chain node Next) link) }
@@ -87,6 +92,7 @@ pub fn link_next(words: &Words, seat: &mut PassSeat, chain: Chain, node: u64, li
 
 /// Loads the state of the current node.
 #[tactic(auto, using(crate::proofs::Walks::can_do))]
+#[inline(always)]
 pub fn read_state(words: &Words, seat: &mut PassSeat, chain: Chain, node: u64) -> u64
     requires here { IsOf words.now seat.old }
     requires at { Steps seat.old kind.ReadState (Load (Node chain node State)) }
@@ -99,6 +105,7 @@ pub fn read_state(words: &Words, seat: &mut PassSeat, chain: Chain, node: u64) -
 
 /// Loads the next link of a chain's node.
 #[tactic(auto, using(crate::proofs::Walks::can_do))]
+#[inline(always)]
 pub fn read_next(words: &Words, seat: &mut PassSeat, chain: Chain, node: u64) -> u64
     requires here { IsOf words.now seat.old }
     requires at { Steps seat.old kind.ReadNext (Load (Node chain node Next)) }
@@ -111,6 +118,7 @@ pub fn read_next(words: &Words, seat: &mut PassSeat, chain: Chain, node: u64) ->
 
 /// Loads a request word.
 #[tactic(auto, using(crate::proofs::Walks::can_do))]
+#[inline(always)]
 pub fn read_request(words: &Words, seat: &mut PassSeat, node: u64, field: NodeField) -> u64
     requires here { IsOf words.now seat.old }
     requires at { Steps seat.old kind.ReadRequest (Load (Node Send node field)) }
@@ -123,6 +131,7 @@ pub fn read_request(words: &Words, seat: &mut PassSeat, node: u64, field: NodeFi
 
 /// Loads an object word.
 #[tactic(auto, using(crate::proofs::Walks::can_do))]
+#[inline(always)]
 pub fn read_object(words: &Words, seat: &mut PassSeat, object: Object) -> u64
     requires here { IsOf words.now seat.old }
     requires at { Steps seat.old kind.ReadObject (Load (word.Object object)) }
@@ -135,6 +144,7 @@ pub fn read_object(words: &Words, seat: &mut PassSeat, object: Object) -> u64
 
 /// Stores an object word.
 #[tactic(auto, using(crate::proofs::Walks::can_do))]
+#[inline(always)]
 pub fn write_object(words: &Words, seat: &mut PassSeat, object: Object, value: u64)
     requires here { IsOf words.now seat.old }
     requires at { Steps seat.old kind.WriteObject (Store (word.Object object) value) }
@@ -147,6 +157,7 @@ pub fn write_object(words: &Words, seat: &mut PassSeat, object: Object, value: u
 
 /// Stores an answer word.
 #[tactic(auto, using(crate::proofs::Walks::can_do))]
+#[inline(always)]
 pub fn write_answer(
     words: &Words,
     seat: &mut PassSeat,
@@ -166,6 +177,7 @@ pub fn write_answer(
 
 /// Stores 2 into the state of a node that was served.
 #[tactic(auto, using(crate::proofs::Walks::can_do))]
+#[inline(always)]
 pub fn mark_done(words: &Words, seat: &mut PassSeat, chain: Chain, node: u64)
     requires here { IsOf words.now seat.old }
     requires at { Steps seat.old kind.MarkDone (Store (Node chain node State) 2) }
@@ -178,6 +190,7 @@ pub fn mark_done(words: &Words, seat: &mut PassSeat, chain: Chain, node: u64)
 
 /// Stores 0 into the state of the node where the combiner stopped.
 #[tactic(auto, using(crate::proofs::Walks::can_do))]
+#[inline(always)]
 pub fn hand_over(words: &Words, seat: &mut PassSeat, chain: Chain, node: u64)
     requires here { IsOf words.now seat.old }
     requires at { Steps seat.old kind.HandOver (Store (Node chain node State) 0) }
@@ -190,6 +203,7 @@ pub fn hand_over(words: &Words, seat: &mut PassSeat, chain: Chain, node: u64)
 
 /// Loads an answer word of the current node. Where it is the last one, the answer is taken.
 #[tactic(auto, using(crate::proofs::Walks::can_do, crate::proofs::Told::told_so))]
+#[inline(always)]
 pub fn read_answer(
     words: &Words,
     seat: &mut PassSeat,
@@ -209,6 +223,7 @@ pub fn read_answer(
 
 /// Loads how many groups have passed a list node.
 #[tactic(auto, using(crate::proofs::Walks::can_do))]
+#[inline(always)]
 pub fn read_passed(words: &Words, seat: &mut PassSeat, node: u64) -> u64
     requires here { IsOf words.now seat.old }
     requires at { Steps seat.old kind.ReadPassed (Load (Item node item.Passed)) }
@@ -221,6 +236,7 @@ pub fn read_passed(words: &Words, seat: &mut PassSeat, node: u64) -> u64
 
 /// Stores 0 into that count, or into the next link, of a node found free.
 #[tactic(auto, using(crate::proofs::Walks::can_do))]
+#[inline(always)]
 pub fn reset_list_node(words: &Words, seat: &mut PassSeat, node: u64, field: ItemField)
     requires here { IsOf words.now seat.old }
     requires at { Steps seat.old kind.ResetListNode (Store (Item node field) 0) }
@@ -234,6 +250,7 @@ pub fn reset_list_node(words: &Words, seat: &mut PassSeat, node: u64, field: Ite
 
 /// Stores the tag or the body of an item.
 #[tactic(auto, using(crate::proofs::Walks::can_do))]
+#[inline(always)]
 pub fn write_item(words: &Words, seat: &mut PassSeat, node: u64, field: ItemField, value: u64)
     requires here { IsOf words.now seat.old }
     requires at { Steps seat.old kind.WriteItem (Store (Item node field) value) }
@@ -246,6 +263,7 @@ pub fn write_item(words: &Words, seat: &mut PassSeat, node: u64, field: ItemFiel
 
 /// Stores the next link of the last list node.
 #[tactic(auto, using(crate::proofs::Walks::can_do))]
+#[inline(always)]
 pub fn link_last(words: &Words, seat: &mut PassSeat, last: u64, link: u64)
     requires here { IsOf words.now seat.old }
     requires at { Steps seat.old kind.LinkLast (Store (Item last item.Next) link) }
@@ -258,6 +276,7 @@ pub fn link_last(words: &Words, seat: &mut PassSeat, last: u64, link: u64)
 
 /// Loads the next link of the dummy.
 #[tactic(auto, using(crate::proofs::Walks::can_do))]
+#[inline(always)]
 pub fn read_dummy_next(words: &Words, seat: &mut PassSeat, dummy: u64) -> u64
     requires here { IsOf words.now seat.old }
     requires at { Steps seat.old kind.ReadDummyNext (Load (Item dummy item.Next)) }
@@ -270,6 +289,7 @@ pub fn read_dummy_next(words: &Words, seat: &mut PassSeat, dummy: u64) -> u64
 
 /// Loads the tag or the body of the node after the dummy.
 #[tactic(auto, using(crate::proofs::Walks::can_do))]
+#[inline(always)]
 pub fn read_item(words: &Words, seat: &mut PassSeat, node: u64, field: ItemField) -> u64
     requires here { IsOf words.now seat.old }
     requires at { Steps seat.old kind.ReadItem (Load (Item node field)) }
@@ -282,6 +302,7 @@ pub fn read_item(words: &Words, seat: &mut PassSeat, node: u64, field: ItemField
 
 /// Adds 1 to the count of groups that have passed the old dummy.
 #[tactic(auto, using(crate::proofs::Walks::can_do))]
+#[inline(always)]
 pub fn add_passed(words: &Words, seat: &mut PassSeat, dummy: u64) -> u64
     requires here { IsOf words.now seat.old }
     requires at { Steps seat.old kind.AddPassed (Add (Item dummy item.Passed) 1) }
