@@ -19,6 +19,7 @@ use cc_machine::{Chain, ItemField, NodeField, Object, Word};
 use cc_model::Call;
 
 /// Stores 0 into next of the own node: a call begins.
+#[tactic(auto, using(crate::proofs::StepLaws::begun_owned))]
 #[inline(always)]
 pub fn reset_next(words: &Words, seat: &mut PassSeat, chain: Chain, node: u64, call: Call)
     requires here { IsOf words.now seat.old }
@@ -26,6 +27,7 @@ pub fn reset_next(words: &Words, seat: &mut PassSeat, chain: Chain, node: u64, c
     ensures walked { Walked seat.old (Some call) seat.new }
     ensures step { seat.new ≡ walked_to seat.old (Some call) 0 seat.new.seen }
     ensures later { Onward seat.old.seen seat.new.seen }
+    ensures own { HasOwned seat.old (Some call) chain node seat.new }
 {
     moves::begin(
         words,
@@ -45,7 +47,7 @@ pub fn reset_state(words: &Words, seat: &mut PassSeat, chain: Chain, node: u64)
     ensures walked { Walked seat.old None seat.new }
     ensures step { seat.new ≡ walked_to seat.old None 0 seat.new.seen }
     ensures later { Onward seat.old.seen seat.new.seen }
-    ensures own { HasOwned seat.old node seat.new }
+    ensures own { HasOwned seat.old None chain node seat.new }
 {
     moves::store(words, seat, Word::Node(chain, node, NodeField::State), 1);
 }
