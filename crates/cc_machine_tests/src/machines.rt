@@ -1,6 +1,5 @@
-use crate::fault::{BeginFault, OpenFault};
-use crate::machine::Machine;
-use crate::place::{Event, Kind};
+//! The queue as a machine, event by event.
+use cc_machine::{BeginFault, Event, Kind, Machine, OpenFault};
 use cc_model::{Answer, Call, Config, ConfigFault, Entry, Item, Pass, SendAnswer, TakeAnswer};
 use std::alloc::Global;
 

@@ -1,6 +1,5 @@
-use crate::counter::CounterMachine;
-use crate::fault::{BeginFault, OpenFault};
-use crate::place::{Event, Kind};
+//! The counter, event by event.
+use cc_machine::{BeginFault, CounterMachine, Event, Kind, OpenFault};
 use cc_model::{Config, ConfigFault};
 
 fn config(senders: u32, bound: u32, per_sender: u32) -> Config {
