@@ -1,7 +1,7 @@
 //! Plans by their bytes.
-use super::words;
-use crate::{INPUT_LIMIT, Plan, PlanFault, read_plan, read_receipts};
+use crate::words::words;
 use cc_model::{Call, Config, Pass};
+use cc_plan::{INPUT_LIMIT, Plan, PlanFault, read_plan, read_receipts};
 use std::alloc::{AllocError, Global};
 use std::test::Fail;
 

@@ -1,13 +1,9 @@
-//! The texts by their bytes.
-mod plans;
-mod receipts;
-mod reports;
-
-use crate::PlanFault;
+//! Faults as the tables of rows word them.
+use cc_plan::PlanFault;
 use std::alloc::{AllocError, Global};
 
 /// What a reading function answered, in the words of the tables of rows.
-fn words(alloc: Global, fault: Option<PlanFault>) -> Result<String, AllocError> {
+pub fn words(alloc: Global, fault: Option<PlanFault>) -> Result<String, AllocError> {
     match fault {
         None => String::from_str(alloc, "read"),
         Some(PlanFault::P1) => String::from_str(alloc, "P1"),

@@ -1,8 +1,8 @@
 //! Receipts by their bytes.
-use super::words;
-use crate::{Receipts, read_receipts};
+use crate::words::words;
 use cc_audit::{SendReceipt, TakeReceipt};
 use cc_model::Item;
+use cc_plan::{Receipts, read_receipts};
 use std::test::Fail;
 
 #[test]

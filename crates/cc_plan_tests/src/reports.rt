@@ -1,12 +1,12 @@
 //! Reports by their bytes.
 ghost use Rattle.std.specs.Prelude.{◌≡◌};
 
-use crate::{Report, write_report, write_verdict};
 use cc_audit::Verdict;
 use cc_model::{
     Answer, Call, CloseAnswer, DeviceFault, Entry, History, Item, Pass, SendAnswer, Sink,
     TakeAnswer,
 };
+use cc_plan::{Report, write_report, write_verdict};
 use std::alloc::{AllocError, Global};
 use std::test::Fail;
 
