@@ -4,14 +4,13 @@ use Rattle.std.proofs.lemmas.Grind.{common_steps}
 use Rattle.std.proofs.Math.Seq.{drop-cons}
 use Rattle.std.proofs.lemmas.List.{drop_all, length-replicate, get_or-replicate}
 use Rattle.cc_model.specs.declared.call.Pass.{Pass}
-use Rattle.cc_machine.specs.State.{State}
 use Rattle.cc_machine.specs.declared.setting.Served.TheVariants as served
 use Rattle.cc_machine.specs.declared.run.Move.{Move}
 use Rattle.cc_machine.specs.Run.{reached, passes}
 use Rattle.cc_machine.specs.Machine.{index_of, IsOpened}
 use Rattle.cc_machine.specs.View.{View, state_in}
 use Rattle.cc_plan.specs.Plan.{PlanValue}
-use Rattle.cc_play.specs.Schedule.{setting_of, entry, follow, run_of, history_of, IsAt}
+use Rattle.cc_play.specs.Schedule.{setting_of, entry, follow, run_of, IsAt}
 
 -- what a slice of a whole list is after a write
 pub written_back : (n : ℕ) (xs ys : List ℕ) → length ys ≡ length xs → n ≡ length xs → take n (ys ++ drop (length ys) xs) ≡ ys
