@@ -148,6 +148,9 @@ module _ (c : Setting) (r : InRange c.config) (s : State) (k : Chains c s) (x : 
   link_at : (at served : ℕ) → Here (place.ReadNext record { at = at; served = served }) → s.mem (Node x at node.Next) ≤ passes_on c x + 1
   link_at at served e = safe.link_in c x ok r s on.number own (s.stand p).begun on.inside (k.holds x ok) record { at = at; served = served } (there (place.ReadNext record { at = at; served = served }) e)
 
+  own_link_at : (at : ℕ) → Here (place.ReadNext record { at = at; served = 0 }) → 0 < s.mem (Node x at node.Next)
+  own_link_at at e = safe.own_link_in c x ok r s on.number own (s.stand p).begun on.inside (k.holds x ok) at (there (place.ReadNext record { at = at; served = 0 }) e)
+
   own_at : (at : Place) → Here at → own ≤ passes_on c x
   own_at at e = safe.own_in c x ok r s on.number own (s.stand p).begun on.inside (k.holds x ok) at (there at e)
 
@@ -336,6 +339,7 @@ module _ (c : Setting) (checked : config_fault c.config ≡ Ok tt) (moves : List
     own = λ p pn. own_at c r (reached c moves) k (x p) (chain_is c p pn) p (on_chain c p pn) (s.stand p).place refl;
     nodes = λ p pn. nodes_at c r (reached c moves) k (x p) (chain_is c p pn) p (on_chain c p pn) (s.stand p).place refl;
     link = λ p at served pn e. link_at c r (reached c moves) k (x p) (chain_is c p pn) p (on_chain c p pn) at served (λ i. record { begun = (s.stand p).begun; node = (s.stand p).node; place = e i });
+    own_link = λ p at pn e. own_link_at c r (reached c moves) k (x p) (chain_is c p pn) p (on_chain c p pn) at (λ i. record { begun = (s.stand p).begun; node = (s.stand p).node; place = e i });
     tail = λ p pn. tail_at c r (reached c moves) k (x p) (chain_is c p pn) p (on_chain c p pn);
     apart = λ p q pn qn same e. apart_on c (reached c moves) k (x p) (chain_is c p pn) p q (on_chain c p pn) (subst (λ (y : Chain). IsOn c y q) (sym same) (on_chain c q qn)) e;
     free = λ p pn. free_at c r (reached c moves) k (x p) (chain_is c p pn) p (on_chain c p pn);

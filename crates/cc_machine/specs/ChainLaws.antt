@@ -159,6 +159,8 @@ pub record ChainLaws (c : Setting) (s : State) : Type 0 where
   pub own : (p : ℕ) → p < passes c → (s.stand p).node ≤ passes_on c (chain_of c.config p)
   pub nodes : (p : ℕ) → p < passes c → AreNodes (passes_on c (chain_of c.config p)) (s.stand p).place
   pub link : (p at served : ℕ) → p < passes c → (s.stand p).place ≡ place.ReadNext record { at = at; served = served } → s.mem (Node (chain_of c.config p) at node.Next) ≤ passes_on c (chain_of c.config p) + 1
+  -- a combiner that has served nobody yet finds its own node linked, so it serves its own request first
+  pub own_link : (p at : ℕ) → p < passes c → (s.stand p).place ≡ place.ReadNext record { at = at; served = 0 } → 0 < s.mem (Node (chain_of c.config p) at node.Next)
   pub tail : (p : ℕ) → p < passes c → (0 < s.mem (Tail (chain_of c.config p))) × (s.mem (Tail (chain_of c.config p)) ≤ passes_on c (chain_of c.config p) + 1)
   -- no two passes of a chain own one node, and nobody owns the node in its tail: so a pass that resets its node resets nobody else's
   pub apart : (p q : ℕ) → p < passes c → q < passes c → chain_of c.config p ≡ chain_of c.config q → (s.stand p).node ≡ (s.stand q).node → p ≡ q

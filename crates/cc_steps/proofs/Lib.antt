@@ -4,6 +4,7 @@ pub mod Keeps
 pub mod Walks
 pub mod Joined
 pub mod Told
+pub mod Own
 pub mod StepLaws
 pub mod Laid
 pub mod Dealt

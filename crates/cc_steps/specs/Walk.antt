@@ -166,3 +166,16 @@ IsToldAt w _ = Unit {0}
 -- where the step leads, before an answer is taken
 abbrev pub leads_to : Walk → ℕ → Place
 leads_to v found = goes v.setting (chain_of v.setting.config v.number) v.stand.node v.stand.place found
+
+-- a combiner that has served nobody yet finds its own node linked
+abbrev pub LinksOwn : Place → ℕ → Type 0
+LinksOwn (place.ReadNext round) found = round.served ≡ 0 → 0 < found
+LinksOwn _ found = Unit {0}
+
+-- What holds of every seat of a pass: its topic's configuration was checked, it is one of the topic's passes, what it has
+-- seen is a run, and what is told of it is so in that run.
+pub record IsSound (w : Walk) : Type 0 where
+  pub checked : config_fault w.setting.config ≡ Ok tt
+  pub below : w.number < passes w.setting
+  pub run : IsRun w.setting w.seen
+  pub shows : IsTrueTo w

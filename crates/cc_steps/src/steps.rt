@@ -20,7 +20,7 @@ ghost use Rattle.cc_machine.specs.declared.word.ItemField.TheVariants as item;
 ghost use Rattle.cc_machine.specs.declared.place.Kind.TheVariants as kind;
 ghost use Rattle.cc_steps.specs.Seen.{Onward};
 ghost use Rattle.cc_steps.specs.Reuse.{HasReused, HasOwned};
-ghost use Rattle.cc_steps.specs.Walk.{IsOf, Steps, CanBegin, Found, Walked, walked_to, IsPendingIn, IsToldAt, leads_to};
+ghost use Rattle.cc_steps.specs.Walk.{IsOf, Steps, CanBegin, Found, Walked, walked_to, IsPendingIn, IsToldAt, leads_to, LinksOwn};
 ghost use Rattle.cc_machine.specs.declared.setting.Served.TheVariants as served;
 
 use crate::moves;
@@ -128,6 +128,7 @@ pub fn read_next(words: &Words, seat: &mut PassSeat, chain: Chain, node: u64) ->
     ensures found { Found seat.old None result seat.new }
     ensures step { seat.new ≡ walked_to seat.old None result seat.new.seen }
     ensures later { Onward seat.old.seen seat.new.seen }
+    ensures own { LinksOwn seat.old.stand.place result }
 {
     moves::load(words, seat, Word::Node(chain, node, NodeField::Next))
 }

@@ -118,6 +118,19 @@ module _ (c : Setting) (x : Chain) (ok : IsChain c.served x) (r : InRange c.conf
         chain_in (w.ghost.marked + 1),
       )
 
+  -- a combiner that has served nobody yet finds its own node linked
+  pub own_link_in : (at : ℕ) → At (place.ReadNext record { at = at; served = 0 }) → 0 < s.mem (Node x at node.Next)
+  own_link_in at e =
+      let is : post_at x (s.stand (pass_on c x p)) ≡ post_of x own (place.ReadNext record { at = at; served = 0 }) = seen (place.ReadNext record { at = at; served = 0 }) e in
+      let mine : w.ghost.server ≡ p + 1 = me (place.ReadNext record { at = at; served = 0 }) e refl in
+      let rank : (post_at x (s.stand (pass_on c x p))).rank ≡ 5 = ap (λ z. z.rank) is in
+      let first : w.ghost.at p ≡ w.ghost.marked = omega (arith, ap (λ z. z.served) is, w.inv.server.server_at p mine (omega (arith, ap (λ z. z.stage) is))) in
+      let more : w.ghost.marked < w.ghost.calls = omega (arith, w.inv.passes.at_in p inside (omega (arith, rank))) in
+      let its : w.ghost.pass_of w.ghost.marked ≡ p = ap w.ghost.pass_of (sym first) ∙ w.inv.passes.at_is p inside (omega (arith, rank)) in
+      let node_is : (post_at x (s.stand (pass_on c x p))).node ≡ at =
+      ap (λ (z : ℕ). (post_at x (s.stand (pass_on c x z))).node) (sym its) ∙ w.inv.calls.open_node w.ghost.marked (omega arith) more ∙ sym (w.inv.server.server_target p mine) ∙ ap (λ z. z.target) is in
+      omega (arith, w.inv.links.linked p inside (omega (arith, rank)) (omega arith), ap (λ (z : ℕ). s.mem (Node x z node.Next)) node_is)
+
   -- the request in service has no answer before the step that decides it
   pub unanswered : (at : Place) → At at → (post_of x own at).rank ≡ 5 → (post_of x own at).stage ≡ 1 → length (answers_on x s.history) < length (calls_on x s.history)
   unanswered at e five one =

@@ -1,0 +1,193 @@
+-- What a pass has seen stands in one history.
+use Rattle.std.proofs.Common.{◌≡◌, ◌≢◌, ℕ, zero, suc, ◌+◌, ◌*◌, ◌≤◌, ◌==◌, if◌then◌else◌, List, [], ◌∷◌, ◌++◌, map, refl, sym, ap, ◌∙◌, subst, append-nil, append_assoc, arith}
+use Rattle.cc_model.specs.declared.config.Config.{Config}
+use Rattle.cc_model.specs.Items.{Begins, calls_of}
+use Rattle.cc_model.specs.declared.call.Answer.{Answer}
+use Rattle.cc_model.specs.declared.call.Call.{Call}
+use Rattle.cc_model.specs.declared.call.Call.TheVariants as call
+use Rattle.cc_model.specs.declared.call.Answer.TheVariants as answer
+use Rattle.cc_model.specs.declared.call.TakeAnswer.{TakeAnswer}
+use Rattle.cc_model.specs.declared.call.TakeAnswer.TheVariants as take
+use Rattle.std.specs.List.{All}
+use Rattle.cc_model.specs.declared.call.Entry.{Entry}
+use Rattle.cc_machine.specs.declared.run.Move.{Move}
+use Rattle.cc_machine.specs.declared.setting.Setting.{Setting}
+use Rattle.cc_machine.specs.declared.setting.Served.TheVariants as served
+use Rattle.cc_machine.specs.declared.place.Stand.{Stand}
+use Rattle.cc_machine.specs.declared.place.Kind.TheVariants as kind
+use Rattle.cc_machine.specs.declared.place.Place.{Place}
+use Rattle.cc_machine.specs.declared.place.Place.TheVariants as place
+use Rattle.cc_machine.specs.Machine.{IsLastAnswer}
+use Rattle.cc_machine.specs.Run.{IsRun, history_of, reached, begun_after}
+use Rattle.cc_machine.specs.CallsMade.{made, to_exchange}
+use Rattle.cc_machine.proofs.CallsMade.{calls_made}
+use Rattle.cc_machine.proofs.RunFronts.{fronts_begin}
+use Rattle.cc_machine.proofs.ListRuns.Laws.{history_is_legal, history_is_fifo}
+use Rattle.cc_steps.specs.Seen.{Onward, GoesOn, stand_in, made_in}
+use Rattle.cc_steps.specs.Topic.{Topic}
+use Rattle.cc_steps.specs.Walk.{Walk, IsOf, IsSameSeat, IsSound, IsPendingIn}
+use Rattle.cc_queue.specs.Headline.{StandsInOne, entry_of, name, history}
+use Rattle.cc_queue.specs.Work.{worked_to, tally, reads, marks, hands, scans}
+use Rattle.cc_queue.specs.Calls.{Begun, Waited, Answered, Ended, Completed, IsSettled, TakenUntil}
+use Rattle.cc_queue.specs.Codes.{IsSendAnswer, IsCloseAnswer}
+use Rattle.cc_queue.specs.Kept.{MadeLast, IsSend, IsClose}
+use Rattle.cc_queue.proofs.AnswerKinds.{send_answered, close_answered}
+
+pub goes_self : (seen : List Move) → GoesOn seen seen
+goes_self seen = record { more = []; is = refl }
+
+-- a run that goes on from another has a history that begins with the other's
+pub begins_on : (c : Setting) (seen log : List Move) → Onward seen log → IsRun c log → Begins (history_of c seen) (history_of c log)
+begins_on c seen log on run =
+    let g = on seen (goes_self seen) in
+    subst (λ (l : List Move). Begins (history_of c seen) (history_of c l)) (sym g.is) (fronts_begin c g.more seen (subst (IsRun c) g.is run)).1
+
+-- the history has of the pass just the calls that it made
+calls_in : (w : Walk) → IsSound w → to_exchange w.stand.place ≡ [] → map (λ z. z.0) (calls_of (name w) (history w)) ≡ w.made
+unfolding stand_in made_in
+calls_in w s out =
+    let law : made w.setting w.seen w.number ≡ map (λ z. z.0) (calls_of (name w) (history w)) ++ to_exchange ((reached w.setting w.seen).stand w.number).place = calls_made w.setting s.checked w.seen s.run w.number s.below in
+    let none : to_exchange ((reached w.setting w.seen).stand w.number).place ≡ [] = ap (λ (x : Stand). to_exchange x.place) (sym s.shows.0) ∙ out in
+    sym (append-nil _) ∙ ap (λ (l : List Entry). map (λ z. z.0) (calls_of (name w) (history w)) ++ l) (sym none) ∙ sym law ∙ sym s.shows.1
+
+pub stands_in_one : (v w : Walk) (calls : List Entry) → IsSound w → w.setting.served ≡ served.List → to_exchange w.stand.place ≡ [] → IsSameSeat v w → Onward v.seen w.seen → w.made ≡ v.made ++ calls → StandsInOne v calls w
+stands_in_one v w calls s list out same on made_is = record {
+  same = same;
+  run = s.run;
+  onward = on;
+  begins = subst (λ (c : Setting). Begins (history_of c v.seen) (history w)) same.1 (begins_on w.setting v.seen w.seen on s.run);
+  legal = history_is_legal w.setting w.seen list s.checked s.run;
+  fifo = history_is_fifo w.setting w.seen list s.checked s.run;
+  made = made_is;
+  calls_are = calls_in w s out;
+}
+
+seat_of : (v w : Walk) (at : Place) → w ≡ worked_to v at w → IsSameSeat v w
+seat_of v w at e = (ap (λ (x : Walk). x.table_id) e, ap (λ (x : Walk). x.setting) e, ap (λ (x : Walk). x.number) e)
+
+made_of : (v w : Walk) (at : Place) → w ≡ worked_to v at w → w.made ≡ v.made ++ []
+made_of v w at e = ap (λ (x : Walk). x.made) e ∙ sym (append-nil v.made)
+
+-- the same of a pass that stands idle or waits, whose topic is a list
+pub stands_on : (v w : Walk) (calls : List Entry) (begun node : ℕ) (at : Place) → w.stand ≡ record { begun = begun; node = node; place = at } → to_exchange at ≡ [] → IsSound w → v.setting.served ≡ served.List → IsSameSeat v w → Onward v.seen w.seen → w.made ≡ v.made ++ calls → StandsInOne v calls w
+stands_on v w calls begun node at stand out s list same on made_is = stands_in_one v w calls s (ap (λ (c : Setting). c.served) same.1 ∙ list) (ap (λ (x : Stand). to_exchange x.place) stand ∙ out) same on made_is
+
+-- a call that was begun; a caller knows the pass as u
+pub begun_so : (u v w : Walk) (call : Call) (node : ℕ) → v ≡ u → v.setting.served ≡ served.List → IsSound w → IsSameSeat v w → Onward v.seen w.seen → w.made ≡ v.made ++ entry_of v call ∷ []
+    → w.stand ≡ record { begun = begun_after call v.stand.begun; node = node; place = place.ReadState } → IsPendingIn w → tally reads w.did ≡ tally reads v.did → tally marks w.did ≡ tally marks v.did → Begun u call w
+begun_so u v w call node is list s same on made_is stand pending read marked = subst (λ (x : Walk). Begun x call w) is (record {
+  stands = stands_on v w (entry_of v call ∷ []) (begun_after call v.stand.begun) node place.ReadState stand refl s list same on made_is;
+  pending = pending;
+  begun = ap (λ (x : Stand). x.begun) stand;
+  reads = read;
+  marks = marked;
+})
+
+-- a turn that waits
+pub waited_so : (u v w : Walk) → v ≡ u → v.setting.served ≡ served.List → v.stand.place ≡ place.ReadState → IsSound w → w ≡ worked_to v place.ReadState w → w.did ≡ kind.ReadState ∷ v.did → Onward v.seen w.seen → Waited u w
+waited_so u v w is list at s worked did on = subst (λ (x : Walk). Waited x w) is (record {
+  stands = stands_on v w [] v.stand.begun v.stand.node place.ReadState (ap (λ (x : Walk). x.stand) worked) refl s list (seat_of v w place.ReadState worked) on (made_of v w place.ReadState worked);
+  still = ap (λ (x : Walk). x.stand) worked ∙ (λ i. record { begun = v.stand.begun; node = v.stand.node; place = sym at i });
+  did = did;
+})
+
+-- the pass and its queue are of one list with this configuration
+pub listed : (q z : Topic) (u v : Walk) (c : Config) → q ≡ z → q.setting ≡ record { served = served.List; config = c } → IsOf z u → v ≡ u → v.setting ≡ record { served = served.List; config = c }
+listed q z u v c same list here is = ap (λ (x : Walk). x.setting) is ∙ here.1 ∙ sym (ap (λ (x : Topic). x.setting) same) ∙ list
+
+-- a turn that is done
+pub answered_so : (u v w : Walk) (c : Config) (told : Answer) (n : ℕ) → v ≡ u → v.setting ≡ record { served = served.List; config = c } → IsSound w → w ≡ worked_to v place.Idle w → IsLastAnswer (name w) (history w) told
+    → tally reads w.did ≡ 1 + tally reads v.did → tally marks w.did ≡ n + tally marks v.did → tally hands w.did ≡ (if n == 0 then 0 else 1) + tally hands v.did → n ≤ c.bound → tally scans w.did ≤ n * (c.capacity + 1) + tally scans v.did → Onward v.seen w.seen
+    → Answered u told n w
+answered_so u v w c told n is list s worked last read marked handed few scanned on = subst (λ (x : Walk). Answered x told n w) is (record {
+  stands = stands_on v w [] v.stand.begun v.stand.node place.Idle (ap (λ (x : Walk). x.stand) worked) refl s (ap (λ (x : Setting). x.served) list) (seat_of v w place.Idle worked) on (made_of v w place.Idle worked);
+  last = last;
+  begun = ap (λ (x : Walk). x.stand.begun) worked;
+  reads = read;
+  marks = marked;
+  hands = handed;
+  few = subst (λ (x : Setting). n ≤ x.config.bound) (sym list) few;
+  scans = subst (λ (x : Setting). tally scans w.did ≤ n * (x.config.capacity + 1) + tally scans v.did) (sym list) scanned;
+})
+
+-- a send that is told its answer is told one of a send
+pub send_told : (v w : Walk) (told : Answer) → v.setting.served ≡ served.List → IsSound w → w ≡ worked_to v place.Idle w → IsLastAnswer (name w) (history w) told → MadeLast IsSend v.made → IsSendAnswer told
+send_told v w told list s worked last m =
+    send_answered w.setting.config (history w) (name w) told w.made (history_is_legal w.setting w.seen (ap (λ (x : Walk). x.setting.served) worked ∙ list) s.checked s.run)
+    (calls_in w s (ap (λ (x : Walk). to_exchange x.stand.place) worked)) last (subst (MadeLast IsSend) (sym (ap (λ (x : Walk). x.made) worked)) m)
+
+-- and a close one of a close
+pub close_told : (v w : Walk) (told : Answer) → v.setting.served ≡ served.List → IsSound w → w ≡ worked_to v place.Idle w → IsLastAnswer (name w) (history w) told → MadeLast IsClose v.made → IsCloseAnswer told
+close_told v w told list s worked last m =
+    close_answered w.setting.config (history w) (name w) told w.made (history_is_legal w.setting w.seen (ap (λ (x : Walk). x.setting.served) worked ∙ list) s.checked s.run)
+    (calls_in w s (ap (λ (x : Walk). to_exchange x.stand.place) worked)) last (subst (MadeLast IsClose) (sym (ap (λ (x : Walk). x.made) worked)) m)
+
+-- what stands in one history, and goes on in another
+pub stands_more : (a b c : Walk) (xs ys : List Entry) → StandsInOne a xs b → StandsInOne b ys c → StandsInOne a (xs ++ ys) c
+stands_more a b c xs ys f g = record {
+  same = (g.same.0 ∙ f.same.0, g.same.1 ∙ f.same.1, g.same.2 ∙ f.same.2);
+  run = g.run;
+  onward = λ first k. g.onward first (f.onward first k);
+  begins = subst (λ (x : Setting). Begins (history_of x a.seen) (history c)) (g.same.1 ∙ f.same.1) (begins_on c.setting a.seen c.seen (λ first k. g.onward first (f.onward first k)) g.run);
+  legal = g.legal;
+  fifo = g.fifo;
+  made = g.made ∙ ap (λ (l : List Entry). l ++ ys) f.made ∙ append_assoc a.made xs ys;
+  calls_are = g.calls_are;
+}
+
+-- a call that waits is where it was, in more history
+pub waits_on : (a b c : Walk) → StandsInOne a [] b → Waited b c → StandsInOne a [] c
+waits_on a b c f g = stands_more a b c [] [] f g.stands
+
+-- a call that was waited for is done
+pub ended_so : (a b c : Walk) (told : Answer) (n : ℕ) → StandsInOne a [] b → Answered b told n c → Ended a told c
+ended_so a b c told n f g = record { stands = stands_more a b c [] [] f g.stands; last = g.last }
+
+-- from its begin on
+pub completed_so : (a b c : Walk) (call : Call) (told : Answer) → Begun a call b → Ended b told c → Completed a call told c
+completed_so a b c call told f g = record { stands = stands_more a b c (entry_of a call ∷ []) [] f.stands g.stands; last = g.last }
+
+-- a pass with a pending call stands in the history that it has seen
+pub pending_stands : (u v : Walk) (begun node : ℕ) → v ≡ u → v.setting.served ≡ served.List → v.stand ≡ record { begun = begun; node = node; place = place.ReadState } → IsSound v → StandsInOne u [] u
+pending_stands u v begun node is list stand s = subst (λ (x : Walk). StandsInOne x [] x) is (stands_on v v [] begun node place.ReadState stand refl s list (refl, refl, refl) (λ first k. k) (sym (append-nil v.made)))
+
+-- takes that were all answered Empty so far
+pub record Trying (v w : Walk) : Type 0 where
+  pub earlier : List Entry
+  pub takes : All (λ e. e.call ≡ call.Take) earlier
+  pub stands : StandsInOne v earlier w
+
+all_more : (P : Entry → Type 0) (xs : List Entry) (x : Entry) → All P xs → P x → All P (xs ++ x ∷ [])
+all_more P [] x all p zero d less = p
+all_more P [] x all p (suc i) d less = absurd (omega (arith, less))
+all_more P (y ∷ xs) x all p zero d less = all 0 d (omega arith)
+all_more P (y ∷ xs) x all p (suc i) d less = all_more P xs x (λ k e l. all (suc k) e (omega (arith, l))) p i d (omega (arith, less))
+
+-- before the first of them
+pub trying_none : (v : Walk) → StandsInOne v [] v → Trying v v
+trying_none v s = record { earlier = []; takes = λ k d less. absurd (omega (arith, less)); stands = s }
+
+-- one more
+pub trying_more : (v w x : Walk) (told : Answer) → Trying v w → Completed w call.Take told x → Trying v x
+trying_more v w x told t c = record {
+  earlier = t.earlier ++ entry_of w call.Take ∷ [];
+  takes = all_more (λ e. e.call ≡ call.Take) t.earlier (entry_of w call.Take) t.takes refl;
+  stands = stands_more v w x t.earlier (entry_of w call.Take ∷ []) t.stands c.stands;
+}
+
+-- the last one
+pub taken_so : (v w x : Walk) (told : TakeAnswer) → Trying v w → Completed w call.Take (answer.Take told) x → IsSettled told → TakenUntil v told x
+taken_so v w x told t c settled = record {
+  earlier = t.earlier;
+  entry = entry_of w call.Take;
+  takes = all_more (λ e. e.call ≡ call.Take) t.earlier (entry_of w call.Take) t.takes refl;
+  stands = stands_more v w x t.earlier (entry_of w call.Take ∷ []) t.stands c.stands;
+  last = c.last;
+  settled = settled;
+}
+
+-- an answer that isn't Empty
+pub settled_unless : (told : TakeAnswer) → told ≢ take.Empty → IsSettled told
+settled_unless take.Empty ne = absurd (ne refl)
+settled_unless (take.Got item) ne = tt
+settled_unless (take.Ended total) ne = tt

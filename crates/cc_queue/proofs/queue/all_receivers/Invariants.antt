@@ -1,0 +1,7 @@
+use Rattle.std.proofs.Common.{◌≡◌, ◌+◌, length}
+use Rattle.cc_steps.specs.Walk.{fresh_from}
+use Rattle.cc_queue.proofs.queue.all_receivers.Given as goal
+
+abbrev pub invariant-loop-place : goal.invariant-loop-place
+invariant-loop-place l =
+    (length l.seats.items + l.place ≡ l.fn.config.receivers) × fresh_from l.fn.words (l.fn.config.senders + l.place) l.seats.items × (length l.receivers.items ≡ l.place) × fresh_from l.fn.words l.fn.config.senders l.receivers.items

@@ -1,0 +1,7 @@
+use Rattle.std.proofs.Common.{◌≡◌, ◌+◌, length}
+use Rattle.cc_steps.specs.Walk.{fresh_from}
+use Rattle.cc_queue.proofs.queue.all_senders.Given as goal
+
+abbrev pub invariant-loop-row : goal.invariant-loop-row
+invariant-loop-row l =
+    (length l.seats.items + l.row ≡ l.fn.config.senders) × fresh_from l.fn.words l.row l.seats.items × (length l.senders.items ≡ l.row) × fresh_from l.fn.words 0 l.senders.items

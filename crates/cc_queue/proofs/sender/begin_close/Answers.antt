@@ -1,0 +1,8 @@
+use Rattle.cc_model.specs.declared.call.Call.TheVariants as call
+use Rattle.cc_queue.proofs.Headline.{begun_so}
+use Rattle.cc_queue.proofs.sender.begin_close.Goals as goal
+
+pub returns : goal.returns
+returns c =
+    let e = c.begin_request-node.ensures in
+    begun_so _ c.sender.inside.seat c.begin_request-node.new.seat call.Close c.begin_request-node.result c.sender.view_is c.sender.invariant.list c.stands.ensures e.same e.later e.made e.stand e.pending e.reads e.marks

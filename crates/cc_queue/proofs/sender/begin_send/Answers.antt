@@ -1,0 +1,8 @@
+use Rattle.cc_model.specs.declared.call.Call.TheVariants as call
+use Rattle.cc_queue.proofs.Headline.{begun_so}
+use Rattle.cc_queue.proofs.sender.begin_send.Goals as goal
+
+pub returns-clause-begun : goal.returns-clause-begun
+returns-clause-begun c =
+    let e = c.begin_request-node.ensures in
+    begun_so _ c.sender.inside.seat c.begin_request-node.new.seat (call.Send c.args.body) c.begin_request-node.result c.sender.view_is c.sender.invariant.list c.stands.ensures e.same e.later e.made e.stand e.pending e.reads e.marks

@@ -1,0 +1,90 @@
+-- What the begin of a call and each of its turns tell.
+use Rattle.std.specs.Prelude.{◌≡◌, ℕ, ◌+◌, ◌*◌, ◌≤◌, ◌==◌, if◌then◌else◌, List, [], ◌∷◌, ◌++◌}
+use Rattle.std.specs.List.{All}
+use Rattle.cc_model.specs.declared.call.Call.{Call}
+use Rattle.cc_model.specs.declared.call.Call.TheVariants as call
+use Rattle.cc_model.specs.declared.call.Entry.{Entry}
+use Rattle.cc_model.specs.declared.call.TakeAnswer.{TakeAnswer}
+use Rattle.cc_model.specs.declared.call.TakeAnswer.TheVariants as take
+use Rattle.cc_model.specs.declared.call.Answer.{Answer}
+use Rattle.cc_model.specs.declared.call.Answer.TheVariants as answer
+use Rattle.cc_machine.specs.declared.place.Kind.TheVariants as kind
+use Rattle.cc_machine.specs.Machine.{IsLastAnswer}
+use Rattle.cc_machine.specs.ChainLaws.{IsLastPending}
+use Rattle.cc_machine.specs.Run.{begun_after}
+use Rattle.cc_steps.specs.Walk.{Walk}
+use Rattle.cc_queue.specs.declared.passes.SendTurn.{SendTurn}
+use Rattle.cc_queue.specs.declared.passes.SendTurn.TheVariants as send_turn
+use Rattle.cc_queue.specs.declared.passes.CloseTurn.{CloseTurn}
+use Rattle.cc_queue.specs.declared.passes.CloseTurn.TheVariants as close_turn
+use Rattle.cc_queue.specs.declared.passes.TakeTurn.{TakeTurn}
+use Rattle.cc_queue.specs.declared.passes.TakeTurn.TheVariants as take_turn
+use Rattle.cc_queue.specs.Work.{tally, reads, marks, hands, scans}
+use Rattle.cc_queue.specs.Headline.{StandsInOne, entry_of, name, history}
+
+-- A begun call stands in one history as its pass's last call, and is pending there. No state was read and nobody served.
+pub record Begun (v : Walk) (call : Call) (w : Walk) : Type 0 where
+  pub stands : StandsInOne v (entry_of v call ∷ []) w
+  pub pending : IsLastPending (name w) (history w)
+  pub begun : w.stand.begun ≡ begun_after call v.stand.begun
+  pub reads : tally reads w.did ≡ tally reads v.did
+  pub marks : tally marks w.did ≡ tally marks v.did
+
+-- A turn that waits did one step, a read of the state which gave 1: the call is where it was.
+pub record Waited (v w : Walk) : Type 0 where
+  pub stands : StandsInOne v [] w
+  pub still : w.stand ≡ v.stand
+  pub did : w.did ≡ kind.ReadState ∷ v.did
+
+-- A turn that is done read the state once. The answer is that of its pass's last call in one history. Where the state
+-- was 2 it served nobody; where it was 0 it served at least its own call and at most `bound` calls, reading at most
+-- `capacity + 1` list nodes for each, and handed over once.
+pub record Answered (v : Walk) (told : Answer) (served : ℕ) (w : Walk) : Type 0 where
+  pub stands : StandsInOne v [] w
+  pub last : IsLastAnswer (name w) (history w) told
+  pub begun : w.stand.begun ≡ v.stand.begun
+  pub reads : tally reads w.did ≡ 1 + tally reads v.did
+  pub marks : tally marks w.did ≡ served + tally marks v.did
+  pub hands : tally hands w.did ≡ (if served == 0 then 0 else 1) + tally hands v.did
+  pub few : served ≤ v.setting.config.bound
+  pub scans : tally scans w.did ≤ served * (v.setting.config.capacity + 1) + tally scans v.did
+
+-- a turn of a send waits, or is done with an answer of a send
+abbrev pub TurnedSend : Walk → SendTurn → Type 0
+TurnedSend v (send_turn.Waiting w) = Waited v w
+TurnedSend v (send_turn.Done w told served) = Answered v (answer.Send told) served w
+
+-- the same of a close
+abbrev pub TurnedClose : Walk → CloseTurn → Type 0
+TurnedClose v (close_turn.Waiting w) = Waited v w
+TurnedClose v (close_turn.Done w told served) = Answered v (answer.Close told) served w
+
+-- and of a take
+abbrev pub TurnedTake : Walk → TakeTurn → Type 0
+TurnedTake v (take_turn.Waiting w) = Waited v w
+TurnedTake v (take_turn.Done w told served) = Answered v (answer.Take told) served w
+
+-- A call that was waited for: the pass made it, and its answer is that of its pass's last call in one history.
+pub record Completed (v : Walk) (call : Call) (told : Answer) (w : Walk) : Type 0 where
+  pub stands : StandsInOne v (entry_of v call ∷ []) w
+  pub last : IsLastAnswer (name w) (history w) told
+
+-- a call that was pending already
+pub record Ended (v : Walk) (told : Answer) (w : Walk) : Type 0 where
+  pub stands : StandsInOne v [] w
+  pub last : IsLastAnswer (name w) (history w) told
+
+-- a take gave an item, or the end
+abbrev pub IsSettled : TakeAnswer → Type 0
+IsSettled take.Empty = ⊥
+IsSettled _ = Unit {0}
+
+-- Takes that were made until one of them gave an item or the end. All of them stand in one history, and the answer is
+-- that of the last one.
+pub record TakenUntil (v : Walk) (told : TakeAnswer) (w : Walk) : Type 0 where
+  pub earlier : List Entry
+  pub entry : Entry
+  pub takes : All (λ e. e.call ≡ call.Take) (earlier ++ entry ∷ [])
+  pub stands : StandsInOne v (earlier ++ entry ∷ []) w
+  pub last : IsLastAnswer (name w) (history w) (answer.Take told)
+  pub settled : IsSettled told

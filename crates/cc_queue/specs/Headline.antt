@@ -1,0 +1,38 @@
+-- What each answer stands in: one history, that of a run of single steps, which begins with all that the caller had seen.
+use Rattle.std.specs.Prelude.{◌≡◌, List, ◌++◌, map}
+use Rattle.cc_model.specs.Record.{Record}
+use Rattle.cc_model.specs.Items.{Begins, calls_of}
+use Rattle.cc_model.specs.Legal.{Legal}
+use Rattle.cc_model.specs.Fifo.{Fifo}
+use Rattle.cc_model.specs.declared.call.Call.{Call}
+use Rattle.cc_model.specs.declared.call.Entry.{Entry}
+use Rattle.cc_model.specs.declared.call.Pass.{Pass}
+use Rattle.cc_machine.specs.State.{pass_at}
+use Rattle.cc_machine.specs.Run.{IsRun, history_of, number_of}
+use Rattle.cc_steps.specs.Seen.{Onward, known_in}
+use Rattle.cc_steps.specs.Walk.{Walk, IsSameSeat}
+
+-- by what name its queue knows a pass
+abbrev pub name : Walk → Pass
+name w = pass_at w.setting.config w.number
+
+-- the history that a pass has seen
+abbrev pub history : Walk → Record
+history w = history_of w.setting w.seen
+
+-- the call that a pass begins now: it knows what the pass has seen
+abbrev pub entry_of : Walk → Call → Entry
+entry_of v call = record { pass = name v; call = call; number = number_of call v.stand.begun; known = known_in v.setting v.number v.seen }
+
+-- There is one history, and it is what the pass has seen now: that of a run of single steps which goes on from all that
+-- it had seen. It is lawful, and first in first out. Of the pass it has just the calls that it made, each once and in
+-- order: those that it had made, and these.
+pub record StandsInOne (v : Walk) (calls : List Entry) (w : Walk) : Type 0 where
+  pub same : IsSameSeat v w
+  pub run : IsRun w.setting w.seen
+  pub onward : Onward v.seen w.seen
+  pub begins : Begins (history v) (history w)
+  pub legal : Legal w.setting.config (history w)
+  pub fifo : Fifo (history w)
+  pub made : w.made ≡ v.made ++ calls
+  pub calls_are : map (λ z. z.0) (calls_of (name w) (history w)) ≡ w.made

@@ -1,0 +1,90 @@
+//! The begin of a call, over its seat: from the reset of the own node to its link.
+ghost use Rattle.std.specs.Prelude.{◌≡◌, ◌+◌, ◌<◌, ◌≤◌, ◌^◌, ◌∷◌, ◌++◌, [], Some, None};
+ghost use Rattle.cc_model.specs.declared.call.Call.TheVariants as call;
+ghost use Rattle.cc_machine.specs.declared.word.Chain.TheVariants.{Send, Take};
+ghost use Rattle.cc_machine.specs.declared.place.Place.TheVariants as place;
+ghost use Rattle.cc_machine.specs.Codes.{request_in};
+ghost use Rattle.cc_machine.specs.Columns.{after_exchange};
+ghost use Rattle.cc_machine.specs.Run.{begun_after};
+ghost use Rattle.cc_steps.specs.Seen.{Onward};
+ghost use Rattle.cc_steps.specs.Shown.{CanStart};
+ghost use Rattle.cc_machine.specs.declared.setting.Served.TheVariants as served;
+ghost use Rattle.cc_steps.specs.Walk.{IsOf, IsSameSeat, IsReadyToStep, IsPendingIn};
+ghost use Rattle.cc_queue.specs.Work.{IsOn, tally, reads, marks};
+ghost use Rattle.cc_queue.specs.Headline.{entry_of};
+
+use cc_machine::{Chain, NodeField, Request};
+use cc_model::Call;
+use cc_steps::seats::PassSeat;
+use cc_steps::steps;
+use cc_steps::words::Words;
+
+/// Resets the own node and exchanges it for the one in the chain's tail, which is given: here the call enters the
+/// history.
+fn exchange(words: &Words, seat: &mut PassSeat, chain: Chain, node: u64, call: Call) -> u64
+    requires here { IsOf words.now seat.old }
+    requires chain { IsOn seat.old chain }
+    requires idle { seat.old.stand ≡ record { begun = seat.old.stand.begun; node = node; place = place.Idle } }
+    requires may { CanStart seat.old.setting seat.old.number (Some call) seat.old.stand }
+    ensures same { IsSameSeat seat.old seat.new }
+    ensures stand { seat.new.stand ≡ record { begun = begun_after call seat.old.stand.begun; node = result; place = after_exchange chain node (entry_of seat.old call) } }
+    ensures made { seat.new.made ≡ seat.old.made ++ entry_of seat.old call ∷ [] }
+    ensures reads { tally reads seat.new.did ≡ tally reads seat.old.did }
+    ensures marks { tally marks seat.new.did ≡ tally marks seat.old.did }
+    ensures ready { IsReadyToStep seat.new }
+    ensures later { Onward seat.old.seen seat.new.seen }
+{
+    steps::reset_next(words, seat, chain, node, call);
+    steps::reset_state(words, seat, chain, node);
+    steps::exchange_tail(words, seat, chain, node + 1) - 1
+}
+
+/// Begins a send or a close: writes the request words into the node that the exchange left, which is given, and links
+/// it to the own one.
+pub fn begin_request(
+    words: &Words,
+    seat: &mut PassSeat,
+    node: u64,
+    call: Call,
+    request: Request,
+) -> u64
+    requires here { IsOf words.now seat.old }
+    requires chain { IsOn seat.old Send }
+    requires idle { seat.old.stand ≡ record { begun = seat.old.stand.begun; node = node; place = place.Idle } }
+    requires may { CanStart seat.old.setting seat.old.number (Some call) seat.old.stand }
+    requires request { request ≡ request_in (entry_of seat.old call) }
+    ensures same { IsSameSeat seat.old seat.new }
+    ensures stand { seat.new.stand ≡ record { begun = begun_after call seat.old.stand.begun; node = result; place = place.ReadState } }
+    ensures made { seat.new.made ≡ seat.old.made ++ entry_of seat.old call ∷ [] }
+    ensures reads { tally reads seat.new.did ≡ tally reads seat.old.did }
+    ensures marks { tally marks seat.new.did ≡ tally marks seat.old.did }
+    ensures pending { IsPendingIn seat.new }
+    ensures later { Onward seat.old.seen seat.new.seen }
+{
+    let got = exchange(words, seat, Chain::Send, node, call);
+    steps::write_request(words, seat, got, NodeField::Tag, request.tag);
+    steps::write_request(words, seat, got, NodeField::Body, request.body);
+    steps::link_next(words, seat, Chain::Send, got, node + 1);
+    got
+}
+
+/// Begins a take: links the node that the exchange left, which is given, to the own one.
+pub fn begin_take(words: &Words, seat: &mut PassSeat, group: u32, node: u64) -> u64
+    requires here { IsOf words.now seat.old }
+    requires list { seat.old.setting.served ≡ served.List }
+    requires chain { IsOn seat.old (Take group) }
+    requires idle { seat.old.stand ≡ record { begun = seat.old.stand.begun; node = node; place = place.Idle } }
+    requires few { seat.old.stand.begun ≤ seat.old.setting.config.per_sender }
+    ensures same { IsSameSeat seat.old seat.new }
+    ensures stand { seat.new.stand ≡ record { begun = seat.old.stand.begun; node = result; place = place.ReadState } }
+    ensures made { seat.new.made ≡ seat.old.made ++ entry_of seat.old call.Take ∷ [] }
+    ensures reads { tally reads seat.new.did ≡ tally reads seat.old.did }
+    ensures marks { tally marks seat.new.did ≡ tally marks seat.old.did }
+    ensures pending { IsPendingIn seat.new }
+    ensures later { Onward seat.old.seen seat.new.seen }
+{
+    let chain = Chain::Take(group);
+    let got = exchange(words, seat, chain, node, Call::Take);
+    steps::link_next(words, seat, chain, got, node + 1);
+    got
+}

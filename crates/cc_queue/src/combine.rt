@@ -1,0 +1,70 @@
+//! The combining loop of CC-Synch, for either chain.
+ghost use Rattle.std.specs.Prelude.{◌≡◌, ◌≢◌, ◌+◌, ◌*◌, ◌<◌, ◌≤◌, ◌^◌, ◌==◌, if◌then◌else◌, Some, None};
+ghost use Rattle.cc_machine.specs.declared.place.Place.TheVariants as place;
+ghost use Rattle.cc_machine.specs.declared.setting.Served.TheVariants as served;
+ghost use Rattle.cc_machine.specs.Columns.{serves};
+ghost use Rattle.cc_steps.specs.Seen.{Onward};
+ghost use Rattle.cc_steps.specs.Walk.{IsOf, IsReadyToStep};
+ghost use Rattle.cc_queue.specs.Work.{IsOn, IsListWith, worked_to, tally, reads, marks, hands, scans, round_place};
+
+use crate::sends::serve_request;
+use crate::takes::serve_take;
+use cc_machine::{Chain, Job, Round};
+use cc_model::Config;
+use cc_steps::seats::PassSeat;
+use cc_steps::steps;
+use cc_steps::words::Words;
+
+/// Serves one request of this chain, up to its mark.
+fn serve(words: &Words, seat: &mut PassSeat, config: &Config, chain: Chain, job: Job)
+    requires here { IsOf words.now seat.old }
+    requires list { IsListWith seat.old config.now }
+    requires chain { IsOn seat.old chain }
+    requires at { seat.old.stand.place ≡ serves served.List chain job }
+    ensures worked { seat.new ≡ worked_to seat.old (place.MarkDone job) seat.new }
+    ensures reads { tally reads seat.new.did ≡ tally reads seat.old.did }
+    ensures marks { tally marks seat.new.did ≡ tally marks seat.old.did }
+    ensures hands { tally hands seat.new.did ≡ tally hands seat.old.did }
+    ensures scans { tally scans seat.new.did ≤ config.now.capacity + 1 + tally scans seat.old.did }
+    ensures later { Onward seat.old.seen seat.new.seen }
+{
+    match chain {
+        Chain::Send => serve_request(words, seat, config, job),
+        Chain::Take(group) => serve_take(words, seat, group, job),
+    }
+}
+
+/// Serves requests from the own node on, at most `bound` of them, and hands over where it stops. Gives how many.
+pub fn combine(words: &Words, seat: &mut PassSeat, config: &Config, chain: Chain, node: u64) -> u32
+    requires here { IsOf words.now seat.old }
+    requires list { IsListWith seat.old config.now }
+    requires chain { IsOn seat.old chain }
+    requires at { seat.old.stand.place ≡ place.ReadNext record { at = node; served = 0 } }
+    requires bound { 0 < config.now.bound }
+    ensures worked { seat.new ≡ worked_to seat.old place.ReadAnswer seat.new }
+    ensures reads { tally reads seat.new.did ≡ tally reads seat.old.did }
+    ensures marks { tally marks seat.new.did ≡ result + tally marks seat.old.did }
+    ensures hands { tally hands seat.new.did ≡ 1 + tally hands seat.old.did }
+    ensures scans { tally scans seat.new.did ≤ result * (config.now.capacity + 1) + tally scans seat.old.did }
+    ensures some { 0 < result }
+    ensures few { result ≤ config.now.bound }
+    ensures later { Onward seat.old.seen seat.new.seen }
+{
+    let mut at = node;
+    for served in 0..config.bound {
+        let next = steps::read_next(words, seat, chain, at);
+        if next == 0 {
+            steps::hand_over(words, seat, chain, at);
+            return served;
+        }
+        let job = Job {
+            round: Round { at, served },
+            next: next - 1,
+        };
+        serve(words, seat, config, chain, job);
+        steps::mark_done(words, seat, chain, at);
+        at = job.next;
+    }
+    steps::hand_over(words, seat, chain, at);
+    config.bound
+}

@@ -1,0 +1,32 @@
+//! A FIFO queue that threads share: CC-Queue, the two-lock list queue (Michael and Scott, PODC 1996) with a combining
+//! chain in place of each lock (CC-Synch and CC-Queue, Fatourou and Kallimanis, PPoPP 2012).
+//!
+//! `Queue::open` gives the queue with all its senders and receivers, the passes. A pass is a value that its owner moves
+//! into a call and gets back with the answer. A call is begun, and then it is asked for its answer in turns; where a
+//! pass finds itself first in its chain, its turn serves others' calls too. No call after the opening takes memory,
+//! and none of these waits.
+//!
+//! What every answer stands in is said in `specs/Headline.antt`, and what each call tells in `specs/Calls.antt`.
+#![tactic(auto)]
+
+mod begins;
+mod blocking;
+mod codes;
+mod combine;
+mod meets;
+mod passes;
+mod queue;
+mod receiver;
+mod sender;
+mod sends;
+mod takes;
+mod turns;
+
+pub use blocking::{close, send, take, take_until};
+pub use meets::{meet, meet_all, meet_receivers, meet_senders};
+pub use passes::{
+    CloseTurn, PendingClose, PendingSend, PendingTake, Receiver, SendTurn, Sender, TakeTurn,
+};
+pub use queue::{Opened, Queue};
+pub use receiver::{begin_take, turn_take};
+pub use sender::{begin_close, begin_send, turn_close, turn_send};

@@ -1,0 +1,159 @@
+//! A queue that threads share, and its opening.
+ghost use Rattle.std.specs.Prelude.{◌≡◌, ◌+◌, ◌-◌, ◌≤◌, ◌<◌, length, IfOk, MatchResult, Ok};
+ghost use Rattle.cc_model.specs.Config.{config_fault};
+ghost use Rattle.cc_machine.specs.declared.setting.Served.TheVariants as served;
+ghost use Rattle.cc_machine.specs.Machine.{IsOpenFault};
+ghost use Rattle.cc_steps.specs.Opened as opened_words;
+ghost use Rattle.cc_steps.specs.Walk.{fresh, fresh_from};
+ghost use Rattle.cc_queue.specs.Opened.{HasOpened};
+
+use crate::passes::{Receiver, Sender};
+use cc_machine::OpenFault;
+use cc_model::Config;
+use cc_steps::seats::PassSeat;
+use cc_steps::words::{OpenedWords, Words};
+use std::alloc::{AllocError, Global};
+use std::marker::Model;
+
+/// One queue: a share of its words, and its configuration. Threads hold it by reference, and their own passes.
+#[derive(Drop)]
+pub struct Queue {
+    pub(crate) words: Words,
+    pub(crate) config: Config,
+}
+
+impl Model for Queue {
+    ghost use Rattle.cc_steps.specs.Topic.{Topic};
+    ghost use Rattle.cc_queue.specs.Kept.{KeepsQueue};
+
+    ghost Value = { Topic };
+
+    ghost view = { λ q. q.words };
+
+    ghost invariant = { λ q. KeepsQueue q.words q.config };
+}
+
+/// A queue that was opened, with all its passes.
+#[derive(Drop)]
+pub struct Opened {
+    pub queue: Queue,
+    /// The senders in order, from number 1 on.
+    pub senders: Vec<Sender>,
+    /// The receivers in order, from number 1 on.
+    pub receivers: Vec<Receiver>,
+}
+
+/// A sender on the seat of its pass.
+fn sender_on(words: Words, seat: PassSeat, config: &Config, row: u32) -> Sender
+    requires setting { words.setting ≡ record { served = served.List; config = config.now } }
+    requires checked { config_fault config.now ≡ Ok tt }
+    requires row { row < config.now.senders }
+    requires fresh { seat ≡ fresh words row }
+    ensures { result ≡ seat }
+{
+    Sender {
+        words,
+        seat,
+        number: row + 1,
+        limit: config.per_sender,
+        begun: 0,
+        node: row as u64 + 1,
+    }
+}
+
+/// A receiver on the seat of its pass, which stands behind all senders in the row of passes.
+fn receiver_on(words: Words, seat: PassSeat, config: &Config, place: u32) -> Receiver
+    requires setting { words.setting ≡ record { served = served.List; config = config.now } }
+    requires place { place < config.now.receivers }
+    requires fresh { seat ≡ fresh words (config.now.senders + place) }
+    ensures { result ≡ seat }
+{
+    let _ = config;
+    Receiver {
+        words,
+        seat,
+        node: place as u64 + 1,
+    }
+}
+
+fn all_senders(
+    alloc: Global,
+    words: &Words,
+    mut seats: Vec<PassSeat>,
+    config: &Config,
+) -> Result<Vec<Sender>, AllocError>
+    requires setting { words.now.setting ≡ record { served = served.List; config = config.now } }
+    requires checked { config_fault config.now ≡ Ok tt }
+    requires count { length seats.items ≡ config.now.senders }
+    requires fresh { fresh_from words.now 0 seats.items }
+    ensures count { IfOk result (λ s. length s.items ≡ config.now.senders) }
+    ensures fresh { IfOk result (λ s. fresh_from words.now 0 s.items) }
+{
+    let mut senders = Vec::new(alloc);
+    for row in 0..config.senders {
+        let seat = seats.remove(0);
+        senders.push(sender_on(words.share()?, seat, config, row))?;
+    }
+    Ok(senders)
+}
+
+fn all_receivers(
+    alloc: Global,
+    words: &Words,
+    mut seats: Vec<PassSeat>,
+    config: &Config,
+) -> Result<Vec<Receiver>, AllocError>
+    requires setting { words.now.setting ≡ record { served = served.List; config = config.now } }
+    requires count { length seats.items ≡ config.now.receivers }
+    requires fresh { fresh_from words.now config.now.senders seats.items }
+    ensures count { IfOk result (λ s. length s.items ≡ config.now.receivers) }
+    ensures fresh { IfOk result (λ s. fresh_from words.now config.now.senders s.items) }
+{
+    let mut receivers = Vec::new(alloc);
+    for place in 0..config.receivers {
+        let seat = seats.remove(0);
+        receivers.push(receiver_on(words.share()?, seat, config, place))?;
+    }
+    Ok(receivers)
+}
+
+/// The queue over its words, with a sender and a receiver on each seat.
+fn over_words(alloc: Global, words: OpenedWords, config: &Config) -> Result<Opened, AllocError>
+    requires opened { opened_words.HasOpened config.now words }
+    requires checked { config_fault config.now ≡ Ok tt }
+    ensures { IfOk result (λ o. HasOpened config.now o) }
+{
+    let OpenedWords {
+        words,
+        senders,
+        receivers,
+    } = words;
+    let senders = all_senders(alloc, &words, senders, config)?;
+    let receivers = all_receivers(alloc, &words, receivers, config)?;
+    Ok(Opened {
+        queue: Queue {
+            words,
+            config: *config,
+        },
+        senders,
+        receivers,
+    })
+}
+
+impl Queue {
+    /// Opens a queue of this configuration with all its senders and receivers. The configuration is refused for its
+    /// first field out of range; else memory may be refused, and then nothing is left. No later call of the queue takes
+    /// memory.
+    pub fn open(alloc: Global, config: &Config) -> Result<Opened, OpenFault>
+        ensures { MatchResult result (λ o. HasOpened config.now o) (λ f. IsOpenFault config.now f) }
+    {
+        if let Err(fault) = config.check() {
+            return Err(OpenFault::Config(fault));
+        }
+        let words = Words::open(alloc, config)?;
+        match over_words(alloc, words, config) {
+            Ok(opened) => Ok(opened),
+            Err(_) => Err(OpenFault::NoMemory),
+        }
+    }
+}

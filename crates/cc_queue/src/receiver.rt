@@ -1,0 +1,61 @@
+//! The calls of a receiver.
+ghost use Rattle.std.specs.Prelude.{◌≡◌, ◌+◌, ◌<◌, ◌≤◌, ◌^◌, ◌∷◌, ◌++◌, []};
+ghost use Rattle.cc_model.specs.declared.call.Call.TheVariants as call;
+ghost use Rattle.cc_steps.specs.Walk.{IsOf};
+ghost use Rattle.cc_queue.specs.Calls.{Begun, TurnedTake};
+
+use crate::passes::{PendingTake, Receiver, TakeTurn};
+use crate::queue::Queue;
+use crate::{begins, turns};
+
+/// The one group of receivers.
+const GROUP: u32 = 0;
+
+/// Begins a take.
+pub fn begin_take(queue: &Queue, receiver: Receiver) -> PendingTake
+    requires { IsOf queue.now receiver }
+    ensures { Begun receiver call.Take result }
+{
+    let Receiver {
+        words,
+        mut seat,
+        node,
+    } = receiver;
+    let node = begins::begin_take(&queue.words, &mut seat, GROUP, node);
+    seat.stands();
+    PendingTake { words, seat, node }
+}
+
+/// One turn of a take: reads the state once. Where it is 1 the call waits; where it is 0 this pass serves its own call
+/// and others', at most `bound` of them; and then the answer is read.
+pub fn turn_take(queue: &Queue, pending: PendingTake) -> TakeTurn
+    requires { IsOf queue.now pending }
+    ensures { TurnedTake pending result }
+{
+    let PendingTake {
+        words,
+        mut seat,
+        node,
+    } = pending;
+    let turn = turns::turn_take(&queue.words, &mut seat, &queue.config, GROUP, node);
+    seat.stands();
+    match turn {
+        None => TakeTurn::Waiting(PendingTake { words, seat, node }),
+        Some((answer, served)) => TakeTurn::Done {
+            receiver: Receiver { words, seat, node },
+            answer,
+            served,
+        },
+    }
+}
+
+impl PendingTake {
+    /// Gives the receiver up with its call, which may stay unanswered, and may stop its chain.
+    pub fn abandon(self) {
+        let PendingTake {
+            words: _,
+            seat: _,
+            node: _,
+        } = self;
+    }
+}

@@ -1,0 +1,190 @@
+//! The calls of a sender.
+ghost use Rattle.std.specs.Prelude.{◌≡◌, ◌+◌, ◌<◌, ◌≤◌, ◌^◌, ◌∷◌, ◌++◌, [], nat_le, IfOk, OnOk, IfErr, OnErr};
+ghost use Rattle.cc_model.specs.declared.call.Call.TheVariants as call;
+ghost use Rattle.cc_steps.specs.Walk.{IsOf};
+ghost use Rattle.cc_queue.specs.Calls.{Begun, TurnedSend, TurnedClose};
+
+use crate::begins;
+use crate::codes::{close_answer, send_answer};
+use crate::passes::{CloseTurn, PendingClose, PendingSend, SendTurn, Sender};
+use crate::queue::Queue;
+use crate::turns::turn_request;
+use cc_machine::Request;
+use cc_model::{Call, pack};
+
+/// Begins a send of this body. Err hands the sender back unchanged, where it has begun as many sends as one sender may.
+pub fn begin_send(queue: &Queue, sender: Sender, body: u64) -> Result<PendingSend, Sender>
+    requires { IsOf queue.now sender }
+    ensures begun { IfOk result (λ q. Begun sender (call.Send body) q) }
+    ensures may { OnOk result (sender.stand.begun < sender.setting.config.per_sender) }
+    ensures same { IfErr result (λ s. s ≡ sender) }
+    ensures worn { OnErr result (sender.setting.config.per_sender ≤ sender.stand.begun) }
+{
+    if sender.begun >= sender.limit {
+        return Err(sender);
+    }
+    let Sender {
+        words,
+        mut seat,
+        number,
+        limit,
+        begun,
+        node,
+    } = sender;
+    let request = Request {
+        tag: pack(number, begun + 1),
+        body,
+    };
+    let node = begins::begin_request(&queue.words, &mut seat, node, Call::Send(body), request);
+    seat.stands();
+    Ok(PendingSend {
+        words,
+        seat,
+        number,
+        limit,
+        begun: begun + 1,
+        node,
+    })
+}
+
+/// Begins a close.
+pub fn begin_close(queue: &Queue, sender: Sender) -> PendingClose
+    requires { IsOf queue.now sender }
+    ensures { Begun sender call.Close result }
+{
+    let Sender {
+        words,
+        mut seat,
+        number,
+        limit,
+        begun,
+        node,
+    } = sender;
+    let request = Request { tag: 0, body: 0 };
+    let node = begins::begin_request(&queue.words, &mut seat, node, Call::Close, request);
+    seat.stands();
+    PendingClose {
+        words,
+        seat,
+        number,
+        limit,
+        begun,
+        node,
+    }
+}
+
+/// One turn of a send: reads the state once. Where it is 1 the call waits; where it is 0 this pass serves its own call
+/// and others', at most `bound` of them; and then the answer is read.
+pub fn turn_send(queue: &Queue, pending: PendingSend) -> SendTurn
+    requires { IsOf queue.now pending }
+    ensures { TurnedSend pending result }
+{
+    let PendingSend {
+        words,
+        mut seat,
+        number,
+        limit,
+        begun,
+        node,
+    } = pending;
+    let turn = turn_request(&queue.words, &mut seat, &queue.config, node);
+    seat.stands();
+    match turn {
+        None => SendTurn::Waiting(PendingSend {
+            words,
+            seat,
+            number,
+            limit,
+            begun,
+            node,
+        }),
+        Some((ret, served)) => SendTurn::Done {
+            sender: Sender {
+                words,
+                seat,
+                number,
+                limit,
+                begun,
+                node,
+            },
+            answer: send_answer(ret),
+            served,
+        },
+    }
+}
+
+/// One turn of a close, as of a send.
+pub fn turn_close(queue: &Queue, pending: PendingClose) -> CloseTurn
+    requires { IsOf queue.now pending }
+    ensures { TurnedClose pending result }
+{
+    let PendingClose {
+        words,
+        mut seat,
+        number,
+        limit,
+        begun,
+        node,
+    } = pending;
+    let turn = turn_request(&queue.words, &mut seat, &queue.config, node);
+    seat.stands();
+    match turn {
+        None => CloseTurn::Waiting(PendingClose {
+            words,
+            seat,
+            number,
+            limit,
+            begun,
+            node,
+        }),
+        Some((ret, served)) => CloseTurn::Done {
+            sender: Sender {
+                words,
+                seat,
+                number,
+                limit,
+                begun,
+                node,
+            },
+            answer: close_answer(ret),
+            served,
+        },
+    }
+}
+
+impl Sender {
+    /// Whether the sender has begun as many sends as one sender may, so that a further one is refused.
+    pub fn is_worn(&self) -> bool
+        ensures { result ≡ nat_le self.now.setting.config.per_sender self.now.stand.begun }
+    {
+        self.begun >= self.limit
+    }
+}
+
+impl PendingSend {
+    /// Gives the sender up with its call, which may stay unanswered, and may stop its chain.
+    pub fn abandon(self) {
+        let PendingSend {
+            words: _,
+            seat: _,
+            number: _,
+            limit: _,
+            begun: _,
+            node: _,
+        } = self;
+    }
+}
+
+impl PendingClose {
+    /// Gives the sender up with its call, which may stay unanswered, and may stop its chain.
+    pub fn abandon(self) {
+        let PendingClose {
+            words: _,
+            seat: _,
+            number: _,
+            limit: _,
+            begun: _,
+            node: _,
+        } = self;
+    }
+}

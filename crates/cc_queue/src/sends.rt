@@ -1,0 +1,174 @@
+//! The service of a sender's request: CC-Queue's enqueue, by the combiner of the senders' chain.
+ghost use Rattle.std.specs.Prelude.{◌≡◌, ◌+◌, ◌<◌, ◌≤◌, ◌^◌, ◌==◌, if◌then◌else◌, Some, None};
+ghost use Rattle.cc_model.specs.declared.call.Answer.TheVariants as answer;
+ghost use Rattle.cc_model.specs.declared.call.SendAnswer.TheVariants as send;
+ghost use Rattle.cc_machine.specs.declared.setting.Served.TheVariants as served;
+ghost use Rattle.cc_machine.specs.declared.word.Chain.TheVariants.{Send};
+ghost use Rattle.cc_machine.specs.declared.place.Place.TheVariants as place;
+ghost use Rattle.cc_machine.specs.declared.place.Sending.TheVariants as sending;
+ghost use Rattle.cc_steps.specs.Seen.{Onward};
+ghost use Rattle.cc_steps.specs.Walk.{IsOf, IsReadyToStep};
+ghost use Rattle.cc_queue.specs.Work.{IsOn, IsListWith, worked_to, tally, reads, marks, hands, scans};
+
+use crate::codes::CODE;
+use cc_machine::{Chain, ItemField, Job, NodeField, Object, Parcel};
+use cc_model::Config;
+use cc_steps::seats::PassSeat;
+use cc_steps::steps;
+use cc_steps::words::Words;
+
+/// Serves one request up to its mark: reads it, and closes the list, or looks for a free node, or tells why not.
+pub fn serve_request(words: &Words, seat: &mut PassSeat, config: &Config, job: Job)
+    requires here { IsOf words.now seat.old }
+    requires list { IsListWith seat.old config.now }
+    requires chain { IsOn seat.old Send }
+    requires at { seat.old.stand.place ≡ place.Sending job sending.ReadTag }
+    ensures worked { seat.new ≡ worked_to seat.old (place.MarkDone job) seat.new }
+    ensures reads { tally reads seat.new.did ≡ tally reads seat.old.did }
+    ensures marks { tally marks seat.new.did ≡ tally marks seat.old.did }
+    ensures hands { tally hands seat.new.did ≡ tally hands seat.old.did }
+    ensures scans { tally scans seat.new.did ≤ config.now.capacity + 1 + tally scans seat.old.did }
+    ensures later { Onward seat.old.seen seat.new.seen }
+{
+    let at = job.round.at;
+    let tag = steps::read_request(words, seat, at, NodeField::Tag);
+    let body = steps::read_request(words, seat, at, NodeField::Body);
+    let shut = steps::read_object(words, seat, Object::Shut);
+    if shut != 0 {
+        refuse_after_close(words, seat, job, tag);
+        return;
+    }
+    let count = steps::read_object(words, seat, Object::Count);
+    if tag == 0 {
+        link_mark(words, seat, config, job, count);
+    } else if count == config.life {
+        steps::write_answer(words, seat, Chain::Send, at, NodeField::Ret, 4 * CODE);
+    } else {
+        let parcel = Parcel {
+            place: count,
+            tag,
+            body,
+        };
+        scan(words, seat, config, job, parcel);
+    }
+}
+
+/// Tells a send that the queue is closed, and a close that it was closed already and with how many items.
+fn refuse_after_close(words: &Words, seat: &mut PassSeat, job: Job, tag: u64)
+    requires here { IsOf words.now seat.old }
+    requires chain { IsOn seat.old Send }
+    requires list { seat.old.setting.served ≡ served.List }
+    requires at { seat.old.stand.place ≡ (if tag == 0 then place.Sending job sending.ReadTotal else place.WriteAnswer job (answer.Send send.Closed)) }
+    ensures worked { seat.new ≡ worked_to seat.old (place.MarkDone job) seat.new }
+    ensures reads { tally reads seat.new.did ≡ tally reads seat.old.did }
+    ensures marks { tally marks seat.new.did ≡ tally marks seat.old.did }
+    ensures hands { tally hands seat.new.did ≡ tally hands seat.old.did }
+    ensures scans { tally scans seat.new.did ≡ tally scans seat.old.did }
+    ensures later { Onward seat.old.seen seat.new.seen }
+{
+    let at = job.round.at;
+    if tag == 0 {
+        let total = steps::read_object(words, seat, Object::Count);
+        let told = 6 * CODE + total;
+        steps::write_answer(words, seat, Chain::Send, at, NodeField::Ret, told);
+    } else {
+        steps::write_answer(words, seat, Chain::Send, at, NodeField::Ret, 3 * CODE);
+    }
+}
+
+/// Closes: links the reserved node behind the last one, and sets `shut`.
+fn link_mark(words: &Words, seat: &mut PassSeat, config: &Config, job: Job, total: u64)
+    requires here { IsOf words.now seat.old }
+    requires list { IsListWith seat.old config.now }
+    requires chain { IsOn seat.old Send }
+    requires at { seat.old.stand.place ≡ place.Sending job (sending.ReadLastToClose total) }
+    ensures worked { seat.new ≡ worked_to seat.old (place.MarkDone job) seat.new }
+    ensures reads { tally reads seat.new.did ≡ tally reads seat.old.did }
+    ensures marks { tally marks seat.new.did ≡ tally marks seat.old.did }
+    ensures hands { tally hands seat.new.did ≡ tally hands seat.old.did }
+    ensures scans { tally scans seat.new.did ≡ tally scans seat.old.did }
+    ensures later { Onward seat.old.seen seat.new.seen }
+{
+    let at = job.round.at;
+    let mark = config.capacity as u64 + 1;
+    let last = steps::read_object(words, seat, Object::Last) - 1;
+    steps::link_last(words, seat, last, mark + 1);
+    steps::write_object(words, seat, Object::Last, mark + 1);
+    steps::write_object(words, seat, Object::Shut, 1);
+    let told = 5 * CODE + total;
+    steps::write_answer(words, seat, Chain::Send, at, NodeField::Ret, told);
+}
+
+/// Looks for a free node from the cursor on, once round, and appends the item there, or tells that the queue is full.
+fn scan(words: &Words, seat: &mut PassSeat, config: &Config, job: Job, parcel: Parcel)
+    requires here { IsOf words.now seat.old }
+    requires list { IsListWith seat.old config.now }
+    requires chain { IsOn seat.old Send }
+    requires at { seat.old.stand.place ≡ place.Sending job (sending.ReadCursor parcel) }
+    ensures worked { seat.new ≡ worked_to seat.old (place.MarkDone job) seat.new }
+    ensures reads { tally reads seat.new.did ≡ tally reads seat.old.did }
+    ensures marks { tally marks seat.new.did ≡ tally marks seat.old.did }
+    ensures hands { tally hands seat.new.did ≡ tally hands seat.old.did }
+    ensures scans { tally scans seat.new.did ≤ config.now.capacity + 1 + tally scans seat.old.did }
+    ensures later { Onward seat.old.seen seat.new.seen }
+{
+    let at = job.round.at;
+    let nodes = config.capacity as u64 + 1;
+    let mut node = steps::read_object(words, seat, Object::Cursor);
+    for reads in 1..nodes {
+        let _ = reads;
+        if steps::read_passed(words, seat, node) == 1 {
+            prepare(words, seat, config, job, parcel, node);
+            return;
+        }
+        node = (node + 1) % nodes;
+    }
+    if steps::read_passed(words, seat, node) == 1 {
+        prepare(words, seat, config, job, parcel, node);
+    } else {
+        steps::write_answer(words, seat, Chain::Send, at, NodeField::Ret, 2 * CODE);
+    }
+}
+
+/// Resets a free node, writes the item into it, and appends it.
+fn prepare(words: &Words, seat: &mut PassSeat, config: &Config, job: Job, parcel: Parcel, node: u64)
+    requires here { IsOf words.now seat.old }
+    requires list { IsListWith seat.old config.now }
+    requires chain { IsOn seat.old Send }
+    requires at { seat.old.stand.place ≡ place.Sending job (sending.ResetPassed parcel node) }
+    ensures worked { seat.new ≡ worked_to seat.old (place.MarkDone job) seat.new }
+    ensures reads { tally reads seat.new.did ≡ tally reads seat.old.did }
+    ensures marks { tally marks seat.new.did ≡ tally marks seat.old.did }
+    ensures hands { tally hands seat.new.did ≡ tally hands seat.old.did }
+    ensures scans { tally scans seat.new.did ≡ tally scans seat.old.did }
+    ensures later { Onward seat.old.seen seat.new.seen }
+{
+    steps::reset_list_node(words, seat, node, ItemField::Passed);
+    steps::reset_list_node(words, seat, node, ItemField::Next);
+    steps::write_item(words, seat, node, ItemField::Tag, parcel.tag);
+    steps::write_item(words, seat, node, ItemField::Body, parcel.body);
+    append(words, seat, config, job, parcel.place, node);
+}
+
+/// Links the prepared node behind the last one: here the item is accepted.
+fn append(words: &Words, seat: &mut PassSeat, config: &Config, job: Job, count: u64, node: u64)
+    requires here { IsOf words.now seat.old }
+    requires list { IsListWith seat.old config.now }
+    requires chain { IsOn seat.old Send }
+    requires at { seat.old.stand.place ≡ place.Sending job (sending.ReadLast count node) }
+    ensures worked { seat.new ≡ worked_to seat.old (place.MarkDone job) seat.new }
+    ensures reads { tally reads seat.new.did ≡ tally reads seat.old.did }
+    ensures marks { tally marks seat.new.did ≡ tally marks seat.old.did }
+    ensures hands { tally hands seat.new.did ≡ tally hands seat.old.did }
+    ensures scans { tally scans seat.new.did ≡ tally scans seat.old.did }
+    ensures later { Onward seat.old.seen seat.new.seen }
+{
+    let at = job.round.at;
+    let last = steps::read_object(words, seat, Object::Last) - 1;
+    steps::link_last(words, seat, last, node + 1);
+    steps::write_object(words, seat, Object::Last, node + 1);
+    steps::write_object(words, seat, Object::Count, count + 1);
+    let cursor = (node + 1) % (config.capacity as u64 + 1);
+    steps::write_object(words, seat, Object::Cursor, cursor);
+    steps::write_answer(words, seat, Chain::Send, at, NodeField::Ret, CODE + count);
+}
