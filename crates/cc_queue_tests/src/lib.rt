@@ -2,6 +2,8 @@
 #![tactic(auto)]
 
 #[cfg(test)]
+mod abandoned;
+#[cfg(test)]
 mod answers;
 #[cfg(test)]
 mod calls;
