@@ -28,11 +28,11 @@ use Rattle.cc_queue.specs.Codes.{IsSendAnswer, IsCloseAnswer}
 use Rattle.cc_queue.specs.Kept.{MadeLast, IsSend, IsClose}
 use Rattle.cc_queue.proofs.AnswerKinds.{send_answered, close_answered}
 
-goes_self : (seen : List Move) → GoesOn seen seen
+pub goes_self : (seen : List Move) → GoesOn seen seen
 goes_self seen = record { more = []; is = refl }
 
 -- a run that goes on from another has a history that begins with the other's
-begins_on : (c : Setting) (seen log : List Move) → Onward seen log → IsRun c log → Begins (history_of c seen) (history_of c log)
+pub begins_on : (c : Setting) (seen log : List Move) → Onward seen log → IsRun c log → Begins (history_of c seen) (history_of c log)
 begins_on c seen log on run =
     let g = on seen (goes_self seen) in
     subst (λ (l : List Move). Begins (history_of c seen) (history_of c l)) (sym g.is) (fronts_begin c g.more seen (subst (IsRun c) g.is run)).1
@@ -64,7 +64,7 @@ made_of : (v w : Walk) (at : Place) → w ≡ worked_to v at w → w.made ≡ v.
 made_of v w at e = ap (λ (x : Walk). x.made) e ∙ sym (append-nil v.made)
 
 -- the same of a pass that stands idle or waits, whose topic is a list
-stands_on : (v w : Walk) (calls : List Entry) (begun node : ℕ) (at : Place) → w.stand ≡ record { begun = begun; node = node; place = at } → to_exchange at ≡ [] → IsSound w → v.setting.served ≡ served.List → IsSameSeat v w → Onward v.seen w.seen → w.made ≡ v.made ++ calls → StandsInOne v calls w
+pub stands_on : (v w : Walk) (calls : List Entry) (begun node : ℕ) (at : Place) → w.stand ≡ record { begun = begun; node = node; place = at } → to_exchange at ≡ [] → IsSound w → v.setting.served ≡ served.List → IsSameSeat v w → Onward v.seen w.seen → w.made ≡ v.made ++ calls → StandsInOne v calls w
 stands_on v w calls begun node at stand out s list same on made_is = stands_in_one v w calls s (ap (λ (c : Setting). c.served) same.1 ∙ list) (ap (λ (x : Stand). to_exchange x.place) stand ∙ out) same on made_is
 
 -- a call that was begun; a caller knows the pass as u

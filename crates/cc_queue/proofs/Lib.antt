@@ -1,3 +1,4 @@
 pub mod Headline
 pub mod AnswerKinds
+pub mod Meetings
 pub mod Seated

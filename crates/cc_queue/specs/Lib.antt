@@ -3,4 +3,5 @@ pub mod Headline
 pub mod Codes
 pub mod Kept
 pub mod Calls
+pub mod Met
 pub mod Opened

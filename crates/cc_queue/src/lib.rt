@@ -12,6 +12,7 @@
 mod begins;
 mod codes;
 mod combine;
+mod meets;
 mod passes;
 mod queue;
 mod receiver;
@@ -20,6 +21,7 @@ mod sends;
 mod takes;
 mod turns;
 
+pub use meets::{meet, meet_all, meet_receivers, meet_senders};
 pub use passes::{
     CloseTurn, PendingClose, PendingSend, PendingTake, Receiver, SendTurn, Sender, TakeTurn,
 };

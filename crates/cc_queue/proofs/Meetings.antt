@@ -1,0 +1,166 @@
+-- A pass that meets others in turn.
+use Rattle.std.proofs.Common.{◌≡◌, ◌≢◌, ℕ, zero, suc, ◌+◌, ◌<◌, ◌≤◌, List, [], ◌∷◌, ◌++◌, length, get_or, set, refl, sym, ap, ◌∙◌, subst, arith, append-nil, append_assoc, get_or-set_same, get_or-set_other, Bool, true, false, nat_lt, length-append, if◌then◌else◌}
+use Rattle.std.proofs.lemmas.Bool.{ltb-true}
+use Rattle.std.specs.List.{All}
+use native.Mathlib.Decide.{ℕ_discrete}
+use Rattle.cc_model.specs.Items.{Begins}
+use Rattle.cc_machine.specs.declared.run.Move.{Move}
+use Rattle.cc_machine.specs.declared.setting.Setting.{Setting}
+use Rattle.cc_machine.specs.declared.setting.Served.TheVariants as served
+use Rattle.cc_machine.specs.declared.place.Stand.{Stand}
+use Rattle.cc_machine.specs.declared.place.Place.TheVariants as place
+use Rattle.cc_machine.specs.Run.{history_of}
+use Rattle.cc_steps.specs.Seen.{Later, Onward}
+use Rattle.cc_steps.specs.Shown.{longer}
+use Rattle.cc_steps.specs.Topic.{Topic}
+use Rattle.cc_steps.specs.Walk.{Walk, IsOf, IsSound}
+use Rattle.cc_queue.specs.Headline.{StandsInOne, history}
+use Rattle.cc_queue.specs.Met.{IsOfOne, Sees, HasMet, EachHasMet, Swept, Gathered}
+use Rattle.cc_queue.proofs.Headline.{begins_on, goes_self, stands_on}
+
+-- an idle pass whose seat has seen more
+pub met_so : (u v w : Walk) (begun node : ℕ) → v ≡ u → v.setting.served ≡ served.List → v.stand ≡ record { begun = begun; node = node; place = place.Idle } → Sees v w → HasMet u w
+met_so u v w begun node is list stand s = subst (λ (x : Walk). HasMet x w) is (record {
+  stands = stands_on v w [] begun node place.Idle (ap (λ (x : Walk). x.stand) s.same ∙ stand) refl s.sound list
+      (ap (λ (x : Walk). x.table_id) s.same, ap (λ (x : Walk). x.setting) s.same, ap (λ (x : Walk). x.number) s.same) s.onward (ap (λ (x : Walk). x.made) s.same ∙ sym (append-nil v.made));
+  same = s.same;
+})
+
+-- one that has seen no more has met itself
+pub met_self : (u v : Walk) (begun node : ℕ) → v ≡ u → v.setting.served ≡ served.List → v.stand ≡ record { begun = begun; node = node; place = place.Idle } → IsSound v → HasMet u u
+met_self u v begun node is list stand s = subst (λ (x : Walk). HasMet x x) is (met_so v v v begun node refl list stand (record { same = refl; onward = λ first k. k; sound = s }))
+
+pub met_more : (a b c : Walk) → HasMet a b → HasMet b c → HasMet a c
+met_more a b c f g = record {
+  stands = record {
+    same = (g.stands.same.0 ∙ f.stands.same.0, g.stands.same.1 ∙ f.stands.same.1, g.stands.same.2 ∙ f.stands.same.2);
+    run = g.stands.run;
+    onward = λ first k. g.stands.onward first (f.stands.onward first k);
+    begins = subst (λ (c' : Setting). Begins (history_of c' a.seen) (history c)) (g.stands.same.1 ∙ f.stands.same.1) (begins_on c.setting a.seen c.seen (λ first k. g.stands.onward first (f.stands.onward first k)) g.stands.run);
+    legal = g.stands.legal;
+    fifo = g.stands.fifo;
+    made = g.stands.made ∙ append-nil b.made ∙ f.stands.made;
+    calls_are = g.stands.calls_are;
+  };
+  same = g.same ∙ (λ i. record (f.same i) { seen = c.seen });
+}
+
+later_more : (xs ys zs : List Move) → Later xs ys → Onward ys zs → Later xs zs
+later_more xs ys zs l on = let g = on xs (record { more = l.0; is = l.1 }) in (g.more, g.is)
+
+later_self : (xs : List Move) → Later xs xs
+later_self xs = ([], refl)
+
+-- a run that goes on from the other is the longer
+longer_back : (xs ys : List Move) → Later ys xs → longer xs ys ≡ xs
+longer_back xs ys f = go (nat_lt (length xs) (length ys)) refl
+  where
+    go : (b : Bool) → nat_lt (length xs) (length ys) ≡ b → (if b then ys else xs) ≡ xs
+    go true e = let lt : length xs < length ys = ltb-true _ _ e in let l : length xs ≡ length (f.0 ++ ys) = ap length f.1 in absurd (omega (arith, l, length-append f.0 ys))
+    go false e = refl
+
+-- the loop so far: `first` was `was`, `now` was `old`, and the first i have met it
+pub record Sweeping (was first : Walk) (old now : List Walk) (i : ℕ) : Type 0 where
+  pub met : HasMet was first
+  pub each : (k : ℕ) (d : Walk) → k < i → k < length old → HasMet (get_or old k d) (get_or now k d)
+  pub rest : (k : ℕ) (d : Walk) → i ≤ k → get_or now k d ≡ get_or old k d
+  pub within : (k : ℕ) (d : Walk) → k < i → k < length old → Later (get_or now k d).seen first.seen
+  pub still : ((k : ℕ) (d : Walk) → k < length old → Later (get_or old k d).seen was.seen) → (first.seen ≡ was.seen) × ((k : ℕ) (d : Walk) → k < i → k < length old → (get_or now k d).seen ≡ first.seen)
+
+pub sweeps : (was first first' : Walk) (old now : List Walk) (i : ℕ) (x x' : Walk) → Sweeping was first old now i → i < length old → length now ≡ length old → ((d : Walk) → get_or now i d ≡ x)
+    → HasMet first first' → HasMet x x' → x'.seen ≡ first'.seen → first'.seen ≡ longer first.seen x.seen → Sweeping was first' old (set now i x') (i + 1)
+sweeps was first first' old now i x x' h lt len at one other seen longest =
+    let here : (d : Walk) → get_or (set now i x') i d ≡ x' = λ d. get_or-set_same now i x' d (omega (arith, len)) in
+    let others : (k : ℕ) (d : Walk) → k ≢ i → get_or (set now i x') k d ≡ get_or now k d = λ k d ne. get_or-set_other now i k x' d ne in
+    record {
+      met = met_more was first first' h.met one;
+      each = λ k d lo hi. elim (ℕ_discrete k i) as (λ _. HasMet (get_or old k d) (get_or (set now i x') k d)) [
+        | yes e ↦ subst (λ (j : ℕ). HasMet (get_or old j d) (get_or (set now i x') j d)) (sym e) (subst (λ (y : Walk × Walk). HasMet y.0 y.1) (λ j. ((sym (at d) ∙ h.rest i d (omega arith)) j, sym (here d) j)) other)
+        | no ne ↦ subst (HasMet (get_or old k d)) (sym (others k d ne)) (h.each k d (omega arith) hi)
+      ];
+      rest = λ k d le. others k d (λ e. omega arith) ∙ h.rest k d (omega arith);
+      within = λ k d lo hi. elim (ℕ_discrete k i) as (λ _. Later (get_or (set now i x') k d).seen first'.seen) [
+        | yes e ↦ subst (λ (l : List Move). Later l first'.seen) (sym (ap (λ (j : ℕ). (get_or (set now i x') j d).seen) e ∙ ap (λ (y : Walk). y.seen) (here d) ∙ seen)) (later_self first'.seen)
+        | no ne ↦ subst (λ (y : Walk). Later y.seen first'.seen) (sym (others k d ne)) (later_more _ _ _ (h.within k d (omega arith) hi) one.stands.onward)
+      ];
+      still = λ all.
+          let k0 = h.still all in
+          let x_is : x ≡ get_or old i x = sym (at x) ∙ h.rest i x (omega arith) in
+          let f : Later x.seen first.seen = subst (λ (l : List Move). Later x.seen l) (sym k0.0) (subst (λ (y : Walk). Later y.seen was.seen) (sym x_is) (all i x lt)) in
+          let same : first'.seen ≡ first.seen = longest ∙ longer_back first.seen x.seen f in (
+            same ∙ k0.0,
+            λ k d lo hi. elim (ℕ_discrete k i) as (λ _. (get_or (set now i x') k d).seen ≡ first'.seen) [
+              | yes e ↦ ap (λ (j : ℕ). (get_or (set now i x') j d).seen) e ∙ ap (λ (y : Walk). y.seen) (here d) ∙ seen
+              | no ne ↦ ap (λ (y : Walk). y.seen) (others k d ne) ∙ k0.1 k d (omega arith) hi ∙ sym same
+            ],
+          );
+    }
+
+-- before the first of them
+pub sweeps_none : (was : Walk) (old : List Walk) → HasMet was was → Sweeping was was old old 0
+sweeps_none was old met = record {
+  met = met;
+  each = λ k d lo. absurd (omega arith);
+  rest = λ k d le. refl;
+  within = λ k d lo. absurd (omega arith);
+  still = λ all. (refl, λ k d lo. absurd (omega arith));
+}
+
+-- after the last of them
+pub swept : (was first : Walk) (old now : List Walk) (i : ℕ) → Sweeping was first old now i → length old ≤ i → length now ≡ length old → Swept was first old now
+swept was first old now i h all len = record {
+  first = h.met;
+  others = λ k d less. h.each k d (omega arith) less;
+  within = λ k d less. h.within k d (omega arith) (omega arith);
+  still = λ before. let s = h.still before in (s.0, λ k d less. s.1 k d (omega arith) (omega arith));
+}
+
+later_all : (first after : Walk) (xs : List Walk) → HasMet first after → All (λ o. Later o.seen first.seen) xs → All (λ o. Later o.seen after.seen) xs
+later_all first after xs met all = λ k d less. later_more _ _ _ (all k d less) met.stands.onward
+
+each_more : (xs ys zs : List Walk) → length ys ≡ length xs → EachHasMet xs ys → EachHasMet ys zs → EachHasMet xs zs
+each_more xs ys zs same f g k d less = met_more _ _ _ (f k d less) (g k d (omega (arith, same)))
+
+-- two sweeps over two lists
+pub gathered : (v0 v1 v2 v3 v4 : Walk) (a0 a1 a2 b0 b1 b2 : List Walk) → length a1 ≡ length a0 → length b1 ≡ length b0 → Swept v0 v1 a0 a1 → Swept v1 v2 b0 b1 → Swept v2 v3 a1 a2 → Swept v3 v4 b1 b2 → Gathered v0 v4 a0 a2 b0 b2
+gathered v0 v1 v2 v3 v4 a0 a1 a2 b0 b1 b2 la lb one two three four =
+    let third = three.still (later_all v1 v2 a1 two.first one.within) in
+    let fourth = four.still (later_all v2 v3 b1 three.first two.within) in
+    record {
+      first = met_more v0 v1 v4 one.first (met_more v1 v2 v4 two.first (met_more v2 v3 v4 three.first four.first));
+      others_met = each_more a0 a1 a2 la one.others three.others;
+      more_met = each_more b0 b1 b2 lb two.others four.others;
+      others_one = λ k d less. third.1 k d less ∙ sym fourth.0;
+      more_one = fourth.1;
+    }
+
+-- and over one
+pub gathered_one : (v0 v1 v2 : Walk) (a0 a1 a2 : List Walk) → length a1 ≡ length a0 → Swept v0 v1 a0 a1 → Swept v1 v2 a1 a2 → Gathered v0 v2 a0 a2 [] []
+gathered_one v0 v1 v2 a0 a1 a2 la one two =
+    let second = two.still one.within in
+    record {
+      first = met_more v0 v1 v2 one.first two.first;
+      others_met = each_more a0 a1 a2 la one.others two.others;
+      more_met = λ k d less. absurd (omega arith);
+      others_one = second.1;
+      more_one = λ k d less. absurd (omega arith);
+    }
+
+-- the first of a list of passes of one queue, and the others
+pub of_rest : (q : Topic) (all rest : List Walk) (x : Walk) → All (IsOf q) all → all ≡ x ∷ rest → All (λ w. IsOfOne x w) rest
+of_rest q all rest x are is = λ k d less.
+    let here : IsOf q x = subst (All (IsOf q)) is are 0 x (omega arith) in
+    let there : IsOf q (get_or rest k d) = subst (All (IsOf q)) is are (suc k) d (omega (arith, less)) in
+    (there.0 ∙ sym here.0, there.1 ∙ sym here.1)
+
+-- and of another list
+pub of_others : (q : Topic) (all rest others : List Walk) (x : Walk) → All (IsOf q) all → All (IsOf q) others → all ≡ x ∷ rest → All (λ w. IsOfOne x w) others
+of_others q all rest others x are others_are is = λ k d less.
+    let here : IsOf q x = subst (All (IsOf q)) is are 0 x (omega arith) in
+    let there : IsOf q (get_or others k d) = others_are k d less in
+    (there.0 ∙ sym here.0, there.1 ∙ sym here.1)
+
+-- all have seen what the first one has
+pub with_first : (w : Walk) (others : List Walk) → All (λ o. o.seen ≡ w.seen) others → All (λ o. o.seen ≡ w.seen) (w ∷ others)
+with_first w others have zero d less = refl
+with_first w others have (suc k) d less = have k d (omega (arith, less))

@@ -1,0 +1,55 @@
+-- What passes know that have met.
+use Rattle.std.specs.Prelude.{◌≡◌, ℕ, ◌<◌, List, [], length, slice_index_or}
+use Rattle.std.specs.List.{All}
+use Rattle.cc_machine.specs.declared.run.Move.{Move}
+use Rattle.cc_steps.specs.Topic.{Topic}
+use Rattle.cc_steps.specs.Seen.{Onward, Later}
+use Rattle.cc_steps.specs.Walk.{Walk, IsOf, IsSound}
+use Rattle.cc_queue.specs.Headline.{StandsInOne}
+
+-- two passes are of one queue
+abbrev pub IsOfOne : Walk → Walk → Type 0
+IsOfOne v w = (w.table_id ≡ v.table_id) × (w.setting ≡ v.setting)
+
+-- and so are all of two lists of them
+pub record AreOfOne (senders receivers : List Walk) : Type 0 where
+  pub queue : Topic
+  pub senders_are : All (IsOf queue) senders
+  pub receivers_are : All (IsOf queue) receivers
+
+-- a seat has seen more, and its pass did nothing
+pub record Sees (v w : Walk) : Type 0 where
+  pub same : w ≡ record v { seen = w.seen }
+  pub onward : Onward v.seen w.seen
+  pub sound : IsSound w
+
+-- A pass has seen more, and did nothing. All that it has seen stands in one history.
+pub record HasMet (v w : Walk) : Type 0 where
+  pub stands : StandsInOne v [] w
+  pub same : w ≡ record v { seen = w.seen }
+
+-- each pass of a list did
+abbrev pub EachHasMet : List Walk → List Walk → Type 0
+EachHasMet old new = (k : ℕ) (d : Walk) → k < length old → HasMet (slice_index_or old k d) (slice_index_or new k d)
+
+-- a pass that met each of the others in turn: it has seen all that any of them has; and where it had seen that before,
+-- it has seen no more now, and all have seen the same
+pub record Swept (v w : Walk) (old new : List Walk) : Type 0 where
+  pub first : HasMet v w
+  pub others : EachHasMet old new
+  pub within : All (λ o. Later o.seen w.seen) new
+  pub still : All (λ o. Later o.seen v.seen) old → (w.seen ≡ v.seen) × All (λ o. o.seen ≡ w.seen) new
+
+-- a pass that gathered two lists of others: all have seen what it has
+pub record Gathered (v w : Walk) (others others' more more' : List Walk) : Type 0 where
+  pub first : HasMet v w
+  pub others_met : EachHasMet others others'
+  pub more_met : EachHasMet more more'
+  pub others_one : All (λ o. o.seen ≡ w.seen) others'
+  pub more_one : All (λ o. o.seen ≡ w.seen) more'
+
+-- all have seen one run, so one history
+pub record HaveSeenOne (senders receivers : List Walk) : Type 0 where
+  pub seen : List Move
+  pub senders_have : All (λ w. w.seen ≡ seen) senders
+  pub receivers_have : All (λ w. w.seen ≡ seen) receivers
