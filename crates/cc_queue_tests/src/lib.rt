@@ -6,4 +6,11 @@ mod abandoned;
 #[cfg(test)]
 mod answers;
 #[cfg(test)]
+mod as_the_machine;
+#[cfg(test)]
+mod beside;
+#[cfg(test)]
 mod calls;
+mod held;
+
+pub use held::{HeldReceiver, HeldSender, Passes};
