@@ -1,9 +1,14 @@
 -- What a pass has seen stands in one history.
-use Rattle.std.proofs.Common.{◌≡◌, ℕ, ◌+◌, ◌*◌, ◌≤◌, ◌==◌, if◌then◌else◌, List, [], ◌∷◌, ◌++◌, map, refl, sym, ap, ◌∙◌, subst, append-nil}
+use Rattle.std.proofs.Common.{◌≡◌, ◌≢◌, ℕ, zero, suc, ◌+◌, ◌*◌, ◌≤◌, ◌==◌, if◌then◌else◌, List, [], ◌∷◌, ◌++◌, map, refl, sym, ap, ◌∙◌, subst, append-nil, append_assoc, arith}
 use Rattle.cc_model.specs.declared.config.Config.{Config}
 use Rattle.cc_model.specs.Items.{Begins, calls_of}
 use Rattle.cc_model.specs.declared.call.Answer.{Answer}
 use Rattle.cc_model.specs.declared.call.Call.{Call}
+use Rattle.cc_model.specs.declared.call.Call.TheVariants as call
+use Rattle.cc_model.specs.declared.call.Answer.TheVariants as answer
+use Rattle.cc_model.specs.declared.call.TakeAnswer.{TakeAnswer}
+use Rattle.cc_model.specs.declared.call.TakeAnswer.TheVariants as take
+use Rattle.std.specs.List.{All}
 use Rattle.cc_model.specs.declared.call.Entry.{Entry}
 use Rattle.cc_machine.specs.declared.run.Move.{Move}
 use Rattle.cc_machine.specs.declared.setting.Setting.{Setting}
@@ -23,7 +28,7 @@ use Rattle.cc_steps.specs.Topic.{Topic}
 use Rattle.cc_steps.specs.Walk.{Walk, IsOf, IsSameSeat, IsSound, IsPendingIn}
 use Rattle.cc_queue.specs.Headline.{StandsInOne, entry_of, name, history}
 use Rattle.cc_queue.specs.Work.{worked_to, tally, reads, marks, hands, scans}
-use Rattle.cc_queue.specs.Calls.{Begun, Waited, Answered}
+use Rattle.cc_queue.specs.Calls.{Begun, Waited, Answered, Ended, Completed, IsSettled, TakenUntil}
 use Rattle.cc_queue.specs.Codes.{IsSendAnswer, IsCloseAnswer}
 use Rattle.cc_queue.specs.Kept.{MadeLast, IsSend, IsClose}
 use Rattle.cc_queue.proofs.AnswerKinds.{send_answered, close_answered}
@@ -116,3 +121,73 @@ pub close_told : (v w : Walk) (told : Answer) → v.setting.served ≡ served.Li
 close_told v w told list s worked last m =
     close_answered w.setting.config (history w) (name w) told w.made (history_is_legal w.setting w.seen (ap (λ (x : Walk). x.setting.served) worked ∙ list) s.checked s.run)
     (calls_in w s (ap (λ (x : Walk). to_exchange x.stand.place) worked)) last (subst (MadeLast IsClose) (sym (ap (λ (x : Walk). x.made) worked)) m)
+
+-- what stands in one history, and goes on in another
+pub stands_more : (a b c : Walk) (xs ys : List Entry) → StandsInOne a xs b → StandsInOne b ys c → StandsInOne a (xs ++ ys) c
+stands_more a b c xs ys f g = record {
+  same = (g.same.0 ∙ f.same.0, g.same.1 ∙ f.same.1, g.same.2 ∙ f.same.2);
+  run = g.run;
+  onward = λ first k. g.onward first (f.onward first k);
+  begins = subst (λ (x : Setting). Begins (history_of x a.seen) (history c)) (g.same.1 ∙ f.same.1) (begins_on c.setting a.seen c.seen (λ first k. g.onward first (f.onward first k)) g.run);
+  legal = g.legal;
+  fifo = g.fifo;
+  made = g.made ∙ ap (λ (l : List Entry). l ++ ys) f.made ∙ append_assoc a.made xs ys;
+  calls_are = g.calls_are;
+}
+
+-- a call that waits is where it was, in more history
+pub waits_on : (a b c : Walk) → StandsInOne a [] b → Waited b c → StandsInOne a [] c
+waits_on a b c f g = stands_more a b c [] [] f g.stands
+
+-- a call that was waited for is done
+pub ended_so : (a b c : Walk) (told : Answer) (n : ℕ) → StandsInOne a [] b → Answered b told n c → Ended a told c
+ended_so a b c told n f g = record { stands = stands_more a b c [] [] f g.stands; last = g.last }
+
+-- from its begin on
+pub completed_so : (a b c : Walk) (call : Call) (told : Answer) → Begun a call b → Ended b told c → Completed a call told c
+completed_so a b c call told f g = record { stands = stands_more a b c (entry_of a call ∷ []) [] f.stands g.stands; last = g.last }
+
+-- a pass with a pending call stands in the history that it has seen
+pub pending_stands : (u v : Walk) (begun node : ℕ) → v ≡ u → v.setting.served ≡ served.List → v.stand ≡ record { begun = begun; node = node; place = place.ReadState } → IsSound v → StandsInOne u [] u
+pending_stands u v begun node is list stand s = subst (λ (x : Walk). StandsInOne x [] x) is (stands_on v v [] begun node place.ReadState stand refl s list (refl, refl, refl) (λ first k. k) (sym (append-nil v.made)))
+
+-- takes that were all answered Empty so far
+pub record Trying (v w : Walk) : Type 0 where
+  pub earlier : List Entry
+  pub takes : All (λ e. e.call ≡ call.Take) earlier
+  pub stands : StandsInOne v earlier w
+
+all_more : (P : Entry → Type 0) (xs : List Entry) (x : Entry) → All P xs → P x → All P (xs ++ x ∷ [])
+all_more P [] x all p zero d less = p
+all_more P [] x all p (suc i) d less = absurd (omega (arith, less))
+all_more P (y ∷ xs) x all p zero d less = all 0 d (omega arith)
+all_more P (y ∷ xs) x all p (suc i) d less = all_more P xs x (λ k e l. all (suc k) e (omega (arith, l))) p i d (omega (arith, less))
+
+-- before the first of them
+pub trying_none : (v : Walk) → StandsInOne v [] v → Trying v v
+trying_none v s = record { earlier = []; takes = λ k d less. absurd (omega (arith, less)); stands = s }
+
+-- one more
+pub trying_more : (v w x : Walk) (told : Answer) → Trying v w → Completed w call.Take told x → Trying v x
+trying_more v w x told t c = record {
+  earlier = t.earlier ++ entry_of w call.Take ∷ [];
+  takes = all_more (λ e. e.call ≡ call.Take) t.earlier (entry_of w call.Take) t.takes refl;
+  stands = stands_more v w x t.earlier (entry_of w call.Take ∷ []) t.stands c.stands;
+}
+
+-- the last one
+pub taken_so : (v w x : Walk) (told : TakeAnswer) → Trying v w → Completed w call.Take (answer.Take told) x → IsSettled told → TakenUntil v told x
+taken_so v w x told t c settled = record {
+  earlier = t.earlier;
+  entry = entry_of w call.Take;
+  takes = all_more (λ e. e.call ≡ call.Take) t.earlier (entry_of w call.Take) t.takes refl;
+  stands = stands_more v w x t.earlier (entry_of w call.Take ∷ []) t.stands c.stands;
+  last = c.last;
+  settled = settled;
+}
+
+-- an answer that isn't Empty
+pub settled_unless : (told : TakeAnswer) → told ≢ take.Empty → IsSettled told
+settled_unless take.Empty ne = absurd (ne refl)
+settled_unless (take.Got item) ne = tt
+settled_unless (take.Ended total) ne = tt

@@ -1,22 +1,17 @@
 -- A pass that meets others in turn.
-use Rattle.std.proofs.Common.{◌≡◌, ◌≢◌, ℕ, zero, suc, ◌+◌, ◌<◌, ◌≤◌, List, [], ◌∷◌, ◌++◌, length, get_or, set, refl, sym, ap, ◌∙◌, subst, arith, append-nil, append_assoc, get_or-set_same, get_or-set_other, Bool, true, false, nat_lt, length-append, if◌then◌else◌}
+use Rattle.std.proofs.Common.{◌≡◌, ◌≢◌, ℕ, zero, suc, ◌+◌, ◌<◌, ◌≤◌, List, [], ◌∷◌, ◌++◌, length, get_or, set, refl, sym, ap, ◌∙◌, subst, arith, append-nil, get_or-set_same, get_or-set_other, Bool, true, false, nat_lt, length-append, if◌then◌else◌}
 use Rattle.std.proofs.lemmas.Bool.{ltb-true}
 use Rattle.std.specs.List.{All}
 use native.Mathlib.Decide.{ℕ_discrete}
-use Rattle.cc_model.specs.Items.{Begins}
 use Rattle.cc_machine.specs.declared.run.Move.{Move}
-use Rattle.cc_machine.specs.declared.setting.Setting.{Setting}
 use Rattle.cc_machine.specs.declared.setting.Served.TheVariants as served
-use Rattle.cc_machine.specs.declared.place.Stand.{Stand}
 use Rattle.cc_machine.specs.declared.place.Place.TheVariants as place
-use Rattle.cc_machine.specs.Run.{history_of}
 use Rattle.cc_steps.specs.Seen.{Later, Onward}
 use Rattle.cc_steps.specs.Shown.{longer}
 use Rattle.cc_steps.specs.Topic.{Topic}
 use Rattle.cc_steps.specs.Walk.{Walk, IsOf, IsSound}
-use Rattle.cc_queue.specs.Headline.{StandsInOne, history}
 use Rattle.cc_queue.specs.Met.{IsOfOne, Sees, HasMet, EachHasMet, Swept, Gathered}
-use Rattle.cc_queue.proofs.Headline.{begins_on, goes_self, stands_on}
+use Rattle.cc_queue.proofs.Headline.{stands_on, stands_more}
 
 -- an idle pass whose seat has seen more
 pub met_so : (u v w : Walk) (begun node : ℕ) → v ≡ u → v.setting.served ≡ served.List → v.stand ≡ record { begun = begun; node = node; place = place.Idle } → Sees v w → HasMet u w
@@ -31,19 +26,7 @@ pub met_self : (u v : Walk) (begun node : ℕ) → v ≡ u → v.setting.served 
 met_self u v begun node is list stand s = subst (λ (x : Walk). HasMet x x) is (met_so v v v begun node refl list stand (record { same = refl; onward = λ first k. k; sound = s }))
 
 pub met_more : (a b c : Walk) → HasMet a b → HasMet b c → HasMet a c
-met_more a b c f g = record {
-  stands = record {
-    same = (g.stands.same.0 ∙ f.stands.same.0, g.stands.same.1 ∙ f.stands.same.1, g.stands.same.2 ∙ f.stands.same.2);
-    run = g.stands.run;
-    onward = λ first k. g.stands.onward first (f.stands.onward first k);
-    begins = subst (λ (c' : Setting). Begins (history_of c' a.seen) (history c)) (g.stands.same.1 ∙ f.stands.same.1) (begins_on c.setting a.seen c.seen (λ first k. g.stands.onward first (f.stands.onward first k)) g.stands.run);
-    legal = g.stands.legal;
-    fifo = g.stands.fifo;
-    made = g.stands.made ∙ append-nil b.made ∙ f.stands.made;
-    calls_are = g.stands.calls_are;
-  };
-  same = g.same ∙ (λ i. record (f.same i) { seen = c.seen });
-}
+met_more a b c f g = record { stands = stands_more a b c [] [] f.stands g.stands; same = g.same ∙ (λ i. record (f.same i) { seen = c.seen }) }
 
 later_more : (xs ys zs : List Move) → Later xs ys → Onward ys zs → Later xs zs
 later_more xs ys zs l on = let g = on xs (record { more = l.0; is = l.1 }) in (g.more, g.is)

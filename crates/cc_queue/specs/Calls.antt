@@ -1,6 +1,11 @@
 -- What the begin of a call and each of its turns tell.
-use Rattle.std.specs.Prelude.{◌≡◌, ℕ, ◌+◌, ◌*◌, ◌≤◌, ◌==◌, if◌then◌else◌, [], ◌∷◌}
+use Rattle.std.specs.Prelude.{◌≡◌, ℕ, ◌+◌, ◌*◌, ◌≤◌, ◌==◌, if◌then◌else◌, List, [], ◌∷◌, ◌++◌}
+use Rattle.std.specs.List.{All}
 use Rattle.cc_model.specs.declared.call.Call.{Call}
+use Rattle.cc_model.specs.declared.call.Call.TheVariants as call
+use Rattle.cc_model.specs.declared.call.Entry.{Entry}
+use Rattle.cc_model.specs.declared.call.TakeAnswer.{TakeAnswer}
+use Rattle.cc_model.specs.declared.call.TakeAnswer.TheVariants as take
 use Rattle.cc_model.specs.declared.call.Answer.{Answer}
 use Rattle.cc_model.specs.declared.call.Answer.TheVariants as answer
 use Rattle.cc_machine.specs.declared.place.Kind.TheVariants as kind
@@ -58,3 +63,28 @@ TurnedClose v (close_turn.Done w told served) = Answered v (answer.Close told) s
 abbrev pub TurnedTake : Walk → TakeTurn → Type 0
 TurnedTake v (take_turn.Waiting w) = Waited v w
 TurnedTake v (take_turn.Done w told served) = Answered v (answer.Take told) served w
+
+-- A call that was waited for: the pass made it, and its answer is that of its pass's last call in one history.
+pub record Completed (v : Walk) (call : Call) (told : Answer) (w : Walk) : Type 0 where
+  pub stands : StandsInOne v (entry_of v call ∷ []) w
+  pub last : IsLastAnswer (name w) (history w) told
+
+-- a call that was pending already
+pub record Ended (v : Walk) (told : Answer) (w : Walk) : Type 0 where
+  pub stands : StandsInOne v [] w
+  pub last : IsLastAnswer (name w) (history w) told
+
+-- a take gave an item, or the end
+abbrev pub IsSettled : TakeAnswer → Type 0
+IsSettled take.Empty = ⊥
+IsSettled _ = Unit {0}
+
+-- Takes that were made until one of them gave an item or the end. All of them stand in one history, and the answer is
+-- that of the last one.
+pub record TakenUntil (v : Walk) (told : TakeAnswer) (w : Walk) : Type 0 where
+  pub earlier : List Entry
+  pub entry : Entry
+  pub takes : All (λ e. e.call ≡ call.Take) (earlier ++ entry ∷ [])
+  pub stands : StandsInOne v (earlier ++ entry ∷ []) w
+  pub last : IsLastAnswer (name w) (history w) (answer.Take told)
+  pub settled : IsSettled told

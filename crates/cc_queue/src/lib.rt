@@ -10,6 +10,7 @@
 #![tactic(auto)]
 
 mod begins;
+mod blocking;
 mod codes;
 mod combine;
 mod meets;
@@ -21,6 +22,7 @@ mod sends;
 mod takes;
 mod turns;
 
+pub use blocking::{close, send, take, take_until};
 pub use meets::{meet, meet_all, meet_receivers, meet_senders};
 pub use passes::{
     CloseTurn, PendingClose, PendingSend, PendingTake, Receiver, SendTurn, Sender, TakeTurn,

@@ -57,24 +57,6 @@ pub fn meet_receivers(one: &mut Receiver, other: &mut Receiver)
     meet_seats(&one.words, &mut one.seat, &mut other.seat);
 }
 
-impl Sender {
-    /// All that the sender has seen stands in one history.
-    fn stands(&self)
-        ensures { HasMet self.now self.now }
-    {
-        self.seat.stands();
-    }
-}
-
-impl Receiver {
-    /// All that the receiver has seen stands in one history.
-    fn stands(&self)
-        ensures { HasMet self.now self.now }
-    {
-        self.seat.stands();
-    }
-}
-
 /// The sender meets each of the others in turn.
 fn sweep_senders(first: &mut Sender, others: &mut [Sender])
     requires { All (λ w. IsOfOne first.old w) others.old }

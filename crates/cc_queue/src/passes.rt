@@ -1,4 +1,8 @@
 //! The passes of a queue: its senders and receivers, idle or with a pending call; and what a turn answers.
+ghost use Rattle.std.specs.Prelude.{[]};
+ghost use Rattle.cc_queue.specs.Headline.{StandsInOne};
+ghost use Rattle.cc_queue.specs.Met.{HasMet};
+
 use cc_model::{CloseAnswer, SendAnswer, TakeAnswer};
 use cc_steps::seats::PassSeat;
 use cc_steps::words::Words;
@@ -142,4 +146,49 @@ pub enum TakeTurn {
         answer: TakeAnswer,
         served: u32,
     },
+}
+
+impl Sender {
+    /// All that the sender has seen stands in one history.
+    pub(crate) fn stands(&self)
+        ensures { HasMet self.now self.now }
+    {
+        self.seat.stands();
+    }
+}
+
+impl Receiver {
+    /// All that the receiver has seen stands in one history.
+    pub(crate) fn stands(&self)
+        ensures { HasMet self.now self.now }
+    {
+        self.seat.stands();
+    }
+}
+
+impl PendingSend {
+    /// All that the sender has seen stands in one history.
+    pub(crate) fn stands(&self)
+        ensures { StandsInOne self.now [] self.now }
+    {
+        self.seat.stands();
+    }
+}
+
+impl PendingClose {
+    /// All that the sender has seen stands in one history.
+    pub(crate) fn stands(&self)
+        ensures { StandsInOne self.now [] self.now }
+    {
+        self.seat.stands();
+    }
+}
+
+impl PendingTake {
+    /// All that the receiver has seen stands in one history.
+    pub(crate) fn stands(&self)
+        ensures { StandsInOne self.now [] self.now }
+    {
+        self.seat.stands();
+    }
 }

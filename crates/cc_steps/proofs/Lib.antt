@@ -1,5 +1,5 @@
+pub mod Lines
 pub mod Runs
-pub mod KnownMore
 pub mod Keeps
 pub mod Walks
 pub mod Joined

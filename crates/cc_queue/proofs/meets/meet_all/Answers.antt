@@ -1,5 +1,5 @@
 use Rattle.std.proofs.Common.{arith}
-use Rattle.cc_queue.proofs.Meetings.{of_rest, of_others, with_first}
+use Rattle.cc_queue.proofs.Meetings.{of_rest, with_first}
 use Rattle.cc_queue.proofs.meets.meet_all.Goals as goal
 
 pub gather-requires-clause-others : goal.gather-requires-clause-others
