@@ -361,10 +361,9 @@ fn run<R: Abort>(rt: &R, alloc: Global, mut dice: Dice, tally: Tally) -> (Dice, 
 #[test]
 fn as_the_machine_does(rt: HostRuntime) {
     let mut dice = Dice(1);
-    let mut tally = Tally([0; 13]);
+    let mut tally = Tally::new();
     for _ in 0..4000u32 {
         (dice, tally) = run(&rt, rt.alloc(), dice, tally);
     }
-    let Tally(seen) = tally;
-    assert!(rt; seen.iter().all(|n| *n > 100), "{seen:?}");
+    assert!(rt; tally.is_above(100), "{tally:?}");
 }

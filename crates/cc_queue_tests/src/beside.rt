@@ -26,15 +26,24 @@ impl Dice {
 }
 
 /// What came about in the runs, each counted.
-#[derive(Drop)]
-pub struct Tally(pub [u32; 13]);
+#[derive(Debug, Drop)]
+pub struct Tally([u32; 13]);
 
 impl Tally {
+    pub fn new() -> Tally {
+        Tally([0; 13])
+    }
+
     /// Counts it once more.
     pub fn count(&mut self, place: usize) {
         if let Some(n) = self.0.get_mut(place) {
             *n = n.wrapping_add(1);
         }
+    }
+
+    /// Whether each came about more often than that.
+    pub fn is_above(&self, least: u32) -> bool {
+        self.0.iter().all(|n| *n > least)
     }
 
     /// Counts an answer, and how many calls its turn served.
