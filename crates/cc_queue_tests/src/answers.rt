@@ -4,7 +4,7 @@ use crate::calls::{
     wait_send, wait_take,
 };
 use cc_model::{CloseAnswer, Config, Item, SendAnswer, TakeAnswer};
-use cc_queue::{begin_close, begin_take};
+use cc_queue::{begin_close, begin_take, meet};
 
 /// The answer of a take that got this item.
 fn got(place: u64, sender: u32, number: u32, body: u64) -> TakeAnswer {
@@ -33,15 +33,16 @@ fn two_sends_combined(rt: HostRuntime) {
     assert_eq!(rt; served, 0);
 }
 
-/// A take gets the first item of two.
+/// A receiver that met a sender takes the first item of two.
 #[test]
 fn take_after_sends(rt: HostRuntime) {
-    let (queue, first, second, receiver) = opened(&rt, rt.alloc(), &SMALL);
+    let (queue, first, second, mut receiver) = opened(&rt, rt.alloc(), &SMALL);
     let first = begin_send(&rt, &queue, first, 7);
     let second = begin_send(&rt, &queue, second, 9);
     let second = wait_send(&rt, &queue, second);
-    let (_first, _, _) = turn_send(&rt, &queue, first);
+    let (mut first, _, _) = turn_send(&rt, &queue, first);
     let (_second, _, _) = turn_send(&rt, &queue, second);
+    meet(&mut first, &mut receiver);
     let taking = begin_take(&queue, receiver);
     let (_receiver, answer, served) = turn_take(&rt, &queue, taking);
     assert_eq!(rt; answer, got(0, 1, 1, 7));
