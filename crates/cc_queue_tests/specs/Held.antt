@@ -1,0 +1,27 @@
+-- Passes of one queue, each idle or with a pending call.
+use Rattle.cc_steps.specs.Topic.{Topic}
+use Rattle.cc_steps.specs.Walk.{IsOf}
+use Rattle.cc_queue_tests.specs.declared.held.HeldSender.{HeldSender}
+use Rattle.cc_queue_tests.specs.declared.held.HeldSender.TheVariants as held_sender
+use Rattle.cc_queue_tests.specs.declared.held.HeldReceiver.{HeldReceiver}
+use Rattle.cc_queue_tests.specs.declared.held.HeldReceiver.TheVariants as held_receiver
+use Rattle.cc_queue_tests.specs.declared.held.Passes.{Passes}
+
+-- the sender is of this queue
+abbrev pub IsSenderOf : Topic → HeldSender → Type 0
+IsSenderOf q (held_sender.Idle w) = IsOf q w
+IsSenderOf q (held_sender.Sending w) = IsOf q w
+IsSenderOf q (held_sender.Closing w) = IsOf q w
+
+-- the receiver is of this queue
+abbrev pub IsReceiverOf : Topic → HeldReceiver → Type 0
+IsReceiverOf q (held_receiver.Idle w) = IsOf q w
+IsReceiverOf q (held_receiver.Taking w) = IsOf q w
+
+-- all these passes are of this queue
+pub record AreOf (q : Topic) (p : Passes) : Type 0 where
+  pub one : IsSenderOf q p.one
+  pub two : IsSenderOf q p.two
+  pub three : IsSenderOf q p.three
+  pub left : IsReceiverOf q p.left
+  pub right : IsReceiverOf q p.right

@@ -1,0 +1,16 @@
+//! Tests of `cc_queue`: what its calls answer in worked runs, on one thread and on several, and against the plain machine.
+#![tactic(auto)]
+
+#[cfg(test)]
+mod abandoned;
+#[cfg(test)]
+mod answers;
+#[cfg(test)]
+mod as_the_machine;
+#[cfg(test)]
+mod beside;
+#[cfg(test)]
+mod calls;
+mod held;
+
+pub use held::{HeldReceiver, HeldSender, Passes};

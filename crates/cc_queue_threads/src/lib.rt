@@ -1,0 +1,13 @@
+//! Threads that send through a queue and take from it, and the audit of the receipts that they keep.
+#![tactic(auto)]
+
+mod jobs;
+mod kept;
+mod round;
+#[cfg(test)]
+mod tests;
+mod workers;
+
+pub use jobs::{SendJob, TakeJob};
+pub use kept::Kept;
+pub use round::{Outcome, RoundFault, play_round};
