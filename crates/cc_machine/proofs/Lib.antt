@@ -16,8 +16,11 @@ pub mod ChainRuns
 pub mod ChainLaws
 pub mod CallsMade
 pub mod RunFronts
+pub mod Passes
+pub mod KnownFronts
 pub mod LinkedList
 pub mod ListRuns
+pub mod AllReady
 pub mod BoardLaws
 pub mod CounterTold
 pub mod ListTold

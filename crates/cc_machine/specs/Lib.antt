@@ -14,6 +14,7 @@ pub mod Machine
 pub mod Sides
 pub mod ChainLaws
 pub mod CallsMade
+pub mod Passes
 pub mod MachineLaws
 pub mod Known
 pub mod Lawful

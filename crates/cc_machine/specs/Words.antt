@@ -1,5 +1,5 @@
 -- The words of one topic's table: their names, where they lie, and what a store changes.
-use Rattle.std.specs.Prelude.{◌≡◌, ℕ, ◌+◌, ◌*◌, Bool, true, false, ◌==◌, ◌&&◌, nat_lt, if◌then◌else◌, List, slice_index_or, IsTrue}
+use Rattle.std.specs.Prelude.{◌≡◌, ℕ, ◌+◌, ◌*◌, ◌<◌, ◌≤◌, Bool, true, false, ◌==◌, ◌&&◌, nat_lt, if◌then◌else◌, List, slice_index_or, IsTrue}
 use Rattle.cc_model.specs.declared.config.Config.{Config}
 use Rattle.cc_machine.specs.declared.word.Chain.{Chain}
 use Rattle.cc_machine.specs.declared.word.Chain.TheVariants.{Send, Take}
@@ -45,36 +45,63 @@ item_field item.Body = 1
 item_field item.Next = 2
 item_field item.Passed = 3
 
--- Words 0 to 7 are the configuration. Then the words of the object, those of each group's end, the senders' nodes,
--- the nodes of each group, and the list nodes.
-abbrev pub send_nodes : Layout → ℕ
-send_nodes l = 13 + 3 * l.groups
+-- Where words lie in one row. Words 0 to 7 are the configuration. Then come the senders' tail, the words of the object,
+-- the ends of the groups (each its tail, then its head and its count of items taken), the senders' nodes, the nodes of
+-- each group, and the list nodes: where the first of a kind is, and how far from it the next one.
+pub record Spacing : Type 0 where
+  pub tail : ℕ
+  pub objects : ℕ
+  pub ends : ℕ
+  pub end_step : ℕ
+  pub end_words : ℕ
+  pub node_step : ℕ
+  pub item_step : ℕ
+
+-- each word is behind the one before it
+abbrev pub dense : Spacing
+dense = record { tail = 8; objects = 9; ends = 13; end_step = 3; end_words = 1; node_step = 5; item_step = 4 }
+
+-- there is room for the words of each kind
+abbrev pub IsRoomy : Spacing → Type 0
+IsRoomy k = (8 ≤ k.tail) × (k.tail < k.objects) × (k.objects + 4 ≤ k.ends) × (0 < k.end_words) × (k.end_words + 2 ≤ k.end_step) × (5 ≤ k.node_step) × (4 ≤ k.item_step)
+
+-- where the senders' nodes begin
+abbrev pub send_nodes : Spacing → Layout → ℕ
+send_nodes k l = k.ends + k.end_step * l.groups
 
 -- where the nodes of a group begin
-abbrev pub take_nodes : Layout → ℕ → ℕ
-take_nodes l g = send_nodes l + 5 * (l.senders + 1) + 5 * (g * (l.receivers + 1))
+abbrev pub take_nodes : Spacing → Layout → ℕ → ℕ
+take_nodes k l g = send_nodes k l + k.node_step * (l.senders + 1) + k.node_step * (g * (l.receivers + 1))
 
 -- where the list nodes begin
-abbrev pub items : Layout → ℕ
-items l = take_nodes l l.groups
+abbrev pub items : Spacing → Layout → ℕ
+items k l = take_nodes k l l.groups
+
+-- how long the row is
+abbrev pub row_size : Spacing → Layout → ℕ
+row_size k l = items k l + k.item_step * (l.capacity + 2)
+
+-- where a word lies in it
+abbrev pub lies : Spacing → Layout → Word → ℕ
+lies k l (word.Tail Send) = k.tail
+lies k l (word.Tail (Take g)) = k.ends + k.end_step * g
+lies k l (word.Object object.Last) = k.objects
+lies k l (word.Object object.Shut) = k.objects + 1
+lies k l (word.Object object.Count) = k.objects + 2
+lies k l (word.Object object.Cursor) = k.objects + 3
+lies k l (word.Object (object.Head g)) = k.ends + k.end_step * g + k.end_words
+lies k l (word.Object (object.Taken g)) = k.ends + k.end_step * g + k.end_words + 1
+lies k l (word.Node Send i f) = send_nodes k l + k.node_step * i + node_field Send f
+lies k l (word.Node (Take g) i f) = take_nodes k l g + k.node_step * i + node_field (Take g) f
+lies k l (word.Item i f) = items k l + k.item_step * i + item_field f
 
 -- how many words there are
 abbrev pub size : Layout → ℕ
-size l = items l + 4 * (l.capacity + 2)
+size l = row_size dense l
 
--- where a word lies
+-- the number of a word among all words, from 0 on
 abbrev pub address : Layout → Word → ℕ
-address l (word.Tail Send) = 8
-address l (word.Tail (Take g)) = 13 + 3 * g
-address l (word.Object object.Last) = 9
-address l (word.Object object.Shut) = 10
-address l (word.Object object.Count) = 11
-address l (word.Object object.Cursor) = 12
-address l (word.Object (object.Head g)) = 14 + 3 * g
-address l (word.Object (object.Taken g)) = 15 + 3 * g
-address l (word.Node Send i f) = send_nodes l + 5 * i + node_field Send f
-address l (word.Node (Take g) i f) = take_nodes l g + 5 * i + node_field (Take g) f
-address l (word.Item i f) = items l + 4 * i + item_field f
+address l w = lies dense l w
 
 -- the words that there are
 abbrev pub exists : Layout → Word → Bool
@@ -110,9 +137,13 @@ same (word.Node x i f) (word.Node y j g) = (node_field Send f == node_field Send
 same (word.Item i f) (word.Item j g) = (item_field f == item_field g) && (i == j)
 same _ _ = false
 
--- the word of this name, in the table's words; there are no others
+-- the word of this name in a row of words; there are no others
+abbrev pub word_in_row : Spacing → Layout → List ℕ → Word → ℕ
+word_in_row k l words w = if exists l w then slice_index_or words (lies k l w) 0 else 0
+
+-- the word of this name, each word behind the one before it
 abbrev pub word_at : Layout → List ℕ → Word → ℕ
-word_at l words w = if exists l w then slice_index_or words (address l w) 0 else 0
+word_at l words w = word_in_row dense l words w
 
 -- the words after a store
 abbrev pub put : (Word → ℕ) → Word → ℕ → Word → ℕ
@@ -120,4 +151,4 @@ put mem w value v = if same w v then value else mem v
 
 -- no two words lie in one place
 abbrev pub OneToOne : Type 0
-OneToOne = (l : Layout) (v w : Word) → IsTrue (exists l v) → IsTrue (exists l w) → address l v ≡ address l w → v ≡ w
+OneToOne = (k : Spacing) → IsRoomy k → (l : Layout) (v w : Word) → IsTrue (exists l v) → IsTrue (exists l w) → lies k l v ≡ lies k l w → v ≡ w

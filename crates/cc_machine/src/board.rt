@@ -1,12 +1,13 @@
 ghost use Rattle.std.specs.Prelude.{◌≡◌, ◌+◌, ◌<◌, length, slice_set, IsTrue, None, Some, ◌≢◌, IfSome, IfNone};
-ghost use Rattle.cc_machine.specs.Words.{layout_of, address, exists, put};
+ghost use Rattle.cc_machine.specs.Words as laid;
+ghost use Rattle.cc_machine.specs.Words.{layout_of, exists, put};
 ghost use Rattle.cc_machine.specs.State.{hold, noted};
 ghost use Rattle.cc_machine.specs.Columns.{group_of};
 ghost use Rattle.cc_machine.specs.Shown.{state_of, stand_of, IsLaid, Keeps, HasCallRoom, HasAnswerRoom};
 
 use crate::place::{Place, Stand};
 use crate::setting::Setting;
-use crate::word::{Chain, ItemField, NodeField, Object, Word};
+use crate::word::{Chain, Word, address};
 use cc_model::{Answer, Entry, History};
 
 /// The words of one topic's table, where each pass stands, and the history.
@@ -28,59 +29,14 @@ pub struct Seat {
 }
 
 impl Board {
-    /// Where a word lies: words 0 to 7 are kept for the configuration; then come E.Tail, `last`, `shut`, `count`, `cursor`, then
-    /// D.Tail, `head` and `taken` of each group, the senders' nodes, the nodes of each group, and the list nodes.
+    /// Where a word lies.
     fn address(&self, word: Word) -> usize
         requires laid { IsLaid self.now }
         requires word { IsTrue (exists (layout_of self.now.setting.config) word) }
-        ensures place { result ≡ address (layout_of self.now.setting.config) word }
+        ensures place { result ≡ laid.address (layout_of self.now.setting.config) word }
         ensures below { result < length self.now.words.items }
     {
-        let send_nodes = 16;
-        let take_nodes = send_nodes + 5 * (self.setting.config.senders as usize + 1);
-        let items = take_nodes + 5 * (self.setting.config.receivers as usize + 1);
-        match word {
-            Word::Tail(Chain::Send) => 8,
-            Word::Tail(Chain::Take(group)) => 13 + 3 * group as usize,
-            Word::Object(Object::Last) => 9,
-            Word::Object(Object::Shut) => 10,
-            Word::Object(Object::Count) => 11,
-            Word::Object(Object::Cursor) => 12,
-            Word::Object(Object::Head(group)) => 14 + 3 * group as usize,
-            Word::Object(Object::Taken(group)) => 15 + 3 * group as usize,
-            Word::Node(Chain::Send, index, field) => {
-                let field = match field {
-                    NodeField::Next => 0,
-                    NodeField::State => 1,
-                    NodeField::Tag => 2,
-                    NodeField::Body => 3,
-                    NodeField::Ret => 4,
-                };
-                send_nodes + 5 * index as usize + field
-            }
-            Word::Node(Chain::Take(group), index, field) => {
-                let field = match field {
-                    NodeField::Next => 0,
-                    NodeField::State => 1,
-                    NodeField::Ret => 2,
-                    NodeField::Tag => 3,
-                    NodeField::Body => 4,
-                };
-                take_nodes
-                    + 5 * (group as usize * (self.setting.config.receivers as usize + 1))
-                    + 5 * index as usize
-                    + field
-            }
-            Word::Item(index, field) => {
-                let field = match field {
-                    ItemField::Tag => 0,
-                    ItemField::Body => 1,
-                    ItemField::Next => 2,
-                    ItemField::Passed => 3,
-                };
-                items + 4 * index as usize + field
-            }
-        }
+        address(&self.setting.config, word)
     }
 
     /// What a word holds.

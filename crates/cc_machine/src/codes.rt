@@ -74,7 +74,8 @@ pub fn ret_of(served: Served, answer: Answer) -> u64
     }
 }
 
-fn list_reads(ret: u64) -> Answer
+/// What a sender of the list reads in its answer word.
+pub fn list_reads(ret: u64) -> Answer
     ensures { result ≡ codes.list_reads ret }
 {
     let value = ret % CODE;
@@ -88,7 +89,7 @@ fn list_reads(ret: u64) -> Answer
     }
 }
 
-/// What a sender reads in its answer word.
+/// What a sender reads in its answer word, whatever is served.
 pub fn sender_reads(served: Served, ret: u64) -> Answer
     ensures { result ≡ codes.sender_reads served ret }
 {

@@ -13,26 +13,24 @@ mod chain_laws;
 mod codes;
 mod count;
 mod counter;
-#[cfg(test)]
-mod counter_tests;
 mod event;
 mod fault;
 mod known;
 mod lawful;
 mod list_laws;
 mod machine;
-#[cfg(test)]
-mod machine_tests;
 mod moves;
 mod open;
 mod place;
 mod run;
+mod run_laws;
 mod send;
 mod setting;
 mod take;
 mod word;
 
 pub use chain_laws::{calls_wait_for_their_link, laws_of_calls, laws_of_chains, laws_of_counters};
+pub use codes::{CODE, item_of, list_reads, request_in, ret_of, sender_reads};
 pub use counter::CounterMachine;
 pub use fault::{BeginFault, OpenFault};
 pub use list_laws::{
@@ -46,5 +44,6 @@ pub use place::{
     Counting, Event, Job, Kind, Parcel, Place, Request, Round, Sending, Stand, Taking,
 };
 pub use run::Move;
+pub use run_laws::{fronts_know_no_more, others_leave_a_pass};
 pub use setting::{Served, Setting};
-pub use word::{Chain, ItemField, NodeField, Object, Word};
+pub use word::{Chain, ItemField, NodeField, Object, Word, address};

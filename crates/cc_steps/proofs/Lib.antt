@@ -1,8 +1,9 @@
+pub mod Lines
 pub mod Runs
-pub mod KnownMore
 pub mod Keeps
 pub mod Walks
 pub mod Joined
+pub mod StepFacts
 pub mod Told
 pub mod Own
 pub mod StepLaws

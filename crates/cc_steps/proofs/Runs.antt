@@ -1,79 +1,42 @@
 -- Runs that go on: others' moves leave a pass where it stands, and what one step adds to a run.
-use Rattle.std.proofs.Common.{◌≡◌, ◌≢◌, ℕ, ◌<◌, ◌≤◌, Bool, true, false, ◌==◌, List, [], ◌∷◌, ◌++◌, IsTrue, Option, Some, None, Ok, refl, sym, ap, ◌∙◌, subst, eq-eqb, ne_eqb, append_assoc, if◌then◌else◌}
+use Rattle.std.proofs.Common.{◌≡◌, ◌≢◌, ℕ, ◌<◌, ◌≤◌, Bool, List, [], ◌∷◌, ◌++◌, IsTrue, Option, Some, None, Ok, refl, sym, ap, ◌∙◌, subst, eq-eqb, append_assoc, if◌then◌else◌}
 use Rattle.cc_model.specs.Config.{config_fault}
 use Rattle.cc_model.specs.Items.{Begins}
 use Rattle.cc_model.specs.declared.call.Call.{Call}
 use Rattle.cc_machine.specs.declared.run.Move.{Move}
 use Rattle.cc_machine.specs.declared.run.Move.TheVariants.{Begin, Step, Take}
 use Rattle.cc_machine.specs.declared.setting.Setting.{Setting}
-use Rattle.cc_machine.specs.declared.setting.Served.{Served}
-use Rattle.cc_machine.specs.declared.setting.Served.TheVariants as served
 use Rattle.cc_machine.specs.declared.word.Word.{Word}
 use Rattle.cc_machine.specs.declared.place.Stand.{Stand}
 use Rattle.cc_machine.specs.declared.place.Place.{Place}
 use Rattle.cc_machine.specs.declared.place.Place.TheVariants as place
 use Rattle.cc_machine.specs.declared.place.Event.TheVariants.{Idle}
 use Rattle.cc_machine.specs.Words.{layout_of, exists}
-use Rattle.cc_machine.specs.State.{State, chain_of, pass_at, hold, word_of, stored}
+use Rattle.cc_machine.specs.State.{chain_of, pass_at, word_of, stored}
 use Rattle.cc_machine.specs.Columns.{event_at}
 use Rattle.cc_machine.specs.Step.{advanced}
-use Rattle.cc_machine.specs.Safe.{IsReady, IsSafe, IsPlaceSafe}
+use Rattle.cc_machine.specs.Safe.{IsSafe, IsPlaceSafe}
 use Rattle.cc_machine.specs.CallsMade.{made}
-use Rattle.cc_machine.specs.Run.{number_of, IsRun, IsFinished, passes, reached, moved, history_of, begins, rests}
+use Rattle.cc_machine.specs.Run.{number_of, IsRun, IsFinished, passes, reached, history_of, begins, rests}
+use Rattle.cc_machine.specs.Passes.{by, then_did, kinds}
 use Rattle.cc_machine.proofs.RunFronts.{fronts_begin}
-use Rattle.cc_machine.proofs.ListRuns.Ready.{list_ready}
-use Rattle.cc_machine.proofs.CounterRuns.{counter_ready}
-use Rattle.cc_steps.specs.Seen.{GoesOn, pass_of, by, stand_in, word_in, known_in, begun, entered, taken, rested, settled, added, after_step, does_at, then_did, kinds, did_in, made_in, with_begun}
+use Rattle.cc_machine.proofs.Chains.Frame.{hold_here}
+use Rattle.cc_machine.proofs.Passes.{by-other, others_leave}
+use Rattle.cc_machine.proofs.AllReady.{each_ready}
+use Rattle.cc_steps.specs.Seen.{GoesOn, stand_in, word_in, known_in, begun, entered, taken, rested, settled, added, after_step, does_at, did_in, made_in, with_begun}
 use Rattle.cc_steps.specs.Shown.{CanStart}
-
--- ---- the moves of a pass
-
-pub by-append : (p : ℕ) (xs ys : List Move) → by p (xs ++ ys) ≡ by p xs ++ by p ys
-by-append p [] ys = refl
-by-append p (x ∷ xs) ys = go (pass_of x == p) (by-append p xs ys)
-  where
-    go : (b : Bool) → by p (xs ++ ys) ≡ by p xs ++ by p ys → (if b then x ∷ by p (xs ++ ys) else by p (xs ++ ys)) ≡ (if b then x ∷ by p xs else by p xs) ++ by p ys
-    go true h = ap (λ (l : List Move). x ∷ l) h
-    go false h = h
-
-others_move : (p : ℕ) (m : Move) (ms : List Move) → by p (m ∷ ms) ≡ [] → ((pass_of m == p) ≡ false) × (by p ms ≡ [])
-others_move p m ms h = go (pass_of m == p) h
-  where
-    go : (b : Bool) → (if b then m ∷ by p ms else by p ms) ≡ [] → (b ≡ false) × (by p ms ≡ [])
-    go true h = absurd (cc)
-    go false h = (refl, h)
-
-pub by-other : (p q : ℕ) (m : Move) (ms : List Move) → pass_of m ≡ p → p ≢ q → by q ms ≡ [] → by q (m ∷ ms) ≡ []
-by-other p q m ms is ne none = ap (λ (b : Bool). if b then m ∷ by q ms else by q ms) (ne_eqb (pass_of m) q (λ e. ne (sym is ∙ e))) ∙ none
-
-pub by-own : (p : ℕ) (m : Move) (ms : List Move) → pass_of m ≡ p → by p (m ∷ ms) ≡ m ∷ by p ms
-by-own p m ms is = ap (λ (b : Bool). if b then m ∷ by p ms else by p ms) (eq-eqb (pass_of m) p is)
 
 -- ---- where a pass stands
 
-held_else : (stands : ℕ → Stand) (q : ℕ) (at : Stand) (p : ℕ) → (q == p) ≡ false → hold stands q at p ≡ stands p
-held_else stands q at p h = ap (λ (b : Bool). if b then at else stands p) h
-
-held_here : (stands : ℕ → Stand) (p : ℕ) (at : Stand) → hold stands p at p ≡ at
-held_here stands p at = ap (λ (b : Bool). if b then at else stands p) (eq-eqb p p refl)
-
-moved_other : (c : Setting) (s : State) (m : Move) (p : ℕ) → (pass_of m == p) ≡ false → (moved c s m).stand p ≡ s.stand p
-moved_other c s (Begin q call known) p h = held_else s.stand q (begins c.config q call known (s.stand q)) p h
-moved_other c s (Step q) p h = held_else s.stand q _ p h
-moved_other c s (Take q) p h = held_else s.stand q (rests (s.stand q)) p h
-
 pub stand-others : (c : Setting) (more seen : List Move) (p : ℕ) → by p more ≡ [] → stand_in c (more ++ seen) p ≡ stand_in c seen p
 unfolding stand_in
-stand-others c [] seen p none = refl
-stand-others c (m ∷ more) seen p none =
-    let t = others_move p m more none in
-    moved_other c (reached c (more ++ seen)) m p t.0 ∙ stand-others c more seen p t.1
+stand-others c more seen p none = (others_leave c more seen p none).0
 
 -- a begin, if there is one
 pub entered_stand : (c : Setting) (p : ℕ) (seen log : List Move) (call : Option Call) → stand_in c (begun c p seen call log) p ≡ entered c p seen call (stand_in c log p)
 unfolding stand_in
 entered_stand c p seen log None = refl
-entered_stand c p seen log (Some call) = held_here (reached c log).stand p (begins c.config p call (known_in c p seen) ((reached c log).stand p))
+entered_stand c p seen log (Some call) = hold_here (reached c log).stand p (begins c.config p call (known_in c p seen) ((reached c log).stand p))
 
 pub begun_words : (c : Setting) (p : ℕ) (seen log : List Move) (call : Option Call) → (reached c (begun c p seen call log)).mem ≡ (reached c log).mem
 begun_words c p seen log None = refl
@@ -82,7 +45,7 @@ begun_words c p seen log (Some call) = refl
 -- a step
 pub stepped_stand : (c : Setting) (p : ℕ) (log : List Move) → stand_in c (Step p ∷ log) p ≡ advanced c (chain_of c.config p) (stand_in c log p) (word_in c log (word_of (does_at c p (stand_in c log p))))
 unfolding stand_in word_in
-stepped_stand c p log = held_here (reached c log).stand p _
+stepped_stand c p log = hold_here (reached c log).stand p _
 
 stepped_words : (c : Setting) (p : ℕ) (log : List Move) → (reached c (Step p ∷ log)).mem ≡ stored (reached c log).mem (does_at c p (stand_in c log p))
 unfolding stand_in
@@ -91,7 +54,7 @@ stepped_words c p log = refl
 -- the answer taken, if there is one
 taken_stand : (c : Setting) (p : ℕ) (log : List Move) (at : Place) → stand_in c (taken p at log) p ≡ rested at (stand_in c log p)
 unfolding stand_in
-taken_stand c p log (place.Finished told) = held_here (reached c log).stand p (rests ((reached c log).stand p))
+taken_stand c p log (place.Finished told) = hold_here (reached c log).stand p (rests ((reached c log).stand p))
 taken_stand c p log _ = refl
 
 taken_words : (c : Setting) (p : ℕ) (log : List Move) (at : Place) → (reached c (taken p at log)).mem ≡ (reached c log).mem
@@ -133,21 +96,11 @@ module _ (c : Setting) (p : ℕ) (seen log : List Move) (call : Option Call) whe
 
 pub made-others : (c : Setting) (more seen : List Move) (p : ℕ) → by p more ≡ [] → made_in c (more ++ seen) p ≡ made_in c seen p
 unfolding made_in
-made-others c [] seen p none = refl
-made-others c (Begin q call known ∷ more) seen p none =
-    let t = others_move p (Begin q call known) more none in
-    ap (λ (b : Bool). if b then made c (more ++ seen) p ++ record { pass = pass_at c.config q; call = call; number = number_of call ((reached c (more ++ seen)).stand q).begun; known = known } ∷ [] else made c (more ++ seen) p) t.0 ∙ made-others c more seen p t.1
-made-others c (Step q ∷ more) seen p none = made-others c more seen p (others_move p (Step q) more none).1
-made-others c (Take q ∷ more) seen p none = made-others c more seen p (others_move p (Take q) more none).1
+made-others c more seen p none = (others_leave c more seen p none).1
 
 pub did-others : (c : Setting) (more seen : List Move) (p : ℕ) → by p more ≡ [] → did_in c (more ++ seen) p ≡ did_in c seen p
 unfolding did_in
-did-others c [] seen p none = refl
-did-others c (Step q ∷ more) seen p none =
-    let t = others_move p (Step q) more none in
-    ap (λ (b : Bool). if b then then_did (event_at (stand_in c (more ++ seen) p).place) (kinds c (more ++ seen) p) else kinds c (more ++ seen) p) t.0 ∙ did-others c more seen p t.1
-did-others c (Begin q call known ∷ more) seen p none = did-others c more seen p (others_move p (Begin q call known) more none).1
-did-others c (Take q ∷ more) seen p none = did-others c more seen p (others_move p (Take q) more none).1
+did-others c more seen p none = (others_leave c more seen p none).2
 
 taken_made : (c : Setting) (p : ℕ) (log : List Move) (at : Place) → made_in c (taken p at log) p ≡ made_in c log p
 unfolding made_in
@@ -175,7 +128,7 @@ unfolding made_in
 step_made c p log = refl
 
 step_did : (c : Setting) (p : ℕ) (log : List Move) → did_in c (Step p ∷ log) p ≡ then_did (event_at (stand_in c log p).place) (did_in c log p)
-unfolding did_in
+unfolding did_in stand_in
 step_did c p log = ap (λ (b : Bool). if b then then_did (event_at (stand_in c log p).place) (kinds c log p) else kinds c log p) (eq-eqb p p refl)
 
 module _ (c : Setting) (p : ℕ) (seen log : List Move) (call : Option Call) where
@@ -239,13 +192,6 @@ added_run c p seen log call less can r known =
     (taken_run c p (Step p ∷ begun c p seen call log) _ less refl (a, (less, b)), a)
 
 -- ---- each step is ready
-
-pub each_ready : (c : Setting) → config_fault c.config ≡ Ok tt → (moves : List Move) → IsRun c moves → (p : ℕ) → p < passes c → IsReady c (reached c moves) p
-each_ready c checked moves r p less = go c.served refl
-  where
-    go : (x : Served) → c.served ≡ x → IsReady c (reached c moves) p
-    go served.Counter is = counter_ready c is checked moves r p less
-    go served.List is = list_ready c is checked moves r p less
 
 -- a step of a pass that can do it is safe, also the first one of a call that begins
 pub step_safe : (c : Setting) → config_fault c.config ≡ Ok tt → (p : ℕ) (seen log : List Move) (call : Option Call) (at : Stand) → p < passes c → IsRun c (begun c p seen call log) → stand_in c log p ≡ at

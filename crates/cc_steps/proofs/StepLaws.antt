@@ -1,7 +1,7 @@
 -- What the laws of every run say of one step: nodes that are used again, and calls that wait for their link.
-use Rattle.std.proofs.Common.{◌≡◌, ℕ, ◌<◌, List, ◌∷◌, ◌++◌, None, Ok, refl, sym, ap, ◌∙◌, subst}
-use Rattle.cc_model.specs.Config.{config_fault}
+use Rattle.std.proofs.Common.{◌≡◌, ℕ, List, ◌∷◌, ◌++◌, Option, Some, None, refl, sym, ap, ◌∙◌, subst}
 use Rattle.cc_model.specs.Record.{Record}
+use Rattle.cc_model.specs.declared.call.Call.{Call}
 use Rattle.cc_machine.specs.declared.run.Move.{Move}
 use Rattle.cc_machine.specs.declared.run.Move.TheVariants.{Step}
 use Rattle.cc_machine.specs.declared.setting.Setting.{Setting}
@@ -21,7 +21,7 @@ use Rattle.cc_machine.specs.declared.place.Taking.TheVariants as taking
 use Rattle.cc_machine.specs.declared.place.Stand.{Stand}
 use Rattle.cc_machine.specs.State.{Operation, Store, chain_of, pass_at, word_of, noted}
 use Rattle.cc_machine.specs.Columns.{operation, event_at, goes, enters, decides}
-use Rattle.cc_machine.specs.Run.{IsRun, passes, history_of}
+use Rattle.cc_machine.specs.Run.{history_of}
 use Rattle.cc_machine.specs.ChainLaws.{IsEntering, IsLastPending}
 use Rattle.cc_machine.specs.MachineLaws.{Resets, Prepares}
 use Rattle.cc_machine.proofs.ListRuns.Laws.{reset_after_the_take, prepared_alone}
@@ -29,9 +29,10 @@ use Rattle.cc_machine.proofs.ChainLaws.{chain_laws}
 use Rattle.cc_machine.proofs.ChainRuns.{calls_wait}
 use Rattle.cc_machine.specs.Step.{advanced}
 use Rattle.cc_steps.specs.Seen.{stand_in, word_in, does_at, rested}
-use Rattle.cc_steps.specs.Walk.{Walk, Walked, Steps, IsPendingIn, walked_to, next_stand}
+use Rattle.cc_steps.specs.Walk.{Walk, Walked, Steps, CanBegin, IsPendingIn, walked_to}
 use Rattle.cc_steps.specs.Reuse.{HasReused, HasOwned}
-use Rattle.cc_steps.proofs.Runs.{stand-others, taken_history, of_added}
+use Rattle.cc_steps.proofs.Runs.{taken_history}
+use Rattle.cc_steps.proofs.StepFacts.{same, number, checked, below, run_then, run_here, stands, stands_then}
 
 -- the step is a reset of this node, and leads on to its preparation
 resets_at : (c : Setting) (x : Chain) (b own n : ℕ) (f : ItemField) (at : Place) → event_at at ≡ Did kind.ResetListNode → operation c x own at ≡ Store (Item n f) 0 → Resets at n × Prepares (goes c x own at 0) n
@@ -41,8 +42,9 @@ resets_at c x b own n f (place.Counting job counting.ReadTag) e o = absurd (cc e
 resets_at c x b own n f (place.Taking job taking.ReadHead) e o = absurd (cc e)
 resets_at c x b own n f _ e o = absurd (cc e)
 
-owns_at : (c : Setting) (x y : Chain) (own n : ℕ) (at : Place) → event_at at ≡ Did kind.ResetState → operation c x own at ≡ Store (Node y n node.State) 1 → own ≡ n
-owns_at c x y own n (place.ResetState call) e o = cc o
+-- the node that is reset is the pass's own
+owns_at : (c : Setting) (x y : Chain) (own n : ℕ) (at : Place) → event_at at ≡ Did kind.ResetState → operation c x own at ≡ Store (Node y n node.State) 1 → (x ≡ y) × (own ≡ n)
+owns_at c x y own n (place.ResetState call) e o = (cc o, cc o)
 owns_at c x y own n (place.Counting job counting.ReadTag) e o = absurd (cc e)
 owns_at c x y own n (place.Sending job sending.ReadTag) e o = absurd (cc e)
 owns_at c x y own n (place.Taking job taking.ReadHead) e o = absurd (cc e)
@@ -61,64 +63,55 @@ still_prepares : (n : ℕ) (pl : Place) (at : Stand) → at.place ≡ pl → Pre
 still_prepares n (place.Finished told) at is p = absurd p
 still_prepares n _ at is p = subst (λ (x : Place). Prepares x n) (sym is) p
 
-module _ (v w : Walk) (k : Walked v None w) (step : w ≡ walked_to v None 0 w.seen) where
-  abbrev C : Setting
-  C = v.setting
-
-  abbrev Log : List Move
-  Log = k.between ++ v.seen
-
-  same : w.setting ≡ C
-  same = ap (λ (x : Walk). x.setting) step
-
-  number : w.number ≡ v.number
-  number = ap (λ (x : Walk). x.number) step
-
-  checked : config_fault C.config ≡ Ok tt
-  checked = subst (λ (x : Setting). config_fault x.config ≡ Ok tt) same k.checked
-
-  below : v.number < passes C
-  below = subst (λ (x : Setting × ℕ). x.1 < passes x.0) (λ i. (same i, number i)) k.below
-
-  run_then : IsRun C w.seen
-  run_then = subst (λ (x : Setting). IsRun x w.seen) same k.run
-
-  run_here : IsRun C Log
-  run_here = of_added C v.number v.seen Log None (subst (IsRun C) k.seen run_then)
-
-  stands : stand_in C Log v.number ≡ v.stand
-  stands = stand-others C k.between v.seen v.number k.others ∙ sym k.was.0
-
-  stands_then : stand_in C w.seen v.number ≡ next_stand v None 0
-  stands_then = (λ i. stand_in (sym same i) w.seen (sym number i)) ∙ sym k.shows.0 ∙ ap (λ (x : Walk). x.stand) step
-
-  pub reused : (n : ℕ) (f : ItemField) → C.served ≡ served.List → Steps v kind.ResetListNode (Store (Item n f) 0) → HasReused v n w
+-- a store, which may be the first step of a call
+module _ (v w : Walk) (call : Option Call) (k : Walked v call w) (step : w ≡ walked_to v call 0 w.seen) where
+  owned_as : (y : Chain) (n : ℕ) → (chain_of v.setting.config v.number ≡ y) × (v.stand.node ≡ n) → HasOwned v call y n w
   unfolding stand_in
-  reused n f list can =
-      let r = resets_at C (chain_of C.config v.number) v.stand.begun v.stand.node n f v.stand.place can.0 can.1 in
+  owned_as y n is =
+      let mine : (stand_in v.setting (k.between ++ v.seen) v.number).node ≡ n = ap (λ (x : Stand). x.node) (stands v w call 0 k step) ∙ is.1 in
       record {
         between = k.between;
         others = k.others;
         seen = k.seen;
-        passed = λ j at. reset_after_the_take C Log list checked run_here v.number n j (subst (λ (x : Stand). Resets x.place n) (sym stands) r.0) at;
-        alone = λ q holds. prepared_alone C w.seen list checked run_then v.number q n
-            (subst (λ (x : Stand). Prepares x.place n) (sym stands_then) (still_prepares n _ (advanced C (chain_of C.config v.number) v.stand 0) refl r.1)) holds;
+        chain = is.0;
+        mine = mine;
+        own = λ q less on owns. (chain_laws v.setting (checked v w call 0 k step) (k.between ++ v.seen) (run_here v w call 0 k step)).apart q v.number less (below v w call 0 k step) (on ∙ sym is.0) (owns ∙ sym mine);
       }
 
-  pub owned : (y : Chain) (n : ℕ) → Steps v kind.ResetState (Store (Node y n node.State) 1) → HasOwned v n w
+-- the first step of a call
+module _ (v w : Walk) (call : Call) (k : Walked v (Some call) w) (step : w ≡ walked_to v (Some call) 0 w.seen) where
+  pub begun_owned : (y : Chain) (n : ℕ) → CanBegin v call (Store (Node y n node.Next) 0) → HasOwned v (Some call) y n w
+  begun_owned y n can = owned_as v w (Some call) k step y n (cc can.1, cc can.1)
+
+-- a later one
+module _ (v w : Walk) (k : Walked v None w) (step : w ≡ walked_to v None 0 w.seen) where
+  abbrev D : Setting
+  D = v.setting
+
+  abbrev Before : List Move
+  Before = k.between ++ v.seen
+
+  pub owned : (y : Chain) (n : ℕ) → Steps v kind.ResetState (Store (Node y n node.State) 1) → HasOwned v None y n w
+  owned y n can = owned_as v w None k step y n (owns_at D (chain_of D.config v.number) y v.stand.node n v.stand.place can.0 can.1)
+
+  pub reused : (n : ℕ) (f : ItemField) → D.served ≡ served.List → Steps v kind.ResetListNode (Store (Item n f) 0) → HasReused v n w
   unfolding stand_in
-  owned y n can = record {
-    between = k.between;
-    others = k.others;
-    seen = k.seen;
-    own = λ q less on is. (chain_laws C checked Log run_here).apart q v.number less below on (is ∙ sym (ap (λ (x : Stand). x.node) stands ∙ owns_at C (chain_of C.config v.number) y v.stand.node n v.stand.place can.0 can.1));
-  }
+  reused n f list can =
+      let r = resets_at D (chain_of D.config v.number) v.stand.begun v.stand.node n f v.stand.place can.0 can.1 in
+      record {
+        between = k.between;
+        others = k.others;
+        seen = k.seen;
+        passed = λ j at. reset_after_the_take D Before list (checked v w None 0 k step) (run_here v w None 0 k step) v.number n j (subst (λ (x : Stand). Resets x.place n) (sym (stands v w None 0 k step)) r.0) at;
+        alone = λ q holds. prepared_alone D w.seen list (checked v w None 0 k step) (run_then v w None 0 k step) v.number q n
+            (subst (λ (x : Stand). Prepares x.place n) (sym (stands_then v w None 0 k step)) (still_prepares n _ (advanced D (chain_of D.config v.number) v.stand 0) refl r.1)) holds;
+      }
 
   pub pending : (op : Operation) → Steps v kind.Link op → IsPendingIn w
   unfolding stand_in word_in
   pending op can =
-      let link : event_at (stand_in C Log v.number).place ≡ Did kind.Link = subst (λ (x : Stand). event_at x.place ≡ Did kind.Link) (sym stands) can.0 in
-      let l = links_at C (chain_of C.config v.number) (history_of C Log) (stand_in C Log v.number).place (word_in C Log (word_of (does_at C v.number (stand_in C Log v.number)))) link in
-      let history : history_of C w.seen ≡ history_of C Log = ap (history_of C) k.seen ∙ taken_history C v.number (Step v.number ∷ Log) (stand_in C (Step v.number ∷ Log) v.number).place ∙ l.1 in
-      subst (λ (x : Setting × ℕ × Record). IsLastPending (pass_at x.0.config x.1) x.2) (λ i. (sym same i, sym number i, (sym history ∙ (λ j. history_of (sym same j) w.seen)) i))
-      (calls_wait C checked Log run_here v.number below l.0)
+      let link : event_at (stand_in D Before v.number).place ≡ Did kind.Link = subst (λ (x : Stand). event_at x.place ≡ Did kind.Link) (sym (stands v w None 0 k step)) can.0 in
+      let l = links_at D (chain_of D.config v.number) (history_of D Before) (stand_in D Before v.number).place (word_in D Before (word_of (does_at D v.number (stand_in D Before v.number)))) link in
+      let history : history_of D w.seen ≡ history_of D Before = ap (history_of D) k.seen ∙ taken_history D v.number (Step v.number ∷ Before) (stand_in D (Step v.number ∷ Before) v.number).place ∙ l.1 in
+      subst (λ (x : Setting × ℕ × Record). IsLastPending (pass_at x.0.config x.1) x.2) (λ i. (sym (same v w None 0 k step) i, sym (number v w None 0 k step) i, (sym history ∙ (λ j. history_of (sym (same v w None 0 k step) j) w.seen)) i))
+      (calls_wait D (checked v w None 0 k step) Before (run_here v w None 0 k step) v.number (below v w None 0 k step) l.0)

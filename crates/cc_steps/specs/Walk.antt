@@ -18,13 +18,16 @@ use Rattle.cc_machine.specs.ChainLaws.{IsLastPending}
 use Rattle.cc_machine.specs.declared.place.Place.{Place}
 use Rattle.cc_machine.specs.Safe.{IsPlaceSafe}
 use Rattle.cc_machine.specs.declared.run.Move.{Move}
+use Rattle.cc_machine.specs.Passes.{by, then_did}
 use Rattle.cc_machine.specs.Run.{IsRun, passes, history_of}
 use Rattle.cc_steps.specs.Topic.{Topic}
-use Rattle.cc_steps.specs.Seen.{Onward, GoesOn, Later, Covers, by, stand_in, word_in, entered, added, after_step, does_at, made_in, did_in, with_begun, then_did}
+use Rattle.cc_steps.specs.Seen.{Onward, Later, Covers, stand_in, word_in, entered, added, after_step, does_at, made_in, did_in, with_begun}
 use Rattle.cc_steps.specs.Shown.{CanStart, stand_of, longer}
 use Rattle.cc_steps.specs.declared.seats.View.{View}
 use Rattle.cc_steps.specs.declared.seats.Role.TheVariants.{Pass}
 
+-- A pass as plain data: its table and setting, its number in the row of all passes (senders first, from 0), the run that it
+-- has seen, where it stands with its registers, the calls that it began, and the kinds of its steps, the newest first.
 pub record Walk : Type 0 where
   pub table_id : TableId
   pub setting : Setting
@@ -34,6 +37,7 @@ pub record Walk : Type 0 where
   pub made : List Entry
   pub did : List Kind
 
+-- what a view tells of its pass: stand, calls and kinds are those of the run that it has seen
 abbrev pub walk_of : TableId → View → Walk
 walk_of z v = record {
   table_id = z;
@@ -45,6 +49,7 @@ walk_of z v = record {
   did = did_in v.setting v.seen v.number;
 }
 
+-- and what a seat tells
 abbrev pub walk : Seat (Unit {0}) View → Walk
 walk s = walk_of s.table_id s.me.0
 
@@ -60,6 +65,7 @@ pub record Sound (v : View) : Type 0 where
 abbrev pub IsOf : Topic → Walk → Type 0
 IsOf z w = (w.table_id ≡ z.table_id) × (w.setting ≡ z.setting)
 
+-- both are of one pass of one table
 abbrev pub IsSameSeat : Walk → Walk → Type 0
 IsSameSeat v w = (w.table_id ≡ v.table_id) × (w.setting ≡ v.setting) × (w.number ≡ v.number)
 
@@ -125,7 +131,7 @@ pub record Walked (v : Walk) (call : Option Call) (w : Walk) : Type 0 where
   pub between : List Move
   pub others : by v.number between ≡ []
   pub seen : w.seen ≡ added v.setting v.number v.seen call (between ++ v.seen)
-  pub later : (first : List Move) → GoesOn first v.seen → GoesOn first w.seen
+  pub later : Onward v.seen w.seen
   pub run : IsRun w.setting w.seen
   pub ready : IsReadyToStep w
   pub below : w.number < passes w.setting
@@ -133,7 +139,7 @@ pub record Walked (v : Walk) (call : Option Call) (w : Walk) : Type 0 where
   pub was : IsTrueTo v
   pub shows : IsTrueTo w
 
--- and this is what it found
+-- and this is what it found: what the word held in the run with those moves
 pub record Found (v : Walk) (call : Option Call) (found : ℕ) (w : Walk) : Type 0 where
   pub walked : Walked v call w
   pub found_is : found ≡ word_in v.setting (walked.between ++ v.seen) (word_of (does_at v.setting v.number (stepping v call)))

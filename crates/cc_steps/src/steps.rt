@@ -1,4 +1,15 @@
-//! The kinds of atomic step. The seat is of a pass of this topic, whose next step is the one that is done.
+//! The 21 kinds of atomic step, one function each (the steps of a call and of a combiner: CC-Synch, Fatourou and Kallimanis,
+//! PPoPP 2012; those of the list: the two-lock queue, Michael and Scott, PODC 1996).
+//!
+//! Each takes a share of the words, the seat of the pass that steps, and the plain values of its step. It may be called where
+//! the seat is of this topic (`here`), and where the pass stands at just this step, with just these values (`at`): a node is
+//! its index, a link an index and 1, with 0 for none. A load, a swap or an addition answers the word as it was. Afterwards:
+//!
+//! - `walked` or `found`: moves of other passes came in between, and then this one; the seat has seen that run; and what a
+//!   load found is what the word held in it;
+//! - `step`: the pass stands where the machine's step leads to, with the calls that it began and this kind added to those
+//!   that it did;
+//! - `later`: what was seen before begins what is seen now.
 ghost use Rattle.std.specs.Prelude.{◌≡◌, ◌+◌, ◌<◌, ◌^◌, Some, None};
 ghost use Rattle.cc_machine.specs.State.{Load, Store, Swap, Add};
 ghost use Rattle.cc_machine.specs.declared.word.Chain.TheVariants.{Send};
@@ -18,38 +29,39 @@ use crate::words::Words;
 use cc_machine::{Chain, ItemField, NodeField, Object, Word};
 use cc_model::Call;
 
-/// Stores 0 into next of the own node: a call begins.
+/// ResetNext, by the caller: stores 0 into `next` of its own node. The call begins with this step, knowing what its pass has
+/// seen. `own`: the pass owned the node, and no other pass of its chain did.
+#[tactic(auto, using(crate::proofs::StepLaws::begun_owned))]
+#[inline(always)]
 pub fn reset_next(words: &Words, seat: &mut PassSeat, chain: Chain, node: u64, call: Call)
     requires here { IsOf words.now seat.old }
     requires at { CanBegin seat.old call (Store (Node chain node Next) 0) }
     ensures walked { Walked seat.old (Some call) seat.new }
     ensures step { seat.new ≡ walked_to seat.old (Some call) 0 seat.new.seen }
     ensures later { Onward seat.old.seen seat.new.seen }
+    ensures own { HasOwned seat.old (Some call) chain node seat.new }
 {
-    moves::begin(
-        words,
-        seat,
-        Word::Node(chain, node, NodeField::Next),
-        0,
-        call,
-    );
+    moves::begin(words, seat, Word::Node(chain, node, NodeField::Next), call);
 }
 
-/// Stores 1 into the state of the own node.
+/// ResetState, by the caller: stores 1, waiting, into `state` of its own node. `own`: as at `reset_next`.
 #[tactic(auto, using(crate::proofs::Walks::can_do, crate::proofs::StepLaws::owned))]
+#[inline(always)]
 pub fn reset_state(words: &Words, seat: &mut PassSeat, chain: Chain, node: u64)
     requires here { IsOf words.now seat.old }
     requires at { Steps seat.old kind.ResetState (Store (Node chain node State) 1) }
     ensures walked { Walked seat.old None seat.new }
     ensures step { seat.new ≡ walked_to seat.old None 0 seat.new.seen }
     ensures later { Onward seat.old.seen seat.new.seen }
-    ensures own { HasOwned seat.old node seat.new }
+    ensures own { HasOwned seat.old None chain node seat.new }
 {
     moves::store(words, seat, Word::Node(chain, node, NodeField::State), 1);
 }
 
-/// Swaps the tail of the chain with the link of the own node.
+/// Exchange, by the caller: swaps the tail of its chain with the link of its own node. The call has its place in the order
+/// of the chain from this step on; the node whose link was found is its current one, and its own from now on.
 #[tactic(auto, using(crate::proofs::Walks::can_do))]
+#[inline(always)]
 pub fn exchange_tail(words: &Words, seat: &mut PassSeat, chain: Chain, link: u64) -> u64
     requires here { IsOf words.now seat.old }
     requires at { Steps seat.old kind.Exchange (Swap (Tail chain) link) }
@@ -60,8 +72,9 @@ pub fn exchange_tail(words: &Words, seat: &mut PassSeat, chain: Chain, link: u64
     moves::swap(words, seat, Word::Tail(chain), link)
 }
 
-/// Stores a request word of the current node.
+/// WriteRequest, by a sender: stores the tag or the body of its request into its current node.
 #[tactic(auto, using(crate::proofs::Walks::can_do))]
+#[inline(always)]
 pub fn write_request(words: &Words, seat: &mut PassSeat, node: u64, field: NodeField, value: u64)
     requires here { IsOf words.now seat.old }
     requires at { Steps seat.old kind.WriteRequest (Store (Node Send node field) value) }
@@ -72,8 +85,10 @@ pub fn write_request(words: &Words, seat: &mut PassSeat, node: u64, field: NodeF
     moves::store(words, seat, Word::Node(Chain::Send, node, field), value);
 }
 
-/// Stores the next link of the current node.
+/// Link, by the caller: stores the link of the node that it left to the chain into `next` of its current one, so that a
+/// combiner comes upon the request. `pending`: in the history that the pass has seen, its last call has no answer.
 #[tactic(auto, using(crate::proofs::Walks::can_do))]
+#[inline(always)]
 pub fn link_next(words: &Words, seat: &mut PassSeat, chain: Chain, node: u64, link: u64)
     requires here { IsOf words.now seat.old }
     requires at { Steps seat.old kind.Link (Store (Node chain node Next) link) }
@@ -85,8 +100,9 @@ pub fn link_next(words: &Words, seat: &mut PassSeat, chain: Chain, node: u64, li
     moves::store(words, seat, Word::Node(chain, node, NodeField::Next), link);
 }
 
-/// Loads the state of the current node.
+/// ReadState, by the caller: loads `state` of its current node: 0, it has to serve; 1, it waits; 2, it was served.
 #[tactic(auto, using(crate::proofs::Walks::can_do))]
+#[inline(always)]
 pub fn read_state(words: &Words, seat: &mut PassSeat, chain: Chain, node: u64) -> u64
     requires here { IsOf words.now seat.old }
     requires at { Steps seat.old kind.ReadState (Load (Node chain node State)) }
@@ -97,8 +113,9 @@ pub fn read_state(words: &Words, seat: &mut PassSeat, chain: Chain, node: u64) -
     moves::load(words, seat, Word::Node(chain, node, NodeField::State))
 }
 
-/// Loads the next link of a chain's node.
+/// ReadNext, by a combiner: loads `next` of a node of its chain.
 #[tactic(auto, using(crate::proofs::Walks::can_do))]
+#[inline(always)]
 pub fn read_next(words: &Words, seat: &mut PassSeat, chain: Chain, node: u64) -> u64
     requires here { IsOf words.now seat.old }
     requires at { Steps seat.old kind.ReadNext (Load (Node chain node Next)) }
@@ -110,8 +127,9 @@ pub fn read_next(words: &Words, seat: &mut PassSeat, chain: Chain, node: u64) ->
     moves::load(words, seat, Word::Node(chain, node, NodeField::Next))
 }
 
-/// Loads a request word.
+/// ReadRequest, by the senders' combiner: loads the tag or the body of the request in a node.
 #[tactic(auto, using(crate::proofs::Walks::can_do))]
+#[inline(always)]
 pub fn read_request(words: &Words, seat: &mut PassSeat, node: u64, field: NodeField) -> u64
     requires here { IsOf words.now seat.old }
     requires at { Steps seat.old kind.ReadRequest (Load (Node Send node field)) }
@@ -122,8 +140,9 @@ pub fn read_request(words: &Words, seat: &mut PassSeat, node: u64, field: NodeFi
     moves::load(words, seat, Word::Node(Chain::Send, node, field))
 }
 
-/// Loads an object word.
+/// ReadObject, by a combiner: loads a word of its side of the list.
 #[tactic(auto, using(crate::proofs::Walks::can_do))]
+#[inline(always)]
 pub fn read_object(words: &Words, seat: &mut PassSeat, object: Object) -> u64
     requires here { IsOf words.now seat.old }
     requires at { Steps seat.old kind.ReadObject (Load (word.Object object)) }
@@ -134,8 +153,9 @@ pub fn read_object(words: &Words, seat: &mut PassSeat, object: Object) -> u64
     moves::load(words, seat, Word::Object(object))
 }
 
-/// Stores an object word.
+/// WriteObject, by a combiner: stores a word of its side of the list.
 #[tactic(auto, using(crate::proofs::Walks::can_do))]
+#[inline(always)]
 pub fn write_object(words: &Words, seat: &mut PassSeat, object: Object, value: u64)
     requires here { IsOf words.now seat.old }
     requires at { Steps seat.old kind.WriteObject (Store (word.Object object) value) }
@@ -146,8 +166,10 @@ pub fn write_object(words: &Words, seat: &mut PassSeat, object: Object, value: u
     moves::store(words, seat, Word::Object(object), value);
 }
 
-/// Stores an answer word.
+/// WriteAnswer, by a combiner: stores the answer word, or the tag or the body of the item that was handed out, into the node
+/// that it serves.
 #[tactic(auto, using(crate::proofs::Walks::can_do))]
+#[inline(always)]
 pub fn write_answer(
     words: &Words,
     seat: &mut PassSeat,
@@ -165,8 +187,9 @@ pub fn write_answer(
     moves::store(words, seat, Word::Node(chain, node, field), value);
 }
 
-/// Stores 2 into the state of a node that was served.
+/// MarkDone, by a combiner: stores 2 into `state` of the node that it served, after the last word of the answer.
 #[tactic(auto, using(crate::proofs::Walks::can_do))]
+#[inline(always)]
 pub fn mark_done(words: &Words, seat: &mut PassSeat, chain: Chain, node: u64)
     requires here { IsOf words.now seat.old }
     requires at { Steps seat.old kind.MarkDone (Store (Node chain node State) 2) }
@@ -177,8 +200,9 @@ pub fn mark_done(words: &Words, seat: &mut PassSeat, chain: Chain, node: u64)
     moves::store(words, seat, Word::Node(chain, node, NodeField::State), 2);
 }
 
-/// Stores 0 into the state of the node where the combiner stopped.
+/// HandOver, by a combiner: stores 0 into `state` of the node where it stopped, whose caller serves from there on.
 #[tactic(auto, using(crate::proofs::Walks::can_do))]
+#[inline(always)]
 pub fn hand_over(words: &Words, seat: &mut PassSeat, chain: Chain, node: u64)
     requires here { IsOf words.now seat.old }
     requires at { Steps seat.old kind.HandOver (Store (Node chain node State) 0) }
@@ -189,8 +213,11 @@ pub fn hand_over(words: &Words, seat: &mut PassSeat, chain: Chain, node: u64)
     moves::store(words, seat, Word::Node(chain, node, NodeField::State), 0);
 }
 
-/// Loads an answer word of the current node. Where it is the last one, the answer is taken.
+/// ReadAnswer, by the caller: loads the answer word of its current node, or the tag or the body of the item that it was
+/// given. Where it is the last word, the call ends with this step, and the answer is taken. `told`: it is then the answer of
+/// the pass's last call in the history that the pass has seen.
 #[tactic(auto, using(crate::proofs::Walks::can_do, crate::proofs::Told::told_so))]
+#[inline(always)]
 pub fn read_answer(
     words: &Words,
     seat: &mut PassSeat,
@@ -208,8 +235,9 @@ pub fn read_answer(
     moves::load(words, seat, Word::Node(chain, node, field))
 }
 
-/// Loads how many groups have passed a list node.
+/// ReadPassed, by the senders' combiner: loads how many groups have passed a list node.
 #[tactic(auto, using(crate::proofs::Walks::can_do))]
+#[inline(always)]
 pub fn read_passed(words: &Words, seat: &mut PassSeat, node: u64) -> u64
     requires here { IsOf words.now seat.old }
     requires at { Steps seat.old kind.ReadPassed (Load (Item node item.Passed)) }
@@ -220,8 +248,10 @@ pub fn read_passed(words: &Words, seat: &mut PassSeat, node: u64) -> u64
     moves::load(words, seat, Word::Item(node, ItemField::Passed))
 }
 
-/// Stores 0 into that count, or into the next link, of a node found free.
+/// ResetListNode, by the senders' combiner: stores 0 into that count, or into `next`, of a node that it found free. `reuse`:
+/// if the node was in the list before, the take that went past it was decided; and no take holds it.
 #[tactic(auto, using(crate::proofs::Walks::can_do))]
+#[inline(always)]
 pub fn reset_list_node(words: &Words, seat: &mut PassSeat, node: u64, field: ItemField)
     requires here { IsOf words.now seat.old }
     requires at { Steps seat.old kind.ResetListNode (Store (Item node field) 0) }
@@ -233,8 +263,9 @@ pub fn reset_list_node(words: &Words, seat: &mut PassSeat, node: u64, field: Ite
     moves::store(words, seat, Word::Item(node, field), 0);
 }
 
-/// Stores the tag or the body of an item.
+/// WriteItem, by the senders' combiner: stores the tag or the body of an item into the node that it prepares.
 #[tactic(auto, using(crate::proofs::Walks::can_do))]
+#[inline(always)]
 pub fn write_item(words: &Words, seat: &mut PassSeat, node: u64, field: ItemField, value: u64)
     requires here { IsOf words.now seat.old }
     requires at { Steps seat.old kind.WriteItem (Store (Item node field) value) }
@@ -245,8 +276,10 @@ pub fn write_item(words: &Words, seat: &mut PassSeat, node: u64, field: ItemFiel
     moves::store(words, seat, Word::Item(node, field), value);
 }
 
-/// Stores the next link of the last list node.
+/// LinkLast, by the senders' combiner: stores the link of the node that it prepared, or of the closing mark, into `next` of
+/// the last node. The send is accepted, or the queue closed, with this step.
 #[tactic(auto, using(crate::proofs::Walks::can_do))]
+#[inline(always)]
 pub fn link_last(words: &Words, seat: &mut PassSeat, last: u64, link: u64)
     requires here { IsOf words.now seat.old }
     requires at { Steps seat.old kind.LinkLast (Store (Item last item.Next) link) }
@@ -257,8 +290,9 @@ pub fn link_last(words: &Words, seat: &mut PassSeat, last: u64, link: u64)
     moves::store(words, seat, Word::Item(last, ItemField::Next), link);
 }
 
-/// Loads the next link of the dummy.
+/// ReadDummyNext, by a group's combiner: loads `next` of the dummy.
 #[tactic(auto, using(crate::proofs::Walks::can_do))]
+#[inline(always)]
 pub fn read_dummy_next(words: &Words, seat: &mut PassSeat, dummy: u64) -> u64
     requires here { IsOf words.now seat.old }
     requires at { Steps seat.old kind.ReadDummyNext (Load (Item dummy item.Next)) }
@@ -269,8 +303,9 @@ pub fn read_dummy_next(words: &Words, seat: &mut PassSeat, dummy: u64) -> u64
     moves::load(words, seat, Word::Item(dummy, ItemField::Next))
 }
 
-/// Loads the tag or the body of the node after the dummy.
+/// ReadItem, by a group's combiner: loads the tag or the body of the node after the dummy.
 #[tactic(auto, using(crate::proofs::Walks::can_do))]
+#[inline(always)]
 pub fn read_item(words: &Words, seat: &mut PassSeat, node: u64, field: ItemField) -> u64
     requires here { IsOf words.now seat.old }
     requires at { Steps seat.old kind.ReadItem (Load (Item node field)) }
@@ -281,8 +316,10 @@ pub fn read_item(words: &Words, seat: &mut PassSeat, node: u64, field: ItemField
     moves::load(words, seat, Word::Item(node, field))
 }
 
-/// Adds 1 to the count of groups that have passed the old dummy.
+/// AddPassed, by a group's combiner: adds 1 to the count of groups that have passed the old dummy. The take is decided with
+/// this step.
 #[tactic(auto, using(crate::proofs::Walks::can_do))]
+#[inline(always)]
 pub fn add_passed(words: &Words, seat: &mut PassSeat, dummy: u64) -> u64
     requires here { IsOf words.now seat.old }
     requires at { Steps seat.old kind.AddPassed (Add (Item dummy item.Passed) 1) }

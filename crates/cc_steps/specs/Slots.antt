@@ -1,0 +1,38 @@
+-- Where the words of a topic lie in its table: those that different threads write stand on different lines.
+use Rattle.std.specs.Prelude.{◌≡◌, ℕ, ◌/◌, List, IsTrue}
+use Rattle.cc_machine.specs.declared.word.NodeField.TheVariants.{Next}
+use Rattle.cc_machine.specs.declared.word.ItemField.TheVariants.{Tag}
+use Rattle.cc_machine.specs.declared.word.Object.TheVariants as object
+use Rattle.cc_machine.specs.declared.word.Word.{Word}
+use Rattle.cc_machine.specs.declared.word.Word.TheVariants as word
+use Rattle.cc_machine.specs.Words.{Layout, Spacing, exists, lies, row_size, word_in_row}
+
+-- A slot holds one word of 64 bits, a line 8 slots. Processors fetch lines in pairs, so what many threads wait for stands 16
+-- slots apart: each tail, the words of each side, each node of a chain. List nodes stand 8 apart.
+abbrev pub spread : Spacing
+spread = record { tail = 16; objects = 32; ends = 48; end_step = 32; end_words = 16; node_step = 16; item_step = 8 }
+
+-- the slot of a word
+abbrev pub slot : Layout → Word → ℕ
+slot l w = lies spread l w
+
+-- how many slots a table has
+abbrev pub slot_count : Layout → ℕ
+slot_count l = row_size spread l
+
+-- what the word of this name holds in a table with these slots
+abbrev pub held : Layout → List ℕ → Word → ℕ
+held l slots w = word_in_row spread l slots w
+
+-- the first of the words that lie beside this one, which the same threads write
+abbrev pub first_beside : Word → Word
+first_beside (word.Tail x) = word.Tail x
+first_beside (word.Object (object.Head g)) = word.Object (object.Head g)
+first_beside (word.Object (object.Taken g)) = word.Object (object.Head g)
+first_beside (word.Object _) = word.Object object.Last
+first_beside (word.Node x i f) = word.Node x i Next
+first_beside (word.Item i f) = word.Item i Tag
+
+-- two words on one line lie beside one another
+abbrev pub LinesApart : Type 0
+LinesApart = (l : Layout) (v w : Word) → IsTrue (exists l v) → IsTrue (exists l w) → slot l v / 8 ≡ slot l w / 8 → first_beside v ≡ first_beside w

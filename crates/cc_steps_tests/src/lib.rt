@@ -1,0 +1,11 @@
+//! Two passes driven by hand over the shared table, one atomic step after another, and openings that are refused.
+#![tactic(auto)]
+
+#[cfg(test)]
+mod lone_send;
+#[cfg(test)]
+mod lone_take;
+#[cfg(test)]
+mod openings;
+#[cfg(test)]
+mod two_seats;
