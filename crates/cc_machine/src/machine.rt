@@ -103,10 +103,13 @@ impl Machine {
     }
 
     /// The calls that have exchanged, in the order of their exchanges on each side, and the answers decided so far.
-    /// It is that of a run, it is lawful, and items come out first in, first out.
+    /// It is that of a run of a list's machine whose configuration was checked, so that every law of such runs can be used;
+    /// it is lawful, and items come out first in, first out.
     pub fn history(&self) -> &History
         ensures history { result.now.lists ≡ self.now.history }
         ensures run { IsReached self.now }
+        ensures served { self.now.setting.served ≡ Served.List }
+        ensures checked { config_fault self.now.setting.config ≡ Ok tt }
         ensures legal { Legal self.now.setting.config self.now.history }
         ensures fifo { Fifo self.now.history }
     {
