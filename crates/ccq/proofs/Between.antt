@@ -23,7 +23,8 @@ use Rattle.cc_machine.specs.declared.place.Place.TheVariants as place
 use Rattle.cc_machine.specs.declared.place.Stand.{Stand}
 use Rattle.cc_machine.specs.Columns.{event_at}
 use Rattle.cc_machine.specs.State.{State, chain_of, hold}
-use Rattle.cc_machine.specs.Run.{Begin, begun_after, nowhere, passes}
+use Rattle.cc_machine.specs.declared.run.Move.TheVariants.{Begin}
+use Rattle.cc_machine.specs.Run.{begun_after, nowhere, passes}
 use Rattle.cc_machine.specs.Machine.{index_of, IsOpened, IsAfter, event_of, event_in, HasStepped, told_at, told_in, answer_of, HasTaken, HasBegun, begin_fault, fault_at, unless_busy, unless_worn, unless_wrong}
 use Rattle.cc_machine.specs.View.{View, state_in}
 use Rattle.cc_machine.proofs.Chains.Frame.{hold_here, hold_apart}

@@ -6,7 +6,8 @@ use Rattle.std.proofs.lemmas.List.{drop_all, length-replicate, get_or-replicate}
 use Rattle.cc_model.specs.declared.call.Pass.{Pass}
 use Rattle.cc_machine.specs.State.{State}
 use Rattle.cc_machine.specs.declared.setting.Served.TheVariants as served
-use Rattle.cc_machine.specs.Run.{Move, reached, passes}
+use Rattle.cc_machine.specs.declared.run.Move.{Move}
+use Rattle.cc_machine.specs.Run.{reached, passes}
 use Rattle.cc_machine.specs.Machine.{index_of, IsOpened}
 use Rattle.cc_machine.specs.View.{View, state_in}
 use Rattle.cc_plan.specs.Plan.{PlanValue}

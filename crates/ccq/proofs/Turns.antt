@@ -14,7 +14,9 @@ use Rattle.cc_machine.specs.declared.place.Place.{Place}
 use Rattle.cc_machine.specs.declared.place.Place.TheVariants as place
 use Rattle.cc_machine.specs.Columns.{event_at}
 use Rattle.cc_machine.specs.State.{State}
-use Rattle.cc_machine.specs.Run.{Move, Begin, Step, Take, reached, moved, rests}
+use Rattle.cc_machine.specs.declared.run.Move.{Move}
+use Rattle.cc_machine.specs.declared.run.Move.TheVariants.{Begin, Step, Take}
+use Rattle.cc_machine.specs.Run.{reached, moved, rests}
 use Rattle.cc_machine.specs.Machine.{index_of, IsAfter, event_of, event_in, HasStepped, told_at, told_in, answer_of, HasTaken, HasBegun}
 use Rattle.cc_machine.specs.View.{View, state_in}
 use Rattle.cc_plan.specs.Plan.{PlanValue}
