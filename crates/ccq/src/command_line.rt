@@ -3,7 +3,7 @@ ghost use Rattle.std.specs.Prelude.{◌≡◌, ◌⊎◌, IfOk, IfErr, Some, Non
 ghost use Rattle.clap.specs.Words.{app_of, kind_of, fault_of, IsAmong, shape_of};
 ghost use Rattle.clap.specs.declared.builder.command.Command.TheViews.{out-Command as fields_of};
 ghost use Rattle.clap.specs.Simple.{new_shape};
-ghost use Rattle.ccq.specs.CommandLine.{commands, task_of};
+ghost use Rattle.ccq.specs.CommandLine.{commands, task_of, without_tasks};
 
 use clap::error::ErrorKind;
 use clap::{Command, Error};
@@ -18,7 +18,7 @@ pub enum Task {
     Audit,
 }
 
-/// What the words ask for, the program's name first; or why they ask for nothing: help is asked for, a word is wrong or
+/// What the words ask for, without the program's name; or why they ask for nothing: help is asked for, a word is wrong or
 /// missing, or memory was refused.
 pub fn asked(alloc: Global, words: &[String]) -> Result<Task, Error>
     ensures task { IfOk result (λ task. task_of (map string_bytes words.now) ≡ Some task) }
@@ -60,6 +60,16 @@ fn commands<'a>(alloc: Global) -> Result<Command<'a>, AllocError>
         "Audits the receipts on standard input and writes the verdict on them",
         AUDIT_EXAMPLE,
     );
+    without_tasks(alloc)?
+        .subcommand(play)?
+        .subcommand(audit)
+}
+
+/// The program without its tasks.
+fn without_tasks<'a>(alloc: Global) -> Result<Command<'a>, AllocError>
+    ensures app { IfOk result (λ c. app_of c ≡ without_tasks) }
+    ensures local { IfOk result (λ c. (fields_of c).has_globals ≡ false) }
+{
     Command::new(alloc, "ccq")
         .about(
             "Plays plans of CC-Queue, the combining FIFO queue, and audits receipts of its items",
@@ -68,8 +78,8 @@ fn commands<'a>(alloc: Global) -> Result<Command<'a>, AllocError>
         .arg_required_else_help(true)
         .subcommand_required(true)
         .disable_help_subcommand(true)
-        .subcommand(play)?
-        .subcommand(audit)
+        .no_binary_name(true)
+        .bin_name("ccq")
 }
 
 /// A task that takes no words, with what it does and an example.

@@ -23,10 +23,9 @@ struct Outcome {
     errors: Vec<u8>,
 }
 
-/// The words of a command line, after the program's name.
+/// The words of a command line.
 fn words_of(alloc: Global, line: &[&str]) -> Result<Vec<String>, AllocError> {
     let mut words = Vec::new(alloc);
-    words.push(String::from_str(alloc, "ccq")?)?;
     for word in line {
         words.push(String::from_str(alloc, word)?)?;
     }
