@@ -60,9 +60,7 @@ fn commands<'a>(alloc: Global) -> Result<Command<'a>, AllocError>
         "Audits the receipts on standard input and writes the verdict on them",
         AUDIT_EXAMPLE,
     );
-    without_tasks(alloc)?
-        .subcommand(play)?
-        .subcommand(audit)
+    without_tasks(alloc)?.subcommand(play)?.subcommand(audit)
 }
 
 /// The program without its tasks.

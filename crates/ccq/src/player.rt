@@ -2,7 +2,7 @@
 ghost use Rattle.std.specs.Prelude.{◌≡◌, ◌<◌, Some, Ok, List, length, IfOk, IfSome, OnOk, ◌^◌, ◌-◌};
 ghost use Rattle.cc_model.specs.Items.{known_at};
 ghost use Rattle.cc_machine.specs.declared.run.Move.{Move};
-ghost use Rattle.cc_machine.specs.Run.{passes, reached};
+ghost use Rattle.cc_machine.specs.Run.{passes, reached, IsRun};
 ghost use Rattle.cc_machine.specs.View.{state_in};
 ghost use Rattle.cc_machine.specs.Machine.{index_of, HasBegun, begin_fault};
 ghost use Rattle.cc_plan.specs.Plan.{plan_value};
@@ -108,6 +108,7 @@ fn follow_entry(
 /// Plays the schedule of a plan from the opening of its machine. Only memory can be refused.
 pub fn play_schedule(alloc: Global, plan: &Plan) -> Result<Machine, AllocError>
     requires lawful { Lawful (plan_value plan.now) }
+    ensures run { OnOk result (IsRun (setting_of (plan_value plan.now)) (run_of (plan_value plan.now))) }
     ensures played { IfOk result (λ machine. (machine.setting ≡ setting_of (plan_value plan.now)) × (state_in machine ≡ reached (setting_of (plan_value plan.now)) (run_of (plan_value plan.now)))) }
 {
     let mut machine = match Machine::open(alloc, &plan.config) {

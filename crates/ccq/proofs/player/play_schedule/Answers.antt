@@ -30,4 +30,5 @@ pub returns : goal.returns
 returns c =
     let at = c.loop-pass.invariant.leads in
     let all = ap length c.deref-pass-items.ensures.value in
-    record { played = finished (plan_value c.args.plan.now) _ _ at.0 c.loop-pass.pass-index at.1 (omega (arith, all, c.loop-pass-test.false)) at.2 }
+    let done = finished (plan_value c.args.plan.now) _ _ at.0 c.loop-pass.pass-index at.1 (omega (arith, all, c.loop-pass-test.false)) at.2 in
+    record { run = done.2; played = (done.0, done.1) }

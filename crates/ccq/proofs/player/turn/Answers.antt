@@ -30,7 +30,9 @@ returns-in-Did-clause-turned c =
 pub returns-in_ok-begin-in-Some-clause-turned : goal.returns-in_ok-begin-in-Some-clause-turned
 returns-in_ok-begin-in-Some-clause-turned c =
     begun_turned (plan_value c.args.plan.now) c.args.pass c.args.row c.requires.pass _ _ _ _ _ c.in-Some.call _ _ c.requires.row (sym c.next_call.ensures.call ∙ c.in-Some.is)
-    (idle_between (plan_value c.args.plan.now) c.args.pass c.args.row c.requires.pass _ _ c.requires.between c.in-Idle.ensures.event) (rw (← c.in-Idle.ensures.state) c.in_ok-begin-in-Some.ensures)
+    (idle_between (plan_value c.args.plan.now) c.args.pass c.args.row c.requires.pass _ _ c.requires.between c.in-Idle.ensures.event)
+    (may_begin (plan_value c.args.plan.now) c.args.pass c.args.row c.args.machine.now c.args.begun.now c.in-Some.call c.requires.lawful c.requires.pass c.requires.between c.in-Idle.ensures.event (sym c.next_call.ensures.call ∙ c.in-Some.is))
+    (rw (← c.in-Idle.ensures.state) c.in_ok-begin-in-Some.ensures)
     c.event-in-Some.ensures.event c.event-in-Some.ensures.state c.answer-in-Some.ensures.answer c.answer-in-Some.ensures.state
 
 pub returns-in-None-clause-turned : goal.returns-in-None-clause-turned
