@@ -14,7 +14,7 @@ use thiserror::Error;
 pub enum PlayFault {
     /// The input is refused. Nothing was written.
     #[error("plan refused: {0}")]
-    Plan(PlanFault),
+    Plan(#[source] PlanFault),
     /// A read failed. Nothing was written.
     #[error("reading failed")]
     Read,
