@@ -18,8 +18,9 @@ Options:
   -h, --help  Print help
 
 Examples:
-  ccq play < examples/one_item.json
-  ccq audit < examples/receipts.json
+  ccq play < PLAN
+  ccq audit < RECEIPTS
+  echo '{\"accepted\":[[1,1,0,7]],\"taken\":[[1,0,1,1,7]]}' | ccq audit
 
 Exit status:
   0   done, and the verdict is clean
