@@ -5,6 +5,7 @@ use cc_model::ConfigFault;
 pub enum OpenFault {
     /// A field of the configuration is out of its range: the first such field.
     Config(ConfigFault),
+    /// The configuration is right, and memory was refused.
     NoMemory,
 }
 
