@@ -30,6 +30,7 @@ pub struct Seat {
 impl Board {
     /// Where a word lies: words 0 to 7 are kept for the configuration; then come E.Tail, `last`, `shut`, `count`, `cursor`, then
     /// D.Tail, `head` and `taken` of each group, the senders' nodes, the nodes of each group, and the list nodes.
+    #[inline(always)]
     fn address(&self, word: Word) -> usize
         requires laid { IsLaid self.now }
         requires word { IsTrue (exists (layout_of self.now.setting.config) word) }
@@ -84,6 +85,7 @@ impl Board {
     }
 
     /// What a word holds.
+    #[inline(always)]
     #[tactic(auto, unfolding(crate::specs::View::state_in))]
     pub fn load(&self, word: Word) -> u64
         requires laid { IsLaid self.now }
@@ -94,6 +96,7 @@ impl Board {
     }
 
     /// Stores into a word.
+    #[inline(always)]
     #[tactic(auto, unfolding(crate::specs::View::state_in))]
     pub fn store(&mut self, word: Word, value: u64)
         requires laid { IsLaid self.old }
@@ -106,6 +109,7 @@ impl Board {
     }
 
     /// Lets a pass stand so.
+    #[inline(always)]
     #[tactic(auto, unfolding(crate::specs::View::state_in))]
     pub fn put(&mut self, pass: usize, stand: Stand)
         requires { pass < length self.old.stands.items }
@@ -116,6 +120,7 @@ impl Board {
     }
 
     /// Lets a pass stand at another place.
+    #[inline(always)]
     pub fn go(&mut self, seat: Seat, place: Place)
         requires { seat.pass < length self.old.stands.items }
         ensures state { state_of self.new ≡ record (state_of self.old) { stand = hold (state_of self.old).stand seat.pass (stand_of seat place) } }
