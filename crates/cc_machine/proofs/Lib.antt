@@ -16,6 +16,7 @@ pub mod ChainRuns
 pub mod ChainLaws
 pub mod CallsMade
 pub mod RunFronts
+pub mod Waiting
 pub mod LinkedList
 pub mod ListRuns
 pub mod BoardLaws

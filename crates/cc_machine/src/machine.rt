@@ -31,11 +31,12 @@ impl Model for Machine {
 
 impl Machine {
     ghost use Rattle.std.specs.Prelude.{◌≡◌, Ok, OnOk, OnErr, IfOk, IfErr, IfSome};
+    ghost use Rattle.std.specs.Bool.{OnTrue};
     ghost use Rattle.cc_model.specs.Config.{config_fault};
     ghost use Rattle.cc_model.specs.Items.{known_at};
     ghost use Rattle.cc_model.specs.Legal.{Legal};
     ghost use Rattle.cc_model.specs.Fifo.{Fifo};
-    ghost use Rattle.cc_machine.specs.Machine.{IsOpened, index_of, begin_fault, IsBeginFault, IsOpenFault, IsReached, IsLastAnswer, HasBegun, event_of, HasStepped, answer_of, HasTaken};
+    ghost use Rattle.cc_machine.specs.Machine.{IsOpened, index_of, begin_fault, IsBeginFault, IsOpenFault, IsReached, IsLastAnswer, HasBegun, event_of, waits_in, StandsStill, HasStepped, answer_of, HasTaken};
 
     /// The setting of a machine of this configuration.
     fn setting_of(config: &Config) -> Setting
@@ -91,6 +92,17 @@ impl Machine {
         let event = self.board.event_by(pass);
         self.known = self.known.after(&self.board.history, sent, taken);
         event
+    }
+
+    /// Whether the pass waits: its next step reads the state of its node, which is still 1, so that the step changes nothing.
+    pub fn is_waiting(&self, pass: Pass) -> bool
+        ensures waits { result ≡ waits_in self.now (index_of self.now.setting pass) }
+        ensures still { OnTrue result (StandsStill self.now (index_of self.now.setting pass)) }
+    {
+        match self.board.setting.row(pass) {
+            Some(index) => self.board.is_waiting(index),
+            None => false,
+        }
     }
 
     /// Takes the answer of the pass's call, once the call has read it. `None`, and nothing is changed, where there is none.
