@@ -13,11 +13,13 @@ use Rattle.cc_machine.specs.declared.place.Kind.{Kind}
 use Rattle.cc_machine.specs.declared.place.Place.{Place}
 use Rattle.cc_machine.specs.declared.place.Place.TheVariants as place
 use Rattle.cc_machine.specs.Columns.{event_at}
+use Rattle.cc_machine.specs.Step.{stepped as machine_stepped}
+use Rattle.cc_machine.specs.declared.place.Kind.TheVariants as kind
 use Rattle.cc_machine.specs.State.{State}
 use Rattle.cc_machine.specs.declared.run.Move.{Move}
 use Rattle.cc_machine.specs.declared.run.Move.TheVariants.{Begin, Step, Take}
 use Rattle.cc_machine.specs.Run.{reached, moved, rests, May, IsFinished}
-use Rattle.cc_machine.specs.Machine.{index_of, IsAfter, begin_fault, event_of, event_in, HasStepped, told_at, told_in, answer_of, HasTaken, HasBegun}
+use Rattle.cc_machine.specs.Machine.{index_of, IsAfter, begin_fault, StandsStill, event_of, event_in, HasStepped, told_at, told_in, answer_of, HasTaken, HasBegun}
 use Rattle.cc_machine.specs.View.{View, state_in}
 use Rattle.cc_machine.proofs.Rows.{inside}
 use Rattle.cc_machine.proofs.Faults.{may_begin}
@@ -197,6 +199,43 @@ module _ (plan : PlanValue) (who : Pass) (row : ℕ) (named : index_of (setting_
       still run at = subst (λ (r : List Move). IsAt plan m1 begun r) (rw (stepless run at) refl) (stepped m m1 begun run event.Idle at is did)
 
   -- ---- an entry
+
+  -- a turn of a pass that waits is one read, and leaves all as it was
+  still_turn : (m : View) (begun : List ℕ) (run : List Move) → ((state_in m).stand row).place ≡ place.ReadState → machine_stepped m.setting (state_in m) row ≡ state_in m
+      → IsAt plan m begun run → IsAt plan m begun (turn plan who row run)
+  still_turn m begun run reads same at =
+      let here : place_in plan run row ≡ place.ReadState = ap (λ (s : State). (s.stand row).place) (sym at.state) ∙ reads in
+      let stays : machine_stepped (setting_of plan) (reached (setting_of plan) run) row ≡ reached (setting_of plan) run =
+      subst (λ (s : State). machine_stepped (setting_of plan) s row ≡ s) at.state (subst (λ (c : Setting). machine_stepped c (state_in m) row ≡ state_in m) at.setting same) in
+      let does : event_at (place_in plan run row) ≡ event.Did kind.ReadState = ap event_at here in
+      let one : steps plan row run ≡ Step row ∷ run = ap (λ (e : Event). steps_at row e run) does in
+      let there : place_in plan (Step row ∷ run) row ≡ place.ReadState = ap (λ (s : State). (s.stand row).place) stays ∙ here in
+      let whole : turn plan who row run ≡ Step row ∷ run = did_turn run kind.ReadState does ∙ ap (takes plan row) one ∙ ap (λ (p : Place). takes_at row p (Step row ∷ run)) there in
+      rw whole (record {
+        moves = (at.moves, (inside (setting_of plan) who row named, λ none. absurd (cc (does, none))));
+        setting = at.setting;
+        state = at.state ∙ sym stays;
+        rows = at.rows;
+        counts = at.counts;
+      })
+
+  still_turns : (m : View) (begun : List ℕ) (run : List Move) → ((state_in m).stand row).place ≡ place.ReadState → machine_stepped m.setting (state_in m) row ≡ state_in m
+      → (n more : ℕ) → IsAt plan m begun (turns plan who row n run) → IsAt plan m begun (turns plan who row (n + more) run)
+  still_turns m begun run reads same n zero at = let none : n ≡ n + zero = omega arith in subst (λ (k : ℕ). IsAt plan m begun (turns plan who row k run)) none at
+  still_turns m begun run reads same n (suc more) at =
+      let next : suc (n + more) ≡ n + suc more = omega arith in
+      subst (λ (k : ℕ). IsAt plan m begun (turns plan who row k run)) next
+      (still_turn m begun (turns plan who row (n + more) run) reads same (still_turns m begun run reads same n more at))
+
+  -- a pass that waits reads on to the end of its entry
+  pub waited_turned : (m m1 : View) (begun begun1 : List ℕ) (n events : ℕ) → n < events
+      → ((run : List Move) → IsAt plan m begun run → IsAt plan m1 begun1 (turns plan who row n run)) → StandsStill m1 (index_of m1.setting who)
+      → (run : List Move) → IsAt plan m begun run → IsAt plan m1 begun1 (entry plan who (index_of (setting_of plan) who) events run)
+  waited_turned m m1 begun begun1 n events less turned waits run at =
+      let now : IsAt plan m1 begun1 (turns plan who row n run) = turned run at in
+      let still : StandsStill m1 (Some row) = subst (λ (o : Option ℕ). StandsStill m1 o) (index m1 begun1 (turns plan who row n run) now) waits in
+      let rest : n + (events - n) ≡ events = omega arith in
+      rw named (subst (λ (k : ℕ). IsAt plan m1 begun1 (turns plan who row k run)) rest (still_turns m1 begun1 run still.0 still.1 n (events - n) now))
 
   pub all_turned : (m m' : View) (begun begun' : List ℕ) (n events : ℕ) → n ≡ events
       → ((run : List Move) → IsAt plan m begun run → IsAt plan m' begun' (turns plan who row n run))

@@ -78,7 +78,8 @@ fn turn(
     }
 }
 
-/// Up to so many events of a pass.
+/// Up to so many events of a pass. A pass that waits reads the same to the end of its entry, so that these events needn't be
+/// done one by one: the machine stands where they lead.
 fn follow_entry(
     machine: &mut Machine,
     begun: &mut [usize],
@@ -98,6 +99,9 @@ fn follow_entry(
         return Ok(());
     };
     for _done in 0..events {
+        if machine.is_waiting(pass) {
+            return Ok(());
+        }
         if !turn(machine, begun, plan, pass, row)? {
             return Ok(());
         }
