@@ -9,7 +9,7 @@ pub fn sooner(a: Option<u64>, b: Option<u64>) -> Option<u64>
     ensures { result ≡ sooner_of a b }
 {
     match (a, b) {
-        (Some(x), Some(y)) => Some(if y < x { y } else { x }),
+        (Some(x), Some(y)) => Some(x.min(y)),
         (Some(x), None) => Some(x),
         (None, b) => b,
     }

@@ -12,7 +12,7 @@ use clap::Error;
 use clap::error::ErrorKind;
 use std::alloc::Global;
 
-/// One command line, the program's name first: plays the plan of the source, or audits its receipts, and answers the exit
+/// One command line, without the program's name: plays the plan of the source, or audits its receipts, and answers the exit
 /// status. It is 0 where that was done and the verdict is clean, or help was asked for and went to the sink; 1 where the
 /// audit found a fault, 2 where the input is refused, 3 where memory is, 4 where a device fails, and 64 where the line is
 /// refused. What went wrong is told on `errors`, whose own failures change nothing.

@@ -19,10 +19,9 @@ struct Outcome {
     errors: Vec<u8>,
 }
 
-/// The words of a command line, after the program's name.
+/// The words of a command line.
 fn words_of(alloc: Global, line: &[&str]) -> Result<Vec<String>, AllocError> {
     let mut words = Vec::new(alloc);
-    words.push(String::from_str(alloc, "ccq")?)?;
     for word in line {
         words.push(String::from_str(alloc, word)?)?;
     }
@@ -63,8 +62,9 @@ Options:
   -h, --help  Print help
 
 Examples:
-  ccq play < examples/one_item.json
-  ccq audit < examples/receipts.json
+  ccq play < PLAN
+  ccq audit < RECEIPTS
+  echo '{\"accepted\":[[1,1,0,7]],\"taken\":[[1,0,1,1,7]]}' | ccq audit
 
 Exit status:
   0   done, and the verdict is clean

@@ -25,7 +25,7 @@ use Rattle.cc_machine.specs.View.{View, state_in}
 use Rattle.cc_machine.specs.Shown.{view_of, state_of, IsLaid, IsSmall, Keeps, HasCallRoom, HasAnswerRoom, HasRoom, CanStep, seat_at, Moved}
 use Rattle.cc_machine.specs.Machine.{IsReached, told_at}
 use Rattle.cc_machine.specs.Lawful.{before_exchange, to_come, coming, HasRoomToCome, IsLawful}
-use Rattle.cc_machine.proofs.Coming.{coming_max, coming_hold, coming_some, coming_none}
+use Rattle.cc_machine.proofs.Coming.{one_on_side, coming_any, coming_hold, coming_some, coming_none}
 use Rattle.cc_machine.proofs.Gained.{gained}
 
 -- the history of the state that is seen is the one that is seen
@@ -150,27 +150,33 @@ lawful_view old mid same e d l = record {
   d_room = let all : length mid.history.lists.d_calls + coming mid.setting (Take 0) (passes mid.setting) (state_of mid).stand ≤ old.history.d_room = subst (λ (m : View). length m.history.d_calls + coming m.setting (Take 0) (passes m.setting) (state_in m).stand ≤ old.history.d_room) (sym same) l.d_room in omega (arith, all, d);
 }
 
--- room on one side for a call of every pass
+-- room on one side for the calls to come, and for one more
 abbrev Roomy : Board → Chain → Type 0
-Roomy b x = calls_on (state_of b).history x + passes b.setting ≤ room_on b.history x
+Roomy b x = calls_on (state_of b).history x + coming b.setting x (passes b.setting) (state_of b).stand + 1 ≤ room_on b.history x
 
-roomy : (b : Board) (x : Chain) → IsLaid b → HasRoomToCome b x → Roomy b x
-roomy b Send l room = let same : length (state_of b).history.e_calls ≡ length b.history.lists.e_calls = ap (λ (h : Record). length h.e_calls) (history_shown b) in omega (arith, same, l.stands, room)
-roomy b (Take g) l room = let same : length (state_of b).history.d_calls ≡ length b.history.lists.d_calls = ap (λ (h : Record). length h.d_calls) (history_shown b) in omega (arith, same, l.stands, room)
+roomy : (b : Board) (x : Chain) → HasRoomToCome b x → Roomy b x
+roomy b Send room = let same : length (state_of b).history.e_calls ≡ length b.history.lists.e_calls = ap (λ (h : Record). length h.e_calls) (history_shown b) in omega (arith, same, room)
+roomy b (Take g) room = let same : length (state_of b).history.d_calls ≡ length b.history.lists.d_calls = ap (λ (h : Record). length h.d_calls) (history_shown b) in omega (arith, same, room)
 
-fits_roomy : (old new : Board) (x : Chain) → Roomy old x → new.setting ≡ old.setting → calls_on (state_of new).history x ≡ calls_on (state_of old).history x → room_on old.history x ≤ room_on new.history x → Fits new x
-fits_roomy old new x all same calls room =
-    let most = coming_max new.setting x (passes new.setting) (state_of new).stand in
-    let count : passes new.setting ≡ passes old.setting = ap (λ (c : Setting). passes c) same in
-    omega (arith, most, count, all, calls, room)
+fits_roomy : (old new : Board) (p : ℕ) (there : Stand) (x : Chain) → Roomy old x → p < passes old.setting → new.setting ≡ old.setting → (state_of new).stand ≡ hold (state_of old).stand p there →
+    calls_on (state_of new).history x ≡ calls_on (state_of old).history x → room_on old.history x ≤ room_on new.history x → Fits new x
+fits_roomy old new p there x all near same stands calls room =
+    let moved_one : coming old.setting x (passes old.setting) (state_of new).stand ≡ coming old.setting x (passes old.setting) (hold (state_of old).stand p there) = ap (λ (z : ℕ → Stand). coming old.setting x (passes old.setting) z) stands in
+    let sum = coming_hold old.setting x (passes old.setting) p (state_of old).stand there near in
+    let one = one_on_side x (chain_of old.setting.config p) there.place in
+    subst (λ (c : Setting). calls_on (state_of new).history x + coming c x (passes c) (state_of new).stand ≤ room_on new.history x) (sym same)
+    (omega (arith, moved_one, sum, one, all, calls, room))
+
+roomy_any : (b : Board) (k g : ℕ) → Roomy b (Take g) → Roomy b (Take k)
+roomy_any b k g all = let same = coming_any b.setting k g (passes b.setting) (state_of b).stand in omega (arith, same, all)
 
 other_side : (c : Setting) (s t : State) (p : ℕ) (x : Chain) (there : Stand) → t.stand ≡ hold s.stand p there → calls_on t.history x ≡ calls_on s.history x → ((at : Place) → to_come x (chain_of c.config p) at ≡ 0) → Balance c s t p there x
 other_side c s t p x there stands calls none = record { stands = stands; calls = omega (arith, calls, none there.place, none (s.stand p).place) }
 
 begun_side : (old new : Board) (p : ℕ) (there : Stand) (x y : Chain) → chain_of old.setting.config p ≡ y → Roomy old y → p < passes old.setting → new.setting ≡ old.setting →
     (state_of new).stand ≡ hold (state_of old).stand p there → (state_of new).history ≡ (state_of old).history → room_on old.history x ≤ room_on new.history x → Fits old x → Fits new x
-begun_side old new p there Send Send side all near same stands history room f = fits_roomy old new Send all same (ap (λ (h : Record). length h.e_calls) history) room
-begun_side old new p there (Take k) (Take g) side all near same stands history room f = fits_roomy old new (Take k) all same (ap (λ (h : Record). length h.d_calls) history) room
+begun_side old new p there Send Send side all near same stands history room f = fits_roomy old new p there Send all near same stands (ap (λ (h : Record). length h.e_calls) history) room
+begun_side old new p there (Take k) (Take g) side all near same stands history room f = fits_roomy old new p there (Take k) (roomy_any old k g all) near same stands (ap (λ (h : Record). length h.d_calls) history) room
 begun_side old new p there Send (Take g) side all near same stands history room f =
     fits_on old new p there Send near same room (other_side old.setting (state_of old) (state_of new) p Send there stands (ap (λ (h : Record). length h.e_calls) history) (λ at. ap (λ (z : Chain). to_come Send z at) side)) f
 begun_side old new p there (Take k) Send side all near same stands history room f =
@@ -178,7 +184,7 @@ begun_side old new p there (Take k) Send side all near same stands history room 
 
 pub lawful_begin : (old new : Board) (p : ℕ) (call : Call) (known : ℕ) → IsLawful old → HasRoomToCome old (chain_of old.setting.config p) → May old.setting (state_of old) (Begin p call known) → Keeps old new → state_of new ≡ moved old.setting (state_of old) (Begin p call known) → IsLawful new
 lawful_begin old new p call known l room may k is =
-    let all = roomy old (chain_of old.setting.config p) l.laid room in
+    let all = roomy old (chain_of old.setting.config p) room in
     let stands = ap (λ (z : State). z.stand) is in
     let history = ap (λ (z : State). z.history) is in
     lawful_after old new (Begin p call known) l (laid_kept old new k l.laid) may k.setting is

@@ -18,6 +18,7 @@ pub mod CallsMade
 pub mod RunFronts
 pub mod Passes
 pub mod KnownFronts
+pub mod Waiting
 pub mod LinkedList
 pub mod ListRuns
 pub mod AllReady

@@ -1,6 +1,6 @@
 -- A step, by where its pass stands: its kind, the one word that it touches and how, the place afterwards, and what it
--- puts into the history. Chain x is the pass's, own its node. The order of steps is that of CC-Synch (Fatourou and
--- Kallimanis, PPoPP 2012), with the two flags of its nodes in one word of state: 1 waiting, 2 done, 0 serve.
+-- puts into the history. Chain x is the pass's, own its node. The order of steps is this project's own, after CC-Synch
+-- (Fatourou and Kallimanis, PPoPP 2012), with the two flags of its nodes in one word of state: 1 waiting, 2 done, 0 serve.
 use Rattle.std.specs.Prelude.{ℕ, zero, suc, ◌+◌, ◌-◌, ◌==◌, if◌then◌else◌, Option, Some, None}
 use Rattle.cc_machine.specs.declared.setting.Setting.{Setting}
 use Rattle.cc_machine.specs.declared.setting.Served.{Served}

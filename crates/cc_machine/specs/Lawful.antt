@@ -1,5 +1,5 @@
 -- The boards that runs lead to, with room in the history for every call to come.
-use Rattle.std.specs.Prelude.{◌≡◌, ℕ, zero, suc, ◌+◌, ◌≤◌, length, Ok}
+use Rattle.std.specs.Prelude.{◌≡◌, ℕ, zero, suc, ◌+◌, ◌≤◌, ◌<◌, max, Bool, if◌then◌else◌, length, Ok}
 use Rattle.cc_model.specs.Config.{config_fault}
 use Rattle.cc_machine.specs.declared.setting.Setting.{Setting}
 use Rattle.cc_machine.specs.declared.setting.Served.TheVariants as served
@@ -29,15 +29,28 @@ to_come Send Send at = before_exchange at
 to_come (Take g) (Take h) at = before_exchange at
 to_come x y at = 0
 
+-- one where there is such a call
+abbrev pub if_to_come : Bool → ℕ
+if_to_come b = if b then 1 else 0
+
 -- how many of the first n passes have such a call on the side of chain x
 abbrev pub coming : Setting → Chain → ℕ → (ℕ → Stand) → ℕ
 coming c x zero stands = 0
 coming c x (suc n) stands = to_come x (chain_of c.config n) (stands n).place + coming c x n stands
 
--- room in the history of this side for a call of every pass
+-- how many calls of this side are to come
+abbrev pub all_coming : Board → Chain → ℕ
+all_coming b x = coming b.setting x (passes b.setting) (state_of b).stand
+
+-- room in the history of this side for the calls to come, and for one more
 abbrev pub HasRoomToCome : Board → Chain → Type 0
-HasRoomToCome b Send = length b.history.lists.e_calls + length b.stands.items ≤ b.history.e_room
-HasRoomToCome b (Take g) = length b.history.lists.d_calls + length b.stands.items ≤ b.history.d_room
+HasRoomToCome b Send = length b.history.lists.e_calls + all_coming b Send + 1 ≤ b.history.e_room
+HasRoomToCome b (Take g) = length b.history.lists.d_calls + all_coming b (Take g) + 1 ≤ b.history.d_room
+
+-- there is less room on this side than for the calls to come and one more, or for their answers
+abbrev pub LacksRoom : Board → Chain → Type 0
+LacksRoom b Send = b.history.e_room < max (length b.history.lists.e_calls) (length b.history.lists.e_answers) + all_coming b Send + 1
+LacksRoom b (Take g) = b.history.d_room < max (length b.history.lists.d_calls) (length b.history.lists.d_answers) + all_coming b (Take g) + 1
 
 -- a run leads to it
 pub record IsLawful (b : Board) : Type 0 where

@@ -1,5 +1,5 @@
 -- What a caller sees of a machine, and what each call does to it.
-use Rattle.std.specs.Prelude.{◌≡◌, Bool, ℕ, ◌+◌, ◌-◌, ◌*◌, nat_lt, if◌then◌else◌, List, [], ◌∷◌, ◌++◌, Option, Some, None, Result, Ok, Err, ⊤}
+use Rattle.std.specs.Prelude.{◌≡◌, ◌==◌, Bool, false, ℕ, ◌+◌, ◌-◌, ◌*◌, nat_lt, if◌then◌else◌, List, [], ◌∷◌, ◌++◌, Option, Some, None, Result, Ok, Err, ⊤}
 use Rattle.cc_model.specs.Range.{within}
 use Rattle.cc_model.specs.Config.{config_fault}
 use Rattle.cc_model.specs.Items.{calls_of}
@@ -25,9 +25,12 @@ use Rattle.cc_machine.specs.declared.place.Event.TheVariants as event
 use Rattle.cc_machine.specs.declared.place.Place.{Place}
 use Rattle.cc_machine.specs.declared.place.Place.TheVariants as place
 use Rattle.cc_machine.specs.Words.{groups}
-use Rattle.cc_machine.specs.State.{chain_of}
+use Rattle.cc_machine.specs.declared.word.NodeField.TheVariants as node
+use Rattle.cc_machine.specs.declared.word.Word.TheVariants.{Node}
+use Rattle.cc_machine.specs.State.{State, chain_of}
 use Rattle.cc_machine.specs.View.{View, state_in}
 use Rattle.cc_machine.specs.Columns.{event_at}
+use Rattle.cc_machine.specs.Step.{stepped}
 use Rattle.cc_machine.specs.Run.{Move, Begin, Step, Take, opening, moved, reached, begun_after, IsRun}
 
 -- some run leads here
@@ -114,6 +117,21 @@ event_in m (Some p) = event_at ((state_in m).stand p).place
 -- the same of a pass by its name
 abbrev pub event_of : View → Pass → Event
 event_of m pass = event_in m (index_of m.setting pass)
+
+-- its next step reads the state of its node, which is still 1: the step changes nothing
+abbrev pub waits_at : Setting → State → ℕ → Place → Bool
+waits_at c s p place.ReadState = s.mem (Node (chain_of c.config p) (s.stand p).node node.State) == 1
+waits_at c s p _ = false
+
+-- the same of a pass in the row
+abbrev pub waits_in : View → Option ℕ → Bool
+waits_in m None = false
+waits_in m (Some p) = waits_at m.setting (state_in m) p ((state_in m).stand p).place
+
+-- that read changes nothing
+abbrev pub StandsStill : View → Option ℕ → Type 0
+StandsStill m None = ⊥
+StandsStill m (Some p) = (((state_in m).stand p).place ≡ place.ReadState) × (stepped m.setting (state_in m) p ≡ state_in m)
 
 -- that step was done, and it alone
 abbrev pub HasStepped : View → Option ℕ → Event → View → Type 0

@@ -138,16 +138,27 @@ PreparedAlone = AfterEveryRun (λ c moves. let s : State = reached c moves in (p
 abbrev pub NamesNode : Config → ℕ → Type 0
 NamesNode c link = (1 ≤ link) × (link ≤ c.capacity + 1)
 
--- what a step that loads a link finds: `last` and `head` name ordinary nodes, and the dummy's next is null or names a
--- node, or the closing mark
+-- What a step of a service finds: `last` and `head` name ordinary nodes, and the dummy's next is null or names a node, or the
+-- closing mark. The scan starts at an ordinary node, and from there on up to the last word of its send the node that is
+-- looked at, or was found, is an ordinary one.
 abbrev pub FindsNode : Config → State → Place → Type 0
 FindsNode c s (place.Sending job (sending.ReadLastToClose total)) = NamesNode c (s.mem (Object object.Last))
-FindsNode c s (place.Sending job (sending.ReadLast count at)) = NamesNode c (s.mem (Object object.Last))
+FindsNode c s (place.Sending job (sending.ReadCursor parcel)) = s.mem (Object object.Cursor) ≤ c.capacity
+FindsNode c s (place.Sending job (sending.ReadPassed parcel at reads)) = at ≤ c.capacity
+FindsNode c s (place.Sending job (sending.ResetPassed parcel at)) = at ≤ c.capacity
+FindsNode c s (place.Sending job (sending.ResetItemNext parcel at)) = at ≤ c.capacity
+FindsNode c s (place.Sending job (sending.WriteItemTag parcel at)) = at ≤ c.capacity
+FindsNode c s (place.Sending job (sending.WriteItemBody count body at)) = at ≤ c.capacity
+FindsNode c s (place.Sending job (sending.ReadLast count at)) = NamesNode c (s.mem (Object object.Last)) × (at ≤ c.capacity)
+FindsNode c s (place.Sending job (sending.LinkItem count at last)) = at ≤ c.capacity
+FindsNode c s (place.Sending job (sending.WriteLast count at)) = at ≤ c.capacity
+FindsNode c s (place.Sending job (sending.WriteCount count at)) = at ≤ c.capacity
+FindsNode c s (place.Sending job (sending.WriteCursor count at)) = at ≤ c.capacity
 FindsNode c s (place.Taking job taking.ReadHead) = NamesNode c (s.mem (Object (object.Head 0)))
 FindsNode c s (place.Taking job (taking.ReadDummyNext dummy taken)) = s.mem (Item dummy item.Next) ≤ c.capacity + 2
 FindsNode c s _ = Unit {0}
 
--- each link that is read is one
+-- each link that is read is one, and a scan reads ordinary nodes alone
 abbrev pub LinksNameNodes : Type 0
 LinksNameNodes = AfterEveryRun (λ c moves. (p : ℕ) → FindsNode c.config (reached c moves) ((reached c moves).stand p).place)
 
@@ -156,7 +167,7 @@ abbrev pub scan_reads : Place → ℕ
 scan_reads (place.Sending job (sending.ReadPassed parcel at reads)) = reads
 scan_reads _ = 0
 
--- a scan reads each ordinary node at most once
+-- a scan reads at most as many nodes as there are ordinary ones
 abbrev pub ScansAreShort : Type 0
 ScansAreShort = AfterEveryRun (λ c moves. (p : ℕ) → scan_reads ((reached c moves).stand p).place ≤ c.config.capacity + 1)
 

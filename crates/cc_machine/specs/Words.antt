@@ -45,9 +45,10 @@ item_field item.Body = 1
 item_field item.Next = 2
 item_field item.Passed = 3
 
--- Where words lie in one row. Words 0 to 7 are the configuration. Then come the senders' tail, the words of the object,
--- the ends of the groups (each its tail, then its head and its count of items taken), the senders' nodes, the nodes of
--- each group, and the list nodes: where the first of a kind is, and how far from it the next one.
+-- Where words lie in one row. Words 0 to 7 are kept for the configuration: the machine of one thread leaves them 0, and a
+-- table that threads share has it there. Then come the senders' tail, the words of the object, the ends of the groups
+-- (each its tail, then its head and its count of items taken), the senders' nodes, the nodes of each group, and the list
+-- nodes: where the first of a kind is, and how far from it the next one.
 pub record Spacing : Type 0 where
   pub tail : ℕ
   pub objects : ℕ

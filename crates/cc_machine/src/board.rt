@@ -30,6 +30,7 @@ pub struct Seat {
 
 impl Board {
     /// Where a word lies.
+    #[inline(always)]
     fn address(&self, word: Word) -> usize
         requires laid { IsLaid self.now }
         requires word { IsTrue (exists (layout_of self.now.setting.config) word) }
@@ -40,6 +41,7 @@ impl Board {
     }
 
     /// What a word holds.
+    #[inline(always)]
     #[tactic(auto, unfolding(crate::specs::View::state_in))]
     pub fn load(&self, word: Word) -> u64
         requires laid { IsLaid self.now }
@@ -50,6 +52,7 @@ impl Board {
     }
 
     /// Stores into a word.
+    #[inline(always)]
     #[tactic(auto, unfolding(crate::specs::View::state_in))]
     pub fn store(&mut self, word: Word, value: u64)
         requires laid { IsLaid self.old }
@@ -62,6 +65,7 @@ impl Board {
     }
 
     /// Lets a pass stand so.
+    #[inline(always)]
     #[tactic(auto, unfolding(crate::specs::View::state_in))]
     pub fn put(&mut self, pass: usize, stand: Stand)
         requires { pass < length self.old.stands.items }
@@ -72,6 +76,7 @@ impl Board {
     }
 
     /// Lets a pass stand at another place.
+    #[inline(always)]
     pub fn go(&mut self, seat: Seat, place: Place)
         requires { seat.pass < length self.old.stands.items }
         ensures state { state_of self.new ≡ record (state_of self.old) { stand = hold (state_of self.old).stand seat.pass (stand_of seat place) } }

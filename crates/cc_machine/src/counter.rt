@@ -3,7 +3,7 @@ use crate::codes::count_word;
 use crate::fault::{BeginFault, OpenFault};
 use crate::place::Event;
 use crate::setting::{Served, Setting};
-use cc_model::{Answer, Call, Config, Pass, SendAnswer};
+use cc_model::{Answer, Call, Config, History, Pass, SendAnswer};
 use std::alloc::Global;
 use std::marker::Model;
 
@@ -81,5 +81,16 @@ impl CounterMachine {
             Some(answer) => Some(count_word(answer)),
             None => None,
         }
+    }
+
+    /// The calls that have exchanged, in the order of their exchanges, and the answers decided so far. It is that of a run of
+    /// a counter whose configuration was checked, so that every law of such runs can be used.
+    pub fn history(&self) -> &History
+        ensures history { result.now.lists ≡ self.now.history }
+        ensures run { IsReached self.now }
+        ensures served { self.now.setting.served ≡ Served.Counter }
+        ensures checked { config_fault self.now.setting.config ≡ Ok tt }
+    {
+        &self.board.history
     }
 }

@@ -2,10 +2,11 @@ ghost use Rattle.std.specs.Prelude.{◌≡◌, ◌<◌, length, IfSome, IfNone};
 ghost use Rattle.cc_machine.specs.Shown.{state_of, CanStep, Stepped, seat_at, Moved};
 ghost use Rattle.cc_machine.specs.State.{chain_of};
 ghost use Rattle.cc_machine.specs.Columns.{event_at};
+ghost use Rattle.cc_machine.specs.Machine.{waits_at};
 
 use crate::board::{Board, Seat};
 use crate::place::{Event, Kind, Place, Stand};
-use crate::word::Chain;
+use crate::word::{Chain, NodeField, Word};
 
 impl Board {
     /// Where a pass stands.
@@ -25,6 +26,19 @@ impl Board {
         } else {
             Chain::Take(0)
         }
+    }
+
+    /// Whether the next step of a pass reads a state that still waits.
+    pub fn is_waiting(&self, pass: usize) -> bool
+        requires pass { pass < length self.now.stands.items }
+        requires can { CanStep self.now (seat_at self.now pass) ((state_of self.now).stand pass).place }
+        ensures { result ≡ waits_at self.now.setting (state_of self.now) pass ((state_of self.now).stand pass).place }
+    {
+        let stand = self.stand(pass);
+        let Place::ReadState = stand.place else {
+            return false;
+        };
+        self.load(Word::Node(self.chain(pass), stand.node, NodeField::State)) == 1
     }
 
     fn step(&mut self, seat: Seat, place: Place) -> Option<Kind>

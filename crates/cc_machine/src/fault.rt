@@ -5,6 +5,7 @@ use cc_model::ConfigFault;
 pub enum OpenFault {
     /// A field of the configuration is out of its range: the first such field.
     Config(ConfigFault),
+    /// The configuration is right, and memory was refused.
     NoMemory,
 }
 
@@ -20,6 +21,7 @@ pub enum BeginFault {
     WrongSide,
     /// The sender began as many sends as the configuration allows it.
     Worn,
-    /// There is no room in the history for the call and its answer, and none could be had.
+    /// There is no room in the history for the calls of this side that are to come, this one among them, and their answers,
+    /// and none could be had.
     NoMemory,
 }

@@ -1,11 +1,12 @@
-ghost use Rattle.std.specs.Prelude.{◌≡◌, ◌≤◌, ◌<◌, ℕ, Some, Ok, OnOk, OnErr, IfOk, IfErr};
+ghost use Rattle.std.specs.Prelude.{◌≡◌, ◌≤◌, ◌<◌, ℕ, length, Some, Ok, OnOk, OnErr, IfOk, IfErr};
 ghost use Rattle.cc_model.specs.Config.{config_fault};
 ghost use Rattle.cc_model.specs.Items.{known_at};
 ghost use Rattle.cc_machine.specs.Safe.{IsReady};
-ghost use Rattle.cc_machine.specs.Shown.{view_of, state_of};
+ghost use Rattle.cc_machine.specs.Shown.{view_of, state_of, IsLaid};
 ghost use Rattle.cc_machine.specs.Run.{passes};
 ghost use Rattle.cc_machine.specs.Machine.{IsOpened, OnSide, index_of, begin_fault, IsBeginFault, IsOpenFault, HasBegun, event_of, HasStepped, answer_of, HasTaken};
-ghost use Rattle.cc_machine.specs.Lawful.{HasRoomToCome, IsLawful};
+ghost use Rattle.cc_machine.specs.Lawful.{if_to_come, to_come, all_coming, HasRoomToCome, LacksRoom, IsLawful};
+ghost use Rattle.cc_machine.specs.State.{chain_of};
 
 use crate::board::Board;
 use crate::fault::{BeginFault, OpenFault};
@@ -73,17 +74,51 @@ impl Board {
         Ok(index)
     }
 
-    /// Makes room in the history of this side for a call of every pass, and for the answers of all calls.
+    /// Whether a pass of this chain stands so that its call is yet to come: begun, and not exchanged.
+    fn is_to_come(&self, chain: Chain, pass: usize) -> bool
+        requires { pass < length self.now.stands.items }
+        ensures { if_to_come result ≡ to_come chain (chain_of self.now.setting.config pass) ((state_of self.now).stand pass).place }
+    {
+        let is_before = match self.stand(pass).place {
+            Place::ResetNext { .. } | Place::ResetState { .. } | Place::Exchange { .. } => true,
+            _ => false,
+        };
+        match (chain, self.chain(pass)) {
+            (Chain::Send, Chain::Send) => is_before,
+            (Chain::Take(_), Chain::Take(_)) => is_before,
+            _ => false,
+        }
+    }
+
+    /// How many calls of this side were begun and haven't exchanged.
+    fn calls_to_come(&self, chain: Chain) -> usize
+        requires laid { IsLaid self.now }
+        ensures count { result ≡ all_coming self.now chain }
+        ensures few { result ≤ 128 }
+    {
+        let mut count = 0;
+        for pass in 0..self.stands.len() {
+            if self.is_to_come(chain, pass) {
+                count += 1;
+            }
+        }
+        count
+    }
+
+    /// Makes room in the history of this side, where it is missing, for the calls to come and one more, and for the answers
+    /// of all calls.
     fn reserve(&mut self, chain: Chain) -> Result<(), AllocError>
+        requires laid { IsLaid self.old }
         ensures view { view_of self.new ≡ view_of self.old }
         ensures e_room { self.old.history.e_room ≤ self.new.history.e_room }
         ensures d_room { self.old.history.d_room ≤ self.new.history.d_room }
         ensures room { OnOk result (HasRoomToCome self.new chain) }
+        ensures refused { OnErr result (LacksRoom self.old chain) }
     {
-        let passes = self.stands.len();
+        let further = self.calls_to_come(chain) + 1;
         match chain {
-            Chain::Send => self.history.reserve_e(passes),
-            Chain::Take(_) => self.history.reserve_d(passes),
+            Chain::Send => self.history.reserve_e(further),
+            Chain::Take(_) => self.history.reserve_d(further),
         }
     }
 

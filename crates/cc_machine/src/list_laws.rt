@@ -33,7 +33,8 @@ pub fn nodes_are_prepared_alone()
     ensures { PreparedAlone }
 {}
 
-/// Each link of a list node that is read is null or names a list node.
+/// Each link of a list node that is read is null or names a list node; and a scan for a free node starts at an ordinary
+/// node, reads ordinary nodes alone, and finds one.
 pub fn links_name_nodes()
     ensures { LinksNameNodes }
 {}

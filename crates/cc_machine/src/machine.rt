@@ -31,11 +31,12 @@ impl Model for Machine {
 
 impl Machine {
     ghost use Rattle.std.specs.Prelude.{◌≡◌, Ok, OnOk, OnErr, IfOk, IfErr, IfSome};
+    ghost use Rattle.std.specs.Bool.{OnTrue};
     ghost use Rattle.cc_model.specs.Config.{config_fault};
     ghost use Rattle.cc_model.specs.Items.{known_at};
     ghost use Rattle.cc_model.specs.Legal.{Legal};
     ghost use Rattle.cc_model.specs.Fifo.{Fifo};
-    ghost use Rattle.cc_machine.specs.Machine.{IsOpened, index_of, begin_fault, IsBeginFault, IsOpenFault, IsReached, IsLastAnswer, HasBegun, event_of, HasStepped, answer_of, HasTaken};
+    ghost use Rattle.cc_machine.specs.Machine.{IsOpened, index_of, begin_fault, IsBeginFault, IsOpenFault, IsReached, IsLastAnswer, HasBegun, event_of, waits_in, StandsStill, HasStepped, answer_of, HasTaken};
 
     /// The setting of a machine of this configuration.
     fn setting_of(config: &Config) -> Setting
@@ -93,6 +94,17 @@ impl Machine {
         event
     }
 
+    /// Whether the pass waits: its next step reads the state of its node, which is still 1, so that the step changes nothing.
+    pub fn is_waiting(&self, pass: Pass) -> bool
+        ensures waits { result ≡ waits_in self.now (index_of self.now.setting pass) }
+        ensures still { OnTrue result (StandsStill self.now (index_of self.now.setting pass)) }
+    {
+        match self.board.setting.row(pass) {
+            Some(index) => self.board.is_waiting(index),
+            None => false,
+        }
+    }
+
     /// Takes the answer of the pass's call, once the call has read it. `None`, and nothing is changed, where there is none.
     pub fn answer(&mut self, pass: Pass) -> Option<Answer>
         ensures answer { result ≡ answer_of self.old pass }
@@ -103,10 +115,13 @@ impl Machine {
     }
 
     /// The calls that have exchanged, in the order of their exchanges on each side, and the answers decided so far.
-    /// It is that of a run, it is lawful, and items come out first in, first out.
+    /// It is that of a run of a list's machine whose configuration was checked, so that every law of such runs can be used;
+    /// it is lawful, and items come out first in, first out.
     pub fn history(&self) -> &History
         ensures history { result.now.lists ≡ self.now.history }
         ensures run { IsReached self.now }
+        ensures served { self.now.setting.served ≡ Served.List }
+        ensures checked { config_fault self.now.setting.config ≡ Ok tt }
         ensures legal { Legal self.now.setting.config self.now.history }
         ensures fifo { Fifo self.now.history }
     {

@@ -22,7 +22,8 @@ pub enum PlanFault {
     /// The schedule entry at this place, counted from 0, names a pass that isn't there.
     #[error("entry {0} names a pass that isn't there")]
     P4(usize),
-    /// Memory ran out. Where a growth was refused, this may stand in place of any other answer.
+    /// Memory ran out. Where a growth was refused, this may stand in place of any other answer but that the input is too
+    /// long, which is told before any memory is taken.
     #[error("out of memory")]
     P5,
 }

@@ -1,12 +1,13 @@
 //! The tree of a JSON text, and plain questions about a tree.
-ghost use Rattle.std.specs.Prelude.{◌≡◌, ◌≤◌, ℕ, Bool, List, Option, map, IfOk, IfSome, option_map, length};
+ghost use Rattle.std.specs.Prelude.{◌≡◌, ◌≤◌, ℕ, Bool, List, Option, map, IfOk, IfSome, IsErrOf, OnOk, option_map, length};
 ghost use Rattle.std.specs.List.{list_all};
 ghost use Rattle.serde_json.specs.Data.{Data};
 ghost use Rattle.serde_json.specs.View.{view, members_view};
 ghost use Rattle.cc_plan.specs.Json.{json_of, elements, is_list_of, pair_of, each, is_number, is_word, number_in, keys, has_only};
 ghost use Rattle.cc_plan.specs.Closures.{Computes, TestsText};
 ghost use Rattle.cc_plan.specs.Answers.{Gives};
-ghost use Rattle.cc_plan.specs.Refusal.{tree_of, or_no_json};
+ghost use Rattle.cc_plan.specs.Refusal.{tree_of, or_no_json, input_limit};
+ghost use Rattle.cc_plan.specs.declared.fault.PlanFault.TheVariants.{P5};
 
 use crate::fault::PlanFault;
 use cc_model::is_within;
@@ -19,7 +20,9 @@ pub const INPUT_LIMIT: usize = 16_777_216;
 /// The tree of an input, or that it is too long or no JSON.
 #[tactic(auto, unfolding(crate::specs::Refusal::tree_of))]
 pub fn parse(alloc: Global, bytes: &[u8]) -> Result<Value, PlanFault>
-    ensures { Gives view result (tree_of bytes.now) }
+    ensures tree { Gives view result (tree_of bytes.now) }
+    ensures short { OnOk result (length bytes.now ≤ input_limit) }
+    ensures memory { IsErrOf result P5 → length bytes.now ≤ input_limit }
 {
     if bytes.len() > INPUT_LIMIT {
         return Err(PlanFault::P3("input"));

@@ -1,11 +1,13 @@
 //! A plan, and how it is read.
-ghost use Rattle.std.specs.Prelude.{◌≡◌, not, IfOk};
+ghost use Rattle.std.specs.Prelude.{◌≡◌, ◌≤◌, not, IfOk, IsErrOf, length};
 ghost use Rattle.std.specs.List.{position};
 ghost use Rattle.serde_json.specs.View.{view};
 ghost use Rattle.cc_plan.specs.Answers.{Gives};
 ghost use Rattle.cc_plan.specs.Plan.{plan_value};
 ghost use Rattle.cc_plan.specs.PlanLaws.{Lawful};
 ghost use Rattle.cc_plan.specs.PlanOf.{plan_of, plan_of_tree, has_pass};
+ghost use Rattle.cc_plan.specs.Refusal.{input_limit};
+ghost use Rattle.cc_plan.specs.declared.fault.PlanFault.TheVariants.{P5};
 
 use crate::fault::PlanFault;
 use crate::json;
@@ -37,6 +39,7 @@ use values::values;
 /// range, a range in the order of the keys, and an unknown pass last.
 pub fn read_plan(alloc: Global, bytes: &[u8]) -> Result<Plan, PlanFault>
     ensures plan { Gives plan_value result (plan_of bytes.now) }
+    ensures memory { IsErrOf result P5 → length bytes.now ≤ input_limit }
     ensures lawful { IfOk result (λ plan. Lawful (plan_value plan)) }
 {
     read(alloc, bytes)
@@ -44,7 +47,8 @@ pub fn read_plan(alloc: Global, bytes: &[u8]) -> Result<Plan, PlanFault>
 
 #[tactic(auto, unfolding(crate::specs::PlanOf::plan_of))]
 fn read(alloc: Global, bytes: &[u8]) -> Result<Plan, PlanFault>
-    ensures { Gives plan_value result (plan_of bytes.now) }
+    ensures plan { Gives plan_value result (plan_of bytes.now) }
+    ensures memory { IsErrOf result P5 → length bytes.now ≤ input_limit }
 {
     let tree = json::parse(alloc, bytes)?;
     plan_in(alloc, &tree)

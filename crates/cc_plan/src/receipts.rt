@@ -1,9 +1,11 @@
 //! Receipts, and how they are read.
-ghost use Rattle.std.specs.Prelude.{◌≡◌};
+ghost use Rattle.std.specs.Prelude.{◌≡◌, ◌≤◌, IsErrOf, length};
 ghost use Rattle.serde_json.specs.View.{view};
 ghost use Rattle.cc_plan.specs.Answers.{Gives};
 ghost use Rattle.cc_plan.specs.Receipts.{receipts_value};
 ghost use Rattle.cc_plan.specs.ReceiptsOf.{receipts_of, receipts_of_tree};
+ghost use Rattle.cc_plan.specs.Refusal.{input_limit};
+ghost use Rattle.cc_plan.specs.declared.fault.PlanFault.TheVariants.{P5};
 
 use crate::fault::PlanFault;
 use crate::json;
@@ -31,7 +33,8 @@ use values::values;
 /// The receipts that the bytes describe, or why they describe none.
 #[tactic(auto, unfolding(crate::specs::ReceiptsOf::receipts_of))]
 pub fn read_receipts(alloc: Global, bytes: &[u8]) -> Result<Receipts, PlanFault>
-    ensures { Gives receipts_value result (receipts_of bytes.now) }
+    ensures receipts { Gives receipts_value result (receipts_of bytes.now) }
+    ensures memory { IsErrOf result P5 → length bytes.now ≤ input_limit }
 {
     let tree = json::parse(alloc, bytes)?;
     receipts_in(alloc, &tree)

@@ -19,6 +19,7 @@ pub struct Report<'a> {
 }
 
 /// Writes the text of the report, and stops at the first write that fails.
+#[tactic(auto, using(cc_model::proofs::Writing::all_out))]
 pub fn write_report<W: Sink>(sink: &mut W, report: &Report<'_>) -> Result<(), WriteFault>
     requires { W.write_failures sink.old < 2 ^ 64 - 1 }
     ensures { Writes (is_err result) (W.bytes_written sink.old) (W.bytes_written sink.new)
@@ -31,6 +32,7 @@ pub fn write_report<W: Sink>(sink: &mut W, report: &Report<'_>) -> Result<(), Wr
 }
 
 /// Writes the line of a verdict alone, and stops at the first write that fails.
+#[tactic(auto, using(cc_model::proofs::Writing::all_out))]
 pub fn write_verdict<W: Sink>(sink: &mut W, verdict: Verdict) -> Result<(), WriteFault>
     requires { W.write_failures sink.old < 2 ^ 64 - 1 }
     ensures { Writes (is_err result) (W.bytes_written sink.old) (W.bytes_written sink.new)

@@ -1,12 +1,12 @@
 -- One entry of a schedule after another.
-use Rattle.std.proofs.Common.{◌≡◌, ◌<◌, ◌≤◌, ℕ, suc, ◌+◌, List, [], ◌∷◌, ◌++◌, length, get_or, take, drop, replicate, sym, ap, ◌∙◌, arith, add-one}
+use Rattle.std.proofs.Common.{◌≡◌, ◌<◌, ◌≤◌, ℕ, suc, ◌+◌, List, [], ◌∷◌, ◌++◌, length, get_or, take, drop, replicate, sym, ap, ◌∙◌, subst, arith, add-one}
 use Rattle.std.proofs.lemmas.Grind.{common_steps}
 use Rattle.std.proofs.Math.Seq.{drop-cons}
 use Rattle.std.proofs.lemmas.List.{drop_all, length-replicate, get_or-replicate}
 use Rattle.cc_model.specs.declared.call.Pass.{Pass}
 use Rattle.cc_machine.specs.declared.setting.Served.TheVariants as served
 use Rattle.cc_machine.specs.declared.run.Move.{Move}
-use Rattle.cc_machine.specs.Run.{reached, passes}
+use Rattle.cc_machine.specs.Run.{reached, passes, IsRun}
 use Rattle.cc_machine.specs.Machine.{index_of, IsOpened}
 use Rattle.cc_machine.specs.View.{View, state_in}
 use Rattle.cc_plan.specs.Plan.{PlanValue}
@@ -23,6 +23,7 @@ back plan m n xs ys run same all at = rw (written_back n xs ys same all) at
 -- the opening
 pub opened : (plan : PlanValue) (m : View) (begun : List ℕ) (n : ℕ) → IsOpened served.List plan.config m → begun ≡ replicate n 0 → n ≡ passes (setting_of plan) → IsAt plan m begun []
 opened plan m begun n h zeros all = record {
+  moves = tt;
   setting = h.setting;
   state = h.state;
   rows = ap length zeros ∙ length-replicate {A = ℕ} n 0 ∙ all;
@@ -41,8 +42,8 @@ followed plan schedule seen i d run same within leads =
 
 -- the whole schedule
 pub finished : (plan : PlanValue) (m : View) (begun : List ℕ) (run : List Move) (i : ℕ) → IsAt plan m begun run → length plan.schedule ≤ i → follow plan (drop i plan.schedule) run ≡ run_of plan
-    → (m.setting ≡ setting_of plan) × (state_in m ≡ reached (setting_of plan) (run_of plan))
+    → (m.setting ≡ setting_of plan) × (state_in m ≡ reached (setting_of plan) (run_of plan)) × IsRun (setting_of plan) (run_of plan)
 finished plan m begun run i at past leads =
     let none : drop i plan.schedule ≡ [] = drop_all i plan.schedule past in
     let same : run ≡ run_of plan = ap (λ (es : List (Pass × ℕ)). follow plan es run) (sym none) ∙ leads in
-    (at.setting, at.state ∙ ap (λ (r : List Move). reached (setting_of plan) r) same)
+    (at.setting, at.state ∙ ap (λ (r : List Move). reached (setting_of plan) r) same, subst (IsRun (setting_of plan)) same at.moves)

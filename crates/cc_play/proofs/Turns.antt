@@ -1,5 +1,5 @@
 -- One turn of a pass, and what it leaves.
-use Rattle.std.proofs.Common.{◌≡◌, ◌<◌, ◌==◌, ℕ, zero, suc, ◌+◌, ◌-◌, List, ◌∷◌, length, get_or, set, Bool, true, false, cond, Option, Some, None, refl, sym, ap, ◌∙◌, subst, arith, rules}
+use Rattle.std.proofs.Common.{◌≡◌, ◌<◌, ◌==◌, ℕ, zero, suc, ◌+◌, ◌-◌, List, ◌∷◌, length, get_or, set, Bool, true, false, cond, Option, Some, None, Ok, refl, sym, ap, ◌∙◌, subst, arith, rules}
 use Rattle.std.proofs.lemmas.Bool.Decides.{nat_tests}
 use Rattle.std.proofs.lemmas.List.{get_or-set_same, get_or-set_other}
 use Rattle.cc_model.specs.Items.{known_at}
@@ -13,12 +13,16 @@ use Rattle.cc_machine.specs.declared.place.Kind.{Kind}
 use Rattle.cc_machine.specs.declared.place.Place.{Place}
 use Rattle.cc_machine.specs.declared.place.Place.TheVariants as place
 use Rattle.cc_machine.specs.Columns.{event_at}
+use Rattle.cc_machine.specs.Step.{stepped as machine_stepped}
+use Rattle.cc_machine.specs.declared.place.Kind.TheVariants as kind
 use Rattle.cc_machine.specs.State.{State}
 use Rattle.cc_machine.specs.declared.run.Move.{Move}
 use Rattle.cc_machine.specs.declared.run.Move.TheVariants.{Begin, Step, Take}
-use Rattle.cc_machine.specs.Run.{reached, moved, rests}
-use Rattle.cc_machine.specs.Machine.{index_of, IsAfter, event_of, event_in, HasStepped, told_at, told_in, answer_of, HasTaken, HasBegun}
+use Rattle.cc_machine.specs.Run.{reached, moved, rests, May, IsFinished}
+use Rattle.cc_machine.specs.Machine.{index_of, IsAfter, begin_fault, StandsStill, event_of, event_in, HasStepped, told_at, told_in, answer_of, HasTaken, HasBegun}
 use Rattle.cc_machine.specs.View.{View, state_in}
+use Rattle.cc_machine.proofs.Rows.{inside}
+use Rattle.cc_machine.proofs.Faults.{may_begin}
 use Rattle.cc_plan.specs.Plan.{PlanValue}
 use Rattle.cc_play.specs.Schedule.{setting_of, place_in, begun_in, next_call, begins_at, begins, steps_at, steps, takes_at, takes, turn, turns, entry, IsAt, HasEnded, HasTurned}
 
@@ -45,6 +49,10 @@ takes-told : (row : ℕ) (at : Place) (run : List Move) → takes_at row at run 
 takes-told row (place.Finished told) run = refl
 takes-told row _ run = refl
 
+finished_at : (at : Place) (told : Answer) → Some told ≡ told_at at → IsFinished at
+finished_at (place.Finished answer) told e = tt
+finished_at _ told e = absurd (cc)
+
 -- ---- one move of the machine
 
 module _ (plan : PlanValue) (who : Pass) (row : ℕ) (named : index_of (setting_of plan) who ≡ Some row) where
@@ -59,21 +67,21 @@ module _ (plan : PlanValue) (who : Pass) (row : ℕ) (named : index_of (setting_
   stepped m m' begun run e at is did =
       let here : index_of m.setting who ≡ Some row = index m begun run at in
       let same : e ≡ event_at (place_in plan run row) = is ∙ ap (event_in m) here ∙ ap (λ (s : State). event_at (s.stand row).place) at.state in
-      subst (λ (x : Event). IsAt plan m' begun (steps_at row x run)) same (core e (subst (λ (o : Option ℕ). HasStepped m o e m') here did))
+      subst (λ (x : Event). IsAt plan m' begun (steps_at row x run)) same (core e same (subst (λ (o : Option ℕ). HasStepped m o e m') here did))
     where
-      core : (x : Event) → HasStepped m (Some row) x m' → IsAt plan m' begun (steps_at row x run)
-      core (event.Did kind) h = record { setting = h.setting ∙ at.setting; state = moves m m' begun run (Step row) at h; rows = at.rows; counts = at.counts }
-      core event.Idle h = rw h at
+      core : (x : Event) → x ≡ event_at (place_in plan run row) → HasStepped m (Some row) x m' → IsAt plan m' begun (steps_at row x run)
+      core (event.Did kind) does h = record { moves = (at.moves, (inside (setting_of plan) who row named, λ none. absurd (cc (does, none)))); setting = h.setting ∙ at.setting; state = moves m m' begun run (Step row) at h; rows = at.rows; counts = at.counts }
+      core event.Idle does h = rw h at
 
   pub answered : (m m' : View) (begun : List ℕ) (run : List Move) (a : Option Answer) → IsAt plan m begun run → a ≡ answer_of m who → HasTaken m (index_of m.setting who) a m' → IsAt plan m' begun (takes plan row run)
   answered m m' begun run a at is did =
       let here : index_of m.setting who ≡ Some row = index m begun run at in
       let same : a ≡ told_at (place_in plan run row) = is ∙ ap (told_in m) here ∙ ap (λ (s : State). told_at (s.stand row).place) at.state in
-      rw (takes-told row (place_in plan run row) run) (subst (λ (x : Option Answer). IsAt plan m' begun (taken row x run)) same (core a (subst (λ (o : Option ℕ). HasTaken m o a m') here did)))
+      rw (takes-told row (place_in plan run row) run) (subst (λ (x : Option Answer). IsAt plan m' begun (taken row x run)) same (core a same (subst (λ (o : Option ℕ). HasTaken m o a m') here did)))
     where
-      core : (x : Option Answer) → HasTaken m (Some row) x m' → IsAt plan m' begun (taken row x run)
-      core (Some told) h = record { setting = h.setting ∙ at.setting; state = moves m m' begun run (Take row) at h; rows = at.rows; counts = at.counts }
-      core None h = rw h at
+      core : (x : Option Answer) → x ≡ told_at (place_in plan run row) → HasTaken m (Some row) x m' → IsAt plan m' begun (taken row x run)
+      core (Some told) read h = record { moves = (at.moves, (inside (setting_of plan) who row named, finished_at (place_in plan run row) told read)); setting = h.setting ∙ at.setting; state = moves m m' begun run (Take row) at h; rows = at.rows; counts = at.counts }
+      core None read h = rw h at
 
   counts_after : (begun : List ℕ) (run : List Move) (k : Call) (known n : ℕ) → ((r : ℕ) → r < length begun → get_or begun r 0 ≡ begun_in r run) → get_or begun row 0 ≡ n → row < length begun
       → (r : ℕ) → r < length begun → get_or (set begun row (n + 1)) r 0 ≡ begun_in r (Begin row k known ∷ run)
@@ -85,20 +93,22 @@ module _ (plan : PlanValue) (who : Pass) (row : ℕ) (named : index_of (setting_
           rw same (get_or-set_same begun row (n + 1) 0 inside ∙ ap (λ (x : ℕ). x + 1) (sym is ∙ counts row inside))
       by false e = get_or-set_other begun row r (n + 1) 0 (λ same. grind (arith, nat_tests)) ∙ counts r within
 
-  pub begun_now : (m m' : View) (begun : List ℕ) (run : List Move) (n : ℕ) (k : Call) → IsAt plan m begun run → row < length begun → get_or begun row 0 ≡ n → place_in plan run row ≡ place.Idle → next_call plan who n ≡ Some k
+  pub begun_now : (m m' : View) (begun : List ℕ) (run : List Move) (n : ℕ) (k : Call) → IsAt plan m begun run → row < length begun → get_or begun row 0 ≡ n → place_in plan run row ≡ place.Idle → next_call plan who n ≡ Some k → begin_fault m who k ≡ Ok tt
       → HasBegun m (index_of m.setting who) k (known_at who m.history) m' → IsAt plan m' (set begun row (n + 1)) (begins plan who row run)
   unfolding state_in
-  begun_now m m' begun run n k at inside is at_rest next did =
+  begun_now m m' begun run n k at within is at_rest next free did =
       let here : index_of m.setting who ≡ Some row = index m begun run at in
       let h : IsAfter m (Begin row k (known_at who m.history)) m' = subst (λ (o : Option ℕ). HasBegun m o k (known_at who m.history) m') here did in
       let knows : known_at who m.history ≡ known_at who (reached (setting_of plan) run).history = ap (λ (s : State). known_at who s.history) at.state in
-      let call : next_call plan who (begun_in row run) ≡ Some k = ap (next_call plan who) (sym (at.counts row inside) ∙ is) ∙ next in
+      let call : next_call plan who (begun_in row run) ≡ Some k = ap (next_call plan who) (sym (at.counts row within) ∙ is) ∙ next in
       let begins_so : begins plan who row run ≡ Begin row k (known_at who m.history) ∷ run = rw (at_rest, call, ← knows) refl in
+      let may : May m.setting (state_in m) (Begin row k (known_at who m.history)) = may_begin m who k (known_at who m.history) row here free (omega arith) in
       rw begins_so (record {
+        moves = (at.moves, subst (λ (s : State). May (setting_of plan) s (Begin row k (known_at who m.history))) at.state (subst (λ (c : Setting). May c (state_in m) (Begin row k (known_at who m.history))) at.setting may));
         setting = h.setting ∙ at.setting;
         state = moves m m' begun run (Begin row k (known_at who m.history)) at h;
         rows = length_set begun row (n + 1) ∙ at.rows;
-        counts = λ r within. counts_after begun run k (known_at who m.history) n at.counts is inside r (rw (← length_set begun row (n + 1)) within);
+        counts = λ r less. counts_after begun run k (known_at who m.history) n at.counts is within r (rw (← length_set begun row (n + 1)) less);
       })
     where
       length_set : (xs : List ℕ) (i x : ℕ) → length (set xs i x) ≡ length xs
@@ -155,14 +165,14 @@ module _ (plan : PlanValue) (who : Pass) (row : ℕ) (named : index_of (setting_
 
   -- the pass was idle, and had a call to begin
   pub begun_turned : (m m1 m2 m3 : View) (begun : List ℕ) (k : Call) (e : Event) (a : Option Answer) → row < length begun → next_call plan who (get_or begun row 0) ≡ Some k
-      → ((state_in m).stand row).place ≡ place.Idle → HasBegun m (index_of m.setting who) k (known_at who m.history) m1
+      → ((state_in m).stand row).place ≡ place.Idle → begin_fault m who k ≡ Ok tt → HasBegun m (index_of m.setting who) k (known_at who m.history) m1
       → e ≡ event_of m1 who → HasStepped m1 (index_of m1.setting who) e m2
       → a ≡ answer_of m2 who → HasTaken m2 (index_of m2.setting who) a m3 → HasTurned plan who row m m3 begun (set begun row (get_or begun row 0 + 1)) true
   unfolding turn
-  begun_turned m m1 m2 m3 begun k e a inside next idle begin is did told took = record {
+  begun_turned m m1 m2 m3 begun k e a within next idle free begin is did told took = record {
     at = λ run at.
         let at_rest : place_in plan run row ≡ place.Idle = sym (ap (λ (s : State). (s.stand row).place) at.state) ∙ idle in
-        let first = begun_now m m1 begun run (get_or begun row 0) k at inside refl at_rest next begin in
+        let first = begun_now m m1 begun run (get_or begun row 0) k at within refl at_rest next free begin in
         let counted : List ℕ = set begun row (get_or begun row 0 + 1) in
         answered m2 m3 counted (steps plan row (begins plan who row run)) a (stepped m1 m2 counted (begins plan who row run) e first is did) told took;
     ended = λ run at more. cc;
@@ -189,6 +199,43 @@ module _ (plan : PlanValue) (who : Pass) (row : ℕ) (named : index_of (setting_
       still run at = subst (λ (r : List Move). IsAt plan m1 begun r) (rw (stepless run at) refl) (stepped m m1 begun run event.Idle at is did)
 
   -- ---- an entry
+
+  -- a turn of a pass that waits is one read, and leaves all as it was
+  still_turn : (m : View) (begun : List ℕ) (run : List Move) → ((state_in m).stand row).place ≡ place.ReadState → machine_stepped m.setting (state_in m) row ≡ state_in m
+      → IsAt plan m begun run → IsAt plan m begun (turn plan who row run)
+  still_turn m begun run reads same at =
+      let here : place_in plan run row ≡ place.ReadState = ap (λ (s : State). (s.stand row).place) (sym at.state) ∙ reads in
+      let stays : machine_stepped (setting_of plan) (reached (setting_of plan) run) row ≡ reached (setting_of plan) run =
+      subst (λ (s : State). machine_stepped (setting_of plan) s row ≡ s) at.state (subst (λ (c : Setting). machine_stepped c (state_in m) row ≡ state_in m) at.setting same) in
+      let does : event_at (place_in plan run row) ≡ event.Did kind.ReadState = ap event_at here in
+      let one : steps plan row run ≡ Step row ∷ run = ap (λ (e : Event). steps_at row e run) does in
+      let there : place_in plan (Step row ∷ run) row ≡ place.ReadState = ap (λ (s : State). (s.stand row).place) stays ∙ here in
+      let whole : turn plan who row run ≡ Step row ∷ run = did_turn run kind.ReadState does ∙ ap (takes plan row) one ∙ ap (λ (p : Place). takes_at row p (Step row ∷ run)) there in
+      rw whole (record {
+        moves = (at.moves, (inside (setting_of plan) who row named, λ none. absurd (cc (does, none))));
+        setting = at.setting;
+        state = at.state ∙ sym stays;
+        rows = at.rows;
+        counts = at.counts;
+      })
+
+  still_turns : (m : View) (begun : List ℕ) (run : List Move) → ((state_in m).stand row).place ≡ place.ReadState → machine_stepped m.setting (state_in m) row ≡ state_in m
+      → (n more : ℕ) → IsAt plan m begun (turns plan who row n run) → IsAt plan m begun (turns plan who row (n + more) run)
+  still_turns m begun run reads same n zero at = let none : n ≡ n + zero = omega arith in subst (λ (k : ℕ). IsAt plan m begun (turns plan who row k run)) none at
+  still_turns m begun run reads same n (suc more) at =
+      let next : suc (n + more) ≡ n + suc more = omega arith in
+      subst (λ (k : ℕ). IsAt plan m begun (turns plan who row k run)) next
+      (still_turn m begun (turns plan who row (n + more) run) reads same (still_turns m begun run reads same n more at))
+
+  -- a pass that waits reads on to the end of its entry
+  pub waited_turned : (m m1 : View) (begun begun1 : List ℕ) (n events : ℕ) → n < events
+      → ((run : List Move) → IsAt plan m begun run → IsAt plan m1 begun1 (turns plan who row n run)) → StandsStill m1 (index_of m1.setting who)
+      → (run : List Move) → IsAt plan m begun run → IsAt plan m1 begun1 (entry plan who (index_of (setting_of plan) who) events run)
+  waited_turned m m1 begun begun1 n events less turned waits run at =
+      let now : IsAt plan m1 begun1 (turns plan who row n run) = turned run at in
+      let still : StandsStill m1 (Some row) = subst (λ (o : Option ℕ). StandsStill m1 o) (index m1 begun1 (turns plan who row n run) now) waits in
+      let rest : n + (events - n) ≡ events = omega arith in
+      rw named (subst (λ (k : ℕ). IsAt plan m1 begun1 (turns plan who row k run)) rest (still_turns m1 begun1 run still.0 still.1 n (events - n) now))
 
   pub all_turned : (m m' : View) (begun begun' : List ℕ) (n events : ℕ) → n ≡ events
       → ((run : List Move) → IsAt plan m begun run → IsAt plan m' begun' (turns plan who row n run))

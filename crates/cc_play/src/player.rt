@@ -2,7 +2,7 @@
 ghost use Rattle.std.specs.Prelude.{◌≡◌, ◌<◌, Some, Ok, List, length, IfOk, IfSome, OnOk, ◌^◌, ◌-◌};
 ghost use Rattle.cc_model.specs.Items.{known_at};
 ghost use Rattle.cc_machine.specs.declared.run.Move.{Move};
-ghost use Rattle.cc_machine.specs.Run.{passes, reached};
+ghost use Rattle.cc_machine.specs.Run.{passes, reached, IsRun};
 ghost use Rattle.cc_machine.specs.View.{state_in};
 ghost use Rattle.cc_machine.specs.Machine.{index_of, HasBegun, begin_fault};
 ghost use Rattle.cc_plan.specs.Plan.{plan_value};
@@ -78,7 +78,8 @@ fn turn(
     }
 }
 
-/// Up to so many events of a pass.
+/// Up to so many events of a pass. A pass that waits reads the same to the end of its entry, so that these events needn't be
+/// done one by one: the machine stands where they lead.
 fn follow_entry(
     machine: &mut Machine,
     begun: &mut [usize],
@@ -98,6 +99,9 @@ fn follow_entry(
         return Ok(());
     };
     for _done in 0..events {
+        if machine.is_waiting(pass) {
+            return Ok(());
+        }
         if !turn(machine, begun, plan, pass, row)? {
             return Ok(());
         }
@@ -108,6 +112,7 @@ fn follow_entry(
 /// Plays the schedule of a plan from the opening of its machine. Only memory can be refused.
 pub fn play_schedule(alloc: Global, plan: &Plan) -> Result<Machine, AllocError>
     requires lawful { Lawful (plan_value plan.now) }
+    ensures run { OnOk result (IsRun (setting_of (plan_value plan.now)) (run_of (plan_value plan.now))) }
     ensures played { IfOk result (λ machine. (machine.setting ≡ setting_of (plan_value plan.now)) × (state_in machine ≡ reached (setting_of (plan_value plan.now)) (run_of (plan_value plan.now)))) }
 {
     let mut machine = match Machine::open(alloc, &plan.config) {

@@ -27,11 +27,11 @@ fn main(rt: HostRuntime) -> ExitCode {
     ExitCode::from(status)
 }
 
-/// The words of the command line, the program's name first; or why there are none: one of them is no text, or memory was
-/// refused.
+/// The words of the command line, without the program's name; or why there are none: one of them is no text, or memory
+/// was refused.
 fn words(rt: &HostRuntime) -> Result<Vec<String>, Error> {
     match env::args(rt) {
-        Ok(args) => Ok(args.collect(rt.alloc())?),
+        Ok(args) => Ok(args.skip(1).collect(rt.alloc())?),
         Err(e) if e.kind() == ErrorKind::OutOfMemory => Err(Error::from(AllocError)),
         Err(_) => Err(not_text(rt.alloc())?),
     }

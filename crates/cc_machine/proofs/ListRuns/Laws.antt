@@ -222,7 +222,19 @@ module _ (c : Config) (moves : List Move) (a : AfterRun c moves) where
   finds (place.Sending job (sending.ReadLastToClose total)) p stands =
       let l : (0 < s.mem _) × (s.mem _ ≤ c.capacity + 1) = limits.lastc_link c.capacity c.life 1 _ g (send_holds c s p job (sending.ReadLastToClose total) stands tt k) refl in (omega (arith, l.0), l.1)
   finds (place.Sending job (sending.ReadLast count at)) p stands =
-      let l : (0 < s.mem _) × (s.mem _ ≤ c.capacity + 1) = limits.last_link c.capacity c.life 1 _ g (send_holds c s p job (sending.ReadLast count at) stands tt k) refl in (omega (arith, l.0), l.1)
+      let l : (0 < s.mem _) × (s.mem _ ≤ c.capacity + 1) = limits.last_link c.capacity c.life 1 _ g (send_holds c s p job (sending.ReadLast count at) stands tt k) refl in
+      ((omega (arith, l.0), l.1), (send_holds c s p job (sending.ReadLast count at) stands tt k).found.found_in (omega arith) (omega arith))
+  finds (place.Sending job (sending.ReadCursor parcel)) p stands = (send_holds c s p job (sending.ReadCursor parcel) stands tt k).words.cursor_in
+  finds (place.Sending job (sending.ReadPassed parcel at reads)) p stands =
+      let scanned : Scanned c k.duty.from at reads = (send_reads c s p job (sending.ReadPassed parcel at reads) stands tt k).1 in scanned.within
+  finds (place.Sending job (sending.ResetPassed parcel at)) p stands = (send_holds c s p job (sending.ResetPassed parcel at) stands tt k).found.found_in (omega arith) (omega arith)
+  finds (place.Sending job (sending.ResetItemNext parcel at)) p stands = (send_holds c s p job (sending.ResetItemNext parcel at) stands tt k).found.found_in (omega arith) (omega arith)
+  finds (place.Sending job (sending.WriteItemTag parcel at)) p stands = (send_holds c s p job (sending.WriteItemTag parcel at) stands tt k).found.found_in (omega arith) (omega arith)
+  finds (place.Sending job (sending.WriteItemBody count body at)) p stands = (send_holds c s p job (sending.WriteItemBody count body at) stands tt k).found.found_in (omega arith) (omega arith)
+  finds (place.Sending job (sending.LinkItem count at last)) p stands = (send_holds c s p job (sending.LinkItem count at last) stands tt k).found.found_in (omega arith) (omega arith)
+  finds (place.Sending job (sending.WriteLast count at)) p stands = (send_holds c s p job (sending.WriteLast count at) stands tt k).found.found_in (omega arith) (omega arith)
+  finds (place.Sending job (sending.WriteCount count at)) p stands = (send_holds c s p job (sending.WriteCount count at) stands tt k).found.found_in (omega arith) (omega arith)
+  finds (place.Sending job (sending.WriteCursor count at)) p stands = (send_holds c s p job (sending.WriteCursor count at) stands tt k).found.found_in (omega arith) (omega arith)
   finds (place.Taking job taking.ReadHead) p stands =
       let l : (0 < s.mem _) × (s.mem _ ≤ c.capacity + 1) = limits.head_link c.capacity c.life 1 _ g (take_holds c s p job taking.ReadHead stands k) 0 (omega arith) refl in (omega (arith, l.0), l.1)
   finds (place.Taking job (taking.ReadDummyNext dummy taken)) p stands = limits.next_link c.capacity c.life 1 _ g (take_holds c s p job (taking.ReadDummyNext dummy taken) stands k) 0 (omega arith) refl

@@ -2,4 +2,4 @@ use Rattle.cc_plan.proofs.Lawful.{lawful_if_given}
 use Rattle.cc_plan.proofs.plan.read_plan.Goals as goal
 
 pub returns-clause-lawful : goal.returns-clause-lawful
-returns-clause-lawful c = lawful_if_given c.read.result c.args.bytes.now c.read.ensures
+returns-clause-lawful c = lawful_if_given c.read.result c.args.bytes.now c.read.ensures.plan
