@@ -1,57 +1,87 @@
 #!/bin/bash
-# Refuses one allocation of `ccq play` on one example plan, from outside, in one run after another: the first, and then each
-# one that is EVERY further on (8 where nothing is said; EVERY=1 refuses each in turn). The program must end with status 3,
-# say so on standard error and have written nothing, or write the whole report. It stops at the third run in a row that
-# wrote the whole report, where the run has made fewer allocations than that. Exit status 0 where all runs did so.
+# Refuses each allocation of `ccq` in turn, from outside, on the program that the gate left, as each compiler built it: for
+# every plan of examples/ and for the receipts there, for help and for a command line that is refused. The program must
+# then end with status 3, say so on standard error and have written nothing; or it did without that memory, and must leave
+# just what it leaves with it. Before that, the script shows on programs that answer wrongly that it finds them.
+# Exit status 0 where all runs did so. It proves and builds nothing of the program: `rt ci` does, or `rt run` in crates/ccq.
 set -u
-cd "$(dirname "$0")/../crates/ccq" || exit 1
-plan=../../examples/one_item.json
-report=$(cat stdout)
-out=$(mktemp -d) || exit 1
-trap 'rm -rf "$out"' EXIT
-at_once=${AT_ONCE:-4}
-every=${EVERY:-8}
+cd "$(dirname "$0")/.." || exit 1
+if ! command -v gcc >/dev/null; then
+    echo "refuse_memory: gcc is not on this machine, and the library that refuses memory is compiled by it"
+    exit 1
+fi
+room=$(mktemp -d) || exit 1
+trap 'rm -rf "$room"' EXIT
+gcc -O1 -fPIC -shared -o "$room/refuse.so" tools/refuse.c || exit 1
+gcc -O1 -o "$room/wrong_answers" tools/wrong_answers.c || exit 1
+printf 'ccq: out of memory\n' >"$room/told"
 
-# One run with the allocation of this number refused: its outcome is `refused`, `whole`, or what it was else.
+# Runs a program with the allocation of this number refused, 0 for none. Leaves what it wrote in out and err, its status in
+# `status`, and in `met` how many allocations it asked for.
 run_with() {
-    local text status said
-    text=$(rt try --fail-alloc "$1" -- play <"$plan" 2>&1)
-    status=$(printf '%s\n' "$text" | sed -n 's/^checked: ended status=//p')
-    said=$(printf '%s\n' "$text" | grep -vE '^(allocations|interpreter|checked): |^run=')
-    if [ "$status" = 3 ] && [ "$said" = "ccq: out of memory" ]; then
-        echo refused
-    elif [ "$status" = 0 ] && [ "$said" = "$report" ]; then
-        echo whole
-    else
-        printf '%s\n' "$text"
-    fi >"$out/$1"
+    local number=$1 input=$2
+    shift 2
+    timeout 60 env REFUSE="$number" LD_PRELOAD="$room/refuse.so" "$@" <"$input" >"$room/out" 2>"$room/err" 9>"$room/met"
+    status=$?
+    met=$(wc -c <"$room/met")
 }
 
-first=1
-refused=0
-whole=0
-while [ "$first" -lt 400 ]; do
-    next=$((first + at_once * every))
-    for n in $(seq "$first" "$every" $((next - 1))); do
-        run_with "$n" &
-    done
-    wait
-    for n in $(seq "$first" "$every" $((next - 1))); do
-        case $(cat "$out/$n") in
-        refused) refused=$((refused + 1)); whole=0 ;;
-        whole) whole=$((whole + 1)) ;;
-        *) echo "allocation $n refused: neither status 3 with nothing written nor the whole report"; cat "$out/$n"; exit 1 ;;
-        esac
-        if [ "$whole" = 3 ]; then
-            if [ "$refused" = 0 ]; then
-                echo "no allocation was refused"
-                exit 1
-            fi
-            echo "allocations refused, every ${every}th: $refused ended with status 3 and nothing written; then the report is whole"
-            exit 0
+# Refuses each allocation of a program on an input in turn. Counts the runs in `runs`, and those that ended for want of
+# memory in `refused`; where one answers wrongly, says so.
+refuse_each() {
+    local input=$1 whole all n before=$refused
+    shift
+    run_with 0 "$input" "$@"
+    mv "$room/out" "$room/whole_out"
+    mv "$room/err" "$room/whole_err"
+    whole=$status
+    all=$met
+    for ((n = 1; n <= all; n++)); do
+        run_with "$n" "$input" "$@"
+        runs=$((runs + 1))
+        if [ "$met" -lt "$n" ]; then
+            echo "$* <$input: allocation $n of $all was not asked for again"
+            return 1
+        elif [ "$status" = 3 ] && [ ! -s "$room/out" ] && cmp -s "$room/err" "$room/told"; then
+            refused=$((refused + 1))
+        elif [ "$status" != "$whole" ] || ! cmp -s "$room/out" "$room/whole_out" || ! cmp -s "$room/err" "$room/whole_err"; then
+            echo "$* <$input: allocation $n of $all refused: neither status 3 with nothing written nor the whole, but status $status and"
+            cat "$room/out" "$room/err"
+            return 1
         fi
     done
-    first=$next
+    if [ "$refused" = "$before" ]; then
+        echo "$* <$input: no run ended for want of memory, of $all allocations"
+        return 1
+    fi
+}
+
+# The script finds each wrong answer to a refusal, and passes the right one.
+runs=0 refused=0
+refuse_each /dev/null "$room/wrong_answers" tells || exit 1
+for way in asks_for_none writes_first is_stopped goes_on keeps_quiet answers_success; do
+    if refuse_each /dev/null "$room/wrong_answers" "$way" >/dev/null 2>&1; then
+        echo "refuse_memory: a program that $way was let through, so this script finds nothing"
+        exit 1
+    fi
 done
-echo "no run met fewer than 400 allocations"
-exit 1
+
+programs=0
+for program in crates/ccq/out/ccq crates/ccq/out/ccq.by-rattle; do
+    [ -x "$program" ] || continue
+    programs=$((programs + 1)) runs=0 refused=0 inputs=0
+    for input in examples/*.json; do
+        inputs=$((inputs + 1))
+        case $input in
+        */receipts*.json) refuse_each "$input" "$program" audit || exit 1 ;;
+        *) refuse_each "$input" "$program" play || exit 1 ;;
+        esac
+    done
+    refuse_each /dev/null "$program" --help || exit 1
+    refuse_each /dev/null "$program" plaz || exit 1
+    echo "$program: each allocation refused in turn, on $inputs examples and two command lines: $runs runs, $refused ended with status 3 and nothing written, and the others did without that memory"
+done
+if [ "$programs" = 0 ]; then
+    echo "refuse_memory: there is no crates/ccq/out/ccq: run \`rt ci\` first, or \`rt run\` in crates/ccq"
+    exit 1
+fi

@@ -8,8 +8,6 @@ mod of_history;
 mod places;
 mod receipt;
 mod sends;
-#[cfg(test)]
-mod tests;
 
 pub use judge::audit;
 pub use laws::{any_order, legal_gives_clean, one_verdict};

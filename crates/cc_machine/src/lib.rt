@@ -13,16 +13,12 @@ mod chain_laws;
 mod codes;
 mod count;
 mod counter;
-#[cfg(test)]
-mod counter_tests;
 mod event;
 mod fault;
 mod known;
 mod lawful;
 mod list_laws;
 mod machine;
-#[cfg(test)]
-mod machine_tests;
 mod moves;
 mod open;
 mod place;

@@ -12,6 +12,3 @@ pub use json::INPUT_LIMIT;
 pub use plan::{Plan, read_plan};
 pub use receipts::{Receipts, read_receipts};
 pub use report::{Report, write_report, write_verdict};
-
-#[cfg(test)]
-mod tests;

@@ -1,5 +1,6 @@
 -- What holds of every pass, idle or with a pending call.
-use Rattle.std.specs.Prelude.{◌≡◌, ℕ, ◌<◌, ◌≤◌, List, [], ◌∷◌, ◌++◌}
+use Rattle.std.specs.Prelude.{◌≡◌, ℕ, ◌<◌, ◌≤◌, List, [], ◌∷◌, ◌++◌, Ok}
+use Rattle.cc_model.specs.Config.{config_fault}
 use Rattle.cc_model.specs.declared.config.Config.{Config}
 use Rattle.cc_model.specs.declared.call.Call.{Call}
 use Rattle.cc_model.specs.declared.call.Call.TheVariants as call
@@ -13,9 +14,10 @@ use Rattle.cc_steps.specs.Walk.{Walk, IsOf}
 use Rattle.cc_queue.specs.Work.{IsOn}
 use Rattle.cc_queue.specs.Headline.{name}
 
--- the words of a queue are those of a list with this configuration
+-- the words of a queue are those of a list with this configuration, which was checked
 pub record KeepsQueue (z : Topic) (c : Config) : Type 0 where
   pub list : z.setting ≡ record { served = served.List; config = c }
+  pub checked : config_fault c ≡ Ok tt
   pub bound : 0 < c.bound
 
 -- The sender of this number stands here, with this node and so many sends begun. Its seat is one of its queue's words.

@@ -5,3 +5,4 @@ pub mod Kept
 pub mod Calls
 pub mod Met
 pub mod Opened
+pub mod Receipts

@@ -16,6 +16,7 @@ mod combine;
 mod meets;
 mod passes;
 mod queue;
+mod receipts;
 mod receiver;
 mod sender;
 mod sends;
@@ -28,5 +29,6 @@ pub use passes::{
     CloseTurn, PendingClose, PendingSend, PendingTake, Receiver, SendTurn, Sender, TakeTurn,
 };
 pub use queue::{Opened, Queue};
+pub use receipts::audit_all;
 pub use receiver::{begin_take, turn_take};
 pub use sender::{begin_close, begin_send, turn_close, turn_send};

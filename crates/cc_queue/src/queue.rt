@@ -156,4 +156,11 @@ impl Queue {
             Err(_) => Err(OpenFault::NoMemory),
         }
     }
+
+    /// Its configuration was checked: a fact for proofs, and no work.
+    pub(crate) fn stands(&self)
+        ensures { config_fault self.now.setting.config ≡ Ok tt }
+    {
+        let _config = &self.config;
+    }
 }

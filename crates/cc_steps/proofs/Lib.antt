@@ -3,6 +3,7 @@ pub mod Runs
 pub mod Keeps
 pub mod Walks
 pub mod Joined
+pub mod StepFacts
 pub mod Told
 pub mod Own
 pub mod StepLaws

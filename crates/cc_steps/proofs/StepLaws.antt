@@ -1,6 +1,5 @@
 -- What the laws of every run say of one step: nodes that are used again, and calls that wait for their link.
-use Rattle.std.proofs.Common.{◌≡◌, ℕ, ◌<◌, List, ◌∷◌, ◌++◌, Option, Some, None, Ok, refl, sym, ap, ◌∙◌, subst}
-use Rattle.cc_model.specs.Config.{config_fault}
+use Rattle.std.proofs.Common.{◌≡◌, ℕ, List, ◌∷◌, ◌++◌, Option, Some, None, refl, sym, ap, ◌∙◌, subst}
 use Rattle.cc_model.specs.Record.{Record}
 use Rattle.cc_model.specs.declared.call.Call.{Call}
 use Rattle.cc_machine.specs.declared.run.Move.{Move}
@@ -22,17 +21,18 @@ use Rattle.cc_machine.specs.declared.place.Taking.TheVariants as taking
 use Rattle.cc_machine.specs.declared.place.Stand.{Stand}
 use Rattle.cc_machine.specs.State.{Operation, Store, chain_of, pass_at, word_of, noted}
 use Rattle.cc_machine.specs.Columns.{operation, event_at, goes, enters, decides}
-use Rattle.cc_machine.specs.Run.{IsRun, passes, history_of}
+use Rattle.cc_machine.specs.Run.{history_of}
 use Rattle.cc_machine.specs.ChainLaws.{IsEntering, IsLastPending}
 use Rattle.cc_machine.specs.MachineLaws.{Resets, Prepares}
 use Rattle.cc_machine.proofs.ListRuns.Laws.{reset_after_the_take, prepared_alone}
 use Rattle.cc_machine.proofs.ChainLaws.{chain_laws}
 use Rattle.cc_machine.proofs.ChainRuns.{calls_wait}
 use Rattle.cc_machine.specs.Step.{advanced}
-use Rattle.cc_steps.specs.Seen.{stand_in, word_in, begun, does_at, rested}
-use Rattle.cc_steps.specs.Walk.{Walk, Walked, Steps, CanBegin, IsPendingIn, walked_to, next_stand}
+use Rattle.cc_steps.specs.Seen.{stand_in, word_in, does_at, rested}
+use Rattle.cc_steps.specs.Walk.{Walk, Walked, Steps, CanBegin, IsPendingIn, walked_to}
 use Rattle.cc_steps.specs.Reuse.{HasReused, HasOwned}
-use Rattle.cc_steps.proofs.Runs.{stand-others, taken_history, of_added}
+use Rattle.cc_steps.proofs.Runs.{taken_history}
+use Rattle.cc_steps.proofs.StepFacts.{same, number, checked, below, run_then, run_here, stands, stands_then}
 
 -- the step is a reset of this node, and leads on to its preparation
 resets_at : (c : Setting) (x : Chain) (b own n : ℕ) (f : ItemField) (at : Place) → event_at at ≡ Did kind.ResetListNode → operation c x own at ≡ Store (Item n f) 0 → Resets at n × Prepares (goes c x own at 0) n
@@ -63,53 +63,19 @@ still_prepares : (n : ℕ) (pl : Place) (at : Stand) → at.place ≡ pl → Pre
 still_prepares n (place.Finished told) at is p = absurd p
 still_prepares n _ at is p = subst (λ (x : Place). Prepares x n) (sym is) p
 
-of_begun : (c : Setting) (p : ℕ) (seen log : List Move) (call : Option Call) → IsRun c (begun c p seen call log) → IsRun c log
-of_begun c p seen log None r = r
-of_begun c p seen log (Some call) r = r.0
-
 -- a store, which may be the first step of a call
 module _ (v w : Walk) (call : Option Call) (k : Walked v call w) (step : w ≡ walked_to v call 0 w.seen) where
-  abbrev C : Setting
-  C = v.setting
-
-  abbrev Log : List Move
-  Log = k.between ++ v.seen
-
-  same : w.setting ≡ C
-  same = ap (λ (x : Walk). x.setting) step
-
-  number : w.number ≡ v.number
-  number = ap (λ (x : Walk). x.number) step
-
-  checked : config_fault C.config ≡ Ok tt
-  checked = subst (λ (x : Setting). config_fault x.config ≡ Ok tt) same k.checked
-
-  below : v.number < passes C
-  below = subst (λ (x : Setting × ℕ). x.1 < passes x.0) (λ i. (same i, number i)) k.below
-
-  run_then : IsRun C w.seen
-  run_then = subst (λ (x : Setting). IsRun x w.seen) same k.run
-
-  run_here : IsRun C Log
-  run_here = of_begun C v.number v.seen Log call (of_added C v.number v.seen Log call (subst (IsRun C) k.seen run_then))
-
-  stands : stand_in C Log v.number ≡ v.stand
-  stands = stand-others C k.between v.seen v.number k.others ∙ sym k.was.0
-
-  stands_then : stand_in C w.seen v.number ≡ next_stand v call 0
-  stands_then = (λ i. stand_in (sym same i) w.seen (sym number i)) ∙ sym k.shows.0 ∙ ap (λ (x : Walk). x.stand) step
-
-  owned_as : (y : Chain) (n : ℕ) → (chain_of C.config v.number ≡ y) × (v.stand.node ≡ n) → HasOwned v call y n w
+  owned_as : (y : Chain) (n : ℕ) → (chain_of v.setting.config v.number ≡ y) × (v.stand.node ≡ n) → HasOwned v call y n w
   unfolding stand_in
   owned_as y n is =
-      let mine : (stand_in C Log v.number).node ≡ n = ap (λ (x : Stand). x.node) stands ∙ is.1 in
+      let mine : (stand_in v.setting (k.between ++ v.seen) v.number).node ≡ n = ap (λ (x : Stand). x.node) (stands v w call 0 k step) ∙ is.1 in
       record {
         between = k.between;
         others = k.others;
         seen = k.seen;
         chain = is.0;
         mine = mine;
-        own = λ q less on owns. (chain_laws C checked Log run_here).apart q v.number less below (on ∙ sym is.0) (owns ∙ sym mine);
+        own = λ q less on owns. (chain_laws v.setting (checked v w call 0 k step) (k.between ++ v.seen) (run_here v w call 0 k step)).apart q v.number less (below v w call 0 k step) (on ∙ sym is.0) (owns ∙ sym mine);
       }
 
 -- the first step of a call
@@ -136,16 +102,16 @@ module _ (v w : Walk) (k : Walked v None w) (step : w ≡ walked_to v None 0 w.s
         between = k.between;
         others = k.others;
         seen = k.seen;
-        passed = λ j at. reset_after_the_take D Before list (checked v w None k step) (run_here v w None k step) v.number n j (subst (λ (x : Stand). Resets x.place n) (sym (stands v w None k step)) r.0) at;
-        alone = λ q holds. prepared_alone D w.seen list (checked v w None k step) (run_then v w None k step) v.number q n
-            (subst (λ (x : Stand). Prepares x.place n) (sym (stands_then v w None k step)) (still_prepares n _ (advanced D (chain_of D.config v.number) v.stand 0) refl r.1)) holds;
+        passed = λ j at. reset_after_the_take D Before list (checked v w None 0 k step) (run_here v w None 0 k step) v.number n j (subst (λ (x : Stand). Resets x.place n) (sym (stands v w None 0 k step)) r.0) at;
+        alone = λ q holds. prepared_alone D w.seen list (checked v w None 0 k step) (run_then v w None 0 k step) v.number q n
+            (subst (λ (x : Stand). Prepares x.place n) (sym (stands_then v w None 0 k step)) (still_prepares n _ (advanced D (chain_of D.config v.number) v.stand 0) refl r.1)) holds;
       }
 
   pub pending : (op : Operation) → Steps v kind.Link op → IsPendingIn w
   unfolding stand_in word_in
   pending op can =
-      let link : event_at (stand_in D Before v.number).place ≡ Did kind.Link = subst (λ (x : Stand). event_at x.place ≡ Did kind.Link) (sym (stands v w None k step)) can.0 in
+      let link : event_at (stand_in D Before v.number).place ≡ Did kind.Link = subst (λ (x : Stand). event_at x.place ≡ Did kind.Link) (sym (stands v w None 0 k step)) can.0 in
       let l = links_at D (chain_of D.config v.number) (history_of D Before) (stand_in D Before v.number).place (word_in D Before (word_of (does_at D v.number (stand_in D Before v.number)))) link in
       let history : history_of D w.seen ≡ history_of D Before = ap (history_of D) k.seen ∙ taken_history D v.number (Step v.number ∷ Before) (stand_in D (Step v.number ∷ Before) v.number).place ∙ l.1 in
-      subst (λ (x : Setting × ℕ × Record). IsLastPending (pass_at x.0.config x.1) x.2) (λ i. (sym (same v w None k step) i, sym (number v w None k step) i, (sym history ∙ (λ j. history_of (sym (same v w None k step) j) w.seen)) i))
-      (calls_wait D (checked v w None k step) Before (run_here v w None k step) v.number (below v w None k step) l.0)
+      subst (λ (x : Setting × ℕ × Record). IsLastPending (pass_at x.0.config x.1) x.2) (λ i. (sym (same v w None 0 k step) i, sym (number v w None 0 k step) i, (sym history ∙ (λ j. history_of (sym (same v w None 0 k step) j) w.seen)) i))
+      (calls_wait D (checked v w None 0 k step) Before (run_here v w None 0 k step) v.number (below v w None 0 k step) l.0)

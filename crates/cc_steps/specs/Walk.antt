@@ -21,7 +21,7 @@ use Rattle.cc_machine.specs.declared.run.Move.{Move}
 use Rattle.cc_machine.specs.Passes.{by, then_did}
 use Rattle.cc_machine.specs.Run.{IsRun, passes, history_of}
 use Rattle.cc_steps.specs.Topic.{Topic}
-use Rattle.cc_steps.specs.Seen.{Onward, GoesOn, Later, Covers, stand_in, word_in, entered, added, after_step, does_at, made_in, did_in, with_begun}
+use Rattle.cc_steps.specs.Seen.{Onward, Later, Covers, stand_in, word_in, entered, added, after_step, does_at, made_in, did_in, with_begun}
 use Rattle.cc_steps.specs.Shown.{CanStart, stand_of, longer}
 use Rattle.cc_steps.specs.declared.seats.View.{View}
 use Rattle.cc_steps.specs.declared.seats.Role.TheVariants.{Pass}

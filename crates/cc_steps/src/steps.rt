@@ -41,13 +41,7 @@ pub fn reset_next(words: &Words, seat: &mut PassSeat, chain: Chain, node: u64, c
     ensures later { Onward seat.old.seen seat.new.seen }
     ensures own { HasOwned seat.old (Some call) chain node seat.new }
 {
-    moves::begin(
-        words,
-        seat,
-        Word::Node(chain, node, NodeField::Next),
-        0,
-        call,
-    );
+    moves::begin(words, seat, Word::Node(chain, node, NodeField::Next), call);
 }
 
 /// ResetState, by the caller: stores 1, waiting, into `state` of its own node. `own`: as at `reset_next`.

@@ -1,20 +1,10 @@
 //! Plays plans, and audits receipts.
 #![tactic(auto)]
 
-mod audit;
-mod command_line;
-mod fault;
-mod input;
-mod play;
-mod player;
-mod run;
-#[cfg(test)]
-mod tests;
-
+use cc_command::not_text;
+use cc_command::run::{decline, run};
 use cc_model::Device;
 use clap::Error;
-use command_line::not_text;
-use run::{decline, run};
 use std::alloc::AllocError;
 use std::env;
 use std::io::ErrorKind;

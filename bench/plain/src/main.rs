@@ -1,0 +1,189 @@
+//! Passes items through a queue: `plain MODE SENDERS RECEIVERS CAPACITY ITEMS`, MODE one of `steps` (the queue's atomic
+//! steps by hand), `mutex` (std's Mutex and Condvar round a VecDeque), `sync_channel` (std's), and `alone` (the steps on
+//! one thread, a send and a take in turn). Prints how many items went through.
+mod steps;
+
+use std::cell::Cell;
+use std::collections::VecDeque;
+use std::sync::atomic::{AtomicU64, AtomicUsize, Ordering::SeqCst};
+use std::sync::{mpsc, Condvar, Mutex};
+use std::thread;
+use steps::{Queue, Sent, Taken};
+
+/// The back-off of crossbeam_utils: some rounds of spinning, then yields.
+pub struct Backoff(Cell<u32>);
+
+impl Backoff {
+    pub fn new() -> Backoff {
+        Backoff(Cell::new(0))
+    }
+
+    pub fn snooze(&self) {
+        let step = self.0.get();
+        if step <= 6 {
+            for _ in 0..1 << step {
+                std::hint::spin_loop();
+            }
+        } else {
+            thread::yield_now();
+        }
+        if step <= 10 {
+            self.0.set(step + 1);
+        }
+    }
+}
+
+const BOUND: u32 = 8;
+
+fn steps(senders: usize, receivers: usize, capacity: usize, items: u64) -> u64 {
+    let (queue, all, takers) = Queue::open(senders, receivers, capacity as u64, BOUND);
+    let left = AtomicUsize::new(senders);
+    let passed = AtomicU64::new(0);
+    thread::scope(|scope| {
+        for mut receiver in takers {
+            let (queue, passed) = (&queue, &passed);
+            scope.spawn(move || {
+                let mut got = 0;
+                'items: loop {
+                    let backoff = Backoff::new();
+                    loop {
+                        match queue.take(&mut receiver) {
+                            Taken::Got(body) => {
+                                std::hint::black_box(body);
+                                got += 1;
+                                break;
+                            }
+                            Taken::Empty => backoff.snooze(),
+                            Taken::Ended => break 'items,
+                        }
+                    }
+                }
+                passed.fetch_add(got, SeqCst);
+            });
+        }
+        for mut sender in all {
+            let (queue, left) = (&queue, &left);
+            scope.spawn(move || {
+                for body in 0..items / senders as u64 {
+                    let backoff = Backoff::new();
+                    while queue.send(&mut sender, body) == Sent::Full {
+                        backoff.snooze();
+                    }
+                }
+                if left.fetch_sub(1, SeqCst) == 1 {
+                    queue.close(&mut sender);
+                }
+            });
+        }
+    });
+    passed.into_inner()
+}
+
+fn alone(capacity: usize, items: u64) -> u64 {
+    let (queue, mut senders, mut receivers) = Queue::open(1, 1, capacity as u64, BOUND);
+    let mut passed = 0;
+    for body in 0..items {
+        queue.send(&mut senders[0], body);
+        if let Taken::Got(body) = queue.take(&mut receivers[0]) {
+            std::hint::black_box(body);
+            passed += 1;
+        }
+    }
+    passed
+}
+
+struct Locked {
+    inner: Mutex<(VecDeque<u64>, bool)>,
+    not_full: Condvar,
+    not_empty: Condvar,
+}
+
+fn mutex(senders: usize, receivers: usize, capacity: usize, items: u64) -> u64 {
+    let queue = Locked { inner: Mutex::new((VecDeque::with_capacity(capacity), false)), not_full: Condvar::new(), not_empty: Condvar::new() };
+    let left = AtomicUsize::new(senders);
+    let passed = AtomicU64::new(0);
+    thread::scope(|scope| {
+        for _ in 0..receivers {
+            scope.spawn(|| {
+                let mut got = 0;
+                loop {
+                    let mut inner = queue.inner.lock().unwrap();
+                    while inner.0.is_empty() && !inner.1 {
+                        inner = queue.not_empty.wait(inner).unwrap();
+                    }
+                    let Some(body) = inner.0.pop_front() else { break };
+                    drop(inner);
+                    queue.not_full.notify_one();
+                    std::hint::black_box(body);
+                    got += 1;
+                }
+                passed.fetch_add(got, SeqCst);
+            });
+        }
+        for _ in 0..senders {
+            scope.spawn(|| {
+                for body in 0..items / senders as u64 {
+                    let mut inner = queue.inner.lock().unwrap();
+                    while inner.0.len() == capacity {
+                        inner = queue.not_full.wait(inner).unwrap();
+                    }
+                    inner.0.push_back(body);
+                    drop(inner);
+                    queue.not_empty.notify_one();
+                }
+                if left.fetch_sub(1, SeqCst) == 1 {
+                    queue.inner.lock().unwrap().1 = true;
+                    queue.not_empty.notify_all();
+                }
+            });
+        }
+    });
+    passed.into_inner()
+}
+
+/// std's bounded channel has one receiver: several take turns under a lock.
+fn sync_channel(senders: usize, receivers: usize, capacity: usize, items: u64) -> u64 {
+    let (sender, receiver) = mpsc::sync_channel(capacity);
+    let receiver = Mutex::new(receiver);
+    let passed = AtomicU64::new(0);
+    thread::scope(|scope| {
+        for _ in 0..receivers {
+            scope.spawn(|| {
+                let mut got = 0;
+                loop {
+                    let next = receiver.lock().unwrap().recv();
+                    let Ok(body) = next else { break };
+                    std::hint::black_box::<u64>(body);
+                    got += 1;
+                }
+                passed.fetch_add(got, SeqCst);
+            });
+        }
+        for _ in 0..senders {
+            let sender = sender.clone();
+            scope.spawn(move || {
+                for body in 0..items / senders as u64 {
+                    sender.send(body).unwrap();
+                }
+            });
+        }
+        drop(sender);
+    });
+    passed.into_inner()
+}
+
+fn main() {
+    let words: Vec<String> = std::env::args().skip(1).collect();
+    let [mode, numbers @ ..] = &words[..] else { panic!("plain MODE SENDERS RECEIVERS CAPACITY ITEMS") };
+    let numbers: Vec<u64> = numbers.iter().map(|n| n.parse().expect("a number")).collect();
+    let &[senders, receivers, capacity, items] = &numbers[..] else { panic!("four numbers") };
+    let (s, r, c) = (senders as usize, receivers as usize, capacity as usize);
+    let passed = match mode.as_str() {
+        "steps" => steps(s, r, c, items),
+        "mutex" => mutex(s, r, c, items),
+        "sync_channel" => sync_channel(s, r, c, items),
+        "alone" => alone(c, items),
+        _ => panic!("no such mode"),
+    };
+    println!("passed {passed}");
+}

@@ -1,0 +1,68 @@
+#!/usr/bin/env python3
+"""Times the queue beside other queues, interleaved: each round runs every program once, and the medians are told.
+
+    bench/run.py [--rounds N] [--items N]
+
+`cc_bench` is the proved queue (build it by `rt run` in crates/cc_bench), `plain` the same atomic steps by hand, std's
+Mutex with Condvar, and std's sync_channel (build it by `cargo build --release` in bench/plain). A line a shape: senders,
+receivers, capacity, and the nanoseconds of the clock an item of each program; in brackets those of the processors.
+"""
+import argparse
+import os
+import resource
+import statistics
+import subprocess
+import sys
+import time
+
+TOP = os.path.dirname(os.path.dirname(os.path.abspath(__file__)))
+QUEUE = os.path.join(TOP, "crates", "cc_bench", "out", "cc_bench")
+PLAIN = os.path.join(TOP, "bench", "plain", "target", "release", "plain")
+SHAPES = [(1, 1), (2, 2), (4, 4), (8, 8)]
+CAPACITIES = [64, 1024]
+
+
+def timed(command):
+    """The seconds of the clock and of the processors that a run takes."""
+    before = resource.getrusage(resource.RUSAGE_CHILDREN)
+    start = time.perf_counter()
+    out = subprocess.run(command, check=True, capture_output=True, text=True).stdout
+    clock = time.perf_counter() - start
+    after = resource.getrusage(resource.RUSAGE_CHILDREN)
+    return out, clock, after.ru_utime + after.ru_stime - before.ru_utime - before.ru_stime
+
+
+def compare(commands, items, rounds):
+    """The medians of the rounds, in nanoseconds an item, of each command."""
+    times = {name: [] for name in commands}
+    for _ in range(rounds):
+        for name, command in commands.items():
+            out, clock, processors = timed(command)
+            if out != f"passed {items}\n":
+                sys.exit(f"{name}: {out!r} in place of {items} items")
+            times[name].append((clock * 1e9 / items, processors * 1e9 / items))
+    return {name: tuple(statistics.median(t[k] for t in ts) for k in (0, 1)) for name, ts in times.items()}
+
+
+def show(shape, medians):
+    print(shape, *(f"{name} {clock:.0f} ({processors:.0f})" for name, (clock, processors) in medians.items()), sep="  ", flush=True)
+
+
+def main():
+    parser = argparse.ArgumentParser()
+    parser.add_argument("--rounds", type=int, default=11)
+    parser.add_argument("--items", type=int, default=400_000)
+    options = parser.parse_args()
+    items = options.items
+    alone = {"queue": [QUEUE, "0", "1", "64", str(items)], "steps": [PLAIN, "alone", "1", "1", "64", str(items)]}
+    show("one thread, a send and a take", compare(alone, items, options.rounds))
+    for senders, receivers in SHAPES:
+        for capacity in CAPACITIES:
+            shape = [str(n) for n in (senders, receivers, capacity, items)]
+            commands = {"queue": [QUEUE, *shape]}
+            commands.update({mode: [PLAIN, mode, *shape] for mode in ("steps", "mutex", "sync_channel")})
+            show(f"{senders} and {receivers} threads, capacity {capacity}", compare(commands, items, options.rounds))
+
+
+if __name__ == "__main__":
+    main()

@@ -1,0 +1,5 @@
+//! The tests of the audit.
+#![tactic(auto)]
+
+#[cfg(test)]
+mod audits;

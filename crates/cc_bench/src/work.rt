@@ -1,0 +1,150 @@
+//! Threads that send, and threads that take.
+ghost use Rattle.std.specs.Prelude.{◌≡◌, IfSome, IfOk, OnOk, All, Ok};
+ghost use Rattle.cc_steps.specs.Walk.{IsOf};
+ghost use Rattle.cc_bench.specs.Work.{Belongs, CameFrom};
+
+use cc_model::{SendAnswer, TakeAnswer};
+use cc_queue::{Opened, Queue, Receiver, Sender, close, send, take_until};
+use crossbeam_utils::Backoff;
+use std::alloc::{AllocError, Global};
+use std::sync::Wait;
+use std::sync::atomic::{AtomicU64, Ordering};
+use std::thread::{Threads, map_vec};
+
+/// The pass of one thread.
+#[derive(Drop)]
+pub enum Worker {
+    Sends(Sender),
+    Takes(Receiver),
+}
+
+/// Sends this body, again where the queue is full. None where it is closed, or the sender has sent all that it may.
+fn send_one<R: Wait>(rt: &R, queue: &Queue, sender: Sender, body: u64) -> Option<Sender>
+    requires { IsOf queue.now sender }
+    ensures { IfSome result (λ s. IsOf queue.now s) }
+{
+    let backoff = Backoff::new();
+    let mut sender = sender;
+    for _ in rt.forever() {
+        let (after, answer) = send(queue, rt, sender, body).ok()?;
+        match answer {
+            SendAnswer::Accepted { place: _ } => return Some(after),
+            SendAnswer::Full => sender = after,
+            _ => return None,
+        }
+        backoff.snooze();
+    }
+    unreachable!()
+}
+
+/// Sends so many items; the last sender that ends closes the queue.
+fn send_all<R: Wait>(rt: &R, queue: &Queue, sender: Sender, items: u64, left: &AtomicU64) -> u64
+    requires { IsOf queue.now sender }
+{
+    let mut sender = sender;
+    for body in 0..items {
+        let Some(after) = send_one(rt, queue, sender, body) else {
+            return 0;
+        };
+        sender = after;
+    }
+    if left.fetch_sub(1, Ordering::SeqCst) == 1 {
+        close(queue, rt, sender);
+    }
+    0
+}
+
+/// Takes until the end, and counts the items.
+fn take_all<R: Wait>(rt: &R, queue: &Queue, receiver: Receiver) -> u64
+    requires { IsOf queue.now receiver }
+{
+    let mut got = 0u64;
+    let mut receiver = receiver;
+    for _ in rt.forever() {
+        let (after, answer) = take_until(queue, rt, receiver);
+        match answer {
+            TakeAnswer::Got(_) => got = got.wrapping_add(1),
+            _ => return got,
+        }
+        receiver = after;
+    }
+    unreachable!()
+}
+
+/// What one thread does; gives how many items it got.
+fn work<R: Wait>(rt: &R, queue: &Queue, worker: Worker, items: u64, left: &AtomicU64) -> u64
+    requires { Belongs queue.now worker }
+{
+    match worker {
+        Worker::Sends(sender) => send_all(rt, queue, sender, items, left),
+        Worker::Takes(receiver) => take_all(rt, queue, receiver),
+    }
+}
+
+/// A worker for each sender, beside those that are there.
+fn add_senders(
+    queue: &Queue,
+    workers: &mut Vec<Worker>,
+    mut senders: Vec<Sender>,
+) -> Result<(), AllocError>
+    requires senders { All (λ w. IsOf queue.now w) senders.items }
+    requires workers { All (λ w. Belongs queue.now w) workers.old.items }
+    ensures { OnOk result (All (λ w. Belongs queue.now w) workers.new.items) }
+{
+    let _ = queue;
+    for _ in 0..senders.len() {
+        if let Some(sender) = senders.pop() {
+            workers.push(Worker::Sends(sender))?;
+        }
+    }
+    Ok(())
+}
+
+/// A worker for each receiver, beside those that are there.
+fn add_receivers(
+    queue: &Queue,
+    workers: &mut Vec<Worker>,
+    mut receivers: Vec<Receiver>,
+) -> Result<(), AllocError>
+    requires receivers { All (λ w. IsOf queue.now w) receivers.items }
+    requires workers { All (λ w. Belongs queue.now w) workers.old.items }
+    ensures { OnOk result (All (λ w. Belongs queue.now w) workers.new.items) }
+{
+    let _ = queue;
+    for _ in 0..receivers.len() {
+        if let Some(receiver) = receivers.pop() {
+            workers.push(Worker::Takes(receiver))?;
+        }
+    }
+    Ok(())
+}
+
+/// All senders and receivers of a queue at work, each on a thread of its own; gives how many items were got.
+pub fn pass_all<R: Threads + Wait + Sync>(
+    rt: &R,
+    alloc: Global,
+    opened: Opened,
+    items: u64,
+) -> Result<u64, AllocError>
+    requires { CameFrom opened }
+{
+    let Opened {
+        queue,
+        senders,
+        receivers,
+    } = opened;
+    let left = AtomicU64::new(senders.len() as u64);
+    let mut workers = Vec::new(alloc);
+    add_receivers(&queue, &mut workers, receivers)?;
+    add_senders(&queue, &mut workers, senders)?;
+    let queue = &queue;
+    let left = &left;
+    let got = map_vec(
+        rt,
+        workers,
+        &|worker: Worker| -> u64
+            requires { Belongs queue.now worker }
+        { work(rt, queue, worker, items, left) },
+    )?;
+    Ok(got.iter().fold(0u64, |sum, n| sum.wrapping_add(*n)))
+}

@@ -1,0 +1,3 @@
+pub mod Lookup
+pub mod Built
+pub mod Doubles

@@ -1,0 +1,40 @@
+use Rattle.std.proofs.Common.{◌≡◌, All, Ok, refl, subst, arith}
+use Rattle.std.proofs.lemmas.List.{take_all}
+use Rattle.std.proofs.lemmas.Option.{slice_get-get_or}
+use Rattle.cc_model.specs.Config.{config_fault}
+use Rattle.cc_broker.specs.Opened.{AreOpened}
+use Rattle.cc_broker.proofs.Built.{next_name, next_opened, next_holds}
+use Rattle.cc_broker.proofs.open.open_each.Goals as goal
+
+pub add-requires : goal.add-requires
+add-requires c = record {
+  new = next_name c.args.topics.now c.loop-place.opened.broker c.loop-place.opened.passes.items c.loop-place.place _ c.requires.distinct c.loop-place-test.true c.loop-place.invariant.0;
+}
+
+pub returns-in-Err : goal.returns-in-Err
+returns-in-Err c = (
+  c.requires.few,
+  c.requires.distinct,
+  record {
+    topic = _;
+    there = slice_get-get_or c.args.topics.now c.loop-place.place _ c.loop-place-test.true;
+    fault = c.in-Err.ensures;
+    lawful = c.loop-place.invariant.1;
+  },
+)
+
+pub loop-place-preserved : goal.loop-place-preserved
+loop-place-preserved c = (
+  next_opened c.args.topics.now c.loop-place.place _ c.loop-place.opened.broker c.add.new.opened.broker c.loop-place.opened.passes.items c.add.new.opened.passes.items _ (c.in-Ok.topic.senders, c.in-Ok.topic.receivers) c.loop-place-test.true c.loop-place.invariant.0 refl c.in-Ok.ensures.0 c.in_ok-add-in-Ok.ensures.topics c.in_ok-add-in-Ok.ensures.passes,
+  next_holds (λ a. config_fault a.1 ≡ Ok tt) c.args.topics.now c.loop-place.place _ c.loop-place-test.true c.loop-place.invariant.1 c.in-Ok.ensures.1,
+)
+
+pub returns : goal.returns
+returns c =
+    let whole = take_all c.loop-place.place c.args.topics.now (omega (arith, c.loop-place-test.false)) in
+    record {
+      few = c.requires.few;
+      distinct = c.requires.distinct;
+      lawful = subst (All (λ a. config_fault a.1 ≡ Ok tt)) whole c.loop-place.invariant.1;
+      opened = subst (λ asked. AreOpened asked c.loop-place.opened.broker c.loop-place.opened.passes.items) whole c.loop-place.invariant.0;
+    }

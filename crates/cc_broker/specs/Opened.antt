@@ -1,0 +1,53 @@
+-- A broker at its opening, and why one wasn't opened.
+use Rattle.std.specs.Prelude.{◌≡◌, ℕ, ◌≤◌, ◌<◌, List, [], ◌∷◌, length, slice_get, Some, Ok, Vec, All, take}
+use Rattle.std.specs.Borrow.{Bor}
+use Rattle.cc_model.specs.Config.{config_fault}
+use Rattle.cc_model.specs.declared.config.Config.{Config}
+use Rattle.cc_machine.specs.Machine.{IsOpenFault}
+use Rattle.cc_machine.specs.declared.fault.OpenFault.{OpenFault}
+use Rattle.cc_steps.specs.Topic.{Topic}
+use Rattle.std.specs.declared.alloc.Global.{Global}
+use Rattle.cc_queue.specs.declared.passes.Sender.{Sender}
+use Rattle.cc_queue.specs.declared.passes.Receiver.{Receiver}
+use Rattle.cc_queue.specs.Opened as queue
+use Rattle.cc_broker.specs.Names.{IsFirstDouble, AreDistinct}
+use Rattle.cc_broker.specs.Topics.{asked_names}
+use Rattle.cc_broker.specs.declared.broker.BrokerFault.{BrokerFault}
+use Rattle.cc_broker.specs.declared.broker.BrokerFault.TheVariants as fault
+use Rattle.cc_broker.specs.declared.broker.OpenedBroker.{OpenedBroker}
+
+-- the passes of a topic
+abbrev pub Senders : Type 0
+Senders = Vec Sender Global
+
+abbrev pub Receivers : Type 0
+Receivers = Vec Receiver Global
+
+-- Each topic that was asked for has its name, its own queue of its configuration, and all the passes of that queue, none
+-- of which has begun a call or seen anything.
+abbrev pub AreOpened : List (Bor (List ℕ) × Config) → List (List ℕ × Topic) → List (Senders × Receivers) → Type 0
+AreOpened [] [] [] = Unit {0}
+AreOpened (a ∷ asked) (t ∷ topics) (p ∷ passes) =
+    (t.0 ≡ a.0.now) × queue.HasOpened a.1 record { queue = t.1; senders = p.0; receivers = p.1 } × AreOpened asked topics passes
+AreOpened _ _ _ = ⊥
+
+-- The names were few enough and distinct, each configuration was lawful, and each topic was opened.
+pub record HasOpened (asked : List (Bor (List ℕ) × Config)) (o : OpenedBroker) : Type 0 where
+  pub few : length asked ≤ 64
+  pub distinct : AreDistinct (asked_names asked)
+  pub lawful : All (λ a. config_fault a.1 ≡ Ok tt) asked
+  pub opened : AreOpened asked o.broker o.passes.items
+
+-- the topic at this place is the first that wasn't opened, for this fault
+pub record IsTopicFault (asked : List (Bor (List ℕ) × Config)) (place : ℕ) (cause : OpenFault) : Type 0 where
+  pub topic : Bor (List ℕ) × Config
+  pub there : slice_get asked place ≡ Some topic
+  pub fault : IsOpenFault topic.1 cause
+  pub lawful : All (λ a. config_fault a.1 ≡ Ok tt) (take place asked)
+
+-- Too many topics are refused first, then a double name, and then the topics are opened in order.
+abbrev pub IsBrokerFault : List (Bor (List ℕ) × Config) → BrokerFault → Type 0
+IsBrokerFault asked fault.TooMany = 64 < length asked
+IsBrokerFault asked (fault.DoubleName place) = (length asked ≤ 64) × IsFirstDouble (asked_names asked) place
+IsBrokerFault asked (fault.Topic place cause) = (length asked ≤ 64) × AreDistinct (asked_names asked) × IsTopicFault asked place cause
+IsBrokerFault asked fault.NoMemory = (length asked ≤ 64) × AreDistinct (asked_names asked)

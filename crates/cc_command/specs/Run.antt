@@ -1,0 +1,48 @@
+-- What a command line answers, and what it says on standard error.
+use Rattle.std.specs.Prelude.{ℕ, ◌≡◌, ◌⊎◌, ◌+◌, if◌then◌else◌, Bool, List, [], ◌∷◌, Option, Some, None, Result, Err}
+use Rattle.std.specs.Io.KnownBytes.{Keeps}
+use Rattle.clap.specs.Words.{IsAmong, Kinds}
+use Rattle.clap.specs.declared.error.kind.ErrorKind.{ErrorKind}
+use Rattle.clap.specs.declared.error.kind.ErrorKind.TheVariants.{DisplayHelp, OutOfMemory}
+use Rattle.cc_model.specs.Written.{Writes}
+use Rattle.cc_audit.specs.declared.receipt.Verdict.{Verdict}
+use Rattle.cc_play.specs.declared.fault.PlayFault.{PlayFault}
+use Rattle.cc_play.specs.declared.fault.PlayFault.TheVariants as fault
+use Rattle.cc_play.specs.Outcome.{Told, line_of, no_memory_line, status_of}
+use Rattle.cc_play.specs.Play.{Plays, Audits, failed_reads, failed_writes}
+use Rattle.cc_command.specs.declared.command_line.Task.{Task}
+use Rattle.cc_command.specs.declared.command_line.Task.TheVariants.{Play, Audit}
+
+-- What a line that asks for no task leaves on both outputs, each with its number of failed writes, and the status.
+module _ (old new : Option (List ℕ)) (fails fails_after : ℕ) (errors_old errors_new : Option (List ℕ)) (before after status : ℕ) where
+  -- there was no memory to read the line or to answer it
+  abbrev pub RunsOut : Type 0
+  RunsOut = (status ≡ 3) × Keeps old new × (fails_after ≡ fails) × Told errors_old errors_new before after no_memory_line
+
+  -- a text of help was written; or a front of it was, and a write failed
+  abbrev pub Helps : Type 0
+  Helps = (text : List ℕ) × ((failed : Bool) × Writes failed old new fails fails_after text × (status ≡ (if failed then 4 else 0)) × Told errors_old errors_new before after (if failed then line_of (Err fault.Write) else []))
+
+  -- what is wrong with the line was told
+  abbrev pub Complains : Type 0
+  Complains = (status ≡ 64) × Keeps old new × (fails_after ≡ fails) × ((text : List ℕ) × Told errors_old errors_new before after text)
+
+  -- how the line is answered, by what was found in it
+  abbrev pub Declines : ErrorKind → Type 0
+  Declines DisplayHelp = Helps ⊎ RunsOut
+  Declines OutOfMemory = RunsOut
+  Declines _ = Complains ⊎ RunsOut
+
+-- What a whole line leaves, on its input too, with the number of failed reads. Where it asks for a task, that is done as far as
+-- it goes and its outcome told. Where it asks for none, nothing is read, and it is declined for a fault that the parser of
+-- command lines finds in it, or for want of memory.
+module _ (left_old left_new : Option (List ℕ)) (reads reads_after : ℕ) (old new : Option (List ℕ)) (fails fails_after : ℕ) (errors_old errors_new : Option (List ℕ)) (before after status : ℕ) where
+  abbrev pub Does : (Option (List ℕ) → Option (List ℕ) → Result Verdict PlayFault → Option (List ℕ) → Option (List ℕ) → Type 0) → Type 0
+  Does Work = (outcome : Result Verdict PlayFault) × Work left_old left_new outcome old new × (reads_after ≡ reads + failed_reads outcome) × (fails_after ≡ fails + failed_writes outcome)
+      × (status ≡ status_of outcome) × Told errors_old errors_new before after (line_of outcome)
+
+  abbrev pub Runs : Option Task → Kinds → Type 0
+  Runs (Some Play) faults = Does Plays
+  Runs (Some Audit) faults = Does Audits
+  Runs None faults = Keeps left_old left_new × (reads_after ≡ reads)
+      × ((found : ErrorKind) × IsAmong found (OutOfMemory ∷ faults) × Declines old new fails fails_after errors_old errors_new before after status found)

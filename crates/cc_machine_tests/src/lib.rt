@@ -1,0 +1,7 @@
+//! The tests of the machines.
+#![tactic(auto)]
+
+#[cfg(test)]
+mod counters;
+#[cfg(test)]
+mod machines;

@@ -1,0 +1,9 @@
+use Rattle.std.proofs.Common.{is_err}
+use Rattle.cc_model.proofs.Writing.{then, all_out}
+use Rattle.cc_play.proofs.outcome.refused_entry.Goals as goal
+
+pub returns-clause-told : goal.returns-clause-told
+returns-clause-told g c = record {
+  failed = is_err c.finish-outcome.result;
+  writes = all_out _ _ _ _ _ _ _ _ _ _ (rw c.new-pen.ensures at (then c.word.ensures c.text.ensures)) c.finish-outcome.ensures;
+}

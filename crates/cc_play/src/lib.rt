@@ -1,0 +1,15 @@
+//! Playing plans and auditing receipts, from bytes to bytes, and what is told of the outcome.
+#![tactic(auto)]
+
+mod audit;
+mod fault;
+mod input;
+mod outcome;
+pub mod play;
+mod player;
+
+pub use audit::audit_bytes;
+pub use fault::PlayFault;
+pub use input::{InputFault, read_input};
+pub use outcome::{out_of_memory, tell, told};
+pub use player::play_schedule;

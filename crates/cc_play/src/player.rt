@@ -1,0 +1,124 @@
+//! Following a schedule: which pass does its next atomic step, begins its next call, has its answer taken.
+ghost use Rattle.std.specs.Prelude.{◌≡◌, ◌<◌, Some, Ok, List, length, IfOk, IfSome, OnOk, ◌^◌, ◌-◌};
+ghost use Rattle.cc_model.specs.Items.{known_at};
+ghost use Rattle.cc_machine.specs.declared.run.Move.{Move};
+ghost use Rattle.cc_machine.specs.Run.{passes, reached};
+ghost use Rattle.cc_machine.specs.View.{state_in};
+ghost use Rattle.cc_machine.specs.Machine.{index_of, HasBegun, begin_fault};
+ghost use Rattle.cc_plan.specs.Plan.{plan_value};
+ghost use Rattle.cc_plan.specs.PlanLaws.{Lawful};
+ghost use Rattle.cc_play.specs.Schedule.{setting_of, next_call, IsAt, IsBetweenTurns, HasTurned, entry, run_of};
+
+use cc_machine::{BeginFault, Event, Machine, OpenFault};
+use cc_model::{Call, Pass};
+use cc_plan::Plan;
+use std::alloc::{AllocError, Global};
+
+/// The call that a pass makes after so many calls, where the plan has one.
+fn next_call(plan: &Plan, pass: Pass, begun: usize) -> Option<Call>
+    ensures call { result ≡ next_call (plan_value plan.now) pass begun }
+    ensures countable { IfSome result (λ _. begun < 2 ^ 64 - 1) }
+{
+    match pass {
+        Pass::Sender(n) => {
+            let calls = plan.senders.get((n as usize).saturating_sub(1))?;
+            calls.get(begun).copied()
+        }
+        Pass::Receiver(n) => {
+            let takes = plan.receivers.get((n as usize).saturating_sub(1))?;
+            (begun < *takes as usize).then_some(Call::Take)
+        }
+    }
+}
+
+/// Begins a call that the pass may begin, so that only memory can be refused.
+fn begin(machine: &mut Machine, pass: Pass, call: Call) -> Result<(), AllocError>
+    requires { begin_fault machine.old pass call ≡ Ok tt }
+    ensures { OnOk result (HasBegun machine.old (index_of machine.old.setting pass) call (known_at pass machine.old.history) machine.new) }
+{
+    match machine.begin(pass, call) {
+        Ok(()) => Ok(()),
+        Err(BeginFault::NoMemory) => Err(AllocError),
+        Err(_) => unreachable!(),
+    }
+}
+
+/// One event of a pass, before which it begins its next call where it is idle, and after which the answer of a finished
+/// call is taken; whether the pass had an event to do.
+fn turn(
+    machine: &mut Machine,
+    begun: &mut [usize],
+    plan: &Plan,
+    pass: Pass,
+    row: usize,
+) -> Result<bool, AllocError>
+    requires lawful { Lawful (plan_value plan.now) }
+    requires pass { index_of (setting_of (plan_value plan.now)) pass ≡ Some row }
+    requires row { row < length begun.old }
+    requires between { IsBetweenTurns (plan_value plan.now) machine.old begun.old }
+    ensures turned { IfOk result (λ more. HasTurned (plan_value plan.now) pass row machine.old machine.new begun.old begun.new more) }
+    ensures between { OnOk result (IsBetweenTurns (plan_value plan.now) machine.new begun.new) }
+    ensures rows { length begun.new ≡ length begun.old }
+{
+    match machine.event(pass) {
+        Event::Did(_) => {
+            machine.answer(pass);
+            Ok(true)
+        }
+        Event::Idle => match next_call(plan, pass, begun[row]) {
+            Some(call) => {
+                begin(machine, pass, call)?;
+                begun[row] += 1;
+                machine.event(pass);
+                machine.answer(pass);
+                Ok(true)
+            }
+            None => Ok(false),
+        },
+    }
+}
+
+/// Up to so many events of a pass.
+fn follow_entry(
+    machine: &mut Machine,
+    begun: &mut [usize],
+    plan: &Plan,
+    pass: Pass,
+    events: u32,
+) -> Result<(), AllocError>
+    requires lawful { Lawful (plan_value plan.now) }
+    requires rows { length begun.old ≡ passes (setting_of (plan_value plan.now)) }
+    requires between { IsBetweenTurns (plan_value plan.now) machine.old begun.old }
+    ensures followed { OnOk result ((run : List Move) → IsAt (plan_value plan.now) machine.old begun.old run
+        → IsAt (plan_value plan.now) machine.new begun.new (entry (plan_value plan.now) pass (index_of (setting_of (plan_value plan.now)) pass) events run)) }
+    ensures between { OnOk result (IsBetweenTurns (plan_value plan.now) machine.new begun.new) }
+    ensures rows { length begun.new ≡ length begun.old }
+{
+    let Some(row) = Machine::row(&plan.config, pass) else {
+        return Ok(());
+    };
+    for _done in 0..events {
+        if !turn(machine, begun, plan, pass, row)? {
+            return Ok(());
+        }
+    }
+    Ok(())
+}
+
+/// Plays the schedule of a plan from the opening of its machine. Only memory can be refused.
+pub fn play_schedule(alloc: Global, plan: &Plan) -> Result<Machine, AllocError>
+    requires lawful { Lawful (plan_value plan.now) }
+    ensures played { IfOk result (λ machine. (machine.setting ≡ setting_of (plan_value plan.now)) × (state_in machine ≡ reached (setting_of (plan_value plan.now)) (run_of (plan_value plan.now)))) }
+{
+    let mut machine = match Machine::open(alloc, &plan.config) {
+        Ok(machine) => machine,
+        Err(OpenFault::NoMemory) => return Err(AllocError),
+        Err(OpenFault::Config(_)) => unreachable!(),
+    };
+    let rows = plan.config.senders as usize + plan.config.receivers as usize;
+    let mut begun = vec![in alloc; 0usize; rows]?;
+    for (pass, events) in plan.schedule.iter() {
+        follow_entry(&mut machine, begun.as_mut_slice(), plan, *pass, *events)?;
+    }
+    Ok(machine)
+}

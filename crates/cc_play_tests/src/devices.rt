@@ -1,0 +1,188 @@
+//! Devices that fail, and how often they are called.
+use crate::outcomes::{FIRST, REPORT};
+use cc_model::{Device, DeviceFault, Sink, Source};
+use cc_play::play::play;
+use cc_play::{PlayFault, tell};
+use std::alloc::Global;
+use std::test::Fail;
+
+/// A source that gives some bytes, so many a call, and then fails at each read.
+#[derive(Drop)]
+struct CutReader<'a> {
+    rest: &'a [u8],
+    gives: usize,
+    calls: u64,
+    failures: u64,
+}
+
+impl Source for CutReader<'_> {
+    ghost use Rattle.std.specs.Prelude.{Some};
+
+    ghost bytes_left = { λ s. Some s.rest.now };
+
+    ghost read_failures = { λ s. s.failures };
+
+    fn read_some(&mut self, buffer: &mut [u8]) -> Result<usize, DeviceFault> {
+        self.calls = self.calls.saturating_add(1);
+        if self.gives == 0 {
+            self.failures += 1;
+            return Err(DeviceFault);
+        }
+        let n = self.gives.min(self.rest.len()).min(buffer.len());
+        let (now, later) = self.rest.split_at(n);
+        buffer[..n].copy_from_slice(now);
+        self.rest = later;
+        self.gives -= n;
+        Ok(n)
+    }
+
+    fn failures(&self) -> u64 {
+        self.failures
+    }
+}
+
+/// How a sink refuses: by an error, or by taking nothing.
+#[derive(Clone, Copy, PartialEq, Eq)]
+enum Refusal {
+    Error,
+    Nothing,
+}
+
+/// A sink that takes some bytes, at most so many a call, and then refuses each write.
+#[derive(Drop)]
+struct CutWriter {
+    taken: Vec<u8>,
+    takes: usize,
+    at_most: usize,
+    refusal: Refusal,
+    calls: u64,
+    failures: u64,
+}
+
+impl CutWriter {
+    ghost use Rattle.std.specs.Prelude.{◌≡◌};
+
+    fn new(alloc: Global, takes: usize, at_most: usize, refusal: Refusal) -> CutWriter
+        ensures { result.failures ≡ 0 }
+    {
+        CutWriter {
+            taken: Vec::new(alloc),
+            takes,
+            at_most,
+            refusal,
+            calls: 0,
+            failures: 0,
+        }
+    }
+}
+
+impl Sink for CutWriter {
+    ghost use Rattle.std.specs.Prelude.{Some};
+
+    ghost bytes_written = { λ s. Some s.taken.items };
+
+    ghost write_failures = { λ s. s.failures };
+
+    fn write_some(&mut self, bytes: &[u8]) -> Result<usize, DeviceFault> {
+        self.calls = self.calls.saturating_add(1);
+        let n = self.takes.min(self.at_most).min(bytes.len());
+        if n == 0 {
+            if self.refusal == Refusal::Nothing || bytes.is_empty() {
+                if !bytes.is_empty() {
+                    self.failures += 1;
+                }
+                return Ok(0);
+            }
+            self.failures += 1;
+            return Err(DeviceFault);
+        }
+        if self.taken.extend_from_slice(&bytes[..n]).is_err() {
+            self.failures += 1;
+            return Err(DeviceFault);
+        }
+        self.takes -= n;
+        Ok(n)
+    }
+
+    fn failures(&self) -> u64 {
+        self.failures
+    }
+}
+
+#[test]
+fn reads_fail_at_every_byte(rt: HostRuntime) -> Result<(), Fail> {
+    for gives in 0..FIRST.len() + 1 {
+        let mut output = Vec::new(rt.alloc());
+        let mut source = CutReader {
+            rest: FIRST.as_bytes(),
+            gives,
+            calls: 0,
+            failures: 0,
+        };
+        let mut sink = Device::new(&mut output);
+        let outcome = play(rt.alloc(), &mut source, &mut sink);
+        assert_eq!(rt; outcome.err(), Some(PlayFault::Read), "{gives}");
+        assert_eq!(rt; source.failures(), 1, "{gives}");
+        assert_eq!(rt; output.len(), 0, "{gives}");
+    }
+    Ok(())
+}
+
+#[test]
+fn writes_fail_at_every_byte(rt: HostRuntime) -> Result<(), Fail> {
+    let report = REPORT.as_bytes();
+    for refusal in [Refusal::Error, Refusal::Nothing] {
+        for takes in 0..report.len() {
+            let mut source = Device::new(FIRST.as_bytes());
+            let mut sink = CutWriter::new(rt.alloc(), takes, 1, refusal);
+            let outcome = play(rt.alloc(), &mut source, &mut sink);
+            assert_eq!(rt; outcome.err(), Some(PlayFault::Write), "{takes}");
+            assert_eq!(rt; sink.failures(), 1, "{takes}");
+            assert_eq!(rt; sink.taken.as_slice(), &report[..takes]);
+            assert_eq!(rt; sink.calls, takes as u64 + 1, "{takes}");
+        }
+    }
+    let mut source = Device::new(FIRST.as_bytes());
+    let mut sink = CutWriter::new(rt.alloc(), report.len(), 1, Refusal::Error);
+    assert!(rt; play(rt.alloc(), &mut source, &mut sink).is_ok());
+    assert_eq!(rt; sink.taken.as_slice(), report);
+    assert_eq!(rt; sink.failures(), 0);
+    Ok(())
+}
+
+#[test]
+fn devices_are_called_by_the_block(rt: HostRuntime) -> Result<(), Fail> {
+    let alloc = rt.alloc();
+    let spaces = vec![in alloc; b' '; 16_777_216]?;
+    let mut source = CutReader {
+        rest: spaces.as_slice(),
+        gives: usize::MAX,
+        calls: 0,
+        failures: 0,
+    };
+    let mut sink = CutWriter::new(alloc, usize::MAX, usize::MAX, Refusal::Error);
+    assert!(rt; play(alloc, &mut source, &mut sink).is_err());
+    assert!(rt; source.calls <= 16_777_216 / 4096);
+    let mut source = Device::new(FIRST.as_bytes());
+    let mut sink = CutWriter::new(alloc, usize::MAX, usize::MAX, Refusal::Error);
+    assert!(rt; play(alloc, &mut source, &mut sink).is_ok());
+    assert_eq!(rt; sink.taken.as_slice(), REPORT.as_bytes());
+    assert_eq!(rt; sink.calls, 1);
+    Ok(())
+}
+
+#[test]
+fn failing_devices_have_a_status(rt: HostRuntime) {
+    let rows = [
+        (PlayFault::Read, "ccq: reading failed\n"),
+        (PlayFault::Write, "ccq: writing failed\n"),
+    ];
+    for (fault, line) in rows {
+        let mut errors = CutWriter::new(rt.alloc(), usize::MAX, usize::MAX, Refusal::Error);
+        assert_eq!(rt; tell(&mut errors, Err(fault)), 4);
+        assert_eq!(rt; errors.taken.as_slice(), line.as_bytes());
+        let mut errors = CutWriter::new(rt.alloc(), 0, usize::MAX, Refusal::Error);
+        let status = tell(&mut errors, Err(fault));
+        assert_eq!(rt; status, 4, "a failure on standard error changes no status");
+    }
+}

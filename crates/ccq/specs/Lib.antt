@@ -1,4 +1,0 @@
-pub mod CommandLine
-pub mod Schedule
-pub mod Play
-pub mod Run

@@ -1,0 +1,104 @@
+//! One thread sends the numbers 1 to 100 and closes, another takes until the end and adds them up.
+#![tactic(auto)]
+
+ghost use Rattle.std.specs.Prelude.{◌≡◌, IfSome};
+ghost use Rattle.std.specs.Thread.{IsSync};
+ghost use Rattle.cc_steps.specs.Walk.{IsOf};
+
+use cc_model::{Config, SendAnswer, TakeAnswer};
+use cc_queue::{Opened, Queue, Receiver, Sender, close, send, take_until};
+use crossbeam_utils::Backoff;
+use std::io;
+use std::process::ExitCode;
+use std::sync::Wait;
+use std::thread::{Threads, join};
+
+/// Sends this body, again where the queue is full. None where it is closed, or the sender has sent all that it may.
+fn send_one<R: Wait>(rt: &R, queue: &Queue, sender: Sender, body: u64) -> Option<Sender>
+    requires { IsOf queue.now sender }
+    ensures { IfSome result (λ s. IsOf queue.now s) }
+{
+    let backoff = Backoff::new();
+    let mut sender = sender;
+    for _ in rt.forever() {
+        let (after, answer) = send(queue, rt, sender, body).ok()?;
+        match answer {
+            SendAnswer::Accepted { place: _ } => return Some(after),
+            SendAnswer::Full => sender = after,
+            _ => return None,
+        }
+        backoff.snooze();
+    }
+    unreachable!()
+}
+
+/// Sends the bodies 1 to 100, and closes the queue.
+fn send_all<R: Wait>(rt: &R, queue: &Queue, sender: Sender) -> Option<u64>
+    requires { IsOf queue.now sender }
+{
+    let mut sender = sender;
+    for body in 1..101u64 {
+        sender = send_one(rt, queue, sender, body)?;
+    }
+    close(queue, rt, sender);
+    Some(100)
+}
+
+/// Takes until the end, and adds up what was sent.
+fn take_all<R: Wait>(rt: &R, queue: &Queue, receiver: Receiver) -> u64
+    requires { IsOf queue.now receiver }
+{
+    let mut sum = 0u64;
+    let mut receiver = receiver;
+    for _ in rt.forever() {
+        let (after, answer) = take_until(queue, rt, receiver);
+        match answer {
+            TakeAnswer::Got(item) => sum = sum.wrapping_add(item.body),
+            _ => return sum,
+        }
+        receiver = after;
+    }
+    unreachable!()
+}
+
+/// The sender and the receiver on a thread each.
+fn pass<R: Threads + Wait + Sync>(
+    rt: &R,
+    queue: &Queue,
+    sender: Sender,
+    receiver: Receiver,
+) -> (Option<u64>, u64)
+    requires { IsOf queue.now sender × IsOf queue.now receiver }
+{
+    join(
+        rt,
+        move || -> Option<u64>
+            requires { IsSync R.row × IsOf queue.now sender }
+        { send_all(rt, queue, sender) },
+        move || -> u64
+            requires { IsSync R.row × IsOf queue.now receiver }
+        { take_all(rt, queue, receiver) },
+    )
+}
+
+fn main(rt: HostRuntime) -> io::Result<ExitCode> {
+    let config = Config {
+        senders: 1,
+        receivers: 1,
+        capacity: 8,
+        bound: 4,
+        life: 1000,
+        per_sender: 1000,
+    };
+    let Ok(opened) = Queue::open(rt.alloc(), &config) else {
+        return Ok(ExitCode::FAILURE);
+    };
+    let Opened {
+        queue,
+        mut senders,
+        mut receivers,
+    } = opened;
+    let (sent, sum) = pass(&rt, &queue, senders.remove(0), receivers.remove(0));
+    println!(rt; "sent {}, sum {sum}", sent.unwrap_or(0))?;
+    Ok(ExitCode::SUCCESS)
+}

@@ -1,0 +1,75 @@
+/*
+ * A library to be loaded before a program: refuses one of the allocations that the program itself makes, by answering null.
+ * The variable REFUSE has its number, from 1; 0 refuses none. At each allocation that the program makes, one byte goes to
+ * file descriptor 9, so that the length of what came there counts them, also where the program was stopped by a signal.
+ *
+ * What the C library asks for within its own calls is let through and not counted. For programs of one thread, over glibc.
+ */
+#define _GNU_SOURCE
+#include <errno.h>
+#include <link.h>
+#include <stdint.h>
+#include <stdlib.h>
+#include <unistd.h>
+
+void *__libc_malloc(size_t);
+void *__libc_calloc(size_t, size_t);
+void *__libc_realloc(void *, size_t);
+void *__libc_memalign(size_t, size_t);
+
+/* where the program's own code and data lie, and which of its allocations is refused */
+static uintptr_t low = UINTPTR_MAX, high;
+static long refused, met;
+
+/* The program comes first among what is loaded. */
+static int measure(struct dl_phdr_info *loaded, size_t size, void *unused) {
+    (void)size, (void)unused;
+    for (int i = 0; i < loaded->dlpi_phnum; i++) {
+        const ElfW(Phdr) *part = &loaded->dlpi_phdr[i];
+        if (part->p_type != PT_LOAD)
+            continue;
+        uintptr_t begin = loaded->dlpi_addr + part->p_vaddr;
+        low = begin < low ? begin : low;
+        high = begin + part->p_memsz > high ? begin + part->p_memsz : high;
+    }
+    return 1;
+}
+
+__attribute__((constructor)) static void begin(void) {
+    const char *number = getenv("REFUSE");
+    refused = number ? atol(number) : 0;
+    dl_iterate_phdr(measure, NULL);
+}
+
+/* Counts an allocation that is asked for at this place of the code, and tells whether it is the one to refuse. */
+static int is_refused(void *place) {
+    if ((uintptr_t)place < low || (uintptr_t)place >= high)
+        return 0;
+    met++;
+    if (write(9, ".", 1) != 1)
+        _exit(99);
+    if (met == refused)
+        errno = ENOMEM;
+    return met == refused;
+}
+
+#define IS_REFUSED is_refused(__builtin_return_address(0))
+
+void *malloc(size_t size) { return IS_REFUSED ? NULL : __libc_malloc(size); }
+
+void *calloc(size_t count, size_t size) { return IS_REFUSED ? NULL : __libc_calloc(count, size); }
+
+void *realloc(void *old, size_t size) { return IS_REFUSED ? NULL : __libc_realloc(old, size); }
+
+void *memalign(size_t edge, size_t size) { return IS_REFUSED ? NULL : __libc_memalign(edge, size); }
+
+void *aligned_alloc(size_t edge, size_t size) { return IS_REFUSED ? NULL : __libc_memalign(edge, size); }
+
+int posix_memalign(void **made, size_t edge, size_t size) {
+    if (IS_REFUSED)
+        return ENOMEM;
+    void *found = __libc_memalign(edge, size);
+    if (found)
+        *made = found;
+    return found ? 0 : ENOMEM;
+}
