@@ -4,10 +4,8 @@ ghost use Rattle.cc_model.specs.declared.call.Answer.TheVariants as answer;
 ghost use Rattle.cc_machine.specs.Codes.{list_reads};
 ghost use Rattle.cc_queue.specs.Codes.{IsSendAnswer, IsCloseAnswer};
 
+use cc_machine::CODE;
 use cc_model::{CloseAnswer, SendAnswer};
-
-/// An answer word is this times the code of the answer, and its number.
-pub const CODE: u64 = 1 << 56;
 
 /// The answer of a send that an answer word is.
 pub fn send_answer(ret: u64) -> SendAnswer

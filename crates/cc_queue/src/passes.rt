@@ -6,12 +6,14 @@ ghost use Rattle.cc_queue.specs.Met.{HasMet};
 use cc_model::{CloseAnswer, SendAnswer, TakeAnswer};
 use cc_steps::seats::PassSeat;
 use cc_steps::words::Words;
+use std::alloc::Global;
 use std::marker::Model;
+use std::sync::Arc;
 
 /// A sender of a queue that has no call, numbered from 1.
 #[derive(Drop)]
 pub struct Sender {
-    pub(crate) words: Words,
+    pub(crate) words: Arc<Words, Global>,
     pub(crate) seat: PassSeat,
     pub(crate) number: u32,
     pub(crate) limit: u32,
@@ -20,6 +22,7 @@ pub struct Sender {
 }
 
 impl Model for Sender {
+    ghost use Rattle.std.specs.Arc.{arc_value};
     ghost use Rattle.cc_steps.specs.Walk.{Walk};
     ghost use Rattle.cc_machine.specs.declared.place.Place.TheVariants.{Idle};
     ghost use Rattle.cc_queue.specs.Kept.{KeepsSender};
@@ -28,12 +31,12 @@ impl Model for Sender {
 
     ghost view = { λ s. s.seat };
 
-    ghost invariant = { λ s. KeepsSender s.words s.seat s.number s.limit s.begun s.node Idle };
+    ghost invariant = { λ s. KeepsSender (arc_value s.words) s.seat s.number s.limit s.begun s.node Idle };
 }
 
 /// A sender whose send is pending. It must be spent, by a turn or by `abandon`.
 pub struct PendingSend {
-    pub(crate) words: Words,
+    pub(crate) words: Arc<Words, Global>,
     pub(crate) seat: PassSeat,
     pub(crate) number: u32,
     pub(crate) limit: u32,
@@ -42,6 +45,7 @@ pub struct PendingSend {
 }
 
 impl Model for PendingSend {
+    ghost use Rattle.std.specs.Arc.{arc_value};
     ghost use Rattle.cc_steps.specs.Walk.{Walk};
     ghost use Rattle.cc_machine.specs.declared.place.Place.TheVariants.{ReadState};
     ghost use Rattle.cc_queue.specs.Kept.{KeepsSender, MadeLast, IsSend};
@@ -50,12 +54,12 @@ impl Model for PendingSend {
 
     ghost view = { λ s. s.seat };
 
-    ghost invariant = { λ s. KeepsSender s.words s.seat s.number s.limit s.begun s.node ReadState × MadeLast IsSend s.seat.made };
+    ghost invariant = { λ s. KeepsSender (arc_value s.words) s.seat s.number s.limit s.begun s.node ReadState × MadeLast IsSend s.seat.made };
 }
 
 /// A sender whose close is pending. It must be spent, by a turn or by `abandon`.
 pub struct PendingClose {
-    pub(crate) words: Words,
+    pub(crate) words: Arc<Words, Global>,
     pub(crate) seat: PassSeat,
     pub(crate) number: u32,
     pub(crate) limit: u32,
@@ -64,6 +68,7 @@ pub struct PendingClose {
 }
 
 impl Model for PendingClose {
+    ghost use Rattle.std.specs.Arc.{arc_value};
     ghost use Rattle.cc_steps.specs.Walk.{Walk};
     ghost use Rattle.cc_machine.specs.declared.place.Place.TheVariants.{ReadState};
     ghost use Rattle.cc_queue.specs.Kept.{KeepsSender, MadeLast, IsClose};
@@ -72,18 +77,19 @@ impl Model for PendingClose {
 
     ghost view = { λ s. s.seat };
 
-    ghost invariant = { λ s. KeepsSender s.words s.seat s.number s.limit s.begun s.node ReadState × MadeLast IsClose s.seat.made };
+    ghost invariant = { λ s. KeepsSender (arc_value s.words) s.seat s.number s.limit s.begun s.node ReadState × MadeLast IsClose s.seat.made };
 }
 
 /// A receiver of a queue that has no call, numbered from 1.
 #[derive(Drop)]
 pub struct Receiver {
-    pub(crate) words: Words,
+    pub(crate) words: Arc<Words, Global>,
     pub(crate) seat: PassSeat,
     pub(crate) node: u64,
 }
 
 impl Model for Receiver {
+    ghost use Rattle.std.specs.Arc.{arc_value};
     ghost use Rattle.cc_steps.specs.Walk.{Walk};
     ghost use Rattle.cc_machine.specs.declared.place.Place.TheVariants.{Idle};
     ghost use Rattle.cc_queue.specs.Kept.{KeepsReceiver};
@@ -92,17 +98,18 @@ impl Model for Receiver {
 
     ghost view = { λ r. r.seat };
 
-    ghost invariant = { λ r. KeepsReceiver r.words r.seat r.node Idle };
+    ghost invariant = { λ r. KeepsReceiver (arc_value r.words) r.seat r.node Idle };
 }
 
 /// A receiver whose take is pending. It must be spent, by a turn or by `abandon`.
 pub struct PendingTake {
-    pub(crate) words: Words,
+    pub(crate) words: Arc<Words, Global>,
     pub(crate) seat: PassSeat,
     pub(crate) node: u64,
 }
 
 impl Model for PendingTake {
+    ghost use Rattle.std.specs.Arc.{arc_value};
     ghost use Rattle.cc_steps.specs.Walk.{Walk};
     ghost use Rattle.cc_machine.specs.declared.place.Place.TheVariants.{ReadState};
     ghost use Rattle.cc_queue.specs.Kept.{KeepsReceiver};
@@ -111,7 +118,7 @@ impl Model for PendingTake {
 
     ghost view = { λ r. r.seat };
 
-    ghost invariant = { λ r. KeepsReceiver r.words r.seat r.node ReadState };
+    ghost invariant = { λ r. KeepsReceiver (arc_value r.words) r.seat r.node ReadState };
 }
 
 /// What a turn of a send answers. `served` is how many requests this turn served: 0 where another pass had served the

@@ -1,4 +1,5 @@
 //! A queue that threads share, and its opening.
+ghost use Rattle.std.specs.Arc.{arc_value};
 ghost use Rattle.std.specs.Prelude.{◌≡◌, ◌+◌, ◌-◌, ◌≤◌, ◌<◌, length, IfOk, MatchResult, Ok};
 ghost use Rattle.cc_model.specs.Config.{config_fault};
 ghost use Rattle.cc_machine.specs.declared.setting.Served.TheVariants as served;
@@ -14,6 +15,7 @@ use cc_steps::seats::PassSeat;
 use cc_steps::words::{OpenedWords, Words};
 use std::alloc::{AllocError, Global};
 use std::marker::Model;
+use std::sync::Arc;
 
 /// One queue: a share of its words, and its configuration. Threads hold it by reference, and their own passes.
 #[derive(Drop)]
@@ -44,11 +46,11 @@ pub struct Opened {
 }
 
 /// A sender on the seat of its pass.
-fn sender_on(words: Words, seat: PassSeat, config: &Config, row: u32) -> Sender
-    requires setting { words.setting ≡ record { served = served.List; config = config.now } }
+fn sender_on(words: Arc<Words, Global>, seat: PassSeat, config: &Config, row: u32) -> Sender
+    requires setting { (arc_value words).setting ≡ record { served = served.List; config = config.now } }
     requires checked { config_fault config.now ≡ Ok tt }
     requires row { row < config.now.senders }
-    requires fresh { seat ≡ fresh words row }
+    requires fresh { seat ≡ fresh (arc_value words) row }
     ensures { result ≡ seat }
 {
     Sender {
@@ -62,10 +64,10 @@ fn sender_on(words: Words, seat: PassSeat, config: &Config, row: u32) -> Sender
 }
 
 /// A receiver on the seat of its pass, which stands behind all senders in the row of passes.
-fn receiver_on(words: Words, seat: PassSeat, config: &Config, place: u32) -> Receiver
-    requires setting { words.setting ≡ record { served = served.List; config = config.now } }
+fn receiver_on(words: Arc<Words, Global>, seat: PassSeat, config: &Config, place: u32) -> Receiver
+    requires setting { (arc_value words).setting ≡ record { served = served.List; config = config.now } }
     requires place { place < config.now.receivers }
-    requires fresh { seat ≡ fresh words (config.now.senders + place) }
+    requires fresh { seat ≡ fresh (arc_value words) (config.now.senders + place) }
     ensures { result ≡ seat }
 {
     let _ = config;
@@ -78,41 +80,41 @@ fn receiver_on(words: Words, seat: PassSeat, config: &Config, place: u32) -> Rec
 
 fn all_senders(
     alloc: Global,
-    words: &Words,
+    words: &Arc<Words, Global>,
     mut seats: Vec<PassSeat>,
     config: &Config,
 ) -> Result<Vec<Sender>, AllocError>
-    requires setting { words.now.setting ≡ record { served = served.List; config = config.now } }
+    requires setting { (arc_value words.now).setting ≡ record { served = served.List; config = config.now } }
     requires checked { config_fault config.now ≡ Ok tt }
     requires count { length seats.items ≡ config.now.senders }
-    requires fresh { fresh_from words.now 0 seats.items }
+    requires fresh { fresh_from (arc_value words.now) 0 seats.items }
     ensures count { IfOk result (λ s. length s.items ≡ config.now.senders) }
-    ensures fresh { IfOk result (λ s. fresh_from words.now 0 s.items) }
+    ensures fresh { IfOk result (λ s. fresh_from (arc_value words.now) 0 s.items) }
 {
     let mut senders = Vec::new(alloc);
     for row in 0..config.senders {
         let seat = seats.remove(0);
-        senders.push(sender_on(words.share()?, seat, config, row))?;
+        senders.push(sender_on(Arc::try_clone(words)?, seat, config, row))?;
     }
     Ok(senders)
 }
 
 fn all_receivers(
     alloc: Global,
-    words: &Words,
+    words: &Arc<Words, Global>,
     mut seats: Vec<PassSeat>,
     config: &Config,
 ) -> Result<Vec<Receiver>, AllocError>
-    requires setting { words.now.setting ≡ record { served = served.List; config = config.now } }
+    requires setting { (arc_value words.now).setting ≡ record { served = served.List; config = config.now } }
     requires count { length seats.items ≡ config.now.receivers }
-    requires fresh { fresh_from words.now config.now.senders seats.items }
+    requires fresh { fresh_from (arc_value words.now) config.now.senders seats.items }
     ensures count { IfOk result (λ s. length s.items ≡ config.now.receivers) }
-    ensures fresh { IfOk result (λ s. fresh_from words.now config.now.senders s.items) }
+    ensures fresh { IfOk result (λ s. fresh_from (arc_value words.now) config.now.senders s.items) }
 {
     let mut receivers = Vec::new(alloc);
     for place in 0..config.receivers {
         let seat = seats.remove(0);
-        receivers.push(receiver_on(words.share()?, seat, config, place))?;
+        receivers.push(receiver_on(Arc::try_clone(words)?, seat, config, place))?;
     }
     Ok(receivers)
 }
@@ -128,8 +130,9 @@ fn over_words(alloc: Global, words: OpenedWords, config: &Config) -> Result<Open
         senders,
         receivers,
     } = words;
-    let senders = all_senders(alloc, &words, senders, config)?;
-    let receivers = all_receivers(alloc, &words, receivers, config)?;
+    let shared = Arc::new(alloc, words.share()?)?;
+    let senders = all_senders(alloc, &shared, senders, config)?;
+    let receivers = all_receivers(alloc, &shared, receivers, config)?;
     Ok(Opened {
         queue: Queue {
             words,

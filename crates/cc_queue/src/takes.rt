@@ -8,8 +8,7 @@ ghost use Rattle.cc_steps.specs.Seen.{Onward};
 ghost use Rattle.cc_steps.specs.Walk.{IsOf, IsReadyToStep};
 ghost use Rattle.cc_queue.specs.Work.{IsOn, worked_to, tally, reads, marks, hands, scans};
 
-use crate::codes::CODE;
-use cc_machine::{Chain, ItemField, Job, NodeField, Object, Parcel};
+use cc_machine::{CODE, Chain, ItemField, Job, NodeField, Object, Parcel};
 use cc_steps::seats::PassSeat;
 use cc_steps::steps;
 use cc_steps::words::Words;

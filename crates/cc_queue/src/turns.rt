@@ -10,9 +10,8 @@ ghost use Rattle.cc_steps.specs.Seen.{Onward};
 ghost use Rattle.cc_steps.specs.Walk.{IsOf, IsReadyToStep, IsToldAt};
 ghost use Rattle.cc_queue.specs.Work.{IsOn, IsListWith, worked_to, tally, reads, marks, hands, scans};
 
-use crate::codes::CODE;
 use crate::combine::combine;
-use cc_machine::{Chain, NodeField};
+use cc_machine::{CODE, Chain, NodeField};
 use cc_model::{Config, Item, TakeAnswer, unpack};
 use cc_steps::seats::PassSeat;
 use cc_steps::steps;
