@@ -12,5 +12,7 @@ mod beside;
 #[cfg(test)]
 mod calls;
 mod held;
+#[cfg(test)]
+mod shared_fifo;
 
 pub use held::{HeldReceiver, HeldSender, Passes};

@@ -4,8 +4,6 @@
 mod jobs;
 mod kept;
 mod round;
-#[cfg(test)]
-mod tests;
 mod workers;
 
 pub use jobs::{SendJob, TakeJob};

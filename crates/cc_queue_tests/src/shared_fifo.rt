@@ -1,6 +1,7 @@
-use crate::round::play_round;
+//! Threads on one queue.
 use cc_audit::Verdict;
 use cc_model::{CloseAnswer, Config};
+use cc_queue_threads::play_round;
 use std::test::Fail;
 
 /// Two threads send 1,000 items each through a queue for four, each again where the queue is full. Two threads take them,
