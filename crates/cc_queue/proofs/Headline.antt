@@ -1,14 +1,11 @@
 -- What a pass has seen stands in one history.
-use Rattle.std.proofs.Common.{◌≡◌, ◌≢◌, ℕ, zero, suc, ◌+◌, ◌*◌, ◌≤◌, ◌==◌, if◌then◌else◌, List, [], ◌∷◌, ◌++◌, map, refl, sym, ap, ◌∙◌, subst, append-nil, append_assoc, arith}
+use Rattle.std.proofs.Common.{◌≡◌, ◌≢◌, ℕ, ◌+◌, ◌*◌, ◌≤◌, ◌==◌, if◌then◌else◌, List, [], ◌∷◌, ◌++◌, map, refl, sym, ap, ◌∙◌, subst, append-nil, append_assoc, Bool, true, false, nat_lt, ◌-◌}
 use Rattle.cc_model.specs.declared.config.Config.{Config}
 use Rattle.cc_model.specs.Items.{Begins, calls_of}
 use Rattle.cc_model.specs.declared.call.Answer.{Answer}
 use Rattle.cc_model.specs.declared.call.Call.{Call}
-use Rattle.cc_model.specs.declared.call.Call.TheVariants as call
-use Rattle.cc_model.specs.declared.call.Answer.TheVariants as answer
 use Rattle.cc_model.specs.declared.call.TakeAnswer.{TakeAnswer}
 use Rattle.cc_model.specs.declared.call.TakeAnswer.TheVariants as take
-use Rattle.std.specs.List.{All}
 use Rattle.cc_model.specs.declared.call.Entry.{Entry}
 use Rattle.cc_machine.specs.declared.run.Move.{Move}
 use Rattle.cc_machine.specs.declared.setting.Setting.{Setting}
@@ -18,6 +15,8 @@ use Rattle.cc_machine.specs.declared.place.Kind.TheVariants as kind
 use Rattle.cc_machine.specs.declared.place.Place.{Place}
 use Rattle.cc_machine.specs.declared.place.Place.TheVariants as place
 use Rattle.cc_machine.specs.Machine.{IsLastAnswer}
+use Rattle.cc_machine.specs.declared.word.Chain.TheVariants.{Send, Take}
+use Rattle.cc_model.specs.declared.call.Pass.TheVariants as pass
 use Rattle.cc_machine.specs.Run.{IsRun, history_of, reached, begun_after}
 use Rattle.cc_machine.specs.CallsMade.{made, to_exchange}
 use Rattle.cc_machine.proofs.CallsMade.{calls_made}
@@ -26,9 +25,9 @@ use Rattle.cc_machine.proofs.ListRuns.Laws.{history_is_legal, history_is_fifo}
 use Rattle.cc_steps.specs.Seen.{Onward, GoesOn, stand_in, made_in}
 use Rattle.cc_steps.specs.Topic.{Topic}
 use Rattle.cc_steps.specs.Walk.{Walk, IsOf, IsSameSeat, IsSound, IsPendingIn}
-use Rattle.cc_queue.specs.Headline.{StandsInOne, entry_of, name, history}
-use Rattle.cc_queue.specs.Work.{worked_to, tally, reads, marks, hands, scans}
-use Rattle.cc_queue.specs.Calls.{Begun, Waited, Answered, Ended, Completed, IsSettled, TakenUntil}
+use Rattle.cc_queue.specs.Headline.{StandsInOne, IsReceiver, entry_of, name, history}
+use Rattle.cc_queue.specs.Work.{IsOn, worked_to, tally, reads, marks, hands, scans}
+use Rattle.cc_queue.specs.Calls.{Begun, Waited, Answered, Ended, Completed, IsSettled}
 use Rattle.cc_queue.specs.Codes.{IsSendAnswer, IsCloseAnswer}
 use Rattle.cc_queue.specs.Kept.{MadeLast, IsSend, IsClose}
 use Rattle.cc_queue.proofs.AnswerKinds.{send_answered, close_answered}
@@ -151,43 +150,16 @@ completed_so a b c call told f g = record { stands = stands_more a b c (entry_of
 pub pending_stands : (u v : Walk) (begun node : ℕ) → v ≡ u → v.setting.served ≡ served.List → v.stand ≡ record { begun = begun; node = node; place = place.ReadState } → IsSound v → StandsInOne u [] u
 pending_stands u v begun node is list stand s = subst (λ (x : Walk). StandsInOne x [] x) is (stands_on v v [] begun node place.ReadState stand refl s list (refl, refl, refl) (λ first k. k) (sym (append-nil v.made)))
 
--- takes that were all answered Empty so far
-pub record Trying (v w : Walk) : Type 0 where
-  pub earlier : List Entry
-  pub takes : All (λ e. e.call ≡ call.Take) earlier
-  pub stands : StandsInOne v earlier w
-
-all_more : (P : Entry → Type 0) (xs : List Entry) (x : Entry) → All P xs → P x → All P (xs ++ x ∷ [])
-all_more P [] x all p zero d less = p
-all_more P [] x all p (suc i) d less = absurd (omega (arith, less))
-all_more P (y ∷ xs) x all p zero d less = all 0 d (omega arith)
-all_more P (y ∷ xs) x all p (suc i) d less = all_more P xs x (λ k e l. all (suc k) e (omega (arith, l))) p i d (omega (arith, less))
-
--- before the first of them
-pub trying_none : (v : Walk) → StandsInOne v [] v → Trying v v
-trying_none v s = record { earlier = []; takes = λ k d less. absurd (omega (arith, less)); stands = s }
-
--- one more
-pub trying_more : (v w x : Walk) (told : Answer) → Trying v w → Completed w call.Take told x → Trying v x
-trying_more v w x told t c = record {
-  earlier = t.earlier ++ entry_of w call.Take ∷ [];
-  takes = all_more (λ e. e.call ≡ call.Take) t.earlier (entry_of w call.Take) t.takes refl;
-  stands = stands_more v w x t.earlier (entry_of w call.Take ∷ []) t.stands c.stands;
-}
-
--- the last one
-pub taken_so : (v w x : Walk) (told : TakeAnswer) → Trying v w → Completed w call.Take (answer.Take told) x → IsSettled told → TakenUntil v told x
-taken_so v w x told t c settled = record {
-  earlier = t.earlier;
-  entry = entry_of w call.Take;
-  takes = all_more (λ e. e.call ≡ call.Take) t.earlier (entry_of w call.Take) t.takes refl;
-  stands = stands_more v w x t.earlier (entry_of w call.Take ∷ []) t.stands c.stands;
-  last = c.last;
-  settled = settled;
-}
-
 -- an answer that isn't Empty
 pub settled_unless : (told : TakeAnswer) → told ≢ take.Empty → IsSettled told
 settled_unless take.Empty ne = absurd (ne refl)
 settled_unless (take.Got item) ne = tt
 settled_unless (take.Ended total) ne = tt
+
+-- a pass of the receivers' chain is a receiver
+pub is_receiver : (u v : Walk) → v ≡ u → IsOn v (Take 0) → IsReceiver (name u)
+is_receiver u v is on = subst (λ (x : Walk). IsReceiver (name x)) is (go (nat_lt v.number v.setting.config.senders) on)
+  where
+    go : (b : Bool) → (if b then Send else Take 0) ≡ Take 0 → IsReceiver (if b then pass.Sender (v.number + 1) else pass.Receiver (v.number - v.setting.config.senders + 1))
+    go true e = absurd (cc e)
+    go false e = tt

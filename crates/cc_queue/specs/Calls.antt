@@ -1,11 +1,12 @@
 -- What the begin of a call and each of its turns tell.
-use Rattle.std.specs.Prelude.{◌≡◌, ℕ, ◌+◌, ◌*◌, ◌≤◌, ◌==◌, if◌then◌else◌, List, [], ◌∷◌, ◌++◌}
+use Rattle.std.specs.Prelude.{◌≡◌, ℕ, ◌+◌, ◌*◌, ◌≤◌, ◌==◌, if◌then◌else◌, List, [], ◌∷◌, ◌++◌, map, Option, Some}
 use Rattle.std.specs.List.{All}
 use Rattle.cc_model.specs.declared.call.Call.{Call}
 use Rattle.cc_model.specs.declared.call.Call.TheVariants as call
 use Rattle.cc_model.specs.declared.call.Entry.{Entry}
 use Rattle.cc_model.specs.declared.call.TakeAnswer.{TakeAnswer}
 use Rattle.cc_model.specs.declared.call.TakeAnswer.TheVariants as take
+use Rattle.cc_model.specs.Items.{calls_of}
 use Rattle.cc_model.specs.declared.call.Answer.{Answer}
 use Rattle.cc_model.specs.declared.call.Answer.TheVariants as answer
 use Rattle.cc_machine.specs.declared.place.Kind.TheVariants as kind
@@ -79,12 +80,17 @@ abbrev pub IsSettled : TakeAnswer → Type 0
 IsSettled take.Empty = ⊥
 IsSettled _ = Unit {0}
 
--- Takes that were made until one of them gave an item or the end. All of them stand in one history, and the answer is
--- that of the last one.
+-- a take that was answered that there was no item
+abbrev pub found_none : Entry → Entry × Option Answer
+found_none e = (e, Some (answer.Take take.Empty))
+
+-- Takes that were made until one of them gave an item or the end. All of them stand in one history as the pass's last
+-- calls: the earlier ones were answered Empty, and the last one so.
 pub record TakenUntil (v : Walk) (told : TakeAnswer) (w : Walk) : Type 0 where
   pub earlier : List Entry
   pub entry : Entry
   pub takes : All (λ e. e.call ≡ call.Take) (earlier ++ entry ∷ [])
   pub stands : StandsInOne v (earlier ++ entry ∷ []) w
-  pub last : IsLastAnswer (name w) (history w) (answer.Take told)
+  pub before : List (Entry × Option Answer)
+  pub answers : calls_of (name w) (history w) ≡ (before ++ map found_none earlier) ++ (entry, Some (answer.Take told)) ∷ []
   pub settled : IsSettled told

@@ -7,6 +7,7 @@ use Rattle.cc_model.specs.Fifo.{Fifo}
 use Rattle.cc_model.specs.declared.call.Call.{Call}
 use Rattle.cc_model.specs.declared.call.Entry.{Entry}
 use Rattle.cc_model.specs.declared.call.Pass.{Pass}
+use Rattle.cc_model.specs.declared.call.Pass.TheVariants as pass
 use Rattle.cc_machine.specs.State.{pass_at}
 use Rattle.cc_machine.specs.Run.{IsRun, history_of, number_of}
 use Rattle.cc_steps.specs.Seen.{Onward, known_in}
@@ -36,3 +37,8 @@ pub record StandsInOne (v : Walk) (calls : List Entry) (w : Walk) : Type 0 where
   pub fifo : Fifo (history w)
   pub made : w.made ≡ v.made ++ calls
   pub calls_are : map (λ z. z.0) (calls_of (name w) (history w)) ≡ w.made
+
+-- the pass is a receiver
+abbrev pub IsReceiver : Pass → Type 0
+IsReceiver (pass.Receiver r) = Unit {0}
+IsReceiver _ = ⊥

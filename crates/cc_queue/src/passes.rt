@@ -1,6 +1,6 @@
 //! The passes of a queue: its senders and receivers, idle or with a pending call; and what a turn answers.
 ghost use Rattle.std.specs.Prelude.{[]};
-ghost use Rattle.cc_queue.specs.Headline.{StandsInOne};
+ghost use Rattle.cc_queue.specs.Headline.{StandsInOne, IsReceiver, name};
 ghost use Rattle.cc_queue.specs.Met.{HasMet};
 
 use cc_model::{CloseAnswer, SendAnswer, TakeAnswer};
@@ -165,9 +165,10 @@ impl Sender {
 }
 
 impl Receiver {
-    /// All that the receiver has seen stands in one history.
+    /// All that the receiver has seen stands in one history, in which it is a receiver.
     pub(crate) fn stands(&self)
-        ensures { HasMet self.now self.now }
+        ensures met { HasMet self.now self.now }
+        ensures named { IsReceiver (name self.now) }
     {
         self.seat.stands();
     }

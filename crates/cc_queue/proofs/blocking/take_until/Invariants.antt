@@ -1,5 +1,5 @@
 use Rattle.cc_steps.specs.Walk.{IsOf}
-use Rattle.cc_queue.proofs.Headline.{Trying}
+use Rattle.cc_queue.proofs.Trying.{Trying}
 use Rattle.cc_queue.proofs.blocking.take_until.Given as goal
 
 abbrev pub invariant-loop : goal.invariant-loop

@@ -1,5 +1,9 @@
 use Rattle.cc_queue.proofs.Meetings.{met_self}
+use Rattle.cc_queue.proofs.Headline.{is_receiver}
 use Rattle.cc_queue.proofs.passes.Receiver.stands.Goals as goal
 
-pub returns : goal.returns
-returns c = met_self _ c.self.inside.seat 0 c.self.inside.node c.self.view_is c.self.invariant.list c.self.invariant.stand c.stands.ensures
+pub returns-clause-met : goal.returns-clause-met
+returns-clause-met c = met_self _ c.self.inside.seat 0 c.self.inside.node c.self.view_is c.self.invariant.list c.self.invariant.stand c.stands.ensures
+
+pub returns-clause-named : goal.returns-clause-named
+returns-clause-named c = is_receiver _ c.self.inside.seat c.self.view_is c.self.invariant.chain
