@@ -41,6 +41,36 @@ impl Source for CutReader<'_> {
     }
 }
 
+/// A source that gives one byte a call.
+#[derive(Drop)]
+struct OneByte<'a> {
+    rest: &'a [u8],
+    calls: u64,
+}
+
+impl Source for OneByte<'_> {
+    ghost use Rattle.std.specs.Prelude.{Some};
+
+    ghost bytes_left = { λ s. Some s.rest.now };
+
+    ghost read_failures = { λ s. 0 };
+
+    fn read_some(&mut self, buffer: &mut [u8]) -> Result<usize, DeviceFault> {
+        self.calls = self.calls.saturating_add(1);
+        if self.rest.is_empty() || buffer.is_empty() {
+            return Ok(0);
+        }
+        let (now, later) = self.rest.split_at(1);
+        buffer[..1].copy_from_slice(now);
+        self.rest = later;
+        Ok(1)
+    }
+
+    fn failures(&self) -> u64 {
+        0
+    }
+}
+
 /// How a sink refuses: by an error, or by taking nothing.
 #[derive(Clone, Copy, PartialEq, Eq)]
 enum Refusal {
@@ -185,4 +215,18 @@ fn failing_devices_have_a_status(rt: HostRuntime) {
         let status = tell(&mut errors, Err(fault));
         assert_eq!(rt; status, 4, "a failure on standard error changes no status");
     }
+}
+
+#[test]
+fn one_byte_a_read(rt: HostRuntime) -> Result<(), Fail> {
+    let alloc = rt.alloc();
+    let mut source = OneByte {
+        rest: FIRST.as_bytes(),
+        calls: 0,
+    };
+    let mut sink = CutWriter::new(alloc, usize::MAX, usize::MAX, Refusal::Error);
+    assert!(rt; play(alloc, &mut source, &mut sink).is_ok());
+    assert_eq!(rt; source.calls as usize, FIRST.len() + 1);
+    assert_eq!(rt; sink.taken.as_slice(), REPORT.as_bytes());
+    Ok(())
 }
