@@ -35,6 +35,16 @@ impl Backoff {
 
 const BOUND: u32 = 8;
 
+/// Takes items until there are no more, and counts them.
+fn take_all(mut next: impl FnMut() -> Option<u64>) -> u64 {
+    let mut got = 0;
+    while let Some(body) = next() {
+        std::hint::black_box(body);
+        got += 1;
+    }
+    got
+}
+
 fn steps(senders: usize, receivers: usize, capacity: usize, items: u64) -> u64 {
     let (queue, all, takers) = Queue::open(senders, receivers, capacity as u64, BOUND);
     let left = AtomicUsize::new(senders);
@@ -43,21 +53,16 @@ fn steps(senders: usize, receivers: usize, capacity: usize, items: u64) -> u64 {
         for mut receiver in takers {
             let (queue, passed) = (&queue, &passed);
             scope.spawn(move || {
-                let mut got = 0;
-                'items: loop {
+                let got = take_all(|| {
                     let backoff = Backoff::new();
                     loop {
                         match queue.take(&mut receiver) {
-                            Taken::Got(body) => {
-                                std::hint::black_box(body);
-                                got += 1;
-                                break;
-                            }
+                            Taken::Got(body) => return Some(body),
                             Taken::Empty => backoff.snooze(),
-                            Taken::Ended => break 'items,
+                            Taken::Ended => return None,
                         }
                     }
-                }
+                });
                 passed.fetch_add(got, SeqCst);
             });
         }
@@ -105,18 +110,16 @@ fn mutex(senders: usize, receivers: usize, capacity: usize, items: u64) -> u64 {
     thread::scope(|scope| {
         for _ in 0..receivers {
             scope.spawn(|| {
-                let mut got = 0;
-                loop {
+                let got = take_all(|| {
                     let mut inner = queue.inner.lock().unwrap();
                     while inner.0.is_empty() && !inner.1 {
                         inner = queue.not_empty.wait(inner).unwrap();
                     }
-                    let Some(body) = inner.0.pop_front() else { break };
+                    let body = inner.0.pop_front()?;
                     drop(inner);
                     queue.not_full.notify_one();
-                    std::hint::black_box(body);
-                    got += 1;
-                }
+                    Some(body)
+                });
                 passed.fetch_add(got, SeqCst);
             });
         }
@@ -149,13 +152,7 @@ fn sync_channel(senders: usize, receivers: usize, capacity: usize, items: u64) -
     thread::scope(|scope| {
         for _ in 0..receivers {
             scope.spawn(|| {
-                let mut got = 0;
-                loop {
-                    let next = receiver.lock().unwrap().recv();
-                    let Ok(body) = next else { break };
-                    std::hint::black_box::<u64>(body);
-                    got += 1;
-                }
+                let got = take_all(|| receiver.lock().unwrap().recv().ok());
                 passed.fetch_add(got, SeqCst);
             });
         }
