@@ -3,32 +3,42 @@ use Rattle.std.proofs.Common.{◌≡◌, ℕ, zero, suc, ◌+◌, ◌<◌, List,
 use Rattle.std.specs.Borrow.{Bor}
 use Rattle.std.proofs.Math.Seq.{take-suc}
 use Rattle.std.proofs.lemmas.List.Elements.{All-push}
+use Rattle.std.proofs.lemmas.List.{map-append}
 use Rattle.std.proofs.lemmas.Option.{none-some}
 use Rattle.cc_model.specs.declared.config.Config.{Config}
+use Rattle.cc_machine.specs.declared.setting.Setting.{Setting}
+use Rattle.cc_machine.specs.declared.setting.Served.TheVariants as served
 use Rattle.cc_steps.specs.Topic.{Topic}
 use Rattle.cc_queue.specs.Opened as queue
 use Rattle.cc_broker.specs.Names.{AreDistinct}
-use Rattle.cc_broker.specs.Topics.{names, asked_names}
-use Rattle.cc_broker.specs.Opened.{AreOpened, Senders, Receivers}
+use Rattle.cc_broker.specs.Topics.{names, queues, settings, asked_names, asked_settings}
+use Rattle.cc_broker.specs.Opened.{AreItsPasses, AreTheirPasses, Senders, Receivers}
 
-pub opened_push : (asked : List (Bor (List ℕ) × Config)) (topics : List (List ℕ × Topic)) (passes : List (Senders × Receivers)) (a : Bor (List ℕ) × Config) (t : List ℕ × Topic) (p : Senders × Receivers)
-    → AreOpened asked topics passes → t.0 ≡ a.0.now → queue.HasOpened a.1 record { queue = t.1; senders = p.0; receivers = p.1 }
-    → AreOpened (asked ++ a ∷ []) (topics ++ t ∷ []) (passes ++ p ∷ [])
-opened_push [] [] [] a t p so name one = (name, one, tt)
-opened_push (b ∷ bs) (u ∷ us) (q ∷ qs) a t p so name one = (so.0, so.1, opened_push bs us qs a t p so.2 name one)
-opened_push [] [] (q ∷ qs) a t p so name one = absurd so
-opened_push [] (u ∷ us) qs a t p so name one = absurd so
-opened_push (b ∷ bs) [] qs a t p so name one = absurd so
-opened_push (b ∷ bs) (u ∷ us) [] a t p so name one = absurd so
+-- the topics and passes so far: the names and settings are those that were asked for, and the passes those of the queues
+pub record Opened (asked : List (Bor (List ℕ) × Config)) (topics : List (List ℕ × Topic)) (passes : List (Senders × Receivers)) : Type 0 where
+  pub names_are : names topics ≡ asked_names asked
+  pub settings_are : settings topics ≡ asked_settings asked
+  pub passes_are : AreTheirPasses (queues topics) passes
 
--- the names of the topics so far are those that were asked for first
-pub names_of_opened : (asked : List (Bor (List ℕ) × Config)) (topics : List (List ℕ × Topic)) (passes : List (Senders × Receivers)) → AreOpened asked topics passes → names topics ≡ asked_names asked
-names_of_opened [] [] [] so = refl
-names_of_opened (b ∷ bs) (u ∷ us) (q ∷ qs) so = λ i. so.0 i ∷ names_of_opened bs us qs so.2 i
-names_of_opened [] [] (q ∷ qs) so = absurd so
-names_of_opened [] (u ∷ us) qs so = absurd so
-names_of_opened (b ∷ bs) [] qs so = absurd so
-names_of_opened (b ∷ bs) (u ∷ us) [] so = absurd so
+passes_push : (queues : List Topic) (passes : List (Senders × Receivers)) (z : Topic) (p : Senders × Receivers)
+    → AreTheirPasses queues passes → AreItsPasses z p → AreTheirPasses (queues ++ z ∷ []) (passes ++ p ∷ [])
+passes_push [] [] z p so one = (one, tt)
+passes_push (y ∷ ys) (q ∷ qs) z p so one = (so.0, passes_push ys qs z p so.1 one)
+passes_push [] (q ∷ qs) z p so one = absurd so
+passes_push (y ∷ ys) [] z p so one = absurd so
+
+-- the passes of a queue that was opened are its passes
+its_passes : (c : Config) (z : Topic) (p : Senders × Receivers) → queue.HasOpened c record { queue = z; senders = p.0; receivers = p.1 } → AreItsPasses z p
+its_passes c z p h = subst (λ d. queue.HasOpened d record { queue = z; senders = p.0; receivers = p.1 }) (sym (ap (λ (s : Setting). s.config) h.setting)) h
+
+opened_push : (asked : List (Bor (List ℕ) × Config)) (topics : List (List ℕ × Topic)) (passes : List (Senders × Receivers)) (a : Bor (List ℕ) × Config) (t : List ℕ × Topic) (p : Senders × Receivers)
+    → Opened asked topics passes → t.0 ≡ a.0.now → queue.HasOpened a.1 record { queue = t.1; senders = p.0; receivers = p.1 }
+    → Opened (asked ++ a ∷ []) (topics ++ t ∷ []) (passes ++ p ∷ [])
+opened_push asked topics passes a t p so name one = record {
+  names_are = map-append (λ t. t.0) topics (t ∷ []) ∙ (λ i. so.names_are i ++ name i ∷ []) ∙ sym (map-append (λ t. t.0.now) asked (a ∷ []));
+  settings_are = map-append (λ t. t.1.setting) topics (t ∷ []) ∙ (λ i. so.settings_are i ++ one.setting i ∷ []) ∙ sym (map-append (λ t. record { served = served.List; config = t.1 }) asked (a ∷ []));
+  passes_are = subst (λ zs. AreTheirPasses zs (passes ++ p ∷ [])) (sym (map-append (λ t. t.1) topics (t ∷ []))) (passes_push (queues topics) passes t.1 p so.passes_are (its_passes a.1 t.1 p one));
+}
 
 -- a name before this place
 name_before : (asked : List (Bor (List ℕ) × Config)) (n i : ℕ) (name : List ℕ) → slice_get (asked_names (take n asked)) i ≡ Some name → (i < n) × (slice_get (asked_names asked) i ≡ Some name)
@@ -47,9 +57,9 @@ name_at (a ∷ rest) (suc n) d some =
 
 -- so the next name is new
 pub next_name : (asked : List (Bor (List ℕ) × Config)) (topics : List (List ℕ × Topic)) (passes : List (Senders × Receivers)) (n : ℕ) (d : Bor (List ℕ) × Config)
-    → AreDistinct (asked_names asked) → n < length asked → AreOpened (take n asked) topics passes → (i : ℕ) → slice_get (names topics) i ≡ Some (slice_index_or asked n d).0.now → ⊥
+    → AreDistinct (asked_names asked) → n < length asked → Opened (take n asked) topics passes → (i : ℕ) → slice_get (names topics) i ≡ Some (slice_index_or asked n d).0.now → ⊥
 next_name asked topics passes n d distinct some so i e =
-    let before = name_before asked n i _ (sym (ap (λ l. slice_get l i) (names_of_opened _ _ _ so)) ∙ e) in
+    let before = name_before asked n i _ (sym (ap (λ l. slice_get l i) so.names_are) ∙ e) in
     let here = name_at asked n d some in
     distinct n record { before = i; earlier = before.0; within = here.1; same = before.1 ∙ sym here.0 }
 
@@ -62,10 +72,10 @@ next_place xs n d some = ap (λ m. take m xs) next ∙ take-suc xs n d some
 
 -- the topic at the next place was opened too
 pub next_opened : (asked : List (Bor (List ℕ) × Config)) (n : ℕ) (d : Bor (List ℕ) × Config) (topics topics' : List (List ℕ × Topic)) (passes passes' : List (Senders × Receivers)) (t : List ℕ × Topic) (p : Senders × Receivers)
-    → n < length asked → AreOpened (take n asked) topics passes → t.0 ≡ (slice_index_or asked n d).0.now → queue.HasOpened (slice_index_or asked n d).1 record { queue = t.1; senders = p.0; receivers = p.1 }
-    → topics' ≡ topics ++ t ∷ [] → passes' ≡ passes ++ p ∷ [] → AreOpened (take (n + 1) asked) topics' passes'
+    → n < length asked → Opened (take n asked) topics passes → t.0 ≡ (slice_index_or asked n d).0.now → queue.HasOpened (slice_index_or asked n d).1 record { queue = t.1; senders = p.0; receivers = p.1 }
+    → topics' ≡ topics ++ t ∷ [] → passes' ≡ passes ++ p ∷ [] → Opened (take (n + 1) asked) topics' passes'
 next_opened asked n d topics topics' passes passes' t p some so name one ts ps =
-    subst (λ (y : List (Bor (List ℕ) × Config) × List (List ℕ × Topic) × List (Senders × Receivers)). AreOpened y.0 y.1 y.2)
+    subst (λ (y : List (Bor (List ℕ) × Config) × List (List ℕ × Topic) × List (Senders × Receivers)). Opened y.0 y.1 y.2)
     (λ i. (sym (next_place asked n d some) i, sym ts i, sym ps i))
     (opened_push (take n asked) topics passes (slice_index_or asked n d) t p so name one)
 

@@ -11,7 +11,7 @@ use Rattle.cc_queue.specs.declared.passes.Sender.{Sender}
 use Rattle.cc_queue.specs.declared.passes.Receiver.{Receiver}
 use Rattle.cc_queue.specs.Opened as queue
 use Rattle.cc_broker.specs.Names.{IsFirstDouble, AreDistinct}
-use Rattle.cc_broker.specs.Topics.{asked_names}
+use Rattle.cc_broker.specs.Topics.{names, queues, settings, asked_names, asked_settings}
 use Rattle.cc_broker.specs.declared.broker.BrokerFault.{BrokerFault}
 use Rattle.cc_broker.specs.declared.broker.BrokerFault.TheVariants as fault
 use Rattle.cc_broker.specs.declared.broker.OpenedBroker.{OpenedBroker}
@@ -23,20 +23,25 @@ Senders = Vec Sender Global
 abbrev pub Receivers : Type 0
 Receivers = Vec Receiver Global
 
--- Each topic that was asked for has its name, its own queue of its configuration, and all the passes of that queue, none
--- of which has begun a call or seen anything.
-abbrev pub AreOpened : List (Bor (List ℕ) × Config) → List (List ℕ × Topic) → List (Senders × Receivers) → Type 0
-AreOpened [] [] [] = Unit {0}
-AreOpened (a ∷ asked) (t ∷ topics) (p ∷ passes) =
-    (t.0 ≡ a.0.now) × queue.HasOpened a.1 record { queue = t.1; senders = p.0; receivers = p.1 } × AreOpened asked topics passes
-AreOpened _ _ _ = ⊥
+-- these are all the passes of this queue, and none has begun a call or seen anything
+abbrev pub AreItsPasses : Topic → Senders × Receivers → Type 0
+AreItsPasses z p = queue.HasOpened z.setting.config record { queue = z; senders = p.0; receivers = p.1 }
 
--- The names were few enough and distinct, each configuration was lawful, and each topic was opened.
+-- and these are those of these queues, in order
+abbrev pub AreTheirPasses : List Topic → List (Senders × Receivers) → Type 0
+AreTheirPasses [] [] = Unit {0}
+AreTheirPasses (z ∷ zs) (p ∷ ps) = AreItsPasses z p × AreTheirPasses zs ps
+AreTheirPasses _ _ = ⊥
+
+-- The names were few enough and distinct, and each configuration was lawful. The topics have these names, in order; each
+-- has a queue of its configuration, and the passes are those of these queues.
 pub record HasOpened (asked : List (Bor (List ℕ) × Config)) (o : OpenedBroker) : Type 0 where
   pub few : length asked ≤ 64
   pub distinct : AreDistinct (asked_names asked)
   pub lawful : All (λ a. config_fault a.1 ≡ Ok tt) asked
-  pub opened : AreOpened asked o.broker o.passes.items
+  pub names_are : names o.broker ≡ asked_names asked
+  pub settings_are : settings o.broker ≡ asked_settings asked
+  pub passes : AreTheirPasses (queues o.broker) o.passes.items
 
 -- the topic at this place is the first that wasn't opened, for this fault
 pub record IsTopicFault (asked : List (Bor (List ℕ) × Config)) (place : ℕ) (cause : OpenFault) : Type 0 where

@@ -2,8 +2,7 @@ use Rattle.std.proofs.Common.{◌≡◌, All, Ok, refl, subst, arith}
 use Rattle.std.proofs.lemmas.List.{take_all}
 use Rattle.std.proofs.lemmas.Option.{slice_get-get_or}
 use Rattle.cc_model.specs.Config.{config_fault}
-use Rattle.cc_broker.specs.Opened.{AreOpened}
-use Rattle.cc_broker.proofs.Built.{next_name, next_opened, next_holds}
+use Rattle.cc_broker.proofs.Built.{Opened, next_name, next_opened, next_holds}
 use Rattle.cc_broker.proofs.open.open_each.Goals as goal
 
 pub add-requires : goal.add-requires
@@ -32,9 +31,12 @@ loop-place-preserved c = (
 pub returns : goal.returns
 returns c =
     let whole = take_all c.loop-place.place c.args.topics.now (omega (arith, c.loop-place-test.false)) in
+    let so = subst (λ asked. Opened asked c.loop-place.opened.broker c.loop-place.opened.passes.items) whole c.loop-place.invariant.0 in
     record {
       few = c.requires.few;
       distinct = c.requires.distinct;
       lawful = subst (All (λ a. config_fault a.1 ≡ Ok tt)) whole c.loop-place.invariant.1;
-      opened = subst (λ asked. AreOpened asked c.loop-place.opened.broker c.loop-place.opened.passes.items) whole c.loop-place.invariant.0;
+      names_are = so.names_are;
+      settings_are = so.settings_are;
+      passes = so.passes_are;
     }

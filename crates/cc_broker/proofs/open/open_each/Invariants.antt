@@ -1,8 +1,8 @@
 use Rattle.std.proofs.Common.{◌≡◌, take, All, Ok}
 use Rattle.cc_model.specs.Config.{config_fault}
-use Rattle.cc_broker.specs.Opened.{AreOpened}
+use Rattle.cc_broker.proofs.Built.{Opened}
 use Rattle.cc_broker.proofs.open.open_each.Given as goal
 
 abbrev pub invariant-loop-place : goal.invariant-loop-place
 invariant-loop-place l =
-    AreOpened (take l.place l.fn.topics) l.opened.broker l.opened.passes.items × All (λ a. config_fault a.1 ≡ Ok tt) (take l.place l.fn.topics)
+    Opened (take l.place l.fn.topics) l.opened.broker l.opened.passes.items × All (λ a. config_fault a.1 ≡ Ok tt) (take l.place l.fn.topics)
