@@ -1,3 +1,4 @@
 pub mod Lookup
 pub mod Built
 pub mod Doubles
+pub mod NextPasses

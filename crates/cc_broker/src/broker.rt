@@ -28,7 +28,7 @@ impl Model for Broker {
 #[derive(Drop)]
 pub struct OpenedBroker {
     pub broker: Broker,
-    /// The senders and the receivers of each topic, in the order of the topics.
+    /// The senders and the receivers of each topic, in the order of the topics. `Broker::next_topic` takes them out.
     pub passes: Vec<(Vec<Sender>, Vec<Receiver>)>,
 }
 

@@ -1,11 +1,14 @@
 //! Topics by name: each is a queue of its own, with its own senders and receivers.
 //!
-//! `Broker::open` takes names with configurations, and gives the broker with the passes of all its queues. A contract
-//! sees a broker as the list of its names, each with the topic that its queue shows.
+//! `Broker::open` takes names with configurations, and gives the broker with the passes of all its queues. `next_topic`
+//! takes these out topic by topic, each with its queue, as `cc_queue` gives them at an opening. A contract sees a broker
+//! as the list of its names, each with the topic that its queue shows.
 #![tactic(auto)]
 
 mod broker;
 mod names;
 mod open;
+mod passes;
 
 pub use broker::{Broker, BrokerFault, OpenedBroker};
+pub use passes::OpenedTopic;
