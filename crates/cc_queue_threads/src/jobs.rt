@@ -21,7 +21,7 @@ pub struct TakeJob {
 }
 
 /// The first of these senders, the one at this place among all passes.
-pub fn next_sender(queue: &Queue, place: u32, senders: &mut Vec<Sender>) -> Option<Sender>
+pub fn next_sender(queue: &Queue, place: usize, senders: &mut Vec<Sender>) -> Option<Sender>
     requires { fresh_from queue.now place senders.old.items }
     ensures first { IfSome result (λ s. IsOf queue.now s) }
     ensures rest { IfSome result (λ s. fresh_from queue.now (place + 1) senders.new.items) }
@@ -35,7 +35,7 @@ pub fn next_sender(queue: &Queue, place: u32, senders: &mut Vec<Sender>) -> Opti
 }
 
 /// The first of these receivers, the one at this place among all passes.
-pub fn next_receiver(queue: &Queue, place: u32, receivers: &mut Vec<Receiver>) -> Option<Receiver>
+pub fn next_receiver(queue: &Queue, place: usize, receivers: &mut Vec<Receiver>) -> Option<Receiver>
     requires { fresh_from queue.now place receivers.old.items }
     ensures first { IfSome result (λ r. IsOf queue.now r) }
     ensures rest { IfSome result (λ r. fresh_from queue.now (place + 1) receivers.new.items) }
@@ -48,25 +48,24 @@ pub fn next_receiver(queue: &Queue, place: u32, receivers: &mut Vec<Receiver>) -
     Some(receivers.remove(0))
 }
 
-/// The senders behind the first one, with their numbers.
+/// The senders behind the first of so many, with their numbers.
 pub fn send_jobs(
     alloc: Global,
     queue: &Queue,
-    count: u32,
+    count: usize,
     mut senders: Vec<Sender>,
 ) -> Result<Vec<SendJob>, AllocError>
     requires { fresh_from queue.now 1 senders.items }
     ensures { IfOk result (λ v. All (λ j. IsOf queue.now j.sender) v.items) }
 {
     let mut jobs = Vec::new(alloc);
+    let mut number = 1u32;
     for place in 1..count {
         let Some(sender) = next_sender(queue, place, &mut senders) else {
             break;
         };
-        jobs.push(SendJob {
-            number: place.saturating_add(1),
-            sender,
-        })?;
+        number = number.saturating_add(1);
+        jobs.push(SendJob { number, sender })?;
     }
     Ok(jobs)
 }
@@ -75,22 +74,20 @@ pub fn send_jobs(
 pub fn take_jobs(
     alloc: Global,
     queue: &Queue,
-    senders: u32,
-    count: u32,
+    senders: usize,
     mut receivers: Vec<Receiver>,
 ) -> Result<Vec<TakeJob>, AllocError>
     requires { fresh_from queue.now senders receivers.items }
     ensures { IfOk result (λ v. All (λ j. IsOf queue.now j.receiver) v.items) }
 {
     let mut jobs = Vec::new(alloc);
-    for place in senders..senders.saturating_add(count) {
+    let mut number = 0u32;
+    for place in senders..senders.saturating_add(receivers.len()) {
         let Some(receiver) = next_receiver(queue, place, &mut receivers) else {
             break;
         };
-        jobs.push(TakeJob {
-            number: place.saturating_sub(senders).saturating_add(1),
-            receiver,
-        })?;
+        number = number.saturating_add(1);
+        jobs.push(TakeJob { number, receiver })?;
     }
     Ok(jobs)
 }

@@ -8,4 +8,4 @@ mod workers;
 
 pub use jobs::{SendJob, TakeJob};
 pub use kept::Kept;
-pub use round::{Outcome, RoundFault, play_round};
+pub use round::{Outcome, RoundFault, play_opened, play_round};

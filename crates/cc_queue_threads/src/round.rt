@@ -1,7 +1,7 @@
 //! A round: threads that send beside threads that take, until all is taken.
-ghost use Rattle.std.specs.Prelude.{◌≡◌, ◌+◌, IfOk};
+ghost use Rattle.std.specs.Prelude.{◌≡◌, ◌+◌, IfOk, vec_len};
 ghost use Rattle.std.specs.List.{All};
-ghost use Rattle.cc_steps.specs.Walk.{IsOf};
+ghost use Rattle.cc_steps.specs.Walk.{IsOf, fresh_from};
 
 use crate::jobs::{SendJob, TakeJob, next_sender, send_jobs, take_jobs};
 use crate::kept::Kept;
@@ -9,7 +9,7 @@ use crate::workers::{send_all, take_all};
 use cc_audit::{Verdict, audit};
 use cc_machine::OpenFault;
 use cc_model::{CloseAnswer, Config};
-use cc_queue::{Queue, Receiver, Sender, close, meet_all};
+use cc_queue::{Opened, Queue, Receiver, Sender, close, meet_all};
 use std::alloc::{AllocError, Global};
 use std::sync::{Mutex, Wait};
 use std::thread::{Threads, join, map_vec};
@@ -140,31 +140,28 @@ fn meet_everyone(
     Ok(())
 }
 
-/// Opens a queue of this configuration. Each of its senders but the first sends `items` items in a thread of its own, and
-/// each of its receivers takes in a thread of its own until the queue has ended; the first sender closes it when all
-/// items are sent. Then all passes meet, and the receipts are audited.
-pub fn play_round<R: Threads + Wait + Sync>(
+/// A round of a queue that was opened, with all its passes. Each of its senders but the first sends `items` items in a
+/// thread of its own, and each of its receivers takes in a thread of its own until the queue has ended; the first sender
+/// closes it when all items are sent. Then all passes meet, and the receipts are audited.
+pub fn play_opened<R: Threads + Wait + Sync>(
     rt: &R,
     alloc: Global,
-    config: &Config,
+    queue: &Queue,
+    mut senders: Vec<Sender>,
+    receivers: Vec<Receiver>,
     items: u64,
-) -> Result<Outcome, RoundFault> {
-    let opened = Queue::open(alloc, config)?;
-    let queue = opened.queue;
-    let mut senders = opened.senders;
-    let Some(closer) = next_sender(&queue, 0, &mut senders) else {
+) -> Result<Outcome, RoundFault>
+    requires senders { fresh_from queue.now 0 senders.items }
+    requires receivers { fresh_from queue.now (vec_len senders) receivers.items }
+{
+    let count = senders.len();
+    let Some(closer) = next_sender(queue, 0, &mut senders) else {
         return Err(RoundFault::NoCloser);
     };
     let kept = Mutex::new(Kept::new(alloc));
-    let senders = send_jobs(alloc, &queue, config.senders, senders)?;
-    let receivers = take_jobs(
-        alloc,
-        &queue,
-        config.senders,
-        config.receivers,
-        opened.receivers,
-    )?;
-    let close = both_sides(rt, alloc, &queue, &kept, items, closer, senders, receivers)?;
+    let senders = send_jobs(alloc, queue, count, senders)?;
+    let receivers = take_jobs(alloc, queue, count, receivers)?;
+    let close = both_sides(rt, alloc, queue, &kept, items, closer, senders, receivers)?;
     let kept = kept.into_inner();
     let (CloseAnswer::Shut { total } | CloseAnswer::Already { total }) = close;
     Ok(Outcome {
@@ -173,4 +170,19 @@ pub fn play_round<R: Threads + Wait + Sync>(
         verdict: audit(alloc, &kept.sends, &kept.takes, Some(total))?,
         lost: kept.lost,
     })
+}
+
+/// Opens a queue of this configuration, and plays such a round with it.
+pub fn play_round<R: Threads + Wait + Sync>(
+    rt: &R,
+    alloc: Global,
+    config: &Config,
+    items: u64,
+) -> Result<Outcome, RoundFault> {
+    let Opened {
+        queue,
+        senders,
+        receivers,
+    } = Queue::open(alloc, config)?;
+    play_opened(rt, alloc, &queue, senders, receivers, items)
 }
