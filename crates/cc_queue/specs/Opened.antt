@@ -1,13 +1,15 @@
 -- A queue at its opening.
-use Rattle.std.specs.Prelude.{◌≡◌, length}
+use Rattle.std.specs.Prelude.{◌≡◌, length, Ok}
+use Rattle.cc_model.specs.Config.{config_fault}
 use Rattle.cc_model.specs.declared.config.Config.{Config}
 use Rattle.cc_machine.specs.declared.setting.Served.TheVariants as served
 use Rattle.cc_steps.specs.Walk.{fresh_from}
 use Rattle.cc_queue.specs.declared.queue.Opened.{Opened}
 
--- The queue is a list with this configuration. It has all the senders and then all the receivers of it, each numbered
--- from 1, and none has begun a call or seen anything.
+-- The configuration is lawful, and the queue is a list with it. It has all the senders and then all the receivers of it,
+-- each numbered from 1, and none has begun a call or seen anything.
 pub record HasOpened (c : Config) (o : Opened) : Type 0 where
+  pub lawful : config_fault c ≡ Ok tt
   pub setting : o.queue.setting ≡ record { served = served.List; config = c }
   pub count_senders : length o.senders.items ≡ c.senders
   pub count_receivers : length o.receivers.items ≡ c.receivers
