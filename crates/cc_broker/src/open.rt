@@ -1,31 +1,17 @@
 //! The opening of a broker.
-ghost use Rattle.std.specs.Prelude.{◌≡◌, ◌≤◌, ℕ, [], ◌∷◌, ◌++◌, length, slice_get, Some, Ok, OnOk, MatchResult};
-ghost use Rattle.cc_model.specs.Config.{config_fault};
-ghost use Rattle.cc_machine.specs.Machine.{IsOpenFault};
-ghost use Rattle.cc_queue.specs.Opened as queue;
+ghost use Rattle.std.specs.Prelude.{◌≡◌, ◌≤◌, ℕ, [], ◌∷◌, ◌++◌, length, slice_get, Some, OnOk, MatchResult};
 ghost use Rattle.cc_broker.specs.Names.{AreDistinct};
 ghost use Rattle.cc_broker.specs.Topics.{names, asked_names};
 ghost use Rattle.cc_broker.specs.Opened.{HasOpened, IsBrokerFault};
 
 use crate::broker::{Broker, BrokerFault, OpenedBroker};
 use crate::names::first_double;
-use cc_machine::OpenFault;
 use cc_model::Config;
 use cc_queue::{Opened, Queue};
 use std::alloc::{AllocError, Global};
 
 /// More topics than these are too many.
 const MOST: usize = 64;
-
-/// Opens the queue of a topic.
-fn open_topic(alloc: Global, config: &Config) -> Result<Opened, OpenFault>
-    ensures { MatchResult result (λ o. queue.HasOpened config.now o × (config_fault config.now ≡ Ok tt)) (λ f. IsOpenFault config.now f) }
-{
-    match config.check() {
-        Ok(()) => Queue::open(alloc, config),
-        Err(fault) => Err(OpenFault::Config(fault)),
-    }
-}
 
 /// Adds a topic that was opened, at the end.
 fn add(
@@ -55,7 +41,7 @@ fn open_each(alloc: Global, topics: &[(&str, Config)]) -> Result<OpenedBroker, B
     };
     for place in 0..topics.len() {
         let (name, config) = topics[place];
-        match open_topic(alloc, &config) {
+        match Queue::open(alloc, &config) {
             Ok(topic) => add(alloc, &mut opened, name, topic)?,
             Err(fault) => return Err(BrokerFault::Topic(place, fault)),
         }

@@ -24,8 +24,8 @@ returns-in-Err c = (
 
 pub loop-place-preserved : goal.loop-place-preserved
 loop-place-preserved c = (
-  next_opened c.args.topics.now c.loop-place.place _ c.loop-place.opened.broker c.add.new.opened.broker c.loop-place.opened.passes.items c.add.new.opened.passes.items _ (c.in-Ok.topic.senders, c.in-Ok.topic.receivers) c.loop-place-test.true c.loop-place.invariant.0 refl c.in-Ok.ensures.0 c.in_ok-add-in-Ok.ensures.topics c.in_ok-add-in-Ok.ensures.passes,
-  next_holds (λ a. config_fault a.1 ≡ Ok tt) c.args.topics.now c.loop-place.place _ c.loop-place-test.true c.loop-place.invariant.1 c.in-Ok.ensures.1,
+  next_opened c.args.topics.now c.loop-place.place _ c.loop-place.opened.broker c.add.new.opened.broker c.loop-place.opened.passes.items c.add.new.opened.passes.items _ (c.in-Ok.topic.senders, c.in-Ok.topic.receivers) c.loop-place-test.true c.loop-place.invariant.0 refl c.in-Ok.ensures c.in_ok-add-in-Ok.ensures.topics c.in_ok-add-in-Ok.ensures.passes,
+  next_holds (λ a. config_fault a.1 ≡ Ok tt) c.args.topics.now c.loop-place.place _ c.loop-place-test.true c.loop-place.invariant.1 c.in-Ok.ensures.lawful,
 )
 
 pub returns : goal.returns
