@@ -1,4 +1,8 @@
+ghost use Rattle.std.specs.Prelude.{◌≡◌};
+ghost use Rattle.cc_machine.specs.declared.fault.OpenFault.TheVariants as fault;
+
 use cc_model::ConfigFault;
+use std::alloc::AllocError;
 
 /// Why a machine wasn't opened.
 #[derive(Clone, Copy, Debug, PartialEq, Eq)]
@@ -7,6 +11,14 @@ pub enum OpenFault {
     Config(ConfigFault),
     /// The configuration is right, and memory was refused.
     NoMemory,
+}
+
+impl From<AllocError> for OpenFault {
+    ghost from_gives = { λ _ f. f ≡ fault.NoMemory };
+
+    fn from(_: AllocError) -> OpenFault {
+        OpenFault::NoMemory
+    }
 }
 
 /// Why a call wasn't begun. Where several causes hold, the one that is answered is the first of no such pass, wrong side,

@@ -29,10 +29,7 @@ impl Board {
         if let Err(fault) = setting.config.check() {
             return Err(OpenFault::Config(fault));
         }
-        match open(alloc, setting) {
-            Ok(board) => Ok(board),
-            Err(_) => Err(OpenFault::NoMemory),
-        }
+        Ok(open(alloc, setting)?)
     }
 
     /// Whether a call is made on the side of its pass.

@@ -154,10 +154,7 @@ impl Queue {
             return Err(OpenFault::Config(fault));
         }
         let words = Words::open(alloc, config)?;
-        match over_words(alloc, words, config) {
-            Ok(opened) => Ok(opened),
-            Err(_) => Err(OpenFault::NoMemory),
-        }
+        Ok(over_words(alloc, words, config)?)
     }
 
     /// Its configuration was checked: a fact for proofs, and no work.
