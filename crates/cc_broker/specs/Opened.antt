@@ -1,5 +1,5 @@
 -- A broker at its opening, and why one wasn't opened.
-use Rattle.std.specs.Prelude.{◌≡◌, ℕ, ◌≤◌, ◌<◌, List, [], ◌∷◌, length, slice_get, Some, Ok, Vec, All, take}
+use Rattle.std.specs.Prelude.{◌≡◌, ℕ, ◌+◌, ◌≤◌, ◌<◌, List, [], ◌∷◌, length, slice_get, Some, Ok, Vec, All, take}
 use Rattle.std.specs.Borrow.{Bor}
 use Rattle.cc_model.specs.Config.{config_fault}
 use Rattle.cc_model.specs.declared.config.Config.{Config}
@@ -50,9 +50,15 @@ pub record IsTopicFault (asked : List (Bor (List ℕ) × Config)) (place : ℕ) 
   pub fault : IsOpenFault topic.1 cause
   pub lawful : All (λ a. config_fault a.1 ≡ Ok tt) (take place asked)
 
--- Too many topics are refused first, then a double name, and then the topics are opened in order.
+-- the topics up to this place can be opened: their configurations are lawful
+pub record CanOpenUpTo (asked : List (Bor (List ℕ) × Config)) (place : ℕ) : Type 0 where
+  pub within : place < length asked
+  pub lawful : All (λ a. config_fault a.1 ≡ Ok tt) (take (place + 1) asked)
+
+-- Too many topics are refused first, then a double name, and then the topics are opened in order. Other memory than for
+-- an opening is asked for only behind the opening of a topic.
 abbrev pub IsBrokerFault : List (Bor (List ℕ) × Config) → BrokerFault → Type 0
 IsBrokerFault asked fault.TooMany = 64 < length asked
 IsBrokerFault asked (fault.DoubleName place) = (length asked ≤ 64) × IsFirstDouble (asked_names asked) place
 IsBrokerFault asked (fault.Topic place cause) = (length asked ≤ 64) × AreDistinct (asked_names asked) × IsTopicFault asked place cause
-IsBrokerFault asked fault.NoMemory = (length asked ≤ 64) × AreDistinct (asked_names asked)
+IsBrokerFault asked fault.NoMemory = (length asked ≤ 64) × AreDistinct (asked_names asked) × (place : ℕ) × CanOpenUpTo asked place

@@ -1,6 +1,7 @@
 use Rattle.std.proofs.Common.{◌≡◌, All, Ok, refl, subst, arith}
 use Rattle.std.proofs.lemmas.List.{take_all}
 use Rattle.std.proofs.lemmas.Option.{slice_get-get_or}
+use Rattle.std.proofs.lemmas.Result.{err_from_is_err_and}
 use Rattle.cc_model.specs.Config.{config_fault}
 use Rattle.cc_broker.proofs.Built.{Opened, next_name, next_opened, next_holds}
 use Rattle.cc_broker.proofs.open.open_each.Goals as goal
@@ -40,3 +41,16 @@ returns c =
       settings_are = so.settings_are;
       passes = so.passes_are;
     }
+
+pub returns-in_err-add-in-Ok : goal.returns-in_err-add-in-Ok
+returns-in_err-add-in-Ok c =
+    let p = err_from_is_err_and c.from_residual.result c.from_residual.ensures.1 in
+    rw (p.1, p.2) (
+      c.requires.few,
+      c.requires.distinct,
+      c.loop-place.place,
+      record {
+        within = c.loop-place-test.true;
+        lawful = next_holds (λ a. config_fault a.1 ≡ Ok tt) c.args.topics.now c.loop-place.place _ c.loop-place-test.true c.loop-place.invariant.1 c.in-Ok.ensures.lawful;
+      },
+    )
