@@ -11,6 +11,10 @@ mod as_the_machine;
 mod beside;
 #[cfg(test)]
 mod calls;
+#[cfg(test)]
+mod given_up;
+#[cfg(test)]
+mod giving_up;
 mod held;
 #[cfg(test)]
 mod shared_fifo;

@@ -6,6 +6,6 @@ mod kept;
 mod round;
 mod workers;
 
-pub use jobs::{SendJob, TakeJob};
+pub use jobs::{SendJob, TakeJob, send_jobs, take_jobs};
 pub use kept::Kept;
 pub use round::{Outcome, RoundFault, play_opened, play_round};
