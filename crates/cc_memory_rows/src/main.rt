@@ -1,0 +1,207 @@
+//! Worked calls that take memory: three topics are opened, two machines play calls, and receipts are audited; each answer
+//! is told. Where memory is refused, the call that met it is told on standard error: an opening or an audit then ends the
+//! program, and a begin that was refused is made again, and all that follows is the same.
+#![tactic(auto)]
+
+use cc_audit::{SendReceipt, TakeReceipt, Verdict, audit, send_receipts, take_receipts, total};
+use cc_broker::Broker;
+use cc_machine::{BeginFault, CounterMachine, Event, Machine, OpenFault};
+use cc_model::{Answer, Call, Config, Entry, History, Item, Pass};
+use std::alloc::{AllocError, Global};
+use std::io;
+use std::process::ExitCode;
+
+/// More events than a call has that no other call keeps waiting.
+const MOST: u32 = 100;
+
+const SMALL: Config = Config {
+    senders: 2,
+    receivers: 1,
+    capacity: 2,
+    bound: 2,
+    life: 10,
+    per_sender: 10,
+};
+
+const SENDER: Pass = Pass::Sender(1);
+
+const RECEIVER: Pass = Pass::Receiver(1);
+
+/// Begins a call, once more where there is no memory. The answer is how often there was none; None where the call can't
+/// be begun.
+fn begin(machine: &mut Machine, pass: Pass, call: Call) -> Option<u32> {
+    match machine.begin(pass, call) {
+        Ok(()) => Some(0),
+        Err(BeginFault::NoMemory) => match machine.begin(pass, call) {
+            Ok(()) => Some(1),
+            Err(_) => None,
+        },
+        Err(_) => None,
+    }
+}
+
+/// Makes a call, from its begin to its answer. The answer is how often the begin was refused memory; None where the call
+/// can't be begun, or isn't answered.
+fn make(machine: &mut Machine, pass: Pass, call: Call) -> Option<u32> {
+    let refused = begin(machine, pass, call)?;
+    for _ in 0..MOST {
+        if machine.event(pass) == Event::Idle {
+            break;
+        }
+    }
+    let _answer = machine.answer(pass)?;
+    Some(refused)
+}
+
+/// Plays calls one after another: an item is passed on, and the queue closed. The answer is how many begins were refused
+/// memory; None where a call can't be begun, or isn't answered.
+fn play(machine: &mut Machine) -> Option<u32> {
+    let mut refused = make(machine, SENDER, Call::Send(5))?;
+    refused = refused.saturating_add(make(machine, SENDER, Call::Close)?);
+    refused = refused.saturating_add(make(machine, SENDER, Call::Send(6))?);
+    refused = refused.saturating_add(make(machine, SENDER, Call::Close)?);
+    for _ in 0..3 {
+        refused = refused.saturating_add(make(machine, RECEIVER, Call::Take)?);
+    }
+    Some(refused)
+}
+
+/// Counts once by this pass: the number, and how often there was no memory to begin.
+fn count(machine: &mut CounterMachine, pass: u32) -> Option<(u64, u32)> {
+    let mut refused: u32 = 0;
+    if machine.begin(pass, 1) == Err(BeginFault::NoMemory) {
+        refused = 1;
+        if machine.begin(pass, 1).is_err() {
+            return None;
+        }
+    }
+    for _ in 0..MOST {
+        if machine.event(pass) == Event::Idle {
+            break;
+        }
+    }
+    Some((machine.answer(pass)?, refused))
+}
+
+/// The audit of the receipts of a history.
+fn audit_history(alloc: Global, history: &History) -> Result<Verdict, AllocError> {
+    let sends = send_receipts(alloc, history)?;
+    let takes = take_receipts(alloc, history)?;
+    audit(alloc, &sends, &takes, total(history))
+}
+
+/// The receipt of a send of the first sender.
+fn sent(number: u32, place: u64, body: u64) -> SendReceipt {
+    SendReceipt {
+        sender: 1,
+        number,
+        place,
+        body,
+    }
+}
+
+/// The audit of two sends, of which the second item was taken and the first was not.
+fn audit_gap(alloc: Global) -> Result<Verdict, AllocError> {
+    let sends = [sent(1, 0, 5), sent(2, 1, 6)];
+    let takes = [TakeReceipt {
+        receiver: 1,
+        item: Item {
+            place: 1,
+            sender: 1,
+            number: 2,
+            body: 6,
+        },
+    }];
+    audit(alloc, &sends, &takes, None)
+}
+
+/// A machine of a list, and one of a counter.
+fn open_machines(alloc: Global) -> Result<(Machine, CounterMachine), OpenFault> {
+    let machine = Machine::open(alloc, &SMALL)?;
+    let counter = CounterMachine::open(alloc, &SMALL)?;
+    Ok((machine, counter))
+}
+
+/// Tells by which number a name is found, and whether a queue stands there.
+fn tell_topic(rt: &HostRuntime, broker: &Broker, name: &str) -> Result<(), io::Error> {
+    let number = broker.topic(name);
+    let is_there = match number {
+        Some(number) => broker.queue(number).is_some(),
+        None => false,
+    };
+    println!(rt; "topic {name}: {number:?}, {is_there}")
+}
+
+/// Opens three topics, and tells of them. The answer is false where there was no memory for one of them, or for their list.
+fn open_topics(rt: &HostRuntime) -> Result<bool, io::Error> {
+    match Broker::open(rt.alloc(), &[("a", SMALL), ("b", SMALL), ("c", SMALL)]) {
+        Ok(opened) => {
+            tell_topic(rt, &opened.broker, "a")?;
+            tell_topic(rt, &opened.broker, "b")?;
+            tell_topic(rt, &opened.broker, "c")?;
+            tell_topic(rt, &opened.broker, "d")?;
+            for (senders, receivers) in &opened.passes {
+                println!(rt; "passes: {} and {}", senders.len(), receivers.len())?;
+            }
+            Ok(true)
+        }
+        Err(fault) => {
+            eprintln!(rt; "broker: {fault:?}")?;
+            Ok(false)
+        }
+    }
+}
+
+/// Tells the calls of a side with their answers, a line for each.
+fn tell_side(rt: &HostRuntime, calls: &[Entry], answers: &[Answer]) -> Result<(), io::Error> {
+    for (call, answer) in calls.iter().zip(answers) {
+        println!(rt; "{call:?} -> {answer:?}")?;
+    }
+    Ok(())
+}
+
+/// Plays both machines, and tells what they answered and how the receipts are audited. The answer is the exit status.
+fn play_machines(
+    rt: &HostRuntime,
+    machine: &mut Machine,
+    counter: &mut CounterMachine,
+) -> Result<u8, io::Error> {
+    let (Some(refused), Some((first, once)), Some((second, twice))) = (
+        play(machine),
+        count(counter, 1),
+        count(counter, 2),
+    ) else {
+        return Ok(1);
+    };
+    let refused = refused.saturating_add(once).saturating_add(twice);
+    if refused != 0 {
+        eprintln!(rt; "begin: {refused} refused, and made again")?;
+    }
+    let history = machine.history();
+    tell_side(rt, history.e_calls(), history.e_answers())?;
+    tell_side(rt, history.d_calls(), history.d_answers())?;
+    println!(rt; "counted {first} and {second}")?;
+    let (Ok(clean), Ok(gap)) = (
+        audit_history(rt.alloc(), machine.history()),
+        audit_gap(rt.alloc()),
+    ) else {
+        eprintln!(rt; "audit: AllocError")?;
+        return Ok(3);
+    };
+    println!(rt; "audits: {clean:?}, {gap:?}")?;
+    Ok(0)
+}
+
+fn main(rt: HostRuntime) -> Result<ExitCode, io::Error> {
+    if !open_topics(&rt)? {
+        return Ok(ExitCode::from(3));
+    }
+    let status = match open_machines(rt.alloc()) {
+        Ok((mut machine, mut counter)) => play_machines(&rt, &mut machine, &mut counter)?,
+        Err(fault) => {
+            eprintln!(rt; "machine: {fault:?}")?;
+            3
+        }
+    };
+    Ok(ExitCode::from(status))
+}

@@ -1,0 +1,71 @@
+#!/bin/bash
+# Refuses each allocation of `cc_memory_rows` in turn, from outside, on the program that the gate left, as each compiler
+# built it. The program opens three topics and two machines, plays calls and audits receipts, and tells each answer.
+# Wherever memory is refused, one of these must come of it, and nothing else:
+# - an opening or the audit says so by its own fault, with status 3, and the answers before it are those with memory: of a
+#   topic's opening its number, of the broker's own lists NoMemory, and never another fault;
+# - a begin was refused, was made again, and the answers are those of the run with memory;
+# - the program did without that memory, and the answers are those too. So no topic is ever lost.
+# Each of these faults must have come about. 20 runs more refuse what would be asked for after the last allocation.
+# Exit status 0 where all runs did so. It proves and builds nothing: `rt ci` does, or `rt run` in crates/cc_memory_rows.
+set -u
+cd "$(dirname "$0")/.." || exit 1
+room=$(mktemp -d) || exit 1
+trap 'rm -rf "$room"' EXIT
+gcc -O1 -fPIC -shared -o "$room/refuse.so" tools/refuse.c || exit 1
+whole=crates/cc_memory_rows/stdout
+faults='broker: NoMemory
+broker: Topic(0, NoMemory)
+broker: Topic(1, NoMemory)
+broker: Topic(2, NoMemory)
+machine: NoMemory
+audit: AllocError'
+again='begin: 1 refused, and made again'
+
+# Runs a program with the allocation of this number refused, 0 for none. Leaves what it wrote in out and told in err, its
+# status in `status`, and in `met` how many allocations it asked for.
+run_with() {
+    timeout 60 env REFUSE="$1" LD_PRELOAD="$room/refuse.so" "$2" </dev/null >"$room/out" 2>"$room/err" 9>"$room/met"
+    status=$?
+    met=$(wc -c <"$room/met")
+}
+
+# Whether what was written is a beginning of what is written with memory, and not all of it.
+is_beginning() {
+    local length
+    length=$(wc -c <"$room/out")
+    [ "$length" -lt "$(wc -c <$whole)" ] && head -c "$length" $whole | cmp -s - "$room/out"
+}
+
+programs=0
+for program in crates/cc_memory_rows/out/cc_memory_rows crates/cc_memory_rows/out/cc_memory_rows.by-rattle; do
+    [ -x "$program" ] || continue
+    programs=$((programs + 1)) refused=0 repeated=0
+    : >"$room/seen"
+    run_with 0 "$program"
+    all=$met
+    for ((n = 0; n <= all + 20; n++)); do
+        run_with "$n" "$program"
+        told=$(cat "$room/err")
+        if [ "$status" = 3 ] && is_beginning && grep -qxF -- "$told" <<<"$faults"; then
+            refused=$((refused + 1))
+            printf '%s\n' "$told" >>"$room/seen"
+        elif [ "$status" = 0 ] && cmp -s "$room/out" "$whole" && [ "$told" = "$again" ]; then
+            repeated=$((repeated + 1))
+        elif [ "$status" != 0 ] || ! cmp -s "$room/out" "$whole" || [ -n "$told" ]; then
+            echo "$program: allocation $n of $all refused: no fault of a call for memory and not the same answers, but status $status and"
+            cat "$room/out" "$room/err"
+            exit 1
+        fi
+    done
+    if [ "$(sort -u "$room/seen")" != "$(sort <<<"$faults")" ] || [ "$repeated" = 0 ]; then
+        echo "$program: of $all allocations, $repeated refused begins, and only these faults:"
+        sort -u "$room/seen"
+        exit 1
+    fi
+    echo "$program: each of $all allocations refused in turn, and 20 more: $refused runs were told so by the call that met it, $repeated begins were made again, and the others gave the same answers"
+done
+if [ "$programs" = 0 ]; then
+    echo "refuse_calls: there is no crates/cc_memory_rows/out/cc_memory_rows: run \`rt ci\` first, or \`rt run\` there"
+    exit 1
+fi
