@@ -3,7 +3,8 @@ use crate::outcomes::{FIRST, REPORT};
 use cc_model::{Device, DeviceFault, Sink, Source};
 use cc_play::play::play;
 use cc_play::{PlayFault, tell};
-use std::alloc::Global;
+use std::alloc::{AllocError, Global};
+use std::process::Abort;
 use std::test::Fail;
 
 /// A source that gives some bytes, so many a call, and then fails at each read.
@@ -85,6 +86,8 @@ struct CutWriter {
     takes: usize,
     at_most: usize,
     refusal: Refusal,
+    /// How much had been taken after each call that took some.
+    ends: Vec<usize>,
     calls: u64,
     failures: u64,
 }
@@ -100,6 +103,7 @@ impl CutWriter {
             takes,
             at_most,
             refusal,
+            ends: Vec::new(alloc),
             calls: 0,
             failures: 0,
         }
@@ -131,6 +135,9 @@ impl Sink for CutWriter {
             return Err(DeviceFault);
         }
         self.takes -= n;
+        if self.ends.push(self.taken.len()).is_err() {
+            self.ends.clear();
+        }
         Ok(n)
     }
 
@@ -228,5 +235,90 @@ fn one_byte_a_read(rt: HostRuntime) -> Result<(), Fail> {
     assert!(rt; play(alloc, &mut source, &mut sink).is_ok());
     assert_eq!(rt; source.calls as usize, FIRST.len() + 1);
     assert_eq!(rt; sink.taken.as_slice(), REPORT.as_bytes());
+    Ok(())
+}
+
+/// A plan that is read in two blocks, of which the first thousand sends are played, and its report of several blocks. One
+/// item fits: the first send has 28 events, and each other one 20 and finds the queue full.
+fn long(alloc: Global) -> Result<(String, String), AllocError> {
+    let mut plan = String::from_str(
+        alloc,
+        "{\"capacity\":1,\"bound\":2,\"life\":10,\"receivers\":[1],\"schedule\":[[\"s1\",20008]],\"senders\":[[7",
+    )?;
+    for _ in 1..8_500 {
+        plan.push_str(",7")?;
+    }
+    plan.push_str("]]}")?;
+    let mut report = String::from_str(alloc, "E 0 s1 send 7 -> accepted 0\n")?;
+    for k in 1..1000 {
+        report.push_str(format!(in alloc; "E {k} s1 send 7 -> full\n")?.as_str())?;
+    }
+    report.push_str("audit clean\n")?;
+    Ok((plan, report))
+}
+
+#[test]
+fn reads_of_a_long_plan_fail_at_every_byte(rt: HostRuntime) -> Result<(), Fail> {
+    let (plan, report) = long(rt.alloc())?;
+    for gives in 0..plan.len() + 1 {
+        let mut output = Vec::new(rt.alloc());
+        let mut source = CutReader {
+            rest: plan.as_bytes(),
+            gives,
+            calls: 0,
+            failures: 0,
+        };
+        let mut sink = Device::new(&mut output);
+        let outcome = play(rt.alloc(), &mut source, &mut sink);
+        assert_eq!(rt; outcome.err(), Some(PlayFault::Read), "{gives}");
+        assert_eq!(rt; output.len(), 0, "{gives}");
+    }
+    let mut source = OneByte {
+        rest: plan.as_bytes(),
+        calls: 0,
+    };
+    let mut sink = CutWriter::new(rt.alloc(), usize::MAX, 1, Refusal::Error);
+    assert!(rt; play(rt.alloc(), &mut source, &mut sink).is_ok());
+    assert_eq!(rt; source.calls as usize, plan.len() + 1);
+    assert_eq!(rt; sink.taken.as_slice(), report.as_bytes());
+    Ok(())
+}
+
+/// Plays the plan into a sink that refuses behind so many bytes: these stand there, and one write failed.
+fn fails_behind<R: Abort>(
+    rt: &R,
+    alloc: Global,
+    plan: &str,
+    report: &str,
+    takes: usize,
+    refusal: Refusal,
+) {
+    let mut sink = CutWriter::new(alloc, takes, usize::MAX, refusal);
+    let outcome = play(alloc, &mut Device::new(plan.as_bytes()), &mut sink);
+    assert_eq!(rt; outcome.err(), Some(PlayFault::Write), "{takes}");
+    assert!(rt; sink.taken.len() == takes, "{takes}");
+    assert!(rt;
+        report.as_bytes().starts_with(sink.taken.as_slice()),
+        "{takes}"
+    );
+    assert_eq!(rt; sink.failures(), 1, "{takes}");
+}
+
+#[test]
+fn writes_fail_at_every_block(rt: HostRuntime) -> Result<(), Fail> {
+    let (plan, report) = long(rt.alloc())?;
+    let mut whole = CutWriter::new(rt.alloc(), usize::MAX, usize::MAX, Refusal::Error);
+    let outcome = play(rt.alloc(), &mut Device::new(plan.as_bytes()), &mut whole);
+    assert!(rt; outcome.is_ok());
+    assert!(rt; whole.taken.as_slice() == report.as_bytes());
+    assert!(rt; whole.ends.len() > 2);
+    for end in &whole.ends {
+        for takes in end.saturating_sub(1)..end.saturating_add(2) {
+            if takes < report.len() {
+                fails_behind(&rt, rt.alloc(), &plan, &report, takes, Refusal::Error);
+                fails_behind(&rt, rt.alloc(), &plan, &report, takes, Refusal::Nothing);
+            }
+        }
+    }
     Ok(())
 }

@@ -1,5 +1,6 @@
 //! Plans and their reports.
 use crate::outcomes::played;
+use std::alloc::{AllocError, Global};
 use std::test::Fail;
 
 /// What a plan shows, the plan, and its report.
@@ -306,10 +307,39 @@ fn cuts_begin_the_whole_history(rt: HostRuntime) -> Result<(), Fail> {
                 }
             }
         }
-        assert!(rt; report.ends_with("audit clean\n"), "{cut}");
-        if cut == 90 {
-            assert_eq!(rt; report, whole);
-        }
+        assert_eq!(rt; report, report_at(rt.alloc(), cut)?.as_str(), "{cut}");
+    }
+    assert_eq!(rt; report_at(rt.alloc(), 90)?.as_str(), whole);
+    Ok(())
+}
+
+/// Adds a line, where the cut is from the first to the last at which it stands.
+fn add_line(
+    report: &mut String,
+    cut: u32,
+    first: u32,
+    last: u32,
+    line: &str,
+) -> Result<(), AllocError> {
+    if first <= cut && cut <= last {
+        report.push_str(line)?;
+        report.push_str("\n")?;
     }
     Ok(())
+}
+
+/// The report of that run cut after so many events: a line is pending from its exchange to its deciding event.
+fn report_at(alloc: Global, cut: u32) -> Result<String, AllocError> {
+    let mut report = String::new(alloc);
+    let lines = &mut report;
+    add_line(lines, cut, 3, 19, "E 0 s1 send 5 -> pending")?;
+    add_line(lines, cut, 20, 90, "E 0 s1 send 5 -> accepted 0")?;
+    add_line(lines, cut, 44, 55, "E 1 s2 send 7 -> pending")?;
+    add_line(lines, cut, 56, 90, "E 1 s2 send 7 -> full")?;
+    add_line(lines, cut, 65, 81, "E 2 s2 send 8 -> pending")?;
+    add_line(lines, cut, 82, 90, "E 2 s2 send 8 -> accepted 1")?;
+    add_line(lines, cut, 31, 61, "D 0 r1 take -> pending")?;
+    add_line(lines, cut, 62, 90, "D 0 r1 take -> got 0 s1 1 5")?;
+    lines.push_str("audit clean\n")?;
+    Ok(report)
 }

@@ -1,5 +1,5 @@
 //! Plans that are refused.
-use crate::outcomes::{REPORT, is_refused, played};
+use crate::outcomes::{FIRST, REPORT, audited, is_refused, played};
 use std::test::Fail;
 
 /// Inputs, and why they are refused.
@@ -47,5 +47,20 @@ fn the_input_has_a_limit(rt: HostRuntime) -> Result<(), Fail> {
     assert!(rt; is_refused(alloc, &played(alloc, spaces.as_slice()), "P1")?);
     spaces.push(b' ')?;
     assert!(rt; is_refused(alloc, &played(alloc, spaces.as_slice()), "P3 input")?);
+    Ok(())
+}
+
+/// Of a plan no front is a JSON text. Brackets that are closed are one, and no plan.
+#[test]
+fn fronts_of_a_plan_are_refused(rt: HostRuntime) -> Result<(), Fail> {
+    let alloc = rt.alloc();
+    for length in 0..FIRST.len() {
+        let front = &FIRST.as_bytes()[..length];
+        assert!(rt; is_refused(alloc, &played(alloc, front), "P1")?, "{length}");
+    }
+    let mut brackets = vec![in alloc; b'['; 100]?;
+    brackets.extend_from_slice(vec![in alloc; b']'; 100]?.as_slice())?;
+    assert!(rt; is_refused(alloc, &played(alloc, brackets.as_slice()), "P2")?);
+    assert!(rt; is_refused(alloc, &audited(alloc, brackets.as_slice()), "P2")?);
     Ok(())
 }
