@@ -1,8 +1,9 @@
 #!/bin/bash
 # Refuses each allocation of `ccq` in turn, from outside, on the program that the gate left, as each compiler built it: for
-# every plan of examples/ and for the receipts there, for help and for a command line that is refused. The program must
-# then end with status 3, say so on standard error and have written nothing; or it did without that memory, and must leave
-# just what it leaves with it. Before that, the script shows on programs that answer wrongly that it finds them.
+# every plan of examples/ and for the receipts there, for two more plans and receipts with a gap of tests/corpus, for help
+# and for a command line that is refused. The program must then end with status 3, say so on standard error and have written
+# nothing; or it did without that memory, and must leave just what it leaves with it. Before that, the script shows on
+# programs that answer wrongly that it finds them.
 # Exit status 0 where all runs did so. It proves and builds nothing of the program: `rt ci` does, or `rt run` in crates/ccq.
 set -u
 cd "$(dirname "$0")/.." || exit 1
@@ -70,16 +71,16 @@ programs=0
 for program in crates/ccq/out/ccq crates/ccq/out/ccq.by-rattle; do
     [ -x "$program" ] || continue
     programs=$((programs + 1)) runs=0 refused=0 inputs=0
-    for input in examples/*.json; do
+    for input in examples/*.json tests/corpus/{close_in_every_place,gap_at_the_front,greatest_configuration}.in; do
         inputs=$((inputs + 1))
         case $input in
-        */receipts*.json) refuse_each "$input" "$program" audit || exit 1 ;;
+        */receipts*.json | */gap_*.in) refuse_each "$input" "$program" audit || exit 1 ;;
         *) refuse_each "$input" "$program" play || exit 1 ;;
         esac
     done
     refuse_each /dev/null "$program" --help || exit 1
     refuse_each /dev/null "$program" plaz || exit 1
-    echo "$program: each allocation refused in turn, on $inputs examples and two command lines: $runs runs, $refused ended with status 3 and nothing written, and the others did without that memory"
+    echo "$program: each allocation refused in turn, on $inputs inputs and two command lines: $runs runs, $refused ended with status 3 and nothing written, and the others did without that memory"
 done
 if [ "$programs" = 0 ]; then
     echo "refuse_memory: there is no crates/ccq/out/ccq: run \`rt ci\` first, or \`rt run\` in crates/ccq"
