@@ -1,0 +1,162 @@
+/* Vahepito for C: a FIFO queue that threads share, from many senders to many receivers.
+ *
+ * Link libcc_binding.a, and after it the kit's liblibc_c.a (memory comes from malloc, realloc and free).
+ *
+ * A pass is one sender or one receiver of one queue, and C holds it by a handle. Passes are not copied and not shared
+ * by two threads at once: a queue has as many as its configuration says, all given by its opening.
+ *
+ * A call (a send, a close or a take) is begun, and then asked for its answer in turns. No call waits: where its answer is
+ * not there yet a turn says so, and the caller decides how to pass the time (sched_yield, a back-off) before the next
+ * turn. The turn that finds its pass first in line serves other passes' calls too, at most `bound` of them. So a call
+ * that was begun is to be turned to its end: where it is left, or its handle dropped, no pass of its side (the
+ * senders, or the receivers) may get an answer any more.
+ *
+ * No call but vahepito_open takes memory.
+ *
+ * What the caller owes, and nothing checks:
+ * - A handle begins as {0} and is filled by vahepito_open alone. Its bytes are neither changed nor copied to a second
+ *   handle that is used; a handle may be moved to another place, and the old place is then not used.
+ * - A handle is given to one call at a time. It may go to another thread: by a mutex, a thread's start or join, or a
+ *   sequentially consistent atomic. Different handles may be used by different threads at once, of one queue or of many.
+ * - No pointer is NULL, every out-parameter is an initialised variable, the pointers of one call point to different
+ *   variables, and of an array there are as many elements as the count says.
+ * - No call is made from a signal handler, or from the forked child of a process with threads.
+ *
+ * An out-parameter is written by every call that has it: with 0 in each field where the code tells nothing of it.
+ */
+#ifndef VAHEPITO_H
+#define VAHEPITO_H
+
+#include <stdbool.h>
+#include <stddef.h>
+#include <stdint.h>
+
+#ifdef __cplusplus
+extern "C" {
+#endif
+
+/* What a queue is opened with. */
+typedef struct {
+    uint32_t senders;    /* 1 to 64 */
+    uint32_t receivers;  /* 1 to 64 */
+    uint32_t capacity;   /* 1 to 4096: how many items the queue holds at once */
+    uint32_t bound;      /* 1 to 1024: how many calls one turn serves at most */
+    uint64_t life;       /* 1 to 2^48: how many items it accepts in all */
+    uint32_t per_sender; /* 1 to 2^32 - 1: how many sends one sender begins at most */
+} vahepito_config;
+
+/* A handle of one pass. It is empty, as {0}, or it holds a pass. */
+typedef struct {
+    void *at;
+    bool live; /* whether it holds a pass: to be read, and not to be written */
+} vahepito_pass;
+
+/* An item that was taken. */
+typedef struct {
+    uint64_t place;  /* which of the accepted items it is, from 0 */
+    uint32_t sender; /* whose, from 1 */
+    uint32_t number; /* which of its sender's sends, from 1 */
+    uint64_t body;   /* what was sent */
+} vahepito_item;
+
+/* What a call tells. Each call names those that it may tell. */
+enum {
+    /* it was done */
+    VAHEPITO_DONE = 0,
+
+    /* vahepito_open: the first field of the configuration that is out of its range */
+    VAHEPITO_BAD_SENDERS = 1,
+    VAHEPITO_BAD_RECEIVERS = 2,
+    VAHEPITO_BAD_CAPACITY = 3,
+    VAHEPITO_BAD_BOUND = 4,
+    VAHEPITO_BAD_LIFE = 5,
+    VAHEPITO_BAD_PER_SENDER = 6,
+    /* vahepito_open: memory was refused */
+    VAHEPITO_NO_MEMORY = 7,
+    /* vahepito_open: not one handle for each pass, or one that is not empty */
+    VAHEPITO_BAD_HANDLES = 8,
+
+    /* the call could not be made, and nothing has changed */
+    VAHEPITO_NO_PASS = 9,     /* the handle is empty */
+    VAHEPITO_WRONG_SIDE = 10, /* a sender's call by a receiver, or a receiver's by a sender */
+    VAHEPITO_BUSY = 11,       /* the pass has a call that was begun already */
+    VAHEPITO_NOT_BEGUN = 12,  /* the pass has no such call to turn */
+    VAHEPITO_WORN = 13,       /* the sender has begun as many sends as it may */
+
+    /* on the way */
+    VAHEPITO_BEGUN = 14,   /* the call was begun */
+    VAHEPITO_WAITING = 15, /* its answer is not there yet: turn again */
+    VAHEPITO_FRESH = 16,   /* vahepito_is_worn: the sender may begin a further send */
+
+    /* the answer of a send */
+    VAHEPITO_ACCEPTED = 17, /* the item is the place-th that was accepted, from 0 */
+    VAHEPITO_FULL = 18,     /* not accepted: `capacity` items were not known to be taken */
+    VAHEPITO_CLOSED = 19,   /* not accepted: the queue was closed */
+    VAHEPITO_SPENT = 20,    /* not accepted: the queue has accepted `life` items */
+
+    /* the answer of a close */
+    VAHEPITO_SHUT = 21,    /* this close closed the queue, and `total` items were accepted before it */
+    VAHEPITO_ALREADY = 22, /* the queue was closed before, after `total` items */
+
+    /* the answer of a take */
+    VAHEPITO_GOT = 23,   /* an item */
+    VAHEPITO_EMPTY = 24, /* there was none */
+    VAHEPITO_ENDED = 25  /* the queue is closed and all of its `total` items were taken */
+};
+
+/* Opens a queue and fills the handles: senders[k] becomes sender k + 1, receivers[k] receiver k + 1. The handles are the
+ * caller's, all of them empty before; the queue behind them is theirs together, and the last one that is dropped frees
+ * it. Any thread may call.
+ * DONE; BAD_SENDERS to BAD_PER_SENDER, then BAD_HANDLES, then NO_MEMORY: no handle was changed. */
+uint32_t vahepito_open(const vahepito_config *config, vahepito_pass *senders, size_t sender_count,
+                       vahepito_pass *receivers, size_t receiver_count);
+
+/* Begins a send of this body. The thread that holds the handle calls.
+ * BEGUN: turn it. NO_PASS, WRONG_SIDE, BUSY, WORN: nothing has changed. */
+uint32_t vahepito_begin_send(vahepito_pass *sender, uint64_t body);
+
+/* One turn of a send. The thread that holds the handle calls.
+ * ACCEPTED with the place, FULL, CLOSED, SPENT: the sender is idle again, and this turn served so many calls (0 where
+ * another pass served it). WAITING: turn again. NO_PASS, WRONG_SIDE, NOT_BEGUN: nothing has changed. */
+uint32_t vahepito_turn_send(vahepito_pass *sender, uint64_t *place, uint32_t *served);
+
+/* Begins a send, and turns it once: the codes of both. After WAITING go on with vahepito_turn_send. */
+uint32_t vahepito_try_send(vahepito_pass *sender, uint64_t body, uint64_t *place, uint32_t *served);
+
+/* Whether the sender has begun as many sends as it may: its next send is told WORN. The thread that holds the handle
+ * calls.
+ * WORN, FRESH. NO_PASS, WRONG_SIDE, BUSY as everywhere. Nothing changes. */
+uint32_t vahepito_is_worn(vahepito_pass *sender);
+
+/* Begins a close of the queue. The thread that holds the handle calls.
+ * BEGUN: turn it. NO_PASS, WRONG_SIDE, BUSY: nothing has changed. A worn sender may close. */
+uint32_t vahepito_begin_close(vahepito_pass *sender);
+
+/* One turn of a close. The thread that holds the handle calls.
+ * SHUT, ALREADY with the total: the sender is idle again. WAITING: turn again. NO_PASS, WRONG_SIDE, NOT_BEGUN: nothing
+ * has changed. */
+uint32_t vahepito_turn_close(vahepito_pass *sender, uint64_t *total, uint32_t *served);
+
+/* Begins a take. The thread that holds the handle calls.
+ * BEGUN: turn it. NO_PASS, WRONG_SIDE, BUSY: nothing has changed. */
+uint32_t vahepito_begin_take(vahepito_pass *receiver);
+
+/* One turn of a take. The thread that holds the handle calls.
+ * GOT with the item, EMPTY, ENDED with the total: the receiver is idle again, and this turn served so many calls.
+ * WAITING: turn again. NO_PASS, WRONG_SIDE, NOT_BEGUN: nothing has changed. */
+uint32_t vahepito_turn_take(vahepito_pass *receiver, vahepito_item *item, uint64_t *total, uint32_t *served);
+
+/* Begins a take, and turns it once: the codes of both. After WAITING go on with vahepito_turn_take. */
+uint32_t vahepito_try_take(vahepito_pass *receiver, vahepito_item *item, uint64_t *total, uint32_t *served);
+
+/* Lets a pass go at any moment, and leaves the handle empty. A call that was begun is given up: it may stay in the queue
+ * unanswered, and stop its side, as said above. The last handle of a queue frees it. The thread that holds the handle
+ * calls.
+ * DONE, NO_PASS. */
+uint32_t vahepito_drop(vahepito_pass *pass);
+
+#ifdef __cplusplus
+}
+#endif
+
+#endif
