@@ -157,6 +157,20 @@ impl Queue {
         Ok(over_words(alloc, words, config)?)
     }
 
+    /// Another share of the same queue, for an owner of its own.
+    ///
+    /// # Errors
+    ///
+    /// The count of shares is full; no memory is asked for.
+    pub fn share(&self) -> Result<Queue, AllocError>
+        ensures { IfOk result (λ q. q ≡ self.now) }
+    {
+        Ok(Queue {
+            words: self.words.share()?,
+            config: self.config,
+        })
+    }
+
     /// Its configuration was checked: a fact for proofs, and no work.
     pub(crate) fn stands(&self)
         ensures { config_fault self.now.setting.config ≡ Ok tt }
