@@ -21,6 +21,7 @@
  * - No pointer is NULL, every out-parameter is an initialised variable, the pointers of one call point to different
  *   variables, and of an array there are as many elements as the count says.
  * - No call is made from a signal handler, or from the forked child of a process with threads.
+ * - malloc, realloc and free are one allocator's.
  *
  * An out-parameter is written by every call that has it: with 0 in each field where the code tells nothing of it.
  */
@@ -133,8 +134,8 @@ uint32_t vahepito_is_worn(vahepito_pass *sender);
 uint32_t vahepito_begin_close(vahepito_pass *sender);
 
 /* One turn of a close. The thread that holds the handle calls.
- * SHUT, ALREADY with the total: the sender is idle again. WAITING: turn again. NO_PASS, WRONG_SIDE, NOT_BEGUN: nothing
- * has changed. */
+ * SHUT, ALREADY with the total: the sender is idle again, and this turn served so many calls. WAITING: turn again.
+ * NO_PASS, WRONG_SIDE, NOT_BEGUN: nothing has changed. */
 uint32_t vahepito_turn_close(vahepito_pass *sender, uint64_t *total, uint32_t *served);
 
 /* Begins a take. The thread that holds the handle calls.

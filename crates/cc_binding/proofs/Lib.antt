@@ -1,0 +1,4 @@
+pub mod Filling
+pub mod HeldValues
+pub mod Trying
+pub mod Values

@@ -1,0 +1,6 @@
+pub mod Held
+pub mod Passes
+pub mod Told
+pub mod Calls
+pub mod Handles
+pub mod Opened

@@ -1,0 +1,54 @@
+-- The opening of a queue, over two rows of handles.
+use Rattle.std.specs.Prelude.{◌≡◌, ℕ, ◌+◌, Bool, ◌&&◌, nat_eq, if◌then◌else◌, List, [], ◌∷◌, length, Option, Some, Ok, Err}
+use Rattle.std.specs.List.{list_all}
+use Rattle.std.specs.declared.result.Result.{Result}
+use Rattle.cc_model.specs.Config.{config_fault}
+use Rattle.cc_model.specs.declared.config.Config.{Config}
+use Rattle.cc_model.specs.declared.config.ConfigFault.{ConfigFault}
+use Rattle.cc_model.specs.declared.config.ConfigFault.TheVariants as fault
+use Rattle.cc_machine.specs.declared.setting.Served.TheVariants as served
+use Rattle.cc_steps.specs.Topic.{Topic}
+use Rattle.cc_steps.specs.Walk.{Walk, fresh}
+use Rattle.cc_binding.specs.declared.kept.Pass.{Pass}
+use Rattle.cc_binding.specs.declared.kept.Pass.TheVariants.{Sender, Receiver}
+use Rattle.cc_binding.specs.declared.handle.Handle.{Handle}
+use Rattle.cc_binding.specs.declared.opening.Settings.{Settings}
+use Rattle.cc_binding.specs.declared.codes.TheConstants.{DONE, BAD_SENDERS, BAD_RECEIVERS, BAD_CAPACITY, BAD_BOUND, BAD_LIFE, BAD_PER_SENDER, BAD_HANDLES}
+use Rattle.cc_binding.specs.Handles.{pass_of, is_empty}
+
+-- the configuration, as C gives it
+abbrev pub config_of : Settings → Config
+config_of s = record { senders = s.senders; receivers = s.receivers; capacity = s.capacity; bound = s.bound; life = s.life; per_sender = s.per_sender }
+
+-- the code of a field that is out of its range
+abbrev pub field_code : ConfigFault → ℕ
+field_code fault.Senders = BAD_SENDERS
+field_code fault.Receivers = BAD_RECEIVERS
+field_code fault.Capacity = BAD_CAPACITY
+field_code fault.Bound = BAD_BOUND
+field_code fault.Life = BAD_LIFE
+field_code fault.PerSender = BAD_PER_SENDER
+
+-- there are so many handles, and each is empty
+abbrev pub are_free : ℕ → List Handle → Bool
+are_free count hs = nat_eq (length hs) count && list_all is_empty hs
+
+-- why a queue isn't opened, memory apart: the first field out of its range, then the handles; DONE where nothing is wrong
+abbrev pub checked_as : Result (Unit {0}) ConfigFault → Bool → ℕ
+checked_as (Err f) free = field_code f
+checked_as (Ok u) free = if free then DONE else BAD_HANDLES
+
+abbrev pub refusal : Config → List Handle → List Handle → ℕ
+refusal c senders receivers = checked_as (config_fault c) (are_free c.senders senders && are_free c.receivers receivers)
+
+-- these hold, one after another, the passes of this queue from p on, each one its own, which has no call and has seen nothing
+abbrev pub HoldFresh : {X : Type 0} → List X → (X → Option Pass) → (Walk → Pass) → Topic → ℕ → Type 0
+HoldFresh [] held side z p = Unit {0}
+HoldFresh (x ∷ xs) held side z p = (held x ≡ Some (side (fresh z p))) × HoldFresh xs held side z (p + 1)
+
+-- the handles are those of the senders and of the receivers of one queue with this configuration, in order
+pub record HaveOpened (c : Config) (senders receivers : List Handle) : Type 0 where
+  pub queue : Topic
+  pub setting : queue.setting ≡ record { served = served.List; config = c }
+  pub senders_hold : HoldFresh senders pass_of Sender queue 0
+  pub receivers_hold : HoldFresh receivers pass_of Receiver queue c.senders

@@ -1,0 +1,61 @@
+//! What stands behind a handle.
+ghost use Rattle.std.specs.Prelude.{◌≡◌, Some};
+
+use cc_queue::{PendingClose, PendingSend, PendingTake, Queue, Receiver, Sender};
+use std::marker::Model;
+
+/// A pass, by what it is and whether it has a call.
+pub enum Pass {
+    Sender(Sender),
+    Sending(PendingSend),
+    Closing(PendingClose),
+    Receiver(Receiver),
+    Taking(PendingTake),
+}
+
+/// The pass of a handle with its own share of the queue. It has none only inside a call.
+pub struct Kept {
+    pub(crate) queue: Queue,
+    pub(crate) pass: Option<Pass>,
+}
+
+impl Model for Kept {
+    ghost use Rattle.std.specs.Prelude.{Option};
+    ghost use Rattle.cc_binding.specs.declared.kept.Pass.{Pass};
+    ghost use Rattle.cc_binding.specs.Passes.{IsPassOf};
+
+    ghost Value = { Option Pass };
+
+    ghost view = { λ k. k.pass };
+
+    ghost invariant = { λ k. IsPassOf k.queue k.pass };
+}
+
+/// Lets a pass go. A call that it had begun is given up.
+pub fn let_go(pass: Pass) {
+    match pass {
+        Pass::Sender(_sender) => {}
+        Pass::Sending(pending) => pending.abandon(),
+        Pass::Closing(pending) => pending.abandon(),
+        Pass::Receiver(_receiver) => {}
+        Pass::Taking(pending) => pending.abandon(),
+    }
+}
+
+impl Drop for Kept {
+    fn drop(self) {
+        let Kept { queue: _, pass } = self;
+        if let Some(pass) = pass {
+            let_go(pass);
+        }
+    }
+}
+
+/// Puts a pass back.
+pub(crate) fn put(place: &mut Option<Pass>, pass: Pass)
+    ensures { place.new ≡ Some pass }
+{
+    if let Some(old) = place.replace(pass) {
+        let_go(old);
+    }
+}

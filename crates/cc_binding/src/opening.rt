@@ -1,0 +1,199 @@
+//! The opening of a queue for C.
+ghost use Rattle.std.specs.Prelude.{◌≡◌, length, map, IfOk, IfErr, Some};
+ghost use Rattle.cc_queue.specs.Opened.{HasOpened};
+ghost use Rattle.cc_steps.specs.Walk.{IsOf, fresh_from};
+ghost use Rattle.cc_binding.specs.Passes.{walk_of};
+ghost use Rattle.cc_binding.specs.declared.kept.Pass.TheVariants as pass;
+ghost use Rattle.std.specs.List.{list_all};
+ghost use Rattle.cc_binding.specs.Handles.{pass_of, is_empty};
+ghost use Rattle.cc_binding.specs.Opened.{config_of, field_code, are_free, refusal, HoldFresh, HaveOpened};
+
+use crate::codes::{
+    BAD_BOUND, BAD_CAPACITY, BAD_HANDLES, BAD_LIFE, BAD_PER_SENDER, BAD_RECEIVERS, BAD_SENDERS,
+    DONE,
+};
+use crate::handle::Handle;
+use crate::kept::{Kept, Pass, let_go};
+use cc_model::{Config, ConfigFault};
+use cc_queue::{Opened, Queue, Receiver, Sender};
+use std::alloc::{AllocError, Global};
+
+/// What a queue is opened with, as C gives it.
+#[repr(C)]
+#[derive(Clone, Copy)]
+pub struct Settings {
+    pub senders: u32,
+    pub receivers: u32,
+    pub capacity: u32,
+    pub bound: u32,
+    pub life: u64,
+    pub per_sender: u32,
+}
+
+impl Settings {
+    /// The configuration that it is.
+    pub fn config(&self) -> Config
+        ensures { result ≡ config_of self.now }
+    {
+        Config {
+            senders: self.senders,
+            receivers: self.receivers,
+            capacity: self.capacity,
+            bound: self.bound,
+            life: self.life,
+            per_sender: self.per_sender,
+        }
+    }
+}
+
+/// The code of a field that is out of its range.
+fn field_code(fault: ConfigFault) -> u32
+    ensures { result ≡ field_code fault }
+{
+    match fault {
+        ConfigFault::Senders => BAD_SENDERS,
+        ConfigFault::Receivers => BAD_RECEIVERS,
+        ConfigFault::Capacity => BAD_CAPACITY,
+        ConfigFault::Bound => BAD_BOUND,
+        ConfigFault::Life => BAD_LIFE,
+        ConfigFault::PerSender => BAD_PER_SENDER,
+    }
+}
+
+/// Whether each handle is empty.
+fn are_empty(handles: &[Handle]) -> bool
+    ensures { result ≡ list_all is_empty handles.now }
+{
+    handles.iter().all(|handle| !handle.live)
+}
+
+/// Whether there are so many handles, and each is empty.
+fn are_free(handles: &[Handle], count: u32) -> bool
+    ensures { result ≡ are_free count handles.now }
+{
+    handles.len() == count as usize && are_empty(handles)
+}
+
+/// Why a queue isn't opened, memory apart, or DONE.
+pub fn refusal(config: &Config, senders: &[Handle], receivers: &[Handle]) -> u32
+    ensures { result ≡ refusal config.now senders.now receivers.now }
+{
+    if let Err(fault) = config.check() {
+        return field_code(fault);
+    }
+    if are_free(senders, config.senders) && are_free(receivers, config.receivers) {
+        DONE
+    } else {
+        BAD_HANDLES
+    }
+}
+
+/// A pass with its own share of the queue, for a handle.
+fn kept(alloc: Global, queue: &Queue, pass: Pass) -> Result<Box<Kept>, AllocError>
+    requires { IsOf queue.now (walk_of pass) }
+    ensures { IfOk result (λ k. k.value ≡ Some pass) }
+{
+    match queue.share() {
+        Ok(queue) => {
+            let pass = Some(pass);
+            Ok(Box::new(alloc, Kept { queue, pass })?)
+        }
+        Err(refused) => {
+            let_go(pass);
+            Err(refused)
+        }
+    }
+}
+
+/// The senders so, in order.
+fn keep_senders(
+    alloc: Global,
+    queue: &Queue,
+    mut senders: Vec<Sender>,
+) -> Result<Vec<Box<Kept>>, AllocError>
+    requires { fresh_from queue.now 0 senders.items }
+    ensures count { IfOk result (λ k. length k.items ≡ length senders.items) }
+    ensures fresh { IfOk result (λ k. HoldFresh k.items (λ b. b.value) pass.Sender queue.now 0) }
+{
+    let mut all = Vec::new(alloc);
+    for _row in 0..senders.len() {
+        let pass = Pass::Sender(senders.remove(0));
+        all.push(kept(alloc, queue, pass)?)?;
+    }
+    Ok(all)
+}
+
+/// The receivers so, which stand behind so many senders in the row of passes.
+fn keep_receivers(
+    alloc: Global,
+    queue: &Queue,
+    first: u32,
+    mut receivers: Vec<Receiver>,
+) -> Result<Vec<Box<Kept>>, AllocError>
+    requires { fresh_from queue.now first receivers.items }
+    ensures count { IfOk result (λ k. length k.items ≡ length receivers.items) }
+    ensures fresh { IfOk result (λ k. HoldFresh k.items (λ b. b.value) pass.Receiver queue.now first) }
+{
+    let _ = first;
+    let mut all = Vec::new(alloc);
+    for _row in 0..receivers.len() {
+        let pass = Pass::Receiver(receivers.remove(0));
+        all.push(kept(alloc, queue, pass)?)?;
+    }
+    Ok(all)
+}
+
+/// Puts each of these behind the handle of its place.
+fn fill(handles: &mut [Handle], mut all: Vec<Box<Kept>>)
+    requires { length all.items ≡ length handles.old }
+    ensures { map (λ h. h.held.value) handles.new ≡ map (λ b. Some b.value) all.items }
+{
+    for at in 0..handles.len() {
+        let kept = all.remove(0);
+        handles[at] = Handle::of(kept);
+    }
+}
+
+/// Puts the passes of a queue that was opened behind the handles.
+fn hand_out(
+    alloc: Global,
+    config: &Config,
+    opened: Opened,
+    senders: &mut [Handle],
+    receivers: &mut [Handle],
+) -> Result<(), AllocError>
+    requires opened { HasOpened config.now opened }
+    requires senders { length senders.old ≡ config.now.senders }
+    requires receivers { length receivers.old ≡ config.now.receivers }
+    ensures opened { IfOk result (λ _. HaveOpened config.now senders.new receivers.new) }
+    ensures same { IfErr result (λ _. (senders.new ≡ senders.old) × (receivers.new ≡ receivers.old)) }
+{
+    let Opened {
+        queue,
+        senders: sending,
+        receivers: taking,
+    } = opened;
+    let sending = keep_senders(alloc, &queue, sending)?;
+    let taking = keep_receivers(alloc, &queue, config.senders, taking)?;
+    fill(senders, sending);
+    fill(receivers, taking);
+    Ok(())
+}
+
+/// Opens a queue of a configuration that was checked, over handles that are empty.
+pub fn open(
+    alloc: Global,
+    config: &Config,
+    senders: &mut [Handle],
+    receivers: &mut [Handle],
+) -> Result<(), AllocError>
+    requires senders { length senders.old ≡ config.now.senders }
+    requires receivers { length receivers.old ≡ config.now.receivers }
+    ensures opened { IfOk result (λ _. HaveOpened config.now senders.new receivers.new) }
+    ensures same { IfErr result (λ _. (senders.new ≡ senders.old) × (receivers.new ≡ receivers.old)) }
+{
+    match Queue::open(alloc, config) {
+        Ok(opened) => hand_out(alloc, config, opened, senders, receivers),
+        Err(_) => Err(AllocError),
+    }
+}

@@ -1,0 +1,136 @@
+//! What a call tells, and the answers of a queue as that.
+ghost use Rattle.std.specs.Prelude.{◌≡◌};
+ghost use Rattle.cc_binding.specs.Told.{only, none_taken, sent_as, closed_as, taken_as, item_of};
+
+use crate::codes::{ACCEPTED, ALREADY, CLOSED, EMPTY, ENDED, FULL, GOT, SHUT, SPENT};
+use cc_model::{CloseAnswer, Item, SendAnswer, TakeAnswer};
+
+/// What a call of a sender tells.
+#[derive(Clone, Copy)]
+pub struct Told {
+    pub code: u32,
+    /// The place of a send that was accepted, or the total of a close; else 0.
+    pub number: u64,
+    /// How many calls the turn served.
+    pub served: u32,
+}
+
+/// An item as C gets it.
+#[repr(C)]
+#[derive(Clone, Copy)]
+pub struct TakenItem {
+    pub place: u64,
+    pub sender: u32,
+    pub number: u32,
+    pub body: u64,
+}
+
+/// What a take tells.
+#[derive(Clone, Copy)]
+pub struct Taken {
+    pub code: u32,
+    /// The item that was got; else 0 in each field.
+    pub item: TakenItem,
+    /// The total, where the queue has ended; else 0.
+    pub total: u64,
+    /// How many calls the turn served.
+    pub served: u32,
+}
+
+/// No item.
+const NO_ITEM: TakenItem = TakenItem {
+    place: 0,
+    sender: 0,
+    number: 0,
+    body: 0,
+};
+
+impl Told {
+    /// A code alone.
+    pub fn only(code: u32) -> Told
+        ensures { result ≡ only code }
+    {
+        Told {
+            code,
+            number: 0,
+            served: 0,
+        }
+    }
+
+    /// The answer of a send.
+    pub fn sent(answer: SendAnswer, served: u32) -> Told
+        ensures { result ≡ sent_as answer served }
+    {
+        let (code, number) = match answer {
+            SendAnswer::Accepted { place } => (ACCEPTED, place),
+            SendAnswer::Full => (FULL, 0),
+            SendAnswer::Closed => (CLOSED, 0),
+            SendAnswer::Spent => (SPENT, 0),
+        };
+        Told {
+            code,
+            number,
+            served,
+        }
+    }
+
+    /// The answer of a close.
+    pub fn closed(answer: CloseAnswer, served: u32) -> Told
+        ensures { result ≡ closed_as answer served }
+    {
+        let (code, number) = match answer {
+            CloseAnswer::Shut { total } => (SHUT, total),
+            CloseAnswer::Already { total } => (ALREADY, total),
+        };
+        Told {
+            code,
+            number,
+            served,
+        }
+    }
+}
+
+impl TakenItem {
+    /// An item of the queue.
+    fn of(item: Item) -> TakenItem
+        ensures { result ≡ item_of item }
+    {
+        TakenItem {
+            place: item.place,
+            sender: item.sender,
+            number: item.number,
+            body: item.body,
+        }
+    }
+}
+
+impl Taken {
+    /// A code alone.
+    pub fn only(code: u32) -> Taken
+        ensures { result ≡ none_taken code }
+    {
+        Taken {
+            code,
+            item: NO_ITEM,
+            total: 0,
+            served: 0,
+        }
+    }
+
+    /// The answer of a take.
+    pub fn taken(answer: TakeAnswer, served: u32) -> Taken
+        ensures { result ≡ taken_as answer served }
+    {
+        let (code, item, total) = match answer {
+            TakeAnswer::Got(item) => (GOT, TakenItem::of(item), 0),
+            TakeAnswer::Empty => (EMPTY, NO_ITEM, 0),
+            TakeAnswer::Ended { total } => (ENDED, NO_ITEM, total),
+        };
+        Taken {
+            code,
+            item,
+            total,
+            served,
+        }
+    }
+}
