@@ -1,5 +1,5 @@
 //! The queue's atomic steps by hand: the same words in the same slots, sequentially consistent, with nothing proved.
-use crate::Backoff;
+use super::Backoff;
 use std::sync::atomic::{AtomicU64, Ordering::SeqCst};
 
 const LAST: usize = 32;
@@ -55,11 +55,25 @@ pub enum Taken {
 }
 
 impl Queue {
-    pub fn open(senders: usize, receivers: usize, capacity: u64, bound: u32) -> (Queue, Vec<Sender>, Vec<Receiver>) {
+    pub fn open(
+        senders: usize,
+        receivers: usize,
+        capacity: u64,
+        bound: u32,
+    ) -> (Queue, Vec<Sender>, Vec<Receiver>) {
         let take_nodes = NODES + 16 * (senders + 1);
         let items = take_nodes + 16 * (receivers + 1);
-        let words: Box<[AtomicU64]> = (0..items + 8 * (capacity as usize + 2)).map(|_| AtomicU64::new(0)).collect();
-        let queue = Queue { words, take_nodes, items, capacity, bound, life: 1 << 48 };
+        let words: Box<[AtomicU64]> = (0..items + 8 * (capacity as usize + 2))
+            .map(|_| AtomicU64::new(0))
+            .collect();
+        let queue = Queue {
+            words,
+            take_nodes,
+            items,
+            capacity,
+            bound,
+            life: 1 << 48,
+        };
         for at in [16, LAST, 48, HEAD] {
             queue.store(at, 1);
         }
@@ -67,8 +81,16 @@ impl Queue {
         for node in 1..=capacity {
             queue.store(queue.item(node) + 3, 1);
         }
-        let senders = (1..=senders as u64).map(|number| Sender { number, begun: 0, node: number }).collect();
-        let receivers = (1..=receivers as u64).map(|node| Receiver { node }).collect();
+        let senders = (1..=senders as u64)
+            .map(|number| Sender {
+                number,
+                begun: 0,
+                node: number,
+            })
+            .collect();
+        let receivers = (1..=receivers as u64)
+            .map(|node| Receiver { node })
+            .collect();
         (queue, senders, receivers)
     }
 
@@ -85,11 +107,23 @@ impl Queue {
     }
 
     fn sends(&self) -> Chain {
-        Chain { tail: 16, nodes: NODES, tag: 2, body: 3, ret: 4 }
+        Chain {
+            tail: 16,
+            nodes: NODES,
+            tag: 2,
+            body: 3,
+            ret: 4,
+        }
     }
 
     fn takes(&self) -> Chain {
-        Chain { tail: 48, nodes: self.take_nodes, ret: 2, tag: 3, body: 4 }
+        Chain {
+            tail: 48,
+            nodes: self.take_nodes,
+            ret: 2,
+            tag: 3,
+            body: 4,
+        }
     }
 
     /// From the reset of the own node to its exchange.
@@ -131,7 +165,11 @@ impl Queue {
         let tag = self.load(at + 2);
         let body = self.load(at + 3);
         if self.load(SHUT) != 0 {
-            let told = if tag == 0 { 6 * CODE + self.load(COUNT) } else { 3 * CODE };
+            let told = if tag == 0 {
+                6 * CODE + self.load(COUNT)
+            } else {
+                3 * CODE
+            };
             return self.store(at + 4, told);
         }
         let count = self.load(COUNT);
