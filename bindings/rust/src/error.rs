@@ -1,0 +1,162 @@
+//! Why something wasn't done.
+use std::error::Error;
+use std::fmt::{Display, Formatter, Result};
+
+/// Why a queue wasn't opened: the first field of its configuration that is out of its range, or
+/// want of memory.
+#[derive(Clone, Copy, Debug, PartialEq, Eq, Hash)]
+#[non_exhaustive]
+pub enum OpenError {
+    /// `senders` isn't from 1 to 64.
+    Senders,
+    /// `receivers` isn't from 1 to 64.
+    Receivers,
+    /// `capacity` isn't from 1 to 4,096.
+    Capacity,
+    /// `bound` isn't from 1 to 1,024.
+    Bound,
+    /// `life` isn't from 1 to 2^48.
+    Life,
+    /// `per_sender` is 0.
+    PerSender,
+    /// Memory was refused.
+    NoMemory,
+}
+
+/// Why [`try_send`](crate::Sender::try_send) didn't send. Each but `Worn` is the queue's answer.
+#[derive(Clone, Copy, Debug, PartialEq, Eq, Hash)]
+pub enum TrySendError {
+    /// As far as the sender knew, `capacity` items weren't taken yet.
+    Full,
+    /// The queue was closed before.
+    Closed,
+    /// The queue has accepted all the items of its life.
+    Spent,
+    /// The sender has begun all the sends that it may. The queue wasn't asked.
+    Worn,
+}
+
+/// Why [`send`](crate::Sender::send) didn't send. `Closed` and `Spent` are the queue's answers.
+#[derive(Clone, Copy, Debug, PartialEq, Eq, Hash)]
+pub enum SendError {
+    /// The queue was closed before.
+    Closed,
+    /// The queue has accepted all the items of its life.
+    Spent,
+    /// The sender has begun all the sends that it may. The queue wasn't asked.
+    Worn,
+    /// As far as the sender knew, the queue is full, and no receiver is left that could take from it.
+    /// This is no answer of the queue.
+    Disconnected,
+}
+
+/// Why [`try_recv`](crate::Receiver::try_recv) gave no item. Each is the queue's answer.
+#[derive(Clone, Copy, Debug, PartialEq, Eq, Hash)]
+pub enum TryRecvError {
+    /// As far as the receiver knew, all items that were accepted had been taken.
+    Empty,
+    /// The queue is closed, and all its items were taken.
+    Ended {
+        /// How many items were accepted in all.
+        total: u64,
+    },
+}
+
+/// The end: [`recv`](crate::Receiver::recv) gives no more items, since the queue is closed and all
+/// its items were taken.
+#[derive(Clone, Copy, Debug, PartialEq, Eq, Hash)]
+pub struct RecvError {
+    /// How many items were accepted in all.
+    pub total: u64,
+}
+
+/// A sender that has begun all the sends that it may. It can still close the queue.
+#[derive(Clone, Copy, Debug, PartialEq, Eq, Hash)]
+pub struct Worn;
+
+impl From<Worn> for TrySendError {
+    fn from(_: Worn) -> TrySendError {
+        TrySendError::Worn
+    }
+}
+
+impl From<Worn> for SendError {
+    fn from(_: Worn) -> SendError {
+        SendError::Worn
+    }
+}
+
+impl From<RecvError> for TryRecvError {
+    fn from(end: RecvError) -> TryRecvError {
+        TryRecvError::Ended { total: end.total }
+    }
+}
+
+const CLOSED: &str = "the queue is closed";
+const SPENT: &str = "the queue has accepted all the items of its life";
+const WORN: &str = "the sender has begun all the sends that it may";
+const ENDED: &str = "the queue is closed and all its items were taken";
+
+impl Display for OpenError {
+    fn fmt(&self, f: &mut Formatter<'_>) -> Result {
+        f.write_str(match self {
+            OpenError::Senders => "the number of senders isn't from 1 to 64",
+            OpenError::Receivers => "the number of receivers isn't from 1 to 64",
+            OpenError::Capacity => "the capacity isn't from 1 to 4096",
+            OpenError::Bound => "the bound isn't from 1 to 1024",
+            OpenError::Life => "the life isn't from 1 to 2^48",
+            OpenError::PerSender => "the number of sends of a sender is 0",
+            OpenError::NoMemory => "there is no memory for the queue",
+        })
+    }
+}
+
+impl Display for TrySendError {
+    fn fmt(&self, f: &mut Formatter<'_>) -> Result {
+        f.write_str(match self {
+            TrySendError::Full => "the queue is full",
+            TrySendError::Closed => CLOSED,
+            TrySendError::Spent => SPENT,
+            TrySendError::Worn => WORN,
+        })
+    }
+}
+
+impl Display for SendError {
+    fn fmt(&self, f: &mut Formatter<'_>) -> Result {
+        f.write_str(match self {
+            SendError::Closed => CLOSED,
+            SendError::Spent => SPENT,
+            SendError::Worn => WORN,
+            SendError::Disconnected => "the queue is full and no receiver is left",
+        })
+    }
+}
+
+impl Display for TryRecvError {
+    fn fmt(&self, f: &mut Formatter<'_>) -> Result {
+        f.write_str(match self {
+            TryRecvError::Empty => "the queue is empty",
+            TryRecvError::Ended { .. } => ENDED,
+        })
+    }
+}
+
+impl Display for RecvError {
+    fn fmt(&self, f: &mut Formatter<'_>) -> Result {
+        f.write_str(ENDED)
+    }
+}
+
+impl Display for Worn {
+    fn fmt(&self, f: &mut Formatter<'_>) -> Result {
+        f.write_str(WORN)
+    }
+}
+
+impl Error for OpenError {}
+impl Error for TrySendError {}
+impl Error for SendError {}
+impl Error for TryRecvError {}
+impl Error for RecvError {}
+impl Error for Worn {}

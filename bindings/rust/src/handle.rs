@@ -1,0 +1,299 @@
+//! The exports of the proved library, as `bindings/c/vahepito.h` declares them, and a handle that
+//! keeps what they ask for. All unsafe code of this crate is here.
+#![allow(unsafe_code)]
+
+use crate::{Config, Item};
+use std::ffi::c_void;
+use std::mem::{offset_of, size_of};
+use std::ptr::null_mut;
+
+/// What a call tells, by the header's names.
+pub mod code {
+    pub const DONE: u32 = 0;
+    pub const BAD_SENDERS: u32 = 1;
+    pub const BAD_RECEIVERS: u32 = 2;
+    pub const BAD_CAPACITY: u32 = 3;
+    pub const BAD_BOUND: u32 = 4;
+    pub const BAD_LIFE: u32 = 5;
+    pub const BAD_PER_SENDER: u32 = 6;
+    pub const NO_MEMORY: u32 = 7;
+    pub const BUSY: u32 = 11;
+    pub const WORN: u32 = 13;
+    pub const BEGUN: u32 = 14;
+    pub const WAITING: u32 = 15;
+    pub const FRESH: u32 = 16;
+    pub const ACCEPTED: u32 = 17;
+    pub const FULL: u32 = 18;
+    pub const CLOSED: u32 = 19;
+    pub const SPENT: u32 = 20;
+    pub const SHUT: u32 = 21;
+    pub const ALREADY: u32 = 22;
+    pub const GOT: u32 = 23;
+    pub const EMPTY: u32 = 24;
+    pub const ENDED: u32 = 25;
+}
+
+/// A code that the call doesn't tell.
+#[cold]
+pub fn unexpected(code: u32) -> ! {
+    panic!(
+        "the linked library told {code} where it can't: it isn't the one that this crate was written for"
+    )
+}
+
+#[repr(C)]
+struct Pass {
+    at: *mut c_void,
+    live: bool,
+}
+
+// The layouts that the header's types have; a program in C asserts the same of those.
+const _: () = {
+    assert!(size_of::<Pass>() == 16 && offset_of!(Pass, live) == 8);
+    assert!(size_of::<Config>() == 32);
+    assert!(offset_of!(Config, senders) == 0 && offset_of!(Config, receivers) == 4);
+    assert!(offset_of!(Config, capacity) == 8 && offset_of!(Config, bound) == 12);
+    assert!(offset_of!(Config, life) == 16 && offset_of!(Config, per_sender) == 24);
+    assert!(size_of::<Item>() == 24);
+    assert!(offset_of!(Item, place) == 0 && offset_of!(Item, sender) == 8);
+    assert!(offset_of!(Item, number) == 12 && offset_of!(Item, body) == 16);
+};
+
+unsafe extern "C" {
+    fn vahepito_open(
+        config: &Config,
+        senders: *mut Handle,
+        sender_count: usize,
+        receivers: *mut Handle,
+        receiver_count: usize,
+    ) -> u32;
+    fn vahepito_begin_send(sender: &mut Pass, body: u64) -> u32;
+    fn vahepito_turn_send(sender: &mut Pass, place: &mut u64, served: &mut u32) -> u32;
+    fn vahepito_try_send(sender: &mut Pass, body: u64, place: &mut u64, served: &mut u32) -> u32;
+    fn vahepito_is_worn(sender: &mut Pass) -> u32;
+    fn vahepito_begin_close(sender: &mut Pass) -> u32;
+    fn vahepito_turn_close(sender: &mut Pass, total: &mut u64, served: &mut u32) -> u32;
+    fn vahepito_begin_take(receiver: &mut Pass) -> u32;
+    fn vahepito_turn_take(
+        receiver: &mut Pass,
+        item: &mut Item,
+        total: &mut u64,
+        served: &mut u32,
+    ) -> u32;
+    fn vahepito_try_take(
+        receiver: &mut Pass,
+        item: &mut Item,
+        total: &mut u64,
+        served: &mut u32,
+    ) -> u32;
+    fn vahepito_drop(pass: &mut Pass) -> u32;
+}
+
+/// What a send or a close tells: the place or the total where the code has one, and how many calls
+/// were served.
+pub struct Told {
+    pub code: u32,
+    pub number: u64,
+    pub served: u32,
+}
+
+/// What a take tells: the item or the total where the code has one, and how many calls were served.
+pub struct Taken {
+    pub code: u32,
+    pub item: Item,
+    pub total: u64,
+    pub served: u32,
+}
+
+const NO_ITEM: Item = Item {
+    place: 0,
+    sender: 0,
+    number: 0,
+    body: 0,
+};
+
+/// One pass of a queue. It is empty, or `open` filled it; it isn't copied, and its drop lets the
+/// pass go.
+#[repr(transparent)]
+pub struct Handle(Pass);
+
+// SAFETY: the library proves its handle `Send` (`unsafe impl Send for Held`, with its proof). Calls
+// on one handle don't overlap, since each takes it by `&mut`; and moving a value between threads
+// orders what was done on either.
+unsafe impl Send for Handle {}
+
+// SAFETY, of all the calls below: the handle is empty or was filled by `vahepito_open`, since the
+// field is private; it is the only one of its pass, and this call's alone, by `&mut`; each other
+// pointer is that of a variable of its own.
+impl Handle {
+    pub const fn empty() -> Handle {
+        Handle(Pass {
+            at: null_mut(),
+            live: false,
+        })
+    }
+
+    #[inline]
+    pub fn begin_send(&mut self, body: u64) -> u32 {
+        unsafe { vahepito_begin_send(&mut self.0, body) }
+    }
+
+    #[inline]
+    pub fn turn_send(&mut self) -> Told {
+        let (mut number, mut served) = (0, 0);
+        let code = unsafe { vahepito_turn_send(&mut self.0, &mut number, &mut served) };
+        Told {
+            code,
+            number,
+            served,
+        }
+    }
+
+    #[inline]
+    pub fn try_send(&mut self, body: u64) -> Told {
+        let (mut number, mut served) = (0, 0);
+        let code = unsafe { vahepito_try_send(&mut self.0, body, &mut number, &mut served) };
+        Told {
+            code,
+            number,
+            served,
+        }
+    }
+
+    #[inline]
+    pub fn is_worn(&mut self) -> u32 {
+        unsafe { vahepito_is_worn(&mut self.0) }
+    }
+
+    pub fn begin_close(&mut self) -> u32 {
+        unsafe { vahepito_begin_close(&mut self.0) }
+    }
+
+    pub fn turn_close(&mut self) -> Told {
+        let (mut number, mut served) = (0, 0);
+        let code = unsafe { vahepito_turn_close(&mut self.0, &mut number, &mut served) };
+        Told {
+            code,
+            number,
+            served,
+        }
+    }
+
+    #[inline]
+    pub fn begin_take(&mut self) -> u32 {
+        unsafe { vahepito_begin_take(&mut self.0) }
+    }
+
+    #[inline]
+    pub fn turn_take(&mut self) -> Taken {
+        let (mut item, mut total, mut served) = (NO_ITEM, 0, 0);
+        let code = unsafe { vahepito_turn_take(&mut self.0, &mut item, &mut total, &mut served) };
+        Taken {
+            code,
+            item,
+            total,
+            served,
+        }
+    }
+
+    #[inline]
+    pub fn try_take(&mut self) -> Taken {
+        let (mut item, mut total, mut served) = (NO_ITEM, 0, 0);
+        let code = unsafe { vahepito_try_take(&mut self.0, &mut item, &mut total, &mut served) };
+        Taken {
+            code,
+            item,
+            total,
+            served,
+        }
+    }
+}
+
+impl Drop for Handle {
+    fn drop(&mut self) {
+        // An empty handle is answered so, and nothing is done.
+        unsafe { vahepito_drop(&mut self.0) };
+    }
+}
+
+/// Fills the handles, all of which are empty.
+pub fn open(config: &Config, senders: &mut [Handle], receivers: &mut [Handle]) -> u32 {
+    // SAFETY: the pointers and counts are those of two slices, and the handles of both are empty.
+    unsafe {
+        vahepito_open(
+            config,
+            senders.as_mut_ptr(),
+            senders.len(),
+            receivers.as_mut_ptr(),
+            receivers.len(),
+        )
+    }
+}
+
+#[cfg(test)]
+mod tests {
+    use super::code::*;
+    use std::collections::BTreeMap;
+
+    const HEADER: &str = include_str!("../../c/vahepito.h");
+
+    /// The header's codes by their names.
+    fn codes() -> BTreeMap<&'static str, u32> {
+        let lines = HEADER.lines().filter_map(|line| {
+            let (name, rest) = line.trim().strip_prefix("VAHEPITO_")?.split_once(" = ")?;
+            let number = rest.split(|c: char| !c.is_ascii_digit()).next()?;
+            Some((name, number.parse().ok()?))
+        });
+        lines.collect()
+    }
+
+    #[test]
+    fn the_codes_are_those_of_the_header() {
+        let mut header = codes();
+        // Those that this crate doesn't name.
+        for never in ["BAD_HANDLES", "NO_PASS", "WRONG_SIDE", "NOT_BEGUN"] {
+            assert!(header.remove(never).is_some(), "{never}");
+        }
+        let here = [
+            ("DONE", DONE),
+            ("BAD_SENDERS", BAD_SENDERS),
+            ("BAD_RECEIVERS", BAD_RECEIVERS),
+            ("BAD_CAPACITY", BAD_CAPACITY),
+            ("BAD_BOUND", BAD_BOUND),
+            ("BAD_LIFE", BAD_LIFE),
+            ("BAD_PER_SENDER", BAD_PER_SENDER),
+            ("NO_MEMORY", NO_MEMORY),
+            ("BUSY", BUSY),
+            ("WORN", WORN),
+            ("BEGUN", BEGUN),
+            ("WAITING", WAITING),
+            ("FRESH", FRESH),
+            ("ACCEPTED", ACCEPTED),
+            ("FULL", FULL),
+            ("CLOSED", CLOSED),
+            ("SPENT", SPENT),
+            ("SHUT", SHUT),
+            ("ALREADY", ALREADY),
+            ("GOT", GOT),
+            ("EMPTY", EMPTY),
+            ("ENDED", ENDED),
+        ];
+        assert_eq!(header, BTreeMap::from(here));
+    }
+
+    #[test]
+    fn the_exports_are_those_of_the_header() {
+        let code = include_str!("handle.rs");
+        let names = |text: &'static str, before: &str| {
+            let mut names: Vec<_> = text
+                .lines()
+                .filter_map(|line| line.trim().strip_prefix(before)?.split('(').next())
+                .collect();
+            names.sort();
+            names
+        };
+        let header = names(HEADER, "uint32_t vahepito_");
+        assert_eq!(names(code, "fn vahepito_"), header);
+        assert_eq!(header.len(), 11);
+    }
+}

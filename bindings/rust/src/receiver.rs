@@ -1,0 +1,270 @@
+//! Receivers, and their pending calls.
+use crate::backoff::{Backoff, turn_until};
+use crate::config::Left;
+use crate::handle::{Handle, Taken, code, unexpected};
+use crate::{RecvError, TryRecvError, Turn};
+use std::fmt;
+use std::iter::FusedIterator;
+use std::sync::Arc;
+use std::sync::atomic::Ordering;
+
+/// An item that was taken.
+#[derive(Clone, Copy, Debug, PartialEq, Eq, Hash)]
+#[repr(C)]
+pub struct Item {
+    /// Which of the items it is that the queue accepted, from 0.
+    pub place: u64,
+    /// The number of its sender, from 1.
+    pub sender: u32,
+    /// Which of its sender's sends it is, from 1. Sends that weren't accepted count too.
+    pub number: u32,
+    /// What was sent.
+    pub body: u64,
+}
+
+/// One receiver of a queue.
+///
+/// It goes to another thread, and is used by one thread at a time: its calls take it by `&mut`, so
+/// there is nothing to share by `&`. It isn't cloned: a queue has as many as it was opened with.
+///
+/// Its drop goes on to the end of a call that was begun; an item that this call got is lost.
+pub struct Receiver {
+    handle: Handle,
+    number: u32,
+    left: Arc<Left>,
+    /// What a take got whose guard was dropped or forgotten. No call is begun where there is one.
+    kept: Option<Item>,
+}
+
+fn taken(taken: &Taken) -> Result<Item, TryRecvError> {
+    match taken.code {
+        code::GOT => Ok(taken.item),
+        code::EMPTY => Err(TryRecvError::Empty),
+        code::ENDED => Err(TryRecvError::Ended { total: taken.total }),
+        code => unexpected(code),
+    }
+}
+
+impl Receiver {
+    pub(crate) fn new(handle: Handle, number: u32, left: &Arc<Left>) -> Receiver {
+        Receiver {
+            handle,
+            number,
+            left: left.clone(),
+            kept: None,
+        }
+    }
+
+    /// Its number among the receivers, from 1.
+    pub fn number(&self) -> u32 {
+        self.number
+    }
+
+    /// Takes an item, if there is one.
+    ///
+    /// It isn't crossbeam's `try_recv` in this: another thread may be serving the calls of all
+    /// receivers at this moment, and then it waits for its answer. To do something else meanwhile,
+    /// [`begin`](Receiver::begin) the take and turn it.
+    ///
+    /// # Errors
+    ///
+    /// See [`TryRecvError`].
+    pub fn try_recv(&mut self) -> Result<Item, TryRecvError> {
+        loop {
+            if let Some(item) = self.kept.take() {
+                return Ok(item);
+            }
+            let told = self.handle.try_take();
+            match told.code {
+                code::WAITING => return turn_until(|| self.turn_take()).0,
+                code::BUSY => self.settle(),
+                _ => return taken(&told),
+            }
+        }
+    }
+
+    /// Takes an item, and tries again as long as the queue is empty and open.
+    ///
+    /// Between two tries it spins, then yields, and then sleeps up to a millisecond.
+    ///
+    /// # Errors
+    ///
+    /// The queue is closed, and all its items were taken.
+    pub fn recv(&mut self) -> Result<Item, RecvError> {
+        let mut backoff = Backoff::new();
+        loop {
+            match self.try_recv() {
+                Ok(item) => return Ok(item),
+                Err(TryRecvError::Ended { total }) => return Err(RecvError { total }),
+                Err(TryRecvError::Empty) => backoff.between_tries(),
+            }
+        }
+    }
+
+    /// Takes items until the end, by [`recv`](Receiver::recv).
+    pub fn iter(&mut self) -> Iter<'_> {
+        Iter { receiver: self }
+    }
+
+    /// Takes items as long as there are some, by [`try_recv`](Receiver::try_recv).
+    pub fn try_iter(&mut self) -> TryIter<'_> {
+        TryIter { receiver: self }
+    }
+
+    /// Begins a take, and does nothing more.
+    ///
+    /// The call stands in line among the receivers' calls from here on, and may be served by any of
+    /// them. So the guard is to be turned without delay, until it is done: see
+    /// [Guards](crate#guards).
+    pub fn begin(&mut self) -> PendingRecv<'_> {
+        while self.kept.is_none() {
+            match self.handle.begin_take() {
+                code::BEGUN => break,
+                code::BUSY => self.settle(),
+                code => unexpected(code),
+            }
+        }
+        PendingRecv {
+            receiver: self,
+            done: false,
+        }
+    }
+
+    fn turn_take(&mut self) -> Option<(Result<Item, TryRecvError>, u32)> {
+        if let Some(item) = self.kept.take() {
+            return Some((Ok(item), 0));
+        }
+        let told = self.handle.turn_take();
+        (told.code != code::WAITING).then(|| (taken(&told), told.served))
+    }
+
+    /// Goes on to the end of a call whose guard was dropped or forgotten, if there is one, and
+    /// keeps what it got.
+    #[cold]
+    fn settle(&mut self) {
+        if self.kept.is_none() {
+            let told = turn_until(|| {
+                Some(self.handle.turn_take()).filter(|told| told.code != code::WAITING)
+            });
+            self.kept = (told.code == code::GOT).then_some(told.item);
+        }
+    }
+}
+
+impl Drop for Receiver {
+    fn drop(&mut self) {
+        self.settle();
+        self.left.receivers.fetch_sub(1, Ordering::AcqRel);
+    }
+}
+
+impl fmt::Debug for Receiver {
+    fn fmt(&self, f: &mut fmt::Formatter<'_>) -> fmt::Result {
+        f.debug_struct("Receiver")
+            .field("number", &self.number)
+            .finish_non_exhaustive()
+    }
+}
+
+/// A take that was begun: see [Guards](crate#guards).
+///
+/// What it gets isn't lost where the guard is dropped: the receiver keeps the item, and its next
+/// call gives it.
+#[derive(Debug)]
+#[must_use = "a call that was begun is to be turned until it is done"]
+pub struct PendingRecv<'a> {
+    receiver: &'a mut Receiver,
+    done: bool,
+}
+
+impl PendingRecv<'_> {
+    /// One turn: looks once whether the answer is there, and serves the calls of other receivers
+    /// with its own where it is this call's part to do so. It never waits.
+    pub fn turn(mut self) -> Turn<Self, Result<Item, TryRecvError>> {
+        match self.receiver.turn_take() {
+            None => Turn::Waiting(self),
+            Some((answer, served)) => {
+                self.done = true;
+                Turn::Done { answer, served }
+            }
+        }
+    }
+
+    /// Turns until the answer, and spins or yields in between.
+    pub fn wait(mut self) -> Result<Item, TryRecvError> {
+        let (answer, _) = turn_until(|| self.receiver.turn_take());
+        self.done = true;
+        answer
+    }
+}
+
+impl Drop for PendingRecv<'_> {
+    fn drop(&mut self) {
+        if !self.done {
+            self.receiver.settle();
+        }
+    }
+}
+
+/// Takes items until the end: see [`Receiver::iter`].
+#[derive(Debug)]
+pub struct Iter<'a> {
+    receiver: &'a mut Receiver,
+}
+
+/// Takes items as long as there are some: see [`Receiver::try_iter`].
+#[derive(Debug)]
+pub struct TryIter<'a> {
+    receiver: &'a mut Receiver,
+}
+
+/// Takes items until the end, and has the receiver.
+#[derive(Debug)]
+pub struct IntoIter {
+    receiver: Receiver,
+}
+
+impl Iterator for Iter<'_> {
+    type Item = Item;
+
+    fn next(&mut self) -> Option<Item> {
+        self.receiver.recv().ok()
+    }
+}
+
+impl Iterator for TryIter<'_> {
+    type Item = Item;
+
+    fn next(&mut self) -> Option<Item> {
+        self.receiver.try_recv().ok()
+    }
+}
+
+impl Iterator for IntoIter {
+    type Item = Item;
+
+    fn next(&mut self) -> Option<Item> {
+        self.receiver.recv().ok()
+    }
+}
+
+impl FusedIterator for Iter<'_> {}
+impl FusedIterator for IntoIter {}
+
+impl<'a> IntoIterator for &'a mut Receiver {
+    type Item = Item;
+    type IntoIter = Iter<'a>;
+
+    fn into_iter(self) -> Iter<'a> {
+        self.iter()
+    }
+}
+
+impl IntoIterator for Receiver {
+    type Item = Item;
+    type IntoIter = IntoIter;
+
+    fn into_iter(self) -> IntoIter {
+        IntoIter { receiver: self }
+    }
+}

@@ -1,0 +1,301 @@
+//! Senders, and their pending calls.
+use crate::backoff::{Backoff, turn_until};
+use crate::config::Left;
+use crate::handle::{Handle, Told, code, unexpected};
+use crate::{SendError, TrySendError, Turn, Worn};
+use std::fmt;
+use std::sync::Arc;
+use std::sync::atomic::Ordering;
+
+/// One sender of a queue.
+///
+/// It goes to another thread, and is used by one thread at a time: its calls take it by `&mut`, so
+/// there is nothing to share by `&`. It isn't cloned: a queue has as many as it was opened with.
+///
+/// Its drop goes on to the end of a call that was begun. The drop of the last sender also closes
+/// the queue, so that the receivers see its end.
+pub struct Sender {
+    handle: Handle,
+    number: u32,
+    left: Arc<Left>,
+}
+
+/// What a close tells.
+#[derive(Clone, Copy, Debug, PartialEq, Eq, Hash)]
+pub enum Closed {
+    /// This close closed the queue.
+    Shut {
+        /// How many items were accepted in all.
+        total: u64,
+    },
+    /// The queue was closed before.
+    Already {
+        /// How many items were accepted in all.
+        total: u64,
+    },
+}
+
+impl Closed {
+    /// How many items were accepted in all.
+    pub fn total(self) -> u64 {
+        match self {
+            Closed::Shut { total } | Closed::Already { total } => total,
+        }
+    }
+}
+
+fn sent(told: &Told) -> Result<u64, TrySendError> {
+    match told.code {
+        code::ACCEPTED => Ok(told.number),
+        code::FULL => Err(TrySendError::Full),
+        code::CLOSED => Err(TrySendError::Closed),
+        code::SPENT => Err(TrySendError::Spent),
+        code => unexpected(code),
+    }
+}
+
+fn closed(told: &Told) -> Closed {
+    match told.code {
+        code::SHUT => Closed::Shut { total: told.number },
+        code::ALREADY => Closed::Already { total: told.number },
+        code => unexpected(code),
+    }
+}
+
+impl Sender {
+    pub(crate) fn new(handle: Handle, number: u32, left: &Arc<Left>) -> Sender {
+        Sender {
+            handle,
+            number,
+            left: left.clone(),
+        }
+    }
+
+    /// Its number among the senders, from 1. [`Item::sender`](crate::Item::sender) is this number.
+    pub fn number(&self) -> u32 {
+        self.number
+    }
+
+    /// Whether it has begun all the sends that it may, so that a further one is `Worn`.
+    ///
+    /// By `&mut`, since it first goes on to the end of a send or a close whose guard was forgotten.
+    pub fn is_worn(&mut self) -> bool {
+        loop {
+            match self.handle.is_worn() {
+                code::FRESH => return false,
+                code::WORN => return true,
+                code::BUSY => self.settle(),
+                code => unexpected(code),
+            }
+        }
+    }
+
+    /// Sends, and gives the place of the item among all that the queue accepted, from 0. It doesn't
+    /// try again where the queue is full.
+    ///
+    /// It isn't crossbeam's `try_send` in this: another thread may be serving the calls of all
+    /// senders at this moment, and then it waits for its answer. To do something else meanwhile,
+    /// [`begin`](Sender::begin) the send and turn it.
+    ///
+    /// # Errors
+    ///
+    /// See [`TrySendError`]. `Full` is told by what the sender knew: `capacity` items had been
+    /// accepted beyond those of which it knew that they were taken.
+    pub fn try_send(&mut self, body: u64) -> Result<u64, TrySendError> {
+        loop {
+            let told = self.handle.try_send(body);
+            match told.code {
+                code::WAITING => return turn_until(|| self.turn_send()).0,
+                code::WORN => return Err(TrySendError::Worn),
+                code::BUSY => self.settle(),
+                _ => return sent(&told),
+            }
+        }
+    }
+
+    /// Sends, and tries again as long as the queue is full. Gives the place of the item among all
+    /// that the queue accepted, from 0.
+    ///
+    /// Between two tries it spins, then yields, and then sleeps up to a millisecond. Each try is a
+    /// send that was begun, and counts in `per_sender`.
+    ///
+    /// # Errors
+    ///
+    /// See [`SendError`]. `Disconnected` isn't an answer of the queue but of this crate: where the
+    /// queue was full and all receivers were dropped, it would stay so.
+    pub fn send(&mut self, body: u64) -> Result<u64, SendError> {
+        let mut backoff = Backoff::new();
+        let mut alone = false;
+        loop {
+            match self.try_send(body) {
+                Ok(place) => return Ok(place),
+                Err(TrySendError::Closed) => return Err(SendError::Closed),
+                Err(TrySendError::Spent) => return Err(SendError::Spent),
+                Err(TrySendError::Worn) => return Err(SendError::Worn),
+                Err(TrySendError::Full) if alone => return Err(SendError::Disconnected),
+                Err(TrySendError::Full) => {
+                    // Receivers that are gone may have gone because the queue was closed since: the
+                    // next try tells.
+                    alone = self.left.receivers.load(Ordering::Acquire) == 0;
+                    backoff.between_tries();
+                }
+            }
+        }
+    }
+
+    /// Closes the queue: nothing is accepted after it, and the receivers see the end once they have
+    /// taken what was accepted. A worn sender may close, and a queue may be closed twice.
+    pub fn close(&mut self) -> Closed {
+        self.begin_close().wait()
+    }
+
+    /// Begins a send, and does nothing more.
+    ///
+    /// The call stands in line among the senders' calls from here on, and may be served by any of
+    /// them. So the guard is to be turned without delay, until it is done: see
+    /// [Guards](crate#guards).
+    ///
+    /// # Errors
+    ///
+    /// The sender has begun all the sends that it may; nothing was begun.
+    pub fn begin(&mut self, body: u64) -> Result<PendingSend<'_>, Worn> {
+        loop {
+            match self.handle.begin_send(body) {
+                code::BEGUN => {
+                    return Ok(PendingSend {
+                        sender: self,
+                        done: false,
+                    });
+                }
+                code::WORN => return Err(Worn),
+                code::BUSY => self.settle(),
+                code => unexpected(code),
+            }
+        }
+    }
+
+    /// Begins a close, and does nothing more, as [`begin`](Sender::begin) of a send.
+    pub fn begin_close(&mut self) -> PendingClose<'_> {
+        loop {
+            match self.handle.begin_close() {
+                code::BEGUN => {
+                    return PendingClose {
+                        sender: self,
+                        done: false,
+                    };
+                }
+                code::BUSY => self.settle(),
+                code => unexpected(code),
+            }
+        }
+    }
+
+    fn turn_send(&mut self) -> Option<(Result<u64, TrySendError>, u32)> {
+        let told = self.handle.turn_send();
+        (told.code != code::WAITING).then(|| (sent(&told), told.served))
+    }
+
+    fn turn_close(&mut self) -> Option<(Closed, u32)> {
+        let told = self.handle.turn_close();
+        (told.code != code::WAITING).then(|| (closed(&told), told.served))
+    }
+
+    /// Goes on to the end of a call whose guard was forgotten. A send that isn't there says so, and
+    /// so does a close.
+    #[cold]
+    fn settle(&mut self) {
+        turn_until(|| (self.handle.turn_send().code != code::WAITING).then_some(()));
+        turn_until(|| (self.handle.turn_close().code != code::WAITING).then_some(()));
+    }
+}
+
+impl Drop for Sender {
+    fn drop(&mut self) {
+        self.settle();
+        if self.left.senders.fetch_sub(1, Ordering::AcqRel) == 1 {
+            self.close();
+        }
+    }
+}
+
+impl fmt::Debug for Sender {
+    fn fmt(&self, f: &mut fmt::Formatter<'_>) -> fmt::Result {
+        f.debug_struct("Sender")
+            .field("number", &self.number)
+            .finish_non_exhaustive()
+    }
+}
+
+/// A send that was begun: see [Guards](crate#guards).
+#[derive(Debug)]
+#[must_use = "a call that was begun is to be turned until it is done"]
+pub struct PendingSend<'a> {
+    sender: &'a mut Sender,
+    done: bool,
+}
+
+impl PendingSend<'_> {
+    /// One turn: looks once whether the answer is there, and serves the calls of other senders with
+    /// its own where it is this call's part to do so. It never waits.
+    pub fn turn(mut self) -> Turn<Self, Result<u64, TrySendError>> {
+        match self.sender.turn_send() {
+            None => Turn::Waiting(self),
+            Some((answer, served)) => {
+                self.done = true;
+                Turn::Done { answer, served }
+            }
+        }
+    }
+
+    /// Turns until the answer, and spins or yields in between. The answer is as of
+    /// [`Sender::try_send`], but never `Worn`.
+    pub fn wait(mut self) -> Result<u64, TrySendError> {
+        let (answer, _) = turn_until(|| self.sender.turn_send());
+        self.done = true;
+        answer
+    }
+}
+
+impl Drop for PendingSend<'_> {
+    fn drop(&mut self) {
+        if !self.done {
+            self.sender.settle();
+        }
+    }
+}
+
+/// A close that was begun: see [Guards](crate#guards).
+#[derive(Debug)]
+#[must_use = "a call that was begun is to be turned until it is done"]
+pub struct PendingClose<'a> {
+    sender: &'a mut Sender,
+    done: bool,
+}
+
+impl PendingClose<'_> {
+    /// One turn, as of [`PendingSend::turn`].
+    pub fn turn(mut self) -> Turn<Self, Closed> {
+        match self.sender.turn_close() {
+            None => Turn::Waiting(self),
+            Some((answer, served)) => {
+                self.done = true;
+                Turn::Done { answer, served }
+            }
+        }
+    }
+
+    /// Turns until the answer, and spins or yields in between.
+    pub fn wait(mut self) -> Closed {
+        let (answer, _) = turn_until(|| self.sender.turn_close());
+        self.done = true;
+        answer
+    }
+}
+
+impl Drop for PendingClose<'_> {
+    fn drop(&mut self) {
+        if !self.done {
+            self.sender.settle();
+        }
+    }
+}
