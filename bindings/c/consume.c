@@ -1,0 +1,184 @@
+/* A topic in C: some threads publish into it, and some consume it until it ends.
+ *
+ *     consume [ITEMS]
+ *
+ * Each of three publishers sends ITEMS numbers (10,000), each of two consumers takes until the end. It ends with status 0
+ * where each item was taken once, each consumer saw each publisher's items in order, and each answer was a lawful one. */
+#include "vahepito.h"
+
+#include <pthread.h>
+#include <sched.h>
+#include <stddef.h>
+#include <stdio.h>
+#include <stdlib.h>
+#include <time.h>
+
+/* The layouts that other languages declare. */
+_Static_assert(sizeof(vahepito_pass) == 16 && offsetof(vahepito_pass, live) == 8, "vahepito_pass");
+_Static_assert(sizeof(vahepito_config) == 32, "vahepito_config");
+_Static_assert(offsetof(vahepito_config, senders) == 0 && offsetof(vahepito_config, receivers) == 4, "vahepito_config");
+_Static_assert(offsetof(vahepito_config, capacity) == 8 && offsetof(vahepito_config, bound) == 12, "vahepito_config");
+_Static_assert(offsetof(vahepito_config, life) == 16 && offsetof(vahepito_config, per_sender) == 24, "vahepito_config");
+_Static_assert(sizeof(vahepito_item) == 24, "vahepito_item");
+_Static_assert(offsetof(vahepito_item, place) == 0 && offsetof(vahepito_item, sender) == 8, "vahepito_item");
+_Static_assert(offsetof(vahepito_item, number) == 12 && offsetof(vahepito_item, body) == 16, "vahepito_item");
+
+enum { PUBLISHERS = 3, CONSUMERS = 2 };
+
+static uint64_t items = 10000;
+
+static void check(int holds, const char *what) {
+    if (!holds) {
+        fprintf(stderr, "consume: not so: %s\n", what);
+        exit(1);
+    }
+}
+
+/* Lets some time pass until the next try of a pass that has no call. */
+static void rest(unsigned *tries) {
+    const struct timespec a_tenth_of_a_millisecond = {0, 100000};
+    if (++*tries < 64)
+        sched_yield();
+    else
+        nanosleep(&a_tenth_of_a_millisecond, NULL);
+}
+
+/* Sends, and waits for the answer. Others may wait for this call, so it goes on without a rest. */
+static uint32_t send_one(vahepito_pass *sender, uint64_t body, uint64_t *place) {
+    uint32_t served = 0;
+    uint32_t code = vahepito_try_send(sender, body, place, &served);
+    while (code == VAHEPITO_WAITING) {
+        sched_yield();
+        code = vahepito_turn_send(sender, place, &served);
+    }
+    return code;
+}
+
+/* Takes, and waits for the answer. */
+static uint32_t take_one(vahepito_pass *receiver, vahepito_item *item, uint64_t *total) {
+    uint32_t served = 0;
+    uint32_t code = vahepito_try_take(receiver, item, total, &served);
+    while (code == VAHEPITO_WAITING) {
+        sched_yield();
+        code = vahepito_turn_take(receiver, item, total, &served);
+    }
+    return code;
+}
+
+static uint64_t close_topic(vahepito_pass *sender) {
+    uint64_t total = 0;
+    uint32_t served = 0;
+    check(vahepito_begin_close(sender) == VAHEPITO_BEGUN, "a close is begun");
+    uint32_t code = vahepito_turn_close(sender, &total, &served);
+    while (code == VAHEPITO_WAITING) {
+        sched_yield();
+        code = vahepito_turn_close(sender, &total, &served);
+    }
+    check(code == VAHEPITO_SHUT, "the first close closes");
+    return total;
+}
+
+/* Sends 1, 2, .. up to the number of items. The handle is this thread's from its start to its end. */
+static void *publish(void *handle) {
+    vahepito_pass *sender = handle;
+    uint64_t last = 0;
+    for (uint64_t body = 1; body <= items; body++) {
+        uint64_t place = 0;
+        unsigned tries = 0;
+        uint32_t code;
+        while ((code = send_one(sender, body, &place)) == VAHEPITO_FULL) rest(&tries);
+        check(code == VAHEPITO_ACCEPTED, "a send is accepted in the end");
+        check(body == 1 || place > last, "places rise");
+        last = place;
+    }
+    return NULL;
+}
+
+struct consumer {
+    vahepito_pass *receiver;
+    uint64_t got, sum, total;
+};
+
+/* Takes until the end. */
+static void *consume(void *at) {
+    struct consumer *mine = at;
+    uint64_t last[PUBLISHERS + 1] = {0};
+    unsigned tries = 0;
+    for (;;) {
+        vahepito_item item = {0};
+        uint32_t code = take_one(mine->receiver, &item, &mine->total);
+        if (code == VAHEPITO_ENDED) return NULL;
+        if (code == VAHEPITO_EMPTY) {
+            rest(&tries);
+            continue;
+        }
+        check(code == VAHEPITO_GOT, "a take gets an item, or is told that there is none");
+        check(item.sender >= 1 && item.sender <= PUBLISHERS, "an item has its sender");
+        check(item.body > last[item.sender], "each sender's items come in order");
+        check(item.number >= item.body, "each send has a number");
+        last[item.sender] = item.body;
+        mine->got++;
+        mine->sum += item.body;
+        tries = 0;
+    }
+}
+
+/* What is refused, on one thread. */
+static void refusals(vahepito_pass *senders, vahepito_pass *receivers) {
+    uint64_t number = 0;
+    uint32_t served = 0;
+    vahepito_item item = {0};
+    vahepito_pass empty = {0};
+    check(vahepito_begin_send(&empty, 1) == VAHEPITO_NO_PASS, "an empty handle has no pass");
+    check(vahepito_drop(&empty) == VAHEPITO_NO_PASS, "an empty handle has nothing to drop");
+    check(vahepito_begin_send(&receivers[0], 1) == VAHEPITO_WRONG_SIDE, "a receiver doesn't send");
+    check(vahepito_begin_take(&senders[0]) == VAHEPITO_WRONG_SIDE, "a sender doesn't take");
+    check(vahepito_turn_send(&senders[0], &number, &served) == VAHEPITO_NOT_BEGUN, "no send is turned that wasn't begun");
+    check(vahepito_turn_close(&senders[0], &number, &served) == VAHEPITO_NOT_BEGUN, "nor a close");
+    check(vahepito_turn_take(&receivers[0], &item, &number, &served) == VAHEPITO_NOT_BEGUN, "nor a take");
+    check(vahepito_begin_take(&receivers[0]) == VAHEPITO_BEGUN, "a take is begun");
+    check(vahepito_begin_take(&receivers[0]) == VAHEPITO_BUSY, "one at a time");
+    check(vahepito_turn_take(&receivers[0], &item, &number, &served) == VAHEPITO_EMPTY && served == 1, "there is no item");
+    check(vahepito_is_worn(&senders[0]) == VAHEPITO_FRESH, "a sender begins fresh");
+}
+
+int main(int count, char **words) {
+    if (count > 1) items = strtoull(words[1], NULL, 10);
+    const vahepito_config config = {PUBLISHERS, CONSUMERS, 64, 8, (uint64_t)1 << 48, UINT32_MAX};
+    const vahepito_config no_capacity = {PUBLISHERS, CONSUMERS, 0, 8, (uint64_t)1 << 48, UINT32_MAX};
+    vahepito_pass senders[PUBLISHERS] = {0}, receivers[CONSUMERS] = {0};
+    check(vahepito_open(&no_capacity, senders, PUBLISHERS, receivers, CONSUMERS) == VAHEPITO_BAD_CAPACITY, "no capacity is refused");
+    check(vahepito_open(&config, senders, PUBLISHERS - 1, receivers, CONSUMERS) == VAHEPITO_BAD_HANDLES, "a handle is missing");
+    check(vahepito_open(&config, senders, PUBLISHERS, receivers, CONSUMERS) == VAHEPITO_DONE, "the topic is opened");
+    check(vahepito_open(&config, senders, PUBLISHERS, receivers, CONSUMERS) == VAHEPITO_BAD_HANDLES, "the handles are in use");
+    refusals(senders, receivers);
+
+    pthread_t publishers[PUBLISHERS], threads[CONSUMERS];
+    struct consumer consumers[CONSUMERS] = {0};
+    for (int k = 0; k < CONSUMERS; k++) {
+        consumers[k].receiver = &receivers[k];
+        check(!pthread_create(&threads[k], NULL, consume, &consumers[k]), "a thread starts");
+    }
+    for (int k = 0; k < PUBLISHERS; k++) check(!pthread_create(&publishers[k], NULL, publish, &senders[k]), "a thread starts");
+    for (int k = 0; k < PUBLISHERS; k++) check(!pthread_join(publishers[k], NULL), "a thread ends");
+    uint64_t total = close_topic(&senders[0]), got = 0, sum = 0;
+    for (int k = 0; k < CONSUMERS; k++) {
+        check(!pthread_join(threads[k], NULL), "a thread ends");
+        check(consumers[k].total == total, "the end tells the total");
+        got += consumers[k].got;
+        sum += consumers[k].sum;
+    }
+    uint64_t place = 0;
+    check(send_one(&senders[1], 1, &place) == VAHEPITO_CLOSED, "nothing is accepted after the close");
+
+    /* A call that was begun is given up with its handle; the last handle frees the topic. */
+    check(vahepito_begin_send(&senders[2], 1) == VAHEPITO_BEGUN, "a send is begun");
+    for (int k = 0; k < PUBLISHERS; k++) check(vahepito_drop(&senders[k]) == VAHEPITO_DONE, "a sender is let go");
+    for (int k = 0; k < CONSUMERS; k++) check(vahepito_drop(&receivers[k]) == VAHEPITO_DONE, "a receiver is let go");
+    for (int k = 0; k < CONSUMERS; k++) check(!receivers[k].live, "its handle is empty");
+
+    check(total == PUBLISHERS * items && got == total, "each item was taken once");
+    check(sum == PUBLISHERS * (items * (items + 1) / 2), "and as it was sent");
+    printf("%llu items\n", (unsigned long long)got);
+    return 0;
+}

@@ -1,0 +1,109 @@
+/* What the library does with memory: linked with --wrap for malloc, realloc and free, so that each of its allocations is
+ * counted and can be refused.
+ *
+ * An opening that is refused memory says so, whichever of its allocations that is, leaves the handles empty and keeps
+ * nothing. No later call takes memory. The last handle frees all, and none before it frees the queue. */
+#include "vahepito.h"
+
+#include <stdio.h>
+#include <stdlib.h>
+#include <string.h>
+
+void *__real_malloc(size_t);
+void *__real_realloc(void *, size_t);
+void __real_free(void *);
+
+/* how many allocations were asked for, which of them is refused (0: none), and how many blocks there are */
+static long asked, refused, blocks;
+
+static int is_refused(void) { return ++asked == refused; }
+
+void *__wrap_malloc(size_t size) {
+    if (is_refused()) return NULL;
+    void *at = __real_malloc(size);
+    blocks += at != NULL;
+    return at;
+}
+
+void *__wrap_realloc(void *old, size_t size) {
+    if (is_refused()) return NULL;
+    void *at = __real_realloc(old, size);
+    blocks += old == NULL && at != NULL;
+    return at;
+}
+
+void __wrap_free(void *at) {
+    blocks -= at != NULL;
+    __real_free(at);
+}
+
+static void check(int holds, const char *what) {
+    if (!holds) {
+        fprintf(stderr, "memory: not so: %s (allocation %ld refused)\n", what, refused);
+        exit(1);
+    }
+}
+
+enum { SENDERS = 2, RECEIVERS = 3, PASSES = SENDERS + RECEIVERS };
+
+/* Every call of an open queue, with each answer. */
+static void call_all(vahepito_pass *senders, vahepito_pass *receivers) {
+    uint64_t number = 0;
+    uint32_t served = 0;
+    vahepito_item item = {0};
+    for (int k = 0; k < SENDERS; k++) check(vahepito_is_worn(&senders[k]) == VAHEPITO_FRESH, "fresh");
+    check(vahepito_try_take(&receivers[0], &item, &number, &served) == VAHEPITO_EMPTY, "empty");
+    check(vahepito_try_send(&senders[0], 7, &number, &served) == VAHEPITO_ACCEPTED && number == 0, "accepted");
+    check(vahepito_begin_send(&senders[0], 8) == VAHEPITO_BEGUN, "begun");
+    check(vahepito_begin_send(&senders[1], 9) == VAHEPITO_BEGUN, "begun");
+    check(vahepito_turn_send(&senders[1], &number, &served) == VAHEPITO_WAITING, "waiting");
+    check(vahepito_turn_send(&senders[0], &number, &served) == VAHEPITO_ACCEPTED && served == 2, "accepted");
+    check(vahepito_turn_send(&senders[1], &number, &served) == VAHEPITO_FULL && served == 0, "full");
+    check(vahepito_begin_take(&receivers[1]) == VAHEPITO_BEGUN, "begun");
+    check(vahepito_turn_take(&receivers[1], &item, &number, &served) == VAHEPITO_GOT && item.body == 7, "got");
+    check(vahepito_try_send(&senders[0], 10, &number, &served) == VAHEPITO_ACCEPTED && number == 2, "accepted");
+    check(vahepito_try_take(&receivers[2], &item, &number, &served) == VAHEPITO_GOT && item.body == 8, "got");
+    check(vahepito_try_send(&senders[1], 11, &number, &served) == VAHEPITO_SPENT, "spent");
+    check(vahepito_is_worn(&senders[0]) == VAHEPITO_WORN, "worn");
+    check(vahepito_try_send(&senders[0], 12, &number, &served) == VAHEPITO_WORN, "worn");
+    check(vahepito_begin_close(&senders[0]) == VAHEPITO_BEGUN, "begun");
+    check(vahepito_turn_close(&senders[0], &number, &served) == VAHEPITO_SHUT && number == 3, "shut");
+    check(vahepito_begin_close(&senders[1]) == VAHEPITO_BEGUN, "begun");
+    check(vahepito_turn_close(&senders[1], &number, &served) == VAHEPITO_ALREADY && number == 3, "already");
+    check(vahepito_try_send(&senders[1], 13, &number, &served) == VAHEPITO_CLOSED, "closed");
+    check(vahepito_try_take(&receivers[0], &item, &number, &served) == VAHEPITO_GOT && item.body == 10, "got");
+    check(vahepito_try_take(&receivers[0], &item, &number, &served) == VAHEPITO_ENDED && number == 3, "ended");
+}
+
+int main(void) {
+    /* of the life and of each sender's sends as many as call_all wants, so that both end in it */
+    const vahepito_config config = {SENDERS, RECEIVERS, 2, 8, 3, 3};
+    vahepito_pass passes[PASSES] = {0};
+    vahepito_pass *senders = passes, *receivers = passes + SENDERS;
+    uint32_t code;
+    for (refused = 1;; refused++) {
+        asked = 0;
+        code = vahepito_open(&config, senders, SENDERS, receivers, RECEIVERS);
+        if (asked < refused) break;
+        check(code == VAHEPITO_NO_MEMORY, "want of memory is told");
+        check(blocks == 0, "nothing is kept");
+        for (int k = 0; k < PASSES; k++) check(!passes[k].live, "the handles are empty");
+    }
+    const long opening = asked, kept = blocks;
+    check(code == VAHEPITO_DONE && kept > 0, "the queue is opened where nothing is refused");
+
+    call_all(senders, receivers);
+    check(vahepito_begin_send(&senders[1], 14) == VAHEPITO_WORN, "worn");
+    check(vahepito_begin_take(&receivers[2]) == VAHEPITO_BEGUN, "begun");
+    check(asked == opening && blocks == kept, "no call takes memory or frees any");
+
+    /* One of them has a call that was begun. */
+    for (int k = 0; k < PASSES; k++) {
+        check(blocks > 0, "the queue is there as long as a handle is");
+        check(vahepito_drop(&passes[k]) == VAHEPITO_DONE && !passes[k].live, "a pass is let go");
+    }
+    check(asked == opening, "no drop takes memory");
+    check(blocks == 0, "the last handle frees the queue");
+    printf("%s\n", "all memory is free");
+    return 0;
+}
