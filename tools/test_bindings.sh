@@ -1,0 +1,127 @@
+#!/bin/bash
+# Tests what stands over the proved static library: the crate in bindings/rust and the programs in bindings/c, and both
+# again under valgrind and the sanitizers. It takes the library that the gate left, and builds it by `rt lib` where there
+# is none, or an older one. It writes into a folder of its own, and fetches nothing.
+# Prints a line for each step. A step for which something isn't on the machine is skipped, and its line says so. The exit
+# status is 0 where no step failed.
+set -u
+cd "$(dirname "$0")/.." || exit 1
+top=$PWD
+room=$(mktemp -d) || exit 1
+trap 'rm -rf "$room"' EXIT
+failed=0
+
+# Does a step: its name, and a command, which has five minutes or as many seconds as `limit` says. What that prints is
+# shown where it failed.
+step() {
+    local name=$1 start=$SECONDS
+    shift
+    if timeout "${limit:-300}" "$@" >"$room/log" 2>&1 </dev/null; then
+        echo "bindings: $name: passed ($((SECONDS - start)) s)"
+    else
+        echo "bindings: $name: FAILED (status $?); its last lines:"
+        tail -n 60 "$room/log"
+        failed=$((failed + 1))
+        return 1
+    fi
+}
+
+skip() {
+    echo "bindings: $1: SKIPPED: $2"
+}
+
+has() {
+    command -v "$1" >/dev/null
+}
+
+# Does a command that has to print just this line.
+prints() {
+    local printed
+    printed=$("${@:2}") || return
+    [ "$printed" = "$1" ] || { echo "it printed '$printed' in place of '$1'"; return 1; }
+}
+export -f prints
+
+if [ -z "${VAHEPITO_LIB:-}" ]; then
+    export VAHEPITO_LIB=$top/crates/cc_binding/out/libcc_binding.a
+    if [ ! -f "$VAHEPITO_LIB" ] || [ -n "$(find crates/*/src -name '*.rt' -newer "$VAHEPITO_LIB" -print -quit)" ]; then
+        echo 'bindings: the library is not there or older than its sources: proving and building it, which may take minutes'
+        limit=7200 step 'the library, by rt lib' env -C crates/cc_binding rt lib || exit 1
+    fi
+fi
+if [ -z "${VAHEPITO_HEAP:-}" ]; then
+    if ! has rt; then
+        echo 'bindings: the command rt is not on the path, beside which liblibc_c.a lies: VAHEPITO_HEAP can name that'
+        exit 1
+    fi
+    kit=$(dirname "$(dirname "$(realpath "$(command -v rt)")")")
+    export VAHEPITO_HEAP=$kit/c/liblibc_c.a
+fi
+
+lost='definite,indirect'
+valgrind=(valgrind -q --fair-sched=yes --error-exitcode=99 --leak-check=full "--show-leak-kinds=$lost" "--errors-for-leak-kinds=$lost")
+
+# Builds the programs in C into this folder, with these flags; and runs those that a folder has.
+build_c() {
+    make -s -C bindings/c LIB="$VAHEPITO_LIB" HEAP="$VAHEPITO_HEAP" OUT="$room/$1" CFLAGS="-Wall -Wextra -Werror $2"
+}
+run_c() {
+    prints '30000 items' "$room/$1/consume" && prints 'all memory is free' "$room/$1/memory"
+}
+# Whether the C compiler has these sanitizers, and they run here.
+has_sanitizers() {
+    echo 'int main(void) { return 0; }' | cc -x c "-fsanitize=$1" -o "$room/probe" - 2>/dev/null && "$room/probe" 2>/dev/null
+}
+export -f build_c run_c
+export room
+
+if ! has make || ! has cc; then
+    skip 'the programs in C' 'make or cc is not on this machine'
+else
+    step 'C: build' bash -c 'build_c plain -O2'
+    step 'C: run' bash -c 'run_c plain'
+    if has valgrind; then
+        step 'C: consume under valgrind' "${valgrind[@]}" "$room/plain/consume" 300
+        step 'C: memory under valgrind' "${valgrind[@]}" "$room/plain/memory"
+    else
+        skip 'C: under valgrind' 'valgrind is not on this machine'
+    fi
+    for sanitizers in address,undefined thread; do
+        if has_sanitizers "$sanitizers"; then
+            step "C: build with sanitizer $sanitizers" bash -c "build_c '$sanitizers' '-O1 -g -fsanitize=$sanitizers -fno-sanitize-recover=all'"
+            step "C: run with sanitizer $sanitizers" bash -c "run_c '$sanitizers'"
+        else
+            skip "C: sanitizer $sanitizers" 'the C compiler has none that runs here'
+        fi
+    done
+fi
+
+cd bindings/rust || exit 1
+export CARGO_TARGET_DIR=$room/target CARGO_TERM_COLOR=never
+options=(--quiet --locked --offline)
+if ! cargo --version >/dev/null 2>&1; then
+    skip 'the crate in Rust' 'cargo is not on this machine'
+else
+    step 'Rust: tests' cargo "${options[@]}" test
+    step 'Rust: the thread pool' bash -c "prints '9592 primes below 100000' cargo ${options[*]} run --example thread_pool"
+    step 'Rust: the pipeline' bash -c "prints '77031 takes 350 steps' cargo ${options[*]} run --example pipeline"
+    host=$(rustc -vV | sed -n 's/^host: //p')
+    runner=CARGO_TARGET_$(tr 'a-z-' 'A-Z_' <<<"$host")_RUNNER
+    # One test looks at how much memory the process has, which says nothing under another allocator.
+    if has valgrind; then
+        step 'Rust: under valgrind' env "$runner=${valgrind[*]}" cargo "${options[@]}" test --tests -- --skip frees_the_queue
+    else
+        skip 'Rust: under valgrind' 'valgrind is not on this machine'
+    fi
+    if cargo +nightly --version >/dev/null 2>&1; then
+        step 'Rust: sanitizer address' env RUSTFLAGS=-Zsanitizer=address cargo +nightly "${options[@]}" test \
+            --target "$host" --tests -- --skip frees_the_queue
+    else
+        skip 'Rust: sanitizer address' 'there is no nightly cargo on this machine'
+    fi
+fi
+
+if [ "$failed" != 0 ]; then
+    echo "bindings: $failed steps failed"
+    exit 1
+fi
