@@ -1,0 +1,184 @@
+//! The crate beside other queues, interleaved in one run: each round passes the items through each
+//! queue once, and the medians of the rounds are told, in nanoseconds an item of the clock, and in
+//! brackets of all processors.
+//!
+//!     cargo bench --offline [-- --rounds N] [--items N]
+//!
+//! `steps` are the queue's atomic steps by hand in plain Rust, `mutex` std's `Mutex` with two
+//! `Condvar`s round a `VecDeque`, and `channel` std's `sync_channel`, whose one receiver is shared
+//! under a lock: all three are those of `bench/plain`.
+#[path = "../../../bench/plain/src/queues.rs"]
+mod plain;
+
+use std::sync::atomic::{AtomicU64, Ordering};
+use std::thread;
+use std::time::Instant;
+use vahepito::{Config, open};
+
+/// The numbers of senders and receivers, the capacity, and how many items pass.
+#[derive(Clone, Copy)]
+struct Shape {
+    senders: usize,
+    receivers: usize,
+    capacity: usize,
+    items: u64,
+}
+
+/// A queue's name, and what passes the items through it and says how many were taken.
+type Queue = (&'static str, fn(Shape) -> u64);
+
+const ALONE: [Queue; 2] = [
+    ("vahepito", alone),
+    ("steps", |it| plain::alone(it.capacity, it.items)),
+];
+const SHARED: [Queue; 4] = [
+    ("vahepito", shared),
+    ("steps", |it| {
+        plain::steps(it.senders, it.receivers, it.capacity, it.items)
+    }),
+    ("mutex", |it| {
+        plain::mutex(it.senders, it.receivers, it.capacity, it.items)
+    }),
+    ("channel", |it| {
+        plain::sync_channel(it.senders, it.receivers, it.capacity, it.items)
+    }),
+];
+
+fn config(it: Shape) -> Config {
+    Config::new(it.senders as u32, it.receivers as u32, it.capacity as u32)
+}
+
+/// One thread sends an item and takes it, again and again.
+fn alone(it: Shape) -> u64 {
+    let (mut senders, mut receivers) = open(config(it)).unwrap();
+    let (sender, receiver) = (&mut senders[0], &mut receivers[0]);
+    let mut bodies = 0..it.items;
+    plain::take_all(|| {
+        sender.try_send(bodies.next()?).unwrap();
+        Some(receiver.try_recv().unwrap().body)
+    })
+}
+
+/// All senders and receivers at work, each on a thread of its own.
+fn shared(it: Shape) -> u64 {
+    let (senders, receivers) = open(config(it)).unwrap();
+    let passed = AtomicU64::new(0);
+    thread::scope(|scope| {
+        for mut receiver in receivers {
+            let passed = &passed;
+            scope.spawn(move || {
+                let got = plain::take_all(|| receiver.recv().ok().map(|item| item.body));
+                passed.fetch_add(got, Ordering::SeqCst);
+            });
+        }
+        for mut sender in senders {
+            scope.spawn(move || {
+                for body in 0..it.items / it.senders as u64 {
+                    sender.send(body).unwrap();
+                }
+            });
+        }
+    });
+    passed.into_inner()
+}
+
+#[repr(C)]
+struct Timespec {
+    seconds: i64,
+    nanoseconds: i64,
+}
+
+unsafe extern "C" {
+    fn clock_gettime(clock: i32, time: &mut Timespec) -> i32;
+}
+
+/// The nanoseconds that all processors gave this process.
+fn processors() -> u64 {
+    const PROCESS: i32 = 2;
+    let mut time = Timespec {
+        seconds: 0,
+        nanoseconds: 0,
+    };
+    // SAFETY: the C library's declaration on a 64-bit Linux.
+    assert_eq!(
+        unsafe { clock_gettime(PROCESS, &mut time) },
+        0,
+        "there is no clock of the process"
+    );
+    time.seconds as u64 * 1_000_000_000 + time.nanoseconds as u64
+}
+
+/// The nanoseconds an item, of the clock and of all processors.
+fn timed((name, queue): Queue, it: Shape) -> (f64, f64) {
+    let (start, before) = (Instant::now(), processors());
+    assert_eq!(queue(it), it.items, "{name} lost items");
+    let (clock, processors) = (start.elapsed().as_nanos(), processors() - before);
+    (
+        clock as f64 / it.items as f64,
+        processors as f64 / it.items as f64,
+    )
+}
+
+fn median(times: impl Iterator<Item = f64>) -> f64 {
+    let mut times: Vec<f64> = times.collect();
+    times.sort_by(f64::total_cmp);
+    times[times.len() / 2]
+}
+
+/// Prints the medians of these queues on a line of a table.
+fn compare(title: &str, queues: &[Queue], it: Shape, rounds: usize) {
+    let mut times = vec![Vec::new(); queues.len()];
+    for _ in 0..rounds {
+        for (times, queue) in times.iter_mut().zip(queues) {
+            times.push(timed(*queue, it));
+        }
+    }
+    print!("| {title} | {} |", it.capacity);
+    for times in &times {
+        let (clock, processors) = (
+            median(times.iter().map(|t| t.0)),
+            median(times.iter().map(|t| t.1)),
+        );
+        print!(" {clock:.0} ({processors:.0}) |");
+    }
+    println!();
+}
+
+/// The number behind this word of the command line.
+fn option(name: &str, default: u64) -> u64 {
+    let mut words = std::env::args().skip_while(|word| word != name);
+    words
+        .nth(1)
+        .map_or(default, |word| word.parse().expect("a number"))
+}
+
+fn main() {
+    let rounds = option("--rounds", 11) as usize;
+    let items = option("--items", 400_000);
+    println!(
+        "{rounds} rounds of {items} items: nanoseconds an item of the clock (of all processors)"
+    );
+    println!(
+        "| senders and receivers | capacity | {} |",
+        SHARED.map(|queue| queue.0).join(" | ")
+    );
+    println!("|---|---|---|---|---|---|");
+    let it = Shape {
+        senders: 1,
+        receivers: 1,
+        capacity: 64,
+        items,
+    };
+    compare("one thread, a send and a take", &ALONE, it, rounds);
+    for passes in [1, 4, 8] {
+        for capacity in [64, 1024] {
+            let it = Shape {
+                senders: passes,
+                receivers: passes,
+                capacity,
+                ..it
+            };
+            compare(&format!("{passes} and {passes}"), &SHARED, it, rounds);
+        }
+    }
+}
