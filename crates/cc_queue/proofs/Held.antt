@@ -165,7 +165,7 @@ not_got cfg e (Some a) is = ap (λ (p : Pass). take_receipt p a) (sender_of cfg 
 
 -- ---- their receipts
 
-in_both : {X : Type 0} (receipts : Told → List X) (xs ys : List Told) → receipts_in receipts (xs ++ ys) ≡ receipts_in receipts xs ++ receipts_in receipts ys
+pub in_both : {X : Type 0} (receipts : Told → List X) (xs ys : List Told) → receipts_in receipts (xs ++ ys) ≡ receipts_in receipts xs ++ receipts_in receipts ys
 in_both receipts [] ys = refl
 in_both receipts (x ∷ xs) ys = ap (λ l. receipts x ++ l) (in_both receipts xs ys) ∙ sym (append_assoc (receipts x) (receipts_in receipts xs) (receipts_in receipts ys))
 
@@ -239,10 +239,10 @@ one_called called h (w ∷ ws) (suc k) row low high =
 
 -- ---- the passes of a queue that have met
 
-sender_named : (cfg : Config) (k : ℕ) → k < cfg.senders → pass_at cfg k ≡ Sender (1 + k)
+pub sender_named : (cfg : Config) (k : ℕ) → k < cfg.senders → pass_at cfg k ≡ Sender (1 + k)
 sender_named cfg k less = ap (λ (b : Bool). if b then Sender (k + 1) else Receiver (k - cfg.senders + 1)) (lt-ltb k cfg.senders less) ∙ ap Sender (omega arith)
 
-receiver_named : (cfg : Config) (k : ℕ) → pass_at cfg (cfg.senders + k) ≡ Receiver (1 + k)
+pub receiver_named : (cfg : Config) (k : ℕ) → pass_at cfg (cfg.senders + k) ≡ Receiver (1 + k)
 receiver_named cfg k = named (nat_lt (cfg.senders + k) cfg.senders) refl
   where
     named : (b : Bool) → nat_lt (cfg.senders + k) cfg.senders ≡ b → (if b then Sender (cfg.senders + k + 1) else Receiver (cfg.senders + k - cfg.senders + 1)) ≡ Receiver (1 + k)
@@ -271,7 +271,7 @@ receivers_row z ws seen row one = record {
 pub has_sender : (z : Topic) (ws : List Walk) → config_fault z.setting.config ≡ Ok tt → AreInRow z 0 z.setting.config.senders ws → 0 < length ws
 has_sender z ws checked row = let r = in_range z.setting.config checked in omega (arith, r.senders, row.count_is)
 
-seen_is : (z : Topic) (ws : List Walk) (seen : List Move) → 0 < length ws → AreInRow z 0 z.setting.config.senders ws → All (λ w. w.seen ≡ seen) ws → seen_by ws ≡ history_of z.setting seen
+pub seen_is : (z : Topic) (ws : List Walk) (seen : List Move) → 0 < length ws → AreInRow z 0 z.setting.config.senders ws → All (λ w. w.seen ≡ seen) ws → seen_by ws ≡ history_of z.setting seen
 seen_is z [] seen some row one = absurd (omega (arith, some))
 seen_is z (w ∷ ws) seen some row one = seen_at z 0 z.setting.config.senders (w ∷ ws) seen row one 0 w (omega arith)
 
@@ -294,14 +294,14 @@ has_just z senders receivers all one some l =
     }
 
 -- the receipts that they hold are those of the history
-sends_held : (z : Topic) (ws : List Walk) (seen : List Move) → Legal z.setting.config (history_of z.setting seen) → AreInRow z 0 z.setting.config.senders ws → All (λ w. w.seen ≡ seen) ws → IsPermutation (receipts_by sent ws) (sends_of (history_of z.setting seen))
+pub sends_held : (z : Topic) (ws : List Walk) (seen : List Move) → Legal z.setting.config (history_of z.setting seen) → AreInRow z 0 z.setting.config.senders ws → All (λ w. w.seen ≡ seen) ws → IsPermutation (receipts_by sent ws) (sends_of (history_of z.setting seen))
 sends_held z ws seen l row one =
     let cfg : Config = z.setting.config in
     let h : Record = history_of z.setting seen in
     let same : receipts_by sent ws ≡ held sent (is_of Sender) (whole h) 1 cfg.senders = held_by sent Sender h 1 ws (senders_row z ws seen row one) ∙ ap (held sent (is_of Sender) (whole h) 1) row.count_is in
     subst (λ (y : List SendReceipt × List SendReceipt). IsPermutation y.0 y.1) (λ i. (sym same i, sends_in cfg h l i)) (held_all sent (is_of Sender) 1 cfg.senders (whole h) (sends_dealt cfg h l))
 
-takes_held : (z : Topic) (ws : List Walk) (seen : List Move) → Legal z.setting.config (history_of z.setting seen) → AreInRow z z.setting.config.senders z.setting.config.receivers ws → All (λ w. w.seen ≡ seen) ws → IsPermutation (receipts_by got ws) (takes_of (history_of z.setting seen))
+pub takes_held : (z : Topic) (ws : List Walk) (seen : List Move) → Legal z.setting.config (history_of z.setting seen) → AreInRow z z.setting.config.senders z.setting.config.receivers ws → All (λ w. w.seen ≡ seen) ws → IsPermutation (receipts_by got ws) (takes_of (history_of z.setting seen))
 takes_held z ws seen l row one =
     let cfg : Config = z.setting.config in
     let h : Record = history_of z.setting seen in

@@ -11,16 +11,13 @@ use Rattle.cc_model.specs.declared.call.Pass.{Pass}
 use Rattle.cc_model.specs.declared.call.Pass.TheVariants as pass
 use Rattle.cc_model.specs.declared.call.Entry.{Entry}
 use Rattle.cc_model.specs.declared.call.Answer.{Answer}
+use Rattle.cc_queue.specs.Receipts.{HasAnswer}
 use Rattle.cc_queue.proofs.AnswerKinds.{all_last, last_is}
 
 abbrev pub Told : Type 0
 Told = Entry × Option Answer
 
--- a call has its answer, or none
-abbrev pub HasAnswer : Told → Type 0
-HasAnswer (e, None) = ⊥
-HasAnswer (e, Some a) = Unit {0}
-
+-- a call has no answer
 abbrev Waits : Told → Type 0
 Waits (e, None) = Unit {0}
 Waits (e, Some a) = ⊥

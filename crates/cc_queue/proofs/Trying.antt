@@ -15,9 +15,10 @@ use Rattle.cc_machine.specs.State.{pass_at}
 use Rattle.cc_steps.specs.Walk.{Walk}
 use Rattle.cc_queue.specs.Headline.{StandsInOne, IsReceiver, entry_of, name, history}
 use Rattle.cc_queue.specs.Calls.{Completed, IsSettled, TakenUntil, found_none}
+use Rattle.cc_queue.specs.Receipts.{HasAnswer}
 use Rattle.cc_queue.proofs.AnswerKinds.{last_is}
 use Rattle.cc_queue.proofs.Headline.{stands_more}
-use Rattle.cc_queue.proofs.Taken.{Told, HasAnswer, each_has, each_stays, next_told}
+use Rattle.cc_queue.proofs.Taken.{Told, each_has, each_stays, next_told}
 
 -- what the receiver was told so far: nothing before its first take, and then that each found no item
 abbrev pub FoundNone : List Entry → Walk → Type 0

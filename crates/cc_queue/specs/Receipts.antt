@@ -27,6 +27,11 @@ abbrev pub seen_by : List Walk → Record
 seen_by [] = empty
 seen_by (w ∷ ws) = history w
 
+-- the call has its answer
+abbrev pub HasAnswer : Entry × Option Answer → Type 0
+HasAnswer (e, None) = ⊥
+HasAnswer (e, Some a) = Unit {0}
+
 -- the receipt of a send that was accepted
 abbrev pub sent : Entry × Option Answer → List SendReceipt
 sent (e, Some a) = map send_receipt (accepted_item e a)

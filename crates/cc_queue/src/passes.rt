@@ -156,8 +156,8 @@ pub enum TakeTurn {
 }
 
 impl Sender {
-    /// All that the sender has seen stands in one history.
-    pub(crate) fn stands(&self)
+    /// All that the sender has seen stands in one history: a fact for proofs, and no work.
+    pub fn stands(&self)
         ensures { HasMet self.now self.now }
     {
         self.seat.stands();
@@ -165,8 +165,8 @@ impl Sender {
 }
 
 impl Receiver {
-    /// All that the receiver has seen stands in one history, in which it is a receiver.
-    pub(crate) fn stands(&self)
+    /// All that the receiver has seen stands in one history, in which it is a receiver: a fact for proofs, and no work.
+    pub fn stands(&self)
         ensures met { HasMet self.now self.now }
         ensures named { IsReceiver (name self.now) }
     {
