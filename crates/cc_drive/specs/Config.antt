@@ -1,0 +1,39 @@
+-- The configuration of a run.
+use Rattle.std.specs.Prelude.{◌≡◌, ◌+◌, ◌-◌, ◌^◌, not, if◌then◌else◌, Result, Ok, Err, ⊤}
+use Rattle.cc_model.specs.Range.{within}
+use Rattle.cc_model.specs.Config.{config_fault}
+use Rattle.cc_model.specs.declared.config.Config.{Config}
+use Rattle.cc_model.specs.declared.config.ConfigFault.{ConfigFault}
+use Rattle.cc_model.specs.declared.config.ConfigFault.TheVariants as fault
+use Rattle.cc_machine.specs.declared.fault.OpenFault.{OpenFault}
+use Rattle.cc_machine.specs.declared.fault.OpenFault.TheVariants as opening
+use Rattle.cc_drive.specs.declared.config.DriveConfig.{DriveConfig}
+use Rattle.cc_drive.specs.declared.config.DriveFault.{DriveFault}
+use Rattle.cc_drive.specs.declared.config.DriveFault.TheVariants as drive
+
+-- the queue of a run: it has one sender more, who closes it, and no other limits than a queue can have
+abbrev pub queue_of : DriveConfig → Config
+queue_of c = record {
+  senders = c.senders + 1;
+  receivers = c.receivers;
+  capacity = c.capacity;
+  bound = c.bound;
+  life = 2 ^ 48;
+  per_sender = 2 ^ 32 - 1;
+}
+
+-- the first field out of its range
+abbrev pub drive_fault : DriveConfig → Result ⊤ ConfigFault
+drive_fault c = if not (within 1 63 c.senders) then Err fault.Senders else config_fault (queue_of c)
+
+-- Why a run has no end, whose configuration has this fault or none: for that fault where there is one, and else never for
+-- one of the configuration.
+abbrev pub IsDue : Result ⊤ ConfigFault → DriveFault → Type 0
+IsDue (Err f) told = told ≡ drive.Config f
+IsDue (Ok _) (drive.Config f) = ⊥
+IsDue (Ok _) _ = ⊤
+
+-- how it is told that the queue wasn't opened
+abbrev pub told_of_open : OpenFault → DriveFault
+told_of_open (opening.Config f) = drive.Config f
+told_of_open opening.NoMemory = drive.NoMemory

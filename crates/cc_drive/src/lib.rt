@@ -1,0 +1,8 @@
+//! A queue driven by threads: senders and receivers, each a thread of its own, and the audit of all their receipts.
+#![tactic(auto)]
+
+mod config;
+mod gate;
+
+pub use config::{DriveConfig, DriveEnd, DriveFault};
+pub use gate::{Gate, Go, Point};
