@@ -1,1 +1,3 @@
 pub mod Config
+pub mod Work
+pub mod Back

@@ -3,6 +3,9 @@
 
 mod config;
 mod gate;
+mod kept;
+mod sending;
+mod turns;
 
 pub use config::{DriveConfig, DriveEnd, DriveFault};
 pub use gate::{Gate, Go, Point};

@@ -1,0 +1,119 @@
+-- A worker's calls, one after another, and the receipts that it keeps of them.
+use Rattle.std.proofs.Common.{◌≡◌, ◌≢◌, ℕ, ◌+◌, Bool, true, List, [], ◌∷◌, ◌++◌, map, length, Some, refl, sym, ap, ◌∙◌, subst, arith, append-nil, length-append}
+use Rattle.std.specs.List.{AllByRecursion}
+use Rattle.cc_model.specs.Items.{sent_item}
+use Rattle.cc_model.specs.declared.call.Call.{Call}
+use Rattle.cc_model.specs.declared.call.Call.TheVariants as call
+use Rattle.cc_model.specs.declared.call.Pass.{Pass}
+use Rattle.cc_model.specs.declared.call.Pass.TheVariants as pass
+use Rattle.cc_model.specs.declared.call.Entry.{Entry}
+use Rattle.cc_model.specs.declared.call.Item.{Item}
+use Rattle.cc_model.specs.declared.call.Answer.{Answer}
+use Rattle.cc_model.specs.declared.call.Answer.TheVariants as answer
+use Rattle.cc_model.specs.declared.call.SendAnswer.{SendAnswer}
+use Rattle.cc_model.specs.declared.call.SendAnswer.TheVariants as send
+use Rattle.cc_model.specs.declared.call.TakeAnswer.TheVariants as take
+use Rattle.cc_machine.specs.State.{pass_at}
+use Rattle.cc_steps.specs.Topic.{Topic}
+use Rattle.cc_steps.specs.Walk.{Walk, fresh}
+use Rattle.cc_queue.specs.Calls.{Completed}
+use Rattle.cc_queue.specs.Headline.{entry_of, name}
+use Rattle.cc_queue.specs.Met.{HasMet}
+use Rattle.cc_queue.specs.Receipts.{HasAnswer, receipts_in, sent, got}
+use Rattle.cc_audit.specs.Receipts.{send_receipt, take_receipt}
+use Rattle.cc_audit.specs.declared.receipt.TakeReceipt.{TakeReceipt}
+use Rattle.cc_queue.proofs.Held.{in_both}
+use Rattle.cc_drive.specs.Back.{IsBack, calls}
+use Rattle.cc_drive.proofs.Told.{Told, stands_self, same_name, calls_more, each_answered}
+
+-- the pass of a worker so far, and what the worker has kept
+pub record Working {X : Type 0} (receipts : Told → List X) (z : Topic) (row : ℕ) (who : Pass) (w : Walk) (whole : Bool) (keeps : List X) : Type 0 where
+  pub back : IsBack z row w
+  pub named : name w ≡ who
+  pub kept : whole ≡ true → keeps ≡ receipts_in receipts (calls w)
+
+-- ---- before the first call
+
+calls_fresh : (z : Topic) (row : ℕ) → calls (fresh z row) ≡ []
+calls_fresh z row = refl
+
+pub working_none : {X : Type 0} (receipts : Told → List X) (z : Topic) (row : ℕ) (who : Pass) (w : Walk) (whole : Bool) (keeps : List X) → w ≡ fresh z row → pass_at z.setting.config row ≡ who → HasMet w w → keeps ≡ [] → Working receipts z row who w whole keeps
+working_none receipts z row who w whole keeps is named met none =
+    let empty : calls w ≡ [] = ap calls is ∙ calls_fresh z row in
+    record {
+      back = record {
+        here = (ap (λ (x : Walk). x.table_id) is, ap (λ (x : Walk). x.setting) is);
+        at = ap (λ (x : Walk). x.number) is;
+        stands = met.stands;
+        answered = subst (AllByRecursion HasAnswer) (sym empty) tt;
+      };
+      named = ap name is ∙ named;
+      kept = λ _. none ∙ ap (receipts_in receipts) (sym empty);
+    }
+
+-- ---- one more call
+
+pub call_more : (z : Topic) (row : ℕ) (w x : Walk) (c : Call) (told : Answer) → IsBack z row w → Completed w c told x → calls x ≡ calls w ++ (entry_of w c, Some told) ∷ []
+call_more z row w x c told b k = calls_more w x (entry_of w c) told b.stands b.answered k.stands k.last
+
+pub back_more : (z : Topic) (row : ℕ) (w x : Walk) (c : Call) (told : Answer) → IsBack z row w → Completed w c told x → IsBack z row x
+back_more z row w x c told b k = record {
+  here = (k.stands.same.0 ∙ b.here.0, k.stands.same.1 ∙ b.here.1);
+  at = k.stands.same.2 ∙ b.at;
+  stands = stands_self w x (entry_of w c ∷ []) k.stands;
+  answered = each_answered w x (entry_of w c ∷ []) told k.stands k.last;
+}
+
+receipts_more : {X : Type 0} (receipts : Told → List X) (z : Topic) (row : ℕ) (w x : Walk) (c : Call) (told : Answer) → IsBack z row w → Completed w c told x → receipts_in receipts (calls x) ≡ receipts_in receipts (calls w) ++ receipts (entry_of w c, Some told)
+receipts_more receipts z row w x c told b k =
+    ap (receipts_in receipts) (call_more z row w x c told b k) ∙ in_both receipts (calls w) ((entry_of w c, Some told) ∷ []) ∙ ap (λ l. receipts_in receipts (calls w) ++ l) (append-nil (receipts (entry_of w c, Some told)))
+
+pub working_more : {X : Type 0} (receipts : Told → List X) (z : Topic) (row : ℕ) (who : Pass) (w x : Walk) (whole whole' : Bool) (keeps keeps' : List X) (c : Call) (told : Answer) → Working receipts z row who w whole keeps → Completed w c told x
+    → (whole' ≡ true → whole ≡ true) → (whole' ≡ true → keeps' ≡ keeps ++ receipts (entry_of w c, Some told)) → Working receipts z row who x whole' keeps'
+working_more receipts z row who w x whole whole' keeps keeps' c told b k still more = record {
+  back = back_more z row w x c told b.back k;
+  named = same_name w x (entry_of w c ∷ []) k.stands ∙ b.named;
+  kept = λ is. more is ∙ ap (λ l. l ++ receipts (entry_of w c, Some told)) (b.kept (still is)) ∙ sym (receipts_more receipts z row w x c told b.back k);
+}
+
+-- ---- a send
+
+pub sent_one : (n begun : ℕ) (w : Walk) (body place : ℕ) → name w ≡ pass.Sender n → begun ≡ w.stand.begun → sent (entry_of w (call.Send body), Some (answer.Send (send.Accepted place))) ≡ record { sender = n; number = begun + 1; place = place; body = body } ∷ []
+sent_one n begun w body place named is =
+    ap (λ (p : Pass). map send_receipt (sent_item p (call.Send body) (w.stand.begun + 1) place)) named ∙ (λ i. record { sender = n; number = sym is i + 1; place = place; body = body } ∷ [])
+
+pub sent_none : (e : Entry) (told : SendAnswer) → ((place : ℕ) → told ≢ send.Accepted place) → sent (e, Some (answer.Send told)) ≡ []
+sent_none e send.Full ne = refl
+sent_none e send.Closed ne = refl
+sent_none e send.Spent ne = refl
+sent_none e (send.Accepted place) ne = absurd (ne place refl)
+
+pub count_more : (z : Topic) (row : ℕ) (w x : Walk) (body : ℕ) (told : SendAnswer) → IsBack z row w → Completed w (call.Send body) (answer.Send told) x → length (receipts_in sent (calls x)) ≡ length (receipts_in sent (calls w)) + length (sent (entry_of w (call.Send body), Some (answer.Send told)))
+count_more z row w x body told b k = ap length (receipts_more sent z row w x (call.Send body) (answer.Send told) b k) ∙ length-append (receipts_in sent (calls w)) (sent (entry_of w (call.Send body), Some (answer.Send told)))
+
+-- ---- a take
+
+pub got_one : (n : ℕ) (w : Walk) (item : Item) → name w ≡ pass.Receiver n → got (entry_of w call.Take, Some (answer.Take (take.Got item))) ≡ record { receiver = n; item = item } ∷ []
+got_one n w item named = ap (λ (p : Pass). take_receipt p (answer.Take (take.Got item))) named
+
+pub got_empty : (n : ℕ) (w : Walk) → name w ≡ pass.Receiver n → got (entry_of w call.Take, Some (answer.Take take.Empty)) ≡ []
+got_empty n w named = ap (λ (p : Pass). take_receipt p (answer.Take take.Empty)) named
+
+pub got_end : (n : ℕ) (w : Walk) (total : ℕ) → name w ≡ pass.Receiver n → got (entry_of w call.Take, Some (answer.Take (take.Ended total))) ≡ []
+got_end n w total named = ap (λ (p : Pass). take_receipt p (answer.Take (take.Ended total))) named
+
+-- a call that leaves no receipt
+pub working_still : {X : Type 0} (receipts : Told → List X) (z : Topic) (row : ℕ) (who : Pass) (w x : Walk) (whole : Bool) (keeps : List X) (c : Call) (told : Answer) → Working receipts z row who w whole keeps → Completed w c told x → receipts (entry_of w c, Some told) ≡ [] → Working receipts z row who x whole keeps
+working_still receipts z row who w x whole keeps c told b k none = working_more receipts z row who w x whole whole keeps keeps c told b k (λ is. is) (λ is. sym (append-nil keeps) ∙ ap (λ l. keeps ++ l) (sym none))
+
+pub taken_none : (z : Topic) (row n : ℕ) (w x : Walk) (whole : Bool) (keeps : List TakeReceipt) (told : Answer) → Working got z row (pass.Receiver n) w whole keeps → Completed w call.Take told x → got (entry_of w call.Take, Some told) ≡ [] → Working got z row (pass.Receiver n) x whole keeps
+taken_none z row n w x whole keeps told b k none = working_still got z row (pass.Receiver n) w x whole keeps call.Take told b k none
+
+-- so many more items accepted
+pub count_one : (z : Topic) (row n : ℕ) (w x : Walk) (body place so_far : ℕ) → IsBack z row w → name w ≡ pass.Sender n → Completed w (call.Send body) (answer.Send (send.Accepted place)) x → so_far ≡ length (receipts_in sent (calls w)) → so_far + 1 ≡ length (receipts_in sent (calls x))
+count_one z row n w x body place so_far b named k are =
+    ap (λ (m : ℕ). m + 1) are ∙ ap (λ l. length (receipts_in sent (calls w)) + length l) (sym (sent_one n w.stand.begun w body place named refl)) ∙ sym (count_more z row w x body (send.Accepted place) b k)
+
+pub count_none : (z : Topic) (row : ℕ) (w x : Walk) (body so_far : ℕ) (told : SendAnswer) → IsBack z row w → Completed w (call.Send body) (answer.Send told) x → sent (entry_of w (call.Send body), Some (answer.Send told)) ≡ [] → so_far ≡ length (receipts_in sent (calls w)) → so_far ≡ length (receipts_in sent (calls x))
+count_none z row w x body so_far told b k none are =
+    are ∙ sym (count_more z row w x body told b k ∙ ap (λ l. length (receipts_in sent (calls w)) + length l) none ∙ (let e : length (receipts_in sent (calls w)) + 0 ≡ length (receipts_in sent (calls w)) = omega arith in e))

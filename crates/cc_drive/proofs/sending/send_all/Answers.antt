@@ -1,0 +1,42 @@
+use Rattle.std.proofs.Common.{rules, ◌≡◌, ◌+◌, ◌∙◌, ◌++◌, sym, ap, subst}
+use Rattle.cc_model.specs.declared.call.Answer.TheVariants as answer
+use Rattle.cc_model.specs.declared.call.Call.TheVariants as call
+use Rattle.cc_model.specs.declared.call.Pass.TheVariants as pass
+use Rattle.cc_model.specs.declared.call.SendAnswer.{SendAnswer}
+use Rattle.cc_queue.specs.Calls.{Completed}
+use Rattle.cc_queue.specs.Headline.{entry_of}
+use Rattle.cc_queue.specs.Receipts.{sent}
+use Rattle.cc_drive.proofs.Workers.{working_more, working_still, sent_one, sent_none, count_one, count_none}
+use Rattle.cc_drive.proofs.sending.send_all.Goals as goal
+
+pub loop-accepted-preserved-in-Accepted : goal.loop-accepted-preserved-in-Accepted
+loop-accepted-preserved-in-Accepted g c =
+    let was = c.loop-accepted.invariant.0 in
+    let begun : c.loop-accepted.begun ≡ c.loop-accepted.sender.stand.begun = c.loop-accepted.invariant.3 in
+    let body = c.loop-accepted.accepted + 1 in
+    let done = subst (λ (a : SendAnswer). Completed c.loop-accepted.sender (call.Send body) (answer.Send a) c.in-Answered.after) c.in-Accepted.is c.in-Answered.ensures.sent.0 in
+    let receipt = sent_one c.args.number c.loop-accepted.begun c.loop-accepted.sender body c.in-Accepted.place was.named begun in (
+      working_more sent c.args.queue.now c.args.row (pass.Sender c.args.number) c.loop-accepted.sender c.in-Answered.after _ _ _ _ (call.Send body) _ was done c.keep.ensures.whole
+          (λ is. c.keep.ensures.kept is ∙ ap (λ l. c.loop-accepted.kept.receipts.items ++ l) (sym receipt)),
+      search rules,
+      search rules,
+      search rules,
+      search rules,
+      count_one c.args.queue.now c.args.row c.args.number c.loop-accepted.sender c.in-Answered.after body c.in-Accepted.place c.loop-accepted.accepted was.back was.named done c.loop-accepted.invariant.5,
+      search rules,
+    )
+
+pub loop-accepted-preserved : goal.loop-accepted-preserved
+loop-accepted-preserved g c =
+    let was = c.loop-accepted.invariant.0 in
+    let body = c.loop-accepted.accepted + 1 in
+    let done = c.in-Answered.ensures.sent.0 in
+    let none = sent_none (entry_of c.loop-accepted.sender (call.Send body)) c.in-Answered.answer c.in_default.not-Accepted in (
+      working_still sent c.args.queue.now c.args.row (pass.Sender c.args.number) c.loop-accepted.sender c.in-Answered.after _ _ (call.Send body) _ was done none,
+      search rules,
+      search rules,
+      search rules,
+      search rules,
+      count_none c.args.queue.now c.args.row c.loop-accepted.sender c.in-Answered.after body c.loop-accepted.accepted c.in-Answered.answer was.back done none c.loop-accepted.invariant.5,
+      search rules,
+    )

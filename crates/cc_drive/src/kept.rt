@@ -1,0 +1,41 @@
+//! What a worker keeps of its calls, and what it gives back.
+ghost use Rattle.std.specs.Prelude.{◌≡◌, [], ◌∷◌, ◌++◌, true};
+
+use std::alloc::Global;
+
+/// The receipts of a worker's calls.
+#[derive(Drop)]
+pub struct Kept<X: Drop> {
+    pub receipts: Vec<X>,
+    /// Whether there was memory for each of them.
+    pub is_whole: bool,
+}
+
+/// What a worker gives back: its pass, but where it reached its limit, and what it kept.
+#[derive(Drop)]
+pub struct Worked<P: Drop, X: Drop> {
+    pub pass: Option<P>,
+    pub kept: Kept<X>,
+}
+
+impl<X: Drop> Kept<X> {
+    /// Nothing was kept so far.
+    pub(crate) fn new(alloc: Global) -> Kept<X>
+        ensures { result.receipts.items ≡ [] }
+    {
+        Kept {
+            receipts: Vec::new(alloc),
+            is_whole: true,
+        }
+    }
+
+    /// Keeps one more, if there is memory for it.
+    pub(crate) fn keep(&mut self, receipt: X)
+        ensures whole { self.new.is_whole ≡ true → self.old.is_whole ≡ true }
+        ensures kept { self.new.is_whole ≡ true → self.new.receipts.items ≡ self.old.receipts.items ++ receipt ∷ [] }
+    {
+        if self.receipts.push(receipt).is_err() {
+            self.is_whole = false;
+        }
+    }
+}

@@ -1,0 +1,154 @@
+//! The work of a sender's thread.
+ghost use Rattle.std.specs.Prelude.{◌≡◌, ◌+◌, ◌-◌, ◌^◌, ◌<◌, ◌≤◌, [], IfSome, OnSome, true};
+ghost use Rattle.cc_model.specs.declared.call.Answer.TheVariants as answer;
+ghost use Rattle.cc_model.specs.declared.call.Pass.TheVariants as pass;
+ghost use Rattle.cc_machine.specs.State.{pass_at};
+ghost use Rattle.cc_steps.specs.Walk.{IsOf, fresh};
+ghost use Rattle.cc_queue.specs.Calls.{Ended};
+ghost use Rattle.cc_queue.specs.Headline.{StandsInOne};
+ghost use Rattle.cc_queue.specs.Receipts.{receipts_in, sent};
+ghost use Rattle.cc_drive.specs.Back.{SenderIsBack, calls};
+ghost use Rattle.cc_drive.specs.Work.{WentOn, IsSent, CostsOfSend};
+
+use crate::gate::{Gate, Point};
+use crate::kept::{Kept, Worked};
+use crate::turns::Turns;
+use cc_audit::SendReceipt;
+use cc_model::SendAnswer;
+use cc_queue::{PendingSend, Queue, SendTurn, Sender, begin_send, turn_send};
+use crossbeam_utils::Backoff;
+use std::alloc::Global;
+
+/// How a send went.
+pub(crate) enum Sent {
+    /// It was answered.
+    Answered(Sender, SendAnswer),
+    /// The sender has begun as many sends as one sender may.
+    Worn(Sender),
+    /// The worker reached its limit. A pending call was given up.
+    Limited,
+}
+
+/// Waits for the answer of a send within the limit.
+fn await_send(
+    queue: &Queue,
+    pending: PendingSend,
+    turns: &mut Turns,
+) -> Option<(Sender, SendAnswer)>
+    requires here { IsOf queue.now pending }
+    requires stands { StandsInOne pending [] pending }
+    requires within { turns.old.made ≤ turns.old.limit }
+    ensures ended { IfSome result (λ r. Ended pending (answer.Send r.1) r.0) }
+    ensures begun { IfSome result (λ r. r.0.stand.begun ≡ pending.stand.begun) }
+    ensures turned { OnSome result (turns.old.made < turns.new.made) }
+    ensures on { WentOn turns.old turns.new }
+{
+    let backoff = Backoff::new();
+    let mut pending = pending;
+    while turns.made < turns.limit {
+        turns.made += 1;
+        match turn_send(queue, pending) {
+            SendTurn::Waiting(same) => pending = same,
+            SendTurn::Done {
+                sender,
+                answer,
+                served: _,
+            } => return Some((sender, answer)),
+        }
+        backoff.snooze();
+    }
+    pending.abandon();
+    None
+}
+
+/// Sends this body, and waits for the answer within the limit. The gate is asked after the begin and after the answer.
+pub(crate) fn send_body<G: Gate>(
+    queue: &Queue,
+    sender: Sender,
+    body: u64,
+    gate: &mut G,
+    turns: &mut Turns,
+) -> Sent
+    requires here { IsOf queue.now sender }
+    requires within { turns.old.made ≤ turns.old.limit }
+    ensures sent { IsSent sender body result }
+    ensures on { WentOn turns.old turns.new }
+    ensures costs { CostsOfSend turns.old turns.new result }
+{
+    let pending = match begin_send(queue, sender, body) {
+        Ok(pending) => pending,
+        Err(sender) => return Sent::Worn(sender),
+    };
+    if !turns.pass(gate, Point::SendBegun) {
+        pending.abandon();
+        return Sent::Limited;
+    }
+    let Some((sender, answer)) = await_send(queue, pending, turns) else {
+        return Sent::Limited;
+    };
+    if !turns.pass(gate, Point::SendAnswered) {
+        return Sent::Limited;
+    }
+    Sent::Answered(sender, answer)
+}
+
+/// Sends the bodies from 1 to `items`, each again until it is accepted, and keeps a receipt of each. In a run the answer is
+/// Full until then: the queue is closed when all senders are joined, and its life is longer than any sends that they can
+/// begin. A worn sender stops. The pass is given back, but where the worker reached its limit.
+pub(crate) fn send_all<G: Gate>(
+    alloc: Global,
+    queue: &Queue,
+    row: u32,
+    number: u32,
+    items: u64,
+    limit: u64,
+    sender: Sender,
+    gate: G,
+) -> Worked<Sender, SendReceipt>
+    requires fresh { sender ≡ fresh queue.now row }
+    requires named { pass_at queue.now.setting.config row ≡ pass.Sender number }
+    requires worn { queue.now.setting.config.per_sender ≡ 2 ^ 32 - 1 }
+    ensures back { IfSome result.pass (SenderIsBack queue.now items limit row) }
+    ensures kept { IfSome result.pass (λ w. result.kept.is_whole ≡ true → result.kept.receipts.items ≡ receipts_in sent (calls w)) }
+{
+    let _ = row;
+    let mut gate = gate;
+    let mut sender = sender;
+    sender.stands();
+    let mut turns = Turns::new(limit);
+    let mut kept = Kept::new(alloc);
+    let mut begun: u32 = 0;
+    let mut accepted: u64 = 0;
+    let backoff = Backoff::new();
+    while accepted < items {
+        let body = accepted + 1;
+        match send_body(queue, sender, body, &mut gate, &mut turns) {
+            Sent::Answered(after, answer) => {
+                sender = after;
+                begun += 1;
+                if let SendAnswer::Accepted { place } = answer {
+                    accepted += 1;
+                    kept.keep(SendReceipt {
+                        sender: number,
+                        number: begun,
+                        place,
+                        body,
+                    });
+                } else {
+                    backoff.snooze();
+                }
+            }
+            Sent::Worn(after) => {
+                return Worked {
+                    pass: Some(after),
+                    kept,
+                };
+            }
+            Sent::Limited => return Worked { pass: None, kept },
+        }
+    }
+    Worked {
+        pass: Some(sender),
+        kept,
+    }
+}
