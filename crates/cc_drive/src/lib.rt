@@ -4,6 +4,7 @@
 mod config;
 mod gate;
 mod kept;
+mod receiving;
 mod sending;
 mod turns;
 

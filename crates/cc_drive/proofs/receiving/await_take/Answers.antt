@@ -1,0 +1,14 @@
+use Rattle.std.proofs.Common.{rules, ◌∙◌}
+use Rattle.cc_queue.proofs.Headline.{waits_on, ended_so}
+use Rattle.cc_drive.proofs.receiving.await_take.Goals as goal
+
+pub returns-in-Done-clause-ended : goal.returns-in-Done-clause-ended
+returns-in-Done-clause-ended c = ended_so _ c.loop-turns.pending c.in-Done.receiver _ _ c.loop-turns.invariant.0 c.in-Done.ensures
+
+pub loop-turns-preserved : goal.loop-turns-preserved
+loop-turns-preserved c =
+    let e = c.in-Waiting.ensures in let was = c.loop-turns.invariant in (
+      waits_on _ c.loop-turns.pending c.in-Waiting.same was.0 e,
+      (e.stands.same.0 ∙ was.1.0, e.stands.same.1 ∙ was.1.1),
+      search rules,
+    )

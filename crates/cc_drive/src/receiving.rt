@@ -1,0 +1,123 @@
+//! The work of a receiver's thread.
+ghost use Rattle.std.specs.Prelude.{◌≡◌, ◌+◌, ◌<◌, ◌≤◌, [], IfSome, OnSome, true};
+ghost use Rattle.cc_model.specs.declared.call.Answer.TheVariants as answer;
+ghost use Rattle.cc_model.specs.declared.call.Call.TheVariants as call;
+ghost use Rattle.cc_model.specs.declared.call.Pass.TheVariants as pass;
+ghost use Rattle.cc_machine.specs.State.{pass_at};
+ghost use Rattle.cc_steps.specs.Walk.{IsOf, fresh};
+ghost use Rattle.cc_queue.specs.Calls.{Completed, Ended};
+ghost use Rattle.cc_queue.specs.Headline.{StandsInOne};
+ghost use Rattle.cc_queue.specs.Receipts.{receipts_in, got};
+ghost use Rattle.cc_drive.specs.Back.{ReceiverIsBack, calls};
+ghost use Rattle.cc_drive.specs.Work.{WentOn};
+
+use crate::gate::{Gate, Point};
+use crate::kept::{Kept, Worked};
+use crate::turns::Turns;
+use cc_audit::TakeReceipt;
+use cc_model::TakeAnswer;
+use cc_queue::{PendingTake, Queue, Receiver, TakeTurn, begin_take, turn_take};
+use crossbeam_utils::Backoff;
+use std::alloc::Global;
+
+/// Waits for the answer of a take within the limit.
+fn await_take(
+    queue: &Queue,
+    pending: PendingTake,
+    turns: &mut Turns,
+) -> Option<(Receiver, TakeAnswer)>
+    requires here { IsOf queue.now pending }
+    requires stands { StandsInOne pending [] pending }
+    requires within { turns.old.made ≤ turns.old.limit }
+    ensures ended { IfSome result (λ r. Ended pending (answer.Take r.1) r.0) }
+    ensures turned { OnSome result (turns.old.made < turns.new.made) }
+    ensures on { WentOn turns.old turns.new }
+{
+    let backoff = Backoff::new();
+    let mut pending = pending;
+    while turns.made < turns.limit {
+        turns.made += 1;
+        match turn_take(queue, pending) {
+            TakeTurn::Waiting(same) => pending = same,
+            TakeTurn::Done {
+                receiver,
+                answer,
+                served: _,
+            } => return Some((receiver, answer)),
+        }
+        backoff.snooze();
+    }
+    pending.abandon();
+    None
+}
+
+/// Takes, and waits for the answer within the limit. The gate is asked after the begin and after the answer. None where the
+/// worker reached its limit; a pending call was given up then.
+fn take_one<G: Gate>(
+    queue: &Queue,
+    receiver: Receiver,
+    gate: &mut G,
+    turns: &mut Turns,
+) -> Option<(Receiver, TakeAnswer)>
+    requires here { IsOf queue.now receiver }
+    requires within { turns.old.made ≤ turns.old.limit }
+    ensures taken { IfSome result (λ r. Completed receiver call.Take (answer.Take r.1) r.0) }
+    ensures turned { OnSome result (turns.old.made < turns.new.made) }
+    ensures on { WentOn turns.old turns.new }
+{
+    let pending = begin_take(queue, receiver);
+    if !turns.pass(gate, Point::TakeBegun) {
+        pending.abandon();
+        return None;
+    }
+    let (receiver, answer) = await_take(queue, pending, turns)?;
+    if !turns.pass(gate, Point::TakeAnswered) {
+        return None;
+    }
+    Some((receiver, answer))
+}
+
+/// Takes until the queue has ended, again after Empty, and keeps a receipt of each item. The pass is given back, but where
+/// the worker reached its limit.
+pub(crate) fn take_all<G: Gate>(
+    alloc: Global,
+    queue: &Queue,
+    row: u32,
+    number: u32,
+    limit: u64,
+    receiver: Receiver,
+    gate: G,
+) -> Worked<Receiver, TakeReceipt>
+    requires fresh { receiver ≡ fresh queue.now row }
+    requires named { pass_at queue.now.setting.config row ≡ pass.Receiver number }
+    ensures back { IfSome result.pass (ReceiverIsBack queue.now row) }
+    ensures kept { IfSome result.pass (λ w. result.kept.is_whole ≡ true → result.kept.receipts.items ≡ receipts_in got (calls w)) }
+{
+    let _ = row;
+    let mut gate = gate;
+    let mut receiver = receiver;
+    receiver.stands();
+    let mut turns = Turns::new(limit);
+    let mut kept = Kept::new(alloc);
+    let backoff = Backoff::new();
+    while turns.made < turns.limit {
+        let Some((after, answer)) = take_one(queue, receiver, &mut gate, &mut turns) else {
+            return Worked { pass: None, kept };
+        };
+        match answer {
+            TakeAnswer::Got(item) => kept.keep(TakeReceipt {
+                receiver: number,
+                item,
+            }),
+            TakeAnswer::Empty => backoff.snooze(),
+            TakeAnswer::Ended { total: _ } => {
+                return Worked {
+                    pass: Some(after),
+                    kept,
+                };
+            }
+        }
+        receiver = after;
+    }
+    Worked { pass: None, kept }
+}
