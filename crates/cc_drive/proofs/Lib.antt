@@ -1,2 +1,3 @@
 pub mod Told
 pub mod Workers
+pub mod Rows

@@ -1,3 +1,5 @@
 pub mod Config
 pub mod Work
 pub mod Back
+pub mod Row
+pub mod Jobs

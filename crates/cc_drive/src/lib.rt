@@ -3,9 +3,11 @@
 
 mod config;
 mod gate;
+mod jobs;
 mod kept;
 mod receiving;
 mod sending;
+mod threads;
 mod turns;
 
 pub use config::{DriveConfig, DriveEnd, DriveFault};

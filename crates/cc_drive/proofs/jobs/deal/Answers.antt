@@ -1,0 +1,13 @@
+use Rattle.std.proofs.Common.{rules, ◌≡◌, refl}
+use Rattle.cc_drive.proofs.Rows.{row_push, dealt_over}
+use Rattle.cc_drive.proofs.jobs.deal.Goals as goal
+
+pub loop-pass-preserved : goal.loop-pass-preserved
+loop-pass-preserved g c =
+    let was = c.loop-pass.invariant in let end = c.in_ok-push.ensures.items in (
+      dealt_over (λ j. j.pass) _ _ _ _ _ _ _ c.in-Some.ensures.steps.0 end refl was.0,
+      row_push (λ n j. j.number ≡ n) 1 c.loop-pass.number _ _ _ end was.2 was.1 refl,
+      search rules,
+      search rules,
+      search rules,
+    )
