@@ -1,3 +1,4 @@
 pub mod Told
 pub mod Workers
 pub mod Rows
+pub mod Crews

@@ -2,4 +2,5 @@ pub mod Config
 pub mod Work
 pub mod Back
 pub mod Row
+pub mod Crew
 pub mod Jobs

@@ -2,6 +2,7 @@
 #![tactic(auto)]
 
 mod config;
+mod crew;
 mod gate;
 mod jobs;
 mod kept;
