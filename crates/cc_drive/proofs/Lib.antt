@@ -2,3 +2,9 @@ pub mod Told
 pub mod Workers
 pub mod Rows
 pub mod Crews
+pub mod Totals
+pub mod Pairs
+pub mod Ended
+pub mod Settled
+pub mod Crewed
+pub mod Dealt

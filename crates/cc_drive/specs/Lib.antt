@@ -3,4 +3,5 @@ pub mod Work
 pub mod Back
 pub mod Row
 pub mod Crew
+pub mod Ran
 pub mod Jobs

@@ -1,0 +1,198 @@
+-- What a lawful history says of the total that a close told, and of the end that a receiver was told.
+use Rattle.std.proofs.Common.{◌≡◌, ℕ, ◌+◌, ◌≤◌, Bool, true, false, ◌||◌, List, [], ◌∷◌, ◌++◌, length, Option, Some, None, if◌then◌else◌, refl, sym, ap, ◌∙◌, subst, arith, length-append}
+use Rattle.std.proofs.lemmas.List.{length-map}
+use Rattle.std.proofs.Math.Logic.{◌⊎◌, inl, inr}
+use Rattle.std.specs.List.{AllByRecursion, filter}
+use Rattle.cc_model.specs.Record.{Record}
+use Rattle.cc_model.specs.Items.{answered, is_pass, accepted, accepted_item, shuts, is_shut, handed, handed_by, handed_item}
+use Rattle.cc_model.specs.Legal.{Legal, EAnswer, EAnswers, DAnswer, DAnswers, IsReceivers}
+use Rattle.cc_model.specs.declared.config.Config.{Config}
+use Rattle.cc_model.specs.declared.call.Call.{Call}
+use Rattle.cc_model.specs.declared.call.Call.TheVariants as call
+use Rattle.cc_model.specs.declared.call.Pass.{Pass}
+use Rattle.cc_model.specs.declared.call.Pass.TheVariants as pass
+use Rattle.cc_model.specs.declared.call.Item.{Item}
+use Rattle.cc_model.specs.declared.call.Entry.{Entry}
+use Rattle.cc_model.specs.declared.call.Answer.{Answer}
+use Rattle.cc_model.specs.declared.call.Answer.TheVariants as answer
+use Rattle.cc_model.specs.declared.call.SendAnswer.TheVariants as send
+use Rattle.cc_model.specs.declared.call.CloseAnswer.{CloseAnswer}
+use Rattle.cc_model.specs.declared.call.CloseAnswer.TheVariants as close
+use Rattle.cc_model.specs.declared.call.TakeAnswer.TheVariants as take
+use Rattle.cc_machine.specs.Machine.{IsLastAnswer}
+use Rattle.cc_audit.specs.Receipts.{sends_of, takes_of, takes_by, take_receipt, total_of, total_by, send_receipt}
+use Rattle.cc_queue.proofs.Taken.{Told}
+use Rattle.cc_drive.specs.Ran.{total_in}
+
+-- ---- a call among others
+
+abbrev In : Told → List Told → Type 0
+In z [] = ⊥
+In z (x ∷ xs) = (x ≡ z) ⊎ In z xs
+
+in_last : (before : List Told) (z : Told) → In z (before ++ z ∷ [])
+in_last [] z = inl refl
+in_last (x ∷ before) z = inr (in_last before z)
+
+in_filter : (f : Told → Bool) (z : Told) (xs : List Told) → In z (filter f xs) → In z xs
+in_filter f z [] i = i
+in_filter f z (x ∷ xs) i = go (f x) (in_filter f z xs) i
+  where
+    go : (b : Bool) → (In z (filter f xs) → In z xs) → In z (if b then x ∷ filter f xs else filter f xs) → In z (x ∷ xs)
+    go true rest (inl e) = inl e
+    go true rest (inr j) = inr (rest j)
+    go false rest j = inr (rest j)
+
+in_either : (z : Told) (xs ys : List Told) → In z (xs ++ ys) → In z xs ⊎ In z ys
+in_either z [] ys i = inr i
+in_either z (x ∷ xs) ys (inl e) = inl (inl e)
+in_either z (x ∷ xs) ys (inr i) = go (in_either z xs ys i)
+  where
+    go : In z xs ⊎ In z ys → In z (x ∷ xs) ⊎ In z ys
+    go (inl j) = inl (inr j)
+    go (inr j) = inr j
+
+last_in : (who : Pass) (h : Record) (told : Answer) → (k : IsLastAnswer who h told) → In (k.entry, Some told) (answered h.e_calls h.e_answers) ⊎ In (k.entry, Some told) (answered h.d_calls h.d_answers)
+last_in who h told k =
+    in_either (k.entry, Some told) (answered h.e_calls h.e_answers) (answered h.d_calls h.d_answers)
+    (in_filter (λ c. is_pass who c.0.pass) (k.entry, Some told) (answered h.e_calls h.e_answers ++ answered h.d_calls h.d_answers) (subst (In (k.entry, Some told)) (sym k.last) (in_last k.before (k.entry, Some told))))
+
+-- what a call with its answer is
+no_answer : (c e : Entry) (a : Answer) → ◌≡◌ {A = Told} (c, None) (e, Some a) → ⊥
+no_answer c e a same = absurd (let none : None ≡ Some a = ap (λ (z : Told). z.1) same in cc none)
+
+abbrev told_of : Option Answer → Answer → Answer
+told_of (Some a) b = a
+told_of None b = b
+
+same_answer : (c e : Entry) (a b : Answer) → ◌≡◌ {A = Told} (c, Some a) (e, Some b) → a ≡ b
+same_answer c e a b same = ap (λ (z : Told). told_of z.1 a) same
+
+-- ---- each answer stands on its side
+
+no_end_of_sender : (cfg : Config) (count : ℕ) (shut : Bool) (calls : List Entry) (answers : List Answer) (e : Entry) (total : ℕ) → EAnswers cfg count shut calls answers → In (e, Some (answer.Take (take.Ended total))) (answered calls answers) → ⊥
+no_end_of_sender cfg count shut [] answers e total k i = i
+no_end_of_sender cfg count shut (c ∷ calls) [] e total k (inl same) = no_answer c e (answer.Take (take.Ended total)) same
+no_end_of_sender cfg count shut (c ∷ calls) [] e total k (inr i) = no_end_of_sender cfg count shut calls [] e total tt i
+no_end_of_sender cfg count shut (c ∷ calls) (a ∷ answers) e total k (inl same) = no_take cfg count shut c.known c.call total (subst (λ (z : Answer). EAnswer cfg count shut c.known c.call z) (same_answer c e a (answer.Take (take.Ended total)) same) k.0)
+  where
+    no_take : (cfg : Config) (count : ℕ) (shut : Bool) (known : ℕ) (c : Call) (total : ℕ) → EAnswer cfg count shut known c (answer.Take (take.Ended total)) → ⊥
+    no_take cfg count true known (call.Send body) total k = k
+    no_take cfg count true known call.Close total k = k
+    no_take cfg count true known call.Take total k = k
+    no_take cfg count false known (call.Send body) total k = k
+    no_take cfg count false known call.Close total k = k
+    no_take cfg count false known call.Take total k = k
+no_end_of_sender cfg count shut (c ∷ calls) (a ∷ answers) e total k (inr i) = no_end_of_sender cfg (count + length (accepted_item c a)) (shut || shuts a) calls answers e total k.1 i
+
+no_close_of_receiver : (items : List Item) (shut : Bool) (count : ℕ) (calls : List Entry) (answers : List Answer) (e : Entry) (told : CloseAnswer) → DAnswers items shut count calls answers → In (e, Some (answer.Close told)) (answered calls answers) → ⊥
+no_close_of_receiver items shut count [] answers e told k i = i
+no_close_of_receiver items shut count (c ∷ calls) [] e told k (inl same) = no_answer c e (answer.Close told) same
+no_close_of_receiver items shut count (c ∷ calls) [] e told k (inr i) = no_close_of_receiver items shut count calls [] e told tt i
+no_close_of_receiver items shut count (c ∷ calls) (a ∷ answers) e told k (inl same) = subst (λ (z : Answer). DAnswer items shut count c.known z) (same_answer c e a (answer.Close told) same) k.0
+no_close_of_receiver items shut count (c ∷ calls) (a ∷ answers) e told k (inr i) = no_close_of_receiver items shut (count + length (handed_item a)) calls answers e told k.1 i
+
+-- ---- the total of a close
+
+-- behind the close nothing is accepted, and each further close tells the same
+still_shut : (cfg : Config) (count : ℕ) (known : ℕ) (c : Entry) (a : Answer) → EAnswer cfg count true known c.call a → accepted_item c a ≡ []
+still_shut cfg count known c (answer.Send send.Closed) k = refl
+still_shut cfg count known c (answer.Send send.Full) k = refl
+still_shut cfg count known c (answer.Send send.Spent) k = refl
+still_shut cfg count known c (answer.Send (send.Accepted place)) k = absurd (no c.call k)
+  where
+    no : (x : Call) → EAnswer cfg count true known x (answer.Send (send.Accepted place)) → ⊥
+    no (call.Send body) k = k
+    no call.Close k = k
+    no call.Take k = k
+still_shut cfg count known c (answer.Close a) k = refl
+still_shut cfg count known c (answer.Take a) k = refl
+
+told_when_shut : (cfg : Config) (count : ℕ) (known : ℕ) (c : Call) (told : CloseAnswer) → EAnswer cfg count true known c (answer.Close told) → total_in told ≡ count
+told_when_shut cfg count known call.Close (close.Already total) k = k
+told_when_shut cfg count known call.Close (close.Shut total) k = absurd k
+told_when_shut cfg count known (call.Send body) told k = absurd k
+told_when_shut cfg count known call.Take told k = absurd k
+
+told_behind : (cfg : Config) (count : ℕ) (calls : List Entry) (answers : List Answer) (e : Entry) (told : CloseAnswer) → EAnswers cfg count true calls answers → In (e, Some (answer.Close told)) (answered calls answers) → total_in told ≡ count
+told_behind cfg count [] answers e told k i = absurd i
+told_behind cfg count (c ∷ calls) [] e told k (inl same) = absurd (no_answer c e (answer.Close told) same)
+told_behind cfg count (c ∷ calls) [] e told k (inr i) = told_behind cfg count calls [] e told tt i
+told_behind cfg count (c ∷ calls) (a ∷ answers) e told k (inl same) = told_when_shut cfg count c.known c.call told (subst (λ (z : Answer). EAnswer cfg count true c.known c.call z) (same_answer c e a (answer.Close told) same) k.0)
+told_behind cfg count (c ∷ calls) (a ∷ answers) e told k (inr i) =
+    let none : length (accepted_item c a) ≡ 0 = ap length (still_shut cfg count c.known c a k.0) in
+    told_behind cfg (count + length (accepted_item c a)) calls answers e told k.1 i ∙ omega (arith, none)
+
+-- the first close answered so is the one that tells
+total_so : (cfg : Config) (count : ℕ) (calls : List Entry) (answers : List Answer) (e : Entry) (told : CloseAnswer) → EAnswers cfg count false calls answers → In (e, Some (answer.Close told)) (answered calls answers) → Some (total_in told) ≡ total_by answers
+total_so cfg count [] answers e told k i = absurd i
+total_so cfg count (c ∷ calls) [] e told k (inl same) = absurd (no_answer c e (answer.Close told) same)
+total_so cfg count (c ∷ calls) [] e told k (inr i) = total_so cfg count calls [] e told tt i
+total_so cfg count (c ∷ calls) (answer.Close (close.Shut total) ∷ answers) e told k (inl same) = (let s : answer.Close (close.Shut total) ≡ answer.Close told = same_answer c e (answer.Close (close.Shut total)) (answer.Close told) same in let t : close.Shut total ≡ told = cc s in ap (λ (a : CloseAnswer). Some (total_in a)) (sym t))
+total_so cfg count (c ∷ calls) (answer.Close (close.Shut total) ∷ answers) e told k (inr i) = ap Some (told_behind cfg (count + 0) calls answers e told k.1 i ∙ (let z : count + 0 ≡ count = omega arith in z) ∙ sym (at c.call k.0))
+  where
+    at : (x : Call) → EAnswer cfg count false c.known x (answer.Close (close.Shut total)) → total ≡ count
+    at call.Close k = k
+    at (call.Send body) k = absurd k
+    at call.Take k = absurd k
+total_so cfg count (c ∷ calls) (answer.Close (close.Already total) ∷ answers) e told k i = absurd (no c.call k.0)
+  where
+    no : (x : Call) → EAnswer cfg count false c.known x (answer.Close (close.Already total)) → ⊥
+    no call.Close k = k
+    no (call.Send body) k = k
+    no call.Take k = k
+total_so cfg count (c ∷ calls) (answer.Send a ∷ answers) e told k (inl same) = absurd (let s : answer.Send a ≡ answer.Close told = same_answer c e (answer.Send a) (answer.Close told) same in cc s)
+total_so cfg count (c ∷ calls) (answer.Send a ∷ answers) e told k (inr i) = total_so cfg (count + length (accepted_item c (answer.Send a))) calls answers e told k.1 i
+total_so cfg count (c ∷ calls) (answer.Take a ∷ answers) e told k (inl same) = absurd (let s : answer.Take a ≡ answer.Close told = same_answer c e (answer.Take a) (answer.Close told) same in cc s)
+total_so cfg count (c ∷ calls) (answer.Take a ∷ answers) e told k (inr i) = total_so cfg (count + 0) calls answers e told k.1 i
+
+-- the answer of a pass's close has the total of the history
+pub total_is : (cfg : Config) (h : Record) (who : Pass) (told : CloseAnswer) → Legal cfg h → IsLastAnswer who h (answer.Close told) → Some (total_in told) ≡ total_of h
+total_is cfg h who told l k = go (last_in who h (answer.Close told) k)
+  where
+    go : In (k.entry, Some (answer.Close told)) (answered h.e_calls h.e_answers) ⊎ In (k.entry, Some (answer.Close told)) (answered h.d_calls h.d_answers) → Some (total_in told) ≡ total_of h
+    go (inl i) = total_so cfg 0 h.e_calls h.e_answers k.entry told l.e_answers i
+    go (inr i) = absurd (no_close_of_receiver (accepted h) (is_shut h) 0 h.d_calls h.d_answers k.entry told l.d_answers i)
+
+-- ---- the end
+
+ended_so : (items : List Item) (shut : Bool) (count : ℕ) (calls : List Entry) (answers : List Answer) (e : Entry) (total : ℕ) → DAnswers items shut count calls answers → In (e, Some (answer.Take (take.Ended total))) (answered calls answers) → length items ≤ count + length (handed_by answers)
+ended_so items shut count [] answers e total k i = absurd i
+ended_so items shut count (c ∷ calls) [] e total k (inl same) = absurd (no_answer c e (answer.Take (take.Ended total)) same)
+ended_so items shut count (c ∷ calls) [] e total k (inr i) = ended_so items shut count calls [] e total tt i
+ended_so items shut count (c ∷ calls) (a ∷ answers) e total k (inl same) =
+    let d = subst (λ (z : Answer). DAnswer items shut count c.known z) (same_answer c e a (answer.Take (take.Ended total)) same) k.0 in
+    let n : count ≡ length items = d.2 in omega (arith, n)
+ended_so items shut count (c ∷ calls) (a ∷ answers) e total k (inr i) =
+    let rest = ended_so items shut (count + length (handed_item a)) calls answers e total k.1 i in
+    omega (arith, rest, length-append (handed_item a) (handed_by answers))
+
+-- where some receiver was told the end, as many items were handed out as were accepted
+all_handed : (cfg : Config) (h : Record) (who : Pass) (total : ℕ) → Legal cfg h → IsLastAnswer who h (answer.Take (take.Ended total)) → length (handed h) ≡ length (accepted h)
+all_handed cfg h who total l k = go (last_in who h (answer.Take (take.Ended total)) k)
+  where
+    go : In (k.entry, Some (answer.Take (take.Ended total))) (answered h.e_calls h.e_answers) ⊎ In (k.entry, Some (answer.Take (take.Ended total))) (answered h.d_calls h.d_answers) → length (handed h) ≡ length (accepted h)
+    go (inl i) = absurd (no_end_of_sender cfg 0 false h.e_calls h.e_answers k.entry total l.e_answers i)
+    go (inr i) = let more = ended_so (accepted h) (is_shut h) 0 h.d_calls h.d_answers k.entry total l.d_answers i in omega (arith, more, l.within)
+
+-- a receipt of each item that was handed out
+receipts_of : (cfg : Config) (items : List Item) (shut : Bool) (count : ℕ) (calls : List Entry) (answers : List Answer) → AllByRecursion (λ c. IsReceivers cfg c.pass c.call) calls → DAnswers items shut count calls answers → length (takes_by calls answers) ≡ length (handed_by answers)
+receipts_of cfg items shut count [] [] all k = refl
+receipts_of cfg items shut count [] (a ∷ answers) all k = absurd k
+receipts_of cfg items shut count (c ∷ calls) [] all k = refl
+receipts_of cfg items shut count (c ∷ calls) (a ∷ answers) all k =
+    let rest = receipts_of cfg items shut (count + length (handed_item a)) calls answers all.1 k.1 in
+    let one : length (take_receipt c.pass a) ≡ length (handed_item a) = own c.pass c.call a all.0 in
+    omega (arith, rest, one, length-append (take_receipt c.pass a) (takes_by calls answers), length-append (handed_item a) (handed_by answers))
+  where
+    own : (p : Pass) (x : Call) (a : Answer) → IsReceivers cfg p x → length (take_receipt p a) ≡ length (handed_item a)
+    own (pass.Receiver r) x (answer.Take (take.Got item)) is = refl
+    own (pass.Receiver r) x (answer.Take take.Empty) is = refl
+    own (pass.Receiver r) x (answer.Take (take.Ended total)) is = refl
+    own (pass.Receiver r) x (answer.Send b) is = refl
+    own (pass.Receiver r) x (answer.Close b) is = refl
+    own (pass.Sender s) x a is = absurd is
+
+-- so as many were taken as were sent
+pub taken_is_sent : (cfg : Config) (h : Record) (who : Pass) (total : ℕ) → Legal cfg h → IsLastAnswer who h (answer.Take (take.Ended total)) → length (takes_of h) ≡ length (sends_of h)
+taken_is_sent cfg h who total l k = receipts_of cfg (accepted h) (is_shut h) 0 h.d_calls h.d_answers l.receivers l.d_answers ∙ all_handed cfg h who total l k ∙ sym (length-map (accepted h) send_receipt)

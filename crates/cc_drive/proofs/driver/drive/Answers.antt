@@ -1,0 +1,39 @@
+use Rattle.std.proofs.Common.{arith, ◌≡◌, ◌∙◌, ◌+◌, ℕ, length, ap, subst}
+use Rattle.cc_model.specs.declared.config.Config.{Config}
+use Rattle.cc_machine.specs.declared.setting.Setting.{Setting}
+use Rattle.cc_machine.proofs.Ranges.{in_range}
+use Rattle.cc_steps.specs.Walk.{fresh, fresh_from}
+use Rattle.cc_drive.specs.Config.{queue_of}
+use Rattle.cc_drive.proofs.Rows.{one_longer}
+use Rattle.cc_drive.proofs.Dealt.{fresh_split, sending_row, taking_row}
+use Rattle.cc_drive.proofs.driver.drive.Goals as goal
+
+pub run-requires-clause-closer : goal.run-requires-clause-closer
+run-requires-clause-closer g c κs within =
+    let parts = fresh_split c.in_ok-queue.field-0.queue 0 _ _ c.in-Some.closer c.in-Some.ensures.items c.in_ok-queue.ensures.senders in
+    let all : c.in_ok-of_queue.of_queue.senders ≡ c.args.config.now.senders + 1 = ap (λ (k : Config). k.senders) c.in_ok-of_queue.ensures.config in
+    let long = one_longer _ _ c.in-Some.closer c.in-Some.ensures.items in
+    let opened = c.in_ok-queue.ensures.count_senders in
+    let count : length c.pop.new.self.items ≡ c.args.config.now.senders = omega (arith, all, long, opened) in
+    parts.1 ∙ ap (fresh c.in_ok-queue.field-0.queue) (omega (arith, count))
+
+pub run-requires-clause-senders : goal.run-requires-clause-senders
+run-requires-clause-senders g c κs within =
+    let parts = fresh_split c.in_ok-queue.field-0.queue 0 _ _ c.in-Some.closer c.in-Some.ensures.items c.in_ok-queue.ensures.senders in
+    let all : c.in_ok-of_queue.of_queue.senders ≡ c.args.config.now.senders + 1 = ap (λ (k : Config). k.senders) c.in_ok-of_queue.ensures.config in
+    let long = one_longer _ _ c.in-Some.closer c.in-Some.ensures.items in
+    let opened = c.in_ok-queue.ensures.count_senders in
+    let count : length c.pop.new.self.items ≡ c.args.config.now.senders = omega (arith, all, long, opened) in
+    sending_row c.in_ok-queue.field-0.queue c.args.config.now c.in_ok-senders.senders.items c.pop.new.self.items (ap (λ (s : Setting). s.config) c.in_ok-queue.ensures.setting ∙ c.in_ok-of_queue.ensures.config) count c.in_ok-senders.ensures.passes parts.0 c.in_ok-senders.ensures.numbers
+
+pub run-requires-clause-receivers : goal.run-requires-clause-receivers
+run-requires-clause-receivers g c κs within =
+    let all : c.in_ok-of_queue.of_queue.senders ≡ c.args.config.now.senders + 1 = ap (λ (k : Config). k.senders) c.in_ok-of_queue.ensures.config in
+    taking_row c.in_ok-queue.field-0.queue c.args.config.now c.in_ok-receivers.receivers.items _ (ap (λ (s : Setting). s.config) c.in_ok-queue.ensures.setting ∙ c.in_ok-of_queue.ensures.config) c.in_ok-receivers.ensures.passes
+    (subst (λ (n : ℕ). fresh_from c.in_ok-queue.field-0.queue n c.in_ok-queue.field-0.receivers.items) all c.in_ok-queue.ensures.receivers) c.in_ok-receivers.ensures.numbers
+
+pub run-requires-clause-few : goal.run-requires-clause-few
+run-requires-clause-few g c κs within = let r = in_range (queue_of c.args.config.now) c.in_ok-of_queue.ensures.lawful in omega (arith, r.senders, r.receivers)
+
+pub settle-requires-clause-some : goal.settle-requires-clause-some
+settle-requires-clause-some g c = let r = in_range (queue_of c.args.config.now) c.in_ok-of_queue.ensures.lawful in omega (arith, r.receivers)

@@ -1,0 +1,29 @@
+use Rattle.std.proofs.Common.{rules, ◌≡◌, ◌∙◌, length, sym, ap, true, false, is_some}
+use Rattle.cc_drive.specs.Ran.{ClosedAfter}
+use Rattle.cc_drive.proofs.Crews.{first_too, second_too, none_of, some_at}
+use Rattle.cc_drive.proofs.Crewed.{are_of, none_due, has_run}
+use Rattle.cc_drive.proofs.driver.run_in.Goals as goal
+
+pub close_after-closed-requires-clause-senders : goal.close_after-closed-requires-clause-senders
+close_after-closed-requires-clause-senders g c = are_of c.args.queue.now c.args.config.items c.args.config.limit c.join_all-sent.result.items c.gather-sent.result.passes.items c.join_all-sent.ensures.gives c.gather-sent.ensures.passes
+
+pub unreachable-requires : goal.unreachable-requires
+unreachable-requires g c =
+    let free = sym c.fault_of.ensures.first ∙ none_of _ c.in_default.not-Some in
+    let closed : c.is_some.result ≡ true = (none_due _ _ _ _ _ _ free).3 in
+    let none : c.is_some.result ≡ false = c.is_some.ensures ∙ ap is_some c.in_default-closed.is in
+    let both : true ≡ false = sym closed ∙ none in absurd (cc both)
+
+pub returns-clause-run : goal.returns-clause-run
+returns-clause-run g c =
+    let free = sym c.fault_of.ensures.first ∙ none_of _ c.in_default.not-Some in
+    let f = none_due _ _ _ _ _ _ free in
+    let count : length c.join_all-sent.result.items ≡ c.args.config.senders = (let joined = c.join_all-sent.ensures.len in let started = c.start_all-sending.ensures.all f.0 in search rules) in
+    let count' : length c.join_all-taken.result.items ≡ c.args.config.receivers = (let joined = c.join_all-taken.ensures.len in let started = c.start_all-taking.ensures.all (c.start_all-sending.ensures.before f.0) in search rules) in
+    let whole = first_too _ _ f.4 in
+    let whole' = second_too _ _ f.4 in
+    let run = has_run c.args.queue.now c.args.config c.join_all-sent.result.items c.join_all-taken.result.items c.gather-sent.result.passes.items _ c.gather-taken.result.passes.items c.gather-sent.result.receipts.items c.gather-taken.result.receipts.items c.args.closer c.in-Some-closed.closer
+    c.in-Some-closed.closed c.join_all-sent.ensures.gives c.join_all-taken.ensures.gives count count' (sym c.gather-sent.ensures.limited ∙ f.1) (sym c.gather-taken.ensures.limited ∙ f.2) c.gather-sent.ensures.passes c.gather-taken.ensures.passes (c.gather-sent.ensures.whole whole)
+    (c.gather-taken.ensures.whole whole') (c.gather-sent.ensures.receipts whole) (c.gather-taken.ensures.receipts whole') c.close_after-closed.ensures.met c.requires.closer
+    (some_at (λ r. ClosedAfter c.args.closer _ r.1 r.0) _ _ c.in-Some-closed.is c.close_after-closed.ensures.closed) in
+    record { senders = run.0; count_senders = run.1; closed = run.2; receivers = run.3; count_receivers = run.4; sends = run.5; takes = run.6 }

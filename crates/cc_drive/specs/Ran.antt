@@ -1,0 +1,51 @@
+-- A run whose threads have ended.
+use Rattle.std.specs.Prelude.{ℕ, ◌≡◌, ◌+◌, Bool, true, false, List, length, Option, Some, None}
+use Rattle.std.specs.List.{All}
+use Rattle.cc_model.specs.declared.call.Answer.TheVariants as answer
+use Rattle.cc_model.specs.declared.call.Call.TheVariants as call
+use Rattle.cc_model.specs.declared.call.CloseAnswer.{CloseAnswer}
+use Rattle.cc_model.specs.declared.call.CloseAnswer.TheVariants as close
+use Rattle.cc_steps.specs.Topic.{Topic}
+use Rattle.cc_steps.specs.Walk.{Walk, fresh}
+use Rattle.cc_queue.specs.Calls.{Completed}
+use Rattle.cc_queue.specs.Met.{HasMet}
+use Rattle.cc_queue.specs.Receipts.{receipts_by, sent, got}
+use Rattle.cc_drive.specs.declared.config.DriveConfig.{DriveConfig}
+use Rattle.cc_drive.specs.declared.config.DriveFault.{DriveFault}
+use Rattle.cc_drive.specs.declared.config.DriveFault.TheVariants as fault
+use Rattle.cc_drive.specs.declared.driver.Ran.{Ran}
+use Rattle.cc_drive.specs.Back.{SenderIsBack, ReceiverIsBack}
+use Rattle.cc_drive.specs.Row.{InRow}
+
+-- the total that a close tells
+abbrev pub total_in : CloseAnswer → ℕ
+total_in (close.Shut total) = total
+total_in (close.Already total) = total
+
+-- The closer met these senders, and closed then: the call of the close had seen all that they had done.
+pub record ClosedAfter (closer : Walk) (senders : List Walk) (told : CloseAnswer) (w : Walk) : Type 0 where
+  pub met : Walk
+  pub first : HasMet closer met
+  pub after : All (λ s. s.seen ≡ met.seen) senders
+  pub close : Completed met call.Close (answer.Close told) w
+
+-- A run has come to its end. The senders are back, and then the closer closed; the receivers are back, each of which was told
+-- the end. The receipts are those of their calls.
+pub record HasRun (z : Topic) (c : DriveConfig) (r : Ran) : Type 0 where
+  pub senders : InRow (SenderIsBack z c.items c.limit) 0 r.senders.items
+  pub count_senders : length r.senders.items ≡ c.senders
+  pub closed : ClosedAfter (fresh z c.senders) r.senders.items r.closed r.closer
+  pub receivers : InRow (ReceiverIsBack z) (c.senders + 1) r.receivers.items
+  pub count_receivers : length r.receivers.items ≡ c.receivers
+  pub sends : r.sends.items ≡ receipts_by sent r.senders.items
+  pub takes : r.takes.items ≡ receipts_by got r.receivers.items
+
+-- Why a run has no end, if it has none: a thread was refused; else the least sender, or else receiver, that reached its limit,
+-- or else the closer, whose number is that of all workers; else a receipt wasn't kept.
+abbrev pub due : (refused : Bool) → (workers : ℕ) → (sender receiver : Option ℕ) → (closed whole : Bool) → Option DriveFault
+due true workers sender receiver closed whole = Some fault.Thread
+due false workers (Some n) receiver closed whole = Some (fault.Limit n)
+due false workers None (Some n) closed whole = Some (fault.Limit n)
+due false workers None None false whole = Some (fault.Limit workers)
+due false workers None None true false = Some fault.NoMemory
+due false workers None None true true = None
