@@ -1,0 +1,9 @@
+//! Tests of `cc_drive`: runs with gates that go on, that wait for each other, and that never let a worker go on.
+#![tactic(auto)]
+
+#[cfg(test)]
+mod gates;
+#[cfg(test)]
+mod runs;
+#[cfg(test)]
+mod two_at_once;

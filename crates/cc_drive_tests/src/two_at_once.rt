@@ -1,0 +1,107 @@
+//! Two workers that wait for each other: they only get on if both run at once.
+ghost use Rattle.std.specs.Prelude.{◌≡◌, IfOk, vec_len};
+
+use cc_audit::Verdict;
+use cc_drive::{DriveConfig, DriveEnd, Gate, Go, Point, drive};
+use crossbeam_utils::Backoff;
+use std::alloc::{AllocError, Global};
+use std::sync::atomic::{AtomicBool, Ordering};
+use std::test::Fail;
+
+/// How often a worker looks for the other one.
+const LOOKS: u64 = 10_000_000;
+
+/// What two workers show each other.
+#[derive(Drop)]
+struct Flags {
+    sender_is_here: AtomicBool,
+    receiver_is_here: AtomicBool,
+    missed: AtomicBool,
+}
+
+/// At its first arrival at this point a worker sets its own flag and waits for the other's.
+#[derive(Drop)]
+struct Meeting<'a> {
+    point: Point,
+    mine: &'a AtomicBool,
+    other: &'a AtomicBool,
+    missed: &'a AtomicBool,
+    has_met: bool,
+}
+
+impl<'a> Gate for Meeting<'a> {
+    fn at(&mut self, point: Point) -> Go {
+        if point == self.point && !self.has_met {
+            self.has_met = true;
+            self.mine.store(true, Ordering::SeqCst);
+            if !comes(self.other) {
+                self.missed.store(true, Ordering::SeqCst);
+            }
+        }
+        Go::On
+    }
+}
+
+/// Whether this flag is set within so many looks.
+fn comes(flag: &AtomicBool) -> bool {
+    let backoff = Backoff::new();
+    for _ in 0..LOOKS {
+        if flag.load(Ordering::SeqCst) {
+            return true;
+        }
+        backoff.snooze();
+    }
+    false
+}
+
+fn meetings(alloc: Global, flags: &Flags) -> Result<Vec<Meeting<'_>>, AllocError>
+    ensures { IfOk result (λ v. vec_len v ≡ 2) }
+{
+    let mut gates = Vec::new(alloc);
+    gates.push(Meeting {
+        point: Point::SendBegun,
+        mine: &flags.sender_is_here,
+        other: &flags.receiver_is_here,
+        missed: &flags.missed,
+        has_met: false,
+    })?;
+    gates.push(Meeting {
+        point: Point::TakeAnswered,
+        mine: &flags.receiver_is_here,
+        other: &flags.sender_is_here,
+        missed: &flags.missed,
+        has_met: false,
+    })?;
+    Ok(gates)
+}
+
+/// The sender waits in its first send for the receiver, and the receiver after its first take for the sender. Workers
+/// that are run by one thread, one after the other or in turns, miss each other.
+#[test]
+fn two_at_once(rt: HostRuntime) -> Result<(), Fail> {
+    let flags = Flags {
+        sender_is_here: AtomicBool::new(false),
+        receiver_is_here: AtomicBool::new(false),
+        missed: AtomicBool::new(false),
+    };
+    let config = DriveConfig {
+        senders: 1,
+        receivers: 1,
+        items: 1,
+        capacity: 2,
+        bound: 2,
+        limit: 10_000_000,
+    };
+    let gates = meetings(rt.alloc(), &flags)?;
+    let end = drive(&rt, rt.alloc(), &config, gates)?;
+    assert_eq!(rt;
+        end,
+        DriveEnd {
+            sent: 1,
+            taken: 1,
+            verdict: Verdict::Clean
+        }
+    );
+    assert!(rt; !flags.missed.load(Ordering::SeqCst));
+    Ok(())
+}
