@@ -1,6 +1,8 @@
 //! Passes items through a queue: `plain MODE SENDERS RECEIVERS CAPACITY ITEMS`, MODE one of `steps` (the queue's atomic
 //! steps by hand), `mutex` (std's Mutex and Condvar round a VecDeque), `sync_channel` (std's), and `alone` (the steps on
-//! one thread, a send and a take in turn). Prints how many items went through.
+//! one thread, a send and a take in turn). Prints how many items went through. `drive` is the driver by hand over a Mutex
+//! with Condvars, each sender with so many items; it prints what `ccq drive` prints.
+mod driver;
 mod queues;
 
 use queues::{alone, mutex, steps, sync_channel};
@@ -16,6 +18,7 @@ fn main() {
         "mutex" => mutex(s, r, c, items),
         "sync_channel" => sync_channel(s, r, c, items),
         "alone" => alone(c, items),
+        "drive" => return driver::drive(s, r, c, items),
         _ => panic!("no such mode"),
     };
     println!("passed {passed}");
