@@ -3,7 +3,8 @@
  * The variable REFUSE has its number, from 1; 0 refuses none. At each allocation that the program makes, one byte goes to
  * file descriptor 9, so that the length of what came there counts them, also where the program was stopped by a signal.
  *
- * What the C library asks for within its own calls is let through and not counted. For programs of one thread, over glibc.
+ * What the C library asks for within its own calls is let through and not counted. Threads may run: each allocation has a
+ * number of its own. Over glibc.
  */
 #define _GNU_SOURCE
 #include <errno.h>
@@ -45,12 +46,12 @@ __attribute__((constructor)) static void begin(void) {
 static int is_refused(void *place) {
     if ((uintptr_t)place < low || (uintptr_t)place >= high)
         return 0;
-    met++;
+    long number = __atomic_add_fetch(&met, 1, __ATOMIC_SEQ_CST);
     if (write(9, ".", 1) != 1)
         _exit(99);
-    if (met == refused)
+    if (number == refused)
         errno = ENOMEM;
-    return met == refused;
+    return number == refused;
 }
 
 #define IS_REFUSED is_refused(__builtin_return_address(0))

@@ -1,0 +1,47 @@
+#!/bin/bash
+# Refuses each allocation of `ccq drive` in turn, from outside, on the program that the gate left, as each compiler built
+# it, with three threads that send 100 items each beside two that take. Each run must come to its clean end, or print nothing
+# and end with status 3 and one line: memory, or a thread. How much memory a run asks for hangs on the order of its threads;
+# it goes on until ten runs in a row have asked for less than was to be refused.
+# Exit status 0 where all runs did so. It proves and builds nothing: `rt ci` does, or `rt run` in crates/ccq.
+set -u
+cd "$(dirname "$0")/.." || exit 1
+room=$(mktemp -d) || exit 1
+trap 'rm -rf "$room"' EXIT
+gcc -O1 -fPIC -shared -o "$room/refuse.so" tools/refuse.c || exit 1
+printf 'sent 300\ntaken 300\naudit clean\n' >"$room/whole"
+printf 'ccq: out of memory\n' >"$room/memory"
+printf 'ccq: a thread was refused\n' >"$room/thread"
+
+programs=0
+for program in crates/ccq/out/ccq crates/ccq/out/ccq.by-rattle; do
+    [ -x "$program" ] || continue
+    programs=$((programs + 1)) refused=0 clean=0 spare=0
+    for ((n = 1; spare < 10; n++)); do
+        timeout 60 env REFUSE="$n" LD_PRELOAD="$room/refuse.so" "$program" drive \
+            --senders 3 --receivers 2 --items 100 --capacity 4 --bound 2 \
+            </dev/null >"$room/out" 2>"$room/errors" 9>"$room/met"
+        status=$?
+        [ "$(wc -c <"$room/met")" -lt "$n" ] && spare=$((spare + 1))
+        if [ "$status" = 0 ] && cmp -s "$room/out" "$room/whole" && [ ! -s "$room/errors" ]; then
+            clean=$((clean + 1))
+        elif [ "$status" = 3 ] && [ ! -s "$room/out" ] && {
+            cmp -s "$room/errors" "$room/memory" || cmp -s "$room/errors" "$room/thread"
+        }; then
+            refused=$((refused + 1))
+        else
+            echo "$program: allocation $n refused: neither the clean end nor status 3 with its line, but status $status and"
+            cat "$room/out" "$room/errors"
+            exit 1
+        fi
+    done
+    if [ "$refused" = 0 ]; then
+        echo "$program: no run ended for want of memory"
+        exit 1
+    fi
+    echo "$program: each allocation of a driven run refused: $refused runs told so, $clean came to their clean end"
+done
+if [ "$programs" = 0 ]; then
+    echo "refuse_drive: there is no crates/ccq/out/ccq: run \`rt ci\` first, or \`rt run\` there"
+    exit 1
+fi
