@@ -1,14 +1,17 @@
 /*
  * A library to be loaded before a program: refuses one of the allocations that the program itself makes, by answering null.
- * The variable REFUSE has its number, from 1; 0 refuses none. At each allocation that the program makes, one byte goes to
+ * The variable REFUSE has its number, from 1; 0 refuses none. In the same way REFUSE_THREAD has the number of the thread
+ * that isn't started. At each allocation that the program makes, one byte goes to
  * file descriptor 9, so that the length of what came there counts them, also where the program was stopped by a signal.
  *
  * What the C library asks for within its own calls is let through and not counted. Threads may run: each allocation has a
  * number of its own. Over glibc.
  */
 #define _GNU_SOURCE
+#include <dlfcn.h>
 #include <errno.h>
 #include <link.h>
+#include <pthread.h>
 #include <stdint.h>
 #include <stdlib.h>
 #include <unistd.h>
@@ -21,6 +24,9 @@ void *__libc_memalign(size_t, size_t);
 /* where the program's own code and data lie, and which of its allocations is refused */
 static uintptr_t low = UINTPTR_MAX, high;
 static long refused, met;
+
+/* which of its threads isn't started */
+static long refused_thread, asked;
 
 /* The program comes first among what is loaded. */
 static int measure(struct dl_phdr_info *loaded, size_t size, void *unused) {
@@ -39,6 +45,8 @@ static int measure(struct dl_phdr_info *loaded, size_t size, void *unused) {
 __attribute__((constructor)) static void begin(void) {
     const char *number = getenv("REFUSE");
     refused = number ? atol(number) : 0;
+    number = getenv("REFUSE_THREAD");
+    refused_thread = number ? atol(number) : 0;
     dl_iterate_phdr(measure, NULL);
 }
 
@@ -73,4 +81,11 @@ int posix_memalign(void **made, size_t edge, size_t size) {
     if (found)
         *made = found;
     return found ? 0 : ENOMEM;
+}
+
+int pthread_create(pthread_t *thread, const pthread_attr_t *attributes, void *(*run)(void *), void *with) {
+    int (*start)(pthread_t *, const pthread_attr_t *, void *(*)(void *), void *) = dlsym(RTLD_NEXT, "pthread_create");
+    if (__atomic_add_fetch(&asked, 1, __ATOMIC_SEQ_CST) == refused_thread)
+        return EAGAIN;
+    return start(thread, attributes, run, with);
 }

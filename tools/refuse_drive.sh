@@ -3,6 +3,7 @@
 # it, with three threads that send 100 items each beside two that take. Each run must come to its clean end, or print nothing
 # and end with status 3 and one line: memory, or a thread. How much memory a run asks for hangs on the order of its threads;
 # it goes on until ten runs in a row have asked for less than was to be refused.
+# Then each of its five threads isn't started in turn: the run says so, and comes to its end.
 # Exit status 0 where all runs did so. It proves and builds nothing: `rt ci` does, or `rt run` in crates/ccq.
 set -u
 cd "$(dirname "$0")/.." || exit 1
@@ -39,7 +40,18 @@ for program in crates/ccq/out/ccq crates/ccq/out/ccq.by-rattle; do
         echo "$program: no run ended for want of memory"
         exit 1
     fi
-    echo "$program: each allocation of a driven run refused: $refused runs told so, $clean came to their clean end"
+    for n in 1 2 3 4 5; do
+        timeout 60 env REFUSE_THREAD="$n" LD_PRELOAD="$room/refuse.so" "$program" drive \
+            --senders 3 --receivers 2 --items 100 --capacity 4 --bound 2 \
+            </dev/null >"$room/out" 2>"$room/errors" 9>"$room/met"
+        status=$?
+        if [ "$status" != 3 ] || [ -s "$room/out" ] || ! cmp -s "$room/errors" "$room/thread"; then
+            echo "$program: thread $n refused: not status 3 with its line, but status $status and"
+            cat "$room/out" "$room/errors"
+            exit 1
+        fi
+    done
+    echo "$program: each allocation of a driven run refused: $refused runs told so, $clean came to their clean end; and each of its 5 threads refused"
 done
 if [ "$programs" = 0 ]; then
     echo "refuse_drive: there is no crates/ccq/out/ccq: run \`rt ci\` first, or \`rt run\` there"
