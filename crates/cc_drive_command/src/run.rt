@@ -1,0 +1,61 @@
+//! Doing what a command line asks for.
+ghost use Rattle.std.specs.Prelude.{◌<◌, ◌-◌, ◌^◌, map, string_bytes};
+ghost use Rattle.clap.specs.Words.{fault_of};
+ghost use Rattle.cc_command.specs.CommandLine.{commands, task_of};
+ghost use Rattle.cc_command.specs.Run.{Runs};
+ghost use Rattle.cc_drive_command.specs.Line.{asks_to_drive};
+ghost use Rattle.cc_drive_command.specs.Drive.{Drives};
+ghost use Rattle.std.specs.Bool.{OnTrue, OnFalse};
+
+use crate::command_line::{asked, asks_to_drive};
+use crate::driving::{drive_to, tell_end};
+use cc_command::run::decline;
+use cc_model::{Sink, Source};
+use std::alloc::Global;
+use std::sync::Wait;
+use std::thread::Threads;
+
+/// One command line, without the program's name. Where its first word is `drive`, a queue is driven by threads, and nothing
+/// is read; any other line is done as `cc_command` does it. It answers the exit status: 0 where that was done and the verdict
+/// is clean, or help was asked for and went to the sink; 1 where the audit found a fault, 2 where the input is refused, 3
+/// where memory or a thread is, or a worker reached its limit, 4 where a device fails, and 64 where the line is refused. What
+/// went wrong is told on `errors`, whose own failures change nothing.
+pub fn run<R: Threads + Wait + Sync, S: Source, W: Sink, E: Sink>(
+    rt: &R,
+    alloc: Global,
+    words: &[String],
+    source: &mut S,
+    sink: &mut W,
+    errors: &mut E,
+) -> u8
+    requires reads { S.read_failures source.old < 2 ^ 64 - 1 }
+    requires writes { W.write_failures sink.old < 2 ^ 64 - 1 }
+    requires errors { E.write_failures errors.old < 2 ^ 64 - 1 }
+
+    ensures drives { OnTrue (asks_to_drive (map string_bytes words.now))
+        (Drives (S.bytes_left source.old) (S.bytes_left source.new)
+        (S.read_failures source.old) (S.read_failures source.new)
+        (W.bytes_written sink.old) (W.bytes_written sink.new)
+        (W.write_failures sink.old) (W.write_failures sink.new)
+        (E.bytes_written errors.old) (E.bytes_written errors.new)
+        (E.write_failures errors.old) (E.write_failures errors.new) result) }
+    ensures others { OnFalse (asks_to_drive (map string_bytes words.now))
+        (Runs (S.bytes_left source.old) (S.bytes_left source.new)
+        (S.read_failures source.old) (S.read_failures source.new)
+        (W.bytes_written sink.old) (W.bytes_written sink.new)
+        (W.write_failures sink.old) (W.write_failures sink.new)
+        (E.bytes_written errors.old) (E.bytes_written errors.new)
+        (E.write_failures errors.old) (E.write_failures errors.new) result
+        (task_of (map string_bytes words.now)) (fault_of commands (map string_bytes words.now))) }
+{
+    if !asks_to_drive(words) {
+        return cc_command::run::run(alloc, words, source, sink, errors);
+    }
+    match asked(alloc, words) {
+        Ok(config) => {
+            let outcome = drive_to(rt, alloc, &config, sink);
+            tell_end(errors, outcome.map(|end| end.verdict))
+        }
+        Err(error) => decline(alloc, &error, sink, errors),
+    }
+}
