@@ -1,8 +1,9 @@
-//! Plays plans, and audits receipts.
+//! Plays plans, audits receipts, and drives queues by threads.
 #![tactic(auto)]
 
 use cc_command::not_text;
-use cc_command::run::{decline, run};
+use cc_command::run::decline;
+use cc_drive_command::run::run;
 use cc_model::Device;
 use clap::Error;
 use std::alloc::AllocError;
@@ -16,6 +17,7 @@ fn main(rt: HostRuntime) -> ExitCode {
     let mut errors = Device::new(rt.stderr());
     let status = match words(&rt) {
         Ok(words) => run(
+            &rt,
             rt.alloc(),
             words.as_slice(),
             &mut source,
