@@ -61,16 +61,21 @@ Commands:
 Options:
   -h, --help  Print help
 
+With threads:
+  drive  Drives a queue by threads that send and threads that take, and audits their receipts
+         (see `ccq drive --help`)
+
 Examples:
   ccq play < PLAN
   ccq audit < RECEIPTS
+  ccq drive --items 100
   echo '{\"accepted\":[[1,1,0,7]],\"taken\":[[1,0,1,1,7]]}' | ccq audit
 
 Exit status:
   0   done, and the verdict is clean
   1   the audit found a fault
   2   the plan or the receipts are refused
-  3   memory was refused
+  3   memory or a thread was refused, or a thread reached its limit on turns
   4   reading or writing failed
   64  the command line is refused
 ";
