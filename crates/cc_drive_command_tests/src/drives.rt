@@ -1,0 +1,462 @@
+//! Lines that ask for a drive.
+use cc_audit::Verdict;
+use cc_drive::{DriveConfig, DriveFault, Gate, Go, Point};
+use cc_drive_command::run::run;
+use cc_drive_command::{Open, RunFault, asked, drive_to, tell_end};
+use cc_model::{ConfigFault, Device};
+use std::alloc::{AllocError, Global};
+use std::sync::Wait;
+use std::test::Fail;
+use std::thread::Threads;
+
+/// What a command line leaves: its status, the bytes on both outputs, and how many bytes of the input it left.
+#[derive(Drop)]
+struct Outcome {
+    status: u8,
+    output: Vec<u8>,
+    errors: Vec<u8>,
+    left: usize,
+}
+
+/// The words of a command line.
+fn words_of(alloc: Global, line: &[&str]) -> Result<Vec<String>, AllocError> {
+    let mut words = Vec::new(alloc);
+    for word in line {
+        words.push(String::from_str(alloc, word)?)?;
+    }
+    Ok(words)
+}
+
+fn ran<R: Threads + Wait + Sync>(
+    rt: &R,
+    alloc: Global,
+    line: &[&str],
+    input: &[u8],
+) -> Result<Outcome, AllocError> {
+    let words = words_of(alloc, line)?;
+    let mut output = Vec::new(alloc);
+    let mut errors = Vec::new(alloc);
+    let mut rest = input;
+    let status = run(
+        rt,
+        alloc,
+        words.as_slice(),
+        &mut Device::new(&mut rest),
+        &mut Device::new(&mut output),
+        &mut Device::new(&mut errors),
+    );
+    Ok(Outcome {
+        status,
+        output,
+        errors,
+        left: rest.len(),
+    })
+}
+
+/// Lines whose threads pass all items on. Nothing of the input is read.
+#[test]
+fn runs_are_told(rt: HostRuntime) -> Result<(), Fail> {
+    let rows: [(&[&str], &str); 6] = [
+        (
+            &[
+                "drive",
+                "--senders",
+                "3",
+                "--receivers",
+                "2",
+                "--items",
+                "100",
+                "--capacity",
+                "4",
+                "--bound",
+                "2",
+            ],
+            "sent 300\ntaken 300\naudit clean\n",
+        ),
+        (&["drive", "--items", "0"], "sent 0\ntaken 0\naudit clean\n"),
+        (
+            &["drive", "--items=7", "--senders=1", "--receivers=1"],
+            "sent 7\ntaken 7\naudit clean\n",
+        ),
+        (
+            &["drive", "--items=2", "--senders=63", "--receivers=64"],
+            "sent 126\ntaken 126\naudit clean\n",
+        ),
+        (
+            &["drive", "--items=20", "--capacity=1", "--bound=1"],
+            "sent 80\ntaken 80\naudit clean\n",
+        ),
+        (
+            &["drive", "--items=20", "--capacity=4096", "--bound=1024"],
+            "sent 80\ntaken 80\naudit clean\n",
+        ),
+    ];
+    for (line, text) in rows {
+        let outcome = ran(&rt, rt.alloc(), line, b"untouched".as_slice())?;
+        assert_eq!(rt; outcome.status, 0);
+        assert_eq!(rt; outcome.output.as_slice(), text.as_bytes());
+        assert!(rt; outcome.errors.is_empty());
+        assert_eq!(rt; outcome.left, 9);
+    }
+    Ok(())
+}
+
+/// What an option doesn't give has its default, and the limit is the program's.
+#[test]
+fn defaults(rt: HostRuntime) -> Result<(), Fail> {
+    let alloc = rt.alloc();
+    let all = DriveConfig {
+        senders: 4,
+        receivers: 4,
+        items: 1000,
+        capacity: 64,
+        bound: 8,
+        limit: 281_474_976_710_656,
+    };
+    assert_eq!(rt; asked(alloc, words_of(alloc, &["drive"])?.as_slice())?, all);
+    let rows: [(&[&str], DriveConfig); 6] = [
+        (
+            &["drive", "--senders", "63"],
+            DriveConfig { senders: 63, ..all },
+        ),
+        (
+            &["drive", "--receivers", "64"],
+            DriveConfig {
+                receivers: 64,
+                ..all
+            },
+        ),
+        (
+            &["drive", "--items", "1000000"],
+            DriveConfig {
+                items: 1_000_000,
+                ..all
+            },
+        ),
+        (
+            &["drive", "--capacity", "4096"],
+            DriveConfig {
+                capacity: 4096,
+                ..all
+            },
+        ),
+        (
+            &["drive", "--bound", "1024"],
+            DriveConfig { bound: 1024, ..all },
+        ),
+        (
+            &[
+                "drive",
+                "--bound",
+                "1",
+                "--capacity",
+                "1",
+                "--items",
+                "0",
+                "--receivers",
+                "1",
+                "--senders",
+                "1",
+            ],
+            DriveConfig {
+                senders: 1,
+                receivers: 1,
+                items: 0,
+                capacity: 1,
+                bound: 1,
+                ..all
+            },
+        ),
+    ];
+    for (line, config) in rows {
+        assert_eq!(rt; asked(alloc, words_of(alloc, line)?.as_slice())?, config);
+    }
+    Ok(())
+}
+
+/// Each number just out of its range, words that are no numbers, and options that aren't there.
+#[test]
+fn lines_are_refused(rt: HostRuntime) -> Result<(), Fail> {
+    let rows: [(&[&str], &str); 18] = [
+        (
+            &["drive", "--senders", "64"],
+            "error: invalid value '64' for '--senders <N>': 64 is not in 1..=63\n\nFor more information, try '--help'.\n",
+        ),
+        (
+            &["drive", "--senders", "0"],
+            "error: invalid value '0' for '--senders <N>': 0 is not in 1..=63",
+        ),
+        (
+            &["drive", "--receivers", "65"],
+            "error: invalid value '65' for '--receivers <N>': 65 is not in 1..=64",
+        ),
+        (
+            &["drive", "--receivers", "0"],
+            "error: invalid value '0' for '--receivers <N>': 0 is not in 1..=64",
+        ),
+        (
+            &["drive", "--items", "1000001"],
+            "error: invalid value '1000001' for '--items <N>': 1000001 is not in 0..=1000000",
+        ),
+        (
+            &["drive", "--items=-1"],
+            "error: invalid value '-1' for '--items <N>'",
+        ),
+        (
+            &["drive", "--items", "18446744073709551616"],
+            "error: invalid value '18446744073709551616' for '--items <N>': number too large to fit in target type",
+        ),
+        (
+            &["drive", "--capacity", "4097"],
+            "error: invalid value '4097' for '--capacity <N>': 4097 is not in 1..=4096",
+        ),
+        (
+            &["drive", "--capacity", "0"],
+            "error: invalid value '0' for '--capacity <N>': 0 is not in 1..=4096",
+        ),
+        (
+            &["drive", "--bound", "1025"],
+            "error: invalid value '1025' for '--bound <N>': 1025 is not in 1..=1024",
+        ),
+        (
+            &["drive", "--bound", "0"],
+            "error: invalid value '0' for '--bound <N>': 0 is not in 1..=1024",
+        ),
+        (
+            &["drive", "--bound", "two"],
+            "error: invalid value 'two' for '--bound <N>': invalid digit found in string",
+        ),
+        (
+            &["drive", "--bound", "1.5"],
+            "error: invalid value '1.5' for '--bound <N>': invalid digit found in string",
+        ),
+        (
+            &["drive", "--bound", ""],
+            "error: invalid value '' for '--bound <N>': cannot parse integer from empty string",
+        ),
+        (
+            &["drive", "--bound"],
+            "error: a value is required for '--bound <N>' but none was supplied",
+        ),
+        (
+            &["drive", "--bound", "1", "--bound", "2"],
+            "error: the argument '--bound <N>' cannot be used multiple times",
+        ),
+        (&["drive", "5"], "error: unexpected argument '5' found"),
+        (
+            &["drive", "--life", "5"],
+            "error: unexpected argument '--life' found",
+        ),
+    ];
+    for (line, text) in rows {
+        let outcome = ran(&rt, rt.alloc(), line, b"untouched".as_slice())?;
+        let told = outcome.errors.as_slice();
+        assert!(rt; told.starts_with(text.as_bytes()), "{told:?}");
+        assert_eq!(rt; outcome.status, 64);
+        assert_eq!(rt; outcome.output.len(), 0);
+        assert_eq!(rt; outcome.left, 9);
+    }
+    Ok(())
+}
+
+const HELP: &str = "\
+Drives a queue by threads that send and threads that take, and audits their receipts
+
+Usage: ccq drive [OPTIONS]
+
+Options:
+      --senders <N>    Threads that send, 1 to 63 [default: 4]
+      --receivers <N>  Threads that take, 1 to 64 [default: 4]
+      --items <N>      Items that each sender sends, 0 to 1000000 [default: 1000]
+      --capacity <N>   Items that may wait in the queue, 1 to 4096 [default: 64]
+      --bound <N>      Calls that one combiner serves in a row, 1 to 1024 [default: 8]
+  -h, --help           Print help
+
+Each sender sends the bodies 1 to the number of items";
+
+#[test]
+fn help_goes_to_the_output(rt: HostRuntime) -> Result<(), Fail> {
+    let lines: [&[&str]; 3] = [
+        &["drive", "--help"],
+        &["drive", "-h"],
+        &["drive", "--items", "5", "--help"],
+    ];
+    for line in lines {
+        let outcome = ran(&rt, rt.alloc(), line, b"untouched".as_slice())?;
+        assert_eq!(rt; outcome.status, 0);
+        let text = outcome.output.as_slice();
+        assert!(rt; text.starts_with(HELP.as_bytes()), "{text:?}");
+        assert!(rt; outcome.errors.is_empty());
+        assert_eq!(rt; outcome.left, 9);
+    }
+    let outcome = ran(&rt, rt.alloc(), &["--help"], b"".as_slice())?;
+    assert_eq!(rt; outcome.status, 0);
+    assert!(rt;
+        outcome
+            .output
+            .as_slice()
+            .starts_with(b"Plays plans of CC-Queue")
+    );
+    Ok(())
+}
+
+/// An output without room, and one that takes the first line alone.
+#[test]
+fn outputs_that_fail(rt: HostRuntime) -> Result<(), Fail> {
+    let alloc = rt.alloc();
+    let rows: [(&[&str], usize, &str); 5] = [
+        (&["drive", "--items", "5"], 0, ""),
+        (&["drive", "--items", "5"], 8, "sent 20\n"),
+        (&["drive", "--items", "5"], 17, "sent 20\ntaken 20\n"),
+        (
+            &["drive", "--items", "5"],
+            28,
+            "sent 20\ntaken 20\naudit clean",
+        ),
+        (&["drive", "--help"], 6, "Drives"),
+    ];
+    for (line, size, text) in rows {
+        let words = words_of(alloc, line)?;
+        let mut room = [0u8; 64];
+        let mut errors = Vec::new(alloc);
+        let status = run(
+            &rt,
+            alloc,
+            words.as_slice(),
+            &mut Device::new(b"".as_slice()),
+            &mut Device::new(&mut room[..size]),
+            &mut Device::new(&mut errors),
+        );
+        assert_eq!(rt; status, 4);
+        assert_eq!(rt; &room[..size], text.as_bytes());
+        assert_eq!(rt; errors.as_slice(), b"ccq: writing failed\n".as_slice());
+    }
+    Ok(())
+}
+
+/// A failure of the errors' device changes no status.
+#[test]
+fn errors_that_are_not_told(rt: HostRuntime) -> Result<(), Fail> {
+    let alloc = rt.alloc();
+    let rows: [(&[&str], u8); 2] = [(&["drive", "--senders", "64"], 64), (&["drive"], 4)];
+    for (line, due) in rows {
+        let words = words_of(alloc, line)?;
+        let mut no_room = [0u8; 0];
+        let mut none = [0u8; 0];
+        let status = run(
+            &rt,
+            alloc,
+            words.as_slice(),
+            &mut Device::new(b"".as_slice()),
+            &mut Device::new(no_room.as_mut_slice()),
+            &mut Device::new(none.as_mut_slice()),
+        );
+        assert_eq!(rt; status, due);
+    }
+    Ok(())
+}
+
+const PLAN: &str =
+    "{\"capacity\":2,\"bound\":2,\"life\":10,\"senders\":[[7]],\"receivers\":[1],\"schedule\":[[\"s1\",100],[\"r1\",100]]}";
+
+const REPORT: &str = "E 0 s1 send 7 -> accepted 0\nD 0 r1 take -> got 0 s1 1 7\naudit clean\n";
+
+/// The other tasks are done as ever, and a line that names a drive behind another word is refused.
+#[test]
+fn other_lines(rt: HostRuntime) -> Result<(), Fail> {
+    let alloc = rt.alloc();
+    let played = ran(&rt, alloc, &["play"], PLAN.as_bytes())?;
+    assert_eq!(rt; played.status, 0);
+    assert_eq!(rt; played.output.as_slice(), REPORT.as_bytes());
+    assert_eq!(rt; played.left, 0);
+    let receipts = b"{\"accepted\":[],\"taken\":[[1,0,1,1,5]]}";
+    let audited = ran(&rt, alloc, &["audit"], receipts.as_slice())?;
+    assert_eq!(rt; audited.status, 1);
+    assert_eq!(rt;
+        audited.output.as_slice(),
+        b"audit fault 3 place 0\n".as_slice()
+    );
+    let refused: [&[&str]; 5] = [
+        &[],
+        &["Drive"],
+        &["drives"],
+        &["--", "drive"],
+        &["play", "drive"],
+    ];
+    for line in refused {
+        let outcome = ran(&rt, alloc, line, PLAN.as_bytes())?;
+        assert_eq!(rt; outcome.status, 64);
+        assert_eq!(rt; outcome.output.len(), 0);
+        assert!(rt; !outcome.errors.is_empty());
+    }
+    Ok(())
+}
+
+/// Each outcome of a run has its status and its line.
+#[test]
+fn outcomes(rt: HostRuntime) -> Result<(), Fail> {
+    let fault = Verdict::Fault { kind: 3, place: 7 };
+    let rows: [(Result<Verdict, RunFault>, u8, &str); 7] = [
+        (Ok(Verdict::Clean), 0, ""),
+        (Ok(fault), 1, ""),
+        (
+            Err(RunFault::Drive(DriveFault::NoMemory)),
+            3,
+            "ccq: out of memory\n",
+        ),
+        (
+            Err(RunFault::Drive(DriveFault::Thread)),
+            3,
+            "ccq: a thread was refused\n",
+        ),
+        (
+            Err(RunFault::Drive(DriveFault::Limit(2))),
+            3,
+            "ccq: a worker reached its limit\n",
+        ),
+        (
+            Err(RunFault::Drive(DriveFault::Config(ConfigFault::Bound))),
+            64,
+            "ccq: a number is out of its range\n",
+        ),
+        (Err(RunFault::Write), 4, "ccq: writing failed\n"),
+    ];
+    for (outcome, due, line) in rows {
+        let mut errors = Vec::new(rt.alloc());
+        let status = tell_end(&mut Device::new(&mut errors), outcome);
+        assert_eq!(rt; status, due);
+        assert_eq!(rt; errors.as_slice(), line.as_bytes());
+    }
+    Ok(())
+}
+
+/// A run without turns has no end, and writes nothing.
+#[test]
+fn a_run_without_an_end(rt: HostRuntime) -> Result<(), Fail> {
+    let mut output = Vec::new(rt.alloc());
+    let config = DriveConfig {
+        senders: 1,
+        receivers: 1,
+        items: 1,
+        capacity: 1,
+        bound: 1,
+        limit: 0,
+    };
+    let outcome = drive_to(&rt, rt.alloc(), &config, &mut Device::new(&mut output));
+    assert_eq!(rt; outcome, Err(RunFault::Drive(DriveFault::Limit(0))));
+    assert_eq!(rt; output.len(), 0);
+    Ok(())
+}
+
+/// A gate of the program always lets its worker go on.
+#[test]
+fn open_gates(rt: HostRuntime) {
+    for point in [
+        Point::SendBegun,
+        Point::SendAnswered,
+        Point::TakeBegun,
+        Point::TakeAnswered,
+    ] {
+        assert_eq!(rt; Open.at(point), Go::On);
+    }
+}
