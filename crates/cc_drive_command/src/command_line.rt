@@ -1,5 +1,5 @@
 //! What a line that asks for a drive says.
-ghost use Rattle.std.specs.Prelude.{◌≡◌, map, string_bytes};
+ghost use Rattle.std.specs.Prelude.{◌≡◌, ◌^◌, IfOk, map, string_bytes};
 ghost use Rattle.cc_drive_command.specs.Line.{asks_to_drive};
 
 use cc_drive::DriveConfig;
@@ -24,7 +24,9 @@ pub fn asks_to_drive(words: &[String]) -> bool
 /// What a line says of the run that it asks for: the numbers that its options give, or else their defaults. Its first word
 /// is `drive`. Or why there is no run: help is asked for, a word is wrong, a number is out of its range, or memory was
 /// refused.
-pub fn asked(alloc: Global, words: &[String]) -> Result<DriveConfig, Error> {
+pub fn asked(alloc: Global, words: &[String]) -> Result<DriveConfig, Error>
+    ensures limit { IfOk result (λ config. config.limit ≡ 2 ^ 48) }
+{
     let mut command = drive_command(alloc)?;
     let matches = command.try_get_matches_from_mut(words)?;
     match (

@@ -9,7 +9,9 @@ use std::alloc::{AllocError, Global};
 pub struct Open;
 
 impl Gate for Open {
-    fn at(&mut self, _point: Point) -> Go {
+    fn at(&mut self, _point: Point) -> Go
+        ensures { result ≡ Go.On }
+    {
         Go::On
     }
 }
