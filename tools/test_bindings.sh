@@ -61,6 +61,15 @@ fi
 lost='definite,indirect'
 valgrind=(valgrind -q --fair-sched=yes --error-exitcode=99 --leak-check=full "--show-leak-kinds=$lost" "--errors-for-leak-kinds=$lost")
 
+# The README shows the lines that the crate's tests run, each with four blanks before it.
+shows_doc_test() {
+    local lines
+    lines=$(sed -n '/^```rust$/,/^```$/p' bindings/rust/README.md | sed '/^```/d; /^# /d; s/^./    &/')
+    [[ -n $lines && $(<README.md) == *"$lines"* ]] || { echo "README.md lacks these lines:"; echo "$lines"; return 1; }
+}
+export -f shows_doc_test
+step "README: shows the crate's doc test" bash -c shows_doc_test
+
 # Builds the programs in C into this folder, with these flags; and runs those that a folder has.
 build_c() {
     make -s -C bindings/c LIB="$VAHEPITO_LIB" HEAP="$VAHEPITO_HEAP" OUT="$room/$1" CFLAGS="-Wall -Wextra -Werror $2"
