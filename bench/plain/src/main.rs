@@ -2,8 +2,10 @@
 //! steps by hand), `mutex` (std's Mutex and Condvar round a VecDeque), `sync_channel` (std's), and `alone` (the steps on
 //! one thread, a send and a take in turn). Prints how many items went through. `drive` is the driver by hand over a Mutex
 //! with Condvars, each sender with so many items; it prints what `ccq drive` prints.
+//! `stepping` is the plain machine's events by hand, on one thread.
 mod driver;
 mod queues;
+mod stepping;
 
 use queues::{alone, mutex, steps, sync_channel};
 
@@ -18,6 +20,7 @@ fn main() {
         "mutex" => mutex(s, r, c, items),
         "sync_channel" => sync_channel(s, r, c, items),
         "alone" => alone(c, items),
+        "stepping" => return stepping::stepping(s, r, capacity, items),
         "drive" => return driver::drive(s, r, c, items),
         _ => panic!("no such mode"),
     };
