@@ -294,11 +294,7 @@ impl Machine {
             }
             At::WriteRet => {
                 words[node(pass.job, ret_at)] = pass.ret;
-                if pass.is_sender || pass.ret < EMPTY && pass.ret >= GOT {
-                    if pass.is_sender { At::MarkDone } else { At::WriteRetTag }
-                } else {
-                    At::MarkDone
-                }
+                if pass.is_sender || pass.ret >= EMPTY { At::MarkDone } else { At::WriteRetTag }
             }
             At::WriteRetTag => {
                 words[node(pass.job, tag_at)] = pass.tag;
@@ -339,6 +335,18 @@ impl Machine {
         };
         matches!(pass.at, At::Idle)
     }
+
+    /// So many whole calls of this pass. Gives how many events they had.
+    fn whole_calls(&mut self, who: usize, calls: u64, body: u64) -> u64 {
+        let mut events = 0;
+        for _ in 0..calls {
+            while !self.event(who, body) {
+                events += 1;
+            }
+            events += 1;
+        }
+        events
+    }
 }
 
 /// Does `items` sends of each sender, and takes them all, 3,500 whole calls of one pass after another (or `capacity`, where
@@ -351,19 +359,9 @@ pub fn stepping(senders: usize, receivers: usize, capacity: u64, items: u64) {
     for round in 0.. {
         let sender = round % senders;
         let calls = turn.min(items - sent[sender]);
-        for _ in 0..calls {
-            while !machine.event(sender, 1) {
-                events += 1;
-            }
-            events += 1;
-        }
+        events += machine.whole_calls(sender, calls, 1);
         sent[sender] += calls;
-        for _ in 0..calls {
-            while !machine.event(senders + round % receivers, 0) {
-                events += 1;
-            }
-            events += 1;
-        }
+        events += machine.whole_calls(senders + round % receivers, calls, 0);
         taken += calls;
         if sent.iter().all(|all| *all == items) {
             break;
