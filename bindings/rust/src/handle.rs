@@ -105,6 +105,35 @@ pub struct Taken {
     pub served: u32,
 }
 
+impl Told {
+    /// What a call tells that writes the number and how many were served, and answers its code.
+    #[inline]
+    fn by(call: impl FnOnce(&mut u64, &mut u32) -> u32) -> Told {
+        let (mut number, mut served) = (0, 0);
+        let code = call(&mut number, &mut served);
+        Told {
+            code,
+            number,
+            served,
+        }
+    }
+}
+
+impl Taken {
+    /// The same of a take.
+    #[inline]
+    fn by(call: impl FnOnce(&mut Item, &mut u64, &mut u32) -> u32) -> Taken {
+        let (mut item, mut total, mut served) = (NO_ITEM, 0, 0);
+        let code = call(&mut item, &mut total, &mut served);
+        Taken {
+            code,
+            item,
+            total,
+            served,
+        }
+    }
+}
+
 const NO_ITEM: Item = Item {
     place: 0,
     sender: 0,
@@ -140,24 +169,12 @@ impl Handle {
 
     #[inline]
     pub fn turn_send(&mut self) -> Told {
-        let (mut number, mut served) = (0, 0);
-        let code = unsafe { vahepito_turn_send(&mut self.0, &mut number, &mut served) };
-        Told {
-            code,
-            number,
-            served,
-        }
+        Told::by(|number, served| unsafe { vahepito_turn_send(&mut self.0, number, served) })
     }
 
     #[inline]
     pub fn try_send(&mut self, body: u64) -> Told {
-        let (mut number, mut served) = (0, 0);
-        let code = unsafe { vahepito_try_send(&mut self.0, body, &mut number, &mut served) };
-        Told {
-            code,
-            number,
-            served,
-        }
+        Told::by(|number, served| unsafe { vahepito_try_send(&mut self.0, body, number, served) })
     }
 
     #[inline]
@@ -170,13 +187,7 @@ impl Handle {
     }
 
     pub fn turn_close(&mut self) -> Told {
-        let (mut number, mut served) = (0, 0);
-        let code = unsafe { vahepito_turn_close(&mut self.0, &mut number, &mut served) };
-        Told {
-            code,
-            number,
-            served,
-        }
+        Told::by(|number, served| unsafe { vahepito_turn_close(&mut self.0, number, served) })
     }
 
     #[inline]
@@ -186,26 +197,16 @@ impl Handle {
 
     #[inline]
     pub fn turn_take(&mut self) -> Taken {
-        let (mut item, mut total, mut served) = (NO_ITEM, 0, 0);
-        let code = unsafe { vahepito_turn_take(&mut self.0, &mut item, &mut total, &mut served) };
-        Taken {
-            code,
-            item,
-            total,
-            served,
-        }
+        Taken::by(|item, total, served| unsafe {
+            vahepito_turn_take(&mut self.0, item, total, served)
+        })
     }
 
     #[inline]
     pub fn try_take(&mut self) -> Taken {
-        let (mut item, mut total, mut served) = (NO_ITEM, 0, 0);
-        let code = unsafe { vahepito_try_take(&mut self.0, &mut item, &mut total, &mut served) };
-        Taken {
-            code,
-            item,
-            total,
-            served,
-        }
+        Taken::by(|item, total, served| unsafe {
+            vahepito_try_take(&mut self.0, item, total, served)
+        })
     }
 }
 
