@@ -1,7 +1,7 @@
 //! Many threads: each item once, each sender's in its order, and a close while senders wait.
 use std::collections::BTreeMap;
 use std::sync::Barrier;
-use std::thread;
+use std::thread::{self, ScopedJoinHandle};
 use vahepito::{Config, Item, SendError, TryRecvError, TrySendError, open};
 
 /// What each sender was told of its accepted sends, as (place, body), and each receiver of its
@@ -55,6 +55,14 @@ fn audit((sent, got): &Told, total: u64) {
     }
 }
 
+/// What each of these threads gives at its end.
+fn joined<T>(threads: Vec<ScopedJoinHandle<'_, T>>) -> Vec<T> {
+    threads
+        .into_iter()
+        .map(|thread| thread.join().unwrap())
+        .collect()
+}
+
 /// Each sender sends so many items, and each receiver takes until the end.
 fn pass(config: Config, items: u64) -> Told {
     let (senders, receivers) = open(config).unwrap();
@@ -74,17 +82,8 @@ fn pass(config: Config, items: u64) -> Told {
             .into_iter()
             .map(|receiver| scope.spawn(|| receiver.into_iter().collect()))
             .collect();
-        let sent = sending
-            .into_iter()
-            .map(|thread| thread.join().unwrap())
-            .collect();
-        (
-            sent,
-            taking
-                .into_iter()
-                .map(|thread| thread.join().unwrap())
-                .collect(),
-        )
+        let sent = joined(sending);
+        (sent, joined(taking))
     })
 }
 
@@ -139,10 +138,7 @@ fn a_close_while_senders_wait() {
             full.wait();
             thread::yield_now();
             let total = closer.close().total();
-            let sent = sending
-                .into_iter()
-                .map(|thread| thread.join().unwrap())
-                .collect();
+            let sent = joined(sending);
             (
                 total,
                 (
@@ -188,20 +184,8 @@ fn a_close_while_senders_send() {
                 .collect();
             (0..round * 20).for_each(|_| std::hint::spin_loop());
             let total = closer.close().total();
-            let sent = sending
-                .into_iter()
-                .map(|thread| thread.join().unwrap())
-                .collect();
-            (
-                total,
-                (
-                    sent,
-                    taking
-                        .into_iter()
-                        .map(|thread| thread.join().unwrap())
-                        .collect(),
-                ),
-            )
+            let sent = joined(sending);
+            (total, (sent, joined(taking)))
         });
         audit(&told, total);
     }
@@ -244,10 +228,7 @@ fn a_panic_of_the_senders_ends_the_queue() {
         });
         let sending: Vec<_> = sending.collect();
         assert!(sending.into_iter().all(|thread| thread.join().is_err()));
-        let got: usize = taking
-            .into_iter()
-            .map(|thread| thread.join().unwrap())
-            .sum();
+        let got: usize = joined(taking).into_iter().sum();
         (got as u64, last.try_recv())
     });
     let (got, Err(TryRecvError::Ended { total })) = ended else {
