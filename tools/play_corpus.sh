@@ -7,8 +7,7 @@
 # Exit status 0 where all runs did so. It proves and builds nothing: `rt ci` does, or `rt run` in crates/ccq.
 set -u
 cd "$(dirname "$0")/.." || exit 1
-room=$(mktemp -d) || exit 1
-trap 'rm -rf "$room"' EXIT
+. tools/programs.sh
 
 # Runs a program on a task and an input. Leaves in seen what it did, in the form of an expected file.
 run_on() {
@@ -84,10 +83,9 @@ for wrong in 's/^play 0$/play 1/' '2s/^$/ccq: reading failed/' 's/accepted 0/acc
     fi
 done
 
-programs=0
-for program in crates/ccq/out/ccq crates/ccq/out/ccq.by-rattle; do
-    [ -x "$program" ] || continue
-    programs=$((programs + 1)) inputs=0 wrong=0
+builds_of ccq
+for program in "${builds[@]}"; do
+    inputs=0 wrong=0
     for input in tests/corpus/*.in; do
         inputs=$((inputs + 1))
         is_as "$program" "$input" "${input%.in}.expect" || wrong=$((wrong + 1))
@@ -100,7 +98,3 @@ for program in crates/ccq/out/ccq crates/ccq/out/ccq.by-rattle; do
     fi
     echo "$program: $inputs inputs of tests/corpus, $length fronts of a plan and six large inputs, each with its status and its bytes"
 done
-if [ "$programs" = 0 ]; then
-    echo "play_corpus: there is no crates/ccq/out/ccq: run \`rt ci\` first, or \`rt run\` in crates/ccq"
-    exit 1
-fi

@@ -6,27 +6,16 @@
 # Exit status 0 where all runs did so. It proves and builds nothing: `rt ci` does, or `rt run` in crates/cc_queue_rows.
 set -u
 cd "$(dirname "$0")/.." || exit 1
-room=$(mktemp -d) || exit 1
-trap 'rm -rf "$room"' EXIT
-gcc -O1 -fPIC -shared -o "$room/refuse.so" tools/refuse.c || exit 1
+. tools/refusing.sh
 whole=crates/cc_queue_rows/stdout
 
-# Runs a program with the allocation of this number refused, 0 for none. Leaves what it wrote in out, its status in
-# `status`, and in `met` how many allocations it asked for.
-run_with() {
-    timeout 60 env REFUSE="$1" LD_PRELOAD="$room/refuse.so" "$2" </dev/null >"$room/out" 2>/dev/null 9>"$room/met"
-    status=$?
-    met=$(wc -c <"$room/met")
-}
-
-programs=0
-for program in crates/cc_queue_rows/out/cc_queue_rows crates/cc_queue_rows/out/cc_queue_rows.by-rattle; do
-    [ -x "$program" ] || continue
-    programs=$((programs + 1)) refused=0
-    run_with 0 "$program"
+builds_of cc_queue_rows
+for program in "${builds[@]}"; do
+    refused=0
+    run_with 0 /dev/null "$program"
     all=$met
     for ((n = 1; n <= all + 100; n++)); do
-        run_with "$n" "$program"
+        run_with "$n" /dev/null "$program"
         if [ "$status" = 3 ] && [ ! -s "$room/out" ]; then
             refused=$((refused + 1))
         elif [ "$status" != 0 ] || ! cmp -s "$room/out" "$whole"; then
@@ -41,7 +30,3 @@ for program in crates/cc_queue_rows/out/cc_queue_rows crates/cc_queue_rows/out/c
     fi
     echo "$program: each of $all allocations refused in turn, and 100 more: $refused runs opened nothing, and the others gave the same answers"
 done
-if [ "$programs" = 0 ]; then
-    echo "refuse_after_open: there is no crates/cc_queue_rows/out/cc_queue_rows: run \`rt ci\` first, or \`rt run\` there"
-    exit 1
-fi

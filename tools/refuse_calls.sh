@@ -10,9 +10,7 @@
 # Exit status 0 where all runs did so. It proves and builds nothing: `rt ci` does, or `rt run` in crates/cc_memory_rows.
 set -u
 cd "$(dirname "$0")/.." || exit 1
-room=$(mktemp -d) || exit 1
-trap 'rm -rf "$room"' EXIT
-gcc -O1 -fPIC -shared -o "$room/refuse.so" tools/refuse.c || exit 1
+. tools/refusing.sh
 whole=crates/cc_memory_rows/stdout
 faults='broker: NoMemory
 broker: Topic(0, NoMemory)
@@ -22,14 +20,6 @@ machine: NoMemory
 audit: AllocError'
 again='begin: 1 refused, and made again'
 
-# Runs a program with the allocation of this number refused, 0 for none. Leaves what it wrote in out and told in err, its
-# status in `status`, and in `met` how many allocations it asked for.
-run_with() {
-    timeout 60 env REFUSE="$1" LD_PRELOAD="$room/refuse.so" "$2" </dev/null >"$room/out" 2>"$room/err" 9>"$room/met"
-    status=$?
-    met=$(wc -c <"$room/met")
-}
-
 # Whether what was written is a beginning of what is written with memory, and not all of it.
 is_beginning() {
     local length
@@ -37,15 +27,14 @@ is_beginning() {
     [ "$length" -lt "$(wc -c <$whole)" ] && head -c "$length" $whole | cmp -s - "$room/out"
 }
 
-programs=0
-for program in crates/cc_memory_rows/out/cc_memory_rows crates/cc_memory_rows/out/cc_memory_rows.by-rattle; do
-    [ -x "$program" ] || continue
-    programs=$((programs + 1)) refused=0 repeated=0
+builds_of cc_memory_rows
+for program in "${builds[@]}"; do
+    refused=0 repeated=0
     : >"$room/seen"
-    run_with 0 "$program"
+    run_with 0 /dev/null "$program"
     all=$met
     for ((n = 0; n <= all + 20; n++)); do
-        run_with "$n" "$program"
+        run_with "$n" /dev/null "$program"
         told=$(cat "$room/err")
         if [ "$status" = 3 ] && is_beginning && grep -qxF -- "$told" <<<"$faults"; then
             refused=$((refused + 1))
@@ -65,7 +54,3 @@ for program in crates/cc_memory_rows/out/cc_memory_rows crates/cc_memory_rows/ou
     fi
     echo "$program: each of $all allocations refused in turn, and 20 more: $refused runs were told so by the call that met it, $repeated begins were made again, and the others gave the same answers"
 done
-if [ "$programs" = 0 ]; then
-    echo "refuse_calls: there is no crates/cc_memory_rows/out/cc_memory_rows: run \`rt ci\` first, or \`rt run\` there"
-    exit 1
-fi

@@ -7,32 +7,28 @@
 # Exit status 0 where all runs did so. It proves and builds nothing: `rt ci` does, or `rt run` in crates/ccq.
 set -u
 cd "$(dirname "$0")/.." || exit 1
-room=$(mktemp -d) || exit 1
-trap 'rm -rf "$room"' EXIT
-gcc -O1 -fPIC -shared -o "$room/refuse.so" tools/refuse.c || exit 1
+. tools/refusing.sh
 printf 'sent 300\ntaken 300\naudit clean\n' >"$room/whole"
 printf 'ccq: out of memory\n' >"$room/memory"
 printf 'ccq: a thread was refused\n' >"$room/thread"
 
-programs=0
-for program in crates/ccq/out/ccq crates/ccq/out/ccq.by-rattle; do
-    [ -x "$program" ] || continue
-    programs=$((programs + 1)) refused=0 clean=0 spare=0
+drive=(drive --senders 3 --receivers 2 --items 100 --capacity 4 --bound 2)
+
+builds_of ccq
+for program in "${builds[@]}"; do
+    refused=0 clean=0 spare=0
     for ((n = 1; spare < 10; n++)); do
-        timeout 60 env REFUSE="$n" LD_PRELOAD="$room/refuse.so" "$program" drive \
-            --senders 3 --receivers 2 --items 100 --capacity 4 --bound 2 \
-            </dev/null >"$room/out" 2>"$room/errors" 9>"$room/met"
-        status=$?
-        [ "$(wc -c <"$room/met")" -lt "$n" ] && spare=$((spare + 1))
-        if [ "$status" = 0 ] && cmp -s "$room/out" "$room/whole" && [ ! -s "$room/errors" ]; then
+        run_with "$n" /dev/null "$program" "${drive[@]}"
+        if [ "$met" -lt "$n" ]; then spare=$((spare + 1)); else spare=0; fi
+        if [ "$status" = 0 ] && cmp -s "$room/out" "$room/whole" && [ ! -s "$room/err" ]; then
             clean=$((clean + 1))
         elif [ "$status" = 3 ] && [ ! -s "$room/out" ] && {
-            cmp -s "$room/errors" "$room/memory" || cmp -s "$room/errors" "$room/thread"
+            cmp -s "$room/err" "$room/memory" || cmp -s "$room/err" "$room/thread"
         }; then
             refused=$((refused + 1))
         else
             echo "$program: allocation $n refused: neither the clean end nor status 3 with its line, but status $status and"
-            cat "$room/out" "$room/errors"
+            cat "$room/out" "$room/err"
             exit 1
         fi
     done
@@ -41,19 +37,12 @@ for program in crates/ccq/out/ccq crates/ccq/out/ccq.by-rattle; do
         exit 1
     fi
     for n in 1 2 3 4 5; do
-        timeout 60 env REFUSE_THREAD="$n" LD_PRELOAD="$room/refuse.so" "$program" drive \
-            --senders 3 --receivers 2 --items 100 --capacity 4 --bound 2 \
-            </dev/null >"$room/out" 2>"$room/errors" 9>"$room/met"
-        status=$?
-        if [ "$status" != 3 ] || [ -s "$room/out" ] || ! cmp -s "$room/errors" "$room/thread"; then
+        REFUSE_THREAD=$n run_with 0 /dev/null "$program" "${drive[@]}"
+        if [ "$status" != 3 ] || [ -s "$room/out" ] || ! cmp -s "$room/err" "$room/thread"; then
             echo "$program: thread $n refused: not status 3 with its line, but status $status and"
-            cat "$room/out" "$room/errors"
+            cat "$room/out" "$room/err"
             exit 1
         fi
     done
     echo "$program: each allocation of a driven run refused: $refused runs told so, $clean came to their clean end; and each of its 5 threads refused"
 done
-if [ "$programs" = 0 ]; then
-    echo "refuse_drive: there is no crates/ccq/out/ccq: run \`rt ci\` first, or \`rt run\` there"
-    exit 1
-fi

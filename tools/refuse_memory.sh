@@ -7,25 +7,9 @@
 # Exit status 0 where all runs did so. It proves and builds nothing of the program: `rt ci` does, or `rt run` in crates/ccq.
 set -u
 cd "$(dirname "$0")/.." || exit 1
-if ! command -v gcc >/dev/null; then
-    echo "refuse_memory: gcc is not on this machine, and the library that refuses memory is compiled by it"
-    exit 1
-fi
-room=$(mktemp -d) || exit 1
-trap 'rm -rf "$room"' EXIT
-gcc -O1 -fPIC -shared -o "$room/refuse.so" tools/refuse.c || exit 1
+. tools/refusing.sh
 gcc -O1 -o "$room/wrong_answers" tools/wrong_answers.c || exit 1
 printf 'ccq: out of memory\n' >"$room/told"
-
-# Runs a program with the allocation of this number refused, 0 for none. Leaves what it wrote in out and err, its status in
-# `status`, and in `met` how many allocations it asked for.
-run_with() {
-    local number=$1 input=$2
-    shift 2
-    timeout 60 env REFUSE="$number" LD_PRELOAD="$room/refuse.so" "$@" <"$input" >"$room/out" 2>"$room/err" 9>"$room/met"
-    status=$?
-    met=$(wc -c <"$room/met")
-}
 
 # Refuses each allocation of a program on an input in turn. Counts the runs in `runs`, and those that ended for want of
 # memory in `refused`; where one answers wrongly, says so.
@@ -67,10 +51,9 @@ for way in asks_for_none writes_first is_stopped goes_on keeps_quiet answers_suc
     fi
 done
 
-programs=0
-for program in crates/ccq/out/ccq crates/ccq/out/ccq.by-rattle; do
-    [ -x "$program" ] || continue
-    programs=$((programs + 1)) runs=0 refused=0 inputs=0
+builds_of ccq
+for program in "${builds[@]}"; do
+    runs=0 refused=0 inputs=0
     for input in examples/*.json tests/corpus/{close_in_every_place,gap_at_the_front,greatest_configuration}.in; do
         inputs=$((inputs + 1))
         case $input in
@@ -82,7 +65,3 @@ for program in crates/ccq/out/ccq crates/ccq/out/ccq.by-rattle; do
     refuse_each /dev/null "$program" plaz || exit 1
     echo "$program: each allocation refused in turn, on $inputs inputs and two command lines: $runs runs, $refused ended with status 3 and nothing written, and the others did without that memory"
 done
-if [ "$programs" = 0 ]; then
-    echo "refuse_memory: there is no crates/ccq/out/ccq: run \`rt ci\` first, or \`rt run\` in crates/ccq"
-    exit 1
-fi
