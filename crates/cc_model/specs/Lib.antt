@@ -2,6 +2,7 @@ pub mod Range
 pub mod Config
 pub mod Record
 pub mod Kept
+pub mod Room
 pub mod Device
 pub mod DeviceParts
 pub mod Items
