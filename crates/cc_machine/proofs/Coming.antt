@@ -1,6 +1,7 @@
 -- How many calls have not exchanged yet, move by move.
-use Rattle.std.proofs.Common.{◌≡◌, ℕ, zero, suc, ◌+◌, ◌<◌, ◌≤◌, arith, ap, sym, refl, inl, inr}
+use Rattle.std.proofs.Common.{◌≡◌, ℕ, zero, suc, ◌+◌, ◌*◌, Bool, true, false, ◌==◌, if◌then◌else◌, ◌<◌, ◌≤◌, arith, ap, sym, refl, inl, inr}
 use Rattle.std.proofs.lemmas.Bool.{cases_eq}
+use Rattle.std.proofs.lemmas.Nat.{mul-le}
 use Rattle.cc_model.specs.declared.config.Config.{Config}
 use Rattle.cc_machine.specs.declared.setting.Setting.{Setting}
 use Rattle.cc_machine.specs.declared.setting.Served.{Served}
@@ -10,9 +11,11 @@ use Rattle.cc_machine.specs.declared.word.Chain.TheVariants.{Send, Take}
 use Rattle.cc_machine.specs.declared.place.Stand.{Stand}
 use Rattle.cc_machine.specs.declared.place.Place.{Place}
 use Rattle.cc_machine.specs.declared.place.Place.TheVariants as place
+use Rattle.cc_machine.specs.Words.{groups}
 use Rattle.cc_machine.specs.State.{chain_of, hold}
 use Rattle.cc_machine.specs.Run.{passes_of}
-use Rattle.cc_machine.specs.Lawful.{before_exchange, to_come, coming}
+use Rattle.cc_machine.specs.Lawful.{to_come, coming}
+use Rattle.cc_machine.specs.CallsMade.{before_exchange}
 
 at_most_one : (at : Place) → before_exchange at ≤ 1
 at_most_one place.Idle = omega arith
@@ -25,16 +28,11 @@ pub one_on_side : (x y : Chain) (at : Place) → to_come x y at ≤ 1
 one_on_side Send Send at = at_most_one at
 one_on_side Send (Take g) at = omega arith
 one_on_side (Take g) Send at = omega arith
-one_on_side (Take g) (Take h) at = at_most_one at
-
--- one group's calls are another's: takes of all groups are counted together
-any_group : (k g : ℕ) (y : Chain) (at : Place) → to_come (Take k) y at ≡ to_come (Take g) y at
-any_group k g Send at = refl
-any_group k g (Take h) at = refl
-
-pub coming_any : (c : Setting) (k g n : ℕ) (stands : ℕ → Stand) → coming c (Take k) n stands ≡ coming c (Take g) n stands
-coming_any c k g zero stands = refl
-coming_any c k g (suc n) stands = omega (arith, any_group k g (chain_of c.config n) (stands n).place, coming_any c k g n stands)
+one_on_side (Take g) (Take h) at = of_group (g == h)
+  where
+    of_group : (b : Bool) → (if b then before_exchange at else 0) ≤ 1
+    of_group true = at_most_one at
+    of_group false = omega arith
 
 -- at most all of them
 pub coming_max : (c : Setting) (x : Chain) (n : ℕ) (stands : ℕ → Stand) → coming c x n stands ≤ n
@@ -84,6 +82,9 @@ coming_none c x zero stands none = refl
 coming_none c x (suc n) stands none = omega (arith, none n, coming_none c x n stands none)
 
 -- the passes are few
-pub few_passes : (what : Served) (c : Config) → c.senders ≤ 64 → c.receivers ≤ 64 → passes_of what c ≤ 128
-few_passes served.Counter c s r = omega (arith, s)
-few_passes served.List c s r = omega (arith, s, r)
+few_of : (g r : ℕ) → g ≤ 8 → r ≤ 64 → g * r ≤ 512
+few_of g r a b = mul-le g r 8 64 a b
+
+pub few_passes : (what : Served) (c : Config) → c.senders ≤ 64 → c.receivers ≤ 64 → groups c ≤ 8 → passes_of what c ≤ 576
+few_passes served.Counter c s r g = omega (arith, s)
+few_passes served.List c s r g = omega (arith, s, few_of (groups c) c.receivers g r)

@@ -12,6 +12,7 @@ pub record InRange (c : Config) : Type 0 where
   pub bound : (1 ≤ c.bound) × (c.bound ≤ 1024)
   pub life : (1 ≤ c.life) × (c.life ≤ 2 ^ 48)
   pub per_sender : (1 ≤ c.per_sender) × (c.per_sender ≤ 2 ^ 32 - 1)
+  pub groups : (1 ≤ c.groups) × (c.groups ≤ 8)
 
 -- a test that finds no fault, and the tests after it
 no_fault : (b : Bool) (f : ConfigFault) (rest : Result (Unit {0}) ConfigFault) → cond (not b) (Err f) rest ≡ Ok tt → (b ≡ true) × (rest ≡ Ok tt)
@@ -29,6 +30,7 @@ in_range c e =
     let f = no_fault (within 1 1024 c.bound) _ _ d.1 in
     let g = no_fault (within 1 (2 ^ 48) c.life) _ _ f.1 in
     let h = no_fault (within 1 (2 ^ 32 - 1) c.per_sender) _ _ g.1 in
+    let j = no_fault (within 1 8 c.groups) _ _ h.1 in
     record {
       senders = both 1 64 c.senders a.0;
       receivers = both 1 64 c.receivers b.0;
@@ -36,4 +38,5 @@ in_range c e =
       bound = both 1 1024 c.bound f.0;
       life = both 1 (2 ^ 48) c.life g.0;
       per_sender = both 1 (2 ^ 32 - 1) c.per_sender h.0;
+      groups = both 1 8 c.groups j.0;
     }

@@ -28,3 +28,10 @@ to_exchange _ = []
 abbrev pub CallsOfRuns : Type 0
 CallsOfRuns = (c : Setting) → config_fault c.config ≡ Ok tt → (moves : List Move) → IsRun c moves → (p : ℕ) → p < passes c →
     made c moves p ≡ map (λ z. z.0) (calls_of (pass_at c.config p) (reached c moves).history) ++ to_exchange ((reached c moves).stand p).place
+
+-- a call that was begun and hasn't exchanged
+abbrev pub before_exchange : Place → ℕ
+before_exchange (place.ResetNext call) = 1
+before_exchange (place.ResetState call) = 1
+before_exchange (place.Exchange call) = 1
+before_exchange _ = 0

@@ -1,8 +1,8 @@
 -- What holds of each chain after every run, whatever is served; and of a counter.
 use Rattle.std.specs.Prelude.{◌≡◌, ◌≢◌, ℕ, ◌+◌, ◌<◌, ◌≤◌, List, [], ◌∷◌, ◌++◌, length, Option, Some, None, Ok}
-use Rattle.std.specs.List.{slice_get}
+use Rattle.std.specs.List.{AllByRecursion, slice_get}
 use Rattle.cc_model.specs.Record.{Record}
-use Rattle.cc_model.specs.Items.{calls_of}
+use Rattle.cc_model.specs.Items.{HasAnswer, calls_of}
 use Rattle.cc_model.specs.Config.{config_fault}
 use Rattle.cc_model.specs.declared.call.Pass.{Pass}
 use Rattle.cc_model.specs.declared.call.Entry.{Entry}
@@ -150,7 +150,7 @@ pub record ChainLaws (c : Setting) (s : State) : Type 0 where
   pub within : (p : ℕ) → p < passes c → IsCombining (s.stand p).place →
       IsWithinBound c.config.bound (calls_on (chain_of c.config p) s.history) (answers_on (chain_of c.config p) s.history) (pass_at c.config p)
   -- what it serves, before it decides, is the first call without an answer: so answers come in the order of the exchanges
-  pub ordered : (length s.history.e_answers ≤ length s.history.e_calls) × (length s.history.d_answers ≤ length s.history.d_calls)
+  pub ordered : (x : Chain) → length (answers_on x s.history) ≤ length (calls_on x s.history)
   pub serves : (p : ℕ) → p < passes c → WhileUndecided (s.stand p).place (ServesNext s (chain_of c.config p) (served_node (s.stand p).place))
   -- what a call reads as its answer, word by word and in all, is its answer in the history
   pub reads : (p : ℕ) → p < passes c → IsReading (s.stand p).place → IsToldBy c.served s (chain_of c.config p) (s.stand p).node (pass_at c.config p) (s.stand p).place
@@ -191,11 +191,16 @@ abbrev pub CallsWaitForTheirLink : Type 0
 CallsWaitForTheirLink = (c : Setting) → config_fault c.config ≡ Ok tt → (moves : List Move) → IsRun c moves →
     (p : ℕ) → p < passes c → IsEntering ((reached c moves).stand p).place → IsLastPending (pass_at c.config p) (history_of c moves)
 
+-- after every run, each call that the history has of a pass out of its chain has its answer
+abbrev pub CallsEndAnswered : Type 0
+CallsEndAnswered = (c : Setting) → config_fault c.config ≡ Ok tt → (moves : List Move) → IsRun c moves →
+    (p : ℕ) → p < passes c → IsOut ((reached c moves).stand p).place → AllByRecursion HasAnswer (calls_of (pass_at c.config p) (history_of c moves))
+
 -- the laws of a counter: it hands out the numbers from 0 on, in the order of the exchanges
 pub record CounterLaws (c : Setting) (s : State) : Type 0 where
   pub chain : ChainLaws c s
-  pub count : s.mem (Object object.Count) ≡ length s.history.e_answers
-  pub numbers : (k : ℕ) → k < length s.history.e_answers → slice_get s.history.e_answers k ≡ Some (answer.Send (send.Accepted k))
+  pub count : s.mem (Object object.Count) ≡ length s.history.sends.answers
+  pub numbers : (k : ℕ) → k < length s.history.sends.answers → slice_get s.history.sends.answers k ≡ Some (answer.Send (send.Accepted k))
   -- each step can be done, and leaves every number in its range
   pub ready : (p : ℕ) → p < passes c → IsReady c s p
 

@@ -1,7 +1,7 @@
 -- How much there is to be known of a history, counted along with it.
-use Rattle.std.specs.Prelude.{◌≡◌, ℕ, ◌+◌, ◌≤◌, Bool, false, ◌||◌, length, if◌then◌else◌, Option, Some, None}
+use Rattle.std.specs.Prelude.{◌≡◌, ℕ, ◌+◌, ◌≤◌, Bool, false, ◌||◌, length, zero, suc, ◌-◌, min, slice_index_or, slice_set, if◌then◌else◌, Option, Some, None}
 use Rattle.std.specs.List.{slice_get}
-use Rattle.cc_model.specs.Record.{Record}
+use Rattle.cc_model.specs.Record.{Record, of_group}
 use Rattle.cc_model.specs.Items.{entries, accepted_item, shuts, is_shut, handed, handed_item}
 use Rattle.cc_model.specs.declared.call.Pass.{Pass}
 use Rattle.cc_model.specs.declared.call.Pass.TheVariants as pass
@@ -28,20 +28,26 @@ adds_handed (Some a) = length (handed_item a)
 adds_handed None = 0
 
 -- the count goes on by the answers at these places, where they are there
-pub record HasCounted (old : Known) (h : Record) (e d : ℕ) (new : Known) : Type 0 where
-  pub entries_is : new.entries ≡ old.entries + adds_entry old.shut (slice_get h.e_calls e) (slice_get h.e_answers e)
-  pub shut_is : new.shut ≡ (old.shut || adds_shut (slice_get h.e_answers e))
-  pub handed_is : new.handed ≡ old.handed + adds_handed (slice_get h.d_answers d)
+pub record HasCounted (old : Known) (h : Record) (e g d : ℕ) (new : Known) : Type 0 where
+  pub entries_is : new.entries ≡ old.entries + adds_entry old.shut (slice_get h.sends.calls e) (slice_get h.sends.answers e)
+  pub shut_is : new.shut ≡ (old.shut || adds_shut (slice_get h.sends.answers e))
+  pub handed_are : new.handed ≡ slice_set old.handed g (slice_index_or old.handed g 0 + adds_handed (slice_get (of_group h g).answers d))
 
 -- this is counted of the history
 pub record IsKnown (h : Record) (k : Known) : Type 0 where
   pub entries_is : k.entries ≡ entries h
   pub shut_is : k.shut ≡ is_shut h
-  pub handed_is : k.handed ≡ length (handed h)
-  pub few : k.entries ≤ length h.e_answers
-  pub few_handed : k.handed ≤ length h.d_answers
+  pub long : length k.handed ≡ 8
+  pub handed_are : (g : ℕ) → slice_index_or k.handed g 0 ≡ length (handed h g)
+  pub few : k.entries ≤ length h.sends.answers
+  pub few_handed : (g : ℕ) → slice_index_or k.handed g 0 ≤ length (of_group h g).answers
+
+-- the least of the first numbers, and of one further one for each of n
+abbrev pub least_of : ℕ → (ℕ → ℕ) → ℕ
+least_of zero f = f 0
+least_of (suc n) f = min (least_of n f) (f (suc n))
 
 -- so much of it can be known to a pass of a side
-abbrev pub known_count : Known → Pass → ℕ
-known_count k (pass.Sender n) = k.handed
-known_count k (pass.Receiver n) = k.entries
+abbrev pub known_count : (groups : ℕ) → Known → Pass → ℕ
+known_count groups k (pass.Sender n) = least_of (groups - 1) (λ g. slice_index_or k.handed g 0)
+known_count groups k (pass.Receiver n) = k.entries

@@ -1,5 +1,5 @@
 -- The boards that runs lead to, with room in the history for every call to come.
-use Rattle.std.specs.Prelude.{◌≡◌, ℕ, zero, suc, ◌+◌, ◌≤◌, ◌<◌, max, Bool, if◌then◌else◌, length, Ok}
+use Rattle.std.specs.Prelude.{◌≡◌, ℕ, zero, suc, ◌+◌, ◌≤◌, ◌<◌, ◌==◌, max, Bool, if◌then◌else◌, length, Ok}
 use Rattle.cc_model.specs.Config.{config_fault}
 use Rattle.cc_machine.specs.declared.setting.Setting.{Setting}
 use Rattle.cc_machine.specs.declared.setting.Served.TheVariants as served
@@ -9,24 +9,20 @@ use Rattle.cc_machine.specs.declared.place.Stand.{Stand}
 use Rattle.cc_machine.specs.declared.place.Place.{Place}
 use Rattle.cc_machine.specs.declared.place.Place.TheVariants as place
 use Rattle.cc_machine.specs.declared.board.Board.{Board}
+use Rattle.cc_model.specs.Kept.{lists}
+use Rattle.cc_machine.specs.Sides.{IsThere}
 use Rattle.cc_machine.specs.declared.known.Known.{Known}
 use Rattle.cc_machine.specs.Known.{IsKnown}
-use Rattle.cc_machine.specs.State.{chain_of}
+use Rattle.cc_machine.specs.State.{chain_of, side}
 use Rattle.cc_machine.specs.Run.{passes}
-use Rattle.cc_machine.specs.Shown.{view_of, state_of, IsLaid}
+use Rattle.cc_machine.specs.Shown.{view_of, state_of, IsLaid, kept_side}
+use Rattle.cc_machine.specs.CallsMade.{before_exchange}
 use Rattle.cc_machine.specs.Machine.{IsReached}
-
--- a call that was begun and hasn't exchanged
-abbrev pub before_exchange : Place → ℕ
-before_exchange (place.ResetNext call) = 1
-before_exchange (place.ResetState call) = 1
-before_exchange (place.Exchange call) = 1
-before_exchange _ = 0
 
 -- such a call of a sender, or of a receiver
 abbrev pub to_come : Chain → Chain → Place → ℕ
 to_come Send Send at = before_exchange at
-to_come (Take g) (Take h) at = before_exchange at
+to_come (Take g) (Take h) at = if g == h then before_exchange at else 0
 to_come x y at = 0
 
 -- one where there is such a call
@@ -44,21 +40,18 @@ all_coming b x = coming b.setting x (passes b.setting) (state_of b).stand
 
 -- room in the history of this side for the calls to come, and for one more
 abbrev pub HasRoomToCome : Board → Chain → Type 0
-HasRoomToCome b Send = length b.history.lists.e_calls + all_coming b Send + 1 ≤ b.history.e_room
-HasRoomToCome b (Take g) = length b.history.lists.d_calls + all_coming b (Take g) + 1 ≤ b.history.d_room
+HasRoomToCome b x = length (kept_side x b.history).lists.calls + all_coming b x + 1 ≤ (kept_side x b.history).room
 
 -- there is less room on this side than for the calls to come and one more, or for their answers
 abbrev pub LacksRoom : Board → Chain → Type 0
-LacksRoom b Send = b.history.e_room < max (length b.history.lists.e_calls) (length b.history.lists.e_answers) + all_coming b Send + 1
-LacksRoom b (Take g) = b.history.d_room < max (length b.history.lists.d_calls) (length b.history.lists.d_answers) + all_coming b (Take g) + 1
+LacksRoom b x = (kept_side x b.history).room < max (length (kept_side x b.history).lists.calls) (length (kept_side x b.history).lists.answers) + all_coming b x + 1
 
 -- a run leads to it
 pub record IsLawful (b : Board) : Type 0 where
   pub checked : config_fault b.setting.config ≡ Ok tt
   pub laid : IsLaid b
   pub reached : IsReached (view_of b)
-  pub e_room : length b.history.lists.e_calls + coming b.setting Send (passes b.setting) (state_of b).stand ≤ b.history.e_room
-  pub d_room : length b.history.lists.d_calls + coming b.setting (Take 0) (passes b.setting) (state_of b).stand ≤ b.history.d_room
+  pub rooms : (x : Chain) → IsThere b.setting.config x → length (kept_side x b.history).lists.calls + coming b.setting x (passes b.setting) (state_of b).stand ≤ (kept_side x b.history).room
 
 -- the board of a counter
 pub record IsCounter (b : Board) : Type 0 where
@@ -69,6 +62,5 @@ pub record IsCounter (b : Board) : Type 0 where
 pub record IsMachine (b : Board) (k : Known) : Type 0 where
   pub served_is : b.setting.served ≡ served.List
   pub lawful : IsLawful b
-  pub known : IsKnown b.history.lists k
-  pub e_order : length b.history.lists.e_answers ≤ length b.history.lists.e_calls
-  pub d_order : length b.history.lists.d_answers ≤ length b.history.lists.d_calls
+  pub known : IsKnown (lists b.history) k
+  pub order : (x : Chain) → length (side x (lists b.history)).answers ≤ length (side x (lists b.history)).calls

@@ -3,7 +3,7 @@ use Rattle.std.specs.Prelude.{◌≡◌, ◌⊎◌, ℕ, zero, suc, ◌+◌, ◌
 use Rattle.std.specs.List.{AllByRecursion, slice_get}
 use Rattle.cc_model.specs.Config.{config_fault}
 use Rattle.cc_model.specs.Record.{Record}
-use Rattle.cc_model.specs.Items.{Begins, accepted, handed}
+use Rattle.cc_model.specs.Items.{Begins, accepted, handed_to_all}
 use Rattle.cc_model.specs.Legal.{Legal}
 use Rattle.cc_model.specs.Fifo.{Fifo}
 use Rattle.cc_model.specs.declared.config.Config.{Config}
@@ -25,7 +25,10 @@ use Rattle.cc_machine.specs.declared.place.Sending.TheVariants as sending
 use Rattle.cc_machine.specs.declared.place.Taking.{Taking}
 use Rattle.cc_machine.specs.declared.place.Taking.TheVariants as taking
 use Rattle.cc_machine.specs.Words.{groups}
-use Rattle.cc_machine.specs.State.{State, pass_at}
+use Rattle.cc_machine.specs.State.{State, chain_of, pass_at}
+use Rattle.cc_machine.specs.Columns.{group_of}
+use Rattle.cc_machine.specs.Sides.{answers_on}
+use Rattle.cc_machine.specs.declared.word.Chain.{Chain}
 use Rattle.cc_machine.specs.Safe.{IsReady}
 use Rattle.cc_machine.specs.Machine.{IsLastAnswer}
 use Rattle.cc_machine.specs.Run.{Move, Begin, Step, Take, passes, reached, history_of, IsRun}
@@ -73,13 +76,13 @@ Prepares _ x = ⊥
 abbrev pub BusyNodesAreItems : Type 0
 BusyNodesAreItems = AfterEveryRun (λ c moves. let s : State = reached c moves in
     ((p x : ℕ) → Prepares (s.stand p).place x → ⊥)
-    → busy_below c.config s.mem (c.config.capacity + 1) + length (handed s.history) ≡ length (accepted s.history) + 1)
+    → busy_below c.config s.mem (c.config.capacity + 1) + handed_to_all s.history ≡ length (accepted s.history) + 1)
 
 -- and in it the node that is prepared is one more
 abbrev pub PreparedNodeIsBusy : Type 0
 PreparedNodeIsBusy = AfterEveryRun (λ c moves. let s : State = reached c moves in
     (p x : ℕ) → Prepares (s.stand p).place x
-    → busy_below c.config s.mem (c.config.capacity + 1) + length (handed s.history) ≡ length (accepted s.history) + 2)
+    → busy_below c.config s.mem (c.config.capacity + 1) + handed_to_all s.history ≡ length (accepted s.history) + 2)
 
 -- ---- reuse of list nodes
 
@@ -110,7 +113,7 @@ Resets _ x = ⊥
 -- from the node at place k to the next one.
 abbrev pub ResetAfterTheTake : Type 0
 ResetAfterTheTake = AfterEveryRun (λ c moves. let s : State = reached c moves in
-    (p x k : ℕ) → Resets (s.stand p).place x → slice_get (linked_nodes c moves) k ≡ Some x → k < length (handed s.history))
+    (p x k : ℕ) → Resets (s.stand p).place x → slice_get (linked_nodes c moves) k ≡ Some x → k < handed_to_all s.history)
 
 -- a take's service holds the dummy for steps to come, and the node after it once its link was read
 abbrev pub Holds : Taking → ℕ → Type 0
@@ -141,26 +144,26 @@ NamesNode c link = (1 ≤ link) × (link ≤ c.capacity + 1)
 -- What a step of a service finds: `last` and `head` name ordinary nodes, and the dummy's next is null or names a node, or the
 -- closing mark. The scan starts at an ordinary node, and from there on up to the last word of its send the node that is
 -- looked at, or was found, is an ordinary one.
-abbrev pub FindsNode : Config → State → Place → Type 0
-FindsNode c s (place.Sending job (sending.ReadLastToClose total)) = NamesNode c (s.mem (Object object.Last))
-FindsNode c s (place.Sending job (sending.ReadCursor parcel)) = s.mem (Object object.Cursor) ≤ c.capacity
-FindsNode c s (place.Sending job (sending.ReadPassed parcel at reads)) = at ≤ c.capacity
-FindsNode c s (place.Sending job (sending.ResetPassed parcel at)) = at ≤ c.capacity
-FindsNode c s (place.Sending job (sending.ResetItemNext parcel at)) = at ≤ c.capacity
-FindsNode c s (place.Sending job (sending.WriteItemTag parcel at)) = at ≤ c.capacity
-FindsNode c s (place.Sending job (sending.WriteItemBody count body at)) = at ≤ c.capacity
-FindsNode c s (place.Sending job (sending.ReadLast count at)) = NamesNode c (s.mem (Object object.Last)) × (at ≤ c.capacity)
-FindsNode c s (place.Sending job (sending.LinkItem count at last)) = at ≤ c.capacity
-FindsNode c s (place.Sending job (sending.WriteLast count at)) = at ≤ c.capacity
-FindsNode c s (place.Sending job (sending.WriteCount count at)) = at ≤ c.capacity
-FindsNode c s (place.Sending job (sending.WriteCursor count at)) = at ≤ c.capacity
-FindsNode c s (place.Taking job taking.ReadHead) = NamesNode c (s.mem (Object (object.Head 0)))
-FindsNode c s (place.Taking job (taking.ReadDummyNext dummy taken)) = s.mem (Item dummy item.Next) ≤ c.capacity + 2
-FindsNode c s _ = Unit {0}
+abbrev pub FindsNode : Config → State → Chain → Place → Type 0
+FindsNode c s x (place.Sending job (sending.ReadLastToClose total)) = NamesNode c (s.mem (Object object.Last))
+FindsNode c s x (place.Sending job (sending.ReadCursor parcel)) = s.mem (Object object.Cursor) ≤ c.capacity
+FindsNode c s x (place.Sending job (sending.ReadPassed parcel at reads)) = at ≤ c.capacity
+FindsNode c s x (place.Sending job (sending.ResetPassed parcel at)) = at ≤ c.capacity
+FindsNode c s x (place.Sending job (sending.ResetItemNext parcel at)) = at ≤ c.capacity
+FindsNode c s x (place.Sending job (sending.WriteItemTag parcel at)) = at ≤ c.capacity
+FindsNode c s x (place.Sending job (sending.WriteItemBody count body at)) = at ≤ c.capacity
+FindsNode c s x (place.Sending job (sending.ReadLast count at)) = NamesNode c (s.mem (Object object.Last)) × (at ≤ c.capacity)
+FindsNode c s x (place.Sending job (sending.LinkItem count at last)) = at ≤ c.capacity
+FindsNode c s x (place.Sending job (sending.WriteLast count at)) = at ≤ c.capacity
+FindsNode c s x (place.Sending job (sending.WriteCount count at)) = at ≤ c.capacity
+FindsNode c s x (place.Sending job (sending.WriteCursor count at)) = at ≤ c.capacity
+FindsNode c s x (place.Taking job taking.ReadHead) = NamesNode c (s.mem (Object (object.Head (group_of x))))
+FindsNode c s x (place.Taking job (taking.ReadDummyNext dummy taken)) = s.mem (Item dummy item.Next) ≤ c.capacity + 2
+FindsNode c s x _ = Unit {0}
 
 -- each link that is read is one, and a scan reads ordinary nodes alone
 abbrev pub LinksNameNodes : Type 0
-LinksNameNodes = AfterEveryRun (λ c moves. (p : ℕ) → FindsNode c.config (reached c moves) ((reached c moves).stand p).place)
+LinksNameNodes = AfterEveryRun (λ c moves. (p : ℕ) → FindsNode c.config (reached c moves) (chain_of c.config p) ((reached c moves).stand p).place)
 
 -- a scan that stands here has read so many nodes, the next one counted in
 abbrev pub scan_reads : Place → ℕ
@@ -184,8 +187,7 @@ AnswerWithin most _ = Unit {0}
 -- below 2^32
 pub record IsWithin (c : Config) (h : Record) : Type 0 where
   pub life : length (accepted h) ≤ c.life
-  pub e_answers : AllByRecursion (AnswerWithin c.life) h.e_answers
-  pub d_answers : AllByRecursion (AnswerWithin c.life) h.d_answers
+  pub answers : (x : Chain) → AllByRecursion (AnswerWithin c.life) (answers_on x h)
 
 -- of every history
 abbrev pub NumbersStayWithin : Type 0

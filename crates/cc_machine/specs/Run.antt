@@ -54,7 +54,7 @@ abbrev pub opening : Setting → State
 opening c = record {
   mem = first_word c.config;
   stand = λ p. if nat_lt p (passes c) then record { begun = 0; node = first_node c.config p; place = place.Idle } else nowhere;
-  history = empty;
+  history = empty (groups c.config);
 }
 
 -- a send has the next number of its sender, a close and a take have none

@@ -13,7 +13,7 @@ use Rattle.cc_machine.specs.declared.place.Sending.TheVariants as sending
 use Rattle.cc_machine.specs.declared.place.Taking.{Taking}
 use Rattle.cc_machine.specs.declared.place.Taking.TheVariants as taking
 use Rattle.cc_machine.specs.Words.{layout_of, exists}
-use Rattle.cc_machine.specs.State.{State, word_of, chain_of}
+use Rattle.cc_machine.specs.State.{State, side, word_of, chain_of}
 use Rattle.cc_machine.specs.Codes.{ret_of}
 use Rattle.cc_machine.specs.Columns.{operation}
 
@@ -67,8 +67,7 @@ IsStepSafe c s p = IsSafe c s (chain_of c.config p) (s.stand p).node (s.stand p)
 
 -- some call of this chain has no answer yet
 abbrev pub HasOpenCall : Record → Chain → Type 0
-HasOpenCall h Send = length h.e_answers < length h.e_calls
-HasOpenCall h (Take g) = length h.d_answers < length h.d_calls
+HasOpenCall h x = length (side x h).answers < length (side x h).calls
 
 -- a fact of the places of a service up to the step that decides its answer
 abbrev pub WhileUndecided : Place → Type 0 → Type 0

@@ -1,6 +1,6 @@
 -- The state that a board shows, and what its steps ask for and do.
 use Rattle.std.specs.Prelude.{List, ◌≡◌, ◌≢◌, ℕ, ◌<◌, ◌≤◌, slice_index_or, length}
-use Rattle.cc_model.specs.Kept.{Kept}
+use Rattle.cc_model.specs.Kept.{KeptSide, Kept, kept_of_group, lists}
 use Rattle.cc_machine.specs.declared.setting.Setting.{Setting}
 use Rattle.cc_machine.specs.declared.word.Chain.{Chain}
 use Rattle.cc_machine.specs.declared.word.Chain.TheVariants.{Send, Take}
@@ -12,7 +12,7 @@ use Rattle.cc_machine.specs.declared.place.Place.{Place}
 use Rattle.cc_machine.specs.declared.place.Place.TheVariants as place
 use Rattle.cc_machine.specs.declared.board.Board.{Board}
 use Rattle.cc_machine.specs.declared.board.Seat.{Seat}
-use Rattle.cc_machine.specs.Words.{Layout, layout_of, size}
+use Rattle.cc_machine.specs.Words.{IsSmall, layout_of, size, groups}
 use Rattle.cc_machine.specs.State.{State, first_node, chain_of}
 use Rattle.cc_machine.specs.Columns.{event_at}
 use Rattle.cc_machine.specs.Safe.{IsSafe, WhileUndecided}
@@ -22,34 +22,31 @@ use Rattle.cc_machine.specs.View.{View, state_in}
 
 -- the view of a board
 abbrev pub view_of : Board → View
-view_of b = record { setting = b.setting; words = b.words.items; stands = b.stands.items; history = b.history.lists }
+view_of b = record { setting = b.setting; words = b.words.items; stands = b.stands.items; history = lists b.history }
 
 -- the state of a board
 abbrev pub state_of : Board → State
 state_of b = state_in (view_of b)
-
--- so small that addresses are numbers of a machine
-pub record IsSmall (l : Layout) : Type 0 where
-  pub senders : l.senders ≤ 64
-  pub receivers : l.receivers ≤ 64
-  pub groups : l.groups ≤ 8
-  pub capacity : l.capacity ≤ 4096
 
 -- a board has all its words and passes
 pub record IsLaid (b : Board) : Type 0 where
   pub small : IsSmall (layout_of b.setting.config)
   pub words : length b.words.items ≡ size (layout_of b.setting.config)
   pub stands : length b.stands.items ≡ passes b.setting
+  pub groups : length b.history.takes ≡ groups b.setting.config
+
+-- what is kept of a chain's side
+abbrev pub kept_side : Chain → Kept → KeptSide
+kept_side Send h = h.sends
+kept_side (Take g) h = kept_of_group h g
 
 -- room for a further call of this chain
 abbrev pub HasCallRoom : Kept → Chain → Type 0
-HasCallRoom h Send = length h.lists.e_calls < h.e_room
-HasCallRoom h (Take g) = length h.lists.d_calls < h.d_room
+HasCallRoom h x = length (kept_side x h).lists.calls < (kept_side x h).room
 
 -- room for a further answer
 abbrev pub HasAnswerRoom : Kept → Chain → Type 0
-HasAnswerRoom h Send = length h.lists.e_answers < h.e_room
-HasAnswerRoom h (Take g) = length h.lists.d_answers < h.d_room
+HasAnswerRoom h x = length (kept_side x h).lists.answers < (kept_side x h).room
 
 -- room for what the step at this place puts into the history
 abbrev pub HasRoom : Kept → Chain → Place → Type 0
@@ -72,8 +69,8 @@ pub record Keeps (old new : Board) : Type 0 where
   pub setting : new.setting ≡ old.setting
   pub words : length new.words.items ≡ length old.words.items
   pub stands : length new.stands.items ≡ length old.stands.items
-  pub e_room : new.history.e_room ≡ old.history.e_room
-  pub d_room : new.history.d_room ≡ old.history.d_room
+  pub rooms : (x : Chain) → (kept_side x new.history).room ≡ (kept_side x old.history).room
+  pub groups : length new.history.takes ≡ length old.history.takes
 
 -- the step of this seat, at this place, was done
 pub record Stepped (old : Board) (seat : Seat) (at : Place) (kind : Kind) (new : Board) : Type 0 where

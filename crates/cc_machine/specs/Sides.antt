@@ -11,6 +11,9 @@ use Rattle.cc_machine.specs.declared.setting.Setting.{Setting}
 use Rattle.cc_machine.specs.declared.setting.Served.{Served}
 use Rattle.cc_machine.specs.declared.setting.Served.TheVariants as served
 use Rattle.cc_machine.specs.declared.word.Chain.{Chain}
+use Rattle.cc_model.specs.declared.config.Config.{Config}
+use Rattle.cc_machine.specs.Words.{groups}
+use Rattle.cc_machine.specs.State.{side}
 use Rattle.cc_machine.specs.declared.word.Chain.TheVariants.{Send, Take}
 
 -- how many passes a chain has; it has one node more, node 0
@@ -18,15 +21,18 @@ abbrev pub passes_on : Setting → Chain → ℕ
 passes_on c Send = c.config.senders
 passes_on c (Take g) = c.config.receivers
 
+-- the configuration has this chain
+abbrev pub IsThere : Config → Chain → Type 0
+IsThere c Send = Unit {0}
+IsThere c (Take g) = g < groups c
+
 -- the calls of a chain in the order of their exchanges
 abbrev pub calls_on : Chain → Record → List Entry
-calls_on Send h = h.e_calls
-calls_on (Take g) h = h.d_calls
+calls_on x h = (side x h).calls
 
 -- and the answers of the first of them
 abbrev pub answers_on : Chain → Record → List Answer
-answers_on Send h = h.e_answers
-answers_on (Take g) h = h.d_answers
+answers_on x h = (side x h).answers
 
 -- the numbers of an answer of the list fit in an answer word, and an item's number in its tag
 abbrev pub Fits : Answer → Type 0

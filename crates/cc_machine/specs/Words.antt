@@ -21,11 +21,19 @@ pub record Layout : Type 0 where
 
 -- how many groups of receivers there are
 abbrev pub groups : Config → ℕ
-groups c = 1
+groups c = c.groups
 
 -- the sizes of a configuration's table
 abbrev pub layout_of : Config → Layout
 layout_of c = record { senders = c.senders; receivers = c.receivers; groups = groups c; capacity = c.capacity }
+
+-- so small that addresses are numbers of a machine, with some receiver in each group
+pub record IsSmall (l : Layout) : Type 0 where
+  pub senders : l.senders ≤ 64
+  pub some : 0 < l.receivers
+  pub receivers : l.receivers ≤ 64
+  pub groups : l.groups ≤ 8
+  pub capacity : l.capacity ≤ 4096
 
 -- the fields of a node in their order, which isn't the same on both sides
 abbrev pub node_field : Chain → NodeField → ℕ

@@ -1,12 +1,13 @@
-ghost use Rattle.std.specs.Prelude.{◌≡◌, ◌<◌, length, IfSome, IfNone};
-ghost use Rattle.cc_machine.specs.Shown.{state_of, CanStep, Stepped, seat_at, Moved};
+ghost use Rattle.std.specs.Prelude.{◌≡◌, ◌<◌, ℕ, Some, length, IfSome, IfNone};
+ghost use Rattle.cc_machine.specs.Shown.{state_of, IsLaid, CanStep, Stepped, seat_at, Moved};
 ghost use Rattle.cc_machine.specs.State.{chain_of};
-ghost use Rattle.cc_machine.specs.Columns.{event_at};
-ghost use Rattle.cc_machine.specs.Machine.{waits_at};
+ghost use Rattle.cc_machine.specs.Columns.{event_at, group_of};
+ghost use Rattle.cc_machine.specs.Machine.{index_of, waits_at};
 
 use crate::board::{Board, Seat};
 use crate::place::{Event, Kind, Place, Stand};
 use crate::word::{Chain, NodeField, Word};
+use cc_model::Pass;
 
 impl Board {
     /// Where a pass stands.
@@ -19,12 +20,31 @@ impl Board {
     }
 
     pub fn chain(&self, pass: usize) -> Chain
+        requires laid { IsLaid self.now }
+        requires pass { pass < length self.now.stands.items }
         ensures { result ≡ chain_of self.now.setting.config pass }
     {
         if pass < self.setting.config.senders as usize {
             Chain::Send
         } else {
-            Chain::Take(0)
+            let receiver = pass - self.setting.config.senders as usize;
+            Chain::Take((receiver / self.setting.config.receivers as usize) as u32)
+        }
+    }
+
+    /// The group of a receiver, from 0; 0 for a sender, and for a name that no pass has.
+    pub fn group(&self, pass: Pass) -> usize
+        requires laid { IsLaid self.now }
+        requires some { 0 < length self.now.history.takes }
+        ensures chain { (p : ℕ) → index_of self.now.setting pass ≡ Some p → group_of (chain_of self.now.setting.config p) ≡ result }
+        ensures inside { result < length self.now.history.takes }
+    {
+        let Some(row) = self.setting.row(pass) else {
+            return 0;
+        };
+        match self.chain(row) {
+            Chain::Send => 0,
+            Chain::Take(group) => group as usize,
         }
     }
 

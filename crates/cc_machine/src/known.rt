@@ -1,4 +1,5 @@
-ghost use Rattle.std.specs.Prelude.{◌≡◌, ◌≤◌, false, slice_get};
+ghost use Rattle.std.specs.Prelude.{◌≡◌, ◌≤◌, ◌<◌, false, length, replicate, slice_get, slice_index_or};
+ghost use Rattle.cc_model.specs.Kept.{lists};
 ghost use Rattle.cc_machine.specs.Known as known;
 
 use cc_model::{Answer, Call, CloseAnswer, Entry, History, Pass, SendAnswer, TakeAnswer};
@@ -10,7 +11,7 @@ use cc_model::{Answer, Call, CloseAnswer, Entry, History, Pass, SendAnswer, Take
 pub struct Known {
     pub entries: u64,
     pub shut: bool,
-    pub handed: u64,
+    pub handed: [u64; 8],
 }
 
 fn get<T: Copy>(list: &[T], place: usize) -> Option<T>
@@ -53,39 +54,51 @@ fn adds_handed(answer: Option<Answer>) -> u64
 impl Known {
     /// Of a history without calls.
     pub fn nothing() -> Known
-        ensures { result ≡ record { entries = 0; shut = false; handed = 0 } }
+        ensures { result ≡ record { entries = 0; shut = false; handed = replicate 8 0 } }
     {
         Known {
             entries: 0,
             shut: false,
-            handed: 0,
+            handed: [0; 8],
         }
     }
 
-    /// The same after further answers: that of the sender's call at the first place, and that of the take at the second,
-    /// where they are there.
-    pub fn after(self, history: &History, sent: usize, taken: usize) -> Known
+    /// The same after further answers: that of the sender's call at the first place, and that of the group's take at the
+    /// second, where they are there.
+    pub fn after(self, history: &History, sent: usize, group: usize, taken: usize) -> Known
+        requires group { group < length history.now.takes }
+        requires groups { length history.now.takes ≤ 8 }
         requires entries { self.entries ≤ sent }
-        requires handed { self.handed ≤ taken }
-        ensures counted { known.HasCounted self history.now.lists sent taken result }
+        requires handed { slice_index_or self.handed group 0 ≤ taken }
+        ensures counted { known.HasCounted self (lists history.now) sent group taken result }
     {
-        let call = get(history.e_calls(), sent);
-        let answer = get(history.e_answers(), sent);
-        let take = get(history.d_answers(), taken);
+        let call = get(history.sends().calls(), sent);
+        let answer = get(history.sends().answers(), sent);
+        let take = get(history.takes(group).answers(), taken);
         let shut = adds_shut(answer);
+        let mut handed = self.handed;
+        handed[group] += adds_handed(take);
         Known {
             entries: self.entries + adds_entry(self.shut, call, answer),
             shut: self.shut | shut,
-            handed: self.handed + adds_handed(take),
+            handed,
         }
     }
 
-    /// What a pass of a side can know.
-    pub fn at(self, pass: Pass) -> u64
-        ensures { result ≡ known.known_count self pass }
+    /// What a pass of a side can know, where there are so many groups.
+    pub fn at(self, groups: usize, pass: Pass) -> u64
+        requires low { 1 ≤ groups }
+        requires high { groups ≤ 8 }
+        ensures { result ≡ known.known_count groups self pass }
     {
         match pass {
-            Pass::Sender(_) => self.handed,
+            Pass::Sender(_) => {
+                let mut least = self.handed[0];
+                for group in 1..groups {
+                    least = least.min(self.handed[group]);
+                }
+                least
+            }
             Pass::Receiver(_) => self.entries,
         }
     }

@@ -39,6 +39,7 @@ impl Board {
         Kind::ReadRequest
     }
 
+    #[tactic(auto, using(crate::proofs::Chains::Facts::noted_none))]
     fn read_shut(&mut self, seat: Seat, job: Job, request: Request) -> Kind
         requires { CanStep self.old seat (Place.Sending job (Sending.ReadShut request)) }
         ensures { Stepped self.old seat (Place.Sending job (Sending.ReadShut request)) result self.new }
@@ -73,6 +74,7 @@ impl Board {
         Kind::ReadObject
     }
 
+    #[tactic(auto, using(crate::proofs::Chains::Facts::noted_none))]
     fn read_count(&mut self, seat: Seat, job: Job, request: Request) -> Kind
         requires { CanStep self.old seat (Place.Sending job (Sending.ReadCount request)) }
         ensures { Stepped self.old seat (Place.Sending job (Sending.ReadCount request)) result self.new }
@@ -183,12 +185,15 @@ impl Board {
         Kind::ReadObject
     }
 
+    #[tactic(auto, using(crate::proofs::Chains::Facts::noted_none))]
     fn read_passed(&mut self, seat: Seat, job: Job, parcel: Parcel, node: u64, reads: u32) -> Kind
         requires { CanStep self.old seat (Place.Sending job (Sending.ReadPassed parcel node reads)) }
         ensures { Stepped self.old seat (Place.Sending job (Sending.ReadPassed parcel node reads)) result self.new }
     {
         let ordinary = self.setting.config.capacity as u64 + 1;
-        let place = if self.load(Word::Item(node, ItemField::Passed)) == 1 {
+        let place = if self.load(Word::Item(node, ItemField::Passed))
+            == self.setting.config.groups as u64
+        {
             Place::Sending {
                 job,
                 service: Sending::ResetPassed { parcel, node },

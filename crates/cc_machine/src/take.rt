@@ -38,6 +38,7 @@ impl Board {
         Kind::ReadObject
     }
 
+    #[tactic(auto, using(crate::proofs::Chains::Facts::noted_none))]
     fn read_dummy_next(&mut self, seat: Seat, job: Job, dummy: u64, taken: u64) -> Kind
         requires { CanStep self.old seat (Place.Taking job (Taking.ReadDummyNext dummy taken)) }
         ensures { Stepped self.old seat (Place.Taking job (Taking.ReadDummyNext dummy taken)) result self.new }
@@ -61,6 +62,7 @@ impl Board {
         Kind::ReadDummyNext
     }
 
+    #[tactic(auto, using(crate::proofs::Chains::Facts::noted_none))]
     fn read_item_tag(&mut self, seat: Seat, job: Job, dummy: u64, taken: u64, node: u64) -> Kind
         requires { CanStep self.old seat (Place.Taking job (Taking.ReadItemTag dummy taken node)) }
         ensures { Stepped self.old seat (Place.Taking job (Taking.ReadItemTag dummy taken node)) result self.new }
