@@ -1,6 +1,6 @@
 -- The laws of the chains, from their invariant.
-use Rattle.std.proofs.Common.{◌≡◌, ◌≢◌, ◌⊎◌, ℕ, ◌+◌, ◌<◌, ◌≤◌, refl, ap, sym, ◌∙◌, subst, arith, inl, inr, Some, List, [], length, Ok}
-use Rattle.std.proofs.lemmas.Bool.{cases_eq}
+use Rattle.std.proofs.Common.{◌≡◌, ◌≢◌, ◌⊎◌, ℕ, ◌+◌, ◌<◌, ◌≤◌, refl, ap, sym, ◌∙◌, subst, arith, inl, inr, Some, List, [], length, Ok, ◌*◌}
+use Rattle.std.proofs.lemmas.Bool.{cases_lt, cases_eq}
 use Rattle.std.proofs.lemmas.Option.{slice_get-get_or, get_or_from_slice_get, slice_get_within}
 use Rattle.cc_model.specs.Config.{config_fault}
 use Rattle.cc_model.specs.Items.{calls_of}
@@ -25,16 +25,20 @@ use Rattle.cc_machine.specs.declared.place.Stand.{Stand}
 use Rattle.cc_machine.specs.declared.place.Place.{Place}
 use Rattle.cc_machine.specs.declared.place.Place.TheVariants as place
 use Rattle.cc_machine.specs.Codes.{ret_of, code_of}
-use Rattle.cc_machine.specs.State.{State, chain_of, pass_at, word_of}
+use Rattle.cc_machine.specs.State.{side, State, chain_of, pass_at, word_of}
 use Rattle.cc_machine.specs.Columns.{operation}
+use Rattle.cc_model.specs.Record.{Side, silent}
+use Rattle.cc_machine.specs.Words.{groups}
+use Rattle.std.proofs.lemmas.List.{get_or_past}
 use Rattle.cc_machine.specs.Run.{Move, IsRun, reached, passes}
 use Rattle.cc_machine.specs.Safe.{WhileUndecided}
 use Rattle.cc_machine.specs.Sides.{passes_on, calls_on, answers_on}
 use Rattle.cc_machine.specs.ChainLaws.{IsCombining, served_by, AreNodes, served_node, HoldsRequest, ServesNext, IsWithinBound, WasTold, IsReading, ReadsWord, IsToldBy, IsOut, ChainLaws, ChainLawsOfRuns, CounterLawsOfRuns}
+use Rattle.cc_machine.proofs.ListRuns.SideSteps.{read_link, read_head, read_taken}
 use Rattle.cc_machine.proofs.Ranges.{InRange, in_range}
 use Rattle.cc_machine.proofs.Chains.View.{view, pass_on, post_of, post_at, serving, request_words, request_long, asked_words, answer_words, answer_long}
 use Rattle.cc_machine.proofs.Chains.Frame.{answer_first}
-use Rattle.cc_machine.proofs.Chains.Registers.{IsChain, call_at, answer_at, no_call, no_answer, OnTake, IsAnswer, HasRead, coded_words, tag_word, body_word}
+use Rattle.cc_machine.proofs.Chains.Registers.{IsChainOf, IsChain, call_at, answer_at, no_call, no_answer, OnTake, IsAnswer, HasRead, coded_words, tag_word, body_word}
 use Rattle.cc_machine.proofs.Chains.Facts.{own_node, some_words, coded_first, got_item}
 use Rattle.cc_machine.proofs.Chains.Ties.{Holds}
 use Rattle.cc_machine.proofs.Chains.Others.{IsOn}
@@ -47,7 +51,7 @@ use Rattle.cc_machine.proofs.Chains.Told.{HasTold, HasAnswer, NotOther, named, n
 use Rattle.cc_machine.proofs.Chains.Decoded.{reads_back}
 use Rattle.cc_machine.proofs.Counted.{Counts}
 use Rattle.cc_machine.proofs.CounterRuns.{counter_holds, counter_ready}
-use Rattle.cc_machine.proofs.ChainRuns.{has_told, not_other, silent}
+use Rattle.cc_machine.proofs.ChainRuns.{has_told, not_other, silent_takes, sides_are}
 
 combining_rank : (x : Chain) (own : ℕ) (at : Place) → IsCombining at → (post_of x own at).rank ≡ 5
 combining_rank x own (place.ReadNext round) a = refl
@@ -87,7 +91,7 @@ body_read what Send a words A had same = absurd had
 body_read what (Take g) a words A had same = same
 
 -- a pass out of its chain has none of its words
-out_rank : (x : Chain) (own : ℕ) (at : Place) → IsOut at → (post_of x own at).rank ≤ 2
+pub out_rank : (x : Chain) (own : ℕ) (at : Place) → IsOut at → (post_of x own at).rank ≤ 2
 out_rank x own place.Idle a = omega arith
 out_rank x own (place.ResetNext call) a = omega arith
 out_rank x own (place.ResetState call) a = omega arith
@@ -96,7 +100,7 @@ out_rank x own (place.Finished told) a = omega arith
 out_rank x own _ a = absurd a
 
 -- a pass of a chain x, and its place
-module _ (c : Setting) (r : InRange c.config) (s : State) (k : Chains c s) (x : Chain) (ok : IsChain c.served x) (p : ℕ) (on : IsOn c x p) where
+module _ (c : Setting) (r : InRange c.config) (s : State) (k : Chains c s) (x : Chain) (ok : IsChain c x) (p : ℕ) (on : IsOn c x p) where
   w : Holds c x s
   w = k.holds x ok
 
@@ -216,7 +220,7 @@ module _ (c : Setting) (r : InRange c.config) (s : State) (k : Chains c s) (x : 
       )
   reads_word _ e reading sided = absurd reading
 
-  reads_at : NotOther x s.history → (at : Place) → Here at → IsReading at → IsToldBy c.served s x own (pass_at c.config p) at
+  reads_at : NotOther c x s.history → (at : Place) → Here at → IsReading at → IsToldBy c.served s x own (pass_at c.config p) at
   reads_at none at e reading =
       let v : Holds c x s = k.holds x ok in
       let rank : (post_at x (s.stand (pass_on c x on.number))).rank ≡ 6 = ap (λ (z : Stand). (post_at x z).rank) (there at e) ∙ ap (λ z. z.rank) (reading_post x own at reading) in
@@ -246,7 +250,7 @@ module _ (c : Setting) (r : InRange c.config) (s : State) (k : Chains c s) (x : 
           who_is = (v.ties.entered (v.ghost.at on.number) (omega (arith, v.ties.calls_are))).pass_is ∙ ap (λ (z : ℕ). pass_at c.config (pass_on c x z)) its ∙ ap (λ (z : ℕ). pass_at c.config z) (sym on.pass_is);
           none_later = λ j later after is same.
               let below : j < v.ghost.calls = omega (arith, v.ties.calls_are, slice_get_within (calls_on x s.history) j later is) in
-              let theirs : named x (v.ghost.pass_of j) ≡ named x on.number =
+              let theirs : named c x (v.ghost.pass_of j) ≡ named c x on.number =
               sym (name_is c x (v.ghost.pass_of j) (v.ties.pass_in j below)) ∙ sym (v.ties.entered j below).pass_is ∙ ap (λ (z : Entry). z.pass) (get_or_from_slice_get (calls_on x s.history) j later no_call is) ∙ same
               ∙ ap (λ (z : ℕ). pass_at c.config z) on.pass_is ∙ name_is c x on.number on.inside in
               v.inv.passes.at_last on.number j after below (same_number x (v.ghost.pass_of j) on.number theirs);
@@ -255,9 +259,9 @@ module _ (c : Setting) (r : InRange c.config) (s : State) (k : Chains c s) (x : 
         high = most v mine;
       }
     where
-      same_number : (y : Chain) (a b : ℕ) → named y a ≡ named y b → a ≡ b
+      same_number : (y : Chain) (a b : ℕ) → named c y a ≡ named c y b → a ≡ b
       same_number Send a b e = let next : a + 1 ≡ b + 1 = cc in omega arith
-      same_number (Take g) a b e = let next : a + 1 ≡ b + 1 = cc in omega arith
+      same_number (Take g) a b e = let next : g * c.config.receivers + a + 1 ≡ g * c.config.receivers + b + 1 = cc in omega arith
 
       most : (v : Holds c x s) → v.ghost.server ≡ on.number + 1 → length (answers_on x s.history) ≤ v.ghost.at on.number + c.config.bound
       most v mine = elim (cases_eq (post_at x (s.stand (pass_on c x on.number))).stage 2) [
@@ -266,13 +270,17 @@ module _ (c : Setting) (r : InRange c.config) (s : State) (k : Chains c s) (x : 
         | inr other ↦ omega (arith, v.ties.answers_are, v.inv.serving.undecided on.number mine other, v.inv.server.server_most on.number mine)
       ]
 
--- the other side's lists
-ordered_by : (c : Setting) (s : State) (k : Chains c s) (what : Served) → c.served ≡ what → (what ≡ served.Counter → s.history.d_answers ≡ []) → length s.history.d_answers ≤ length s.history.d_calls
-ordered_by c s k served.List e none =
-    let ok : IsChain c.served (Take 0) = subst (λ (z : Served). IsChain z (Take 0)) (sym e) refl in
-    let v : Holds c (Take 0) s = k.holds (Take 0) ok in
-    omega (arith, v.ties.calls_are, v.ties.answers_are, v.inv.calls.in_order2)
-ordered_by c s k served.Counter e none = omega (arith, ap length (none refl))
+ordered_on : (c : Setting) (s : State) (k : Chains c s) (x : Chain) → IsChain c x → length (answers_on x s.history) ≤ length (calls_on x s.history)
+ordered_on c s k x ok = omega (arith, (k.holds x ok).ties.calls_are, (k.holds x ok).ties.answers_are, (k.holds x ok).inv.calls.in_order2, (k.holds x ok).inv.calls.in_order)
+
+-- every side's lists
+ordered_by : (c : Setting) (s : State) (k : Chains c s) (what : Served) → c.served ≡ what → (what ≡ served.Counter → (g : ℕ) → side (Take g) s.history ≡ silent) → length s.history.takes ≡ groups c.config → (x : Chain) → length (answers_on x s.history) ≤ length (calls_on x s.history)
+ordered_by c s k what e none many Send = ordered_on c s k Send tt
+ordered_by c s k served.Counter e none many (Take g) = omega (arith, ap (λ (z : Side). length z.answers) (none refl g))
+ordered_by c s k served.List e none many (Take g) = elim (cases_lt g (groups c.config)) [
+  | inl near ↦ ordered_on c s k (Take g) (subst (λ (z : Served). IsChainOf z (groups c.config) (Take g)) (sym e) near)
+  | inr far ↦ omega (arith, ap (λ (z : Side). length z.answers) (get_or_past s.history.takes g silent (omega (arith, far, many))))
+]
 
 was_told : (c : Setting) (s : State) (x : Chain) (who : Pass) (told : Answer) → HasTold c x s.history who told → WasTold c.served s.history who told
 was_told c s x who told t = record {
@@ -283,7 +291,7 @@ was_told c s x who told t = record {
   same = λ fits. t.read ∙ reads_back c.served x (answer_at (answers_on x s.history) t.number) t.sided fits;
 }
 
-apart_on : (c : Setting) (s : State) (k : Chains c s) (x : Chain) (ok : IsChain c.served x) (p q : ℕ) (on_p : IsOn c x p) (on_q : IsOn c x q) → (s.stand p).node ≡ (s.stand q).node → p ≡ q
+apart_on : (c : Setting) (s : State) (k : Chains c s) (x : Chain) (ok : IsChain c x) (p q : ℕ) (on_p : IsOn c x p) (on_q : IsOn c x q) → (s.stand p).node ≡ (s.stand q).node → p ≡ q
 apart_on c s k x ok p q on_p on_q same =
     let first : (post_at x (s.stand (pass_on c x on_p.number))).node ≡ (s.stand p).node = ap (λ (z : ℕ). (post_at x (s.stand z)).node) (sym on_p.pass_is) ∙ own_node x (s.stand p).node (s.stand p).place in
     let second : (post_at x (s.stand (pass_on c x on_q.number))).node ≡ (s.stand q).node = ap (λ (z : ℕ). (post_at x (s.stand z)).node) (sym on_q.pass_is) ∙ own_node x (s.stand q).node (s.stand q).place in
@@ -291,7 +299,7 @@ apart_on c s k x ok p q on_p on_q same =
     on_p.pass_is ∙ ap (λ (z : ℕ). pass_on c x z) number ∙ sym on_q.pass_is
 
 -- no other pass of the chain touches the node of a pass that is out of it
-untouched_on : (c : Setting) (s : State) (k : Chains c s) (x : Chain) (ok : IsChain c.served x) (p q i : ℕ) (on_p : IsOn c x p) (on_q : IsOn c x q) → p ≢ q → IsOut (s.stand p).place → i ≡ (s.stand p).node →
+untouched_on : (c : Setting) (s : State) (k : Chains c s) (x : Chain) (ok : IsChain c x) (p q i : ℕ) (on_p : IsOn c x p) (on_q : IsOn c x q) → p ≢ q → IsOut (s.stand p).place → i ≡ (s.stand p).node →
     (i ≡ (s.stand q).node) ⊎ (((post_at x (s.stand q)).rank ≡ 5) × (i ≡ (post_at x (s.stand q)).target)) → ⊥
 untouched_on c s k x ok p q i on_p on_q ne out is (inl own) = ne (apart_on c s k x ok p q on_p on_q (sym is ∙ own))
 untouched_on c s k x ok p q i on_p on_q ne out is (inr its) =
@@ -329,10 +337,7 @@ module _ (c : Setting) (checked : config_fault c.config ≡ Ok tt) (moves : List
     one = λ p q pn qn same a b. one_combiner c (reached c moves) k p q pn qn same (combining_rank Send (s.stand p).node (s.stand p).place a) (combining_rank Send (s.stand q).node (s.stand q).place b);
     bounded = λ p pn. bounded_at c r (reached c moves) k (x p) (chain_is c p pn) p (on_chain c p pn) (s.stand p).place refl;
     within = λ p pn a. within_at c r (reached c moves) k (x p) (chain_is c p pn) p (on_chain c p pn) a;
-    ordered = (
-      omega (arith, (k.holds Send tt).ties.calls_are, (k.holds Send tt).ties.answers_are, (k.holds Send tt).inv.calls.in_order2),
-      ordered_by c (reached c moves) k c.served refl (λ e. (silent c e moves run).1),
-    );
+    ordered = λ y. ordered_by c (reached c moves) k c.served refl (λ e. silent_takes c e moves run) (sides_are c moves) y;
     serves = λ p pn. serves_at c r (reached c moves) k (x p) (chain_is c p pn) p (on_chain c p pn) (s.stand p).place refl;
     reads = λ p pn reading. reads_at c r (reached c moves) k (x p) (chain_is c p pn) p (on_chain c p pn) (not_other c r.bound.0 moves run (x p)) (s.stand p).place refl reading;
     told = λ p told pn e. was_told c (reached c moves) (x p) (pass_at c.config p) told (has_told c r.bound.0 moves run p pn told e);
@@ -347,7 +352,7 @@ module _ (c : Setting) (checked : config_fault c.config ≡ Ok tt) (moves : List
   }
 
 pub chain_laws : ChainLawsOfRuns
-chain_laws c checked moves run = laws c checked moves run
+chain_laws c checked moves run = let u = read_head in let v = read_taken in let w = read_link in laws c checked moves run
 
 pub counter_laws : CounterLawsOfRuns
 counter_laws c counter checked moves run =
@@ -356,6 +361,6 @@ counter_laws c counter checked moves run =
     record {
       chain = laws c checked moves run;
       count = v.count;
-      numbers = λ n less. slice_get-get_or (reached c moves).history.e_answers n no_answer less ∙ ap (λ (z : Answer). Some z) (v.kth n less);
+      numbers = λ n less. slice_get-get_or (reached c moves).history.sends.answers n no_answer less ∙ ap (λ (z : Answer). Some z) (v.kth n less);
       ready = λ p less. counter_ready c counter checked moves run p less;
     }

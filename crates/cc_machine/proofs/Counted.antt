@@ -26,7 +26,7 @@ use Rattle.cc_machine.specs.State.{State, hold, appended, word_of}
 use Rattle.cc_machine.specs.Columns.{operation, goes, event_at, enters, decides, after_state, after_next, after_answer}
 use Rattle.cc_machine.specs.Step.{stepped_from, advanced}
 use Rattle.cc_machine.specs.Run.{passes, passes_of}
-use Rattle.cc_machine.specs.Lawful.{before_exchange}
+use Rattle.cc_machine.specs.CallsMade.{before_exchange}
 use Rattle.cc_machine.proofs.Chains.Frame.{hold_here, hold_apart}
 use Rattle.cc_machine.proofs.Chains.View.{post_of, post_at}
 use Rattle.cc_machine.proofs.Chains.Registers.{call_at, answer_at, no_answer, HasService}
@@ -99,12 +99,12 @@ total_none stands zero none = refl
 total_none stands (suc n) none = omega (arith, none n (omega arith), total_none stands n (λ p less. none p (omega arith)))
 
 pub record Counts (c : Setting) (s : State) : Type 0 where
-  pub count : s.mem (Object object.Count) ≡ length s.history.e_answers
-  pub counted : (p : ℕ) → p < passes c → HasCount (length s.history.e_answers) (s.stand p).place
-  pub kth : (k : ℕ) → k < length s.history.e_answers → answer_at s.history.e_answers k ≡ answer.Send (send.Accepted k)
+  pub count : s.mem (Object object.Count) ≡ length s.history.sends.answers
+  pub counted : (p : ℕ) → p < passes c → HasCount (length s.history.sends.answers) (s.stand p).place
+  pub kth : (k : ℕ) → k < length s.history.sends.answers → answer_at s.history.sends.answers k ≡ answer.Send (send.Accepted k)
   pub begun_in : (p : ℕ) → p < passes c → (s.stand p).begun ≤ c.config.per_sender
   pub began : (p : ℕ) → p < passes c → before_exchange (s.stand p).place ≤ (s.stand p).begun
-  pub calls : length s.history.e_calls ≡ total s.stand (passes c)
+  pub calls : length s.history.sends.calls ≡ total s.stand (passes c)
 
 module _ (c : Setting) (s : State) (p : ℕ) (inside : p < passes c) (k : Counts c s) (there : Stand) where
   begun_after_all : there.begun ≤ c.config.per_sender → (q : ℕ) → q < passes c → (hold s.stand p there q).begun ≤ c.config.per_sender
@@ -126,12 +126,12 @@ module _ (c : Setting) (s : State) (p : ℕ) (inside : p < passes c) (k : Counts
   ]
 
   -- the pass goes there, and the history stays but for calls
-  pub counts_on : (t : State) → t.stand ≡ hold s.stand p there → t.mem (Object object.Count) ≡ s.mem (Object object.Count) → t.history.e_answers ≡ s.history.e_answers →
-      length t.history.e_calls + gone (s.stand p) ≡ length s.history.e_calls + gone there → HasCount (length s.history.e_answers) there.place → there.begun ≤ c.config.per_sender → before_exchange there.place ≤ there.begun → Counts c t
+  pub counts_on : (t : State) → t.stand ≡ hold s.stand p there → t.mem (Object object.Count) ≡ s.mem (Object object.Count) → t.history.sends.answers ≡ s.history.sends.answers →
+      length t.history.sends.calls + gone (s.stand p) ≡ length s.history.sends.calls + gone there → HasCount (length s.history.sends.answers) there.place → there.begun ≤ c.config.per_sender → before_exchange there.place ≤ there.begun → Counts c t
   counts_on t stands mem answers calls counted begun began = record {
     count = mem ∙ k.count ∙ ap length (sym answers);
     counted = λ q qn. subst (λ (l : List Answer). HasCount (length l) (t.stand q).place) (sym answers)
-        (subst (λ (f : ℕ → Stand). HasCount (length s.history.e_answers) (f q).place) (sym stands) (counted_all (length s.history.e_answers) counted (λ r rn ne. k.counted r rn) q qn));
+        (subst (λ (f : ℕ → Stand). HasCount (length s.history.sends.answers) (f q).place) (sym stands) (counted_all (length s.history.sends.answers) counted (λ r rn ne. k.counted r rn) q qn));
     kth = λ j l. subst (λ (z : List Answer). answer_at z j ≡ answer.Send (send.Accepted j)) (sym answers) (k.kth j (omega (arith, ap length answers)));
     begun_in = λ q qn. subst (λ (f : ℕ → Stand). (f q).begun ≤ c.config.per_sender) (sym stands) (begun_after_all begun q qn);
     began = λ q qn. subst (λ (f : ℕ → Stand). before_exchange (f q).place ≤ (f q).begun) (sym stands) (began_all began q qn);
@@ -140,18 +140,18 @@ module _ (c : Setting) (s : State) (p : ℕ) (inside : p < passes c) (k : Counts
 
   -- one answer more
   counts_more : (t : State) (others : (q : ℕ) → q < passes c → q ≢ p → (n : ℕ) → HasCount n (s.stand q).place) → t.stand ≡ hold s.stand p there →
-      t.mem (Object object.Count) ≡ length s.history.e_answers + 1 → t.history.e_answers ≡ s.history.e_answers ++ answer.Send (send.Accepted (length s.history.e_answers)) ∷ [] →
-      t.history.e_calls ≡ s.history.e_calls → gone there ≡ gone (s.stand p) → ((n : ℕ) → HasCount n there.place) → there.begun ≤ c.config.per_sender → before_exchange there.place ≤ there.begun → Counts c t
+      t.mem (Object object.Count) ≡ length s.history.sends.answers + 1 → t.history.sends.answers ≡ s.history.sends.answers ++ answer.Send (send.Accepted (length s.history.sends.answers)) ∷ [] →
+      t.history.sends.calls ≡ s.history.sends.calls → gone there ≡ gone (s.stand p) → ((n : ℕ) → HasCount n there.place) → there.begun ≤ c.config.per_sender → before_exchange there.place ≤ there.begun → Counts c t
   counts_more t others stands mem answers calls same counted begun began =
-      let a : Answer = answer.Send (send.Accepted (length s.history.e_answers)) in
-      let long : length t.history.e_answers ≡ length s.history.e_answers + 1 = ap length answers ∙ length_push s.history.e_answers a in
+      let a : Answer = answer.Send (send.Accepted (length s.history.sends.answers)) in
+      let long : length t.history.sends.answers ≡ length s.history.sends.answers + 1 = ap length answers ∙ length_push s.history.sends.answers a in
       record {
         count = mem ∙ sym long;
-        counted = λ q qn. subst (λ (f : ℕ → Stand). HasCount (length t.history.e_answers) (f q).place) (sym stands)
-            (counted_all (length t.history.e_answers) (counted (length t.history.e_answers)) (λ r rn ne. others r rn ne (length t.history.e_answers)) q qn);
-        kth = λ j l. subst (λ (z : List Answer). answer_at z j ≡ answer.Send (send.Accepted j)) (sym answers) (elim (cases_eq j (length s.history.e_answers)) [
-          | inl is ↦ get_or_push s.history.e_answers a no_answer j (sym is) ∙ ap (λ (z : ℕ). answer.Send (send.Accepted z)) (sym is)
-          | inr ne ↦ let less : j < length s.history.e_answers = omega (arith, long) in get_or_append_left s.history.e_answers (a ∷ []) no_answer j less ∙ k.kth j less
+        counted = λ q qn. subst (λ (f : ℕ → Stand). HasCount (length t.history.sends.answers) (f q).place) (sym stands)
+            (counted_all (length t.history.sends.answers) (counted (length t.history.sends.answers)) (λ r rn ne. others r rn ne (length t.history.sends.answers)) q qn);
+        kth = λ j l. subst (λ (z : List Answer). answer_at z j ≡ answer.Send (send.Accepted j)) (sym answers) (elim (cases_eq j (length s.history.sends.answers)) [
+          | inl is ↦ get_or_push s.history.sends.answers a no_answer j (sym is) ∙ ap (λ (z : ℕ). answer.Send (send.Accepted z)) (sym is)
+          | inr ne ↦ let less : j < length s.history.sends.answers = omega (arith, long) in get_or_append_left s.history.sends.answers (a ∷ []) no_answer j less ∙ k.kth j less
         ]);
         begun_in = λ q qn. subst (λ (f : ℕ → Stand). (f q).begun ≤ c.config.per_sender) (sym stands) (begun_after_all begun q qn);
         began = λ q qn. subst (λ (f : ℕ → Stand). before_exchange (f q).place ≤ (f q).begun) (sym stands) (began_all began q qn);
@@ -187,23 +187,23 @@ module _ (c : Setting) (counter : c.served ≡ served.Counter) (s : State) (k : 
   waits_is : (at : Place) → Here at → before_exchange at ≤ begun
   waits_is at e = subst (λ (z : Stand). before_exchange z.place ≤ z.begun) e (k.began p inside)
 
-  quiet : (at there : Place) → Here at → goes c Send own at (found at) ≡ there → before_exchange there ≡ before_exchange at → HasCount (length s.history.e_answers) there → (next at).mem (Object object.Count) ≡ s.mem (Object object.Count) →
+  quiet : (at there : Place) → Here at → goes c Send own at (found at) ≡ there → before_exchange there ≡ before_exchange at → HasCount (length s.history.sends.answers) there → (next at).mem (Object object.Count) ≡ s.mem (Object object.Count) →
       enters at ≡ None → decides c at (found at) ≡ None → Counts c (next at)
   quiet at there e go wait counted mem enter none =
       let old : gone (s.stand p) ≡ begun - before_exchange at = ap gone e in
       let same : before_exchange (goes c Send own at (found at)) ≡ before_exchange at = ap before_exchange go ∙ wait in
-      counts_on c s p inside k (advanced c Send record { begun = begun; node = own; place = at } (found at)) (next at) refl mem (ap (λ (z : Option Answer). appended s.history.e_answers z) none)
-      (omega (arith, old, same, ap (λ (z : Option Entry). length (appended s.history.e_calls z)) enter))
-      (subst (λ (z : Place). HasCount (length s.history.e_answers) z) (sym go) counted) (begun_is at e) (omega (arith, same, waits_is at e))
+      counts_on c s p inside k (advanced c Send record { begun = begun; node = own; place = at } (found at)) (next at) refl mem (ap (λ (z : Option Answer). appended s.history.sends.answers z) none)
+      (omega (arith, old, same, ap (λ (z : Option Entry). length (appended s.history.sends.calls z)) enter))
+      (subst (λ (z : Place). HasCount (length s.history.sends.answers) z) (sym go) counted) (begun_is at e) (omega (arith, same, waits_is at e))
 
   calm : (at there : Place) → Here at → goes c Send own at (found at) ≡ there → before_exchange at ≡ 0 → IsCalm there → (next at).mem (Object object.Count) ≡ s.mem (Object object.Count) → enters at ≡ None → decides c at (found at) ≡ None → Counts c (next at)
-  calm at there e go wait is mem enter none = quiet at there e go (is.waits_not ∙ sym wait) (is.counts_not (length s.history.e_answers)) mem enter none
+  calm at there e go wait is mem enter none = quiet at there e go (is.waits_not ∙ sym wait) (is.counts_not (length s.history.sends.answers)) mem enter none
 
   exchange : (call : Entry) → Here (place.Exchange call) → Counts c (next (place.Exchange call))
   exchange call e =
       let old : gone (s.stand p) ≡ begun - 1 = ap gone e in
       counts_on c s p inside k (advanced c Send record { begun = begun; node = own; place = place.Exchange call } (found (place.Exchange call))) (next (place.Exchange call)) refl refl refl
-      (omega (arith, old, waits_is (place.Exchange call) e, length_push s.history.e_calls call)) tt (begun_is (place.Exchange call) e) (omega arith)
+      (omega (arith, old, waits_is (place.Exchange call) e, length_push s.history.sends.calls call)) tt (begun_is (place.Exchange call) e) (omega arith)
 
   me : (at : Place) → Here at → (post_of Send own at).rank ≡ 5 → w.ghost.server ≡ p + 1
   me at e five = w.inv.server.server_is p member (ap (λ (z : Stand). (post_at Send z).rank) e ∙ five)
@@ -214,13 +214,13 @@ module _ (c : Setting) (counter : c.served ≡ served.Counter) (s : State) (k : 
 
   write_count : (job : Job) (count : ℕ) → Here (place.Counting job (counting.WriteCount count)) → Counts c (next (place.Counting job (counting.WriteCount count)))
   write_count job count e =
-      let is : count ≡ length s.history.e_answers = subst (λ (z : Stand). HasCount (length s.history.e_answers) z.place) e (k.counted p inside) in
+      let is : count ≡ length s.history.sends.answers = subst (λ (z : Stand). HasCount (length s.history.sends.answers) z.place) e (k.counted p inside) in
       counts_more c s p inside k (advanced c Send record { begun = begun; node = own; place = place.Counting job (counting.WriteCount count) } (found (place.Counting job (counting.WriteCount count)))) (next (place.Counting job (counting.WriteCount count)))
-      (others (place.Counting job (counting.WriteCount count)) e refl) refl (ap (λ (z : ℕ). z + 1) is) (ap (λ (z : ℕ). s.history.e_answers ++ answer.Send (send.Accepted z) ∷ []) is) refl (sym (ap gone e)) (λ n. tt)
+      (others (place.Counting job (counting.WriteCount count)) e refl) refl (ap (λ (z : ℕ). z + 1) is) (ap (λ (z : ℕ). s.history.sends.answers ++ answer.Send (send.Accepted z) ∷ []) is) refl (sym (ap gone e)) (λ n. tt)
       (begun_is (place.Counting job (counting.WriteCount count)) e) (omega arith)
 
-  serves_at : (at : Place) → Here at → (post_of Send own at).rank ≡ 5 → HasService c.served Send (call_at s.history.e_calls w.ghost.marked) (answer_at s.history.e_answers w.ghost.marked) at
-  serves_at at e five = subst (λ (z : Stand). HasService c.served Send (call_at s.history.e_calls w.ghost.marked) (answer_at s.history.e_answers w.ghost.marked) z.place) e (w.ties.served p (me at e five))
+  serves_at : (at : Place) → Here at → (post_of Send own at).rank ≡ 5 → HasService c.served Send (call_at s.history.sends.calls w.ghost.marked) (answer_at s.history.sends.answers w.ghost.marked) at
+  serves_at at e five = subst (λ (z : Stand). HasService c.served Send (call_at s.history.sends.calls w.ghost.marked) (answer_at s.history.sends.answers w.ghost.marked) z.place) e (w.ties.served p (me at e five))
 
   counting_step : (job : Job) (service : Counting) → Here (place.Counting job service) → Counts c (next (place.Counting job service))
   counting_step job counting.ReadTag e = quiet (place.Counting job counting.ReadTag) (place.Counting job counting.ReadBody) e refl refl tt refl refl refl

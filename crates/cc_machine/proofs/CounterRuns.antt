@@ -27,7 +27,7 @@ use Rattle.cc_machine.specs.Columns.{event_at}
 use Rattle.cc_machine.specs.Step.{stepped_from, stepped}
 use Rattle.cc_machine.specs.Run.{Move, Begin, Step, Take, May, IsRun, IsOn, IsIdle, IsFinished, reached, moved, passes, begun_after, begins, rests, opening, nowhere}
 use Rattle.cc_machine.specs.Safe.{IsSafe, IsReady, IsOpenAt}
-use Rattle.cc_machine.specs.Lawful.{before_exchange}
+use Rattle.cc_machine.specs.CallsMade.{before_exchange}
 use Rattle.cc_machine.proofs.Ranges.{InRange, in_range}
 use Rattle.cc_machine.proofs.Counted.{Counts, HasCount, gone, total, total_most, total_none, counts_on, counts_step, senders_only, not_both}
 use Rattle.cc_machine.proofs.Chains.View.{post_of}
@@ -99,15 +99,15 @@ counter_holds c counter some [] run = counts_opened c
 counter_holds c counter some (m ∷ earlier) run = move_keeps c counter (reached c earlier) (counter_holds c counter some earlier run.0) (chain_holds c Send tt some earlier run.0) m run.1
 
 module _ (c : Setting) (counter : c.served ≡ served.Counter) (r : InRange c.config) (s : State) (k : Counts c s) (w : Holds c Send s) where
-  few_calls : length s.history.e_calls ≤ 64 * 2 ^ 32
+  few_calls : length s.history.sends.calls ≤ 64 * 2 ^ 32
   few_calls =
       let all : total s.stand (passes c) ≤ passes c * 2 ^ 32 = total_most s.stand (passes c) (λ p less. omega (arith, k.begun_in p less, r.per_sender)) in
       omega (arith, all, k.calls, senders_only c.served c.config counter, r.senders)
 
-  few_answers : length s.history.e_answers ≤ 64 * 2 ^ 32
+  few_answers : length s.history.sends.answers ≤ 64 * 2 ^ 32
   few_answers = omega (arith, few_calls, w.ties.calls_are, w.ties.answers_are, w.inv.calls.in_order2)
 
-  fit : (n : ℕ) → n < length s.history.e_answers → ret_of c.served (answer_at s.history.e_answers n) < 2 ^ 64
+  fit : (n : ℕ) → n < length s.history.sends.answers → ret_of c.served (answer_at s.history.sends.answers n) < 2 ^ 64
   fit n less =
       subst (λ (z : Answer). ret_of c.served z < 2 ^ 64) (sym (k.kth n less))
       (subst (λ (what : Served). ret_of what (answer.Send (send.Accepted n)) < 2 ^ 64) (sym counter) (omega (arith, few_answers)))
@@ -119,8 +119,8 @@ module _ (c : Setting) (counter : c.served ≡ served.Counter) (r : InRange c.co
     inside : p < passes c
     inside = omega (arith, senders_only c.served c.config counter)
 
-    served_as : (at : Place) → Here at → (post_of Send own at).rank ≡ 5 → HasService c.served Send (call_at s.history.e_calls w.ghost.marked) (answer_at s.history.e_answers w.ghost.marked) at
-    served_as at e five = subst (λ (z : Stand). HasService c.served Send (call_at s.history.e_calls w.ghost.marked) (answer_at s.history.e_answers w.ghost.marked) z.place) e (w.ties.served p (safe.me c Send tt r s p own begun member w at e five))
+    served_as : (at : Place) → Here at → (post_of Send own at).rank ≡ 5 → HasService c.served Send (call_at s.history.sends.calls w.ghost.marked) (answer_at s.history.sends.answers w.ghost.marked) at
+    served_as at e five = subst (λ (z : Stand). HasService c.served Send (call_at s.history.sends.calls w.ghost.marked) (answer_at s.history.sends.answers w.ghost.marked) z.place) e (w.ties.served p (safe.me c Send tt r s p own begun member w at e five))
 
     job_in : (job : Job) (service : Counting) → Here (place.Counting job service) → job.round.at ≤ c.config.senders
     job_in job service e = safe.target_in c Send tt r s p own begun member w (place.Counting job service) e refl
@@ -130,7 +130,7 @@ module _ (c : Setting) (counter : c.served ≡ served.Counter) (r : InRange c.co
     count_safe job counting.ReadBody e = record { word = node_exists c Send tt job.round.at node.Body (job_in job counting.ReadBody e); numbers = tt }
     count_safe job counting.ReadCount e = record { word = refl; numbers = tt }
     count_safe job (counting.WriteCount count) e =
-        let is : count ≡ length s.history.e_answers = subst (λ (z : Stand). HasCount (length s.history.e_answers) z.place) e (k.counted p inside) in record { word = refl; numbers = omega (arith, few_answers) }
+        let is : count ≡ length s.history.sends.answers = subst (λ (z : Stand). HasCount (length s.history.sends.answers) z.place) e (k.counted p inside) in record { word = refl; numbers = omega (arith, few_answers) }
 
     service_safe : (at : Place) → Here at → IsService at → IsSafe c s Send own at
     service_safe (place.Counting job service) e is = count_safe job service e

@@ -23,13 +23,14 @@ use Rattle.cc_machine.specs.declared.place.Sending.{Sending}
 use Rattle.cc_machine.specs.declared.place.Sending.TheVariants as sending
 use Rattle.cc_machine.specs.declared.place.Taking.{Taking}
 use Rattle.cc_machine.specs.declared.place.Taking.TheVariants as taking
+use Rattle.cc_machine.specs.Words.{groups}
 use Rattle.cc_machine.specs.Codes.{code_of}
 use Rattle.cc_machine.specs.State.{appended}
 use Rattle.cc_machine.specs.Columns.{after_exchange, after_state, serves, after_next, after_answer, after_done, after_ret, goes, enters}
 use Rattle.cc_machine.specs.CountColumns as count_side
 use Rattle.cc_machine.specs.SendColumns as send_side
 use Rattle.cc_machine.specs.TakeColumns as take_side
-use Rattle.cc_machine.specs.Lawful.{before_exchange}
+use Rattle.cc_machine.specs.CallsMade.{before_exchange}
 
 -- a place of a call that has exchanged, or of none
 abbrev Past : Place → Type 0
@@ -80,7 +81,7 @@ past_total : (c : Config) (job : Job) (request : Request) (count : ℕ) → Past
 past_total c job request count = either (request.tag == 0) _ _ refl (either (count == c.life) _ _ refl refl)
 
 past_passed : (c : Config) (job : Job) (parcel : Parcel) (at reads passed : ℕ) → Past (send_side.after_passed c job parcel at reads passed)
-past_passed c job parcel at reads passed = either (passed == 1) _ _ refl (either (reads == c.capacity + 1) _ _ refl refl)
+past_passed c job parcel at reads passed = either (passed == groups c) _ _ refl (either (reads == c.capacity + 1) _ _ refl refl)
 
 past_send : (c : Config) (job : Job) (service : Sending) (found : ℕ) → Past (send_side.goes c job service found)
 past_send c job (sending.ReadShut request) found = past_shut job request found

@@ -11,6 +11,7 @@ use Rattle.cc_machine.specs.declared.place.Stand.{Stand}
 use Rattle.cc_machine.specs.declared.word.Chain.{Chain}
 use Rattle.cc_machine.specs.declared.word.Chain.TheVariants.{Send, Take}
 use Rattle.cc_model.specs.Record.{Record}
+use Rattle.cc_machine.proofs.Chains.Facts.{noted_none}
 use Rattle.cc_machine.specs.State.{State, chain_of, hold, noted}
 use Rattle.cc_machine.specs.Columns.{after_state}
 use Rattle.cc_machine.specs.Step.{stepped, stepped_from}
@@ -37,15 +38,11 @@ held stands p there is = λ i q. at q i
       | inr ne ↦ hold_apart stands p q there ne
     ]
 
-nothing_noted : (x : Chain) (h : Record) → noted x h None None ≡ h
-nothing_noted Send h = refl
-nothing_noted (Take g) h = refl
-
 abbrev stand_with : Stand → Place → Stand
 stand_with z at = record { begun = z.begun; node = z.node; place = at }
 
 pub still : (c : Setting) (s : State) (p : ℕ) → waits_at c s p (s.stand p).place ≡ true → IsStill c s p
-still c s p e = record { reads = facts.0; same = ap (λ (at : Stand). stepped_from c s x p at) here ∙ (λ i. record { mem = s.mem; stand = kept i; history = nothing_noted x s.history i }) }
+still c s p e = record { reads = facts.0; same = ap (λ (at : Stand). stepped_from c s x p at) here ∙ (λ i. record { mem = s.mem; stand = kept i; history = noted_none x s.history i }) }
   where
     x : Chain
     x = chain_of c.config p

@@ -1,7 +1,8 @@
 -- Small facts of places, calls and answers.
-use Rattle.std.proofs.Common.{◌≡◌, ◌⊎◌, ℕ, ◌+◌, ◌≤◌, Bool, true, false, ◌==◌, cond, refl, ap, sym, arith, inl, inr, None}
+use Rattle.std.proofs.Common.{◌≡◌, ◌⊎◌, ℕ, ◌+◌, ◌≤◌, Bool, true, false, ◌==◌, cond, refl, ap, sym, arith, inl, inr, None, List}
 use Rattle.std.proofs.lemmas.Bool.{eqb-true, eq-eqb}
-use Rattle.cc_model.specs.Record.{Record}
+use Rattle.std.proofs.lemmas.List.{set-get_or, get_or-set_same, length-set}
+use Rattle.cc_model.specs.Record.{Side, Record, silent}
 use Rattle.cc_model.specs.declared.call.Entry.{Entry}
 use Rattle.cc_model.specs.declared.call.Item.{Item}
 use Rattle.cc_model.specs.declared.call.Answer.{Answer}
@@ -16,15 +17,24 @@ use Rattle.cc_machine.specs.declared.place.Job.{Job}
 use Rattle.cc_machine.specs.declared.place.Place.{Place}
 use Rattle.cc_machine.specs.declared.place.Place.TheVariants as place
 use Rattle.cc_machine.specs.Codes.{item_of, ret_of, code_of, value_of}
-use Rattle.cc_machine.specs.State.{noted}
+use Rattle.cc_machine.specs.State.{side, with_side, noted}
 use Rattle.cc_machine.specs.Columns.{serves, after_exchange, after_answer, after_ret}
 use Rattle.cc_machine.specs.Run.{IsFinished}
 use Rattle.cc_machine.proofs.Chains.View.{post_of, out, answer_long}
-use Rattle.cc_machine.proofs.Chains.Registers.{IsChain, HasCall, IsAnswer, HasService, coded_words, HasRead, reads, tag_word, body_word}
+use Rattle.cc_machine.proofs.Chains.Registers.{IsChainOf, HasSide, HasCall, IsAnswer, HasService, coded_words, HasRead, reads, tag_word, body_word}
 
 pub noted_none : (x : Chain) (h : Record) → noted x h None None ≡ h
 noted_none Send h = refl
-noted_none (Take g) h = refl
+noted_none (Take g) h = ap (λ (l : List Side). record h { takes = l }) (set-get_or h.takes g silent)
+
+pub side_same : (x : Chain) (h : Record) (now : Side) → HasSide x h → side x (with_side x h now) ≡ now
+side_same Send h now i = refl
+side_same (Take g) h now i = get_or-set_same h.takes g now silent i
+
+pub keeps_side : (x y : Chain) (h : Record) (now : Side) → HasSide x h → HasSide x (with_side y h now)
+keeps_side Send y h now i = tt
+keeps_side (Take g) Send h now i = i
+keeps_side (Take g) (Take k) h now i = omega (arith, i, length-set h.takes k now)
 
 -- a place with no register but a combiner's
 pub record IsFree (c : Setting) (x : Chain) (p : ℕ) (at : Place) : Type 0 where
@@ -50,11 +60,11 @@ exchanged_free c Send p own call = record { call = tt; read = λ a. tt; unfinish
 exchanged_free c (Take g) p own call = record { call = tt; read = λ a. tt; unfinished = λ f. f }
 
 -- a service begins
-pub serves_it : (s : Served) (x : Chain) (e : Entry) (a : Answer) (job : Job) → IsChain s x → HasService s x e a (serves s x job)
-serves_it served.Counter Send e a job ok = tt
-serves_it served.Counter (Take g) e a job ok = absurd ok
-serves_it served.List Send e a job ok = tt
-serves_it served.List (Take g) e a job ok = tt
+pub serves_it : (s : Served) (n : ℕ) (x : Chain) (e : Entry) (a : Answer) (job : Job) → IsChainOf s n x → HasService s x e a (serves s x job)
+serves_it served.Counter n Send e a job ok = tt
+serves_it served.Counter n (Take g) e a job ok = absurd ok
+serves_it served.List n Send e a job ok = tt
+serves_it served.List n (Take g) e a job ok = tt
 
 -- the first word of an answer is written
 pub answers_it : (s : Served) (x : Chain) (e : Entry) (a told : Answer) (job : Job) → a ≡ told → IsAnswer s x told → HasService s x e a (after_answer job told)

@@ -1,7 +1,10 @@
 -- A chain at the opening.
-use Rattle.std.proofs.Common.{◌≡◌, ℕ, ◌+◌, ◌-◌, ◌<◌, Bool, cond, refl, ap, sym, ◌∙◌, subst, arith, List, []}
+use Rattle.std.proofs.Common.{◌≡◌, ℕ, zero, suc, ◌+◌, ◌*◌, ◌%◌, ◌-◌, ◌<◌, replicate, get_or, Bool, cond, refl, ap, sym, ◌∙◌, subst, arith, List, []}
 use Rattle.std.proofs.lemmas.Bool.{lt-ltb, le-ltb}
-use Rattle.cc_model.specs.Record.{empty}
+use Rattle.std.proofs.lemmas.Nat.{mod-mul-add, mul-add-lt}
+use Rattle.std.proofs.Math.Nat.{mul_comm}
+use Rattle.std.proofs.lemmas.List.{length-replicate}
+use Rattle.cc_model.specs.Record.{Side, silent, empty}
 use Rattle.cc_model.specs.declared.config.Config.{Config}
 use Rattle.cc_model.specs.declared.call.Entry.{Entry}
 use Rattle.cc_model.specs.declared.call.Answer.{Answer}
@@ -13,14 +16,15 @@ use Rattle.cc_machine.specs.declared.word.Chain.TheVariants.{Send, Take}
 use Rattle.cc_machine.specs.declared.word.Word.TheVariants.{Tail}
 use Rattle.cc_machine.specs.declared.place.Stand.{Stand}
 use Rattle.cc_machine.specs.declared.place.Place.TheVariants as place
-use Rattle.cc_machine.specs.State.{first_node}
+use Rattle.cc_machine.specs.Words.{groups}
+use Rattle.cc_machine.specs.State.{side, first_node}
 use Rattle.cc_machine.specs.Run.{first_word, opening, passes, passes_of, nowhere, IsFinished}
 use Rattle.cc_machine.proofs.Combining.Chain.{Ghost}
 use Rattle.cc_machine.proofs.Combining.Invariant.{Inv}
 use Rattle.cc_machine.proofs.Chains.View.{view, members, pass_on, post_at, out, request_long}
-use Rattle.cc_machine.proofs.Chains.Registers.{IsChain, calls_on, answers_on, answer_at, HasCall, HasRead}
+use Rattle.cc_machine.proofs.Chains.Registers.{IsChainOf, IsChain, HasSide, calls_on, answers_on, answer_at, HasCall, HasRead}
 use Rattle.cc_machine.proofs.Chains.Ties.{Ties, Holds, stands_on}
-use Rattle.cc_machine.proofs.Chains.Others.{chain_zero}
+use Rattle.cc_machine.proofs.Chains.Others.{group_in}
 
 -- where a pass of the chain stands
 abbrev placed : Setting → ℕ → ℕ → Stand
@@ -29,38 +33,40 @@ placed c p node = record { begun = 0; node = node; place = place.Idle }
 stood : (c : Setting) (p : ℕ) → p < passes c → (opening c).stand p ≡ placed c p (first_node c.config p)
 stood c p less = ap (λ (b : Bool). cond b (placed c p (first_node c.config p)) nowhere) (lt-ltb p (passes c) less)
 
-sender_node : (config : Config) (p : ℕ) → p < config.senders → first_node config p ≡ p + 1
-sender_node config p less = ap (λ (b : Bool). cond b (p + 1) (p - config.senders + 1)) (lt-ltb p config.senders less)
+pub sender_node : (config : Config) (p : ℕ) → p < config.senders → first_node config p ≡ p + 1
+sender_node config p less = ap (λ (b : Bool). cond b (p + 1) ((p - config.senders) % config.receivers + 1)) (lt-ltb p config.senders less)
 
-receiver_node : (config : Config) (p : ℕ) → first_node config (config.senders + p) ≡ p + 1
-receiver_node config p =
-    let back : config.senders + p - config.senders ≡ p = omega arith in
-    ap (λ (b : Bool). cond b (config.senders + p + 1) (config.senders + p - config.senders + 1)) (le-ltb (config.senders + p) config.senders (omega arith)) ∙ ap (λ (z : ℕ). z + 1) back
+pub receiver_node : (config : Config) (g p : ℕ) → p < config.receivers → first_node config (config.senders + (g * config.receivers + p)) ≡ p + 1
+receiver_node config g p less =
+    let q : ℕ = config.senders + (g * config.receivers + p) in
+    let back : config.senders + (g * config.receivers + p) - config.senders ≡ g * config.receivers + p = omega arith in
+    ap (λ (b : Bool). cond b (config.senders + (g * config.receivers + p) + 1) ((config.senders + (g * config.receivers + p) - config.senders) % config.receivers + 1)) (le-ltb (config.senders + (g * config.receivers + p)) config.senders (omega arith))
+    ∙ ap (λ (z : ℕ). z % config.receivers + 1) back ∙ ap (λ (z : ℕ). z + 1) (mod-mul-add g config.receivers p less)
 
 all_senders : (s : Served) (config : Config) (p : ℕ) → p < config.senders → p < passes_of s config
 all_senders served.Counter config p less = less
 all_senders served.List config p less = omega arith
 
-all_receivers : (s : Served) (config : Config) (g p : ℕ) → IsChain s (Take g) → p < config.receivers → config.senders + p < passes_of s config
-all_receivers served.List config g p ok less = omega arith
+all_receivers : (s : Served) (config : Config) (g p : ℕ) → IsChainOf s (groups config) (Take g) → p < config.receivers → config.senders + (g * config.receivers + p) < passes_of s config
+all_receivers served.List config g p ok less = omega (arith, mul-add-lt g config.receivers p (groups config) ok less, mul_comm config.receivers (groups config))
 all_receivers served.Counter config g p ok less = absurd ok
 
-pub member_in : (c : Setting) (x : Chain) → IsChain c.served x → (p : ℕ) → p < members c x → pass_on c x p < passes c
+pub member_in : (c : Setting) (x : Chain) → IsChain c x → (p : ℕ) → p < members c x → pass_on c x p < passes c
 member_in c Send ok p less = all_senders c.served c.config p less
 member_in c (Take g) ok p less = all_receivers c.served c.config g p ok less
 
 first_at : (c : Setting) (x : Chain) (p : ℕ) → p < members c x → first_node c.config (pass_on c x p) ≡ p + 1
 first_at c Send p less = sender_node c.config p less
-first_at c (Take g) p less = receiver_node c.config p
+first_at c (Take g) p less = receiver_node c.config g p less
 
-first_tail : (c : Setting) (x : Chain) → IsChain c.served x → first_word c.config (Tail x) ≡ 1
+first_tail : (c : Setting) (x : Chain) → IsChain c x → first_word c.config (Tail x) ≡ 1
 first_tail c Send ok = refl
-first_tail c (Take g) ok = ap (λ (z : ℕ). first_word c.config (Tail (Take z))) (chain_zero c.served g ok)
+first_tail c (Take g) ok = ap (λ (b : Bool). cond b 1 0) (lt-ltb g (groups c.config) (group_in c.served (groups c.config) g ok))
 
 abbrev first : Chain → Ghost
 first x = record { calls = 0; answers = 0; marked = 0; server = 0; pass_of = λ k. 0; asked = λ k j. 0; told = λ k j. 0; asks_long = λ k. request_long x; told_long = λ k. 1; chain = λ k. 0; at = λ p. 0 }
 
-module _ (c : Setting) (x : Chain) (ok : IsChain c.served x) where
+module _ (c : Setting) (x : Chain) (ok : IsChain c x) where
   stands : (p : ℕ) → p < members c x → (opening c).stand (pass_on c x p) ≡ placed c p (p + 1)
   stands p pn = stood c (pass_on c x p) (member_in c x ok p pn) ∙ ap (λ (z : ℕ). placed c p z) (first_at c x p pn)
 
@@ -116,18 +122,23 @@ module _ (c : Setting) (x : Chain) (ok : IsChain c.served x) where
   }
 
 -- nothing is called at the opening
-pub no_calls : (x : Chain) → calls_on x empty ≡ []
-no_calls Send = refl
-no_calls (Take g) = refl
+pub no_calls : (groups : ℕ) (x : Chain) → side x (empty groups) ≡ silent
+no_calls n Send = refl
+no_calls n (Take g) = all_silent n g
+  where
+    all_silent : (n g : ℕ) → get_or (replicate n silent) g silent ≡ silent
+    all_silent zero g = refl
+    all_silent (suc n) zero = refl
+    all_silent (suc n) (suc g) = all_silent n g
 
-no_answers : (x : Chain) → answers_on x empty ≡ []
-no_answers Send = refl
-no_answers (Take g) = refl
+has_side : (c : Setting) (x : Chain) → IsChain c x → HasSide x (empty (groups c.config))
+has_side c Send ok = tt
+has_side c (Take g) ok = omega (arith, group_in c.served (groups c.config) g ok, length-replicate (groups c.config) silent)
 
-pub opened : (c : Setting) (x : Chain) → IsChain c.served x → Holds c x (opening c)
+pub opened : (c : Setting) (x : Chain) → IsChain c x → Holds c x (opening c)
 opened c x ok = record {
   ghost = first x;
   inv = inv c x ok;
-  ties = subst (λ (l : List Entry). Ties c x l (answers_on x empty) (stands_on c x (opening c)) (first x)) (sym (no_calls x))
-      (subst (λ (l : List Answer). Ties c x [] l (stands_on c x (opening c)) (first x)) (sym (no_answers x)) (ties c x ok));
+  ties = subst (λ (z : Side). Ties c x z.calls z.answers (stands_on c x (opening c)) (first x)) (sym (no_calls (groups c.config) x)) (ties c x ok);
+  side_in = has_side c x ok;
 }

@@ -48,7 +48,7 @@ takes_where served.Counter Send a = absurd a
 takes_where served.Counter (Take g) a = absurd a
 
 module _ (c : Setting) (some : 0 < c.config.bound) (s : State) (p begun own : ℕ) where
-  count_step : (x : Chain) (ok : IsChain c.served x) (inside : p < members c x) (w : Holds c x s) (job : Job) (at : Counting) → At c x ok some s p begun own inside w (place.Counting job at) →
+  count_step : (x : Chain) (ok : IsChain c x) (inside : p < members c x) (w : Holds c x s) (job : Job) (at : Counting) → At c x ok some s p begun own inside w (place.Counting job at) →
       Holds c x (then c x ok some s p begun own inside w (place.Counting job at))
   count_step x ok inside w job at e =
       let here = counts_where c.served x (serves_at c x ok some s p begun own inside w (place.Counting job at) e refl) in
@@ -59,13 +59,13 @@ module _ (c : Setting) (some : 0 < c.config.bound) (s : State) (p begun own : �
       (subst (λ (y : Chain). Outcome served.Counter y job call (place.Counting job at) (count_side.goes job at found) (count_side.decides at found)) (sym here.1) (counts c job call at found)) in
       service c x ok some s p begun own inside w (place.Counting job at) job e refl refl refl out (count_tail c s.mem x job.round.at at) (λ i f. count_words c s.mem x job.round.at i f at)
 
-  finds_request : (ok : IsChain c.served Send) (inside : p < members c Send) (w : Holds c Send s) (job : Job) (at : Sending) → At c Send ok some s p begun own inside w (place.Sending job at) →
+  finds_request : (ok : IsChain c Send) (inside : p < members c Send) (w : Holds c Send s) (job : Job) (at : Sending) → At c Send ok some s p begun own inside w (place.Sending job at) →
       FindsRequest (the_call c Send ok some s p begun own inside w) at (s.mem (word_of (send_side.operation c.config job.round.at at)))
   finds_request ok inside w job sending.ReadTag e = request_at c Send ok some s p begun own inside w (place.Sending job sending.ReadTag) job 0 e refl (omega arith)
   finds_request ok inside w job (sending.ReadBody tag) e = request_at c Send ok some s p begun own inside w (place.Sending job (sending.ReadBody tag)) job 1 e refl (omega arith)
   finds_request ok inside w job at e = tt
 
-  send_step : (x : Chain) (ok : IsChain c.served x) (inside : p < members c x) (w : Holds c x s) (job : Job) (at : Sending) → At c x ok some s p begun own inside w (place.Sending job at) →
+  send_step : (x : Chain) (ok : IsChain c x) (inside : p < members c x) (w : Holds c x s) (job : Job) (at : Sending) → At c x ok some s p begun own inside w (place.Sending job at) →
       Holds c x (then c x ok some s p begun own inside w (place.Sending job at))
   send_step Send ok inside w job at e =
       let call : Entry = the_call c Send ok some s p begun own inside w in
@@ -78,7 +78,7 @@ module _ (c : Setting) (some : 0 < c.config.bound) (s : State) (p begun own : �
   send_step (Take g) ok inside w job at e =
       let here = sends_where c.served (Take g) _ (serves_at c (Take g) ok some s p begun own inside w (place.Sending job at) e refl) in absurd (let no : Take g ≡ Send = here.1 in cc)
 
-  take_step : (x : Chain) (ok : IsChain c.served x) (inside : p < members c x) (w : Holds c x s) (job : Job) (at : Taking) → At c x ok some s p begun own inside w (place.Taking job at) →
+  take_step : (x : Chain) (ok : IsChain c x) (inside : p < members c x) (w : Holds c x s) (job : Job) (at : Taking) → At c x ok some s p begun own inside w (place.Taking job at) →
       Holds c x (then c x ok some s p begun own inside w (place.Taking job at))
   take_step x ok inside w job at e =
       let here = takes_where c.served x (serves_at c x ok some s p begun own inside w (place.Taking job at) e refl) in
@@ -89,7 +89,7 @@ module _ (c : Setting) (some : 0 < c.config.bound) (s : State) (p begun own : �
       (subst (λ (y : Chain). Outcome served.List y job call (place.Taking job at) (take_side.goes job at found) (take_side.decides at found)) (sym here.1) (takes c job call (group_of x) at found)) in
       service c x ok some s p begun own inside w (place.Taking job at) job e refl refl refl out (take_tail c s.mem x (group_of x) at) (λ i f. take_words c s.mem x (group_of x) i f at)
 
-  pub step : (x : Chain) (ok : IsChain c.served x) (inside : p < members c x) (w : Holds c x s) (at : Place) → At c x ok some s p begun own inside w at → event_at at ≢ Idle → Holds c x (then c x ok some s p begun own inside w at)
+  pub step : (x : Chain) (ok : IsChain c x) (inside : p < members c x) (w : Holds c x s) (at : Place) → At c x ok some s p begun own inside w at → event_at at ≢ Idle → Holds c x (then c x ok some s p begun own inside w at)
   step x ok inside w place.Idle e busy = absurd (busy refl)
   step x ok inside w (place.ResetNext call) e busy = steps.reset_next c x ok some s p begun own inside w call e
   step x ok inside w (place.ResetState call) e busy = steps.reset_state c x ok some s p begun own inside w call e

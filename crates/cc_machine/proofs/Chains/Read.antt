@@ -46,7 +46,7 @@ module _ (c : Setting) (some : 0 < c.config.bound) (s : State) (p begun own : �
       record { onward = omega arith; call = tt; read = tt; ended = λ f. absurd f; serves = λ a. tt; keep = λ q ne a. (a, refl) }
 
 -- what a call reads of its answer
-module _ (c : Setting) (x : Chain) (ok : IsChain c.served x) (some : 0 < c.config.bound) (s : State) (p begun own : ℕ) (inside : p < members c x) (w : Holds c x s) where
+module _ (c : Setting) (x : Chain) (ok : IsChain c x) (some : 0 < c.config.bound) (s : State) (p begun own : ℕ) (inside : p < members c x) (w : Holds c x s) where
   abbrev its_answer : Answer
   its_answer = answer_at (answers_on x s.history) (w.ghost.at p)
 
@@ -102,7 +102,7 @@ module _ (c : Setting) (x : Chain) (ok : IsChain c.served x) (some : 0 < c.confi
       }
 
 -- a receiver is told an item, and reads it
-module _ (c : Setting) (g : ℕ) (ok : IsChain c.served (Take g)) (some : 0 < c.config.bound) (s : State) (p begun own : ℕ) (inside : p < members c (Take g)) (w : Holds c (Take g) s) where
+module _ (c : Setting) (g : ℕ) (ok : IsChain c (Take g)) (some : 0 < c.config.bound) (s : State) (p begun own : ℕ) (inside : p < members c (Take g)) (w : Holds c (Take g) s) where
   write_answer_tag_take : (job : Job) (item : Item) → At c (Take g) ok some s p begun own inside w (place.WriteAnswerTag job item) → Holds c (Take g) (then c (Take g) ok some s p begun own inside w (place.WriteAnswerTag job item))
   write_answer_tag_take job item e =
       let is : the_answer c (Take g) ok some s p begun own inside w ≡ answer.Take (take.Got item) = serves_at c (Take g) ok some s p begun own inside w (place.WriteAnswerTag job item) e refl in
@@ -152,27 +152,27 @@ module _ (c : Setting) (g : ℕ) (ok : IsChain c.served (Take g)) (some : 0 < c.
 
 -- each of these on any chain
 module _ (c : Setting) (some : 0 < c.config.bound) (s : State) (p begun own : ℕ) where
-  pub write_tag : (x : Chain) (ok : IsChain c.served x) (inside : p < members c x) (w : Holds c x s) (put : ℕ) (request : Request) → At c x ok some s p begun own inside w (place.WriteTag put request) →
+  pub write_tag : (x : Chain) (ok : IsChain c x) (inside : p < members c x) (w : Holds c x s) (put : ℕ) (request : Request) → At c x ok some s p begun own inside w (place.WriteTag put request) →
       Holds c x (then c x ok some s p begun own inside w (place.WriteTag put request))
   write_tag Send ok inside w put request e = write_tag_send c some s p begun own inside w put request e
   write_tag (Take g) ok inside w put request e = absurd (subst (λ (z : Stand). HasCall c (Take g) p z.place) e (w.ties.begun p inside))
 
-  pub write_body : (x : Chain) (ok : IsChain c.served x) (inside : p < members c x) (w : Holds c x s) (put body : ℕ) → At c x ok some s p begun own inside w (place.WriteBody put body) →
+  pub write_body : (x : Chain) (ok : IsChain c x) (inside : p < members c x) (w : Holds c x s) (put body : ℕ) → At c x ok some s p begun own inside w (place.WriteBody put body) →
       Holds c x (then c x ok some s p begun own inside w (place.WriteBody put body))
   write_body Send ok inside w put body e = write_body_send c some s p begun own inside w put body e
   write_body (Take g) ok inside w put body e = absurd (subst (λ (z : Stand). HasCall c (Take g) p z.place) e (w.ties.begun p inside))
 
-  pub write_answer_tag : (x : Chain) (ok : IsChain c.served x) (inside : p < members c x) (w : Holds c x s) (job : Job) (item : Item) → At c x ok some s p begun own inside w (place.WriteAnswerTag job item) →
+  pub write_answer_tag : (x : Chain) (ok : IsChain c x) (inside : p < members c x) (w : Holds c x s) (job : Job) (item : Item) → At c x ok some s p begun own inside w (place.WriteAnswerTag job item) →
       Holds c x (then c x ok some s p begun own inside w (place.WriteAnswerTag job item))
   write_answer_tag Send ok inside w job item e = absurd (serves_at c Send ok some s p begun own inside w (place.WriteAnswerTag job item) e refl)
   write_answer_tag (Take g) ok inside w job item e = write_answer_tag_take c g ok some s p begun own inside w job item e
 
-  pub write_answer_body : (x : Chain) (ok : IsChain c.served x) (inside : p < members c x) (w : Holds c x s) (job : Job) (body : ℕ) → At c x ok some s p begun own inside w (place.WriteAnswerBody job body) →
+  pub write_answer_body : (x : Chain) (ok : IsChain c x) (inside : p < members c x) (w : Holds c x s) (job : Job) (body : ℕ) → At c x ok some s p begun own inside w (place.WriteAnswerBody job body) →
       Holds c x (then c x ok some s p begun own inside w (place.WriteAnswerBody job body))
   write_answer_body Send ok inside w job body e = absurd (serves_at c Send ok some s p begun own inside w (place.WriteAnswerBody job body) e refl)
   write_answer_body (Take g) ok inside w job body e = write_answer_body_take c g ok some s p begun own inside w job body e
 
-  pub read_answer : (x : Chain) (ok : IsChain c.served x) (inside : p < members c x) (w : Holds c x s) → At c x ok some s p begun own inside w place.ReadAnswer → Holds c x (then c x ok some s p begun own inside w place.ReadAnswer)
+  pub read_answer : (x : Chain) (ok : IsChain c x) (inside : p < members c x) (w : Holds c x s) → At c x ok some s p begun own inside w place.ReadAnswer → Holds c x (then c x ok some s p begun own inside w place.ReadAnswer)
   read_answer Send ok inside w e =
       let first : s.mem (Node Send own node.Ret) ≡ ret_of c.served (its_answer c Send ok some s p begun own inside w) =
       word_at c Send ok some s p begun own inside w place.ReadAnswer 0 e refl (omega (arith, some_words (its_answer c Send ok some s p begun own inside w))) in
@@ -180,11 +180,11 @@ module _ (c : Setting) (some : 0 < c.config.bound) (s : State) (p begun own : �
       (ap (λ (z : ℕ). sender_reads c.served z) first)
   read_answer (Take g) ok inside w e = read_answer_take c g ok some s p begun own inside w e
 
-  pub read_tag : (x : Chain) (ok : IsChain c.served x) (inside : p < members c x) (w : Holds c x s) (at : ℕ) → At c x ok some s p begun own inside w (place.ReadAnswerTag at) → Holds c x (then c x ok some s p begun own inside w (place.ReadAnswerTag at))
+  pub read_tag : (x : Chain) (ok : IsChain c x) (inside : p < members c x) (w : Holds c x s) (at : ℕ) → At c x ok some s p begun own inside w (place.ReadAnswerTag at) → Holds c x (then c x ok some s p begun own inside w (place.ReadAnswerTag at))
   read_tag Send ok inside w at e = absurd (subst (λ (z : Stand). HasRead c.served Send (its_answer c Send ok some s p begun own inside w) z.place) e (w.ties.read p inside))
   read_tag (Take g) ok inside w at e = read_tag_take c g ok some s p begun own inside w at e
 
-  pub read_body : (x : Chain) (ok : IsChain c.served x) (inside : p < members c x) (w : Holds c x s) (at tag : ℕ) → At c x ok some s p begun own inside w (place.ReadAnswerBody at tag) →
+  pub read_body : (x : Chain) (ok : IsChain c x) (inside : p < members c x) (w : Holds c x s) (at tag : ℕ) → At c x ok some s p begun own inside w (place.ReadAnswerBody at tag) →
       Holds c x (then c x ok some s p begun own inside w (place.ReadAnswerBody at tag))
   read_body Send ok inside w at tag e = absurd (subst (λ (z : Stand). HasRead c.served Send (its_answer c Send ok some s p begun own inside w) z.place) e (w.ties.read p inside))
   read_body (Take g) ok inside w at tag e = read_body_take c g ok some s p begun own inside w at tag e

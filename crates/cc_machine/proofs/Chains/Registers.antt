@@ -1,5 +1,5 @@
 -- What the places of a chain's passes keep, and what it has to do with the history.
-use Rattle.std.proofs.Common.{◌≡◌, ◌≤◌, ℕ, ◌==◌, if◌then◌else◌, List, get_or}
+use Rattle.std.proofs.Common.{◌≡◌, ◌≤◌, ◌<◌, ℕ, length, ◌==◌, if◌then◌else◌, List, get_or}
 use Rattle.cc_model.specs.declared.call.Entry.{Entry}
 use Rattle.cc_model.specs.declared.call.Item.{Item}
 use Rattle.cc_model.specs.declared.call.Pass.TheVariants as pass
@@ -19,16 +19,26 @@ use Rattle.cc_machine.specs.declared.place.Sending.TheVariants as sending
 use Rattle.cc_machine.specs.declared.place.Place.{Place}
 use Rattle.cc_machine.specs.declared.place.Place.TheVariants as place
 use Rattle.cc_machine.specs.Codes.{pack, item_of, request_in, ret_of, code_of, value_of, sender_reads}
+use Rattle.cc_model.specs.Record.{Record}
+use Rattle.cc_machine.specs.Words.{groups}
 use Rattle.cc_machine.specs.State.{pass_at}
 use Rattle.cc_machine.specs.Run.{IsOn}
 pub use Rattle.cc_machine.specs.Sides.{calls_on, answers_on}
 use Rattle.cc_machine.proofs.Chains.View.{pass_on, told_words}
 
--- the chains that there are: the counter has the senders' alone, and the list has one group of receivers
-abbrev pub IsChain : Served → Chain → Type 0
-IsChain _ Send = Unit {0}
-IsChain served.List (Take g) = g ≡ 0
-IsChain served.Counter (Take g) = ⊥
+-- the chains that there are: the counter has the senders' alone
+abbrev pub IsChainOf : Served → (groups : ℕ) → Chain → Type 0
+IsChainOf _ n Send = Unit {0}
+IsChainOf served.List n (Take g) = g < n
+IsChainOf served.Counter n (Take g) = ⊥
+
+abbrev pub IsChain : Setting → Chain → Type 0
+IsChain c x = IsChainOf c.served (groups c.config) x
+
+-- the history has a side for it
+abbrev pub HasSide : Chain → Record → Type 0
+HasSide Send h = Unit {0}
+HasSide (Take g) h = g < length h.takes
 
 abbrev pub no_call : Entry
 no_call = record { pass = pass.Sender 0; call = call.Close; number = 0; known = 0 }

@@ -32,7 +32,7 @@ number_in (call.Send body) begun limit less = less
 number_in call.Close begun limit less = omega arith
 number_in call.Take begun limit less = omega arith
 
-module _ (c : Setting) (x : Chain) (ok : IsChain c.served x) (some : 0 < c.config.bound) (s : State) (w : Holds c x s) where
+module _ (c : Setting) (x : Chain) (ok : IsChain c x) (some : 0 < c.config.bound) (s : State) (w : Holds c x s) where
   step_own : (p : ℕ) → IsOn c x p → event_at (s.stand p).place ≢ Idle → Holds c x (stepped c s p)
   step_own p on busy =
       let there : event_at (s.stand (pass_on c x on.number)).place ≢ Idle = subst (λ (z : ℕ). event_at (s.stand z).place ≢ Idle) on.pass_is busy in
@@ -80,6 +80,6 @@ module _ (c : Setting) (x : Chain) (ok : IsChain c.served x) (some : 0 < c.confi
   move_keeps (Take p) may = take_keeps p (which c x ok p may.0) may.1
 
 -- the chain after every run
-pub chain_holds : (c : Setting) (x : Chain) → IsChain c.served x → 0 < c.config.bound → (moves : List Move) → IsRun c moves → Holds c x (reached c moves)
+pub chain_holds : (c : Setting) (x : Chain) → IsChain c x → 0 < c.config.bound → (moves : List Move) → IsRun c moves → Holds c x (reached c moves)
 chain_holds c x ok some [] run = opened c x ok
 chain_holds c x ok some (m ∷ earlier) run = move_keeps c x ok some (reached c earlier) (chain_holds c x ok some earlier run.0) m run.1

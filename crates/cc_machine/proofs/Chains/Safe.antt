@@ -1,5 +1,5 @@
 -- A step of a call on its chain finds its words, and no number of the chain leaves its range.
-use Rattle.std.proofs.Common.{◌≡◌, ℕ, ◌+◌, ◌^◌, ◌<◌, ◌≤◌, ◌&&◌, nat_lt, refl, ap, sym, ◌∙◌, subst, arith, length, IsTrue}
+use Rattle.std.proofs.Common.{◌≡◌, ℕ, ◌+◌, ◌^◌, ◌<◌, ◌≤◌, ◌&&◌, nat_lt, refl, ap, sym, ◌∙◌, subst, arith, length, IsTrue, true, Bool}
 use Rattle.std.proofs.lemmas.Bool.{cases_eq, lt-ltb}
 use Rattle.cc_model.specs.Record.{Record}
 use Rattle.cc_model.specs.declared.call.Answer.{Answer}
@@ -17,7 +17,7 @@ use Rattle.cc_machine.specs.declared.place.Sending.TheVariants as sending
 use Rattle.cc_machine.specs.declared.place.Place.{Place}
 use Rattle.cc_machine.specs.declared.place.Place.TheVariants as place
 use Rattle.cc_machine.specs.Codes.{ret_of}
-use Rattle.cc_machine.specs.Words.{layout_of, exists}
+use Rattle.cc_machine.specs.Words.{groups, layout_of, exists}
 use Rattle.cc_machine.specs.State.{State}
 use Rattle.cc_machine.specs.Safe.{IsSafe, HasOpenCall, WhileUndecided, IsOpenAt}
 use Rattle.cc_machine.proofs.Ranges.{InRange}
@@ -25,17 +25,18 @@ use Rattle.cc_machine.proofs.Chains.View.{members, pass_on, post_of, post_at, se
 use Rattle.cc_machine.proofs.Chains.Registers.{IsChain, calls_on, answers_on, call_at, answer_at, HasService}
 use Rattle.cc_machine.proofs.Chains.Ties.{Holds, send_in}
 use Rattle.cc_machine.proofs.Chains.Facts.{own_node}
-use Rattle.cc_machine.proofs.Chains.Others.{chain_zero}
+use Rattle.cc_machine.proofs.Chains.Others.{group_in}
 
 -- the words of a chain that there are
-pub node_exists : (c : Setting) (x : Chain) → IsChain c.served x → (i : ℕ) (f : NodeField) → i ≤ members c x → IsTrue (exists (layout_of c.config) (Node x i f))
+pub node_exists : (c : Setting) (x : Chain) → IsChain c x → (i : ℕ) (f : NodeField) → i ≤ members c x → IsTrue (exists (layout_of c.config) (Node x i f))
 node_exists c Send ok i f low = lt-ltb i (c.config.senders + 1) (omega arith)
 node_exists c (Take g) ok i f low =
-    (λ j. nat_lt (chain_zero c.served g ok j) 1 && nat_lt i (c.config.receivers + 1)) ∙ lt-ltb i (c.config.receivers + 1) (omega arith)
+    let group : nat_lt g (groups c.config) ≡ true = lt-ltb g (groups c.config) (group_in c.served (groups c.config) g ok) in
+    ap (λ (b : Bool). b && nat_lt i (c.config.receivers + 1)) group ∙ lt-ltb i (c.config.receivers + 1) (omega arith)
 
-pub tail_exists : (c : Setting) (x : Chain) → IsChain c.served x → IsTrue (exists (layout_of c.config) (Tail x))
+pub tail_exists : (c : Setting) (x : Chain) → IsChain c x → IsTrue (exists (layout_of c.config) (Tail x))
 tail_exists c Send ok = refl
-tail_exists c (Take g) ok = λ j. nat_lt (chain_zero c.served g ok j) 1
+tail_exists c (Take g) ok = lt-ltb g (groups c.config) (group_in c.served (groups c.config) g ok)
 
 pub few_members : (c : Setting) (x : Chain) → InRange c.config → members c x ≤ 64
 few_members c Send r = r.senders.1
@@ -58,7 +59,7 @@ send_high service = (send_in service).0
 pub send_low : (service : Sending) → send_stage service ≤ 2
 send_low service = (send_in service).1
 
-module _ (c : Setting) (x : Chain) (ok : IsChain c.served x) (r : InRange c.config) (s : State) (p own begun : ℕ) (inside : p < members c x) (w : Holds c x s) where
+module _ (c : Setting) (x : Chain) (ok : IsChain c x) (r : InRange c.config) (s : State) (p own begun : ℕ) (inside : p < members c x) (w : Holds c x s) where
   abbrev At : Place → Type 0
   At at = s.stand (pass_on c x p) ≡ record { begun = begun; node = own; place = at }
 

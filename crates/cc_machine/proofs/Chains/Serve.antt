@@ -1,6 +1,6 @@
 -- Each step of a combiner, and of a call that reads its answer, keeps what holds of the chain.
 use Rattle.std.proofs.Common.{◌≡◌, ℕ, ◌+◌, ◌<◌, ◌≤◌, ◌==◌, refl, ap, sym, ◌∙◌, subst, arith, Some, None, List, [], ◌∷◌, ◌++◌}
-use Rattle.cc_model.specs.Record.{Record}
+use Rattle.cc_model.specs.Record.{Side, Record}
 use Rattle.cc_model.specs.declared.call.Entry.{Entry}
 use Rattle.cc_model.specs.declared.call.Answer.{Answer}
 use Rattle.cc_machine.specs.declared.setting.Setting.{Setting}
@@ -29,10 +29,10 @@ use Rattle.cc_machine.proofs.Chains.Registers.{IsChain, calls_on, answers_on, ca
 use Rattle.cc_machine.proofs.Chains.Service.{Outcome, quiet, decides as decided}
 use Rattle.cc_machine.proofs.Chains.Ties.{Ties, Holds, stands_on}
 use Rattle.cc_machine.proofs.Chains.Grown as grown
-use Rattle.cc_machine.proofs.Chains.Facts.{IsFree, free_at, answers_it, done_it, done_rank, some_words, coded_first}
+use Rattle.cc_machine.proofs.Chains.Facts.{side_same, keeps_side, IsFree, free_at, answers_it, done_it, done_rank, some_words, coded_first}
 use Rattle.cc_machine.proofs.Chains.Steps.{Here, next, found_at, goes_on, stays_in, mine, others}
 
-module _ (c : Setting) (x : Chain) (ok : IsChain c.served x) (some : 0 < c.config.bound) (s : State) (p begun own : ℕ) (inside : p < members c x) (w : Holds c x s) where
+module _ (c : Setting) (x : Chain) (ok : IsChain c x) (some : 0 < c.config.bound) (s : State) (p begun own : ℕ) (inside : p < members c x) (w : Holds c x s) where
   abbrev pub At : Place → Type 0
   At at = Here c x ok some s p begun own inside w at
 
@@ -102,19 +102,12 @@ module _ (c : Setting) (x : Chain) (ok : IsChain c.served x) (some : 0 < c.confi
             (bridge.decide c x s p begun own at job e first (ap (λ (z : ℕ). post_of x z (goes c x own at (finds at))) keeps_node ∙ second) tail words) (coded_words c.served x a)
             (grown.answers_more c x (calls_on x s.history) (answers_on x s.history) (stands_on c x s) (stands_on c x (then at)) w.ghost p inside w.ties a);
         ties = subst (λ (r : Record). Ties c x (calls_on x r) (answers_on x r) (stands_on c x (then at)) (grown.answered c.served x w.ghost a)) (sym history)
-            (subst (λ (cs : List Entry). Ties c x cs (answers_on x (noted x s.history None (Some a))) (stands_on c x (then at)) (grown.answered c.served x w.ghost a)) (sym (calls_same x s.history a))
-            (subst (λ (l : List Answer). Ties c x (calls_on x s.history) l (stands_on c x (then at)) (grown.answered c.served x w.ghost a)) (sym (answers_one x s.history a))
+            (subst (λ (cs : List Entry). Ties c x cs (answers_on x (noted x s.history None (Some a))) (stands_on c x (then at)) (grown.answered c.served x w.ghost a)) (sym (ap (λ (z : Side). z.calls) (side_same x s.history _ w.side_in)))
+            (subst (λ (l : List Answer). Ties c x (calls_on x s.history) l (stands_on c x (then at)) (grown.answered c.served x w.ghost a)) (sym (ap (λ (z : Side). z.answers) (side_same x s.history _ w.side_in)))
             (grown.ties_answered c x (calls_on x s.history) (answers_on x s.history) (stands_on c x s) (stands_on c x (then at)) w.ghost p inside w.ties a (advanced c x (bridge.standing c x s p begun own at) (finds at)) is
             (mine c x s p begun own at) (λ q ne. others c x s p begun own at q ne) mine_is even (λ q qn six. w.inv.passes.late q qn six) free.call free.read free.unfinished serve)));
+        side_in = keeps_side x x s.history _ w.side_in;
       }
-    where
-      calls_same : (y : Chain) (r : Record) (z : Answer) → calls_on y (noted y r None (Some z)) ≡ calls_on y r
-      calls_same Send r z = refl
-      calls_same (Take g) r z = refl
-
-      answers_one : (y : Chain) (r : Record) (z : Answer) → answers_on y (noted y r None (Some z)) ≡ answers_on y r ++ z ∷ []
-      answers_one Send r z = refl
-      answers_one (Take g) r z = refl
 
   pub service : (at : Place) (job : Job) → At at → (post_of x own at).rank ≡ 5 → enters at ≡ None → node_after own at (finds at) ≡ own → Outcome c.served x job the_call at (goes c x own at (finds at)) (decides c at (finds at)) →
       (then at).mem (Tail x) ≡ s.mem (Tail x) → ((i : ℕ) (f : NodeField) → (then at).mem (Node x i f) ≡ s.mem (Node x i f)) → Holds c x (then at)

@@ -1,8 +1,9 @@
 -- Who serves, and which call, after every run.
-use Rattle.std.proofs.Common.{◌≡◌, ◌⊎◌, ℕ, ◌+◌, ◌<◌, ◌≤◌, refl, ap, sym, ◌∙◌, subst, arith, inl, inr, Some, List, length}
+use Rattle.std.proofs.Common.{◌≡◌, ◌⊎◌, ℕ, ◌+◌, ◌-◌, ◌*◌, ◌/◌, ◌<◌, ◌≤◌, refl, ap, sym, ◌∙◌, subst, arith, inl, inr, Some, List, length}
 use Rattle.std.specs.List.{slice_get}
-use Rattle.std.proofs.lemmas.Bool.{cases_lt}
+use Rattle.std.proofs.lemmas.Bool.{cases_lt, cases_eq}
 use Rattle.std.proofs.lemmas.Option.{slice_get-get_or}
+use Rattle.std.proofs.Math.Nat.{div-lt_iff_lt-mul}
 use Rattle.cc_model.specs.declared.config.Config.{Config}
 use Rattle.cc_model.specs.declared.call.Entry.{Entry}
 use Rattle.cc_machine.specs.declared.setting.Setting.{Setting}
@@ -20,9 +21,10 @@ use Rattle.cc_machine.specs.declared.place.Taking.{Taking}
 use Rattle.cc_machine.specs.declared.place.Place.{Place}
 use Rattle.cc_machine.specs.declared.place.Place.TheVariants as place
 use Rattle.cc_machine.specs.State.{State, chain_of}
+use Rattle.cc_machine.specs.Words.{groups}
 use Rattle.cc_machine.specs.Run.{Move, IsRun, reached, passes, passes_of}
 use Rattle.cc_machine.proofs.Chains.View.{pass_on, post_of, post_at, serving, asked_words, request_words, request_long}
-use Rattle.cc_machine.proofs.Chains.Registers.{IsChain, calls_on, answers_on, call_at, answer_at, no_call, HasSend, HasService}
+use Rattle.cc_machine.proofs.Chains.Registers.{IsChainOf, IsChain, calls_on, answers_on, call_at, answer_at, no_call, HasSend, HasService}
 use Rattle.cc_machine.proofs.Chains.Ties.{Holds}
 use Rattle.cc_machine.proofs.Chains.Own.{counts_where, sends_where, takes_where}
 use Rattle.cc_machine.proofs.Chains.Others.{IsOther, IsOn, IsOff, which, sender_chain, receiver_chain}
@@ -32,24 +34,27 @@ use Rattle.cc_machine.proofs.Chains.Runs.{chain_holds}
 -- every chain that there is
 pub record Chains (c : Setting) (s : State) : Type 0 where
   pub some : 0 < c.config.bound
-  pub holds : (x : Chain) → IsChain c.served x → Holds c x s
+  pub holds : (x : Chain) → IsChain c x → Holds c x s
 
 pub chains_hold : (c : Setting) → 0 < c.config.bound → (moves : List Move) → IsRun c moves → Chains c (reached c moves)
 chains_hold c some moves run = record { some = some; holds = λ x ok. chain_holds c x ok some moves run }
 
 not_other : (x : Chain) → IsOther x x → ⊥
 not_other Send o = o
-not_other (Take g) o = o
+not_other (Take g) o = o refl
 
-counter_chain : (what : Served) (config : Config) (p : ℕ) → p < passes_of what config → config.senders ≤ p → IsChain what (Take 0)
-counter_chain served.List config p less far = refl
-counter_chain served.Counter config p less far = absurd (omega arith)
+pub taken_chain : (what : Served) (config : Config) (p : ℕ) → p < passes_of what config → config.senders ≤ p → IsChainOf what (groups config) (Take ((p - config.senders) / config.receivers))
+taken_chain served.List config p less far = elim (cases_eq config.receivers 0) [
+  | inl none ↦ absurd (omega (arith, less, far, ap (λ (k : ℕ). groups config * k) none))
+  | inr some ↦ (div-lt_iff_lt-mul (omega (arith, some))).1 (omega (arith, less, far))
+]
+taken_chain served.Counter config p less far = absurd (omega arith)
 
 -- the chain of a pass
-pub chain_is : (c : Setting) (p : ℕ) → p < passes c → IsChain c.served (chain_of c.config p)
+pub chain_is : (c : Setting) (p : ℕ) → p < passes c → IsChain c (chain_of c.config p)
 chain_is c p less = elim (cases_lt p c.config.senders) [
-  | inl near ↦ subst (λ (y : Chain). IsChain c.served y) (sym (sender_chain c.config p near)) tt
-  | inr far ↦ subst (λ (y : Chain). IsChain c.served y) (sym (receiver_chain c.config p far)) (counter_chain c.served c.config p less far)
+  | inl near ↦ subst (λ (y : Chain). IsChain c y) (sym (sender_chain c.config p near)) tt
+  | inr far ↦ subst (λ (y : Chain). IsChain c y) (sym (receiver_chain c.config p far)) (taken_chain c.served c.config p less far)
 ]
 
 on_by : (c : Setting) (p : ℕ) → IsOn c (chain_of c.config p) p ⊎ IsOff c (chain_of c.config p) p → IsOn c (chain_of c.config p) p
@@ -69,7 +74,7 @@ same_rank x y own _ = refl
 
 module _ (c : Setting) (s : State) (k : Chains c s) where
   -- one pass of a chain combines at most
-  pub one_on : (x : Chain) → IsChain c.served x → (p q : ℕ) → IsOn c x p → IsOn c x q → Combines (s.stand p) → Combines (s.stand q) → p ≡ q
+  pub one_on : (x : Chain) → IsChain c x → (p q : ℕ) → IsOn c x p → IsOn c x q → Combines (s.stand p) → Combines (s.stand q) → p ≡ q
   one_on x ok p q on_p on_q a b =
       let w : Holds c x s = k.holds x ok in
       let first : (post_at x (s.stand (pass_on c x on_p.number))).rank ≡ 5 = subst (λ (z : ℕ). (post_at x (s.stand z)).rank ≡ 5) on_p.pass_is (same_rank x Send (s.stand p).node (s.stand p).place ∙ a) in
@@ -126,13 +131,13 @@ module _ (c : Setting) (s : State) (k : Chains c s) where
   one_sending p q job job2 service service2 pn qn a b =
       one_combiner p q pn qn ((sending_where p job service pn a).1 ∙ sym (sending_where q job2 service2 qn b).1) (ap (λ (z : Place). (post_of Send (s.stand p).node z).rank) a) (ap (λ (z : Place). (post_of Send (s.stand q).node z).rank) b)
 
-  pub one_taking : (p q : ℕ) (job job2 : Job) (service service2 : Taking) → p < passes c → q < passes c → (s.stand p).place ≡ place.Taking job service → (s.stand q).place ≡ place.Taking job2 service2 → p ≡ q
-  one_taking p q job job2 service service2 pn qn a b =
-      one_combiner p q pn qn (receiver_chain c.config p (taking_where p job service pn a).1 ∙ sym (receiver_chain c.config q (taking_where q job2 service2 qn b).1))
+  pub one_taking : (p q : ℕ) (job job2 : Job) (service service2 : Taking) → p < passes c → q < passes c → chain_of c.config p ≡ chain_of c.config q → (s.stand p).place ≡ place.Taking job service → (s.stand q).place ≡ place.Taking job2 service2 → p ≡ q
+  one_taking p q job job2 service service2 pn qn same a b =
+      one_combiner p q pn qn same
       (ap (λ (z : Place). (post_of Send (s.stand p).node z).rank) a) (ap (λ (z : Place). (post_of Send (s.stand q).node z).rank) b)
 
   -- the request in service is that of the first call without an answer
-  module _ (x : Chain) (ok : IsChain c.served x) (p : ℕ) (on : IsOn c x p) (at : Place) (job : Job) (e : (s.stand p).place ≡ at) (undecided : (own : ℕ) → post_of x own at ≡ serving own job 1 0) where
+  module _ (x : Chain) (ok : IsChain c x) (p : ℕ) (on : IsOn c x p) (at : Place) (job : Job) (e : (s.stand p).place ≡ at) (undecided : (own : ℕ) → post_of x own at ≡ serving own job 1 0) where
     w : Holds c x s
     w = k.holds x ok
 

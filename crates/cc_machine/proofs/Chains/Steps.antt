@@ -1,6 +1,7 @@
 -- Each step of a pass of the chain keeps what holds of the chain.
 use Rattle.std.proofs.Common.{◌≡◌, ◌≢◌, ℕ, zero, suc, ◌+◌, ◌<◌, ◌≤◌, refl, ap, sym, ◌∙◌, subst, arith, Some, None, List, [], ◌∷◌, ◌++◌}
-use Rattle.cc_model.specs.Record.{Record}
+use Rattle.cc_model.specs.Record.{Side, Record, with_call}
+use Rattle.cc_machine.specs.Words.{groups}
 use Rattle.cc_model.specs.declared.call.Entry.{Entry}
 use Rattle.cc_model.specs.declared.call.Answer.{Answer}
 use Rattle.cc_machine.specs.declared.setting.Setting.{Setting}
@@ -12,7 +13,7 @@ use Rattle.cc_machine.specs.declared.place.Stand.{Stand}
 use Rattle.cc_machine.specs.declared.place.Round.{Round}
 use Rattle.cc_machine.specs.declared.place.Place.{Place}
 use Rattle.cc_machine.specs.declared.place.Place.TheVariants as place
-use Rattle.cc_machine.specs.State.{State, noted}
+use Rattle.cc_machine.specs.State.{State, side, noted}
 use Rattle.cc_machine.specs.Columns.{goes, enters, decides, after_exchange, after_state, after_next, serves}
 use Rattle.cc_machine.specs.Step.{advanced}
 use Rattle.cc_machine.specs.Run.{IsFinished}
@@ -31,10 +32,14 @@ use Rattle.cc_machine.proofs.Chains.View.{view, members, pass_on, post_of, post_
 use Rattle.cc_machine.proofs.Chains.Frame.{hold_here, hold_apart, pass_apart, serves_post}
 use Rattle.cc_machine.proofs.Chains.Bridge as bridge
 use Rattle.cc_machine.proofs.Chains.Bridge.{standing, after, found}
-use Rattle.cc_machine.proofs.Chains.Registers.{IsChain, calls_on, answers_on, call_at, answer_at, HasCall, HasService, HasRead}
+use Rattle.cc_machine.proofs.Chains.Registers.{IsChain, HasSide, calls_on, answers_on, call_at, answer_at, HasCall, HasService, HasRead}
 use Rattle.cc_machine.proofs.Chains.Ties.{Ties, Holds, stands_on, ties_moved}
 use Rattle.cc_machine.proofs.Chains.Grown as grown
-use Rattle.cc_machine.proofs.Chains.Facts.{noted_none, IsFree, free_at, exchanged_free, serves_it}
+use Rattle.cc_machine.proofs.Chains.Facts.{noted_none, side_same, keeps_side, IsFree, free_at, exchanged_free, serves_it}
+
+-- an exchange puts its call at the end of its chain's
+entered : (x : Chain) (h : Record) (e : Entry) → HasSide x h → side x (noted x h (Some e) None) ≡ with_call (side x h) e
+entered x h e i = side_same x h _ i
 
 module _ (c : Setting) (x : Chain) (s : State) (p begun own : ℕ) where
   pub mine : (at : Place) → (after c x s p begun own at).stand (pass_on c x p) ≡ advanced c x (standing c x s p begun own at) (found c x s p begun own at)
@@ -55,7 +60,7 @@ pub record Moves (c : Setting) (x : Chain) (s : State) (g : Ghost) (p marked ser
   pub serves : server ≡ p + 1 → HasService c.served x (call_at (calls_on x s.history) marked) (answer_at (answers_on x s.history) marked) there
   pub keep : (q : ℕ) → q ≢ p → server ≡ q + 1 → (g.server ≡ q + 1) × (g.marked ≡ marked)
 
-module _ (c : Setting) (x : Chain) (ok : IsChain c.served x) (some : 0 < c.config.bound) (s : State) (p begun own : ℕ) (inside : p < members c x) (w : Holds c x s) where
+module _ (c : Setting) (x : Chain) (ok : IsChain c x) (some : 0 < c.config.bound) (s : State) (p begun own : ℕ) (inside : p < members c x) (w : Holds c x s) where
   abbrev pub Here : Place → Type 0
   Here at = s.stand (pass_on c x p) ≡ standing c x s p begun own at
 
@@ -81,6 +86,7 @@ module _ (c : Setting) (x : Chain) (ok : IsChain c.served x) (some : 0 < c.confi
             (subst (λ (z : Place). HasRead c.served x (answer_at (answers_on x s.history) (w.ghost.at p)) z) back m.read)
             (λ f. m.ended (subst (λ (z : Place). IsFinished z) place_is f))
             (λ a. subst (λ (z : Place). HasService c.served x (call_at (calls_on x s.history) marked) (answer_at (answers_on x s.history) marked) z) back (m.serves a)) m.keep);
+        side_in = keeps_side x x s.history _ w.side_in;
       }
 
   -- the pass keeps its part in the chain
@@ -148,7 +154,7 @@ module _ (c : Setting) (x : Chain) (ok : IsChain c.served x) (some : 0 < c.confi
       goes_on (place.ReadNext round) (serves c.served x record { round = round; next = k }) w.ghost.marked w.ghost.server (ap (λ (z : ℕ). after_next c.served x round z) saw) refl refl
       (by_pick.keeps (members c x) c.config.bound (view c x s) (view c x (next (place.ReadNext round))) w.ghost p inside w.inv (bridge.pick c x s p begun own round k e saw))
       (stays_in (serves c.served x record { round = round; next = k }) (free_at c x p own _ (ap (λ z. z.rank) (serves_post c.served x own record { round = round; next = k })))
-      (λ a. serves_it c.served x (call_at (calls_on x s.history) w.ghost.marked) (answer_at (answers_on x s.history) w.ghost.marked) record { round = round; next = k } ok))
+      (λ a. serves_it c.served (groups c.config) x (call_at (calls_on x s.history) w.ghost.marked) (answer_at (answers_on x s.history) w.ghost.marked) record { round = round; next = k } ok))
 
   read_next_by : (round : Round) (k : ℕ) → Here (place.ReadNext round) → s.mem (Node x round.at node.Next) ≡ k → Holds c x (next (place.ReadNext round))
   read_next_by round zero e saw = stop round e saw
@@ -163,8 +169,8 @@ module _ (c : Setting) (x : Chain) (ok : IsChain c.served x) (some : 0 < c.confi
       let tailed : 0 < s.mem (Tail x) = omega (arith, w.inv.nodes.tail_is) in
       let not_server : w.ghost.server ≢ p + 1 = λ a. absurd (grind (arith, w.inv.server.server_rank p)) in
       let free : IsFree c x p (after_exchange x own call) = exchanged_free c x p own call in
-      let more : calls_on x (next (place.Exchange call)).history ≡ calls_on x s.history ++ call ∷ [] = entered_calls x s.history call in
-      let same : answers_on x (next (place.Exchange call)).history ≡ answers_on x s.history = entered_answers x s.history call in
+      let more : calls_on x (next (place.Exchange call)).history ≡ calls_on x s.history ++ call ∷ [] = ap (λ (z : Side). z.calls) (entered x s.history call w.side_in) in
+      let same : answers_on x (next (place.Exchange call)).history ≡ answers_on x s.history = ap (λ (z : Side). z.answers) (entered x s.history call w.side_in) in
       record {
         ghost = grown.extended x w.ghost p call own;
         inv = by_exchange.keeps (members c x) c.config.bound (view c x s) (view c x (next (place.Exchange call))) w.ghost
@@ -180,12 +186,5 @@ module _ (c : Setting) (x : Chain) (ok : IsChain c.served x) (some : 0 < c.confi
             w.inv.calls.in_order w.inv.calls.in_order2
             (λ q qn f. let old = w.ties.ended q qn f in omega (arith, old.0, w.inv.calls.in_order, w.inv.calls.in_order2))
             (λ q a low high. w.inv.serving.serving q a low high) free.call free.read free.unfinished));
+        side_in = keeps_side x x s.history _ w.side_in;
       }
-    where
-      entered_calls : (y : Chain) (r : Record) (z : Entry) → calls_on y (noted y r (Some z) None) ≡ calls_on y r ++ z ∷ []
-      entered_calls Send r z = refl
-      entered_calls (Take g) r z = refl
-
-      entered_answers : (y : Chain) (r : Record) (z : Entry) → answers_on y (noted y r (Some z) None) ≡ answers_on y r
-      entered_answers Send r z = refl
-      entered_answers (Take g) r z = refl

@@ -16,7 +16,7 @@ use Rattle.cc_machine.specs.Run.{IsFinished}
 use Rattle.cc_machine.proofs.Combining.Chain.{Ghost}
 use Rattle.cc_machine.proofs.Combining.Invariant.{Inv}
 use Rattle.cc_machine.proofs.Chains.View.{view, members, pass_on, post_of, request_long, asked_words, answer_long, send_stage}
-use Rattle.cc_machine.proofs.Chains.Registers.{calls_on, answers_on, call_at, answer_at, IsCall, HasCall, IsAnswer, Sends, HasSend, HasService, coded_words, HasRead}
+use Rattle.cc_machine.proofs.Chains.Registers.{HasSide, calls_on, answers_on, call_at, answer_at, IsCall, HasCall, IsAnswer, Sends, HasSend, HasService, coded_words, HasRead}
 
 -- a function with one value changed
 pub upd : {A : Type 0} → (ℕ → A) → ℕ → A → ℕ → A
@@ -55,6 +55,7 @@ pub record Holds (c : Setting) (x : Chain) (s : State) : Type 0 where
   pub ghost : Ghost
   pub inv : Inv (members c x) c.config.bound (view c x s) ghost
   pub ties : Ties c x (calls_on x s.history) (answers_on x s.history) (stands_on c x s) ghost
+  pub side_in : HasSide x s.history
 
 pub send_in : (service : Sending) → (1 ≤ send_stage service) × (send_stage service ≤ 2)
 send_in sending.ReadTag = omega arith

@@ -1,5 +1,5 @@
 -- A chain of a state, as the abstract chain sees it.
-use Rattle.std.proofs.Common.{ℕ, zero, suc, ◌+◌}
+use Rattle.std.proofs.Common.{ℕ, zero, suc, ◌+◌, ◌*◌}
 use Rattle.cc_machine.specs.declared.setting.Setting.{Setting}
 use Rattle.cc_machine.specs.declared.word.Chain.{Chain}
 use Rattle.cc_machine.specs.declared.word.Chain.TheVariants.{Send, Take}
@@ -24,7 +24,7 @@ use Rattle.cc_machine.proofs.Combining.Chain.{Post, Cell, Chain as Seen}
 -- the pass of this number on its chain
 abbrev pub pass_on : Setting → Chain → ℕ → ℕ
 pass_on c Send p = p
-pass_on c (Take g) p = c.config.senders + p
+pass_on c (Take g) p = c.config.senders + (g * c.config.receivers + p)
 
 -- the words of a request: its tag and its body; a take has none
 abbrev pub words_of : ℕ → ℕ → ℕ → ℕ
