@@ -1,6 +1,7 @@
 -- What the calls of a list are told, and that its history is lawful.
 use Rattle.std.proofs.Common.{◌≡◌, Ok, subst}
 use Rattle.cc_model.specs.Config.{config_fault}
+use Rattle.cc_model.specs.Kept.{lists}
 use Rattle.cc_model.specs.Record.{Record}
 use Rattle.cc_model.specs.Legal.{Legal}
 use Rattle.cc_machine.specs.declared.board.Board.{Board}
@@ -22,5 +23,5 @@ legal_in : (b : Board) → b.setting.served ≡ served.List → IsLawful b → L
 legal_in b what l = subst (λ (s : State). Legal b.setting.config s.history) l.reached.leads (history_is_legal b.setting l.reached.moves what l.checked l.reached.run)
 
 -- the history of a machine is lawful
-pub legal_here : (b : Board) → b.setting.served ≡ served.List → IsLawful b → Legal b.setting.config b.history.lists
+pub legal_here : (b : Board) → b.setting.served ≡ served.List → IsLawful b → Legal b.setting.config (lists b.history)
 legal_here b what l = subst (λ (h : Record). Legal b.setting.config h) (history_in (view_of b)) (legal_in b what l)

@@ -16,7 +16,7 @@ pub record Opens (c n : ℕ) (v : Queue) : Type 0 where
   pub mark_tag : v.word (c + 1) 0 ≡ 0
   pub rest : v.enq.stage ≡ 0
   pub side_rest : (s : ℕ) → (v.side s).stage ≡ 0
-  pub head : (s : ℕ) → (v.side s).head ≡ 1
+  pub head : (s : ℕ) → s < n → (v.side s).head ≡ 1
   pub taken : (s : ℕ) → (v.side s).taken ≡ 0
 
 pub opening : (ℕ → ℕ) → Told

@@ -1,5 +1,5 @@
 -- The least of the sides' numbers, and how many are above a number: why Gives holds of any number of sides.
-use Rattle.std.proofs.Common.{◌≡◌, ℕ, zero, suc, ◌+◌, ◌<◌, ◌≤◌, ◌≢◌, arith, refl, inl, inr, sym, cond, ltb}
+use Rattle.std.proofs.Common.{◌≡◌, ℕ, zero, suc, ◌+◌, ◌<◌, ◌≤◌, ◌≢◌, arith, refl, inl, inr, sym, cond, ltb, min}
 use Rattle.std.proofs.lemmas.Bool.{cases_eq, cases_lt, cond-true, cond-false, lt-ltb, le-ltb}
 use Rattle.cc_machine.proofs.LinkedList.Count.{total, total_most, total_same, total_bump, total_more, total_none, total_ones, below, below_yes, below_no, below_most}
 
@@ -13,6 +13,17 @@ unfolding smallest
 smallest_step m h = elim (cases_lt (h (suc m)) (smallest m h)) [
   | inl l ↦ let e : cond (ltb (h (suc m)) (smallest m h)) (h (suc m)) (smallest m h) ≡ h (suc m) = cond-true _ _ _ (lt-ltb _ _ l) in (omega arith, omega arith)
   | inr l ↦ let e : cond (ltb (h (suc m)) (smallest m h)) (h (suc m)) (smallest m h) ≡ smallest m h = cond-false _ _ _ (le-ltb _ _ l) in (omega arith, omega arith)
+]
+
+pub smallest_one : (h : ℕ → ℕ) → smallest 0 h ≡ h 0
+unfolding smallest
+smallest_one h = refl
+
+pub smallest_min : (m : ℕ) (h : ℕ → ℕ) → smallest (suc m) h ≡ min (smallest m h) (h (suc m))
+unfolding smallest
+smallest_min m h = elim (cases_lt (h (suc m)) (smallest m h)) [
+  | inl l ↦ let e : cond (ltb (h (suc m)) (smallest m h)) (h (suc m)) (smallest m h) ≡ h (suc m) = cond-true _ _ _ (lt-ltb _ _ l) in omega (arith, e, l)
+  | inr l ↦ let e : cond (ltb (h (suc m)) (smallest m h)) (h (suc m)) (smallest m h) ≡ smallest m h = cond-false _ _ _ (le-ltb _ _ l) in omega (arith, e, l)
 ]
 
 pub smallest_least : (m : ℕ) (h : ℕ → ℕ) (s : ℕ) → s ≤ m → smallest m h ≤ h s

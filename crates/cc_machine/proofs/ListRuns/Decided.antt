@@ -1,8 +1,10 @@
 -- A history with one more answer.
-use Rattle.std.proofs.Common.{◌≡◌, ℕ, List, [], ◌∷◌, ◌++◌, length, Bool, true, false, ◌||◌, Some, refl, ap, ◌∙◌, append-nil, zero-add}
+use Rattle.std.proofs.Common.{◌≡◌, ◌≢◌, ◌<◌, subst, sym, inl, inr, ℕ, List, [], ◌∷◌, ◌++◌, length, Bool, true, false, ◌||◌, Some, refl, ap, ◌∙◌, append-nil, zero-add}
+use Rattle.std.proofs.lemmas.Bool.{cases_eq}
+use Rattle.std.proofs.lemmas.List.{get_or-set_same, get_or-set_other}
 use Rattle.std.specs.List.{slice_get}
-use Rattle.cc_model.specs.Record.{Record, with_e_answer, with_d_answer}
-use Rattle.cc_model.specs.Items.{accepted, accepted_item, is_shut, shuts, handed, handed_item}
+use Rattle.cc_model.specs.Record.{Side, Record, silent, of_group, with_answer, with_sends, with_takes}
+use Rattle.cc_model.specs.Items.{accepted, accepted_item, is_shut, shuts, handed, handed_by, handed_item}
 use Rattle.cc_model.specs.Legal.{EAnswer, EAnswers, DAnswer, DAnswers}
 use Rattle.cc_model.specs.declared.config.Config.{Config}
 use Rattle.cc_model.specs.declared.call.Call.{Call}
@@ -15,10 +17,10 @@ use Rattle.cc_model.specs.declared.call.SendAnswer.TheVariants as send
 use Rattle.cc_model.specs.declared.call.CloseAnswer.TheVariants as close
 use Rattle.cc_model.proofs.Grows.{any-append, accepted_more, e_answer_more, d_answer_more, d_items_more, handed_by-append}
 
--- the answers of both sides are lawful
+-- the answers of all sides are lawful
 pub record Lawful (c : Config) (h : Record) : Type 0 where
-  pub e_answers : EAnswers c 0 false h.e_calls h.e_answers
-  pub d_answers : DAnswers (accepted h) (is_shut h) 0 h.d_calls h.d_answers
+  pub sends : EAnswers c 0 false h.sends.calls h.sends.answers
+  pub takes : (y : ℕ) → DAnswers (accepted h) (is_shut h) 0 (of_group h y).calls (of_group h y).answers
 
 -- once shut, no answer accepts
 closed_item : (c : Config) (n known : ℕ) (k : Call) (e : Entry) (a : Answer) → EAnswer c n true known k a → accepted_item e a ≡ []
@@ -32,30 +34,59 @@ closed_none c n known k e a false h is = cc
 
 -- ---- the first call of a sender that has no answer gets one
 
-module _ (c : Config) (h : Record) (lawful : Lawful c h) (e : Entry) (a : Answer) (is : slice_get h.e_calls (length h.e_answers) ≡ Some e) where
-  pub e_accepted : accepted (with_e_answer h a) ≡ accepted h ++ accepted_item e a
-  e_accepted = accepted_more h.e_calls h.e_answers e a is
+-- a history with that answer
+abbrev pub told_send : Record → Answer → Record
+told_send h a = with_sends h (with_answer h.sends a)
 
-  pub e_shut : is_shut (with_e_answer h a) ≡ is_shut h || (shuts a || false)
-  e_shut = any-append shuts h.e_answers (a ∷ [])
+module _ (c : Config) (h : Record) (lawful : Lawful c h) (e : Entry) (a : Answer) (is : slice_get h.sends.calls (length h.sends.answers) ≡ Some e) where
+  pub e_accepted : accepted (told_send h a) ≡ accepted h ++ accepted_item e a
+  e_accepted = accepted_more h.sends.calls h.sends.answers e a is
 
-  pub e_decided : EAnswer c (length (accepted h)) (is_shut h) e.known e.call a → Lawful c (with_e_answer h a)
-  e_decided fits =
-      let takes : DAnswers (accepted h ++ accepted_item e a) (is_shut h || (shuts a || false)) 0 h.d_calls h.d_answers =
-      d_items_more (accepted h) (accepted_item e a) (is_shut h) (shuts a || false) 0 h.d_calls h.d_answers (closed_none c (length (accepted h)) e.known e.call e a (is_shut h) fits) lawful.d_answers in
-      record {
-        e_answers = e_answer_more c 0 false h.e_calls h.e_answers e a lawful.e_answers is (rw zero-add fits);
-        d_answers = rw (e_accepted, e_shut) takes;
-      }
+  pub e_shut : is_shut (told_send h a) ≡ is_shut h || (shuts a || false)
+  e_shut = any-append shuts h.sends.answers (a ∷ [])
 
--- ---- the first take that has no answer gets one
-
-module _ (c : Config) (h : Record) (lawful : Lawful c h) (e : Entry) (a : Answer) (is : slice_get h.d_calls (length h.d_answers) ≡ Some e) where
-  pub d_handed : handed (with_d_answer h a) ≡ handed h ++ handed_item a
-  d_handed = handed_by-append h.d_answers (a ∷ []) ∙ ap (λ (l : List Item). handed h ++ l) (append-nil (handed_item a))
-
-  pub d_decided : DAnswer (accepted h) (is_shut h) (length (handed h)) e.known a → Lawful c (with_d_answer h a)
-  d_decided fits = record {
-    e_answers = lawful.e_answers;
-    d_answers = d_answer_more (accepted h) (is_shut h) 0 h.d_calls h.d_answers e a lawful.d_answers is (rw zero-add fits);
+  pub e_decided : EAnswer c (length (accepted h)) (is_shut h) e.known e.call a → Lawful c (told_send h a)
+  e_decided fits = record {
+    sends = e_answer_more c 0 false h.sends.calls h.sends.answers e a lawful.sends is (rw zero-add fits);
+    takes = λ y.
+        let takes : DAnswers (accepted h ++ accepted_item e a) (is_shut h || (shuts a || false)) 0 (of_group h y).calls (of_group h y).answers =
+        d_items_more (accepted h) (accepted_item e a) (is_shut h) (shuts a || false) 0 (of_group h y).calls (of_group h y).answers (closed_none c (length (accepted h)) e.known e.call e a (is_shut h) fits) (lawful.takes y) in
+        rw (e_accepted, e_shut) takes;
   }
+
+-- ---- the first take of a group that has no answer gets one
+
+-- a history with another side of a group
+pub group_mine : (h : Record) (y : ℕ) (now : Side) → y < length h.takes → of_group (with_takes h y now) y ≡ now
+group_mine h y now inside = get_or-set_same h.takes y now silent inside
+
+pub group_other : (h : Record) (y x : ℕ) (now : Side) → x ≢ y → of_group (with_takes h y now) x ≡ of_group h x
+group_other h y x now ne = get_or-set_other h.takes y x now silent ne
+
+-- a history with that answer
+abbrev pub told_take : Record → ℕ → Answer → Record
+told_take h y a = with_takes h y (with_answer (of_group h y) a)
+
+module _ (c : Config) (h : Record) (lawful : Lawful c h) (y : ℕ) (inside : y < length h.takes) (e : Entry) (a : Answer) (is : slice_get (of_group h y).calls (length (of_group h y).answers) ≡ Some e) where
+  pub d_handed : handed (told_take h y a) y ≡ handed h y ++ handed_item a
+  d_handed =
+      ap (λ (s : Side). handed_by s.answers) (group_mine h y (with_answer (of_group h y) a) inside)
+      ∙ handed_by-append (of_group h y).answers (a ∷ []) ∙ ap (λ (l : List Item). handed h y ++ l) (append-nil (handed_item a))
+
+  pub d_others : (x : ℕ) → x ≢ y → handed (told_take h y a) x ≡ handed h x
+  d_others x ne = ap (λ (s : Side). handed_by s.answers) (group_other h y x (with_answer (of_group h y) a) ne)
+
+  pub d_decided : DAnswer (accepted h) (is_shut h) (length (handed h y)) e.known a → Lawful c (told_take h y a)
+  d_decided fits = record {
+    sends = lawful.sends;
+    takes = λ x. elim (cases_eq x y) [
+      | inl same ↦ subst (λ (z : ℕ). Takes z (of_group (told_take h y a) z)) (sym same) (subst (λ (s : Side). Takes y s) (sym (group_mine h y (with_answer (of_group h y) a) inside)) mine)
+      | inr ne ↦ subst (λ (s : Side). Takes x s) (sym (group_other h y x (with_answer (of_group h y) a) ne)) (lawful.takes x)
+    ];
+  }
+    where
+      Takes : ℕ → Side → Type 0
+      Takes x s = DAnswers (accepted h) (is_shut h) 0 s.calls s.answers
+
+      mine : DAnswers (accepted h) (is_shut h) 0 (of_group h y).calls ((of_group h y).answers ++ a ∷ [])
+      mine = d_answer_more (accepted h) (is_shut h) 0 (of_group h y).calls (of_group h y).answers e a (lawful.takes y) is (rw zero-add fits)

@@ -1,10 +1,10 @@
 -- A service begins: the last word of a sender's request is loaded.
 use Rattle.std.proofs.Common.{◌≡◌, ◌≢◌, ℕ, ◌<◌, ◌≤◌, length, inl, inr, refl, sym, ap, ◌∙◌, subst, arith}
 use Rattle.std.proofs.lemmas.Bool.{cases_eq, cases_lt}
-use Rattle.cc_model.specs.Items.{handed}
+use Rattle.cc_model.specs.Items.{handed_to_all}
 use Rattle.cc_model.specs.declared.config.Config.{Config}
 use Rattle.cc_model.specs.declared.call.Entry.{Entry}
-use Rattle.cc_machine.specs.declared.word.Chain.TheVariants.{Send}
+use Rattle.cc_machine.specs.declared.word.Chain.TheVariants.{Send, Take}
 use Rattle.cc_machine.specs.declared.word.NodeField.TheVariants as node
 use Rattle.cc_machine.specs.declared.word.Word.TheVariants.{Node}
 use Rattle.cc_machine.specs.declared.place.Job.{Job}
@@ -13,15 +13,15 @@ use Rattle.cc_machine.specs.declared.place.Place.TheVariants as place
 use Rattle.cc_machine.specs.declared.place.Sending.{Sending}
 use Rattle.cc_machine.specs.declared.place.Sending.TheVariants as sending
 use Rattle.cc_machine.specs.declared.place.Stand.{Stand}
-use Rattle.cc_machine.specs.State.{State, hold}
+use Rattle.cc_machine.specs.State.{State, chain_of, hold}
 use Rattle.cc_machine.specs.Codes.{request_in}
 use Rattle.cc_machine.specs.Run.{IsIdle, passes}
 use Rattle.cc_machine.proofs.LinkedList.Queue.{Queue}
 use Rattle.cc_machine.proofs.LinkedList.EReads as e_reads
 use Rattle.cc_machine.proofs.LinkedList.Runs as runs
 use Rattle.cc_machine.proofs.LinkedList.Runs.{Held, Next}
-use Rattle.cc_machine.proofs.ListRuns.View.{Duty, Regs, enq_in, enq_at, regs_at, queue_from, queue_of, hold_here, hold_same, hold_all}
-use Rattle.cc_machine.proofs.ListRuns.Ties.{ReadsAt, IsBegun, IsServing, IsTaking, IsNextSend, IsNextTake}
+use Rattle.cc_machine.proofs.ListRuns.View.{Duty, Regs, enq_in, enq_at, regs_at, regs_of, queue_from, queue_of, hold_here, hold_same, hold_all}
+use Rattle.cc_machine.proofs.ListRuns.Ties.{further, ReadsAt, IsBegun, IsServing, IsTaking, IsNextSend, IsNextTake}
 use Rattle.cc_machine.proofs.ListRuns.SendTurn.{Caller}
 use Rattle.cc_machine.proofs.ListRuns.Facts.{lists, IsSending, ChainFacts}
 use Rattle.cc_machine.proofs.ListRuns.Whole.{Parts, Onward}
@@ -48,7 +48,7 @@ idle_serves place.Idle idle u = u
 idle_serves _ idle u = idle
 
 module _ (c : Config) (s : State) (p begun own : ℕ) (job : Job) (tag : ℕ) (stands : (s.stand p).place ≡ place.Sending job (sending.ReadBody tag)) (within : p < passes (lists c)) (facts : ChainFacts (lists c) s)
-    (outside : (q : ℕ) → passes (lists c) ≤ q → IsIdle (s.stand q).place) (callers : (e : Entry) → IsNextSend s.history e → Caller c e × (e.known ≤ length (handed s.history))) (k : Parts c s) where
+    (outside : (q : ℕ) → passes (lists c) ≤ q → IsIdle (s.stand q).place) (callers : (e : Entry) → IsNextSend s.history e → Caller c e × (e.known ≤ handed_to_all s.history)) (k : Parts c s) where
   abbrev d : Duty
   d = k.duty
 
@@ -83,8 +83,8 @@ module _ (c : Config) (s : State) (p begun own : ℕ) (job : Job) (tag : ℕ) (s
     | inr ne ↦ alone d.e_pass ne u
   ]
 
-  abbrev regs : Regs
-  regs = regs_at (s.stand d.d_pass).place
+  abbrev regs : ℕ → Regs
+  regs = regs_of s.stand d
 
   abbrev before : Queue
   before = queue_from s.mem d (enq_at d.e_call d.from (s.stand d.e_pass).place) regs
@@ -93,7 +93,7 @@ module _ (c : Config) (s : State) (p begun own : ℕ) (job : Job) (tag : ℕ) (s
   after = queue_from s.mem to (enq_at to.e_call to.from there) regs
 
   known : read.0.known ≤ k.told.least
-  known = omega (arith, (callers read.0 read.1).1, k.ties.handed_is, least_is k.told k.list.counted)
+  known = omega (arith, (callers read.0 read.1).1, least_is k.told s.history (further c) k.list.counted (omega (arith, k.ties.many, k.ties.some)) k.ties.handed_is)
 
   enters : e_reads.Enters k.told before after
   enters = record {
@@ -112,16 +112,16 @@ module _ (c : Config) (s : State) (p begun own : ℕ) (job : Job) (tag : ℕ) (s
   here : (t.stand p).place ≡ there
   here = ap (λ (z : Stand). z.place) (hold_here s.stand p now)
 
-  same_regs : regs_at (t.stand d.d_pass).place ≡ regs
-  same_regs = hold_same (λ (z : Stand). regs_at z.place) s.stand p now (ap regs_at (sym stands)) d.d_pass
+  same_regs : regs_of t.stand to ≡ regs
+  same_regs = λ i y. hold_same (λ (z : Stand). regs_at z.place) s.stand p now (ap regs_at (sym stands)) (d.d_pass y) i
 
   same_queue : queue_of t to ≡ after
   same_queue =
-      ap (λ (z : Place). queue_from t.mem to (enq_at to.e_call to.from z) (regs_at (t.stand d.d_pass).place)) here
-      ∙ ap (λ (r : Regs). queue_from t.mem to (enq_at to.e_call to.from there) r) same_regs
+      ap (λ (z : Place). queue_from t.mem to (enq_at to.e_call to.from z) (regs_of t.stand to)) here
+      ∙ ap (λ (r : ℕ → Regs). queue_from t.mem to (enq_at to.e_call to.from there) r) same_regs
 
-  list : Held c.capacity c.life 0 (queue_of t to) k.told
-  list = subst (λ (v : Queue). Held c.capacity c.life 0 v k.told) (sym same_queue) (runs.next_keeps c.capacity c.life 0 before k.told after k.list (Next.e_enters enters))
+  list : Held c.capacity c.life (further c) (queue_of t to) k.told
+  list = subst (λ (v : Queue). Held c.capacity c.life (further c) v k.told) (sym same_queue) (runs.next_keeps c.capacity c.life (further c) before k.told after k.list (Next.e_enters enters))
 
   pub send_enters : Onward c s k t
   send_enters = record {
@@ -131,12 +131,13 @@ module _ (c : Config) (s : State) (p begun own : ℕ) (job : Job) (tag : ℕ) (s
       list = list;
       serving = record {
         e_only = hold_all (λ (q : ℕ) (z : Stand). q ≢ p → IsServing z.place → ⊥) s.stand p now (λ ne u. ne refl) (λ q ne n u. alone q ne u);
-        d_only = hold_all (λ (q : ℕ) (z : Stand). q ≢ d.d_pass → IsTaking z.place → ⊥) s.stand p now (λ ne u. u) (λ q ne n u. k.serving.d_only q n u);
+        d_mine = k.serving.d_mine;
+        d_only = λ y. hold_all (λ (q : ℕ) (z : Stand). chain_of c q ≡ Take y → q ≢ d.d_pass y → IsTaking z.place → ⊥) s.stand p now (λ e ne u. u) (λ q ne e n u. k.serving.d_only y q e n u);
         caller = (callers read.0 read.1).0;
         reads = subst (λ (z : Place). ReadsAt c to.e_call to.from z) (sym here) (record { tag_is = read.2; body_is = read.3 });
         next_send = λ u. read.1;
-        next_take = hold_all (λ (q : ℕ) (z : Stand). q ≡ d.d_pass → IsTaking z.place → IsNextTake s.history d.d_call) s.stand p now (λ e u. absurd u)
-            (λ q ne e u. k.serving.next_take (subst (λ (j : ℕ). IsTaking (s.stand j).place) e u)) d.d_pass refl;
+        next_take = λ y. hold_all (λ (q : ℕ) (z : Stand). q ≡ d.d_pass y → IsTaking z.place → IsNextTake s.history y (d.d_call y)) s.stand p now (λ e u. absurd u)
+            (λ q ne e u. k.serving.next_take y (subst (λ (j : ℕ). IsTaking (s.stand j).place) e u)) (d.d_pass y) refl;
       };
       ties = k.ties;
     };

@@ -4,7 +4,7 @@ use Rattle.cc_model.specs.declared.config.Config.{Config}
 use Rattle.cc_model.specs.declared.call.Entry.{Entry}
 use Rattle.cc_machine.specs.declared.setting.Setting.{Setting}
 use Rattle.cc_machine.specs.declared.setting.Served.TheVariants as served
-use Rattle.cc_machine.specs.declared.word.Chain.TheVariants.{Send}
+use Rattle.cc_machine.specs.declared.word.Chain.TheVariants.{Send, Take}
 use Rattle.cc_machine.specs.declared.word.NodeField.TheVariants as node
 use Rattle.cc_machine.specs.declared.word.Word.TheVariants.{Node}
 use Rattle.cc_machine.specs.declared.place.Job.{Job}
@@ -12,7 +12,7 @@ use Rattle.cc_machine.specs.declared.place.Place.{Place}
 use Rattle.cc_machine.specs.declared.place.Place.TheVariants as place
 use Rattle.cc_machine.specs.declared.place.Sending.TheVariants as sending
 use Rattle.cc_machine.specs.declared.place.Taking.TheVariants as taking
-use Rattle.cc_machine.specs.State.{State}
+use Rattle.cc_machine.specs.State.{State, chain_of}
 use Rattle.cc_machine.specs.Run.{passes}
 use Rattle.cc_machine.specs.Codes.{request_in}
 use Rattle.cc_machine.proofs.ListRuns.Ties.{IsTaking, IsNextSend, IsNextTake}
@@ -30,7 +30,7 @@ IsSending _ = ⊥
 -- first call without an answer; and a take that is served is one without an answer.
 pub record ChainFacts (c : Setting) (s : State) : Type 0 where
   pub one_sending : (p q : ℕ) → p < passes c → q < passes c → IsSending (s.stand p).place → IsSending (s.stand q).place → p ≡ q
-  pub one_taking : (p q : ℕ) → p < passes c → q < passes c → IsTaking (s.stand p).place → IsTaking (s.stand q).place → p ≡ q
+  pub one_taking : (p q : ℕ) → p < passes c → q < passes c → chain_of c.config p ≡ chain_of c.config q → IsTaking (s.stand p).place → IsTaking (s.stand q).place → p ≡ q
   pub read_body : (p : ℕ) (job : Job) (tag : ℕ) → p < passes c → (s.stand p).place ≡ place.Sending job (sending.ReadBody tag)
       → (e : Entry) × IsNextSend s.history e × (tag ≡ (request_in e).tag) × (s.mem (Node Send job.round.at node.Body) ≡ (request_in e).body)
-  pub read_head : (p : ℕ) (job : Job) → p < passes c → (s.stand p).place ≡ place.Taking job taking.ReadHead → (e : Entry) × IsNextTake s.history e
+  pub read_head : (p : ℕ) (job : Job) (y : ℕ) → p < passes c → chain_of c.config p ≡ Take y → (s.stand p).place ≡ place.Taking job taking.ReadHead → (e : Entry) × IsNextTake s.history y e

@@ -1,5 +1,5 @@
 -- What the list needs of its two chains holds after every run; and so does the list's invariant.
-use Rattle.std.proofs.Common.{◌≡◌, List, refl, sym, ap, subst, arith}
+use Rattle.std.proofs.Common.{◌≡◌, List, Some, length, refl, sym, ap, subst, arith}
 use Rattle.cc_model.specs.declared.config.Config.{Config}
 use Rattle.cc_machine.specs.declared.setting.Setting.{Setting}
 use Rattle.cc_machine.specs.declared.setting.Served.{Served}
@@ -11,6 +11,10 @@ use Rattle.cc_machine.specs.declared.place.Sending.{Sending}
 use Rattle.cc_machine.specs.declared.place.Taking.{Taking}
 use Rattle.cc_machine.specs.declared.place.Taking.TheVariants as taking
 use Rattle.cc_machine.specs.State.{State}
+use Rattle.cc_machine.specs.Sides.{calls_on, answers_on}
+use Rattle.cc_model.specs.declared.call.Entry.{Entry}
+use Rattle.std.specs.List.{slice_get}
+use Rattle.cc_machine.specs.declared.word.Chain.{Chain}
 use Rattle.cc_machine.specs.Run.{Move, reached, IsRun}
 use Rattle.cc_machine.proofs.Ranges.{InRange}
 use Rattle.cc_machine.proofs.Chains.Serving as serving
@@ -37,12 +41,14 @@ chain_facts c fits moves run =
           let x : (job : Job) × (service : Sending) × (((reached (lists c) moves).stand p).place ≡ place.Sending job service) = sending_is ((reached (lists c) moves).stand p).place u in
           let y : (job : Job) × (service : Sending) × (((reached (lists c) moves).stand q).place ≡ place.Sending job service) = sending_is ((reached (lists c) moves).stand q).place v in
           serving.one_sending (lists c) (reached (lists c) moves) k p q x.0 y.0 x.1 y.1 a b x.2 y.2;
-      one_taking = λ p q a b u v.
+      one_taking = λ p q a b same u v.
           let x : (job : Job) × (service : Taking) × (((reached (lists c) moves).stand p).place ≡ place.Taking job service) = taking_is ((reached (lists c) moves).stand p).place u in
           let y : (job : Job) × (service : Taking) × (((reached (lists c) moves).stand q).place ≡ place.Taking job service) = taking_is ((reached (lists c) moves).stand q).place v in
-          serving.one_taking (lists c) (reached (lists c) moves) k p q x.0 y.0 x.1 y.1 a b x.2 y.2;
+          serving.one_taking (lists c) (reached (lists c) moves) k p q x.0 y.0 x.1 y.1 a b same x.2 y.2;
       read_body = λ p job tag less is. for_list.read_body (lists c) (reached (lists c) moves) k p job less tag is;
-      read_head = λ p job less is. for_list.serves_take (lists c) (reached (lists c) moves) k p job less taking.ReadHead is;
+      read_head = λ p job y less chain is.
+          subst (λ (z : Chain). (e : Entry) × (slice_get (calls_on z (reached (lists c) moves).history) (length (answers_on z (reached (lists c) moves).history)) ≡ Some e)) chain
+          (for_list.serves_take (lists c) (reached (lists c) moves) k p job less taking.ReadHead is);
     }
 
 -- the invariant after every run of such a machine

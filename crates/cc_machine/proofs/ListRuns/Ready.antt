@@ -38,6 +38,7 @@ use Rattle.cc_machine.proofs.ListRuns.Posts.{Well, all_get}
 use Rattle.cc_machine.proofs.ListRuns.Runs.{AfterRun}
 use Rattle.cc_machine.proofs.ListRuns.Safe.{send_safe, take_safe}
 use Rattle.cc_machine.proofs.ListRuns.Within.{within}
+use Rattle.cc_machine.proofs.ListRuns.Laws.{taker}
 use Rattle.cc_machine.proofs.ListRuns.FromChains.{after_runs, of_setting}
 
 answer_fits : (most : ℕ) (a : Answer) → most < 2 ^ 56 → AnswerWithin most a → Fits a
@@ -53,8 +54,7 @@ answer_fits most (answer.Send send.Spent) l w = tt
 
 -- every answer of a history fits its words
 pub answers_fit : (c : Config) → InRange c → (h : Record) → IsWithin c h → (x : Chain) (n : ℕ) → n < length (answers_on x h) → Fits (answer_at (answers_on x h) n)
-answers_fit c fits h w Send n l = answer_fits c.life _ (omega (arith, fits.life)) (all_get (AnswerWithin c.life) h.e_answers n (answer_at h.e_answers n) w.e_answers (slice_get-get_or h.e_answers n no_answer l))
-answers_fit c fits h w (Take g) n l = answer_fits c.life _ (omega (arith, fits.life)) (all_get (AnswerWithin c.life) h.d_answers n (answer_at h.d_answers n) w.d_answers (slice_get-get_or h.d_answers n no_answer l))
+answers_fit c fits h w x n l = answer_fits c.life _ (omega (arith, fits.life)) (all_get (AnswerWithin c.life) (answers_on x h) n (answer_at (answers_on x h) n) (w.answers x) (slice_get-get_or (answers_on x h) n no_answer l))
 
 -- ---- the steps of the services
 
@@ -72,7 +72,7 @@ module _ (c : Config) (fits : InRange c) (moves : List Move) (run : IsRun (lists
   served_node : (job : Job) (service : Sending) → (s.stand p).place ≡ place.Sending job service → job.round.at ≤ members (lists c) x
   served_node job service stands =
       let k : Chains (lists c) s = chains_hold (lists c) (omega (arith, fits.bound)) moves run in
-      let ok : IsChain served.List x = chain_is (lists c) p less in
+      let ok : IsChain (lists c) x = chain_is (lists c) p less in
       let on : IsOn (lists c) x p = on_chain (lists c) p less in
       let here : s.stand (pass_on (lists c) x on.number) ≡ record { begun = (s.stand p).begun; node = (s.stand p).node; place = place.Sending job service } =
       ap s.stand (sym on.pass_is) ∙ ap (λ (z : Place). record { begun = (s.stand p).begun; node = (s.stand p).node; place = z }) stands in
@@ -91,7 +91,8 @@ module _ (c : Config) (fits : InRange c) (moves : List Move) (run : IsRun (lists
   service_safe (place.Sending job service) stands u =
       subst (λ (y : Chain). IsSafe (lists c) s y (s.stand p).node (place.Sending job service)) (sym (well_at (place.Sending job service) stands)) (send_safe c fits s p a.whole.parts (s.stand p).node job service stands tt)
   service_safe (place.Taking job service) stands u =
-      subst (λ (y : Chain). IsSafe (lists c) s y (s.stand p).node (place.Taking job service)) (sym (well_at (place.Taking job service) stands)) (take_safe c fits s p a.whole.parts (s.stand p).node job service stands)
+      let t = taker c moves a p job service stands in
+      subst (λ (y : Chain). IsSafe (lists c) s y (s.stand p).node (place.Taking job service)) (sym t.chain) (take_safe c fits s p a.whole.parts t.group t.chain t.inside (s.stand p).node job service stands)
   service_safe (place.Counting job service) stands u = absurd (well_at (place.Counting job service) stands)
   service_safe _ stands u = absurd u
 

@@ -10,17 +10,18 @@ use Rattle.cc_machine.specs.declared.place.Request.{Request}
 use Rattle.cc_machine.specs.declared.place.Parcel.{Parcel}
 use Rattle.cc_machine.specs.declared.place.Sending.{Sending}
 use Rattle.cc_machine.specs.declared.place.Sending.TheVariants as sending
-use Rattle.cc_machine.specs.Words.{put}
+use Rattle.cc_machine.specs.declared.word.Object.{Object as Obj}
+use Rattle.cc_machine.specs.Words.{put, object_number}
 use Rattle.cc_machine.specs.Codes.{request_in}
 use Rattle.cc_machine.specs.SendColumns.{mark, after}
-use Rattle.cc_machine.proofs.LinkedList.Queue.{Enq, Queue, SameCall}
+use Rattle.cc_machine.proofs.LinkedList.Queue.{Enq, Queue, SameCall, SameSides}
 use Rattle.cc_machine.proofs.LinkedList.EReads as reads
 use Rattle.cc_machine.proofs.LinkedList.EWrites as writes
 use Rattle.cc_machine.proofs.LinkedList.ReadPassed as scan
 use Rattle.cc_machine.proofs.LinkedList.ResetPassed as free
 use Rattle.cc_machine.proofs.LinkedList.LinkItem as link
 use Rattle.cc_machine.proofs.LinkedList.LinkMark as marking
-use Rattle.cc_machine.proofs.ListRuns.View.{Duty, Regs, asks_of, resting, enq_in, queue_from, item_word, item_here, item_other}
+use Rattle.cc_machine.proofs.ListRuns.View.{Duty, Regs, asks_of, resting, enq_in, queue_from, side_from, item_word, item_here, item_other, object_other}
 
 pub store_here : (mem : Word → ℕ) (x y : ℕ) (f : ItemField) (value : ℕ) → x ≡ y → put mem (Item y f) value (Item x f) ≡ value
 store_here mem x y f value same = ap (λ (k : ℕ). put mem (Item y f) value (Item k f)) same ∙ item_here mem y f value
@@ -28,7 +29,7 @@ store_here mem x y f value same = ap (λ (k : ℕ). put mem (Item y f) value (It
 pub store_other : (mem : Word → ℕ) (x y : ℕ) (f : ItemField) (value : ℕ) → x ≢ y → put mem (Item y f) value (Item x f) ≡ mem (Item x f)
 store_other mem x y f value ne = item_other mem y x f value (λ e. ne (sym e))
 
-module _ (mem : Word → ℕ) (d : Duty) (r : Regs) where
+module _ (mem : Word → ℕ) (d : Duty) (r : ℕ → Regs) where
   -- the list with these words, at this step of the service
   abbrev pub at_step : (Word → ℕ) → Sending → Queue
   at_step m service = queue_from m d (enq_in d.e_call d.from service) r
@@ -228,11 +229,17 @@ module _ (mem : Word → ℕ) (d : Duty) (r : Regs) where
     word = λ x j. refl;
   }
 
+  -- a store to a word of the send side leaves the groups'
+  stored_sides : (o : Obj) (value : ℕ) {e e' : Enq} → object_number o < 4 → SameSides (queue_from mem d e r) (queue_from (put mem (Object o) value) d e' r)
+  stored_sides o value low = record {
+    side = λ y. λ i. side_from (object_other mem o (object.Head y) value (λ z. omega (arith, low, z)) i) (object_other mem o (object.Taken y) value (λ z. omega (arith, low, z)) i) (d.d_call y) (r y);
+  }
+
   pub write_last : (count at : ℕ) → writes.WritesLastI (at_step mem (sending.WriteLast count at)) (at_step (put mem (Object object.Last) (at + 1)) (sending.WriteCount count at))
   write_last count at = record {
     stores = record {
       cells = record { next = λ x. refl; passed = λ x. refl; word = λ x j. refl };
-      sides = record { side = λ s. refl };
+      sides = stored_sides object.Last (at + 1) (omega arith);
       call = record { asks = λ j. refl; asks_long = refl; known = refl };
     };
     seen = refl;
@@ -249,7 +256,7 @@ module _ (mem : Word → ℕ) (d : Duty) (r : Regs) where
   write_count count at = record {
     stores = record {
       cells = record { next = λ x. refl; passed = λ x. refl; word = λ x j. refl };
-      sides = record { side = λ s. refl };
+      sides = stored_sides object.Count (count + 1) (omega arith);
       call = record { asks = λ j. refl; asks_long = refl; known = refl };
     };
     seen = refl;
@@ -266,7 +273,7 @@ module _ (mem : Word → ℕ) (d : Duty) (r : Regs) where
   write_cursor c count at = record {
     stores = record {
       cells = record { next = λ x. refl; passed = λ x. refl; word = λ x j. refl };
-      sides = record { side = λ s. refl };
+      sides = stored_sides object.Cursor (after c at) (omega arith);
       call = record { asks = λ j. refl; asks_long = refl; known = refl };
     };
     from = refl;
@@ -281,7 +288,7 @@ module _ (mem : Word → ℕ) (d : Duty) (r : Regs) where
   write_last_mark c total = record {
     stores = record {
       cells = record { next = λ x. refl; passed = λ x. refl; word = λ x j. refl };
-      sides = record { side = λ s. refl };
+      sides = stored_sides object.Last (mark c + 1) (omega arith);
       call = record { asks = λ j. refl; asks_long = refl; known = refl };
     };
     seen = refl;
@@ -297,7 +304,7 @@ module _ (mem : Word → ℕ) (d : Duty) (r : Regs) where
   write_shut total = record {
     stores = record {
       cells = record { next = λ x. refl; passed = λ x. refl; word = λ x j. refl };
-      sides = record { side = λ s. refl };
+      sides = stored_sides object.Shut 1 (omega arith);
       call = record { asks = λ j. refl; asks_long = refl; known = refl };
     };
     from = refl;

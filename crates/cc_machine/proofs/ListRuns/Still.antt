@@ -18,6 +18,7 @@ use Rattle.cc_machine.specs.declared.place.Sending.{Sending}
 use Rattle.cc_machine.specs.declared.place.Sending.TheVariants as sending
 use Rattle.cc_machine.specs.declared.place.Taking.{Taking}
 use Rattle.cc_machine.specs.declared.place.Taking.TheVariants as taking
+use Rattle.cc_machine.specs.Words.{groups}
 use Rattle.cc_machine.specs.Codes.{code_of}
 use Rattle.cc_machine.specs.Columns.{goes, after_state, after_answer, after_done, after_ret}
 use Rattle.cc_machine.specs.SendColumns as send_side
@@ -166,7 +167,7 @@ pub send_still : (c : Config) (job : Job) (service : Sending) (found : ℕ) → 
 send_still c job sending.ReadTag found = in_send job _
 send_still c job (sending.ReadShut q) found = shut_still job q found
 send_still c job (sending.ReadCount q) found = if_take (q.tag == 0) _ _ (in_send job _) (if_take (found == c.life) _ _ (over_send job _) (in_send job _))
-send_still c job (sending.ReadPassed parcel at reads) found = if_take (found == 1) _ _ (in_send job _) (if_take (reads == c.capacity + 1) _ _ (over_send job _) (in_send job _))
+send_still c job (sending.ReadPassed parcel at reads) found = if_take (found == groups c) _ _ (in_send job _) (if_take (reads == c.capacity + 1) _ _ (over_send job _) (in_send job _))
 send_still c job sending.ReadTotal found = over_send job _
 send_still c job (sending.WriteShut total) found = over_send job _
 send_still c job (sending.WriteCursor count at) found = over_send job _

@@ -1,7 +1,7 @@
 -- How the list's ghosts, and what the services have read, are tied to the history.
 use Rattle.std.proofs.Common.{◌≡◌, ℕ, ◌+◌, ◌-◌, ◌<◌, ◌≤◌, List, [], ◌∷◌, length, Bool, true, false, if◌then◌else◌, Some, refl, sym, ap, ◌∙◌, arith}
 use Rattle.std.specs.List.{slice_get}
-use Rattle.cc_model.specs.Record.{Record}
+use Rattle.cc_model.specs.Record.{Record, of_group}
 use Rattle.cc_model.specs.Items.{accepted, is_shut, handed}
 use Rattle.cc_model.specs.declared.config.Config.{Config}
 use Rattle.cc_model.specs.declared.call.Entry.{Entry}
@@ -9,6 +9,7 @@ use Rattle.cc_machine.specs.declared.place.Place.{Place}
 use Rattle.cc_machine.specs.declared.place.Place.TheVariants as place
 use Rattle.cc_machine.specs.declared.place.Sending.{Sending}
 use Rattle.cc_machine.specs.declared.place.Sending.TheVariants as sending
+use Rattle.cc_machine.specs.Words.{groups}
 use Rattle.cc_machine.specs.Codes.{item_of, request_in}
 use Rattle.cc_machine.proofs.LinkedList.Queue.{Told}
 use Rattle.cc_machine.proofs.ListRuns.Decided.{Lawful}
@@ -17,10 +18,16 @@ use Rattle.cc_machine.proofs.ListRuns.Decided.{Lawful}
 abbrev pub shut_number : Bool → ℕ
 shut_number b = if b then 1 else 0
 
--- the ghosts are those of the history, whose answers are lawful; each item has two words
+-- the sides of the list beside the first: one for each group
+abbrev pub further : Config → ℕ
+further c = groups c - 1
+
+-- the ghosts are those of the history, which has a side for each group and whose answers are lawful; each item has two words
 pub record Ties (c : Config) (h : Record) (g : Told) : Type 0 where
+  pub some : 0 < groups c
+  pub many : length h.takes ≡ groups c
   pub accepted_is : g.accepted ≡ length (accepted h)
-  pub handed_is : g.handed 0 ≡ length (handed h)
+  pub handed_is : (y : ℕ) → g.handed y ≡ length (handed h y)
   pub shut_is : g.shut ≡ shut_number (is_shut h)
   pub tells_is : g.tells ≡ (λ (a : ℕ). 2)
   pub items_are : (k : ℕ) → k < g.accepted → slice_get (accepted h) k ≡ Some (item_of k (g.items k 0) (g.items k 1))
@@ -87,10 +94,10 @@ IsTaking _ = ⊥
 
 -- the call that is served is the first one without an answer
 abbrev pub IsNextSend : Record → Entry → Type 0
-IsNextSend h e = slice_get h.e_calls (length h.e_answers) ≡ Some e
+IsNextSend h e = slice_get h.sends.calls (length h.sends.answers) ≡ Some e
 
-abbrev pub IsNextTake : Record → Entry → Type 0
-IsNextTake h e = slice_get h.d_calls (length h.d_answers) ≡ Some e
+abbrev pub IsNextTake : Record → (group : ℕ) → Entry → Type 0
+IsNextTake h y e = slice_get (of_group h y).calls (length (of_group h y).answers) ≡ Some e
 
 -- the nodes of the places so far stay, and these nodes were linked behind them
 abbrev pub Linked : Told → Told → List ℕ → Type 0
@@ -99,10 +106,12 @@ Linked g g' (x ∷ rest) = (rest ≡ []) × (g'.accepted ≡ g.accepted + 1) × 
 
 -- ---- ties of a history that accepted and handed out the same
 
-pub ties_same : (c : Config) (h later : Record) (g : Told) → Ties c h g → accepted later ≡ accepted h → is_shut later ≡ is_shut h → length (handed later) ≡ length (handed h) → Lawful c later → Ties c later g
-ties_same c h later g t a s d lawful = record {
+pub ties_same : (c : Config) (h later : Record) (g : Told) → Ties c h g → length later.takes ≡ length h.takes → accepted later ≡ accepted h → is_shut later ≡ is_shut h → ((y : ℕ) → length (handed later y) ≡ length (handed h y)) → Lawful c later → Ties c later g
+ties_same c h later g t n a s d lawful = record {
+  some = t.some;
+  many = n ∙ t.many;
   accepted_is = t.accepted_is ∙ ap length (sym a);
-  handed_is = t.handed_is ∙ sym d;
+  handed_is = λ y. t.handed_is y ∙ sym (d y);
   shut_is = t.shut_is ∙ ap shut_number (sym s);
   tells_is = t.tells_is;
   items_are = λ k l. rw a (t.items_are k l);

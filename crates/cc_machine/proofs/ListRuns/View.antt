@@ -1,9 +1,10 @@
 -- A state of the machine as the list between the chains.
-use Rattle.std.proofs.Common.{◌≡◌, ◌≢◌, ℕ, zero, suc, ◌+◌, ◌-◌, ◌==◌, Bool, true, false, cond, refl, ap, ◌∙◌, subst}
-use Rattle.std.proofs.lemmas.Bool.{eq-eqb, eqb-true, eqb-false}
+use Rattle.std.proofs.Common.{◌≡◌, ◌≢◌, ℕ, zero, suc, ◌+◌, ◌-◌, ◌==◌, Bool, true, false, cond, refl, sym, ap, ◌∙◌, subst}
+use Rattle.std.proofs.lemmas.Bool.{eq-eqb, ne_eqb, eqb-true, eqb-false}
 use Rattle.cc_model.specs.declared.call.Entry.{Entry}
 use Rattle.cc_machine.specs.declared.word.ItemField.{ItemField}
 use Rattle.cc_machine.specs.declared.word.ItemField.TheVariants as item
+use Rattle.cc_machine.specs.declared.word.Object.{Object as Obj}
 use Rattle.cc_machine.specs.declared.word.Object.TheVariants as object
 use Rattle.cc_machine.specs.declared.word.Word.{Word}
 use Rattle.cc_machine.specs.declared.word.Word.TheVariants.{Object, Item}
@@ -14,19 +15,23 @@ use Rattle.cc_machine.specs.declared.place.Sending.TheVariants as sending
 use Rattle.cc_machine.specs.declared.place.Taking.{Taking}
 use Rattle.cc_machine.specs.declared.place.Taking.TheVariants as taking
 use Rattle.cc_machine.specs.declared.place.Stand.{Stand}
-use Rattle.cc_machine.specs.Words.{put}
+use Rattle.cc_machine.specs.Words.{put, object_number}
 use Rattle.cc_machine.specs.State.{State, hold}
 use Rattle.cc_machine.specs.Codes.{request_in}
 use Rattle.cc_machine.proofs.LinkedList.Queue.{Enq, Side, Queue}
 
 -- What no word and no place holds of the two services: which pass served last on each side, the call that it serves or
--- served last, and where the scan for a free node began
+-- served last, and where the scan for a free node began; the takes' by the group
 pub record Duty : Type 0 where
   pub e_pass : ℕ
   pub e_call : Entry
   pub from : ℕ
-  pub d_pass : ℕ
-  pub d_call : Entry
+  pub d_pass : ℕ → ℕ
+  pub d_call : ℕ → Entry
+
+-- another value for one group
+abbrev pub with_group : {X : Type 0} → (ℕ → X) → ℕ → X → ℕ → X
+with_group f y now x = cond (x == y) now (f x)
 
 -- a list of two words
 abbrev pub two : ℕ → ℕ → ℕ → ℕ
@@ -95,8 +100,8 @@ abbrev pub regs_at : Place → Regs
 regs_at (place.Taking job service) = regs_in service
 regs_at _ = none
 
-abbrev pub side_from : (head taken : ℕ) → Entry → Regs → ℕ → Side
-side_from head taken call r zero = record {
+abbrev pub side_from : (head taken : ℕ) → Entry → Regs → Side
+side_from head taken call r = record {
   head = head;
   taken = taken;
   stage = r.stage;
@@ -107,13 +112,12 @@ side_from head taken call r zero = record {
   got = r.got;
   word = r.word;
 }
-side_from head taken call r (suc _) = record { head = 1; taken = 0; stage = 0; known = 0; dummy = 0; seen = 0; after = 0; got = 0; word = two 0 0 }
 
 abbrev pub item_word : (Word → ℕ) → ℕ → ℕ → ℕ
 item_word mem x = two (mem (Item x item.Tag)) (mem (Item x item.Body))
 
--- of the words and the registers of the two services
-abbrev pub queue_from : (Word → ℕ) → Duty → Enq → Regs → Queue
+-- of the words, the calls that the groups serve, and the registers of all services
+abbrev pub queue_from : (Word → ℕ) → Duty → Enq → (ℕ → Regs) → Queue
 queue_from mem d e r = record {
   last = mem (Object object.Last);
   shut = mem (Object object.Shut);
@@ -123,11 +127,31 @@ queue_from mem d e r = record {
   passed = λ x. mem (Item x item.Passed);
   word = λ x. item_word mem x;
   enq = e;
-  side = side_from (mem (Object (object.Head 0))) (mem (Object (object.Taken 0))) d.d_call r;
+  side = λ y. side_from (mem (Object (object.Head y))) (mem (Object (object.Taken y))) (d.d_call y) (r y);
 }
 
+-- the registers of the groups' services where the passes stand so
+abbrev pub regs_of : (ℕ → Stand) → Duty → ℕ → Regs
+regs_of stands d y = regs_at (stands (d.d_pass y)).place
+
 abbrev pub queue_of : State → Duty → Queue
-queue_of s d = queue_from s.mem d (enq_at d.e_call d.from (s.stand d.e_pass).place) (regs_at (s.stand d.d_pass).place)
+queue_of s d = queue_from s.mem d (enq_at d.e_call d.from (s.stand d.e_pass).place) (regs_of s.stand d)
+
+-- ---- one group's value
+
+pub group_here : {X : Type 0} (f : ℕ → X) (y : ℕ) (now : X) → with_group f y now y ≡ now
+group_here f y now = ap (λ (b : Bool). cond b now (f y)) (eq-eqb y y refl)
+
+pub group_away : {X : Type 0} (f : ℕ → X) (y : ℕ) (now : X) (x : ℕ) → x ≢ y → with_group f y now x ≡ f x
+group_away f y now x ne = ap (λ (b : Bool). cond b now (f x)) (ne_eqb x y ne)
+
+-- what holds of that group's value and of the others' holds of all
+pub group_all : {X : Type 0} (P : ℕ → X → Type 0) (f : ℕ → X) (y : ℕ) (now : X) → P y now → ((x : ℕ) → x ≢ y → P x (f x)) → (x : ℕ) → P x (with_group f y now x)
+group_all {X} P f y now here others x = by_case (x == y) refl
+  where
+    by_case : (b : Bool) → (x == y) ≡ b → P x (cond b now (f x))
+    by_case true same = subst (λ (k : ℕ). P k now) (sym (eqb-true x y same)) here
+    by_case false other = others x (eqb-false x y other)
 
 -- ---- a store to a word of a list node
 
@@ -152,6 +176,14 @@ item_other mem x y item.Tag value ne = ap (λ (b : Bool). cond b value (mem (Ite
 item_other mem x y item.Body value ne = ap (λ (b : Bool). cond b value (mem (Item y item.Body))) (other_number x y ne)
 item_other mem x y item.Next value ne = ap (λ (b : Bool). cond b value (mem (Item y item.Next))) (other_number x y ne)
 item_other mem x y item.Passed value ne = ap (λ (b : Bool). cond b value (mem (Item y item.Passed))) (other_number x y ne)
+
+-- ---- a store to a word of the object
+
+pub object_here : (mem : Word → ℕ) (o : Obj) (value : ℕ) → put mem (Object o) value (Object o) ≡ value
+object_here mem o value = ap (λ (b : Bool). cond b value (mem (Object o))) (same_number (object_number o))
+
+pub object_other : (mem : Word → ℕ) (o q : Obj) (value : ℕ) → object_number o ≢ object_number q → put mem (Object o) value (Object q) ≡ mem (Object q)
+object_other mem o q value ne = ap (λ (b : Bool). cond b value (mem (Object q))) (other_number (object_number o) (object_number q) ne)
 
 -- ---- a pass that goes on
 

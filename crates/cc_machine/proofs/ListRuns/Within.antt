@@ -17,6 +17,10 @@ use Rattle.cc_model.specs.declared.call.CloseAnswer.TheVariants as close
 use Rattle.cc_model.specs.declared.call.TakeAnswer.TheVariants as take
 use Rattle.cc_machine.specs.declared.setting.Setting.{Setting}
 use Rattle.cc_machine.specs.Codes.{item_of}
+use Rattle.cc_model.specs.Record.{of_group}
+use Rattle.cc_machine.specs.declared.word.Chain.{Chain}
+use Rattle.cc_machine.specs.declared.word.Chain.TheVariants.{Send, Take}
+use Rattle.cc_machine.specs.Sides.{answers_on}
 use Rattle.cc_machine.specs.State.{State}
 use Rattle.cc_machine.specs.Run.{reached, history_of, IsRun}
 use Rattle.cc_machine.specs.MachineLaws.{AnswerWithin, IsWithin, NumbersStayWithin}
@@ -64,8 +68,7 @@ within c s w =
     let life : length (accepted s.history) ≤ c.life = omega (arith, k.ties.accepted_is, k.list.inv.branch.life_in) in
     record {
       life = life;
-      e_answers = all_e_within c 0 false s.history.e_calls s.history.e_answers k.ties.lawful.e_answers (omega (arith, life));
-      d_answers = all_d_within (accepted s.history) (is_shut s.history) 0 s.history.d_calls s.history.d_answers c.life k.ties.lawful.d_answers small life;
+      answers = by_chain life;
     }
   where
     small : Small (accepted s.history)
@@ -74,6 +77,10 @@ within c s w =
         let at : Some x ≡ Some (item_of i (w.parts.told.items i 0) (w.parts.told.items i 1)) = sym is ∙ w.parts.ties.items_are i low in
         let same : x ≡ item_of i (w.parts.told.items i 0) (w.parts.told.items i 1) = cc in
         omega (arith, ap (λ (y : Item). y.number) same)
+
+    by_chain : length (accepted s.history) ≤ c.life → (x : Chain) → AllByRecursion (AnswerWithin c.life) (answers_on x s.history)
+    by_chain life Send = all_e_within c 0 false s.history.sends.calls s.history.sends.answers w.parts.ties.lawful.sends (omega (arith, life))
+    by_chain life (Take y) = all_d_within (accepted s.history) (is_shut s.history) 0 (of_group s.history y).calls (of_group s.history y).answers c.life (w.parts.ties.lawful.takes y) small life
 
 pub numbers_stay_within : NumbersStayWithin
 numbers_stay_within c moves serves checked run =
