@@ -1,8 +1,10 @@
 -- Each move keeps what holds of the passes and of the calls.
-use Rattle.std.proofs.Common.{◌≡◌, ◌≢◌, ℕ, zero, suc, ◌+◌, ◌<◌, ◌≤◌, ◌^◌, ◌==◌, List, [], ◌∷◌, ◌++◌, length, Bool, true, false, if◌then◌else◌, ◌⊎◌, inl, inr, refl, sym, ap, ◌∙◌, subst, arith, length-append, append-nil}
+use Rattle.std.proofs.Common.{◌≡◌, ◌≢◌, ℕ, zero, suc, ◌+◌, ◌*◌, ◌<◌, ◌≤◌, ◌^◌, ◌==◌, List, [], ◌∷◌, ◌++◌, length, Bool, true, false, if◌then◌else◌, ◌⊎◌, inl, inr, refl, sym, ap, ◌∙◌, subst, arith, length-append, append-nil}
 use Rattle.std.proofs.lemmas.Bool.{cases_eq, eq-eqb, eqb-true}
-use Rattle.cc_model.specs.Record.{Record}
-use Rattle.cc_model.specs.Items.{known_at, handed, entries}
+use Rattle.cc_model.specs.Record.{Record, of_group}
+use Rattle.cc_model.specs.Items.{known_at, handed_to_all, entries}
+use Rattle.std.specs.List.{AllByRecursion}
+use Rattle.cc_model.specs.Config.{group_of}
 use Rattle.cc_model.specs.Legal.{IsSenders, IsReceivers, CountsFrom, send_number, send_numbers}
 use Rattle.cc_model.specs.declared.config.Config.{Config}
 use Rattle.cc_model.specs.declared.call.Pass.{Pass}
@@ -25,6 +27,7 @@ use Rattle.cc_machine.specs.declared.place.Sending.TheVariants as sending
 use Rattle.cc_machine.specs.declared.place.Taking.{Taking}
 use Rattle.cc_machine.specs.declared.place.Taking.TheVariants as taking
 use Rattle.cc_machine.specs.declared.place.Stand.{Stand}
+use Rattle.cc_machine.specs.Words.{groups}
 use Rattle.cc_machine.specs.State.{State, chain_of, pass_at, hold}
 use Rattle.cc_machine.specs.Columns.{goes, after_next, after_exchange}
 use Rattle.cc_machine.specs.SendColumns as send_side
@@ -32,7 +35,7 @@ use Rattle.cc_machine.specs.TakeColumns as take_side
 use Rattle.cc_machine.specs.Run.{passes, IsOn, IsIdle}
 use Rattle.cc_machine.proofs.ListRuns.View.{hold_all}
 use Rattle.cc_machine.proofs.ListRuns.Facts.{lists}
-use Rattle.cc_machine.proofs.ListRuns.Posts.{Begun, Well, Posts, Calls, HasNumber, waits, is_send, well_grows, all_map}
+use Rattle.cc_machine.proofs.ListRuns.Posts.{Begun, IsTakes, Well, Posts, Calls, HasNumber, waits, is_send, well_grows, all_map}
 use Rattle.cc_machine.proofs.ListRuns.Still.{plain_goes}
 
 -- ---- where a service's steps lead
@@ -49,7 +52,7 @@ if_kept x false first second y n = n
 sends : (x : Chain) (job : Job) (service : Sending) → x ≡ Send → Kept x (place.Sending job service)
 sends x job service e = record { well = λ h pass begun. e; waits_none = refl }
 
-takes : (x : Chain) (job : Job) (service : Taking) → x ≡ Take 0 → Kept x (place.Taking job service)
+takes : (x : Chain) (job : Job) (service : Taking) → IsTakes x → Kept x (place.Taking job service)
 takes x job service e = record { well = λ h pass begun. e; waits_none = refl }
 
 over : (x : Chain) (job : Job) (told : _) → Kept x (place.WriteAnswer job told)
@@ -62,13 +65,13 @@ shut_kept x job q (suc n) e = if_kept x (q.tag == 0) _ _ (sends x job sending.Re
 send_kept : (c : Config) (x : Chain) (job : Job) (service : Sending) (found : ℕ) → x ≡ Send → Kept x (send_side.goes c job service found)
 send_kept c x job (sending.ReadShut q) found e = shut_kept x job q found e
 send_kept c x job (sending.ReadCount q) found e = if_kept x (q.tag == 0) _ _ (sends x job _ e) (if_kept x (found == c.life) _ _ (over x job _) (sends x job _ e))
-send_kept c x job (sending.ReadPassed parcel at reads) found e = if_kept x (found == 1) _ _ (sends x job _ e) (if_kept x (reads == c.capacity + 1) _ _ (over x job _) (sends x job _ e))
+send_kept c x job (sending.ReadPassed parcel at reads) found e = if_kept x (found == groups c) _ _ (sends x job _ e) (if_kept x (reads == c.capacity + 1) _ _ (over x job _) (sends x job _ e))
 send_kept c x job sending.ReadTotal found e = over x job _
 send_kept c x job (sending.WriteShut total) found e = over x job _
 send_kept c x job (sending.WriteCursor count at) found e = over x job _
 send_kept c x job _ found e = sends x job _ e
 
-take_kept : (x : Chain) (job : Job) (service : Taking) (found : ℕ) → x ≡ Take 0 → Kept x (take_side.goes job service found)
+take_kept : (x : Chain) (job : Job) (service : Taking) (found : ℕ) → IsTakes x → Kept x (take_side.goes job service found)
 take_kept x job (taking.ReadDummyNext dummy taken) zero e = over x job _
 take_kept x job (taking.ReadDummyNext dummy taken) (suc n) e = takes x job _ e
 take_kept x job (taking.ReadItemTag dummy taken at) zero e = over x job _
@@ -76,11 +79,10 @@ take_kept x job (taking.ReadItemTag dummy taken at) (suc n) e = takes x job _ e
 take_kept x job (taking.AddPassed dummy parcel) found e = over x job _
 take_kept x job _ found e = takes x job _ e
 
-next_kept : (x : Chain) (round : Round) (found : ℕ) → (x ≡ Send) ⊎ (x ≡ Take 0) → Kept x (after_next served.List x round found)
-next_kept x round zero side = record { well = λ h pass begun. tt; waits_none = refl }
-next_kept Send round (suc n) side = sends Send _ _ refl
-next_kept (Take g) round (suc n) (inl e) = cc
-next_kept (Take g) round (suc n) (inr e) = takes (Take g) _ _ e
+next_kept : (x : Chain) (round : Round) (found : ℕ) → Kept x (after_next served.List x round found)
+next_kept x round zero = record { well = λ h pass begun. tt; waits_none = refl }
+next_kept Send round (suc n) = sends Send _ _ refl
+next_kept (Take g) round (suc n) = takes (Take g) _ _ tt
 
 exchange_kept : (x : Chain) (own : ℕ) (e : Entry) → Kept x (after_exchange x own e)
 exchange_kept Send own e = record { well = λ h pass begun. tt; waits_none = refl }
@@ -88,32 +90,32 @@ exchange_kept (Take g) own e = record { well = λ h pass begun. tt; waits_none =
 
 -- ---- where each step leads
 
-pub next_well : (c : Config) (x : Chain) (own : ℕ) (at : Place) (found : ℕ) (h later : Record) (pass : Pass) (begun : ℕ) → (x ≡ Send) ⊎ (x ≡ Take 0) → known_at pass h ≤ known_at pass later → Well h x pass begun at → Well later x pass begun (goes (lists c) x own at found)
-next_well c x own (place.ResetNext e) found h later pass begun side up w = well_grows h later x pass begun (place.ResetState e) up w
-next_well c x own (place.ResetState e) found h later pass begun side up w = well_grows h later x pass begun (place.Exchange e) up w
-next_well c x own (place.Exchange e) found h later pass begun side up w = (exchange_kept x own e).well later pass begun
-next_well c x own (place.ReadNext round) found h later pass begun side up w = (next_kept x round found side).well later pass begun
-next_well c x own (place.Sending job service) found h later pass begun side up w = (send_kept c x job service found w).well later pass begun
-next_well c x own (place.Taking job service) found h later pass begun side up w = (take_kept x job service found w).well later pass begun
-next_well c x own (place.Counting job service) found h later pass begun side up w = absurd w
-next_well c x own place.Idle found h later pass begun side up w = tt
-next_well c x own at found h later pass begun side up w = (plain_goes c x own at found tt).well later x pass begun
+pub next_well : (c : Config) (x : Chain) (own : ℕ) (at : Place) (found : ℕ) (h later : Record) (pass : Pass) (begun : ℕ) → known_at pass h ≤ known_at pass later → Well h x pass begun at → Well later x pass begun (goes (lists c) x own at found)
+next_well c x own (place.ResetNext e) found h later pass begun up w = well_grows h later x pass begun (place.ResetState e) up w
+next_well c x own (place.ResetState e) found h later pass begun up w = well_grows h later x pass begun (place.Exchange e) up w
+next_well c x own (place.Exchange e) found h later pass begun up w = (exchange_kept x own e).well later pass begun
+next_well c x own (place.ReadNext round) found h later pass begun up w = (next_kept x round found).well later pass begun
+next_well c x own (place.Sending job service) found h later pass begun up w = (send_kept c x job service found w).well later pass begun
+next_well c x own (place.Taking job service) found h later pass begun up w = (take_kept x job service found w).well later pass begun
+next_well c x own (place.Counting job service) found h later pass begun up w = absurd w
+next_well c x own place.Idle found h later pass begun up w = tt
+next_well c x own at found h later pass begun up w = (plain_goes c x own at found tt).well later x pass begun
 
 -- an exchange ends the wait
 abbrev pub waits_after : Place → ℕ
 waits_after (place.Exchange e) = 0
 waits_after at = waits at
 
-pub next_waits : (c : Config) (x : Chain) (own : ℕ) (at : Place) (found : ℕ) (h : Record) (pass : Pass) (begun : ℕ) → (x ≡ Send) ⊎ (x ≡ Take 0) → Well h x pass begun at → waits (goes (lists c) x own at found) ≡ waits_after at
-next_waits c x own (place.ResetNext e) found h pass begun side w = refl
-next_waits c x own (place.ResetState e) found h pass begun side w = refl
-next_waits c x own (place.Exchange e) found h pass begun side w = (exchange_kept x own e).waits_none
-next_waits c x own (place.ReadNext round) found h pass begun side w = (next_kept x round found side).waits_none
-next_waits c x own (place.Sending job service) found h pass begun side w = (send_kept c x job service found w).waits_none
-next_waits c x own (place.Taking job service) found h pass begun side w = (take_kept x job service found w).waits_none
-next_waits c x own (place.Counting job service) found h pass begun side w = absurd w
-next_waits c x own place.Idle found h pass begun side w = refl
-next_waits c x own at found h pass begun side w = (plain_goes c x own at found tt).waits_none
+pub next_waits : (c : Config) (x : Chain) (own : ℕ) (at : Place) (found : ℕ) (h : Record) (pass : Pass) (begun : ℕ) → Well h x pass begun at → waits (goes (lists c) x own at found) ≡ waits_after at
+next_waits c x own (place.ResetNext e) found h pass begun w = refl
+next_waits c x own (place.ResetState e) found h pass begun w = refl
+next_waits c x own (place.Exchange e) found h pass begun w = (exchange_kept x own e).waits_none
+next_waits c x own (place.ReadNext round) found h pass begun w = (next_kept x round found).waits_none
+next_waits c x own (place.Sending job service) found h pass begun w = (send_kept c x job service found w).waits_none
+next_waits c x own (place.Taking job service) found h pass begun w = (take_kept x job service found w).waits_none
+next_waits c x own (place.Counting job service) found h pass begun w = absurd w
+next_waits c x own place.Idle found h pass begun w = refl
+next_waits c x own at found h pass begun w = (plain_goes c x own at found tt).waits_none
 
 -- ---- pass p goes on, in a history of which no less is known
 
@@ -122,27 +124,27 @@ module _ (c : Config) (s : State) (p : ℕ) (now : Stand) (mem' : Word → ℕ) 
   t = record { mem = mem'; stand = hold s.stand p now; history = later }
 
   pub posts_on : now.begun ≤ c.per_sender → Well later (chain_of c p) (pass_at c p) now.begun now.place
-      → (p < c.senders → length (send_numbers (p + 1) later.e_calls) + waits now.place ≡ now.begun)
-      → ((q : ℕ) → p ≢ q → length (send_numbers (q + 1) later.e_calls) ≡ length (send_numbers (q + 1) s.history.e_calls))
+      → (p < c.senders → length (send_numbers (p + 1) later.sends.calls) + waits now.place ≡ now.begun)
+      → ((q : ℕ) → p ≢ q → length (send_numbers (q + 1) later.sends.calls) ≡ length (send_numbers (q + 1) s.history.sends.calls))
       → Posts c t
   posts_on limit well sent others = record {
     well = hold_all (λ (q : ℕ) (z : Stand). Well later (chain_of c q) (pass_at c q) z.begun z.place) s.stand p now well
         (λ q ne. well_grows s.history later (chain_of c q) (pass_at c q) (s.stand q).begun (s.stand q).place (up (pass_at c q)) (posts.well q));
     outside = hold_all (λ (q : ℕ) (z : Stand). passes (lists c) ≤ q → IsIdle z.place) s.stand p now (λ l. absurd (omega (arith, l, within))) (λ q ne. posts.outside q);
     limit = hold_all (λ (q : ℕ) (z : Stand). z.begun ≤ c.per_sender) s.stand p now limit (λ q ne. posts.limit q);
-    sent = hold_all (λ (q : ℕ) (z : Stand). q < c.senders → length (send_numbers (q + 1) later.e_calls) + waits z.place ≡ z.begun) s.stand p now sent (λ q ne l. omega (arith, others q ne, posts.sent q l));
+    sent = hold_all (λ (q : ℕ) (z : Stand). q < c.senders → length (send_numbers (q + 1) later.sends.calls) + waits z.place ≡ z.begun) s.stand p now sent (λ q ne l. omega (arith, others q ne, posts.sent q l));
   }
 
 -- ---- the same calls, in a history of which no less is known
 
-pub calls_on : (c : Config) (h later : Record) → later.e_calls ≡ h.e_calls → later.d_calls ≡ h.d_calls → length (handed h) ≤ length (handed later) → entries h ≤ entries later → Calls c h → Calls c later
+pub calls_on : (c : Config) (h later : Record) → later.sends.calls ≡ h.sends.calls → ((y : ℕ) → (of_group later y).calls ≡ (of_group h y).calls) → handed_to_all h ≤ handed_to_all later → entries h ≤ entries later → Calls c h → Calls c later
 calls_on c h later e d up_e up_d k = record {
   senders = rw e k.senders;
-  receivers = rw d k.receivers;
+  receivers = λ y. rw (d y) (k.receivers y);
   numbers = λ s. rw e (k.numbers s);
   small = rw e k.small;
-  e_known = rw e (all_map (λ (x : Entry). x.known ≤ length (handed h)) (λ (x : Entry). x.known ≤ length (handed later)) h.e_calls (λ x l. omega (arith, l, up_e)) k.e_known);
-  d_known = rw d (all_map (λ (x : Entry). x.known ≤ entries h) (λ (x : Entry). x.known ≤ entries later) h.d_calls (λ x l. omega (arith, l, up_d)) k.d_known);
+  e_known = rw e (all_map (λ (x : Entry). x.known ≤ handed_to_all h) (λ (x : Entry). x.known ≤ handed_to_all later) h.sends.calls (λ x l. omega (arith, l, up_e)) k.e_known);
+  d_known = λ y. rw (d y) (all_map (λ (x : Entry). x.known ≤ entries h) (λ (x : Entry). x.known ≤ entries later) (of_group h y).calls (λ x l. omega (arith, l, up_d)) (k.d_known y));
 }
 
 -- ---- one more call of a sender
@@ -181,55 +183,66 @@ sender_makes c s (call.Send body) low high on = (low, high)
 sender_makes c s call.Close low high on = (low, high)
 sender_makes c s call.Take low high on = absurd on
 
-receiver_makes : (c : Config) (r : ℕ) (k : Call) → 1 ≤ r → r ≤ c.receivers → IsOn served.List (Take 0) k → IsReceivers c (Receiver r) k
-receiver_makes c r call.Take low high on = (low, high)
-receiver_makes c r (call.Send body) low high on = absurd on
-receiver_makes c r call.Close low high on = absurd on
+receiver_makes : (c : Config) (y r : ℕ) (k : Call) → 1 ≤ r → r ≤ groups c * c.receivers → group_of c r ≡ y → IsOn served.List (Take y) k → IsReceivers c y (Receiver r) k
+receiver_makes c y r call.Take low high is on = (low, high, is)
+receiver_makes c y r (call.Send body) low high is on = absurd on
+receiver_makes c y r call.Close low high is on = absurd on
 
-module _ (c : Config) (h later : Record) (p begun : ℕ) (e : Entry) (is : later.e_calls ≡ h.e_calls ++ e ∷ []) (same : later.d_calls ≡ h.d_calls) (e_up : length (handed h) ≤ length (handed later)) (d_up : entries h ≤ entries later)
-    (within : p < c.senders) (b : Begun h Send (Sender (p + 1)) begun e) (most : begun ≤ c.per_sender) (fits : c.per_sender < 2 ^ 32) (sent : length (send_numbers (p + 1) h.e_calls) + is_send e.call ≡ begun) (k : Calls c h) where
+module _ (c : Config) (h later : Record) (p begun : ℕ) (e : Entry) (is : later.sends.calls ≡ h.sends.calls ++ e ∷ []) (same : (y : ℕ) → (of_group later y).calls ≡ (of_group h y).calls) (e_up : handed_to_all h ≤ handed_to_all later) (d_up : entries h ≤ entries later)
+    (within : p < c.senders) (b : Begun h Send (Sender (p + 1)) begun e) (most : begun ≤ c.per_sender) (fits : c.per_sender < 2 ^ 32) (sent : length (send_numbers (p + 1) h.sends.calls) + is_send e.call ≡ begun) (k : Calls c h) where
   abbrev numbers_now : ℕ → List ℕ
-  numbers_now s = send_numbers s h.e_calls ++ send_number s e.pass e.call e.number
+  numbers_now s = send_numbers s h.sends.calls ++ send_number s e.pass e.call e.number
 
-  numbers_are : (s : ℕ) → send_numbers s later.e_calls ≡ numbers_now s
-  numbers_are s = ap (λ (l : List Entry). send_numbers s l) is ∙ send_numbers-append s h.e_calls e
+  numbers_are : (s : ℕ) → send_numbers s later.sends.calls ≡ numbers_now s
+  numbers_are s = ap (λ (l : List Entry). send_numbers s l) is ∙ send_numbers-append s h.sends.calls e
 
-  pub own_sent : length (send_numbers (p + 1) later.e_calls) ≡ begun
+  pub own_sent : length (send_numbers (p + 1) later.sends.calls) ≡ begun
   own_sent =
       let own : length (send_number (p + 1) e.pass e.call e.number) ≡ is_send e.call = ap (λ (z : Pass). length (send_number (p + 1) z e.call e.number)) b.pass_is ∙ own_numbers (p + 1) e.call e.number in
-      omega (arith, ap length (numbers_are (p + 1)), length-append (send_numbers (p + 1) h.e_calls) (send_number (p + 1) e.pass e.call e.number), own, sent)
+      omega (arith, ap length (numbers_are (p + 1)), length-append (send_numbers (p + 1) h.sends.calls) (send_number (p + 1) e.pass e.call e.number), own, sent)
 
-  pub other_sent : (q : ℕ) → p ≢ q → length (send_numbers (q + 1) later.e_calls) ≡ length (send_numbers (q + 1) h.e_calls)
-  other_sent q ne = ap length (numbers_are (q + 1) ∙ ap (λ (z : Pass). send_numbers (q + 1) h.e_calls ++ send_number (q + 1) z e.call e.number) b.pass_is
-      ∙ ap (λ (l : List ℕ). send_numbers (q + 1) h.e_calls ++ l) (other_numbers (p + 1) (q + 1) e.call e.number (λ z. ne (omega (arith, z)))) ∙ append-nil (send_numbers (q + 1) h.e_calls))
+  pub other_sent : (q : ℕ) → p ≢ q → length (send_numbers (q + 1) later.sends.calls) ≡ length (send_numbers (q + 1) h.sends.calls)
+  other_sent q ne = ap length (numbers_are (q + 1) ∙ ap (λ (z : Pass). send_numbers (q + 1) h.sends.calls ++ send_number (q + 1) z e.call e.number) b.pass_is
+      ∙ ap (λ (l : List ℕ). send_numbers (q + 1) h.sends.calls ++ l) (other_numbers (p + 1) (q + 1) e.call e.number (λ z. ne (omega (arith, z)))) ∙ append-nil (send_numbers (q + 1) h.sends.calls))
 
-  counts : (s : ℕ) → CountsFrom 1 (send_numbers s later.e_calls)
+  counts : (s : ℕ) → CountsFrom 1 (send_numbers s later.sends.calls)
   counts s = elim (cases_eq s (p + 1)) [
-    | inl own ↦ subst (λ (j : ℕ). CountsFrom 1 (send_numbers j later.e_calls)) (sym own) (rw (numbers_are (p + 1), b.pass_is) (counts_on (p + 1) e.call e.number begun (send_numbers (p + 1) h.e_calls) (k.numbers (p + 1)) b.number_is sent))
+    | inl own ↦ subst (λ (j : ℕ). CountsFrom 1 (send_numbers j later.sends.calls)) (sym own) (rw (numbers_are (p + 1), b.pass_is) (counts_on (p + 1) e.call e.number begun (send_numbers (p + 1) h.sends.calls) (k.numbers (p + 1)) b.number_is sent))
     | inr ne ↦ rw (numbers_are s, b.pass_is, other_numbers (p + 1) s e.call e.number (λ z. ne (sym z)), append-nil) (k.numbers s)
   ]
 
   pub e_calls_on : Calls c later
   e_calls_on = record {
-    senders = rw is (all-append (λ (x : Entry). IsSenders c x.pass x.call) h.e_calls e k.senders (rw b.pass_is (sender_makes c (p + 1) e.call (omega arith) (omega (arith, within)) b.on)));
-    receivers = rw same k.receivers;
+    senders = rw is (all-append (λ (x : Entry). IsSenders c x.pass x.call) h.sends.calls e k.senders (rw b.pass_is (sender_makes c (p + 1) e.call (omega arith) (omega (arith, within)) b.on)));
+    receivers = λ y. rw (same y) (k.receivers y);
     numbers = counts;
-    small = rw is (all-append (λ (x : Entry). x.number < 2 ^ 32) h.e_calls e k.small (small_number e.call e.number begun b.number_is (omega (arith, most, fits))));
-    e_known = rw is (all-append (λ (x : Entry). x.known ≤ length (handed later)) h.e_calls e
-        (all_map (λ (x : Entry). x.known ≤ length (handed h)) (λ (x : Entry). x.known ≤ length (handed later)) h.e_calls (λ x l. omega (arith, l, e_up)) k.e_known) (omega (arith, b.known_in, e_up)));
-    d_known = rw same (all_map (λ (x : Entry). x.known ≤ entries h) (λ (x : Entry). x.known ≤ entries later) h.d_calls (λ x l. omega (arith, l, d_up)) k.d_known);
+    small = rw is (all-append (λ (x : Entry). x.number < 2 ^ 32) h.sends.calls e k.small (small_number e.call e.number begun b.number_is (omega (arith, most, fits))));
+    e_known = rw is (all-append (λ (x : Entry). x.known ≤ handed_to_all later) h.sends.calls e
+        (all_map (λ (x : Entry). x.known ≤ handed_to_all h) (λ (x : Entry). x.known ≤ handed_to_all later) h.sends.calls (λ x l. omega (arith, l, e_up)) k.e_known) (omega (arith, b.known_in, e_up)));
+    d_known = λ y. rw (same y) (all_map (λ (x : Entry). x.known ≤ entries h) (λ (x : Entry). x.known ≤ entries later) (of_group h y).calls (λ x l. omega (arith, l, d_up)) (k.d_known y));
   }
 
 -- ---- one more take
 
-pub d_calls_on : (c : Config) (h later : Record) (r begun : ℕ) (e : Entry) → later.e_calls ≡ h.e_calls → later.d_calls ≡ h.d_calls ++ e ∷ [] → length (handed h) ≤ length (handed later) → entries h ≤ entries later → 1 ≤ r → r ≤ c.receivers
-    → Begun h (Take 0) (Receiver r) begun e → Calls c h → Calls c later
-d_calls_on c h later r begun e same is e_up d_up low high b k = record {
-  senders = rw same k.senders;
-  receivers = rw is (all-append (λ (x : Entry). IsReceivers c x.pass x.call) h.d_calls e k.receivers (rw b.pass_is (receiver_makes c r e.call low high b.on)));
-  numbers = λ s. rw same (k.numbers s);
-  small = rw same k.small;
-  e_known = rw same (all_map (λ (x : Entry). x.known ≤ length (handed h)) (λ (x : Entry). x.known ≤ length (handed later)) h.e_calls (λ x l. omega (arith, l, e_up)) k.e_known);
-  d_known = rw is (all-append (λ (x : Entry). x.known ≤ entries later) h.d_calls e
-      (all_map (λ (x : Entry). x.known ≤ entries h) (λ (x : Entry). x.known ≤ entries later) h.d_calls (λ x l. omega (arith, l, d_up)) k.d_known) (omega (arith, b.known_in, d_up)));
-}
+module _ (c : Config) (h later : Record) (y r begun : ℕ) (e : Entry) (same : later.sends.calls ≡ h.sends.calls) (is : (of_group later y).calls ≡ (of_group h y).calls ++ e ∷ []) (others : (x : ℕ) → x ≢ y → (of_group later x).calls ≡ (of_group h x).calls)
+    (e_up : handed_to_all h ≤ handed_to_all later) (d_up : entries h ≤ entries later) (low : 1 ≤ r) (high : r ≤ groups c * c.receivers) (of : group_of c r ≡ y) (b : Begun h (Take y) (Receiver r) begun e) (k : Calls c h) where
+  known_more : (x : ℕ) → AllByRecursion (λ (z : Entry). z.known ≤ entries later) (of_group h x).calls
+  known_more x = all_map (λ (z : Entry). z.known ≤ entries h) (λ (z : Entry). z.known ≤ entries later) (of_group h x).calls (λ z l. omega (arith, l, d_up)) (k.d_known x)
+
+  pub d_calls_on : Calls c later
+  d_calls_on = record {
+    senders = rw same k.senders;
+    receivers = λ x. elim (cases_eq x y) [
+      | inl at ↦ subst (λ (z : ℕ). AllByRecursion (λ (e : Entry). IsReceivers c z e.pass e.call) (of_group later z).calls) (sym at)
+          (rw is (all-append (λ (z : Entry). IsReceivers c y z.pass z.call) (of_group h y).calls e (k.receivers y) (rw b.pass_is (receiver_makes c y r e.call low high of b.on))))
+      | inr ne ↦ rw (others x ne) (k.receivers x)
+    ];
+    numbers = λ s. rw same (k.numbers s);
+    small = rw same k.small;
+    e_known = rw same (all_map (λ (x : Entry). x.known ≤ handed_to_all h) (λ (x : Entry). x.known ≤ handed_to_all later) h.sends.calls (λ x l. omega (arith, l, e_up)) k.e_known);
+    d_known = λ x. elim (cases_eq x y) [
+      | inl at ↦ subst (λ (z : ℕ). AllByRecursion (λ (e : Entry). e.known ≤ entries later) (of_group later z).calls) (sym at)
+          (rw is (all-append (λ (z : Entry). z.known ≤ entries later) (of_group h y).calls e (known_more y) (omega (arith, b.known_in, d_up))))
+      | inr ne ↦ rw (others x ne) (known_more x)
+    ];
+  }

@@ -1,10 +1,10 @@
 -- What holds of each pass and of each call, whatever the chains do: a begun call is one that its pass can make, with the next
 -- number of a send; and the calls in the history are such calls.
-use Rattle.std.proofs.Common.{◌≡◌, ℕ, zero, suc, ◌+◌, ◌-◌, ◌^◌, ◌<◌, ◌≤◌, nat_lt, List, [], ◌∷◌, length, Bool, true, false, cond, ◌⊎◌, inl, inr, Some, ap, subst, arith}
+use Rattle.std.proofs.Common.{◌≡◌, ℕ, zero, suc, ◌+◌, ◌-◌, ◌*◌, ◌/◌, ◌^◌, ◌<◌, ◌≤◌, nat_lt, List, [], ◌∷◌, length, Bool, true, false, cond, ◌⊎◌, inl, inr, Some, ap, subst, arith}
 use Rattle.std.proofs.lemmas.Bool.{cases_lt, lt-ltb, le-ltb}
 use Rattle.std.specs.List.{AllByRecursion, slice_get}
-use Rattle.cc_model.specs.Record.{Record}
-use Rattle.cc_model.specs.Items.{known_at, handed, entries}
+use Rattle.cc_model.specs.Record.{Record, of_group}
+use Rattle.cc_model.specs.Items.{known_at, handed_to_all, entries}
 use Rattle.cc_model.specs.Legal.{IsSenders, IsReceivers, CountsFrom, send_numbers}
 use Rattle.cc_model.specs.declared.config.Config.{Config}
 use Rattle.cc_model.specs.declared.call.Pass.{Pass}
@@ -19,6 +19,8 @@ use Rattle.cc_machine.specs.declared.place.Place.{Place}
 use Rattle.cc_machine.specs.declared.place.Place.TheVariants as place
 use Rattle.cc_machine.specs.State.{State, chain_of, pass_at}
 use Rattle.cc_machine.specs.Run.{passes, IsOn, IsIdle}
+use Rattle.cc_machine.specs.Words.{groups}
+use Rattle.cc_machine.proofs.Chains.Serving.{taken_chain}
 use Rattle.cc_machine.proofs.ListRuns.Facts.{lists}
 
 -- a send carries the number of sends that its pass began, another call carries 0
@@ -33,13 +35,18 @@ pub record Begun (h : Record) (x : Chain) (pass : Pass) (begun : ℕ) (e : Entry
   pub number_is : HasNumber e.call e.number begun
   pub known_in : e.known ≤ known_at pass h
 
+-- a chain of receivers
+abbrev pub IsTakes : Chain → Type 0
+IsTakes Send = ⊥
+IsTakes (Take g) = Unit {0}
+
 -- at each place
 abbrev pub Well : Record → Chain → Pass → ℕ → Place → Type 0
 Well h x pass begun (place.ResetNext e) = Begun h x pass begun e
 Well h x pass begun (place.ResetState e) = Begun h x pass begun e
 Well h x pass begun (place.Exchange e) = Begun h x pass begun e
 Well h x pass begun (place.Sending job service) = x ≡ Send
-Well h x pass begun (place.Taking job service) = x ≡ Take 0
+Well h x pass begun (place.Taking job service) = IsTakes x
 Well h x pass begun (place.Counting job service) = ⊥
 Well h x pass begun _ = Unit {0}
 
@@ -59,16 +66,16 @@ pub record Posts (c : Config) (s : State) : Type 0 where
   pub well : (p : ℕ) → Well s.history (chain_of c p) (pass_at c p) (s.stand p).begun (s.stand p).place
   pub outside : (p : ℕ) → passes (lists c) ≤ p → IsIdle (s.stand p).place
   pub limit : (p : ℕ) → (s.stand p).begun ≤ c.per_sender
-  pub sent : (p : ℕ) → p < c.senders → length (send_numbers (p + 1) s.history.e_calls) + waits (s.stand p).place ≡ (s.stand p).begun
+  pub sent : (p : ℕ) → p < c.senders → length (send_numbers (p + 1) s.history.sends.calls) + waits (s.stand p).place ≡ (s.stand p).begun
 
 -- the calls that have exchanged
 pub record Calls (c : Config) (h : Record) : Type 0 where
-  pub senders : AllByRecursion (λ e. IsSenders c e.pass e.call) h.e_calls
-  pub receivers : AllByRecursion (λ e. IsReceivers c e.pass e.call) h.d_calls
-  pub numbers : (s : ℕ) → CountsFrom 1 (send_numbers s h.e_calls)
-  pub small : AllByRecursion (λ e. e.number < 2 ^ 32) h.e_calls
-  pub e_known : AllByRecursion (λ e. e.known ≤ length (handed h)) h.e_calls
-  pub d_known : AllByRecursion (λ e. e.known ≤ entries h) h.d_calls
+  pub senders : AllByRecursion (λ e. IsSenders c e.pass e.call) h.sends.calls
+  pub receivers : (y : ℕ) → AllByRecursion (λ e. IsReceivers c y e.pass e.call) (of_group h y).calls
+  pub numbers : (s : ℕ) → CountsFrom 1 (send_numbers s h.sends.calls)
+  pub small : AllByRecursion (λ e. e.number < 2 ^ 32) h.sends.calls
+  pub e_known : AllByRecursion (λ e. e.known ≤ handed_to_all h) h.sends.calls
+  pub d_known : (y : ℕ) → AllByRecursion (λ e. e.known ≤ entries h) (of_group h y).calls
 
 -- what each pass is
 pub record OfSend (c : Config) (p : ℕ) : Type 0 where
@@ -77,23 +84,27 @@ pub record OfSend (c : Config) (p : ℕ) : Type 0 where
   pub within : p < c.senders
 
 pub record OfTake (c : Config) (p : ℕ) : Type 0 where
-  pub chain_is : chain_of c p ≡ Take 0
+  pub chain_is : chain_of c p ≡ Take ((p - c.senders) / c.receivers)
   pub pass_is : pass_at c p ≡ Receiver (p - c.senders + 1)
   pub low : c.senders ≤ p
 
 pub of_side : (c : Config) (p : ℕ) → OfSend c p ⊎ OfTake c p
 of_side c p = elim (cases_lt p c.senders) [
   | inl l ↦ let b : nat_lt p c.senders ≡ true = lt-ltb p c.senders l in inl (record {
-    chain_is = ap (λ (t : Bool). cond t Send (Take 0)) b;
+    chain_is = ap (λ (t : Bool). cond t Send (Take ((p - c.senders) / c.receivers))) b;
     pass_is = ap (λ (t : Bool). cond t (Sender (p + 1)) (Receiver (p - c.senders + 1))) b;
     within = l;
   })
   | inr l ↦ let b : nat_lt p c.senders ≡ false = le-ltb p c.senders l in inr (record {
-    chain_is = ap (λ (t : Bool). cond t Send (Take 0)) b;
+    chain_is = ap (λ (t : Bool). cond t Send (Take ((p - c.senders) / c.receivers))) b;
     pass_is = ap (λ (t : Bool). cond t (Sender (p + 1)) (Receiver (p - c.senders + 1))) b;
     low = l;
   })
 ]
+
+-- its group is one of the configuration's
+pub group_in : (c : Config) (p : ℕ) → p < passes (lists c) → OfTake c p → (p - c.senders) / c.receivers < groups c
+group_in c p less of = taken_chain served.List c p less of.low
 
 pub all_get : {X : Type 0} (P : X → Type 0) (xs : List X) (k : ℕ) (x : X) → AllByRecursion P xs → slice_get xs k ≡ Some x → P x
 all_get P [] k x all is = cc
@@ -115,6 +126,6 @@ well_grows h later x pass begun (place.ResetState e) up w = begun_grows h later 
 well_grows h later x pass begun (place.Exchange e) up w = begun_grows h later x pass begun e up w
 well_grows h later x pass begun _ up w = w
 
-pub known_grows : (h later : Record) (pass : Pass) → length (handed h) ≤ length (handed later) → entries h ≤ entries later → known_at pass h ≤ known_at pass later
+pub known_grows : (h later : Record) (pass : Pass) → handed_to_all h ≤ handed_to_all later → entries h ≤ entries later → known_at pass h ≤ known_at pass later
 known_grows h later (Sender s) a b = a
 known_grows h later (Receiver r) a b = b
