@@ -1,5 +1,6 @@
 -- What every run gives a board.
 use Rattle.std.proofs.Common.{◌≡◌, ℕ, ◌<◌, List, Option, Some, None, IfSome, sym, subst, refl}
+use Rattle.cc_model.specs.Kept.{lists}
 use Rattle.cc_model.specs.declared.call.Answer.{Answer}
 use Rattle.cc_model.specs.declared.call.Pass.{Pass}
 use Rattle.std.specs.Option.{option_map}
@@ -40,15 +41,15 @@ told_here : (b : Board) → IsLawful b → AlwaysTold b.setting → (p : ℕ) �
 told_here b l always p near = subst (λ (s : State). (answer : Answer) → (s.stand p).place ≡ place.Finished answer → IsLastAnswer (pass_at b.setting.config p) s.history answer) l.reached.leads
     (always l.reached.moves l.reached.run p near)
 
-told_row : (b : Board) → IsLawful b → AlwaysTold b.setting → (who : Pass) (i : Option ℕ) → index_of b.setting who ≡ i → (answer : Answer) → told_in (view_of b) i ≡ Some answer → IsLastAnswer who b.history.lists answer
+told_row : (b : Board) → IsLawful b → AlwaysTold b.setting → (who : Pass) (i : Option ℕ) → index_of b.setting who ≡ i → (answer : Answer) → told_in (view_of b) i ≡ Some answer → IsLastAnswer who (lists b.history) answer
 told_row b l always who None at answer is = absurd (cc)
 told_row b l always who (Some p) at answer is =
-    subst (λ (w : Pass). IsLastAnswer w b.history.lists answer) (named b.setting who p at)
+    subst (λ (w : Pass). IsLastAnswer w (lists b.history) answer) (named b.setting who p at)
     (subst (λ h. IsLastAnswer (pass_at b.setting.config p) h answer) (history_in (view_of b))
     (told_here b l always p (inside b.setting who p at) answer (finished ((state_of b).stand p).place answer is)))
 
 -- what a pass is told is its last call's answer in the history
-pub told_if : (b : Board) → IsLawful b → AlwaysTold b.setting → (who : Pass) (r : Option Answer) → r ≡ answer_of (view_of b) who → IfSome r (λ answer. IsLastAnswer who b.history.lists answer)
+pub told_if : (b : Board) → IsLawful b → AlwaysTold b.setting → (who : Pass) (r : Option Answer) → r ≡ answer_of (view_of b) who → IfSome r (λ answer. IsLastAnswer who (lists b.history) answer)
 told_if b l always who None is = tt
 told_if b l always who (Some answer) is = told_row b l always who (index_of b.setting who) refl answer (sym is)
 
@@ -64,7 +65,7 @@ number_row b l always who (Some p) at told is =
 
 -- what a pass is told is its last call's answer in the history, that its call was accepted in this place
 pub number_if : (b : Board) → IsLawful b → AlwaysTold b.setting → AlwaysNumber b.setting → (who : Pass) (r : Option Answer) → r ≡ answer_of (view_of b) who →
-    IfSome (option_map count_word r) (λ number. IsLastAnswer who b.history.lists (answer.Send (send.Accepted number)))
+    IfSome (option_map count_word r) (λ number. IsLastAnswer who (lists b.history) (answer.Send (send.Accepted number)))
 number_if b l always number who None is = tt
 number_if b l always number who (Some told) is =
-    subst (λ (a : Answer). IsLastAnswer who b.history.lists a) (number_row b l number who (index_of b.setting who) refl told (sym is)) (told_row b l always who (index_of b.setting who) refl told (sym is))
+    subst (λ (a : Answer). IsLastAnswer who (lists b.history) a) (number_row b l number who (index_of b.setting who) refl told (sym is)) (told_row b l always who (index_of b.setting who) refl told (sym is))

@@ -4,7 +4,7 @@ use Rattle.std.specs.List.{filter}
 use Rattle.std.proofs.lemmas.Bool.{cases_eq, eq-eqb, ne_eqb, lt-ltb}
 use Rattle.std.proofs.lemmas.List.{append-nil}
 use Rattle.std.proofs.lemmas.List.Elements.{filter-append}
-use Rattle.cc_model.specs.Record.{Record}
+use Rattle.cc_model.specs.Record.{Side, Record}
 use Rattle.cc_model.specs.Items.{is_pass, calls_of}
 use Rattle.cc_model.specs.declared.call.Pass.{Pass}
 use Rattle.cc_model.specs.declared.call.Pass.TheVariants as pass
@@ -46,8 +46,9 @@ use Rattle.cc_machine.proofs.ChainRuns.{not_other}
 use Rattle.cc_machine.proofs.Chains.Opening.{no_calls}
 use Rattle.cc_machine.proofs.Chains.View.{pass_on}
 use Rattle.cc_machine.proofs.Chains.Frame.{hold_here, hold_apart}
-use Rattle.cc_machine.proofs.Chains.Registers.{HasCall}
-use Rattle.cc_machine.proofs.Chains.Others.{IsOn, IsOff, which, calls_other}
+use Rattle.cc_machine.proofs.Chains.Registers.{HasSide, HasCall}
+use Rattle.cc_machine.proofs.Chains.Others.{IsOn, IsOff, which, side_other}
+use Rattle.cc_machine.proofs.Chains.Facts.{side_same}
 use Rattle.cc_machine.proofs.Chains.Serving.{Chains, chains_hold, chain_is, on_chain}
 use Rattle.cc_machine.proofs.Chains.Last.{chosen}
 use Rattle.cc_machine.proofs.Chains.Told.{named, name_is, other_name, NotOther, calls_one}
@@ -165,9 +166,8 @@ other_step f calls place.Idle its = refl
 other_step f calls _ its = refl
 
 -- the calls of a chain after a note
-calls_noted : (x : Chain) (h : Record) (e : Option Entry) (a : Option Answer) → calls_on x (noted x h e a) ≡ appended (calls_on x h) e
-calls_noted Send h e a = refl
-calls_noted (Take g) h e a = refl
+calls_noted : (x : Chain) (h : Record) (e : Option Entry) (a : Option Answer) → HasSide x h → calls_on x (noted x h e a) ≡ appended (calls_on x h) e
+calls_noted x h e a there = ap (λ (s : Side). s.calls) (side_same x h (record { calls = appended (calls_on x h) e; answers = appended (answers_on x h) a }) there)
 
 -- the calls of the history that a test takes, without their answers
 abbrev bare : List (Entry × Option Answer) → List Entry
@@ -199,18 +199,18 @@ finished_none _ a = absurd a
 -- two passes of one chain have two names
 two_names : (c : Setting) (x : Chain) (p q : ℕ) → IsOn c x p → IsOn c x q → q ≢ p → is_pass (pass_at c.config p) (pass_at c.config q) ≡ false
 two_names c x p q on_p on_q ne =
-    let first : pass_at c.config p ≡ named x on_p.number = ap (λ (z : ℕ). pass_at c.config z) on_p.pass_is ∙ name_is c x on_p.number on_p.inside in
-    let second : pass_at c.config q ≡ named x on_q.number = ap (λ (z : ℕ). pass_at c.config z) on_q.pass_is ∙ name_is c x on_q.number on_q.inside in
-    (λ i. is_pass (first i) (second i)) ∙ other_name x on_p.number on_q.number (λ same. ne (on_q.pass_is ∙ ap (λ (z : ℕ). pass_on c x z) same ∙ sym on_p.pass_is))
+    let first : pass_at c.config p ≡ named c x on_p.number = ap (λ (z : ℕ). pass_at c.config z) on_p.pass_is ∙ name_is c x on_p.number on_p.inside in
+    let second : pass_at c.config q ≡ named c x on_q.number = ap (λ (z : ℕ). pass_at c.config z) on_q.pass_is ∙ name_is c x on_q.number on_q.inside in
+    (λ i. is_pass (first i) (second i)) ∙ other_name c x on_p.number on_q.number (λ same. ne (on_q.pass_is ∙ ap (λ (z : ℕ). pass_on c x z) same ∙ sym on_p.pass_is))
 
 -- the calls of a pass are among those of its side
-own_calls : (c : Setting) (s : State) (p : ℕ) → p < passes c → NotOther (chain_of c.config p) s.history →
+own_calls : (c : Setting) (s : State) (p : ℕ) → p < passes c → NotOther c (chain_of c.config p) s.history →
     bare (calls_of (pass_at c.config p) s.history) ≡ filter (λ (z : Entry). is_pass (pass_at c.config p) z.pass) (calls_on (chain_of c.config p) s.history)
 own_calls c s p less none =
     let on : IsOn c (chain_of c.config p) p = on_chain c p less in
-    let name : pass_at c.config p ≡ named (chain_of c.config p) on.number = ap (λ (z : ℕ). pass_at c.config z) on.pass_is ∙ name_is c (chain_of c.config p) on.number on.inside in
-    ap (λ (w : Pass). bare (calls_of w s.history)) name ∙ ap bare (calls_one (chain_of c.config p) s.history on.number none)
-    ∙ chosen_calls (λ (z : Entry). is_pass (named (chain_of c.config p) on.number) z.pass) (calls_on (chain_of c.config p) s.history) (answers_on (chain_of c.config p) s.history)
+    let name : pass_at c.config p ≡ named c (chain_of c.config p) on.number = ap (λ (z : ℕ). pass_at c.config z) on.pass_is ∙ name_is c (chain_of c.config p) on.number on.inside in
+    ap (λ (w : Pass). bare (calls_of w s.history)) name ∙ ap bare (calls_one c (chain_of c.config p) s.history on.number on.inside none)
+    ∙ chosen_calls (λ (z : Entry). is_pass (named c (chain_of c.config p) on.number) z.pass) (calls_on (chain_of c.config p) s.history) (answers_on (chain_of c.config p) s.history)
     ∙ ap (λ (w : Pass). filter (λ (z : Entry). is_pass w z.pass) (calls_on (chain_of c.config p) s.history)) (sym name)
 
 -- a call that is about to exchange is of its pass
@@ -256,16 +256,16 @@ module _ (c : Setting) (some : 0 < c.config.bound) (p : ℕ) (less : p < passes 
       has ∙ ap (λ (z : Stand). filter its (calls_on side s.history) ++ to_exchange z.place) (sym (hold_apart s.stand q p (rests (s.stand q)) (λ same. ne (sym same))))
 
   -- the calls of the side after a step of pass q
-  calls_after : (s : State) (q : ℕ) → chain_of c.config q ≡ side → calls_on side (stepped c s q).history ≡ appended (calls_on side s.history) (enters (s.stand q).place)
-  calls_after s q same =
+  calls_after : (s : State) (k : Chains c s) (q : ℕ) → chain_of c.config q ≡ side → calls_on side (stepped c s q).history ≡ appended (calls_on side s.history) (enters (s.stand q).place)
+  calls_after s k q same =
       ap (λ (y : Chain). calls_on side (noted y s.history (enters (s.stand q).place) (decides c (s.stand q).place (s.mem (word_of (operation c (chain_of c.config q) (s.stand q).node (s.stand q).place)))))) same
-      ∙ calls_noted side s.history (enters (s.stand q).place) (decides c (s.stand q).place (s.mem (word_of (operation c (chain_of c.config q) (s.stand q).node (s.stand q).place))))
+      ∙ calls_noted side s.history (enters (s.stand q).place) (decides c (s.stand q).place (s.mem (word_of (operation c (chain_of c.config q) (s.stand q).node (s.stand q).place)))) (k.holds side (chain_is c p less)).side_in
 
   step_own : (s : State) (k : Chains c s) (began : List Entry) → Has began s → Has began (stepped c s p)
   step_own s k began has =
       own_step c side (s.stand p).node (s.mem (word_of (operation c side (s.stand p).node (s.stand p).place))) its (calls_on side s.history) began (s.stand p).place has
       (λ call is. ap (λ (w : Pass). is_pass (pass_at c.config p) w) (exchange_pass c s k p less call is) ∙ pass_self (pass_at c.config p))
-      ∙ ap (λ (l : List Entry). filter its l ++ to_exchange (advanced c side (s.stand p) (s.mem (word_of (operation c side (s.stand p).node (s.stand p).place)))).place) (sym (calls_after s p refl))
+      ∙ ap (λ (l : List Entry). filter its l ++ to_exchange (advanced c side (s.stand p) (s.mem (word_of (operation c side (s.stand p).node (s.stand p).place)))).place) (sym (calls_after s k p refl))
       ∙ ap (λ (z : Stand). filter its (calls_on side (stepped c s p).history) ++ to_exchange z.place) (sym (hold_here s.stand p (advanced c side (s.stand p) (s.mem (word_of (operation c side (s.stand p).node (s.stand p).place))))))
 
   same_stand : (s : State) (q : ℕ) → q ≢ p → (stepped c s q).stand p ≡ s.stand p
@@ -274,11 +274,11 @@ module _ (c : Setting) (some : 0 < c.config.bound) (p : ℕ) (less : p < passes 
   -- another pass of the same side, and one of the other
   same_calls : (s : State) (k : Chains c s) (q : ℕ) → q < passes c → q ≢ p → IsOn c side q ⊎ IsOff c side q → filter its (calls_on side (stepped c s q).history) ≡ filter its (calls_on side s.history)
   same_calls s k q qn ne (inl on) =
-      ap (λ (l : List Entry). filter its l) (calls_after s q on.chain_is)
+      ap (λ (l : List Entry). filter its l) (calls_after s k q on.chain_is)
       ∙ other_step its (calls_on side s.history) (s.stand q).place
       (λ call is. ap (λ (w : Pass). is_pass (pass_at c.config p) w) (exchange_pass c s k q qn call is) ∙ two_names c side p q (on_chain c p less) on ne)
   same_calls s k q qn ne (inr off) =
-      ap (λ (l : List Entry). filter its l) (calls_other side (chain_of c.config q) s.history (enters (s.stand q).place) (decides c (s.stand q).place (s.mem (word_of (operation c (chain_of c.config q) (s.stand q).node (s.stand q).place)))) off.other)
+      ap (λ (l : List Entry). filter its l) (ap (λ (z : Side). z.calls) (side_other side (chain_of c.config q) s.history _ off.other))
 
   step_keeps : (s : State) (k : Chains c s) (began : List Entry) (q : ℕ) → q < passes c → Has began s → q ≡ p ⊎ q ≢ p → Has began (stepped c s q)
   step_keeps s k began q qn has (inl same) = subst (λ (z : ℕ). Has began (stepped c s z)) (sym same) (step_own s k began has)
@@ -287,7 +287,7 @@ module _ (c : Setting) (some : 0 < c.config.bound) (p : ℕ) (less : p < passes 
       ∙ ap (λ (z : Stand). filter its (calls_on side (stepped c s q).history) ++ to_exchange z.place) (sym (same_stand s q ne))
 
   opened : Has [] (opening c)
-  opened = sym (ap (λ (l : List Entry). filter its l ++ to_exchange ((opening c).stand p).place) (no_calls side) ∙ ap (λ (z : Stand). to_exchange z.place) (ap (λ (b : Bool). cond b record { begun = 0; node = first_node c.config p; place = place.Idle } nowhere) (lt-ltb p (passes c) less)))
+  opened = sym (ap (λ (l : List Entry). filter its l ++ to_exchange ((opening c).stand p).place) (ap (λ (z : Side). z.calls) (no_calls (groups c.config) side)) ∙ ap (λ (z : Stand). to_exchange z.place) (ap (λ (b : Bool). cond b record { begun = 0; node = first_node c.config p; place = place.Idle } nowhere) (lt-ltb p (passes c) less)))
 
   pub has_made : (moves : List Move) → IsRun c moves → Has (made c moves p) (reached c moves)
   has_made [] run = opened

@@ -1,10 +1,10 @@
 -- What there is to be known of a history goes on with it.
-use Rattle.std.proofs.Common.{◌≡◌, ◌≢◌, ℕ, ◌+◌, ◌<◌, ◌≤◌, List, [], ◌∷◌, ◌++◌, length, Bool, true, false, ◌||◌, if◌then◌else◌, Option, Some, None, refl, sym, ap, subst, ◌∙◌, arith, length-append, inl, inr}
+use Rattle.std.proofs.Common.{◌≡◌, ◌≢◌, ℕ, ◌+◌, ◌<◌, ◌≤◌, List, [], ◌∷◌, ◌++◌, length, Bool, true, false, ◌||◌, if◌then◌else◌, Option, Some, None, refl, sym, ap, subst, ◌∙◌, arith, length-append, inl, inr, zero, suc, ◌-◌, map, get_or, slice_index_or, replicate, min}
 use Rattle.std.specs.List.{slice_get, list_any}
 use Rattle.std.proofs.lemmas.Option.{slice_get_past, slice_get_cases}
-use Rattle.std.proofs.lemmas.List.{length_push}
-use Rattle.cc_model.specs.Record.{Record}
-use Rattle.cc_model.specs.Items.{accepted_by, accepted_item, sent_item, shuts, handed_by, handed_item, is_shut, known_at}
+use Rattle.std.proofs.lemmas.List.{length_push, length-map, length-set, get_or-set_same, get_or-set_other}
+use Rattle.cc_model.specs.Record.{Side, Record, empty, of_group}
+use Rattle.cc_model.specs.Items.{accepted_by, accepted_item, sent_item, shuts, handed, handed_by, handed_item, is_shut, known_at, least}
 use Rattle.cc_model.specs.declared.call.Pass.{Pass}
 use Rattle.cc_model.specs.declared.call.Pass.TheVariants as pass
 use Rattle.cc_model.specs.declared.call.Call.{Call}
@@ -20,13 +20,43 @@ use Rattle.cc_model.proofs.Grows.{get_front, get_last, any-append, accepted_more
 use Rattle.cc_machine.specs.declared.known.Known.{Known}
 use Rattle.cc_machine.specs.declared.word.Chain.{Chain}
 use Rattle.cc_machine.specs.declared.word.Chain.TheVariants.{Send, Take}
-use Rattle.cc_machine.specs.State.{appended, noted}
+use Rattle.cc_machine.specs.State.{side, appended, noted}
+use Rattle.cc_machine.specs.Words.{groups}
+use Rattle.cc_machine.specs.Columns.{group_of}
+use Rattle.cc_model.specs.declared.config.Config.{Config}
+use Rattle.std.proofs.lemmas.Bool.{cases_eq}
+use Rattle.cc_machine.proofs.Chains.Registers.{HasSide}
+use Rattle.cc_machine.proofs.Chains.Opening.{no_calls}
+use Rattle.cc_machine.proofs.ListRuns.Decided.{group_mine, group_other}
+use Rattle.cc_machine.proofs.ListRuns.Least.{least_smallest, counts_get}
+use Rattle.cc_machine.proofs.LinkedList.Sides.{smallest, smallest_one, smallest_min}
 use Rattle.cc_machine.specs.Safe.{HasOpenCall}
-use Rattle.cc_machine.specs.Known.{adds_entry, adds_shut, adds_handed, HasCounted, IsKnown, known_count}
+use Rattle.cc_machine.specs.Known.{adds_entry, adds_shut, adds_handed, HasCounted, IsKnown, least_of, known_count}
 
-pub known_is : (h : Record) (k : Known) (who : Pass) → IsKnown h k → known_count k who ≡ known_at who h
-known_is h k (pass.Sender n) known = known.handed_is
-known_is h k (pass.Receiver n) known = known.entries_is
+-- the smallest is the least one after another
+smallest_of : (m : ℕ) (f : ℕ → ℕ) → least_of m f ≡ smallest m f
+smallest_of zero f = sym (smallest_one f)
+smallest_of (suc m) f = ap (λ (n : ℕ). min n (f (suc m))) (smallest_of m f) ∙ sym (smallest_min m f)
+
+-- the least over the groups, of counts one by one and of the list of the groups' counts
+least_more : (x : ℕ) (xs : List ℕ) (f : ℕ → ℕ) → ((k : ℕ) → k ≤ length xs → f k ≡ get_or (x ∷ xs) k 0) → least_of (length xs) f ≡ least (x ∷ xs)
+least_more x xs f same =
+    smallest_of (length xs) f ∙ least_smallest x xs f same
+
+pub known_is : (c : Config) (h : Record) (k : Known) (who : Pass) → 0 < groups c → length h.takes ≡ groups c → IsKnown h k → known_count (groups c) k who ≡ known_at who h
+known_is c h k (pass.Sender n) some many known = by_list h.takes refl
+  where
+    count : Side → ℕ
+    count = λ side. length (handed_by side.answers)
+
+    by_list : (sides : List Side) → h.takes ≡ sides → least_of (groups c - 1) (λ g. slice_index_or k.handed g 0) ≡ least (map count h.takes)
+    by_list [] e = absurd (omega (arith, many, some, ap length e))
+    by_list (s ∷ sides) e =
+        let long : length (map count sides) ≡ groups c - 1 = omega (arith, length-map sides count, many, ap length e) in
+        ap (λ (m : ℕ). least_of m (λ g. slice_index_or k.handed g 0)) (sym long)
+        ∙ least_more (count s) (map count sides) (λ g. slice_index_or k.handed g 0) (λ j l. known.handed_are j ∙ sym (counts_get h.takes j) ∙ ap (λ (z : List Side). get_or (map count z) j 0) e)
+        ∙ ap (λ (z : List Side). least (map count z)) (sym e)
+known_is c h k (pass.Receiver n) some many known = known.entries_is
 
 -- ---- the senders' side
 
@@ -152,33 +182,90 @@ handing calls answers c (Some a) order waits =
 -- a history with what is known of it, and no answer before its call
 pub record IsCounted (h : Record) (k : Known) : Type 0 where
   pub known : IsKnown h k
-  pub e_order : length h.e_answers ≤ length h.e_calls
-  pub d_order : length h.d_answers ≤ length h.d_calls
+  pub order : (x : Chain) → length (side x h).answers ≤ length (side x h).calls
 
-both : (h t : Record) (k n : Known) (ec dc : Option Entry) (ea da : Option Answer) → t ≡ record { e_calls = appended h.e_calls ec; e_answers = appended h.e_answers ea; d_calls = appended h.d_calls dc; d_answers = appended h.d_answers da } →
-    (ea ≢ None → length h.e_answers < length h.e_calls) → (da ≢ None → length h.d_answers < length h.d_calls) → IsCounted h k → HasCounted k t (length h.e_answers) (length h.d_answers) n → IsCounted t n
-both h t k n ec dc ea da is ew dw i m =
-    let e = grown h.e_calls h.e_answers ec ea i.e_order ew in
-    let d = handing h.d_calls h.d_answers dc da i.d_order dw in
-    subst (λ (z : Record). HasCounted k z (length h.e_answers) (length h.d_answers) n → IsCounted z n) (sym is) (λ m. record {
-      known = record {
-        entries_is = m.entries_is ∙ ap (λ (b : Bool). k.entries + adds_entry b (slice_get (appended h.e_calls ec) (length h.e_answers)) (slice_get (appended h.e_answers ea) (length h.e_answers))) i.known.shut_is
-            ∙ ap (λ (x : ℕ). x + adds_entry (is_shut h) (slice_get (appended h.e_calls ec) (length h.e_answers)) (slice_get (appended h.e_answers ea) (length h.e_answers))) i.known.entries_is ∙ sym e.entries_are;
-        shut_is = m.shut_is ∙ ap (λ (b : Bool). b || adds_shut (slice_get (appended h.e_answers ea) (length h.e_answers))) i.known.shut_is ∙ sym e.shut_is;
-        handed_is = omega (arith, m.handed_is, i.known.handed_is, d.handed_are);
-        few = let same : adds_entry k.shut (slice_get (appended h.e_calls ec) (length h.e_answers)) (slice_get (appended h.e_answers ea) (length h.e_answers)) ≡ adds_entry (is_shut h) (slice_get (appended h.e_calls ec) (length h.e_answers)) (slice_get (appended h.e_answers ea) (length h.e_answers)) = ap (λ (b : Bool). adds_entry b (slice_get (appended h.e_calls ec) (length h.e_answers)) (slice_get (appended h.e_answers ea) (length h.e_answers))) i.known.shut_is in omega (arith, m.entries_is, same, i.known.few, e.few);
-        few_handed = omega (arith, m.handed_is, i.known.few_handed, d.few);
-      };
-      e_order = e.order;
-      d_order = d.order;
-    }) m
+-- a side with a call more, or an answer
+abbrev more : Side → Option Entry → Option Answer → Side
+more s c a = record { calls = appended s.calls c; answers = appended s.answers a }
 
--- the history with a call more, or an answer
-pub counted : (x : Chain) (h t : Record) (k n : Known) (c : Option Entry) (a : Option Answer) → t ≡ noted x h c a → (a ≢ None → HasOpenCall h x) → IsCounted h k →
-    HasCounted k t (length h.e_answers) (length h.d_answers) n → IsCounted t n
-counted Send h t k n c a is waits i m = both h t k n c None a None is waits (λ some. absurd (some refl)) i m
-counted (Take g) h t k n c a is waits i m = both h t k n None c None a is (λ some. absurd (some refl)) waits i m
+module _ (h t : Record) (k n : Known) (g : ℕ) (few : g < 8) (ec dc : Option Entry) (ea da : Option Answer) (s_is : t.sends ≡ more h.sends ec ea) (g_is : of_group t g ≡ more (of_group h g) dc da) (others : (x : ℕ) → x ≢ g → of_group t x ≡ of_group h x)
+    (ew : ea ≢ None → length h.sends.answers < length h.sends.calls) (dw : da ≢ None → length (of_group h g).answers < length (of_group h g).calls) (i : IsCounted h k) (m : HasCounted k t (length h.sends.answers) g (length (of_group h g).answers) n) where
+  e : Grown h.sends.calls h.sends.answers ec ea
+  e = grown h.sends.calls h.sends.answers ec ea (i.order Send) ew
+
+  d : Handed (of_group h g).calls (of_group h g).answers dc da
+  d = handing (of_group h g).calls (of_group h g).answers dc da (i.order (Take g)) dw
+
+  -- what the answers add, in the words of the later history
+  adds_e : adds_entry k.shut (slice_get t.sends.calls (length h.sends.answers)) (slice_get t.sends.answers (length h.sends.answers)) ≡ adds_entry (is_shut h) (slice_get (appended h.sends.calls ec) (length h.sends.answers)) (slice_get (appended h.sends.answers ea) (length h.sends.answers))
+  adds_e = λ j. adds_entry (i.known.shut_is j) (slice_get (s_is j).calls (length h.sends.answers)) (slice_get (s_is j).answers (length h.sends.answers))
+
+  adds_d : adds_handed (slice_get (of_group t g).answers (length (of_group h g).answers)) ≡ adds_handed (slice_get (appended (of_group h g).answers da) (length (of_group h g).answers))
+  adds_d = ap (λ (s : Side). adds_handed (slice_get s.answers (length (of_group h g).answers))) g_is
+
+  now : slice_index_or n.handed g 0 ≡ slice_index_or k.handed g 0 + adds_handed (slice_get (of_group t g).answers (length (of_group h g).answers))
+  now = ap (λ (l : List ℕ). slice_index_or l g 0) m.handed_are ∙ get_or-set_same k.handed g _ 0 (omega (arith, few, i.known.long))
+
+  away : (x : ℕ) → x ≢ g → slice_index_or n.handed x 0 ≡ slice_index_or k.handed x 0
+  away x ne = ap (λ (l : List ℕ). slice_index_or l x 0) m.handed_are ∙ get_or-set_other k.handed g x _ 0 ne
+
+  both : IsCounted t n
+  both = record {
+    known = record {
+      entries_is = omega (arith, m.entries_is, i.known.entries_is, adds_e, e.entries_are, ap (λ (s : Side). entries_by s.calls s.answers) s_is);
+      shut_is = m.shut_is ∙ (λ j. i.known.shut_is j || adds_shut (slice_get (s_is j).answers (length h.sends.answers))) ∙ sym (ap (λ (s : Side). list_any shuts s.answers) s_is ∙ e.shut_is);
+      long = ap length m.handed_are ∙ length-set k.handed g _ ∙ i.known.long;
+      handed_are = λ x. elim (cases_eq x g) [
+        | inl same ↦ subst (λ (z : ℕ). slice_index_or n.handed z 0 ≡ length (handed t z)) (sym same) (omega (arith, now, adds_d, i.known.handed_are g, d.handed_are, ap (λ (s : Side). length (handed_by s.answers)) g_is))
+        | inr ne ↦ away x ne ∙ i.known.handed_are x ∙ sym (ap (λ (s : Side). length (handed_by s.answers)) (others x ne))
+      ];
+      few = omega (arith, m.entries_is, adds_e, i.known.few, e.few, ap (λ (s : Side). length s.answers) s_is);
+      few_handed = λ x. elim (cases_eq x g) [
+        | inl same ↦ subst (λ (z : ℕ). slice_index_or n.handed z 0 ≤ length (of_group t z).answers) (sym same) (omega (arith, now, adds_d, i.known.few_handed g, d.few, ap (λ (s : Side). length s.answers) g_is))
+        | inr ne ↦ omega (arith, away x ne, i.known.few_handed x, ap (λ (s : Side). length s.answers) (others x ne))
+      ];
+    };
+    order = order;
+  }
+    where
+      order : (x : Chain) → length (side x t).answers ≤ length (side x t).calls
+      order Send = subst (λ (s : Side). length s.answers ≤ length s.calls) (sym s_is) e.order
+      order (Take x) = elim (cases_eq x g) [
+        | inl same ↦ subst (λ (z : ℕ). length (of_group t z).answers ≤ length (of_group t z).calls) (sym same) (subst (λ (s : Side). length s.answers ≤ length s.calls) (sym g_is) d.order)
+        | inr ne ↦ subst (λ (s : Side). length s.answers ≤ length s.calls) (sym (others x ne)) (i.order (Take x))
+      ]
+
+-- the history with a call more, or an answer, on the chain of this group or on the senders'
+pub counted : (x : Chain) (h t : Record) (k n : Known) (g : ℕ) (c : Option Entry) (a : Option Answer) → g < 8 → HasSide x h → group_of x ≡ g → t ≡ noted x h c a → (a ≢ None → HasOpenCall h x) → IsCounted h k →
+    HasCounted k t (length h.sends.answers) g (length (of_group h g).answers) n → IsCounted t n
+counted Send h t k n g c a few there at is waits i m =
+    both h t k n g few c None a None (ap (λ (z : Record). z.sends) is) (ap (λ (z : Record). of_group z g) is) (λ x ne. ap (λ (z : Record). of_group z x) is) waits (λ some. absurd (some refl)) i m
+counted (Take y) h t k n g c a few there at is waits i m =
+    both h t k n g few None c None a (ap (λ (z : Record). z.sends) is)
+    (ap (λ (z : Record). of_group z g) is ∙ subst (λ (z : ℕ). of_group (noted (Take y) h c a) z ≡ more (of_group h z) c a) at (group_mine h y (more (of_group h y) c a) there))
+    (λ x ne. ap (λ (z : Record). of_group z x) is ∙ group_other h y x (more (of_group h y) c a) (λ e. ne (e ∙ at)))
+    (λ some. absurd (some refl)) (λ some. subst (λ (z : ℕ). length (of_group h z).answers < length (of_group h z).calls) at (waits some)) i m
 
 -- and as it was
-pub counted_still : (h t : Record) (k n : Known) → t ≡ h → IsCounted h k → HasCounted k t (length h.e_answers) (length h.d_answers) n → IsCounted t n
-counted_still h t k n is i m = both h t k n None None None None is (λ some. absurd (some refl)) (λ some. absurd (some refl)) i m
+pub counted_still : (h t : Record) (k n : Known) (g : ℕ) → g < 8 → t ≡ h → IsCounted h k → HasCounted k t (length h.sends.answers) g (length (of_group h g).answers) n → IsCounted t n
+counted_still h t k n g few is i m =
+    both h t k n g few None None None None (ap (λ (z : Record). z.sends) is) (ap (λ (z : Record). of_group z g) is) (λ x ne. ap (λ (z : Record). of_group z x) is) (λ some. absurd (some refl)) (λ some. absurd (some refl)) i m
+
+-- at the opening
+zero_at : (m g : ℕ) → ◌≡◌ {A = ℕ} (get_or (replicate {A = ℕ} m 0) g 0) 0
+zero_at zero g = refl
+zero_at (suc m) zero = refl
+zero_at (suc m) (suc g) = zero_at m g
+
+pub counted_first : (n : ℕ) → IsCounted (empty n) (record { entries = 0; shut = false; handed = replicate 8 0 })
+counted_first n = record {
+  known = record {
+    entries_is = refl;
+    shut_is = refl;
+    long = refl;
+    handed_are = λ g. zero_at 8 g ∙ sym (ap (λ (s : Side). length (handed_by s.answers)) (no_calls n (Take g)));
+    few = omega arith;
+    few_handed = λ g. omega (arith, zero_at 8 g);
+  };
+  order = λ x. subst (λ (s : Side). length s.answers ≤ length s.calls) (sym (no_calls n x)) (omega arith);
+}

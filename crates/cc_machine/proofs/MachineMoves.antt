@@ -1,6 +1,7 @@
 -- The machine of a list stays one by each of its calls.
-use Rattle.std.proofs.Common.{◌≡◌, ◌≢◌, ℕ, length, Option, Some, None, Result, Ok, Err, OnOk, OnErr, refl, sym, ap, subst, ◌∙◌}
-use Rattle.cc_model.specs.Record.{Record, empty}
+use Rattle.std.proofs.Common.{◌≡◌, ◌≢◌, ◌<◌, arith, ℕ, length, Option, Some, None, Result, Ok, Err, OnOk, OnErr, refl, sym, ap, subst, ◌∙◌}
+use Rattle.cc_model.specs.Record.{Record, empty, of_group}
+use Rattle.cc_model.specs.Kept.{lists}
 use Rattle.cc_model.specs.declared.call.Call.{Call}
 use Rattle.cc_model.specs.declared.call.Answer.{Answer}
 use Rattle.cc_machine.specs.declared.setting.Setting.{Setting}
@@ -22,9 +23,14 @@ use Rattle.cc_machine.specs.Safe.{WhileUndecided, HasOpenCall, IsReady}
 use Rattle.cc_machine.specs.View.{View}
 use Rattle.cc_machine.specs.Shown.{view_of, state_of}
 use Rattle.cc_machine.specs.Machine.{HasBegun, HasStepped, HasTaken}
+use Rattle.cc_machine.specs.Words.{groups}
+use Rattle.cc_machine.specs.Columns.{group_of}
+use Rattle.cc_machine.specs.Shown.{IsLaid}
+use Rattle.cc_machine.specs.Run.{passes}
+use Rattle.cc_machine.proofs.Chains.Registers.{HasSide}
 use Rattle.cc_machine.specs.Known.{HasCounted}
 use Rattle.cc_machine.specs.Lawful.{IsLawful, IsMachine}
-use Rattle.cc_machine.proofs.LawfulMoves.{history_in}
+use Rattle.cc_machine.proofs.LawfulMoves.{history_in, has_side}
 use Rattle.cc_machine.proofs.KnownMoves.{IsCounted, counted, counted_still}
 
 -- ---- calls that leave the history
@@ -51,11 +57,11 @@ taken_or_not v w (Some p) None h = as_it_was v w h
 taken_or_not v w None (Some told) h = absurd h
 taken_or_not v w (Some p) (Some told) h = record { setting = h.setting; history = sym (history_in w) ∙ ap (λ (s : State). s.history) h.state ∙ history_in v }
 
-counted_in : (b : Board) (k : Known) → IsMachine b k → IsCounted b.history.lists k
-counted_in b k m = record { known = m.known; e_order = m.e_order; d_order = m.d_order }
+counted_in : (b : Board) (k : Known) → IsMachine b k → IsCounted (lists b.history) k
+counted_in b k m = record { known = m.known; order = m.order }
 
-machine : (b : Board) (k : Known) → b.setting.served ≡ served.List → IsLawful b → IsCounted b.history.lists k → IsMachine b k
-machine b k is l i = record { served_is = is; lawful = l; known = i.known; e_order = i.e_order; d_order = i.d_order }
+machine : (b : Board) (k : Known) → b.setting.served ≡ served.List → IsLawful b → IsCounted (lists b.history) k → IsMachine b k
+machine b k is l i = record { served_is = is; lawful = l; known = i.known; order = i.order }
 
 kept : (old new : Board) (k : Known) → IsMachine old k → IsLawful new → Same (view_of old) (view_of new) → IsMachine new k
 kept old new k m l same =
@@ -68,9 +74,9 @@ machine_begun old new k i call known r m l ok err = kept old new k m l (begun_or
 pub machine_taken : (old new : Board) (k : Known) (i : Option ℕ) (told : Option Answer) → IsMachine old k → IsLawful new → HasTaken (view_of old) i told (view_of new) → IsMachine new k
 machine_taken old new k i told m l h = kept old new k m l (taken_or_not (view_of old) (view_of new) i told h)
 
-pub machine_opened : (b : Board) (c : Setting) (k : Known) → c.served ≡ served.List → IsLawful b → b.setting ≡ c → state_of b ≡ opening c → IsCounted empty k → IsMachine b k
+pub machine_opened : (b : Board) (c : Setting) (k : Known) → c.served ≡ served.List → IsLawful b → b.setting ≡ c → state_of b ≡ opening c → IsCounted (empty (groups c.config)) k → IsMachine b k
 machine_opened b c k is l same opened i =
-    let none : b.history.lists ≡ empty = sym (history_in (view_of b)) ∙ ap (λ (s : State). s.history) opened in
+    let none : (lists b.history) ≡ empty (groups c.config) = sym (history_in (view_of b)) ∙ ap (λ (s : State). s.history) opened in
     machine b k (ap (λ (z : Setting). z.served) same ∙ is) l (subst (λ (h : Record). IsCounted h k) (sym none) i)
 
 -- ---- a step
@@ -87,26 +93,31 @@ decided c (place.Sending job service) found P waits some = waits
 decided c (place.Taking job service) found P waits some = waits
 decided c _ found P waits some = absurd (some refl)
 
-stepped_counts : (c : Setting) (s : State) (p : ℕ) (t : Record) (k n : Known) → IsReady c s p → t ≡ (stepped c s p).history → IsCounted s.history k →
-    HasCounted k t (length s.history.e_answers) (length s.history.d_answers) n → IsCounted t n
-stepped_counts c s p t k n ready is i m =
+stepped_counts : (c : Setting) (s : State) (p g : ℕ) (t : Record) (k n : Known) → g < 8 → HasSide (chain_of c.config p) s.history → group_of (chain_of c.config p) ≡ g → IsReady c s p → t ≡ (stepped c s p).history → IsCounted s.history k →
+    HasCounted k t (length s.history.sends.answers) g (length (of_group s.history g).answers) n → IsCounted t n
+stepped_counts c s p g t k n few there at_group ready is i m =
     let x : Chain = chain_of c.config p in
     let at : Place = (s.stand p).place in
     let found : ℕ = s.mem (word_of (operation c x (s.stand p).node at)) in
-    counted x s.history t k n (enters at) (decides c at found) is (decided c at found (HasOpenCall s.history x) ready.unanswered) i m
+    counted x s.history t k n g (enters at) (decides c at found) few there at_group is (decided c at found (HasOpenCall s.history x) ready.unanswered) i m
 
-idle : (old new : Board) (k n : Known) → IsMachine old k → IsLawful new → view_of new ≡ view_of old → HasCounted k new.history.lists (length old.history.lists.e_answers) (length old.history.lists.d_answers) n → IsMachine new n
-idle old new k n m l is c =
+-- the group of a pass of the machine is one of at most eight
+few_groups : (b : Board) (g : ℕ) → IsLaid b → g < length b.history.takes → g < 8
+few_groups b g l inside = omega (arith, inside, l.groups, l.small.groups)
+
+idle : (old new : Board) (k n : Known) (g : ℕ) → g < length old.history.takes → IsMachine old k → IsLawful new → view_of new ≡ view_of old → HasCounted k (lists new.history) (length old.history.sends.lists.answers) g (length (of_group (lists old.history) g).answers) n → IsMachine new n
+idle old new k n g inside m l is c =
     machine new n (ap (λ (z : View). z.setting.served) is ∙ m.served_is) l
-    (counted_still old.history.lists new.history.lists k n (ap (λ (z : View). z.history) is) (counted_in old k m) c)
+    (counted_still (lists old.history) (lists new.history) k n g (few_groups old g m.lawful.laid inside) (ap (λ (z : View). z.history) is) (counted_in old k m) c)
 
-pub machine_stepped : (old new : Board) (k n : Known) (i : Option ℕ) (e : Event) → IsMachine old k → ((p : ℕ) → i ≡ Some p → IsReady old.setting (state_of old) p) → IsLawful new →
-    HasStepped (view_of old) i e (view_of new) → HasCounted k new.history.lists (length old.history.lists.e_answers) (length old.history.lists.d_answers) n → IsMachine new n
-machine_stepped old new k n None (Did kind) m ready l h c = absurd h
-machine_stepped old new k n None Idle m ready l h c = idle old new k n m l h c
-machine_stepped old new k n (Some p) Idle m ready l h c = idle old new k n m l h c
-machine_stepped old new k n (Some p) (Did kind) m ready l h c =
+pub machine_stepped : (old new : Board) (k n : Known) (i : Option ℕ) (g : ℕ) (e : Event) → IsMachine old k → ((p : ℕ) → i ≡ Some p → p < passes old.setting) → ((p : ℕ) → i ≡ Some p → IsReady old.setting (state_of old) p) → IsLawful new →
+    ((p : ℕ) → i ≡ Some p → group_of (chain_of old.setting.config p) ≡ g) → g < length old.history.takes →
+    HasStepped (view_of old) i e (view_of new) → HasCounted k (lists new.history) (length old.history.sends.lists.answers) g (length (of_group (lists old.history) g).answers) n → IsMachine new n
+machine_stepped old new k n None g (Did kind) m near ready l at inside h c = absurd h
+machine_stepped old new k n None g Idle m near ready l at inside h c = idle old new k n g inside m l h c
+machine_stepped old new k n (Some p) g Idle m near ready l at inside h c = idle old new k n g inside m l h c
+machine_stepped old new k n (Some p) g (Did kind) m near ready l at inside h c =
     machine new n (ap (λ (z : Setting). z.served) h.setting ∙ m.served_is) l
-    (stepped_counts old.setting (state_of old) p new.history.lists k n (ready p refl) (sym (history_in (view_of new)) ∙ ap (λ (s : State). s.history) h.state)
+    (stepped_counts old.setting (state_of old) p g (lists new.history) k n (few_groups old g m.lawful.laid inside) (has_side old m.lawful p (near p refl)) (at p refl) (ready p refl) (sym (history_in (view_of new)) ∙ ap (λ (s : State). s.history) h.state)
     (subst (λ (z : Record). IsCounted z k) (sym (history_in (view_of old))) (counted_in old k m))
-    (subst (λ (z : Record). HasCounted k new.history.lists (length z.e_answers) (length z.d_answers) n) (sym (history_in (view_of old))) c))
+    (subst (λ (z : Record). HasCounted k (lists new.history) (length z.sends.answers) g (length (of_group z g).answers) n) (sym (history_in (view_of old))) c))

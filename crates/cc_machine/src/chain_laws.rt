@@ -1,5 +1,5 @@
 ghost use Rattle.cc_machine.specs.CallsMade.{CallsOfRuns};
-ghost use Rattle.cc_machine.specs.ChainLaws.{ChainLawsOfRuns, CounterLawsOfRuns, CallsWaitForTheirLink};
+ghost use Rattle.cc_machine.specs.ChainLaws.{ChainLawsOfRuns, CounterLawsOfRuns, CallsWaitForTheirLink, CallsEndAnswered};
 
 /// The laws of the combining chains (CC-Synch, Fatourou and Kallimanis, PPoPP 2012), after every run of every machine,
 /// whatever its chains serve: one pass of a chain combines at most, and answers at most `bound` calls before it hands
@@ -26,4 +26,10 @@ pub fn laws_of_calls()
 /// call in the history, and has no answer there. A combiner reaches a call only over the link to the next node.
 pub fn calls_wait_for_their_link()
     ensures { CallsWaitForTheirLink }
+{}
+
+/// A pass that is out of its chain has no pending call, after every run: each of its calls in the history has its answer
+/// there. So has an idle pass.
+pub fn calls_end_answered()
+    ensures { CallsEndAnswered }
 {}

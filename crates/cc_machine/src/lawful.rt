@@ -2,9 +2,10 @@ ghost use Rattle.std.specs.Prelude.{◌≡◌, ◌≤◌, ◌<◌, ℕ, length, 
 ghost use Rattle.cc_model.specs.Config.{config_fault};
 ghost use Rattle.cc_model.specs.Items.{known_at};
 ghost use Rattle.cc_machine.specs.Safe.{IsReady};
-ghost use Rattle.cc_machine.specs.Shown.{view_of, state_of, IsLaid};
+ghost use Rattle.cc_machine.specs.Shown.{view_of, state_of, kept_side, IsLaid};
 ghost use Rattle.cc_machine.specs.Run.{passes};
 ghost use Rattle.cc_machine.specs.Machine.{IsOpened, OnSide, index_of, begin_fault, IsBeginFault, IsOpenFault, HasBegun, event_of, HasStepped, answer_of, HasTaken};
+ghost use Rattle.cc_machine.specs.Sides.{IsThere};
 ghost use Rattle.cc_machine.specs.Lawful.{if_to_come, to_come, all_coming, HasRoomToCome, LacksRoom, IsLawful};
 ghost use Rattle.cc_machine.specs.State.{chain_of};
 
@@ -73,7 +74,8 @@ impl Board {
 
     /// Whether a pass of this chain stands so that its call is yet to come: begun, and not exchanged.
     fn is_to_come(&self, chain: Chain, pass: usize) -> bool
-        requires { pass < length self.now.stands.items }
+        requires laid { IsLaid self.now }
+        requires pass { pass < length self.now.stands.items }
         ensures { if_to_come result ≡ to_come chain (chain_of self.now.setting.config pass) ((state_of self.now).stand pass).place }
     {
         let is_before = match self.stand(pass).place {
@@ -82,7 +84,7 @@ impl Board {
         };
         match (chain, self.chain(pass)) {
             (Chain::Send, Chain::Send) => is_before,
-            (Chain::Take(_), Chain::Take(_)) => is_before,
+            (Chain::Take(group), Chain::Take(of_pass)) => group == of_pass && is_before,
             _ => false,
         }
     }
@@ -91,7 +93,7 @@ impl Board {
     fn calls_to_come(&self, chain: Chain) -> usize
         requires laid { IsLaid self.now }
         ensures count { result ≡ all_coming self.now chain }
-        ensures few { result ≤ 128 }
+        ensures few { result ≤ 576 }
     {
         let mut count = 0;
         for pass in 0..self.stands.len() {
@@ -106,16 +108,16 @@ impl Board {
     /// of all calls.
     fn reserve(&mut self, chain: Chain) -> Result<(), AllocError>
         requires laid { IsLaid self.old }
+        requires there { IsThere self.old.setting.config chain }
         ensures view { view_of self.new ≡ view_of self.old }
-        ensures e_room { self.old.history.e_room ≤ self.new.history.e_room }
-        ensures d_room { self.old.history.d_room ≤ self.new.history.d_room }
+        ensures rooms { (x : Chain) → (kept_side x self.old.history).room ≤ (kept_side x self.new.history).room }
         ensures room { OnOk result (HasRoomToCome self.new chain) }
         ensures refused { OnErr result (LacksRoom self.old chain) }
     {
         let further = self.calls_to_come(chain) + 1;
         match chain {
-            Chain::Send => self.history.reserve_e(further),
-            Chain::Take(_) => self.history.reserve_d(further),
+            Chain::Send => self.history.reserve_sends(further),
+            Chain::Take(group) => self.history.reserve_takes(group as usize, further),
         }
     }
 
