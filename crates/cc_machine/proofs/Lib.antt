@@ -1,4 +1,5 @@
 pub mod Words
+pub mod KeptSides
 pub mod Opening
 pub mod Rows
 pub mod Faults
@@ -14,6 +15,7 @@ pub mod Counted
 pub mod CounterRuns
 pub mod ChainRuns
 pub mod ChainLaws
+pub mod EndAnswered
 pub mod CallsMade
 pub mod RunFronts
 pub mod Passes

@@ -21,25 +21,67 @@ freed_all c = λ i w. at w i
     at (word.Item i item.Passed) = refl
     at _ = refl
 
-pub freed_more : (c : Config) (n : ℕ) → 0 < n → put (freed c n) (word.Item n item.Passed) 1 ≡ freed c (n + 1)
+pub freed_more : (c : Config) (n : ℕ) → 0 < n → put (freed c n) (word.Item n item.Passed) (groups c) ≡ freed c (n + 1)
 freed_more c n some = λ i w. at w i
   where
-    at : (w : Word) → put (freed c n) (word.Item n item.Passed) 1 w ≡ freed c (n + 1) w
+    at : (w : Word) → put (freed c n) (word.Item n item.Passed) (groups c) w ≡ freed c (n + 1) w
     at (word.Item i item.Passed) = grind arith
     at _ = refl
 
-abbrev pub first_stores : (Word → ℕ) → Word → ℕ
-first_stores m = put (put (put (put (put m (word.Tail Send) 1) (word.Tail (Take 0)) 1) (word.Object object.Last) 1) (word.Object object.Cursor) 1) (word.Object (object.Head 0)) 1
+-- the words after the first stores and those of the first n groups
+abbrev pub opened : Config → ℕ → Word → ℕ
+opened c n (word.Tail Send) = 1
+opened c n (word.Tail (Take g)) = if nat_lt g n then 1 else 0
+opened c n (word.Object object.Last) = 1
+opened c n (word.Object object.Cursor) = 1
+opened c n (word.Object (object.Head g)) = if nat_lt g n then 1 else 0
+opened c n _ = 0
 
-pub started : (c : Config) (m : Word → ℕ) → ((w : Word) → m w ≡ 0) → first_stores m ≡ freed c 1
+abbrev pub first_stores : (Word → ℕ) → Word → ℕ
+first_stores m = put (put (put m (word.Tail Send) 1) (word.Object object.Last) 1) (word.Object object.Cursor) 1
+
+pub started : (c : Config) (m : Word → ℕ) → ((w : Word) → m w ≡ 0) → first_stores m ≡ opened c 0
 started c m none = λ i w. at w i
   where
-    at : (w : Word) → first_stores m w ≡ freed c 1 w
+    at : (w : Word) → first_stores m w ≡ opened c 0 w
     at (word.Tail Send) = refl
     at (word.Tail (Take g)) = grind (arith, none (word.Tail (Take g)))
     at (word.Object object.Last) = refl
     at (word.Object object.Cursor) = refl
+    at (word.Object object.Shut) = none (word.Object object.Shut)
+    at (word.Object object.Count) = none (word.Object object.Count)
     at (word.Object (object.Head g)) = grind (arith, none (word.Object (object.Head g)))
     at (word.Object (object.Taken g)) = grind (arith, none (word.Object (object.Taken g)))
-    at (word.Item i item.Passed) = grind (arith, none (word.Item i item.Passed))
     at w = none w
+
+pub group_more : (c : Config) (n : ℕ) → put (put (opened c n) (word.Tail (Take n)) 1) (word.Object (object.Head n)) 1 ≡ opened c (n + 1)
+group_more c n = λ i w. at w i
+  where
+    at : (w : Word) → put (put (opened c n) (word.Tail (Take n)) 1) (word.Object (object.Head n)) 1 w ≡ opened c (n + 1) w
+    at (word.Tail Send) = refl
+    at (word.Tail (Take g)) = grind arith
+    at (word.Object object.Last) = grind arith
+    at (word.Object object.Cursor) = grind arith
+    at (word.Object object.Shut) = grind arith
+    at (word.Object object.Count) = grind arith
+    at (word.Object (object.Head g)) = grind arith
+    at (word.Object (object.Taken g)) = grind arith
+    at w = refl
+
+pub groups_all : (c : Config) → opened c (groups c) ≡ freed c 1
+groups_all c = λ i w. at w i
+  where
+    at : (w : Word) → opened c (groups c) w ≡ freed c 1 w
+    at (word.Item i item.Passed) = grind arith
+    at (word.Item i item.Tag) = refl
+    at (word.Item i item.Body) = refl
+    at (word.Item i item.Next) = refl
+    at (word.Tail Send) = refl
+    at (word.Tail (Take g)) = refl
+    at (word.Object object.Last) = refl
+    at (word.Object object.Cursor) = refl
+    at (word.Object object.Shut) = refl
+    at (word.Object object.Count) = refl
+    at (word.Object (object.Head g)) = refl
+    at (word.Object (object.Taken g)) = refl
+    at w = refl

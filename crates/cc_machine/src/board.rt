@@ -100,8 +100,8 @@ impl Board {
         ensures keeps { Keeps self.old self.new }
     {
         match chain {
-            Chain::Send => self.history.push_e_call(call),
-            Chain::Take(_) => self.history.push_d_call(call),
+            Chain::Send => self.history.push_sends_call(call),
+            Chain::Take(group) => self.history.push_takes_call(group as usize, call),
         }
     }
 
@@ -113,8 +113,8 @@ impl Board {
         ensures keeps { Keeps self.old self.new }
     {
         match chain {
-            Chain::Send => self.history.push_e_answer(answer),
-            Chain::Take(_) => self.history.push_d_answer(answer),
+            Chain::Send => self.history.push_sends_answer(answer),
+            Chain::Take(group) => self.history.push_takes_answer(group as usize, answer),
         }
     }
 }

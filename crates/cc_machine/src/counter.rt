@@ -31,6 +31,7 @@ impl Model for CounterMachine {
 impl CounterMachine {
     ghost use Rattle.std.specs.Prelude.{◌≡◌, Ok, OnOk, OnErr, IfOk, IfErr, IfSome};
     ghost use Rattle.std.specs.Option.{option_map};
+    ghost use Rattle.cc_model.specs.Kept.{lists};
     ghost use Rattle.cc_model.specs.Config.{config_fault};
     ghost use Rattle.cc_machine.specs.Codes.{count_word};
     ghost use Rattle.cc_machine.specs.Machine.{IsOpened, index_of, begin_fault, IsBeginFault, IsOpenFault, IsReached, IsLastAnswer, HasBegun, event_of, HasStepped, answer_of, HasTaken};
@@ -86,7 +87,7 @@ impl CounterMachine {
     /// The calls that have exchanged, in the order of their exchanges, and the answers decided so far. It is that of a run of
     /// a counter whose configuration was checked, so that every law of such runs can be used.
     pub fn history(&self) -> &History
-        ensures history { result.now.lists ≡ self.now.history }
+        ensures history { lists result.now ≡ self.now.history }
         ensures run { IsReached self.now }
         ensures served { self.now.setting.served ≡ Served.Counter }
         ensures checked { config_fault self.now.setting.config ≡ Ok tt }

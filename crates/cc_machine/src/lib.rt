@@ -29,7 +29,9 @@ mod setting;
 mod take;
 mod word;
 
-pub use chain_laws::{calls_wait_for_their_link, laws_of_calls, laws_of_chains, laws_of_counters};
+pub use chain_laws::{
+    calls_end_answered, calls_wait_for_their_link, laws_of_calls, laws_of_chains, laws_of_counters,
+};
 pub use codes::{CODE, item_of, list_reads, request_in, ret_of, sender_reads};
 pub use counter::CounterMachine;
 pub use fault::{BeginFault, OpenFault};

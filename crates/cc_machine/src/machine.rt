@@ -34,6 +34,7 @@ impl Machine {
     ghost use Rattle.std.specs.Bool.{OnTrue};
     ghost use Rattle.cc_model.specs.Config.{config_fault};
     ghost use Rattle.cc_model.specs.Items.{known_at};
+    ghost use Rattle.cc_model.specs.Kept.{lists};
     ghost use Rattle.cc_model.specs.Legal.{Legal};
     ghost use Rattle.cc_model.specs.Fifo.{Fifo};
     ghost use Rattle.cc_machine.specs.Machine.{IsOpened, index_of, begin_fault, IsBeginFault, IsOpenFault, IsReached, IsLastAnswer, HasBegun, event_of, waits_in, StandsStill, HasStepped, answer_of, HasTaken};
@@ -76,7 +77,9 @@ impl Machine {
         ensures err { OnErr result (self.new ≡ self.old) }
         ensures fault { IfErr result (λ fault. IsBeginFault self.old pass call fault) }
     {
-        let known = self.known.at(pass);
+        let known = self
+            .known
+            .at(self.board.setting.config.groups as usize, pass);
         self.board.begin_call(pass, call, known)
     }
 
@@ -87,10 +90,11 @@ impl Machine {
         ensures state { HasStepped self.old (index_of self.old.setting pass) result self.new }
         ensures run { IsReached self.new }
     {
-        let sent = self.board.history.e_answers().len();
-        let taken = self.board.history.d_answers().len();
+        let sent = self.board.history.sends().answers().len();
+        let group = self.board.group(pass);
+        let taken = self.board.history.takes(group).answers().len();
         let event = self.board.event_by(pass);
-        self.known = self.known.after(&self.board.history, sent, taken);
+        self.known = self.known.after(&self.board.history, sent, group, taken);
         event
     }
 
@@ -118,7 +122,7 @@ impl Machine {
     /// It is that of a run of a list's machine whose configuration was checked, so that every law of such runs can be used;
     /// it is lawful, and items come out first in, first out.
     pub fn history(&self) -> &History
-        ensures history { result.now.lists ≡ self.now.history }
+        ensures history { lists result.now ≡ self.now.history }
         ensures run { IsReached self.now }
         ensures served { self.now.setting.served ≡ Served.List }
         ensures checked { config_fault self.now.setting.config ≡ Ok tt }

@@ -1,6 +1,6 @@
 ghost use Rattle.std.specs.Prelude.{◌≡◌, IfOk};
-ghost use Rattle.cc_machine.specs.Words.{layout_of};
-ghost use Rattle.cc_machine.specs.Shown.{state_of, IsLaid, IsSmall, StandFirst};
+ghost use Rattle.cc_machine.specs.Words.{IsSmall, layout_of};
+ghost use Rattle.cc_machine.specs.Shown.{state_of, IsLaid, StandFirst};
 ghost use Rattle.cc_machine.specs.Run.{opening};
 
 use crate::board::Board;
@@ -29,12 +29,14 @@ fn first_stands(alloc: Global, setting: Setting) -> Result<Vec<Stand>, AllocErro
     for sender in 0..setting.config.senders {
         stands.push(first_stand(sender as u64 + 1))?;
     }
-    let receivers = match setting.served {
+    let groups = match setting.served {
         Served::Counter => 0,
-        Served::List => setting.config.receivers,
+        Served::List => setting.config.groups,
     };
-    for receiver in 0..receivers {
-        stands.push(first_stand(receiver as u64 + 1))?;
+    for _group in 0..groups {
+        for receiver in 0..setting.config.receivers {
+            stands.push(first_stand(receiver as u64 + 1))?;
+        }
     }
     Ok(stands)
 }
@@ -48,21 +50,30 @@ pub fn open(alloc: Global, setting: Setting) -> Result<Board, AllocError>
     ensures laid { IfOk result (λ b. IsLaid b) }
 {
     let config = setting.config;
-    let nodes = config.senders as usize + 1 + config.receivers as usize + 1;
-    let words = vec![in alloc; 0u64; 16 + 5 * nodes + 4 * (config.capacity as usize + 2)]?;
+    let groups = config.groups as usize;
+    let nodes = config.senders as usize + 1 + groups * (config.receivers as usize + 1);
+    let words = vec![in alloc; 0u64; 13
+        + 3 * groups
+        + 5 * nodes
+        + 4 * (config.capacity as usize + 2)]?;
     let mut board = Board {
         setting,
         words,
         stands: first_stands(alloc, setting)?,
-        history: History::new(alloc),
+        history: History::new(alloc, config.groups)?,
     };
     board.store(Word::Tail(Chain::Send), 1);
-    board.store(Word::Tail(Chain::Take(0)), 1);
     board.store(Word::Object(Object::Last), 1);
     board.store(Word::Object(Object::Cursor), 1);
-    board.store(Word::Object(Object::Head(0)), 1);
+    for group in 0..config.groups {
+        board.store(Word::Tail(Chain::Take(group)), 1);
+        board.store(Word::Object(Object::Head(group)), 1);
+    }
     for node in 1..config.capacity + 1 {
-        board.store(Word::Item(node as u64, ItemField::Passed), 1);
+        board.store(
+            Word::Item(node as u64, ItemField::Passed),
+            config.groups as u64,
+        );
     }
     Ok(board)
 }

@@ -1,4 +1,4 @@
-use Rattle.std.proofs.Common.{◌≡◌, ◌+◌, ◌<◌, ℕ, length, slice_index_or}
+use Rattle.std.proofs.Common.{◌≡◌, ◌≤◌, ◌+◌, ◌*◌, ◌<◌, ℕ, length, slice_index_or}
 use Rattle.cc_machine.specs.declared.place.Place.TheVariants as place
 use Rattle.cc_machine.specs.Run.{nowhere}
 use Rattle.cc_machine.specs.State.{first_node}
@@ -10,8 +10,16 @@ invariant-loop-sender l = record {
   each : (p : ℕ) → p < l.sender → slice_index_or l.stands.items p nowhere ≡ record { begun = 0; node = p + 1; place = place.Idle };
 }
 
+abbrev pub invariant-loop-group : goal.invariant-loop-group
+invariant-loop-group l = record {
+  all : length l.stands.items ≡ l.fn.setting.config.senders + l._group * l.fn.setting.config.receivers;
+  each : (p : ℕ) → p < l.fn.setting.config.senders + l._group * l.fn.setting.config.receivers → slice_index_or l.stands.items p nowhere ≡ record { begun = 0; node = first_node l.fn.setting.config p; place = place.Idle };
+  within : l._group ≤ l.groups;
+}
+
 abbrev pub invariant-loop-receiver : goal.invariant-loop-receiver
 invariant-loop-receiver l = record {
-  all : length l.stands.items ≡ l.fn.setting.config.senders + l.receiver;
-  each : (p : ℕ) → p < l.fn.setting.config.senders + l.receiver → slice_index_or l.stands.items p nowhere ≡ record { begun = 0; node = first_node l.fn.setting.config p; place = place.Idle };
+  all : length l.stands.items ≡ l.fn.setting.config.senders + (l._group * l.fn.setting.config.receivers + l.receiver);
+  each : (p : ℕ) → p < l.fn.setting.config.senders + (l._group * l.fn.setting.config.receivers + l.receiver) → slice_index_or l.stands.items p nowhere ≡ record { begun = 0; node = first_node l.fn.setting.config p; place = place.Idle };
+  within : l.receiver ≤ l.fn.setting.config.receivers;
 }

@@ -1,6 +1,8 @@
-use Rattle.std.proofs.Common.{◌≡◌, ℕ, ◌+◌, ◌<◌, ◌∙◌, ap, sym, arith, length, refl, List, Bool, true, false, cond, if◌then◌else◌, ◌*◌, replicate, slice_index_or, ◌≤◌, ⊎_elim}
-use Rattle.std.proofs.lemmas.List.{get_or-replicate, get_or_past, length-replicate}
+use Rattle.std.proofs.Common.{◌≡◌, ℕ, ◌+◌, ◌<◌, ◌∙◌, ap, sym, arith, length, refl, subst, List, Bool, true, false, cond, if◌then◌else◌, ◌*◌, replicate, slice_index_or, ◌≤◌, ⊎_elim}
+use Rattle.std.proofs.lemmas.List.{get_or-replicate, get_or_past, length-replicate, length-map}
 use Rattle.std.proofs.lemmas.Bool.{cases_lt, lt-ltb, le-ltb}
+use Rattle.cc_model.specs.Record.{Record, silent, empty}
+use Rattle.cc_model.specs.Kept.{lists}
 use Rattle.cc_machine.specs.declared.setting.Setting.{Setting}
 use Rattle.cc_machine.specs.declared.word.Chain.TheVariants.{Send, Take}
 use Rattle.cc_machine.specs.declared.word.Object.TheVariants as object
@@ -10,19 +12,19 @@ use Rattle.cc_machine.specs.declared.board.Board.{Board}
 use Rattle.cc_machine.specs.declared.word.Word.{Word}
 use Rattle.cc_machine.specs.declared.word.Word.TheVariants as word
 use Rattle.cc_machine.specs.declared.word.ItemField.TheVariants as item
-use Rattle.cc_machine.specs.Words.{Layout, put, layout_of, address, exists, word_at}
+use Rattle.cc_machine.specs.Words.{IsSmall, size, groups, Layout, put, layout_of, address, exists, word_at}
 use Rattle.cc_machine.specs.State.{State, first_node}
 use Rattle.cc_machine.specs.View.{state_in}
-use Rattle.cc_machine.specs.Shown.{state_of, StandFirst}
+use Rattle.cc_machine.specs.Shown.{state_of, StandFirst, IsLaid}
 use Rattle.cc_machine.specs.Run.{opening, passes, nowhere}
 use Rattle.cc_machine.proofs.LawfulMoves.{laid_kept}
-use Rattle.cc_machine.proofs.Opening.{freed, freed_all, freed_more, started}
+use Rattle.cc_machine.proofs.Opening.{freed, freed_all, freed_more, opened, group_more, groups_all, started}
 use Rattle.cc_machine.proofs.open.open.Goals as goal
 
 pub loop-node-preserved : goal.loop-node-preserved
 loop-node-preserved c = record {
   state = c.store-in-loop-node.ensures.state
-      ∙ ap (λ (s : State). record s { mem = put s.mem (word.Item c.loop-node.node item.Passed) 1 }) c.loop-node.invariant.state
+      ∙ ap (λ (s : State). record s { mem = put s.mem (word.Item c.loop-node.node item.Passed) (groups c.args.setting.config) }) c.loop-node.invariant.state
       ∙ ap (λ (m : Word → ℕ). record (opening c.args.setting) { mem = m }) (freed_more c.args.setting.config c.loop-node.node (omega (arith, c.loop-node.auto.node)));
   setting = c.store-in-loop-node.ensures.keeps.setting ∙ c.loop-node.invariant.setting;
   laid = laid_kept c.loop-node.board c.store-in-loop-node.new.self c.store-in-loop-node.ensures.keeps c.loop-node.invariant.laid;
@@ -32,8 +34,8 @@ clipped : (b : Bool) (x : ℕ) → x ≡ 0 → (if b then x else 0) ≡ 0
 clipped true x e = e
 clipped false x e = refl
 
-empty : (l : Layout) (words : List ℕ) (n : ℕ) → words ≡ replicate n 0 → (w : Word) → word_at l words w ≡ 0
-empty l words n e w = clipped (exists l w) (slice_index_or words (address l w) 0) (ap (λ (xs : List ℕ). slice_index_or xs (address l w) 0) e ∙ zeros n (address l w))
+blank : (l : Layout) (words : List ℕ) (n : ℕ) → words ≡ replicate n 0 → (w : Word) → word_at l words w ≡ 0
+blank l words n e w = clipped (exists l w) (slice_index_or words (address l w) 0) (ap (λ (xs : List ℕ). slice_index_or xs (address l w) 0) e ∙ zeros n (address l w))
   where
     zeros : (n k : ℕ) → ◌≡◌ {A = ℕ} (slice_index_or (replicate {A = ℕ} n 0) k 0) 0
     zeros n k = ⊎_elim (λ (lt : k < n). get_or-replicate n k 0 0 lt) (λ (le : n ≤ k). let size : length (replicate {A = ℕ} n 0) ≡ n = length-replicate n 0 in get_or_past (replicate {A = ℕ} n 0) k 0 (omega (arith, size, le))) (cases_lt k n)
@@ -47,25 +49,56 @@ stood c stands s p = ⊎_elim
 abbrev stores : Word → State → State
 stores w s = record s { mem = put s.mem w 1 }
 
-pub loop-node-init : goal.loop-node-init
+laid_first : (b : Board) (c : Setting) → b.setting ≡ c → IsSmall (layout_of c.config) → length b.words.items ≡ size (layout_of c.config) → length b.stands.items ≡ passes c → lists b.history ≡ empty (groups c.config) → IsLaid b
+laid_first b c is small words stands none = record {
+  small = subst (λ (z : Setting). IsSmall (layout_of z.config)) (sym is) small;
+  words = words ∙ ap (λ (z : Setting). size (layout_of z.config)) (sym is);
+  stands = stands ∙ ap (λ (z : Setting). passes z) (sym is);
+  groups = sym (length-map b.history.takes (λ s. s.lists)) ∙ ap (λ (h : Record). length h.takes) none ∙ length-replicate (groups c.config) silent ∙ ap (λ (z : Setting). groups z.config) (sym is);
+}
+
+pub store-requires-clause-laid : goal.store-requires-clause-laid
+store-requires-clause-laid c =
+    let b : Board = record { setting = c.args.setting; words = c.in_ok-words.words; stands = c.in_ok-first_stands.field-0; history = c.in_ok-new.field-0 } in
+    laid_first b c.args.setting refl c.requires.small (omega (arith, c.in_ok-words.ensures.len)) c.in_ok-first_stands.ensures.all c.in_ok-new.ensures
+
+pub loop-group-init : goal.loop-group-init
 unfolding state_in
-loop-node-init c =
-    let b : Board = record { setting = c.args.setting; words = c.in_ok-words.words; stands = c.in_ok-first_stands.field-0; history = c.new.result } in
+loop-group-init c =
+    let b : Board = record { setting = c.args.setting; words = c.in_ok-words.words; stands = c.in_ok-first_stands.field-0; history = c.in_ok-new.field-0 } in
     let base : state_of b ≡ record (opening c.args.setting) { mem = λ w. 0 } = λ i. record {
-      mem = λ w. empty (layout_of c.args.setting.config) c.in_ok-words.words.items (16 + 5 * (c.args.setting.config.senders + 1 + c.args.setting.config.receivers + 1) + 4 * (c.args.setting.config.capacity + 2)) (c.in_ok-words.ensures.items_if_clones_equal (λ y e. e)) w i;
+      mem = λ w. blank (layout_of c.args.setting.config) c.in_ok-words.words.items (13 + 3 * c.args.setting.config.groups + 5 * (c.args.setting.config.senders + 1 + c.args.setting.config.groups * (c.args.setting.config.receivers + 1)) + 4 * (c.args.setting.config.capacity + 2)) (c.in_ok-words.ensures.items_if_clones_equal (λ y e. e)) w i;
       stand = λ p. stood c.args.setting c.in_ok-first_stands.field-0.items c.in_ok-first_stands.ensures p i;
-      history = c.new.ensures i;
+      history = c.in_ok-new.ensures i;
     } in
+    let laid : IsLaid b = laid_first b c.args.setting refl c.requires.small (omega (arith, c.in_ok-words.ensures.len)) c.in_ok-first_stands.ensures.all c.in_ok-new.ensures in
     let one = c.store.ensures.state ∙ ap (stores (word.Tail Send)) base in
-    let two = c.store-2.ensures.state ∙ ap (stores (word.Tail (Take 0))) one in
-    let three = c.store-3.ensures.state ∙ ap (stores (word.Object object.Last)) two in
-    let four = c.store-4.ensures.state ∙ ap (stores (word.Object object.Cursor)) three in
-    let five = c.store-5.ensures.state ∙ ap (stores (word.Object (object.Head 0))) four in
-    let k = c.store-5.ensures.keeps.setting ∙ c.store-4.ensures.keeps.setting ∙ c.store-3.ensures.keeps.setting ∙ c.store-2.ensures.keeps.setting ∙ c.store.ensures.keeps.setting in
-    record {
-      state = five ∙ ap (λ (m : Word → ℕ). record (opening c.args.setting) { mem = m }) (started c.args.setting.config (λ w. 0) (λ w. refl));
-      setting = k;
-      laid = laid_kept c.store-4.new.self c.store-5.new.self c.store-5.ensures.keeps (laid_kept c.store-3.new.self c.store-4.new.self c.store-4.ensures.keeps (laid_kept c.store-2.new.self c.store-3.new.self c.store-3.ensures.keeps (laid_kept c.store.new.self c.store-2.new.self c.store-2.ensures.keeps (laid_kept b c.store.new.self c.store.ensures.keeps (record { small = c.requires.small; words = omega (arith, c.in_ok-words.ensures.len); stands = c.in_ok-first_stands.ensures.all })))));
+    let two = c.store-2.ensures.state ∙ ap (stores (word.Object object.Last)) one in
+    let three = c.store-3.ensures.state ∙ ap (stores (word.Object object.Cursor)) two in record {
+      state = three ∙ ap (λ (m : Word → ℕ). record (opening c.args.setting) { mem = m }) (started c.args.setting.config (λ w. 0) (λ w. refl));
+      setting = c.store-3.ensures.keeps.setting ∙ c.store-2.ensures.keeps.setting ∙ c.store.ensures.keeps.setting;
+      laid = laid_kept c.store-2.new.self c.store-3.new.self c.store-3.ensures.keeps (laid_kept c.store.new.self c.store-2.new.self c.store-2.ensures.keeps (laid_kept b c.store.new.self c.store.ensures.keeps laid));
+      within = omega arith;
+    }
+
+pub loop-group-preserved : goal.loop-group-preserved
+loop-group-preserved c =
+    let i = c.loop-group.invariant in
+    let one = c.store-in-loop-group.ensures in
+    let two = c.store-in-loop-group-2.ensures in record {
+      state = two.state ∙ ap (stores (word.Object (object.Head c.loop-group.group))) (one.state ∙ ap (stores (word.Tail (Take c.loop-group.group))) i.state)
+          ∙ ap (λ (m : Word → ℕ). record (opening c.args.setting) { mem = m }) (group_more c.args.setting.config c.loop-group.group);
+      setting = two.keeps.setting ∙ one.keeps.setting ∙ i.setting;
+      laid = laid_kept c.store-in-loop-group.new.self c.store-in-loop-group-2.new.self two.keeps (laid_kept c.loop-group.board c.store-in-loop-group.new.self one.keeps i.laid);
+      within = omega (arith, c.loop-group-test.true, c.loop-group.auto.group-end);
+    }
+
+pub loop-node-init : goal.loop-node-init
+loop-node-init c =
+    let end : c.loop-group.group ≡ groups c.args.setting.config = omega (arith, c.loop-group.auto.group-end, c.loop-group-test.false, c.loop-group.invariant.within) in record {
+      state = c.loop-group.invariant.state ∙ ap (λ (m : Word → ℕ). record (opening c.args.setting) { mem = m }) (ap (opened c.args.setting.config) end ∙ groups_all c.args.setting.config);
+      setting = c.loop-group.invariant.setting;
+      laid = c.loop-group.invariant.laid;
     }
 
 pub returns-clause-state : goal.returns-clause-state

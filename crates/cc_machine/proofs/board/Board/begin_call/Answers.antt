@@ -1,4 +1,4 @@
-use Rattle.std.proofs.Common.{◌≡◌, ap, sym, subst, ◌∙◌}
+use Rattle.std.proofs.Common.{◌≡◌, arith, ap, sym, subst, ◌∙◌}
 use Rattle.cc_machine.specs.declared.board.Board.{Board}
 use Rattle.cc_machine.specs.declared.word.Chain.{Chain}
 use Rattle.cc_machine.specs.State.{chain_of}
@@ -7,6 +7,8 @@ use Rattle.cc_machine.specs.View.{View, state_in}
 use Rattle.cc_machine.specs.Shown.{view_of, state_of}
 use Rattle.cc_machine.specs.Lawful.{HasRoomToCome}
 use Rattle.cc_machine.proofs.Faults.{may_begin}
+use Rattle.cc_machine.proofs.Rows.{inside}
+use Rattle.cc_machine.proofs.Coming.{few_passes}
 use Rattle.cc_machine.proofs.LawfulMoves.{lawful_view, lawful_begin}
 use Rattle.cc_machine.proofs.board.Board.begin_call.Goals as goal
 
@@ -19,5 +21,17 @@ returns-clause-lawful c =
     (may_begin (view_of old) c.args.pass c.args.call c.args.known c.in_ok-index.index c.in_ok-index.ensures.place c.in_ok-index.ensures.ok c.requires.known) in
     let side : c.chain.result ≡ chain_of mid.setting.config c.in_ok-index.index = c.chain.ensures ∙ ap (λ (m : View). chain_of m.setting.config c.in_ok-index.index) (sym c.reserve.ensures.view) in
     lawful_begin mid c.begin.new.self c.in_ok-index.index c.args.call c.args.known
-    (lawful_view old mid c.reserve.ensures.view c.reserve.ensures.e_room c.reserve.ensures.d_room c.requires.lawful)
+    (lawful_view old mid c.reserve.ensures.view c.reserve.ensures.rooms c.requires.lawful)
     (subst (λ (y : Chain). HasRoomToCome mid y) side c.in-Ok.ensures.room) may c.begin.ensures.keeps c.begin.ensures.state
+
+pub returns-in_default-clause-lawful : goal.returns-in_default-clause-lawful
+returns-in_default-clause-lawful c = lawful_view c.args.self.now c.reserve.new.self c.reserve.ensures.view c.reserve.ensures.rooms c.requires.lawful
+
+pub begin-requires-clause-small : goal.begin-requires-clause-small
+begin-requires-clause-small c =
+    let s = c.requires.lawful.laid.small in
+    omega (
+      arith,
+      inside c.args.self.now.setting c.args.pass c.in_ok-index.index c.in_ok-index.ensures.place,
+      few_passes c.args.self.now.setting.served c.args.self.now.setting.config s.senders s.receivers s.groups,
+    )

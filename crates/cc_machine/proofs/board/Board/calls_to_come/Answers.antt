@@ -16,5 +16,5 @@ returns-clause-few c =
       c.loop-pass.auto.pass-end,
       c.len-pass-end.ensures,
       c.requires.laid.stands,
-      few_passes c.args.self.now.setting.served c.args.self.now.setting.config c.requires.laid.small.senders c.requires.laid.small.receivers,
+      few_passes c.args.self.now.setting.served c.args.self.now.setting.config c.requires.laid.small.senders c.requires.laid.small.receivers c.requires.laid.small.groups,
     )

@@ -1,5 +1,6 @@
 use Rattle.std.proofs.Common.{◌≡◌, ℕ, Option, Some, IfSome, ap, sym, subst, ◌∙◌}
 use Rattle.std.specs.Option.{option_map}
+use Rattle.cc_model.specs.Kept.{lists}
 use Rattle.cc_model.specs.declared.call.Answer.{Answer}
 use Rattle.cc_model.specs.declared.call.Answer.TheVariants as answer
 use Rattle.cc_model.specs.declared.call.SendAnswer.TheVariants as send
@@ -19,6 +20,6 @@ number c = elim c.match-answer_to.branch [
 
 pub returns-clause-history : goal.returns-clause-history
 returns-clause-history c = rw (← c.self.view_is)
-    (subst (λ (r : Option ℕ). IfSome r (λ n. IsLastAnswer (pass.Sender c.args.pass) c.self.inside.board.history.lists (answer.Send (send.Accepted n)))) (sym (number c))
+    (subst (λ (r : Option ℕ). IfSome r (λ n. IsLastAnswer (pass.Sender c.args.pass) (lists c.self.inside.board.history) (answer.Send (send.Accepted n)))) (sym (number c))
     (number_if c.self.inside.board c.self.invariant.lawful (counter_told c.self.inside.board.setting c.self.invariant.served_is c.self.invariant.lawful.checked)
     (number_told c.self.inside.board.setting c.self.invariant.served_is c.self.invariant.lawful.checked) (pass.Sender c.args.pass) c.answer_to.result c.answer_to.ensures.answer))

@@ -1,3 +1,4 @@
+use Rattle.cc_model.specs.Kept.{lists}
 use Rattle.cc_model.proofs.InOrder.{fifo}
 use Rattle.cc_machine.proofs.ListTold.{legal_here}
 use Rattle.cc_machine.proofs.machine.Machine.history.Goals as goal
@@ -7,4 +8,4 @@ returns-clause-legal c = rw (← c.self.view_is) (legal_here c.self.inside.board
 
 pub returns-clause-fifo : goal.returns-clause-fifo
 returns-clause-fifo c = rw (← c.self.view_is)
-    (fifo c.self.inside.board.setting.config c.self.inside.board.history.lists (legal_here c.self.inside.board c.self.invariant.served_is c.self.invariant.lawful))
+    (fifo c.self.inside.board.setting.config (lists c.self.inside.board.history) (legal_here c.self.inside.board c.self.invariant.served_is c.self.invariant.lawful))
