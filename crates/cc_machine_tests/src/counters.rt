@@ -10,6 +10,7 @@ fn config(senders: u32, bound: u32, per_sender: u32) -> Config {
         bound,
         life: 1000,
         per_sender,
+        groups: 1,
     }
 }
 

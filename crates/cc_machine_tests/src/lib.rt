@@ -4,4 +4,8 @@
 #[cfg(test)]
 mod counters;
 #[cfg(test)]
+mod groups;
+#[cfg(test)]
+mod groups_in_any_order;
+#[cfg(test)]
 mod machines;

@@ -76,6 +76,7 @@ fn config(senders: u32, receivers: u32, capacity: u32, bound: u32, life: u64) ->
         bound,
         life,
         per_sender: 4,
+        groups: 1,
     }
 }
 
@@ -119,9 +120,11 @@ fn played(
     Ok(machine)
 }
 
-fn has(machine: &Machine, e_answers: &[Answer], d_answers: &[Answer]) -> bool {
+fn has(machine: &Machine, sent: &[Answer], taken: &[Answer]) -> bool {
     let history = machine.history();
-    history.e_answers() == e_answers && history.d_answers() == d_answers
+    history.groups() == 1
+        && history.sends().answers() == sent
+        && history.takes(0).answers() == taken
 }
 
 #[test]
@@ -147,7 +150,8 @@ fn lone_calls(rt: HostRuntime) {
         number: 0,
         known: 1,
     }];
-    assert!(rt; machine.history().d_calls() == &want[..]);
+    let history = machine.history();
+    assert!(rt; history.groups() == 1 && history.takes(0).calls() == &want[..]);
 }
 
 #[test]
