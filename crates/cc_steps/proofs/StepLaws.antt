@@ -19,6 +19,7 @@ use Rattle.cc_machine.specs.declared.place.Counting.TheVariants as counting
 use Rattle.cc_machine.specs.declared.place.Sending.TheVariants as sending
 use Rattle.cc_machine.specs.declared.place.Taking.TheVariants as taking
 use Rattle.cc_machine.specs.declared.place.Stand.{Stand}
+use Rattle.cc_machine.proofs.Chains.Facts.{noted_none}
 use Rattle.cc_machine.specs.State.{Operation, Store, chain_of, pass_at, word_of, noted}
 use Rattle.cc_machine.specs.Columns.{operation, event_at, goes, enters, decides}
 use Rattle.cc_machine.specs.Run.{history_of}
@@ -52,8 +53,7 @@ owns_at c x y own n _ e o = absurd (cc e)
 
 -- a link puts nothing into the history, and its call has exchanged
 links_at : (c : Setting) (x : Chain) (h : Record) (at : Place) (found : ℕ) → event_at at ≡ Did kind.Link → IsEntering at × (noted x h (enters at) (decides c at found) ≡ h)
-links_at c Send h (place.Link put) found e = (tt, refl)
-links_at c (Take g) h (place.Link put) found e = (tt, refl)
+links_at c x h (place.Link put) found e = (tt, noted_none x h)
 links_at c x h (place.Counting job counting.ReadTag) found e = absurd (cc e)
 links_at c x h (place.Sending job sending.ReadTag) found e = absurd (cc e)
 links_at c x h (place.Taking job taking.ReadHead) found e = absurd (cc e)

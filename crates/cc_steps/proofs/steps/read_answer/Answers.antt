@@ -1,0 +1,5 @@
+use Rattle.cc_steps.proofs.Told.{told_so}
+use Rattle.cc_steps.proofs.steps.read_answer.Goals as goal
+
+pub returns-clause-told : goal.returns-clause-told
+returns-clause-told c = λ list. told_so c.args.seat.now c.load.result c.load.new.seat c.load.ensures.found list c.load.ensures.step
