@@ -8,4 +8,6 @@ mod lone_take;
 #[cfg(test)]
 mod openings;
 #[cfg(test)]
+mod three_groups;
+#[cfg(test)]
 mod two_seats;

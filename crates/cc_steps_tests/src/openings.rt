@@ -11,6 +11,7 @@ pub const SMALL: Config = Config {
     bound: 2,
     life: 10,
     per_sender: 100,
+    groups: 1,
 };
 
 #[test]
@@ -36,12 +37,13 @@ fn opens_at_the_greatest_configuration(rt: HostRuntime) {
         bound: 1024,
         life: 1 << 48,
         per_sender: u32::MAX,
+        groups: 8,
     };
     let Ok(opened) = Words::open(rt.alloc(), &config) else {
         panic!(rt; "no words")
     };
     assert_eq!(rt; opened.senders.len(), 64);
-    assert_eq!(rt; opened.receivers.len(), 64);
+    assert_eq!(rt; opened.receivers.len(), 512);
 }
 
 #[test]
@@ -81,10 +83,13 @@ fn refuses_a_bad_configuration(rt: HostRuntime) {
         (
             Config {
                 per_sender: 0,
+                groups: 0,
                 ..SMALL
             },
             ConfigFault::PerSender,
         ),
+        (Config { groups: 0, ..SMALL }, ConfigFault::Groups),
+        (Config { groups: 9, ..SMALL }, ConfigFault::Groups),
     ];
     for (config, fault) in configs {
         match Words::open(rt.alloc(), &config) {
