@@ -2,9 +2,9 @@
 use Rattle.std.proofs.Common.{◌≡◌, ℕ, zero, suc, ◌+◌, ◌<◌, ◌≤◌, ◌==◌, List, [], ◌∷◌, ◌++◌, length, map, Bool, true, false, cond, Some, refl, sym, ap, ◌∙◌, subst, arith, length-append}
 use Rattle.std.specs.List.{slice_get, AllByRecursion}
 use Rattle.std.proofs.lemmas.Bool.{eqb-false}
-use Rattle.cc_model.specs.Record.{Record}
+use Rattle.cc_model.specs.Record.{Record, of_group}
 use Rattle.cc_model.specs.Items.{IsFront, accepted, accepted_by, accepted_item, handed_by, handed_item, of_sender}
-use Rattle.cc_model.specs.Legal.{Legal, EAnswer, EAnswers, DAnswer, DAnswers, IsReceivers}
+use Rattle.cc_model.specs.Legal.{Legal, LegalTakes, EAnswer, EAnswers, DAnswer, DAnswers, IsReceivers}
 use Rattle.cc_model.specs.Fifo.{RisesFrom}
 use Rattle.cc_model.specs.declared.config.Config.{Config}
 use Rattle.cc_model.specs.declared.call.Pass.{Pass}
@@ -27,22 +27,22 @@ use Rattle.cc_audit.proofs.Clean.{Fair}
 
 -- ---- the items on the take receipts are those handed out
 
-item_taken : (cfg : Config) (items : List Item) (shut : Bool) (n known : ℕ) (p : Pass) (k : Call) (a : Answer) → IsReceivers cfg p k → DAnswer items shut n known a → map (λ (t : TakeReceipt). t.item) (take_receipt p a) ≡ handed_item a
-item_taken cfg items shut n known (pass.Sender s) k a is h = absurd is
-item_taken cfg items shut n known (pass.Receiver r) k (answer.Take (take.Got item)) is h = refl
-item_taken cfg items shut n known (pass.Receiver r) k (answer.Take take.Empty) is h = refl
-item_taken cfg items shut n known (pass.Receiver r) k (answer.Take (take.Ended total)) is h = refl
-item_taken cfg items shut n known (pass.Receiver r) k _ is h = absurd h
+item_taken : (cfg : Config) (g : ℕ) (items : List Item) (shut : Bool) (n known : ℕ) (p : Pass) (k : Call) (a : Answer) → IsReceivers cfg g p k → DAnswer items shut n known a → map (λ (t : TakeReceipt). t.item) (take_receipt p a) ≡ handed_item a
+item_taken cfg g items shut n known (pass.Sender s) k a is h = absurd is
+item_taken cfg g items shut n known (pass.Receiver r) k (answer.Take (take.Got item)) is h = refl
+item_taken cfg g items shut n known (pass.Receiver r) k (answer.Take take.Empty) is h = refl
+item_taken cfg g items shut n known (pass.Receiver r) k (answer.Take (take.Ended total)) is h = refl
+item_taken cfg g items shut n known (pass.Receiver r) k _ is h = absurd h
 
-items_taken : (cfg : Config) (items : List Item) (shut : Bool) (n : ℕ) (calls : List Entry) (answers : List Answer) → DAnswers items shut n calls answers → AllByRecursion (λ c. IsReceivers cfg c.pass c.call) calls
+items_taken : (cfg : Config) (g : ℕ) (items : List Item) (shut : Bool) (n : ℕ) (calls : List Entry) (answers : List Answer) → DAnswers items shut n calls answers → AllByRecursion (λ c. IsReceivers cfg g c.pass c.call) calls
     → map (λ (t : TakeReceipt). t.item) (takes_by calls answers) ≡ handed_by answers
-items_taken cfg items shut n [] [] h all = refl
-items_taken cfg items shut n (c ∷ calls) [] h all = refl
-items_taken cfg items shut n [] (a ∷ answers) h all = absurd h
-items_taken cfg items shut n (c ∷ calls) (a ∷ answers) h all =
+items_taken cfg g items shut n [] [] h all = refl
+items_taken cfg g items shut n (c ∷ calls) [] h all = refl
+items_taken cfg g items shut n [] (a ∷ answers) h all = absurd h
+items_taken cfg g items shut n (c ∷ calls) (a ∷ answers) h all =
     map-append (λ (t : TakeReceipt). t.item) (take_receipt c.pass a) (takes_by calls answers)
-    ∙ ap (λ (l : List Item). l ++ map (λ (t : TakeReceipt). t.item) (takes_by calls answers)) (item_taken cfg items shut n c.known c.pass c.call a all.0 h.0)
-    ∙ ap (λ (l : List Item). handed_item a ++ l) (items_taken cfg items shut (n + length (handed_item a)) calls answers h.1 all.1)
+    ∙ ap (λ (l : List Item). l ++ map (λ (t : TakeReceipt). t.item) (takes_by calls answers)) (item_taken cfg g items shut n c.known c.pass c.call a all.0 h.0)
+    ∙ ap (λ (l : List Item). handed_item a ++ l) (items_taken cfg g items shut (n + length (handed_item a)) calls answers h.1 all.1)
 
 -- ---- the numbers of a sender rise
 
@@ -115,10 +115,12 @@ total_is cfg n (c ∷ calls) (answer.Send x ∷ answers) t h is =
     omega (arith, total_is cfg (n + length (accepted_item c (answer.Send x))) calls answers t h.1 is, length-append (accepted_item c (answer.Send x)) (accepted_by calls answers))
 total_is cfg n (c ∷ calls) (answer.Take x ∷ answers) t h is = omega (arith, total_is cfg (n + 0) calls answers t h.1 is)
 
-pub fair_of : (cfg : Config) (h : Record) → Legal cfg h → Fair (accepted h) (takes_of h) (total_of h)
-fair_of cfg h legal = record {
-  places = λ i x is. accepted_places cfg 0 false h.e_calls h.e_answers legal.e_answers i x is ∙ omega arith;
-  front = subst (λ (l : List Item). IsFront l (accepted h)) (sym (items_taken cfg _ _ 0 h.d_calls h.d_answers legal.d_answers legal.receivers)) (handed_front _ _ 0 h.d_calls h.d_answers legal.d_answers);
-  numbers = λ i j x y lt is_x is_y same. apart y.sender 1 (accepted h) i j x y (accepted_rise y.sender 1 h.e_calls h.e_answers (legal.numbers y.sender)) lt is_x is_y same refl;
-  all = λ n is. total_is cfg 0 h.e_calls h.e_answers n legal.e_answers is ∙ omega arith;
-}
+pub fair_of : (cfg : Config) (h : Record) (g : ℕ) → g < cfg.groups → Legal cfg h → Fair (accepted h) (takes_of h g) (total_of h)
+fair_of cfg h g inside legal =
+    let of : LegalTakes cfg h g = legal.takes g inside in
+    record {
+      places = λ i x is. accepted_places cfg 0 false h.sends.calls h.sends.answers legal.answers i x is ∙ omega arith;
+      front = subst (λ (l : List Item). IsFront l (accepted h)) (sym (items_taken cfg g _ _ 0 (of_group h g).calls (of_group h g).answers of.answers of.receivers)) (handed_front _ _ 0 (of_group h g).calls (of_group h g).answers of.answers);
+      numbers = λ i j x y lt is_x is_y same. apart y.sender 1 (accepted h) i j x y (accepted_rise y.sender 1 h.sends.calls h.sends.answers (legal.numbers y.sender)) lt is_x is_y same refl;
+      all = λ n is. total_is cfg 0 h.sends.calls h.sends.answers n legal.answers is ∙ omega arith;
+    }

@@ -10,3 +10,4 @@ pub mod Clean
 pub mod Lawful
 pub mod Ends
 pub mod Orders
+pub mod One

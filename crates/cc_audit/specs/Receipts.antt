@@ -1,6 +1,6 @@
 -- The receipts of a history.
-use Rattle.std.specs.Prelude.{ℕ, List, [], ◌∷◌, ◌++◌, map, Option, Some, None}
-use Rattle.cc_model.specs.Record.{Record}
+use Rattle.std.specs.Prelude.{ℕ, ◌<◌, List, [], ◌∷◌, ◌++◌, map, Option, Some, None}
+use Rattle.cc_model.specs.Record.{Record, of_group}
 use Rattle.cc_model.specs.Items.{accepted}
 use Rattle.cc_model.specs.Legal.{Legal}
 use Rattle.cc_model.specs.declared.config.Config.{Config}
@@ -35,9 +35,9 @@ takes_by [] answers = []
 takes_by (c ∷ calls) [] = []
 takes_by (c ∷ calls) (a ∷ answers) = take_receipt c.pass a ++ takes_by calls answers
 
--- one receipt for each take answered Got
-abbrev pub takes_of : Record → List TakeReceipt
-takes_of h = takes_by h.d_calls h.d_answers
+-- one receipt for each take of a group answered Got
+abbrev pub takes_of : Record → (group : ℕ) → List TakeReceipt
+takes_of h g = takes_by (of_group h g).calls (of_group h g).answers
 
 abbrev pub total_by : List Answer → Option ℕ
 total_by [] = None
@@ -46,8 +46,8 @@ total_by (_ ∷ answers) = total_by answers
 
 -- the total of the first close answered Shut
 abbrev pub total_of : Record → Option ℕ
-total_of h = total_by h.e_answers
+total_of h = total_by h.sends.answers
 
--- the law: the receipts of a lawful history are clean
+-- the law: the receipts of a lawful history are clean, those of the takes of each group
 abbrev pub LegalGivesClean : Type 0
-LegalGivesClean = (cfg : Config) (h : Record) → Legal cfg h → IsVerdict (sends_of h) (takes_of h) (total_of h) Clean
+LegalGivesClean = (cfg : Config) (h : Record) (g : ℕ) → g < cfg.groups → Legal cfg h → IsVerdict (sends_of h) (takes_of h g) (total_of h) Clean

@@ -1,7 +1,8 @@
 //! The receipts of a history.
-ghost use Rattle.std.specs.Prelude.{◌≡◌, map, IfOk};
+ghost use Rattle.std.specs.Prelude.{◌≡◌, ◌<◌, length, map, IfOk};
 ghost use Rattle.std.specs.Option.{option_to_list};
 ghost use Rattle.cc_model.specs.Items.{accepted_item};
+ghost use Rattle.cc_model.specs.Kept.{lists};
 ghost use Rattle.cc_audit.specs.Receipts as receipts;
 ghost use Rattle.cc_audit.specs.Receipts.{sends_of, takes_of, total_of};
 
@@ -41,10 +42,11 @@ fn take_receipt(entry: &Entry, answer: &Answer) -> Option<TakeReceipt>
 
 /// The receipts of the sends that were accepted, in the order of their exchanges.
 pub fn send_receipts(alloc: Global, history: &History) -> Result<Vec<SendReceipt>, AllocError>
-    ensures { IfOk result (λ v. v.items ≡ sends_of history.now.lists) }
+    ensures { IfOk result (λ v. v.items ≡ sends_of (lists history.now)) }
 {
+    let sends = history.sends();
     let mut receipts = Vec::new(alloc);
-    for (entry, answer) in history.e_calls().iter().zip(history.e_answers()) {
+    for (entry, answer) in sends.calls().iter().zip(sends.answers()) {
         if let Some(receipt) = send_receipt(entry, answer) {
             receipts.push(receipt)?;
         }
@@ -52,12 +54,18 @@ pub fn send_receipts(alloc: Global, history: &History) -> Result<Vec<SendReceipt
     Ok(receipts)
 }
 
-/// The receipts of the takes that got an item, in the order of their exchanges.
-pub fn take_receipts(alloc: Global, history: &History) -> Result<Vec<TakeReceipt>, AllocError>
-    ensures { IfOk result (λ v. v.items ≡ takes_of history.now.lists) }
+/// The receipts of a group's takes that got an item, groups from 0, in the order of their exchanges.
+pub fn take_receipts(
+    alloc: Global,
+    history: &History,
+    group: usize,
+) -> Result<Vec<TakeReceipt>, AllocError>
+    requires { group < length history.now.takes }
+    ensures { IfOk result (λ v. v.items ≡ takes_of (lists history.now) group) }
 {
+    let takes = history.takes(group);
     let mut receipts = Vec::new(alloc);
-    for (entry, answer) in history.d_calls().iter().zip(history.d_answers()) {
+    for (entry, answer) in takes.calls().iter().zip(takes.answers()) {
         if let Some(receipt) = take_receipt(entry, answer) {
             receipts.push(receipt)?;
         }
@@ -67,9 +75,9 @@ pub fn take_receipts(alloc: Global, history: &History) -> Result<Vec<TakeReceipt
 
 /// The total that a close gave, if one was answered Shut.
 pub fn total(history: &History) -> Option<u64>
-    ensures { result ≡ total_of history.now.lists }
+    ensures { result ≡ total_of (lists history.now) }
 {
-    for answer in history.e_answers() {
+    for answer in history.sends().answers() {
         if let Answer::Close(CloseAnswer::Shut { total }) = answer {
             return Some(*total);
         }

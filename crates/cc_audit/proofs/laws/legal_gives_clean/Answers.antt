@@ -5,4 +5,4 @@ use Rattle.cc_audit.proofs.Lawful.{fair_of}
 use Rattle.cc_audit.proofs.laws.legal_gives_clean.Goals as goal
 
 pub returns : goal.returns
-returns c = λ cfg h legal. no_fault (accepted h) (takes_of h) (total_of h) (fair_of cfg h legal)
+returns c = λ cfg h g inside legal. no_fault (accepted h) (takes_of h g) (total_of h) (fair_of cfg h g inside legal)

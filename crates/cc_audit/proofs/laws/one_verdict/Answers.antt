@@ -1,32 +1,5 @@
-use Rattle.std.proofs.Common.{◌≡◌, ℕ, inl, inr, List, Option, refl, sym, ap, ◌∙◌}
-use Rattle.std.proofs.lemmas.Bool.{cases_order}
-use Rattle.cc_audit.specs.declared.receipt.SendReceipt.{SendReceipt}
-use Rattle.cc_audit.specs.declared.receipt.TakeReceipt.{TakeReceipt}
-use Rattle.cc_audit.specs.declared.receipt.Verdict.{Verdict}
-use Rattle.cc_audit.specs.declared.receipt.Verdict.TheVariants.{Clean, Fault}
-use Rattle.cc_audit.specs.Verdict.{IsVerdict, IsFirstFault}
+use Rattle.cc_audit.proofs.One.{same}
 use Rattle.cc_audit.proofs.laws.one_verdict.Goals as goal
-
--- the least place is the lesser fault's
-same_place : {sends : List SendReceipt} {takes : List TakeReceipt} {total : Option ℕ} {k p j q : ℕ} → IsFirstFault sends takes total k p → IsFirstFault sends takes total j q → p ≡ q
-same_place {sends} {takes} {total} {k} {p} {j} {q} f g = elim (cases_order p q) [
-  | inl same ↦ same
-  | inr way ↦ elim way [ inl below ↦ absurd (g.least_place k p below f.holds) | inr above ↦ absurd (f.least_place j q above g.holds) ]
-]
-
-same_kind : {sends : List SendReceipt} {takes : List TakeReceipt} {total : Option ℕ} {k p j q : ℕ} → p ≡ q → IsFirstFault sends takes total k p → IsFirstFault sends takes total j q → k ≡ j
-same_kind {sends} {takes} {total} {k} {p} {j} {q} same f g = elim (cases_order k j) [
-  | inl here ↦ here
-  | inr way ↦ elim way [ inl below ↦ absurd (g.least_kind k below (rw same at f.holds)) | inr above ↦ absurd (f.least_kind j above (rw (sym same) at g.holds)) ]
-]
-
-same : (sends : List SendReceipt) (takes : List TakeReceipt) (total : Option ℕ) (v w : Verdict) → IsVerdict sends takes total v → IsVerdict sends takes total w → v ≡ w
-same sends takes total Clean Clean f g = refl
-same sends takes total Clean (Fault j q) f g = absurd (f j q g.holds)
-same sends takes total (Fault k p) Clean f g = absurd (g k p f.holds)
-same sends takes total (Fault k p) (Fault j q) f g =
-    let place : p ≡ q = same_place f g in
-    ap (λ (n : ℕ). Fault n p) (same_kind place f g) ∙ ap (λ (n : ℕ). Fault j n) place
 
 pub returns : goal.returns
 returns c = same

@@ -1,9 +1,10 @@
 use Rattle.std.proofs.Common.{◌≡◌, ◌++◌}
 use Rattle.std.specs.Iterator.Adapters.{zip_first, zip_second}
 use Rattle.std.specs.Slice.Iter.{iter_rest}
+use Rattle.cc_model.specs.Kept.{lists}
 use Rattle.cc_audit.specs.Receipts.{takes_by, takes_of}
 use Rattle.cc_audit.proofs.of_history.take_receipts.Given as goal
 
 -- the receipts so far, and those that are left
 abbrev pub invariant-loop-entry : goal.invariant-loop-entry
-invariant-loop-entry l = l.receipts.items ++ takes_by (iter_rest (zip_first l.entry-iterator)) (iter_rest (zip_second l.entry-iterator)) ≡ takes_of l.history.lists
+invariant-loop-entry l = l.receipts.items ++ takes_by (iter_rest (zip_first l.entry-iterator)) (iter_rest (zip_second l.entry-iterator)) ≡ takes_of (lists l.history) l.group
