@@ -1,4 +1,6 @@
 //! Receipts and the verdicts on them.
+ghost use Rattle.std.specs.Prelude.{◌≡◌, ◌<◌, length};
+
 use cc_audit::{SendReceipt, TakeReceipt, Verdict, audit, send_receipts, take_receipts, total};
 use cc_model::{Answer, Call, CloseAnswer, Entry, History, Item, Pass, SendAnswer, TakeAnswer};
 use std::alloc::{AllocError, Global};
@@ -61,56 +63,187 @@ fn many_receipts(rt: HostRuntime) -> Result<(), Fail> {
     Ok(())
 }
 
-fn entry(pass: Pass, call: Call, number: u32) -> Entry {
-    Entry {
-        pass,
+/// What is audited of a history: the receipts of all sends, those of a group's takes, and the total.
+#[derive(Drop)]
+struct Receipts {
+    sends: Vec<SendReceipt>,
+    takes: Vec<TakeReceipt>,
+    total: Option<u64>,
+}
+
+impl Receipts {
+    fn new(alloc: Global, history: &History, group: usize) -> Result<Receipts, AllocError>
+        requires { group < length history.now.takes }
+    {
+        Ok(Receipts {
+            sends: send_receipts(alloc, history)?,
+            takes: take_receipts(alloc, history, group)?,
+            total: total(history),
+        })
+    }
+
+    fn verdict(&self, alloc: Global) -> Result<Verdict, AllocError> {
+        audit(alloc, &self.sends, &self.takes, self.total)
+    }
+}
+
+/// Writes down a call of a sender, and its answer, if it has one.
+fn add_send(
+    history: &mut History,
+    sender: u32,
+    call: Call,
+    number: u32,
+    answer: Option<Answer>,
+) -> Result<(), AllocError>
+    ensures { length history.new.takes ≡ length history.old.takes }
+{
+    history.reserve_sends(1)?;
+    history.push_sends_call(Entry {
+        pass: Pass::Sender(sender),
         call,
         number,
         known: 0,
+    });
+    if let Some(answer) = answer {
+        history.push_sends_answer(answer);
     }
+    Ok(())
+}
+
+/// Writes down a take of a group's receiver, and its answer, if it has one.
+fn add_take(
+    history: &mut History,
+    group: usize,
+    receiver: u32,
+    answer: Option<TakeAnswer>,
+) -> Result<(), AllocError>
+    requires { group < length history.old.takes }
+    ensures { length history.new.takes ≡ length history.old.takes }
+{
+    history.reserve_takes(group, 1)?;
+    history.push_takes_call(
+        group,
+        Entry {
+            pass: Pass::Receiver(receiver),
+            call: Call::Take,
+            number: 0,
+            known: 0,
+        },
+    );
+    if let Some(answer) = answer {
+        history.push_takes_answer(group, Answer::Take(answer));
+    }
+    Ok(())
+}
+
+/// A send that was accepted at this place.
+fn accepted(place: u64) -> Option<Answer> {
+    Some(Answer::Send(SendAnswer::Accepted { place }))
+}
+
+/// A close that shut the queue after so many items.
+fn shut(total: u64) -> Option<Answer> {
+    Some(Answer::Close(CloseAnswer::Shut { total }))
 }
 
 /// A send that was accepted, one that found the queue full, a close, a send after it, and a send without an answer; a
 /// take that got the item, one that found the end, and one without an answer.
-fn played(alloc: Global) -> Result<History, AllocError> {
-    let mut history = History::new(alloc);
-    history.reserve_e(5)?;
-    history.reserve_d(3)?;
-    history.push_e_call(entry(Pass::Sender(2), Call::Send(7), 1));
-    history.push_e_answer(Answer::Send(SendAnswer::Accepted { place: 0 }));
-    history.push_e_call(entry(Pass::Sender(1), Call::Send(8), 1));
-    history.push_e_answer(Answer::Send(SendAnswer::Full));
-    history.push_e_call(entry(Pass::Sender(1), Call::Close, 0));
-    history.push_e_answer(Answer::Close(CloseAnswer::Shut { total: 1 }));
-    history.push_e_call(entry(Pass::Sender(2), Call::Send(9), 2));
-    history.push_e_answer(Answer::Send(SendAnswer::Closed));
-    history.push_e_call(entry(Pass::Sender(2), Call::Send(9), 3));
-    history.push_d_call(entry(Pass::Receiver(3), Call::Take, 0));
-    history.push_d_answer(Answer::Take(TakeAnswer::Got(Item {
+fn played(alloc: Global) -> Result<Receipts, AllocError> {
+    let mut history = History::new(alloc, 1)?;
+    add_send(&mut history, 2, Call::Send(7), 1, accepted(0))?;
+    let full = Answer::Send(SendAnswer::Full);
+    add_send(&mut history, 1, Call::Send(8), 1, Some(full))?;
+    add_send(&mut history, 1, Call::Close, 0, shut(1))?;
+    let closed = Answer::Send(SendAnswer::Closed);
+    add_send(&mut history, 2, Call::Send(9), 2, Some(closed))?;
+    add_send(&mut history, 2, Call::Send(9), 3, None)?;
+    let item = Item {
         place: 0,
         sender: 2,
         number: 1,
         body: 7,
-    })));
-    history.push_d_call(entry(Pass::Receiver(1), Call::Take, 0));
-    history.push_d_answer(Answer::Take(TakeAnswer::Ended { total: 1 }));
-    history.push_d_call(entry(Pass::Receiver(1), Call::Take, 0));
-    Ok(history)
+    };
+    add_take(&mut history, 0, 3, Some(TakeAnswer::Got(item)))?;
+    add_take(&mut history, 0, 1, Some(TakeAnswer::Ended { total: 1 }))?;
+    add_take(&mut history, 0, 1, None)?;
+    Receipts::new(alloc, &history, 0)
+}
+
+/// A history without calls.
+fn silent(alloc: Global) -> Result<Receipts, AllocError> {
+    let history = History::new(alloc, 1)?;
+    Receipts::new(alloc, &history, 0)
 }
 
 #[test]
 fn receipts_of_a_history(rt: HostRuntime) -> Result<(), Fail> {
-    let empty = History::new(rt.alloc());
-    assert_eq!(rt; send_receipts(rt.alloc(), &empty)?.len(), 0);
-    assert_eq!(rt; take_receipts(rt.alloc(), &empty)?.len(), 0);
-    assert_eq!(rt; total(&empty), None);
+    let silent = silent(rt.alloc())?;
+    assert_eq!(rt; silent.sends.len(), 0);
+    assert_eq!(rt; silent.takes.len(), 0);
+    assert_eq!(rt; silent.total, None);
 
-    let history = played(rt.alloc())?;
-    let sends = send_receipts(rt.alloc(), &history)?;
-    let takes = take_receipts(rt.alloc(), &history)?;
-    assert_eq!(rt; sends.as_slice(), [send(2, 1, 0, 7)].as_slice());
-    assert_eq!(rt; takes.as_slice(), [take(3, 0, 2, 1, 7)].as_slice());
-    assert_eq!(rt; total(&history), Some(1));
-    assert_eq!(rt; audit(rt.alloc(), &sends, &takes, total(&history))?, CLEAN);
+    let played = played(rt.alloc())?;
+    assert_eq!(rt; played.sends.as_slice(), [send(2, 1, 0, 7)].as_slice());
+    assert_eq!(rt; played.takes.as_slice(), [take(3, 0, 2, 1, 7)].as_slice());
+    assert_eq!(rt; played.total, Some(1));
+    assert_eq!(rt; played.verdict(rt.alloc())?, CLEAN);
+    Ok(())
+}
+
+/// The item of this send, as a take gets it.
+fn got(sent: SendReceipt) -> Option<TakeAnswer> {
+    Some(TakeAnswer::Got(Item {
+        place: sent.place,
+        sender: sent.sender,
+        number: sent.number,
+        body: sent.body,
+    }))
+}
+
+/// These sends were accepted. Receiver 1, of the first group, took all their items, and receiver 3, of the second group,
+/// took the items of those that it is given. The receipts are those of the first group, and of the second.
+fn two_groups(
+    alloc: Global,
+    sends: &[SendReceipt],
+    second: &[SendReceipt],
+) -> Result<(Receipts, Receipts), AllocError> {
+    let mut history = History::new(alloc, 2)?;
+    for sent in sends {
+        let call = Call::Send(sent.body);
+        add_send(
+            &mut history,
+            sent.sender,
+            call,
+            sent.number,
+            accepted(sent.place),
+        )?;
+        add_take(&mut history, 0, 1, got(*sent))?;
+    }
+    add_send(&mut history, 2, Call::Close, 0, shut(sends.len() as u64))?;
+    for sent in second {
+        add_take(&mut history, 1, 3, got(*sent))?;
+    }
+    let first = Receipts::new(alloc, &history, 0)?;
+    Ok((first, Receipts::new(alloc, &history, 1)?))
+}
+
+#[test]
+fn each_group_is_audited_alone(rt: HostRuntime) -> Result<(), Fail> {
+    let sent = [send(1, 1, 0, 5), send(2, 1, 1, 6), send(1, 2, 2, 7)];
+    let with_gap = [sent[0], sent[2]];
+    let with_double = [sent[0], sent[1], sent[0]];
+    let rows = [
+        (&sent[..], CLEAN),
+        (&sent[..1], CLEAN),
+        (&sent[..0], CLEAN),
+        (&with_gap[..], fault(5, 1)),
+        (&sent[1..], fault(5, 0)),
+        (&with_double[..], fault(2, 0)),
+    ];
+    for (taken, verdict) in rows {
+        let (first, second) = two_groups(rt.alloc(), &sent, taken)?;
+        let verdicts = (first.verdict(rt.alloc())?, second.verdict(rt.alloc())?);
+        assert_eq!(rt; verdicts, (CLEAN, verdict));
+    }
     Ok(())
 }
