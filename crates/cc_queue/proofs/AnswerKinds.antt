@@ -1,8 +1,10 @@
 -- In a lawful history each answer is one of its call's own kind.
-use Rattle.std.proofs.Common.{◌≡◌, ℕ, ◌+◌, Bool, true, false, ◌||◌, List, [], ◌∷◌, ◌++◌, map, length, Option, Some, None, if◌then◌else◌, refl, sym, ap, ◌∙◌, subst, arith, length-append}
-use Rattle.std.specs.List.{AllByRecursion, filter}
-use Rattle.cc_model.specs.Record.{Record}
-use Rattle.cc_model.specs.Items.{answered, calls_of, is_pass, accepted, accepted_item, shuts, is_shut, handed_item}
+use Rattle.std.proofs.Common.{suc, get_or, ◌≤◌, inl, inr, ◌≡◌, ℕ, ◌+◌, Bool, true, false, ◌||◌, List, [], ◌∷◌, ◌++◌, map, length, Option, Some, None, if◌then◌else◌, refl, sym, ap, ◌∙◌, subst, arith, length-append}
+use Rattle.std.specs.List.{flat_map, AllByRecursion, filter}
+use Rattle.cc_model.specs.Record.{Side, Record, silent, of_group}
+use Rattle.std.proofs.lemmas.Bool.{cases_lt}
+use Rattle.std.proofs.lemmas.List.{get_or_past}
+use Rattle.cc_model.specs.Items.{all_answered, answered, calls_of, is_pass, accepted, accepted_item, shuts, is_shut, handed_item}
 use Rattle.cc_model.specs.Legal.{Legal, EAnswer, EAnswers, DAnswer, DAnswers, IsReceivers}
 use Rattle.cc_model.specs.declared.config.Config.{Config}
 use Rattle.cc_model.specs.declared.call.Call.{Call}
@@ -46,16 +48,16 @@ e_all cfg count shut [] answers k = tt
 e_all cfg count shut (e ∷ calls) [] k = (tt, e_all cfg count shut calls [] tt)
 e_all cfg count shut (e ∷ calls) (a ∷ answers) k = (e_suits cfg count shut e.known e.call a k.0, e_all cfg (count + length (accepted_item e a)) (shut || shuts a) calls answers k.1)
 
-d_suits : (cfg : Config) (items : List Item) (shut : Bool) (count known : ℕ) (p : Pass) (c : Call) (a : Answer) → IsReceivers cfg p c → DAnswer items shut count known a → Suits c a
-d_suits cfg items shut count known (pass.Receiver r) call.Take (answer.Take a) is k = tt
-d_suits cfg items shut count known (pass.Receiver r) call.Take (answer.Send a) is k = absurd k
-d_suits cfg items shut count known (pass.Receiver r) call.Take (answer.Close a) is k = absurd k
-d_suits cfg items shut count known p c a is k = absurd is
+d_suits : (cfg : Config) (g : ℕ) (items : List Item) (shut : Bool) (count known : ℕ) (p : Pass) (c : Call) (a : Answer) → IsReceivers cfg g p c → DAnswer items shut count known a → Suits c a
+d_suits cfg g items shut count known (pass.Receiver r) call.Take (answer.Take a) is k = tt
+d_suits cfg g items shut count known (pass.Receiver r) call.Take (answer.Send a) is k = absurd k
+d_suits cfg g items shut count known (pass.Receiver r) call.Take (answer.Close a) is k = absurd k
+d_suits cfg g items shut count known p c a is k = absurd is
 
-d_all : (cfg : Config) (items : List Item) (shut : Bool) (count : ℕ) (calls : List Entry) (answers : List Answer) → AllByRecursion (λ c. IsReceivers cfg c.pass c.call) calls → DAnswers items shut count calls answers → AllByRecursion SuitsIt (answered calls answers)
-d_all cfg items shut count [] answers r k = tt
-d_all cfg items shut count (e ∷ calls) [] r k = (tt, d_all cfg items shut count calls [] r.1 tt)
-d_all cfg items shut count (e ∷ calls) (a ∷ answers) r k = (d_suits cfg items shut count e.known e.pass e.call a r.0 k.0, d_all cfg items shut (count + length (handed_item a)) calls answers r.1 k.1)
+d_all : (cfg : Config) (g : ℕ) (items : List Item) (shut : Bool) (count : ℕ) (calls : List Entry) (answers : List Answer) → AllByRecursion (λ c. IsReceivers cfg g c.pass c.call) calls → DAnswers items shut count calls answers → AllByRecursion SuitsIt (answered calls answers)
+d_all cfg g items shut count [] answers r k = tt
+d_all cfg g items shut count (e ∷ calls) [] r k = (tt, d_all cfg g items shut count calls [] r.1 tt)
+d_all cfg g items shut count (e ∷ calls) (a ∷ answers) r k = (d_suits cfg g items shut count e.known e.pass e.call a r.0 k.0, d_all cfg g items shut (count + length (handed_item a)) calls answers r.1 k.1)
 
 -- ---- lists
 
@@ -83,11 +85,23 @@ last_is (z ∷ xs) (w ∷ ys) x y e = let rest : xs ++ x ∷ [] ≡ ys ++ y ∷ 
 
 -- ---- the last call of a pass
 
+-- of the sides of all groups
+all_sides : (P : Entry × Option Answer → Type 0) (sides : List Side) → ((k : ℕ) → AllByRecursion P (answered (get_or sides k silent).calls (get_or sides k silent).answers)) → AllByRecursion P (flat_map (λ side. answered side.calls side.answers) sides)
+all_sides P [] each = tt
+all_sides P (s ∷ sides) each = all_both P (answered s.calls s.answers) (flat_map (λ side. answered side.calls side.answers) sides) (each 0) (all_sides P sides (λ k. each (suc k)))
+
+-- a group's, where there is none the empty one
+side_suits : (cfg : Config) (h : Record) → Legal cfg h → (g : ℕ) → AllByRecursion SuitsIt (answered (of_group h g).calls (of_group h g).answers)
+side_suits cfg h l g = elim (cases_lt g cfg.groups) [
+  | inl inside ↦ d_all cfg g (accepted h) (is_shut h) 0 (of_group h g).calls (of_group h g).answers (l.takes g inside).receivers (l.takes g inside).answers
+  | inr far ↦ subst (λ (s : Side). AllByRecursion SuitsIt (answered s.calls s.answers)) (sym (get_or_past h.takes g silent (omega (arith, far, l.groups)))) tt
+]
+
 all_suit : (cfg : Config) (h : Record) (who : Pass) → Legal cfg h → AllByRecursion SuitsIt (calls_of who h)
 all_suit cfg h who l =
-    all_filter SuitsIt (λ c. is_pass who c.0.pass) (answered h.e_calls h.e_answers ++ answered h.d_calls h.d_answers)
-    (all_both SuitsIt (answered h.e_calls h.e_answers) (answered h.d_calls h.d_answers) (e_all cfg 0 false h.e_calls h.e_answers l.e_answers)
-    (d_all cfg (accepted h) (is_shut h) 0 h.d_calls h.d_answers l.receivers l.d_answers))
+    all_filter SuitsIt (λ c. is_pass who c.0.pass) (all_answered h)
+    (all_both SuitsIt (answered h.sends.calls h.sends.answers) (flat_map (λ side. answered side.calls side.answers) h.takes) (e_all cfg 0 false h.sends.calls h.sends.answers l.answers)
+    (all_sides SuitsIt h.takes (side_suits cfg h l)))
 
 map_last : {X Y : Type 0} (f : X → Y) (xs : List X) (x : X) → map f (xs ++ x ∷ []) ≡ map f xs ++ f x ∷ []
 map_last f [] x = refl

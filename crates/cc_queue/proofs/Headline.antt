@@ -1,7 +1,8 @@
 -- What a pass has seen stands in one history.
-use Rattle.std.proofs.Common.{◌≡◌, ◌≢◌, ℕ, ◌+◌, ◌*◌, ◌≤◌, ◌==◌, if◌then◌else◌, List, [], ◌∷◌, ◌++◌, map, refl, sym, ap, ◌∙◌, subst, append-nil, append_assoc, Bool, true, false, nat_lt, ◌-◌}
+use Rattle.std.proofs.Common.{◌/◌, arith, ◌≡◌, ◌≢◌, ℕ, ◌+◌, ◌*◌, ◌≤◌, ◌==◌, if◌then◌else◌, List, [], ◌∷◌, ◌++◌, map, refl, sym, ap, ◌∙◌, subst, append-nil, append_assoc, Bool, true, false, nat_lt, ◌-◌}
 use Rattle.cc_model.specs.declared.config.Config.{Config}
-use Rattle.cc_model.specs.Items.{Begins, calls_of}
+use Rattle.std.specs.List.{AllByRecursion}
+use Rattle.cc_model.specs.Items.{HasAnswer, Begins, calls_of}
 use Rattle.cc_model.specs.declared.call.Answer.{Answer}
 use Rattle.cc_model.specs.declared.call.Call.{Call}
 use Rattle.cc_model.specs.declared.call.TakeAnswer.{TakeAnswer}
@@ -19,13 +20,17 @@ use Rattle.cc_machine.specs.declared.word.Chain.TheVariants.{Send, Take}
 use Rattle.cc_model.specs.declared.call.Pass.TheVariants as pass
 use Rattle.cc_machine.specs.Run.{IsRun, history_of, reached, begun_after}
 use Rattle.cc_machine.specs.CallsMade.{made, to_exchange}
+use Rattle.cc_machine.specs.ChainLaws.{IsOut}
 use Rattle.cc_machine.proofs.CallsMade.{calls_made}
+use Rattle.cc_machine.proofs.EndAnswered.{calls_end}
 use Rattle.cc_machine.proofs.RunFronts.{fronts_begin}
 use Rattle.cc_machine.proofs.ListRuns.Laws.{history_is_legal, history_is_fifo}
 use Rattle.cc_steps.specs.Seen.{Onward, GoesOn, stand_in, made_in}
 use Rattle.cc_steps.specs.Topic.{Topic}
 use Rattle.cc_steps.specs.Walk.{Walk, IsOf, IsSameSeat, IsSound, IsPendingIn}
-use Rattle.cc_queue.specs.Headline.{StandsInOne, IsReceiver, entry_of, name, history}
+use Rattle.cc_machine.specs.Columns.{group_of}
+use Rattle.cc_queue.specs.Group.{IsGroupOf, Ranked}
+use Rattle.cc_queue.specs.Headline.{StandsInOne, IsAtRest, entry_of, name, history}
 use Rattle.cc_queue.specs.Work.{IsOn, worked_to, tally, reads, marks, hands, scans}
 use Rattle.cc_queue.specs.Calls.{Begun, Waited, Answered, Ended, Completed, IsSettled}
 use Rattle.cc_queue.specs.Codes.{IsSendAnswer, IsCloseAnswer}
@@ -150,16 +155,31 @@ completed_so a b c call told f g = record { stands = stands_more a b c (entry_of
 pub pending_stands : (u v : Walk) (begun node : ℕ) → v ≡ u → v.setting.served ≡ served.List → v.stand ≡ record { begun = begun; node = node; place = place.ReadState } → IsSound v → StandsInOne u [] u
 pending_stands u v begun node is list stand s = subst (λ (x : Walk). StandsInOne x [] x) is (stands_on v v [] begun node place.ReadState stand refl s list (refl, refl, refl) (λ first k. k) (sym (append-nil v.made)))
 
+-- the calls of a pass that is out of its chain have their answers
+answers_in : (w : Walk) → IsSound w → IsOut w.stand.place → AllByRecursion HasAnswer (calls_of (name w) (history w))
+unfolding stand_in
+answers_in w s out = calls_end w.setting s.checked w.seen s.run w.number s.below (subst (λ (x : Stand). IsOut x.place) s.shows.0 out)
+
+-- an idle pass, which a caller knows as u
+pub at_rest_so : (u v : Walk) (begun node : ℕ) → v ≡ u → v.setting.served ≡ served.List → v.stand ≡ record { begun = begun; node = node; place = place.Idle } → IsSound v → IsAtRest u
+at_rest_so u v begun node is list stand s = subst IsAtRest is (record {
+  stands = stands_on v v [] begun node place.Idle stand refl s list (refl, refl, refl) (λ first k. k) (sym (append-nil v.made));
+  answered = answers_in v s (subst (λ (x : Stand). IsOut x.place) (sym stand) tt);
+})
+
 -- an answer that isn't Empty
 pub settled_unless : (told : TakeAnswer) → told ≢ take.Empty → IsSettled told
 settled_unless take.Empty ne = absurd (ne refl)
 settled_unless (take.Got item) ne = tt
 settled_unless (take.Ended total) ne = tt
 
--- a pass of the receivers' chain is a receiver
-pub is_receiver : (u v : Walk) → v ≡ u → IsOn v (Take 0) → IsReceiver (name u)
-is_receiver u v is on = subst (λ (x : Walk). IsReceiver (name x)) is (go (nat_lt v.number v.setting.config.senders) on)
+-- a receiver's group is that of its chain
+pub ranked_so : (u v : Walk) (g : ℕ) → v ≡ u → IsOn v (Take g) → Ranked u (g + 1)
+ranked_so u v g is on = subst (λ (x : Walk). Ranked x (g + 1)) is (go (nat_lt v.number v.setting.config.senders) on)
   where
-    go : (b : Bool) → (if b then Send else Take 0) ≡ Take 0 → IsReceiver (if b then pass.Sender (v.number + 1) else pass.Receiver (v.number - v.setting.config.senders + 1))
+    go : (b : Bool) → (if b then Send else Take ((v.number - v.setting.config.senders) / v.setting.config.receivers)) ≡ Take g → IsGroupOf v.setting.config (if b then pass.Sender (v.number + 1) else pass.Receiver (v.number - v.setting.config.senders + 1)) (g + 1)
     go true e = absurd (cc e)
-    go false e = tt
+    go false e =
+        let back : v.number - v.setting.config.senders + 1 - 1 ≡ v.number - v.setting.config.senders = omega arith in
+        let same : (v.number - v.setting.config.senders) / v.setting.config.receivers ≡ g = ap group_of e in
+        sym (ap (λ (n : ℕ). n / v.setting.config.receivers + 1) back ∙ ap (λ (n : ℕ). n + 1) same)

@@ -1,23 +1,25 @@
 -- The receipts that a row of passes hold are those of the history, in another order.
-use Rattle.std.proofs.Common.{◌≡◌, ℕ, zero, suc, ◌+◌, ◌<◌, ◌≤◌, ◌==◌, ◌⊎◌, inl, inr, Bool, true, false, List, [], ◌∷◌, ◌++◌, map, length, get_or, Option, Some, None, IsPermutation, Any, if◌then◌else◌, refl, sym, ap, ◌∙◌, subst, arith, append-nil, append_assoc, eq-eqb, nat_lt, ◌-◌, Ok}
-use Rattle.std.proofs.lemmas.Bool.{ne_eqb, lt-ltb, ltb-true, false≢true, true≢false}
-use Rattle.std.proofs.lemmas.List.{map-append, get_or_default}
+use Rattle.std.proofs.Common.{◌≡◌, ℕ, zero, suc, ◌+◌, ◌-◌, ◌*◌, ◌/◌, ◌%◌, ◌<◌, ◌≤◌, ◌==◌, inl, inr, Bool, true, false, List, [], ◌∷◌, ◌++◌, map, length, take, drop, get_or, Option, Some, None, IsPermutation, Any, if◌then◌else◌, refl, sym, ap, ◌∙◌, subst, arith, append_assoc, eq-eqb, nat_lt, Ok}
+use Rattle.std.proofs.Math.Nat.{suc-mul, mul-le-mul_right}
+use Rattle.std.proofs.Math.Seq.{take-length}
+use Rattle.std.proofs.lemmas.Nat.{div-add-mod', div-mul-add}
+use Rattle.std.proofs.lemmas.Bool.{cases_lt, ne_eqb, lt-ltb, ltb-true, false≢true, true≢false}
+use Rattle.std.proofs.lemmas.List.{map-append, get_or_default, get_or_past, get_or-drop, get_or-take, length-take, length-drop}
 use Rattle.std.proofs.lemmas.List.Sorted.{IsPermutation-refl, IsPermutation-sym, IsPermutation-trans, IsPermutation-append_left, IsPermutation-append_right, IsPermutation-append_comm}
-use Rattle.std.specs.List.{All, AllByRecursion, filter}
+use Rattle.std.specs.List.{All, AllByRecursion, filter, slice_range}
 use native.Mathlib.Decide.{ℕ_discrete}
-use Rattle.cc_model.specs.Record.{Record}
-use Rattle.cc_model.specs.Items.{answered, calls_of, is_pass, accepted, accepted_by, accepted_item, handed_item, is_shut}
-use Rattle.cc_model.specs.Legal.{Legal, DAnswer, DAnswers, IsSenders, IsReceivers}
-use Rattle.cc_model.specs.Config.{config_fault}
+use Rattle.cc_model.specs.Record.{Side, Record, silent, of_group}
+use Rattle.cc_model.specs.Items.{answered, calls_of, is_pass, accepted, accepted_by, accepted_item}
+use Rattle.cc_model.specs.Legal.{Legal, IsSenders, IsReceivers}
+use Rattle.cc_model.specs.Config.{config_fault, group_of}
 use Rattle.cc_model.specs.declared.config.Config.{Config}
 use Rattle.cc_model.specs.declared.call.Call.{Call}
 use Rattle.cc_model.specs.declared.call.Call.TheVariants as call
 use Rattle.cc_model.specs.declared.call.Pass.{Pass}
 use Rattle.cc_model.specs.declared.call.Pass.TheVariants.{Sender, Receiver}
-use Rattle.cc_model.specs.declared.call.Item.{Item}
 use Rattle.cc_model.specs.declared.call.Entry.{Entry}
 use Rattle.cc_model.specs.declared.call.Answer.{Answer}
-use Rattle.cc_model.specs.declared.call.Answer.TheVariants as answer
+use Rattle.cc_machine.specs.Words.{groups}
 use Rattle.cc_machine.specs.State.{pass_at}
 use Rattle.cc_machine.specs.declared.run.Move.{Move}
 use Rattle.cc_machine.specs.declared.setting.Setting.{Setting}
@@ -28,21 +30,23 @@ use Rattle.cc_audit.specs.Receipts.{send_receipt, take_receipt, sends_of, takes_
 use Rattle.cc_audit.specs.Verdict.{IsVerdict}
 use Rattle.cc_audit.specs.declared.receipt.SendReceipt.{SendReceipt}
 use Rattle.cc_audit.specs.declared.receipt.TakeReceipt.{TakeReceipt}
-use Rattle.cc_audit.specs.declared.receipt.Verdict.{Verdict}
-use Rattle.cc_audit.specs.declared.receipt.Verdict.TheVariants.{Clean, Fault}
+use Rattle.cc_audit.specs.declared.receipt.Verdict.TheVariants.{Clean}
 use Rattle.cc_audit.proofs.Clean.{no_fault}
 use Rattle.cc_audit.proofs.Lawful.{fair_of}
 use Rattle.cc_audit.proofs.Orders.{same_verdict}
 use Rattle.cc_steps.specs.Topic.{Topic}
 use Rattle.cc_steps.specs.Walk.{Walk}
-use Rattle.cc_queue.specs.Headline.{name, history}
+use Rattle.cc_queue.specs.Headline.{name, history, IsAtRest}
 use Rattle.cc_queue.specs.Met.{HaveSeenOne}
-use Rattle.cc_queue.specs.Receipts.{AreInRow, AreAll, HasJustCallsOf, seen_by, sent, got, receipts_in, receipts_by}
-use Rattle.cc_queue.proofs.AnswerKinds.{all_both}
+use Rattle.cc_queue.specs.Receipts.{AreInRow, AreAll, in_group, HasJustItsCalls, HasJustCallsOf, seen_by, sent, got, receipts_in, receipts_by}
+use Rattle.cc_queue.proofs.OnItsSide.{Told, on_its_side}
 
--- a call and what it was told, if it has its answer
-abbrev Told : Type 0
-Told = Entry × Option Answer
+-- what holds of the elements before an element, and of it
+pub one_more : {X : Type 0} (P : X → Type 0) (xs : List X) (i : ℕ) (x : X) → i < length xs → x ≡ get_or xs i x → P x → ((k : ℕ) (d : X) → k < i → P (get_or xs k d)) → (k : ℕ) (d : X) → k < i + 1 → P (get_or xs k d)
+one_more {X} P xs i x inside is here before k d less = elim (cases_lt k i) [
+  | inl earlier ↦ before k d earlier
+  | inr same ↦ let at : k ≡ i = omega (arith, same, less) in subst P (is ∙ get_or_default xs i x d inside ∙ ap (λ (n : ℕ). get_or xs n d) (sym at)) here
+]
 
 -- ---- calls that are dealt out to a row of passes
 
@@ -55,9 +59,9 @@ held receipts mine zs n (suc count) = receipts_in receipts (filter (mine n) zs) 
 abbrev IsOfAlone : (ℕ → Told → Bool) → Told → ℕ → Type 0
 IsOfAlone mine z s = (m : ℕ) → mine m z ≡ (m == s)
 
--- it has no receipt, or is of one of these passes alone
-abbrev IsDealt : {X : Type 0} → (Told → List X) → (ℕ → Told → Bool) → ℕ → ℕ → Told → Type 0
-IsDealt receipts mine n count z = (receipts z ≡ []) ⊎ ((s : ℕ) × (n ≤ s) × (s < n + count) × IsOfAlone mine z s)
+-- it is of one of these passes alone
+abbrev IsDealt : (ℕ → Told → Bool) → ℕ → ℕ → Told → Type 0
+IsDealt mine n count z = (s : ℕ) × (n ≤ s) × (s < n + count) × IsOfAlone mine z s
 
 kept : (z : Told) (zs : List Told) (b : Bool) → b ≡ true → (if b then z ∷ zs else zs) ≡ z ∷ zs
 kept z zs true is = refl
@@ -66,14 +70,6 @@ kept z zs false is = absurd (false≢true is)
 left_out : (z : Told) (zs : List Told) (b : Bool) → b ≡ false → (if b then z ∷ zs else zs) ≡ zs
 left_out z zs true is = absurd (true≢false is)
 left_out z zs false is = refl
-
-bare : {X : Type 0} (receipts : Told → List X) (z : Told) (zs : List Told) (b : Bool) → receipts z ≡ [] → receipts_in receipts (if b then z ∷ zs else zs) ≡ receipts_in receipts zs
-bare receipts z zs true none = ap (λ l. l ++ receipts_in receipts zs) none
-bare receipts z zs false none = refl
-
-held_bare : {X : Type 0} (receipts : Told → List X) (mine : ℕ → Told → Bool) (z : Told) (zs : List Told) (n count : ℕ) → receipts z ≡ [] → held receipts mine (z ∷ zs) n count ≡ held receipts mine zs n count
-held_bare receipts mine z zs n zero none = refl
-held_bare receipts mine z zs n (suc count) none = λ i. bare receipts z (filter (mine n) zs) (mine n z) none i ++ held_bare receipts mine z zs (suc n) count none i
 
 -- a call of an earlier pass
 held_after : {X : Type 0} (receipts : Told → List X) (mine : ℕ → Told → Bool) (z : Told) (zs : List Told) (s n count : ℕ) → IsOfAlone mine z s → s < n → held receipts mine (z ∷ zs) n count ≡ held receipts mine zs n count
@@ -105,22 +101,13 @@ held_nothing : {X : Type 0} (receipts : Told → List X) (mine : ℕ → Told �
 held_nothing receipts mine n zero = refl
 held_nothing receipts mine n (suc count) = held_nothing receipts mine (suc n) count
 
-held_all : {X : Type 0} (receipts : Told → List X) (mine : ℕ → Told → Bool) (n count : ℕ) (zs : List Told) → AllByRecursion (IsDealt receipts mine n count) zs → IsPermutation (held receipts mine zs n count) (receipts_in receipts zs)
+held_all : {X : Type 0} (receipts : Told → List X) (mine : ℕ → Told → Bool) (n count : ℕ) (zs : List Told) → AllByRecursion (IsDealt mine n count) zs → IsPermutation (held receipts mine zs n count) (receipts_in receipts zs)
 held_all {X} receipts mine n count [] all = subst (λ (l : List X). IsPermutation l []) (sym (held_nothing receipts mine n count)) (IsPermutation-refl [])
-held_all {X} receipts mine n count (z ∷ zs) all = elim all.0 [
-  | inl none ↦
-      let so : held receipts mine (z ∷ zs) n count ≡ held receipts mine zs n count = held_bare receipts mine z zs n count none in
-      let also : receipts_in receipts (z ∷ zs) ≡ receipts_in receipts zs = bare receipts z zs true none in
-      subst (λ (y : List X × List X). IsPermutation y.0 y.1) (λ i. (sym so i, sym also i)) (held_all receipts mine n count zs all.1)
-  | inr own ↦
-      IsPermutation-trans _ _ _ (held_one receipts mine z zs own.0 n count own.3 own.1 own.2)
-      (IsPermutation-append_right (receipts z) (held receipts mine zs n count) (receipts_in receipts zs) (held_all receipts mine n count zs all.1))
-]
+held_all receipts mine n count (z ∷ zs) all =
+    IsPermutation-trans _ _ _ (held_one receipts mine z zs all.0.0 n count all.0.3 all.0.1 all.0.2)
+    (IsPermutation-append_right (receipts z) (held receipts mine zs n count) (receipts_in receipts zs) (held_all receipts mine n count zs all.1))
 
--- ---- the calls of a history
-
-abbrev whole : Record → List Told
-whole h = answered h.e_calls h.e_answers ++ answered h.d_calls h.d_answers
+-- ---- whose a call is
 
 abbrev is_of : (ℕ → Pass) → ℕ → Told → Bool
 is_of called m z = is_pass (called m) z.0.pass
@@ -135,43 +122,39 @@ all_answered P Q [] answers f all = tt
 all_answered P Q (e ∷ calls) [] f all = (f e None all.0, all_answered P Q calls [] f all.1)
 all_answered P Q (e ∷ calls) (a ∷ answers) f all = (f e (Some a) all.0, all_answered P Q calls answers f all.1)
 
--- which sender's a call is, and which receiver's
 sender_of : (cfg : Config) (p : Pass) (c : Call) → IsSenders cfg p c → (s : ℕ) × (1 ≤ s) × (s < 1 + cfg.senders) × (p ≡ Sender s)
 sender_of cfg (Sender s) (call.Send body) is = (s, is.0, omega (arith, is.1), refl)
 sender_of cfg (Sender s) call.Close is = (s, is.0, omega (arith, is.1), refl)
 sender_of cfg (Sender s) call.Take is = absurd is
 sender_of cfg (Receiver r) c is = absurd is
 
-receiver_of : (cfg : Config) (p : Pass) (c : Call) → IsReceivers cfg p c → (r : ℕ) × (1 ≤ r) × (r < 1 + cfg.receivers) × (p ≡ Receiver r)
-receiver_of cfg (Receiver r) call.Take is = (r, is.0, omega (arith, is.1), refl)
-receiver_of cfg (Receiver r) (call.Send body) is = absurd is
-receiver_of cfg (Receiver r) call.Close is = absurd is
-receiver_of cfg (Sender s) c is = absurd is
+receiver_of : (cfg : Config) (g : ℕ) (p : Pass) (c : Call) → IsReceivers cfg g p c → (r : ℕ) × (1 ≤ r) × (r < 1 + cfg.groups * cfg.receivers) × (group_of cfg r ≡ g) × (p ≡ Receiver r)
+receiver_of cfg g (Receiver r) call.Take is = (r, is.0, omega (arith, is.1), is.2, refl)
+receiver_of cfg g (Receiver r) (call.Send body) is = absurd is
+receiver_of cfg g (Receiver r) call.Close is = absurd is
+receiver_of cfg g (Sender s) c is = absurd is
 
--- a receiver's call has no send receipt, and a sender's no take receipt
-not_sent : (items : List Item) (shut : Bool) (count known : ℕ) (e : Entry) (a : Answer) → DAnswer items shut count known a → sent (e, Some a) ≡ []
-not_sent items shut count known e (answer.Take a) is = refl
-not_sent items shut count known e (answer.Send a) is = absurd is
-not_sent items shut count known e (answer.Close a) is = absurd is
+-- a receiver's number by its group
+number_in : (cfg : Config) (g r : ℕ) → 0 < cfg.receivers → 1 ≤ r → group_of cfg r ≡ g → (1 + g * cfg.receivers ≤ r) × (r < 1 + g * cfg.receivers + cfg.receivers)
+number_in cfg g r some low is =
+    let whole : (r - 1) / cfg.receivers * cfg.receivers + (r - 1) % cfg.receivers ≡ r - 1 = div-add-mod' (r - 1) cfg.receivers in
+    let same : (r - 1) / cfg.receivers * cfg.receivers ≡ g * cfg.receivers = ap (λ (q : ℕ). q * cfg.receivers) is in
+    let rest : (r - 1) % cfg.receivers < cfg.receivers = omega (arith, some) in
+    (omega (arith, whole, same, low), omega (arith, whole, same, rest, low))
 
-none_sent : (items : List Item) (shut : Bool) (count : ℕ) (calls : List Entry) (answers : List Answer) → DAnswers items shut count calls answers → AllByRecursion (λ z. sent z ≡ []) (answered calls answers)
-none_sent items shut count [] answers all = tt
-none_sent items shut count (e ∷ calls) [] all = (refl, none_sent items shut count calls [] tt)
-none_sent items shut count (e ∷ calls) (a ∷ answers) all = (not_sent items shut count e.known e a all.0, none_sent items shut (count + length (handed_item a)) calls answers all.1)
+-- and the group of such a number
+group_at : (cfg : Config) (g m : ℕ) → 0 < cfg.receivers → 1 + g * cfg.receivers ≤ m → m < 1 + g * cfg.receivers + cfg.receivers → group_of cfg m ≡ g
+group_at cfg g m some low high = ap (λ (n : ℕ). n / cfg.receivers) (omega (arith, low)) ∙ div-mul-add g cfg.receivers (m - 1 - g * cfg.receivers) (omega (arith, low, high))
 
-not_got : (cfg : Config) (e : Entry) (told : Option Answer) → IsSenders cfg e.pass e.call → got (e, told) ≡ []
-not_got cfg e None is = refl
-not_got cfg e (Some a) is = ap (λ (p : Pass). take_receipt p a) (sender_of cfg e.pass e.call is).3
+next_multiple : (n k : ℕ) → 1 ≤ n → (n - 1) * k + k ≡ n * k
+next_multiple zero k some = absurd (omega (arith, some))
+next_multiple (suc n) k some = ap (λ (m : ℕ). m * k + k) (omega arith) ∙ sym (suc-mul n k)
 
--- ---- their receipts
+-- ---- the receipts of calls
 
 pub in_both : {X : Type 0} (receipts : Told → List X) (xs ys : List Told) → receipts_in receipts (xs ++ ys) ≡ receipts_in receipts xs ++ receipts_in receipts ys
 in_both receipts [] ys = refl
 in_both receipts (x ∷ xs) ys = ap (λ l. receipts x ++ l) (in_both receipts xs ys) ∙ sym (append_assoc (receipts x) (receipts_in receipts xs) (receipts_in receipts ys))
-
-in_none : {X : Type 0} (receipts : Told → List X) (zs : List Told) → AllByRecursion (λ z. receipts z ≡ []) zs → receipts_in receipts zs ≡ []
-in_none receipts [] all = refl
-in_none receipts (z ∷ zs) all = bare receipts z zs true all.0 ∙ in_none receipts zs all.1
 
 in_sent : (calls : List Entry) (answers : List Answer) → receipts_in sent (answered calls answers) ≡ map send_receipt (accepted_by calls answers)
 in_sent [] answers = refl
@@ -185,30 +168,16 @@ in_got (e ∷ []) [] = refl
 in_got (e ∷ f ∷ calls) [] = in_got (f ∷ calls) []
 in_got (e ∷ calls) (a ∷ answers) = ap (λ l. take_receipt e.pass a ++ l) (in_got calls answers)
 
-sends_in : (cfg : Config) (h : Record) → Legal cfg h → receipts_in sent (whole h) ≡ sends_of h
-sends_in cfg h l =
-    in_both sent (answered h.e_calls h.e_answers) (answered h.d_calls h.d_answers) ∙ (λ i. in_sent h.e_calls h.e_answers i ++ in_none sent (answered h.d_calls h.d_answers) (none_sent (accepted h) (is_shut h) 0 h.d_calls h.d_answers l.d_answers) i)
-    ∙ append-nil (sends_of h)
-
-takes_in : (cfg : Config) (h : Record) → Legal cfg h → receipts_in got (whole h) ≡ takes_of h
-takes_in cfg h l =
-    in_both got (answered h.e_calls h.e_answers) (answered h.d_calls h.d_answers)
-    ∙ (λ i. in_none got (answered h.e_calls h.e_answers) (all_answered (λ e. IsSenders cfg e.pass e.call) (λ z. got z ≡ []) h.e_calls h.e_answers (not_got cfg) l.senders) i ++ in_got h.d_calls h.d_answers i)
-
--- each is dealt to the senders, and to the receivers
-sends_dealt : (cfg : Config) (h : Record) → Legal cfg h → AllByRecursion (IsDealt sent (is_of Sender) 1 cfg.senders) (whole h)
+-- each call of the senders, and of a group, is dealt to one of its passes
+sends_dealt : (cfg : Config) (h : Record) → Legal cfg h → AllByRecursion (IsDealt (is_of Sender) 1 cfg.senders) (answered h.sends.calls h.sends.answers)
 sends_dealt cfg h l =
-    all_both _ (answered h.e_calls h.e_answers) (answered h.d_calls h.d_answers)
-    (all_answered (λ e. IsSenders cfg e.pass e.call) (IsDealt sent (is_of Sender) 1 cfg.senders) h.e_calls h.e_answers
-    (λ e told is. let s = sender_of cfg e.pass e.call is in inr (s.0, s.1, s.2, λ m. ap (is_pass (Sender m)) s.3)) l.senders)
-    (all_map (λ z. sent z ≡ []) (IsDealt sent (is_of Sender) 1 cfg.senders) (answered h.d_calls h.d_answers) (λ z none. inl none) (none_sent (accepted h) (is_shut h) 0 h.d_calls h.d_answers l.d_answers))
+    all_answered (λ e. IsSenders cfg e.pass e.call) (IsDealt (is_of Sender) 1 cfg.senders) h.sends.calls h.sends.answers
+    (λ e told is. let s = sender_of cfg e.pass e.call is in (s.0, s.1, s.2, λ m. ap (is_pass (Sender m)) s.3)) l.senders
 
-takes_dealt : (cfg : Config) (h : Record) → Legal cfg h → AllByRecursion (IsDealt got (is_of Receiver) 1 cfg.receivers) (whole h)
-takes_dealt cfg h l =
-    all_both _ (answered h.e_calls h.e_answers) (answered h.d_calls h.d_answers)
-    (all_answered (λ e. IsSenders cfg e.pass e.call) (IsDealt got (is_of Receiver) 1 cfg.receivers) h.e_calls h.e_answers (λ e told is. inl (not_got cfg e told is)) l.senders)
-    (all_answered (λ e. IsReceivers cfg e.pass e.call) (IsDealt got (is_of Receiver) 1 cfg.receivers) h.d_calls h.d_answers
-    (λ e told is. let r = receiver_of cfg e.pass e.call is in inr (r.0, r.1, r.2, λ m. ap (is_pass (Receiver m)) r.3)) l.receivers)
+takes_dealt : (cfg : Config) (h : Record) (g : ℕ) → 0 < cfg.receivers → g < cfg.groups → Legal cfg h → AllByRecursion (IsDealt (is_of Receiver) (1 + g * cfg.receivers) cfg.receivers) (answered (of_group h g).calls (of_group h g).answers)
+takes_dealt cfg h g some inside l =
+    all_answered (λ e. IsReceivers cfg g e.pass e.call) (IsDealt (is_of Receiver) (1 + g * cfg.receivers) cfg.receivers) (of_group h g).calls (of_group h g).answers
+    (λ e told is. let r = receiver_of cfg g e.pass e.call is in let n = number_in cfg g r.0 some r.1 r.3 in (r.0, n.0, n.1, λ m. ap (is_pass (Receiver m)) r.4)) (l.takes g inside).receivers
 
 -- ---- passes in a row
 
@@ -217,16 +186,17 @@ record IsRow (called : ℕ → Pass) (h : Record) (n : ℕ) (ws : List Walk) : T
   pub named : (k : ℕ) (d : Walk) → k < length ws → name (get_or ws k d) ≡ called (n + k)
   pub seen : All (λ w. history w ≡ h) ws
 
-held_by : {X : Type 0} (receipts : Told → List X) (called : ℕ → Pass) (h : Record) (n : ℕ) (ws : List Walk) → IsRow called h n ws → receipts_by receipts ws ≡ held receipts (is_of called) (whole h) n (length ws)
-held_by receipts called h n [] row = refl
-held_by receipts called h n (w ∷ ws) row =
+-- what they hold, where all calls of each of them are among these
+held_by : {X : Type 0} (receipts : Told → List X) (called : ℕ → Pass) (h : Record) (zs : List Told) (n : ℕ) (ws : List Walk) → IsRow called h n ws → ((m : ℕ) → n ≤ m → m < n + length ws → calls_of (called m) h ≡ filter (is_of called m) zs) → receipts_by receipts ws ≡ held receipts (is_of called) zs n (length ws)
+held_by receipts called h zs n [] row are = refl
+held_by receipts called h zs n (w ∷ ws) row are =
     let here : name w ≡ called n = row.named 0 w (omega arith) ∙ ap called (omega arith) in
-    let own : calls_of (name w) (history w) ≡ filter (is_of called n) (whole h) = λ i. calls_of (here i) (row.seen 0 w (omega arith) i) in
+    let own : calls_of (name w) (history w) ≡ filter (is_of called n) zs = (λ i. calls_of (here i) (row.seen 0 w (omega arith) i)) ∙ are n (omega arith) (omega arith) in
     let rest : IsRow called h (suc n) ws = record {
       named = λ k d less. row.named (suc k) d (omega (arith, less)) ∙ ap called (omega arith);
       seen = λ k d less. row.seen (suc k) d (omega (arith, less));
     } in
-    λ i. receipts_in receipts (own i) ++ held_by receipts called h (suc n) ws rest i
+    λ i. receipts_in receipts (own i) ++ held_by receipts called h zs (suc n) ws rest (λ m low high. are m (omega (arith, low)) (omega (arith, high))) i
 
 -- one of them is called as a call's pass is
 one_called : (called : ℕ → Pass) (h : Record) (ws : List Walk) (s : ℕ) → IsRow called h 1 ws → 1 ≤ s → s < 1 + length ws → Any (λ w. called s ≡ name w) ws
@@ -236,6 +206,19 @@ one_called called h (w ∷ ws) (suc k) row low high =
     let less : k < length (w ∷ ws) = omega (arith, high) in
     let x : Walk = get_or (w ∷ ws) k w in
     (k, x, less, get_or_default (w ∷ ws) k x w less, ap called (omega arith) ∙ sym (row.named k w less))
+
+-- the passes from one of them on
+row_range : (called : ℕ → Pass) (h : Record) (first count : ℕ) (ws : List Walk) → IsRow called h 1 ws → first + count ≤ length ws → IsRow called h (1 + first) (slice_range ws first (first + count))
+row_range called h first count ws row fits = record {
+  named = λ k d less. ap name (nth k d less) ∙ row.named (first + k) d (omega (arith, fits, below k less)) ∙ ap called (omega arith);
+  seen = λ k d less. ap history (nth k d less) ∙ row.seen (first + k) d (omega (arith, fits, below k less));
+}
+  where
+    below : (k : ℕ) → k < length (slice_range ws first (first + count)) → k < count
+    below k less = omega (arith, less, length-take (first + count - first) (drop first ws))
+
+    nth : (k : ℕ) (d : Walk) → k < length (slice_range ws first (first + count)) → get_or (slice_range ws first (first + count)) k d ≡ get_or ws (first + k) d
+    nth k d less = get_or-take (first + count - first) (drop first ws) k d (omega (arith, below k less)) ∙ get_or-drop first ws k d
 
 -- ---- the passes of a queue that have met
 
@@ -261,67 +244,102 @@ senders_row z ws seen row one = record {
   seen = seen_at z 0 z.setting.config.senders ws seen row one;
 }
 
-receivers_row : (z : Topic) (ws : List Walk) (seen : List Move) → AreInRow z z.setting.config.senders z.setting.config.receivers ws → All (λ w. w.seen ≡ seen) ws → IsRow Receiver (history_of z.setting seen) 1 ws
+receivers_row : (z : Topic) (ws : List Walk) (seen : List Move) → AreInRow z z.setting.config.senders (groups z.setting.config * z.setting.config.receivers) ws → All (λ w. w.seen ≡ seen) ws → IsRow Receiver (history_of z.setting seen) 1 ws
 receivers_row z ws seen row one = record {
-  named = λ k d less. name_at z z.setting.config.senders z.setting.config.receivers ws k d row less ∙ receiver_named z.setting.config k;
-  seen = seen_at z z.setting.config.senders z.setting.config.receivers ws seen row one;
+  named = λ k d less. name_at z z.setting.config.senders (groups z.setting.config * z.setting.config.receivers) ws k d row less ∙ receiver_named z.setting.config k;
+  seen = seen_at z z.setting.config.senders (groups z.setting.config * z.setting.config.receivers) ws seen row one;
 }
 
 -- a queue has a sender
-pub has_sender : (z : Topic) (ws : List Walk) → config_fault z.setting.config ≡ Ok tt → AreInRow z 0 z.setting.config.senders ws → 0 < length ws
+has_sender : (z : Topic) (ws : List Walk) → config_fault z.setting.config ≡ Ok tt → AreInRow z 0 z.setting.config.senders ws → 0 < length ws
 has_sender z ws checked row = let r = in_range z.setting.config checked in omega (arith, r.senders, row.count_is)
 
 pub seen_is : (z : Topic) (ws : List Walk) (seen : List Move) → 0 < length ws → AreInRow z 0 z.setting.config.senders ws → All (λ w. w.seen ≡ seen) ws → seen_by ws ≡ history_of z.setting seen
 seen_is z [] seen some row one = absurd (omega (arith, some))
 seen_is z (w ∷ ws) seen some row one = seen_at z 0 z.setting.config.senders (w ∷ ws) seen row one 0 w (omega arith)
 
--- what the first of them has seen is lawful
-pub seen_lawful : (z : Topic) (ws : List Walk) (w : Walk) → 0 < length ws → AreInRow z 0 z.setting.config.senders ws → w ≡ get_or ws 0 w → Legal w.setting.config (history w) → Legal z.setting.config (seen_by ws)
-seen_lawful z [] w some row is l = absurd (omega (arith, some))
-seen_lawful z (x ∷ xs) w some row is l = subst (λ (y : Setting × Walk). Legal y.0.config (history y.1)) (λ i. ((ap (λ (v : Walk). v.setting) is ∙ (row.are 0 x (omega arith)).1) i, is i)) l
+-- what the first of them has seen is lawful, where all have come to rest
+lawful_seen : (z : Topic) (ws : List Walk) → 0 < length ws → AreInRow z 0 z.setting.config.senders ws → All IsAtRest ws → Legal z.setting.config (seen_by ws)
+lawful_seen z [] some row rest = absurd (omega (arith, some))
+lawful_seen z (w ∷ ws) some row rest = subst (λ (c : Setting). Legal c.config (history w)) (row.are 0 w (omega arith)).1 (rest 0 w (omega arith)).stands.legal
 
--- each call of what they have seen is of one of them
-pub has_just : (z : Topic) (senders receivers : List Walk) → AreAll z senders receivers → HaveSeenOne senders receivers → 0 < length senders → Legal z.setting.config (seen_by senders) → HasJustCallsOf senders receivers (seen_by senders)
-has_just z senders receivers all one some l =
+-- a pass that has come to rest: all that it has seen stands in one history, and each of its calls has its answer there
+at_rest : (h : Record) (w : Walk) → history w ≡ h → IsAtRest w → HasJustItsCalls h w
+at_rest h w same rest = subst (λ (x : Record). HasJustItsCalls x w) same (rest.stands.calls_are, rest.answered)
+
+all_at_rest : (h : Record) (ws : List Walk) → All (λ w. history w ≡ h) ws → All IsAtRest ws → All (HasJustItsCalls h) ws
+all_at_rest h ws same rest k d less = at_rest h (get_or ws k d) (same k d less) (rest k d less)
+
+-- what they have seen is the history of their calls
+pub has_just : (z : Topic) (senders receivers : List Walk) → config_fault z.setting.config ≡ Ok tt → AreAll z senders receivers → HaveSeenOne senders receivers → All IsAtRest senders → All IsAtRest receivers → HasJustCallsOf senders receivers (seen_by senders)
+has_just z senders receivers checked all one rest also =
+    let some : 0 < length senders = has_sender z senders checked all.0 in
     let cfg : Config = z.setting.config in
-    let sent_row = senders_row z senders one.seen all.0 one.senders_have in
-    let got_row = receivers_row z receivers one.seen all.1 one.receivers_have in
-    record {
-      e_calls = all_at (λ e. Any (λ w. e.pass ≡ name w) senders) (seen_by senders).e_calls (all_map (λ e. IsSenders cfg e.pass e.call) (λ e. Any (λ w. e.pass ≡ name w) senders) (seen_by senders).e_calls
-          (λ e is. let s = sender_of cfg e.pass e.call is in subst (λ (p : Pass). Any (λ w. p ≡ name w) senders) (sym s.3) (one_called Sender (history_of z.setting one.seen) senders s.0 sent_row s.1 (omega (arith, s.2, all.0.count_is)))) l.senders);
-      d_calls = all_at (λ e. Any (λ w. e.pass ≡ name w) receivers) (seen_by senders).d_calls (all_map (λ e. IsReceivers cfg e.pass e.call) (λ e. Any (λ w. e.pass ≡ name w) receivers) (seen_by senders).d_calls
-          (λ e is. let r = receiver_of cfg e.pass e.call is in subst (λ (p : Pass). Any (λ w. p ≡ name w) receivers) (sym r.3) (one_called Receiver (history_of z.setting one.seen) receivers r.0 got_row r.1 (omega (arith, r.2, all.1.count_is)))) l.receivers);
-    }
+    let h : Record = history_of z.setting one.seen in
+    let here : h ≡ seen_by senders = sym (seen_is z senders one.seen some all.0 one.senders_have) in
+    let lawful : Legal cfg h = subst (Legal cfg) (sym here) (lawful_seen z senders some all.0 rest) in
+    let sent_row : IsRow Sender h 1 senders = senders_row z senders one.seen all.0 one.senders_have in
+    let got_row : IsRow Receiver h 1 receivers = receivers_row z receivers one.seen all.1 one.receivers_have in
+    subst (HasJustCallsOf senders receivers) here (record {
+      sends = all_at (λ e. Any (λ w. e.pass ≡ name w) senders) h.sends.calls (all_map (λ e. IsSenders cfg e.pass e.call) (λ e. Any (λ w. e.pass ≡ name w) senders) h.sends.calls
+          (λ e is. let s = sender_of cfg e.pass e.call is in subst (λ (p : Pass). Any (λ w. p ≡ name w) senders) (sym s.3) (one_called Sender h senders s.0 sent_row s.1 (omega (arith, s.2, all.0.count_is)))) lawful.senders);
+      takes = λ g. elim (cases_lt g cfg.groups) [
+        | inl inside ↦ all_at (λ e. Any (λ w. e.pass ≡ name w) receivers) (of_group h g).calls (all_map (λ e. IsReceivers cfg g e.pass e.call) (λ e. Any (λ w. e.pass ≡ name w) receivers) (of_group h g).calls
+            (λ e is. let r = receiver_of cfg g e.pass e.call is in subst (λ (p : Pass). Any (λ w. p ≡ name w) receivers) (sym r.4) (one_called Receiver h receivers r.0 got_row r.1 (omega (arith, r.2, all.1.count_is)))) (lawful.takes g inside).receivers)
+        | inr far ↦ subst (λ (s : Side). All (λ e. Any (λ w. e.pass ≡ name w) receivers) s.calls) (sym (get_or_past h.takes g silent (omega (arith, far, lawful.groups)))) (λ k d less. absurd (omega (arith, less)))
+      ];
+      of_senders = all_at_rest h senders (λ k d less. sent_row.seen k d less) rest;
+      of_receivers = all_at_rest h receivers (λ k d less. got_row.seen k d less) also;
+    })
 
 -- the receipts that they hold are those of the history
 pub sends_held : (z : Topic) (ws : List Walk) (seen : List Move) → Legal z.setting.config (history_of z.setting seen) → AreInRow z 0 z.setting.config.senders ws → All (λ w. w.seen ≡ seen) ws → IsPermutation (receipts_by sent ws) (sends_of (history_of z.setting seen))
 sends_held z ws seen l row one =
     let cfg : Config = z.setting.config in
     let h : Record = history_of z.setting seen in
-    let same : receipts_by sent ws ≡ held sent (is_of Sender) (whole h) 1 cfg.senders = held_by sent Sender h 1 ws (senders_row z ws seen row one) ∙ ap (held sent (is_of Sender) (whole h) 1) row.count_is in
-    subst (λ (y : List SendReceipt × List SendReceipt). IsPermutation y.0 y.1) (λ i. (sym same i, sends_in cfg h l i)) (held_all sent (is_of Sender) 1 cfg.senders (whole h) (sends_dealt cfg h l))
+    let zs : List Told = answered h.sends.calls h.sends.answers in
+    let same : receipts_by sent ws ≡ held sent (is_of Sender) zs 1 cfg.senders =
+    held_by sent Sender h zs 1 ws (senders_row z ws seen row one) (λ m low high. on_its_side cfg h (Sender m) l) ∙ ap (held sent (is_of Sender) zs 1) row.count_is in
+    subst (λ (y : List SendReceipt × List SendReceipt). IsPermutation y.0 y.1) (λ i. (sym same i, in_sent h.sends.calls h.sends.answers i)) (held_all sent (is_of Sender) 1 cfg.senders zs (sends_dealt cfg h l))
 
-pub takes_held : (z : Topic) (ws : List Walk) (seen : List Move) → Legal z.setting.config (history_of z.setting seen) → AreInRow z z.setting.config.senders z.setting.config.receivers ws → All (λ w. w.seen ≡ seen) ws → IsPermutation (receipts_by got ws) (takes_of (history_of z.setting seen))
-takes_held z ws seen l row one =
+-- those of a group, and its side of the history
+pub takes_held : (z : Topic) (ws : List Walk) (seen : List Move) (group : ℕ) → 0 < z.setting.config.receivers → 1 ≤ group → group ≤ groups z.setting.config → Legal z.setting.config (history_of z.setting seen)
+    → AreInRow z z.setting.config.senders (groups z.setting.config * z.setting.config.receivers) ws → All (λ w. w.seen ≡ seen) ws → IsPermutation (receipts_by got (in_group z.setting.config group ws)) (takes_of (history_of z.setting seen) (group - 1))
+takes_held z ws seen group some low high l row one =
     let cfg : Config = z.setting.config in
+    let g : ℕ = group - 1 in
+    let first : ℕ = g * cfg.receivers in
     let h : Record = history_of z.setting seen in
-    let same : receipts_by got ws ≡ held got (is_of Receiver) (whole h) 1 cfg.receivers = held_by got Receiver h 1 ws (receivers_row z ws seen row one) ∙ ap (held got (is_of Receiver) (whole h) 1) row.count_is in
-    subst (λ (y : List TakeReceipt × List TakeReceipt). IsPermutation y.0 y.1) (λ i. (sym same i, takes_in cfg h l i)) (held_all got (is_of Receiver) 1 cfg.receivers (whole h) (takes_dealt cfg h l))
+    let zs : List Told = answered (of_group h g).calls (of_group h g).answers in
+    let all : first + cfg.receivers ≡ group * cfg.receivers = next_multiple group cfg.receivers low in
+    let fits : first + cfg.receivers ≤ length ws = rw (all, row.count_is) (mul-le-mul_right cfg.receivers high) in
+    let part : List Walk = slice_range ws first (first + cfg.receivers) in
+    let its_row : IsRow Receiver h (1 + first) part = row_range Receiver h first cfg.receivers ws (receivers_row z ws seen row one) fits in
+    let many : length part ≡ cfg.receivers = omega (arith, length-take (first + cfg.receivers - first) (drop first ws), length-drop first ws, fits) in
+    let mine : (m : ℕ) → 1 + first ≤ m → m < 1 + first + length part → calls_of (Receiver m) h ≡ filter (is_of Receiver m) zs =
+    λ m from to. on_its_side cfg h (Receiver m) l ∙ ap (λ (k : ℕ). filter (is_of Receiver m) (answered (of_group h k).calls (of_group h k).answers)) (group_at cfg g m some from (omega (arith, to, many))) in
+    let same : receipts_by got part ≡ held got (is_of Receiver) zs (1 + first) cfg.receivers = held_by got Receiver h zs (1 + first) part its_row mine ∙ ap (held got (is_of Receiver) zs (1 + first)) many in
+    subst (λ (n : ℕ). IsPermutation (receipts_by got (slice_range ws first n)) (takes_of h g)) all
+    (subst (λ (y : List TakeReceipt × List TakeReceipt). IsPermutation y.0 y.1) (λ i. (sym same i, in_got (of_group h g).calls (of_group h g).answers i)) (held_all got (is_of Receiver) (1 + first) cfg.receivers zs (takes_dealt cfg h g some (omega (arith, low, high)) l)))
 
--- the receipts of a lawful history, in any order, have no other verdict than Clean
-clean_of : (cfg : Config) (h : Record) (sends : List SendReceipt) (takes : List TakeReceipt) (total : Option ℕ) (v : Verdict) → Legal cfg h → IsPermutation sends (sends_of h) → IsPermutation takes (takes_of h) → total ≡ total_of h → IsVerdict sends takes total v → v ≡ Clean
-clean_of cfg h sends takes total Clean l same also last is = refl
-clean_of cfg h sends takes total (Fault kind p) l same also last is =
-    let fault : IsVerdict (sends_of h) (takes_of h) (total_of h) (Fault kind p) = same_verdict sends (sends_of h) takes (takes_of h) (total_of h) (Fault kind p) same also (subst (λ (t : Option ℕ). IsVerdict sends takes t (Fault kind p)) last is) in
-    absurd (no_fault (accepted h) (takes_of h) (total_of h) (fair_of cfg h l) kind p fault.holds)
+-- where there is one group, all receivers are its
+pub only_group : (cfg : Config) (ws : List Walk) → length ws ≡ cfg.receivers → in_group cfg 1 ws ≡ ws
+only_group cfg ws all =
+    let from : 0 * cfg.receivers ≡ 0 = omega arith in
+    let to : 1 * cfg.receivers ≡ length ws = omega (arith, all) in
+    (λ i. take (to i - from i) (drop (from i) ws)) ∙ ap (λ (n : ℕ). take n ws) (omega arith) ∙ take-length ws
 
-pub is_clean : (z : Topic) (senders receivers : List Walk) (sends : List SendReceipt) (takes : List TakeReceipt) (total : Option ℕ) (v : Verdict) → AreAll z senders receivers → HaveSeenOne senders receivers → 0 < length senders → Legal z.setting.config (seen_by senders)
-    → IsPermutation (receipts_by sent senders) sends → IsPermutation (receipts_by got receivers) takes → total ≡ total_of (seen_by senders) → IsVerdict sends takes total v → v ≡ Clean
-is_clean z senders receivers sends takes total v all one some l same also last is =
+-- so the verdict on them is Clean, in whatever order they come
+pub are_clean : (z : Topic) (senders receivers : List Walk) (group : ℕ) (sends : List SendReceipt) (takes : List TakeReceipt) (total : Option ℕ) → config_fault z.setting.config ≡ Ok tt → 1 ≤ group → group ≤ groups z.setting.config
+    → AreAll z senders receivers → HaveSeenOne senders receivers → All IsAtRest senders
+    → IsPermutation (receipts_by sent senders) sends → IsPermutation (receipts_by got (in_group z.setting.config group receivers)) takes → total ≡ total_of (seen_by senders) → IsVerdict sends takes total Clean
+are_clean z senders receivers group sends takes total checked low high all one rest same also last =
+    let some : 0 < length senders = has_sender z senders checked all.0 in
     let h : Record = history_of z.setting one.seen in
     let here : seen_by senders ≡ h = seen_is z senders one.seen some all.0 one.senders_have in
-    let lawful : Legal z.setting.config h = subst (Legal z.setting.config) here l in
-    clean_of z.setting.config h sends takes total v lawful
-    (IsPermutation-trans sends (receipts_by sent senders) (sends_of h) (IsPermutation-sym (receipts_by sent senders) sends same) (sends_held z senders one.seen lawful all.0 one.senders_have))
-    (IsPermutation-trans takes (receipts_by got receivers) (takes_of h) (IsPermutation-sym (receipts_by got receivers) takes also) (takes_held z receivers one.seen lawful all.1 one.receivers_have))
-    (last ∙ ap total_of here) is
+    let lawful : Legal z.setting.config h = subst (Legal z.setting.config) here (lawful_seen z senders some all.0 rest) in
+    let clean : IsVerdict (sends_of h) (takes_of h (group - 1)) (total_of h) Clean = no_fault (accepted h) (takes_of h (group - 1)) (total_of h) (fair_of z.setting.config h (group - 1) (omega (arith, low, high)) lawful) in
+    subst (λ (t : Option ℕ). IsVerdict sends takes t Clean) (sym (last ∙ ap total_of here))
+    (same_verdict (sends_of h) sends (takes_of h (group - 1)) takes (total_of h) Clean
+    (IsPermutation-trans (sends_of h) (receipts_by sent senders) sends (IsPermutation-sym (receipts_by sent senders) (sends_of h) (sends_held z senders one.seen lawful all.0 one.senders_have)) same)
+    (IsPermutation-trans (takes_of h (group - 1)) (receipts_by got (in_group z.setting.config group receivers)) takes (IsPermutation-sym (receipts_by got (in_group z.setting.config group receivers)) (takes_of h (group - 1)) (takes_held z receivers one.seen group (in_range z.setting.config checked).receivers.0 low high lawful all.1 one.receivers_have)) also) clean)

@@ -1,133 +1,59 @@
--- Takes that a receiver makes until one gives an item or the end.
-use Rattle.std.proofs.Common.{◌≡◌, ℕ, zero, suc, ◌+◌, List, [], ◌∷◌, ◌++◌, map, length, Some, refl, sym, ap, ◌∙◌, subst, arith, append-nil, append_assoc, length-append}
-use Rattle.std.specs.List.{All, AllByRecursion}
-use Rattle.cc_model.specs.Items.{calls_of}
+-- Calls that a pass makes again until one has another answer.
+use Rattle.std.proofs.Common.{◌≡◌, List, [], ◌∷◌, ◌++◌, refl, sym, ap, ◌∙◌, subst}
+use Rattle.cc_model.specs.declared.call.Call.{Call}
 use Rattle.cc_model.specs.declared.call.Call.TheVariants as call
-use Rattle.cc_model.specs.declared.call.Pass.{Pass}
-use Rattle.cc_model.specs.declared.call.Pass.TheVariants as pass
-use Rattle.cc_model.specs.declared.call.Entry.{Entry}
 use Rattle.cc_model.specs.declared.call.Answer.{Answer}
 use Rattle.cc_model.specs.declared.call.Answer.TheVariants as answer
+use Rattle.cc_model.specs.declared.call.Entry.{Entry}
 use Rattle.cc_model.specs.declared.call.TakeAnswer.{TakeAnswer}
 use Rattle.cc_model.specs.declared.call.TakeAnswer.TheVariants as take
-use Rattle.cc_machine.specs.Machine.{IsLastAnswer}
-use Rattle.cc_machine.specs.State.{pass_at}
 use Rattle.cc_steps.specs.Walk.{Walk}
-use Rattle.cc_queue.specs.Headline.{StandsInOne, IsReceiver, entry_of, name, history}
-use Rattle.cc_queue.specs.Calls.{Completed, IsSettled, TakenUntil, found_none}
-use Rattle.cc_queue.specs.Receipts.{HasAnswer}
-use Rattle.cc_queue.proofs.AnswerKinds.{last_is}
+use Rattle.cc_queue.specs.Headline.{StandsInOne, entry_of}
+use Rattle.cc_queue.specs.Calls.{Completed, IsSettled, Repeated, last_of, entries_of, TakenUntil}
 use Rattle.cc_queue.proofs.Headline.{stands_more}
-use Rattle.cc_queue.proofs.Taken.{Told, each_has, each_stays, next_told}
 
--- what the receiver was told so far: nothing before its first take, and then that each found no item
-abbrev pub FoundNone : List Entry → Walk → Type 0
-FoundNone [] w = Unit {0}
-FoundNone (e ∷ es) w = (before : List Told) × (calls_of (name w) (history w) ≡ before ++ map found_none (e ∷ es)) × AllByRecursion HasAnswer (calls_of (name w) (history w))
-
--- takes that were all answered Empty so far
-pub record Trying (v w : Walk) : Type 0 where
-  pub earlier : List Entry
-  pub takes : All (λ e. e.call ≡ call.Take) earlier
-  pub stands : StandsInOne v earlier w
-  pub told : FoundNone earlier w
-
-all_more : (P : Entry → Type 0) (xs : List Entry) (x : Entry) → All P xs → P x → All P (xs ++ x ∷ [])
-all_more P [] x all p zero d less = p
-all_more P [] x all p (suc i) d less = absurd (omega (arith, less))
-all_more P (y ∷ xs) x all p zero d less = all 0 d (omega arith)
-all_more P (y ∷ xs) x all p (suc i) d less = all_more P xs x (λ k e l. all (suc k) e (omega (arith, l))) p i d (omega (arith, less))
+-- the calls so far were all answered so
+pub record Trying (call : Call) (told : Answer) (v w : Walk) : Type 0 where
+  pub tried : List Walk
+  pub each : Repeated call told v tried
+  pub here : last_of v tried ≡ w
+  pub stands : StandsInOne v (entries_of call v tried) w
 
 -- before the first of them
-pub trying_none : (v : Walk) → StandsInOne v [] v → Trying v v
-trying_none v s = record { earlier = []; takes = λ k d less. absurd (omega (arith, less)); stands = s; told = tt }
+pub trying_none : (call : Call) (told : Answer) (v : Walk) → StandsInOne v [] v → Trying call told v v
+trying_none call told v s = record { tried = []; each = tt; here = refl; stands = s }
 
--- ---- one more
+each_more : (call : Call) (told : Answer) (v : Walk) (ws : List Walk) (x : Walk) → Repeated call told v ws → Completed (last_of v ws) call told x → Repeated call told v (ws ++ x ∷ [])
+each_more call told v [] x each one = (one, tt)
+each_more call told v (w ∷ ws) x each one = (each.0, each_more call told w ws x each.1 one)
 
-same_name : (w x : Walk) (calls : List Entry) → StandsInOne w calls x → name x ≡ name w
-same_name w x calls s = λ i. pass_at (s.same.1 i).config (s.same.2 i)
+last_more : (v : Walk) (ws : List Walk) (x : Walk) → last_of v (ws ++ x ∷ []) ≡ x
+last_more v [] x = refl
+last_more v (w ∷ ws) x = last_more w ws x
 
-made_one_more : (w x : Walk) (e : Entry) → StandsInOne w (e ∷ []) x → map (λ (z : Told). z.0) (calls_of (name w) (history w)) ≡ w.made → map (λ (z : Told). z.0) (calls_of (name x) (history x)) ≡ map (λ (z : Told). z.0) (calls_of (name w) (history w)) ++ e ∷ []
-made_one_more w x e s were = s.calls_are ∙ s.made ∙ ap (λ (l : List Entry). l ++ e ∷ []) (sym were)
+entries_more : (call : Call) (v : Walk) (ws : List Walk) (x : Walk) → entries_of call v (ws ++ x ∷ []) ≡ entries_of call v ws ++ entry_of (last_of v ws) call ∷ []
+entries_more call v [] x = refl
+entries_more call v (w ∷ ws) x = ap (λ (l : List Entry). entry_of v call ∷ l) (entries_more call w ws x)
 
-length_entries : (zs : List Told) → length (map (λ (z : Told). z.0) zs) ≡ length zs
-length_entries [] = refl
-length_entries (z ∷ zs) = ap suc (length_entries zs)
+-- one more call
+one_more : (call : Call) (told other : Answer) (v w x : Walk) → (t : Trying call told v w) → Completed w call other x → Completed (last_of v t.tried) call other x × StandsInOne v (entries_of call v t.tried ++ entry_of (last_of v t.tried) call ∷ []) x
+one_more call told other v w x t c =
+    let here : Completed (last_of v t.tried) call other x = subst (λ (u : Walk). Completed u call other x) (sym t.here) c in
+    (here, subst (λ (u : Walk). StandsInOne v (entries_of call v t.tried ++ entry_of u call ∷ []) x) (sym t.here) (stands_more v w x (entries_of call v t.tried) (entry_of w call ∷ []) t.stands c.stands))
 
-last_entry : (zs : List Told) (z : Told) → map (λ (y : Told). y.0) (zs ++ z ∷ []) ≡ map (λ (y : Told). y.0) zs ++ z.0 ∷ []
-last_entry [] z = refl
-last_entry (y ∷ zs) z = ap (λ (l : List Entry). y.0 ∷ l) (last_entry zs z)
-
--- the last call of the pass is the one that it made last
-last_made : (w x : Walk) (e : Entry) (told : Answer) → StandsInOne w (e ∷ []) x → (k : IsLastAnswer (name x) (history x) told) → calls_of (name x) (history x) ≡ k.before ++ (e, Some told) ∷ []
-last_made w x e told s k =
-    let same : k.entry ≡ e = last_is (map (λ (z : Told). z.0) k.before) w.made k.entry e (sym (last_entry k.before (k.entry, Some told)) ∙ ap (map (λ (z : Told). z.0)) (sym k.last) ∙ s.calls_are ∙ s.made) in
-    k.last ∙ (λ i. k.before ++ (same i, Some told) ∷ [])
-
-answered_by : (w : Walk) (p : Pass) (v : Walk) (calls : List Entry) (before : List Told) (e : Entry) (told : Answer) → IsReceiver p → name w ≡ p → StandsInOne v calls w → calls_of (name w) (history w) ≡ before ++ (e, Some told) ∷ [] → AllByRecursion HasAnswer (calls_of (name w) (history w))
-answered_by w (pass.Receiver r) v calls before e told is named s last =
-    subst (λ (p : Pass). AllByRecursion HasAnswer (calls_of p (history w))) (sym named)
-    (each_has w.setting.config (history w) r before (e, Some told) s.legal tt (subst (λ (p : Pass). calls_of p (history w) ≡ before ++ (e, Some told) ∷ []) named last))
-answered_by w (pass.Sender r) v calls before e told is named s last = absurd is
-
--- what the receiver was told stands before its next call
-told_before : (w x : Walk) (p : Pass) (v : Walk) (calls : List Entry) (e : Entry) (told : Answer) (zs : List Told) → IsReceiver p → name w ≡ p → StandsInOne v calls w → StandsInOne w (e ∷ []) x → calls_of (name w) (history w) ≡ zs → AllByRecursion HasAnswer (calls_of (name w) (history w))
-    → IsLastAnswer (name x) (history x) told → calls_of (name x) (history x) ≡ zs ++ (e, Some told) ∷ []
-told_before w x (pass.Sender r) v calls e told zs is named sw sx are all k = absurd is
-told_before w x (pass.Receiver r) v calls e told zs is named sw sx are all k =
-    let last = last_made w x e told sx k in
-    let named_x : name x ≡ pass.Receiver r = same_name w x (e ∷ []) sx ∙ named in
-    let f = each_stays w.setting.config x.setting.config (history w) (history x) r sw.legal sx.legal sx.begins (subst (λ (p : Pass). AllByRecursion HasAnswer (calls_of p (history w))) named all) in
-    let front : calls_of (name x) (history x) ≡ zs ++ f.0 =
-    ap (λ (p : Pass). calls_of p (history x)) named_x ∙ f.1 ∙ ap (λ (p : Pass). calls_of p (history w) ++ f.0) (sym named) ∙ ap (λ (l : List Told). l ++ f.0) are in
-    let long : length (calls_of (name x) (history x)) ≡ length zs + 1 =
-    sym (length_entries (calls_of (name x) (history x))) ∙ ap length (made_one_more w x e sx sw.calls_are) ∙ length-append (map (λ (z : Told). z.0) (calls_of (name w) (history w))) (e ∷ [])
-    ∙ ap (λ (n : ℕ). n + 1) (length_entries (calls_of (name w) (history w)) ∙ ap length are) in
-    next_told zs (calls_of (name x) (history x)) k.before (e, Some told) (f.0, front) last long
-
--- the calls of the receiver up to the one that it made now
-told_so : (v w x : Walk) (earlier : List Entry) (told : Answer) → IsReceiver (name w) → StandsInOne v earlier w → FoundNone earlier w → StandsInOne w (entry_of w call.Take ∷ []) x → IsLastAnswer (name x) (history x) told
-    → (before : List Told) × (calls_of (name x) (history x) ≡ (before ++ map found_none earlier) ++ (entry_of w call.Take, Some told) ∷ [])
-told_so v w x [] told is sw found sx k = (k.before, last_made w x (entry_of w call.Take) told sx k ∙ ap (λ (l : List Told). l ++ (entry_of w call.Take, Some told) ∷ []) (sym (append-nil k.before)))
-told_so v w x (e ∷ es) told is sw found sx k =
-    (found.0, told_before w x (name w) v (e ∷ es) (entry_of w call.Take) told (found.0 ++ map found_none (e ∷ es)) is refl sw sx found.1 found.2 k)
-
-found_more : (before : List Told) (es : List Entry) (e : Entry) → (before ++ map found_none es) ++ found_none e ∷ [] ≡ before ++ map found_none (es ++ e ∷ [])
-found_more before es e = append_assoc before (map found_none es) (found_none e ∷ []) ∙ ap (λ (l : List Told). before ++ l) (sym (map_more es))
-  where
-    map_more : (es : List Entry) → map found_none (es ++ e ∷ []) ≡ map found_none es ++ found_none e ∷ []
-    map_more [] = refl
-    map_more (y ∷ es) = ap (λ (l : List Told). found_none y ∷ l) (map_more es)
-
-found_now : (x : Walk) (v : Walk) (calls : List Entry) (before : List Told) (es : List Entry) (e : Entry) → IsReceiver (name x) → StandsInOne v calls x → calls_of (name x) (history x) ≡ (before ++ map found_none es) ++ found_none e ∷ [] → FoundNone (es ++ e ∷ []) x
-found_now x v calls before [] e is s are = (before, are ∙ found_more before [] e, answered_by x (name x) v calls (before ++ []) e (answer.Take take.Empty) is refl s are)
-found_now x v calls before (y ∷ es) e is s are = (before, are ∙ found_more before (y ∷ es) e, answered_by x (name x) v calls (before ++ map found_none (y ∷ es)) e (answer.Take take.Empty) is refl s are)
-
--- one more that found no item
-pub trying_more : (v w x : Walk) → IsReceiver (name v) → Trying v w → Completed w call.Take (answer.Take take.Empty) x → Trying v x
-trying_more v w x is t c =
-    let is_w : IsReceiver (name w) = subst IsReceiver (sym (same_name v w t.earlier t.stands)) is in
-    let is_x : IsReceiver (name x) = subst IsReceiver (sym (same_name w x (entry_of w call.Take ∷ []) c.stands)) is_w in
-    let told = told_so v w x t.earlier (answer.Take take.Empty) is_w t.stands t.told c.stands c.last in
-    let stands = stands_more v w x t.earlier (entry_of w call.Take ∷ []) t.stands c.stands in
+-- that was answered as the others were
+pub trying_more : (call : Call) (told : Answer) (v w x : Walk) → Trying call told v w → Completed w call told x → Trying call told v x
+trying_more call told v w x t c =
+    let one = one_more call told told v w x t c in
     record {
-      earlier = t.earlier ++ entry_of w call.Take ∷ [];
-      takes = all_more (λ e. e.call ≡ call.Take) t.earlier (entry_of w call.Take) t.takes refl;
-      stands = stands;
-      told = found_now x v (t.earlier ++ entry_of w call.Take ∷ []) told.0 t.earlier (entry_of w call.Take) is_x stands told.1;
+      tried = t.tried ++ x ∷ [];
+      each = each_more call told v t.tried x t.each one.0;
+      here = last_more v t.tried x;
+      stands = subst (λ (l : List Entry). StandsInOne v l x) (sym (entries_more call v t.tried x)) one.1;
     }
 
--- the last one
-pub taken_so : (v w x : Walk) (told : TakeAnswer) → IsReceiver (name v) → Trying v w → Completed w call.Take (answer.Take told) x → IsSettled told → TakenUntil v told x
-taken_so v w x told is t c settled =
-    let is_w : IsReceiver (name w) = subst IsReceiver (sym (same_name v w t.earlier t.stands)) is in
-    let answers = told_so v w x t.earlier (answer.Take told) is_w t.stands t.told c.stands c.last in
-    record {
-      earlier = t.earlier;
-      entry = entry_of w call.Take;
-      takes = all_more (λ e. e.call ≡ call.Take) t.earlier (entry_of w call.Take) t.takes refl;
-      stands = stands_more v w x t.earlier (entry_of w call.Take ∷ []) t.stands c.stands;
-      before = answers.0;
-      answers = answers.1;
-      settled = settled;
-    }
+-- the last take
+pub taken_so : (v w x : Walk) (told : TakeAnswer) → Trying call.Take (answer.Take take.Empty) v w → Completed w call.Take (answer.Take told) x → IsSettled told → TakenUntil v told x
+taken_so v w x told t c settled =
+    let one = one_more call.Take (answer.Take take.Empty) (answer.Take told) v w x t c in
+    record { tried = t.tried; none = t.each; taken = one.0; stands = one.1; settled = settled }

@@ -1,12 +1,10 @@
 -- What the begin of a call and each of its turns tell.
-use Rattle.std.specs.Prelude.{◌≡◌, ℕ, ◌+◌, ◌*◌, ◌≤◌, ◌==◌, if◌then◌else◌, List, [], ◌∷◌, ◌++◌, map, Option, Some}
-use Rattle.std.specs.List.{All}
+use Rattle.std.specs.Prelude.{◌≡◌, ℕ, ◌+◌, ◌*◌, ◌≤◌, ◌==◌, if◌then◌else◌, List, [], ◌∷◌, ◌++◌}
 use Rattle.cc_model.specs.declared.call.Call.{Call}
 use Rattle.cc_model.specs.declared.call.Call.TheVariants as call
 use Rattle.cc_model.specs.declared.call.Entry.{Entry}
 use Rattle.cc_model.specs.declared.call.TakeAnswer.{TakeAnswer}
 use Rattle.cc_model.specs.declared.call.TakeAnswer.TheVariants as take
-use Rattle.cc_model.specs.Items.{calls_of}
 use Rattle.cc_model.specs.declared.call.Answer.{Answer}
 use Rattle.cc_model.specs.declared.call.Answer.TheVariants as answer
 use Rattle.cc_machine.specs.declared.place.Kind.TheVariants as kind
@@ -80,17 +78,26 @@ abbrev pub IsSettled : TakeAnswer → Type 0
 IsSettled take.Empty = ⊥
 IsSettled _ = Unit {0}
 
--- a take that was answered that there was no item
-abbrev pub found_none : Entry → Entry × Option Answer
-found_none e = (e, Some (answer.Take take.Empty))
+-- The same call, made again and again: the pass after each of them. Each was completed with this answer.
+abbrev pub Repeated : Call → Answer → Walk → List Walk → Type 0
+Repeated call told v [] = Unit {0}
+Repeated call told v (w ∷ ws) = Completed v call told w × Repeated call told w ws
 
--- Takes that were made until one of them gave an item or the end. All of them stand in one history as the pass's last
--- calls: the earlier ones were answered Empty, and the last one so.
+-- the pass after the last of them
+abbrev pub last_of : Walk → List Walk → Walk
+last_of v [] = v
+last_of v (w ∷ ws) = last_of w ws
+
+-- the calls as they were made, each of which knew what the pass had seen by then
+abbrev pub entries_of : Call → Walk → List Walk → List Entry
+entries_of call v [] = []
+entries_of call v (w ∷ ws) = entry_of v call ∷ entries_of call w ws
+
+-- Takes that were made until one of them gave an item or the end: each of the earlier ones was completed as a take that
+-- found nothing, and then the last one was completed so. All of them stand in one history.
 pub record TakenUntil (v : Walk) (told : TakeAnswer) (w : Walk) : Type 0 where
-  pub earlier : List Entry
-  pub entry : Entry
-  pub takes : All (λ e. e.call ≡ call.Take) (earlier ++ entry ∷ [])
-  pub stands : StandsInOne v (earlier ++ entry ∷ []) w
-  pub before : List (Entry × Option Answer)
-  pub answers : calls_of (name w) (history w) ≡ (before ++ map found_none earlier) ++ (entry, Some (answer.Take told)) ∷ []
+  pub tried : List Walk
+  pub none : Repeated call.Take (answer.Take take.Empty) v tried
+  pub taken : Completed (last_of v tried) call.Take (answer.Take told) w
+  pub stands : StandsInOne v (entries_of call.Take v tried ++ entry_of (last_of v tried) call.Take ∷ []) w
   pub settled : IsSettled told

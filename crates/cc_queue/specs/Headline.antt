@@ -1,13 +1,13 @@
 -- What each answer stands in: one history, that of a run of single steps, which begins with all that the caller had seen.
-use Rattle.std.specs.Prelude.{◌≡◌, List, ◌++◌, map}
+use Rattle.std.specs.Prelude.{◌≡◌, List, [], ◌++◌, map}
+use Rattle.std.specs.List.{AllByRecursion}
 use Rattle.cc_model.specs.Record.{Record}
-use Rattle.cc_model.specs.Items.{Begins, calls_of}
+use Rattle.cc_model.specs.Items.{HasAnswer, Begins, calls_of}
 use Rattle.cc_model.specs.Legal.{Legal}
 use Rattle.cc_model.specs.Fifo.{Fifo}
 use Rattle.cc_model.specs.declared.call.Call.{Call}
 use Rattle.cc_model.specs.declared.call.Entry.{Entry}
 use Rattle.cc_model.specs.declared.call.Pass.{Pass}
-use Rattle.cc_model.specs.declared.call.Pass.TheVariants as pass
 use Rattle.cc_machine.specs.State.{pass_at}
 use Rattle.cc_machine.specs.Run.{IsRun, history_of, number_of}
 use Rattle.cc_steps.specs.Seen.{Onward, known_in}
@@ -38,7 +38,7 @@ pub record StandsInOne (v : Walk) (calls : List Entry) (w : Walk) : Type 0 where
   pub made : w.made ≡ v.made ++ calls
   pub calls_are : map (λ z. z.0) (calls_of (name w) (history w)) ≡ w.made
 
--- the pass is a receiver
-abbrev pub IsReceiver : Pass → Type 0
-IsReceiver (pass.Receiver r) = Unit {0}
-IsReceiver _ = ⊥
+-- A pass has come to rest: all that it has seen stands in one history, in which each of its calls has its answer.
+pub record IsAtRest (w : Walk) : Type 0 where
+  pub stands : StandsInOne w [] w
+  pub answered : AllByRecursion HasAnswer (calls_of (name w) (history w))

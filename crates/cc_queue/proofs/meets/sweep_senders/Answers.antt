@@ -4,7 +4,7 @@ use Rattle.cc_queue.proofs.Meetings.{sweeps, sweeps_none, swept}
 use Rattle.cc_queue.proofs.meets.sweep_senders.Goals as goal
 
 pub loop-other-init : goal.loop-other-init
-loop-other-init c = sweeps_none c.args.first.now c.args.others.now c.stands.ensures
+loop-other-init c = sweeps_none c.args.first.now c.args.others.now c.stands.ensures.met
 
 pub loop-other-preserved : goal.loop-other-preserved
 loop-other-preserved c =
