@@ -1,7 +1,7 @@
 pub mod Headline
 pub mod AnswerKinds
 pub mod Meetings
-pub mod Taken
+pub mod OnItsSide
 pub mod Trying
 pub mod Seated
 pub mod Held

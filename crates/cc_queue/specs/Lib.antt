@@ -6,3 +6,4 @@ pub mod Calls
 pub mod Met
 pub mod Opened
 pub mod Receipts
+pub mod Group

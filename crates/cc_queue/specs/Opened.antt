@@ -1,8 +1,9 @@
 -- A queue at its opening.
-use Rattle.std.specs.Prelude.{◌≡◌, length, Ok}
+use Rattle.std.specs.Prelude.{◌≡◌, ◌*◌, length, Ok}
 use Rattle.cc_model.specs.Config.{config_fault}
 use Rattle.cc_model.specs.declared.config.Config.{Config}
 use Rattle.cc_machine.specs.declared.setting.Served.TheVariants as served
+use Rattle.cc_machine.specs.Words.{groups}
 use Rattle.cc_steps.specs.Walk.{fresh_from}
 use Rattle.cc_queue.specs.declared.queue.Opened.{Opened}
 
@@ -12,6 +13,6 @@ pub record HasOpened (c : Config) (o : Opened) : Type 0 where
   pub lawful : config_fault c ≡ Ok tt
   pub setting : o.queue.setting ≡ record { served = served.List; config = c }
   pub count_senders : length o.senders.items ≡ c.senders
-  pub count_receivers : length o.receivers.items ≡ c.receivers
+  pub count_receivers : length o.receivers.items ≡ groups c * c.receivers
   pub senders : fresh_from o.queue 0 o.senders.items
   pub receivers : fresh_from o.queue c.senders o.receivers.items

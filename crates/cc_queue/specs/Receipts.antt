@@ -1,13 +1,15 @@
 -- All passes of a queue, and the receipts of their calls.
-use Rattle.std.specs.Prelude.{◌≡◌, ℕ, ◌+◌, ◌<◌, List, [], ◌∷◌, ◌++◌, length, map, slice_index_or, Option, Some, None}
-use Rattle.std.specs.List.{All, Any}
-use Rattle.cc_model.specs.Record.{Record, empty}
-use Rattle.cc_model.specs.Items.{accepted_item, calls_of}
+use Rattle.std.specs.Prelude.{◌≡◌, ℕ, ◌+◌, ◌*◌, ◌-◌, ◌<◌, List, [], ◌∷◌, ◌++◌, length, map, slice_index_or, slice_range, Option, Some, None}
+use Rattle.std.specs.List.{All, AllByRecursion, Any}
+use Rattle.cc_model.specs.Record.{Record, empty, of_group}
+use Rattle.cc_model.specs.Items.{HasAnswer, accepted_item, calls_of}
 use Rattle.cc_model.specs.declared.call.Entry.{Entry}
 use Rattle.cc_model.specs.declared.call.Answer.{Answer}
 use Rattle.cc_audit.specs.Receipts.{send_receipt, take_receipt}
 use Rattle.cc_audit.specs.declared.receipt.SendReceipt.{SendReceipt}
 use Rattle.cc_audit.specs.declared.receipt.TakeReceipt.{TakeReceipt}
+use Rattle.cc_model.specs.declared.config.Config.{Config}
+use Rattle.cc_machine.specs.Words.{groups}
 use Rattle.cc_steps.specs.Topic.{Topic}
 use Rattle.cc_steps.specs.Walk.{Walk, IsOf}
 use Rattle.cc_queue.specs.Headline.{name, history}
@@ -20,17 +22,16 @@ pub record AreInRow (z : Topic) (first count : ℕ) (ws : List Walk) : Type 0 wh
 
 -- all passes of a queue, the senders and the receivers in order
 abbrev pub AreAll : Topic → List Walk → List Walk → Type 0
-AreAll z senders receivers = AreInRow z 0 z.setting.config.senders senders × AreInRow z z.setting.config.senders z.setting.config.receivers receivers
+AreAll z senders receivers = AreInRow z 0 z.setting.config.senders senders × AreInRow z z.setting.config.senders (groups z.setting.config * z.setting.config.receivers) receivers
+
+-- those of a group, from 1, among all receivers
+abbrev pub in_group : Config → (group : ℕ) → List Walk → List Walk
+in_group c g receivers = slice_range receivers ((g - 1) * c.receivers) (g * c.receivers)
 
 -- the history that the first of them has seen
 abbrev pub seen_by : List Walk → Record
-seen_by [] = empty
+seen_by [] = empty 0
 seen_by (w ∷ ws) = history w
-
--- the call has its answer
-abbrev pub HasAnswer : Entry × Option Answer → Type 0
-HasAnswer (e, None) = ⊥
-HasAnswer (e, Some a) = Unit {0}
 
 -- the receipt of a send that was accepted
 abbrev pub sent : Entry × Option Answer → List SendReceipt
@@ -52,7 +53,14 @@ abbrev pub receipts_by : {X : Type 0} → (Entry × Option Answer → List X) �
 receipts_by receipts [] = []
 receipts_by receipts (w ∷ ws) = receipts_in receipts (calls_of (name w) (history w)) ++ receipts_by receipts ws
 
--- each call of the history is of one of these passes
+-- The history has of a pass just the calls that it made, and each has its answer.
+abbrev pub HasJustItsCalls : Record → Walk → Type 0
+HasJustItsCalls h w = (map (λ z. z.0) (calls_of (name w) h) ≡ w.made) × AllByRecursion HasAnswer (calls_of (name w) h)
+
+-- The history is that of these passes: each call is of one of them, and of each of them it has just those that it made,
+-- each with its answer.
 pub record HasJustCallsOf (senders receivers : List Walk) (h : Record) : Type 0 where
-  pub e_calls : All (λ e. Any (λ w. e.pass ≡ name w) senders) h.e_calls
-  pub d_calls : All (λ e. Any (λ w. e.pass ≡ name w) receivers) h.d_calls
+  pub sends : All (λ e. Any (λ w. e.pass ≡ name w) senders) h.sends.calls
+  pub takes : (g : ℕ) → All (λ e. Any (λ w. e.pass ≡ name w) receivers) (of_group h g).calls
+  pub of_senders : All (HasJustItsCalls h) senders
+  pub of_receivers : All (HasJustItsCalls h) receivers

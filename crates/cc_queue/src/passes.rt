@@ -1,6 +1,6 @@
 //! The passes of a queue: its senders and receivers, idle or with a pending call; and what a turn answers.
 ghost use Rattle.std.specs.Prelude.{[]};
-ghost use Rattle.cc_queue.specs.Headline.{StandsInOne, IsReceiver, name};
+ghost use Rattle.cc_queue.specs.Headline.{StandsInOne, IsAtRest};
 ghost use Rattle.cc_queue.specs.Met.{HasMet};
 
 use cc_model::{CloseAnswer, SendAnswer, TakeAnswer};
@@ -85,6 +85,7 @@ impl Model for PendingClose {
 pub struct Receiver {
     pub(crate) words: Arc<Words, Global>,
     pub(crate) seat: PassSeat,
+    pub(crate) group: u32,
     pub(crate) node: u64,
 }
 
@@ -98,13 +99,14 @@ impl Model for Receiver {
 
     ghost view = { λ r. r.seat };
 
-    ghost invariant = { λ r. KeepsReceiver (arc_value r.words) r.seat r.node Idle };
+    ghost invariant = { λ r. KeepsReceiver (arc_value r.words) r.seat r.group r.node Idle };
 }
 
 /// A receiver whose take is pending. It must be spent, by a turn or by `abandon`.
 pub struct PendingTake {
     pub(crate) words: Arc<Words, Global>,
     pub(crate) seat: PassSeat,
+    pub(crate) group: u32,
     pub(crate) node: u64,
 }
 
@@ -118,7 +120,7 @@ impl Model for PendingTake {
 
     ghost view = { λ r. r.seat };
 
-    ghost invariant = { λ r. KeepsReceiver (arc_value r.words) r.seat r.node ReadState };
+    ghost invariant = { λ r. KeepsReceiver (arc_value r.words) r.seat r.group r.node ReadState };
 }
 
 /// What a turn of a send answers. `served` is how many requests this turn served: 0 where another pass had served the
@@ -156,19 +158,22 @@ pub enum TakeTurn {
 }
 
 impl Sender {
-    /// All that the sender has seen stands in one history: a fact for proofs, and no work.
+    /// All that the sender has seen stands in one history, in which each of its calls has its answer: a fact for proofs,
+    /// and no work.
     pub fn stands(&self)
-        ensures { HasMet self.now self.now }
+        ensures met { HasMet self.now self.now }
+        ensures rest { IsAtRest self.now }
     {
         self.seat.stands();
     }
 }
 
 impl Receiver {
-    /// All that the receiver has seen stands in one history, in which it is a receiver: a fact for proofs, and no work.
+    /// All that the receiver has seen stands in one history, in which each of its calls has its answer: a fact for proofs,
+    /// and no work.
     pub fn stands(&self)
         ensures met { HasMet self.now self.now }
-        ensures named { IsReceiver (name self.now) }
+        ensures rest { IsAtRest self.now }
     {
         self.seat.stands();
     }

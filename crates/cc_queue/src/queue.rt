@@ -1,9 +1,10 @@
 //! A queue that threads share, and its opening.
 ghost use Rattle.std.specs.Arc.{arc_value};
-ghost use Rattle.std.specs.Prelude.{◌≡◌, ◌+◌, ◌-◌, ◌≤◌, ◌<◌, length, IfOk, MatchResult, Ok};
+ghost use Rattle.std.specs.Prelude.{◌≡◌, ◌+◌, ◌*◌, ◌-◌, ◌≤◌, ◌<◌, length, IfOk, MatchResult, Ok};
 ghost use Rattle.cc_model.specs.Config.{config_fault};
 ghost use Rattle.cc_machine.specs.declared.setting.Served.TheVariants as served;
 ghost use Rattle.cc_machine.specs.Machine.{IsOpenFault};
+ghost use Rattle.cc_machine.specs.Words.{groups};
 ghost use Rattle.cc_steps.specs.Opened as opened_words;
 ghost use Rattle.cc_steps.specs.Walk.{fresh, fresh_from};
 ghost use Rattle.cc_queue.specs.Opened.{HasOpened};
@@ -66,15 +67,16 @@ fn sender_on(words: Arc<Words, Global>, seat: PassSeat, config: &Config, row: u3
 /// A receiver on the seat of its pass, which stands behind all senders in the row of passes.
 fn receiver_on(words: Arc<Words, Global>, seat: PassSeat, config: &Config, place: u32) -> Receiver
     requires setting { (arc_value words).setting ≡ record { served = served.List; config = config.now } }
-    requires place { place < config.now.receivers }
+    requires checked { config_fault config.now ≡ Ok tt }
+    requires place { place < groups config.now * config.now.receivers }
     requires fresh { seat ≡ fresh (arc_value words) (config.now.senders + place) }
     ensures { result ≡ seat }
 {
-    let _ = config;
     Receiver {
         words,
         seat,
-        node: place as u64 + 1,
+        group: place / config.receivers,
+        node: (place % config.receivers) as u64 + 1,
     }
 }
 
@@ -106,13 +108,14 @@ fn all_receivers(
     config: &Config,
 ) -> Result<Vec<Receiver>, AllocError>
     requires setting { (arc_value words.now).setting ≡ record { served = served.List; config = config.now } }
-    requires count { length seats.items ≡ config.now.receivers }
+    requires checked { config_fault config.now ≡ Ok tt }
+    requires count { length seats.items ≡ groups config.now * config.now.receivers }
     requires fresh { fresh_from (arc_value words.now) config.now.senders seats.items }
-    ensures count { IfOk result (λ s. length s.items ≡ config.now.receivers) }
+    ensures count { IfOk result (λ s. length s.items ≡ groups config.now * config.now.receivers) }
     ensures fresh { IfOk result (λ s. fresh_from (arc_value words.now) config.now.senders s.items) }
 {
     let mut receivers = Vec::new(alloc);
-    for place in 0..config.receivers {
+    for place in 0..config.groups * config.receivers {
         let seat = seats.remove(0);
         receivers.push(receiver_on(Arc::try_clone(words)?, seat, config, place))?;
     }

@@ -3,13 +3,11 @@ ghost use Rattle.std.specs.Prelude.{◌≡◌, ◌+◌, ◌<◌, ◌≤◌, ◌^
 ghost use Rattle.cc_model.specs.declared.call.Call.TheVariants as call;
 ghost use Rattle.cc_steps.specs.Walk.{IsOf};
 ghost use Rattle.cc_queue.specs.Calls.{Begun, TurnedTake};
+ghost use Rattle.cc_queue.specs.Group.{Ranked};
 
 use crate::passes::{PendingTake, Receiver, TakeTurn};
 use crate::queue::Queue;
 use crate::{begins, turns};
-
-/// The one group of receivers.
-const GROUP: u32 = 0;
 
 /// Begins a take.
 pub fn begin_take(queue: &Queue, receiver: Receiver) -> PendingTake
@@ -19,11 +17,17 @@ pub fn begin_take(queue: &Queue, receiver: Receiver) -> PendingTake
     let Receiver {
         words,
         mut seat,
+        group,
         node,
     } = receiver;
-    let node = begins::begin_take(&queue.words, &mut seat, GROUP, node);
+    let node = begins::begin_take(&queue.words, &mut seat, group, node);
     seat.stands();
-    PendingTake { words, seat, node }
+    PendingTake {
+        words,
+        seat,
+        group,
+        node,
+    }
 }
 
 /// One turn of a take: reads the state once. Where it is 1 the call waits; where it is 0 this pass serves its own call
@@ -35,17 +39,37 @@ pub fn turn_take(queue: &Queue, pending: PendingTake) -> TakeTurn
     let PendingTake {
         words,
         mut seat,
+        group,
         node,
     } = pending;
-    let turn = turns::turn_take(&queue.words, &mut seat, &queue.config, GROUP, node);
+    let turn = turns::turn_take(&queue.words, &mut seat, &queue.config, group, node);
     seat.stands();
     match turn {
-        None => TakeTurn::Waiting(PendingTake { words, seat, node }),
+        None => TakeTurn::Waiting(PendingTake {
+            words,
+            seat,
+            group,
+            node,
+        }),
         Some((answer, served)) => TakeTurn::Done {
-            receiver: Receiver { words, seat, node },
+            receiver: Receiver {
+                words,
+                seat,
+                group,
+                node,
+            },
             answer,
             served,
         },
+    }
+}
+
+impl Receiver {
+    /// The group whose chain its takes go to, from 1.
+    pub fn group(&self) -> u32
+        ensures { Ranked self.now result }
+    {
+        self.group + 1
     }
 }
 
@@ -55,6 +79,7 @@ impl PendingTake {
         let PendingTake {
             words: _,
             seat: _,
+            group: _,
             node: _,
         } = self;
     }

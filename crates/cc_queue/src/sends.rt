@@ -113,16 +113,17 @@ fn scan(words: &Words, seat: &mut PassSeat, config: &Config, job: Job, parcel: P
 {
     let at = job.round.at;
     let nodes = config.capacity as u64 + 1;
+    let groups = config.groups as u64;
     let mut node = steps::read_object(words, seat, Object::Cursor);
     for reads in 1..nodes {
         let _ = reads;
-        if steps::read_passed(words, seat, node) == 1 {
+        if steps::read_passed(words, seat, node) == groups {
             prepare(words, seat, config, job, parcel, node);
             return;
         }
         node = (node + 1) % nodes;
     }
-    if steps::read_passed(words, seat, node) == 1 {
+    if steps::read_passed(words, seat, node) == groups {
         prepare(words, seat, config, job, parcel, node);
     } else {
         steps::write_answer(words, seat, Chain::Send, at, NodeField::Ret, 2 * CODE);
