@@ -33,6 +33,7 @@ fn main(rt: HostRuntime) -> io::Result<ExitCode> {
         bound: BOUND,
         life: 1 << 48,
         per_sender: u32::MAX,
+        groups: 1,
     };
     let Ok(opened) = Queue::open(rt.alloc(), &config) else {
         return Ok(ExitCode::FAILURE);

@@ -24,6 +24,7 @@ fn config(per_sender: u32) -> Config {
         bound: 2,
         life: 10,
         per_sender,
+        groups: 1,
     }
 }
 

@@ -5,6 +5,7 @@ use Rattle.cc_queue_tests.specs.declared.held.HeldSender.{HeldSender}
 use Rattle.cc_queue_tests.specs.declared.held.HeldSender.TheVariants as held_sender
 use Rattle.cc_queue_tests.specs.declared.held.HeldReceiver.{HeldReceiver}
 use Rattle.cc_queue_tests.specs.declared.held.HeldReceiver.TheVariants as held_receiver
+use Rattle.cc_queue_tests.specs.declared.held.Pair.{Pair}
 use Rattle.cc_queue_tests.specs.declared.held.Passes.{Passes}
 
 -- the sender is of this queue
@@ -17,11 +18,17 @@ IsSenderOf q (held_sender.Closing w) = IsOf q w
 abbrev pub IsReceiverOf : Topic → HeldReceiver → Type 0
 IsReceiverOf q (held_receiver.Idle w) = IsOf q w
 IsReceiverOf q (held_receiver.Taking w) = IsOf q w
+IsReceiverOf q held_receiver.Absent = Unit {0}
+
+-- both of a group are
+abbrev pub IsPairOf : Topic → Pair → Type 0
+IsPairOf q p = IsReceiverOf q p.left × IsReceiverOf q p.right
 
 -- all these passes are of this queue
 pub record AreOf (q : Topic) (p : Passes) : Type 0 where
   pub one : IsSenderOf q p.one
   pub two : IsSenderOf q p.two
   pub three : IsSenderOf q p.three
-  pub left : IsReceiverOf q p.left
-  pub right : IsReceiverOf q p.right
+  pub first : IsPairOf q p.first
+  pub second : IsPairOf q p.second
+  pub third : IsPairOf q p.third

@@ -1,10 +1,11 @@
 //! Random orders of calls, turns and meetings on a queue, step for step as the plain machine does them.
-ghost use Rattle.cc_steps.specs.Walk.{IsOf};
-ghost use Rattle.cc_queue_tests.specs.Held.{IsSenderOf, IsReceiverOf, AreOf};
+ghost use Rattle.std.specs.Prelude.{◌+◌, ◌<◌, ◌^◌};
+ghost use Rattle.cc_steps.specs.Walk.{IsOf, fresh_from};
+ghost use Rattle.cc_queue_tests.specs.Held.{IsSenderOf, IsReceiverOf, IsPairOf, AreOf};
 
 use crate::beside::{Beside, Dice, Tally};
 use crate::calls::{next_receiver, next_sender};
-use crate::held::{HeldReceiver, HeldSender, Passes};
+use crate::held::{HeldReceiver, HeldSender, Pair, Passes};
 use cc_model::{Answer, Call, Config, Pass};
 use cc_queue::{
     CloseTurn, PendingClose, PendingSend, PendingTake, Queue, Receiver, SendTurn, Sender, TakeTurn,
@@ -174,6 +175,34 @@ fn step_receiver<R: Abort>(
     match held {
         HeldReceiver::Idle(receiver) => begin_take(rt, queue, beside, pass, receiver),
         HeldReceiver::Taking(pending) => turn_take(rt, queue, beside, pass, pending),
+        HeldReceiver::Absent => HeldReceiver::Absent,
+    }
+}
+
+/// A begin or a turn of the left or the right one of a group.
+fn step_pair<R: Abort>(
+    rt: &R,
+    queue: &Queue,
+    beside: &mut Beside,
+    group: u32,
+    is_left: bool,
+    pair: Pair,
+) -> Pair
+    requires { IsPairOf queue.now pair }
+    ensures { IsPairOf queue.now result }
+{
+    let Pair { left, right } = pair;
+    let number = group.wrapping_mul(2);
+    if is_left {
+        Pair {
+            left: step_receiver(rt, queue, beside, number.wrapping_sub(1), left),
+            right,
+        }
+    } else {
+        Pair {
+            left,
+            right: step_receiver(rt, queue, beside, number, right),
+        }
     }
 }
 
@@ -225,25 +254,30 @@ fn step<R: Abort>(rt: &R, queue: &Queue, beside: &mut Beside, place: u32, passes
         mut one,
         mut two,
         mut three,
-        mut left,
-        mut right,
+        mut first,
+        mut second,
+        mut third,
     } = passes;
     match place {
         0 => one = step_sender(rt, queue, beside, 1, one),
         1 => two = step_sender(rt, queue, beside, 2, two),
         2 => three = step_sender(rt, queue, beside, 3, three),
-        3 => left = step_receiver(rt, queue, beside, 1, left),
-        4 => right = step_receiver(rt, queue, beside, 2, right),
-        5 => meet_receiver(&mut three, &mut left, queue),
-        6 => meet_senders(&mut one, &mut two, queue),
-        _ => meet_receivers(&mut left, &mut right, queue),
+        3 | 4 => first = step_pair(rt, queue, beside, 1, place == 3, first),
+        5 | 6 => second = step_pair(rt, queue, beside, 2, place == 5, second),
+        7 | 8 => third = step_pair(rt, queue, beside, 3, place == 7, third),
+        9 => meet_receiver(&mut three, &mut first.left, queue),
+        10 => meet_senders(&mut one, &mut two, queue),
+        11 => meet_receiver(&mut two, &mut third.right, queue),
+        12 => meet_receivers(&mut first.right, &mut second.left, queue),
+        _ => meet_receivers(&mut first.left, &mut first.right, queue),
     }
     Passes {
         one,
         two,
         three,
-        left,
-        right,
+        first,
+        second,
+        third,
     }
 }
 
@@ -259,11 +293,11 @@ fn steps<R: Abort>(
     ensures { AreOf queue.now result }
 {
     for _ in 0..count {
-        let place = match beside.dice.roll(24) {
-            23 => 7,
-            22 => 6,
-            21 => 5,
-            n => n % 5,
+        let place = beside.dice.roll(9 * 4 + 5);
+        let place = if place < 9 * 4 {
+            place % 9
+        } else {
+            place - 9 * 3
         };
         passes = step(rt, queue, beside, place, passes);
     }
@@ -276,8 +310,8 @@ fn end<R: Abort>(rt: &R, queue: &Queue, beside: &mut Beside, mut passes: Passes)
     ensures { AreOf queue.now result }
 {
     beside.is_ending = true;
-    for turn in 0..30u32 {
-        passes = step(rt, queue, beside, turn % 5, passes);
+    for turn in 0..54u32 {
+        passes = step(rt, queue, beside, turn % 9, passes);
     }
     passes
 }
@@ -305,10 +339,36 @@ fn let_go_receiver<R: Abort>(rt: &R, held: HeldReceiver) {
             pending.abandon();
             panic!(rt; "a take has no answer")
         }
+        HeldReceiver::Absent => {}
     }
 }
 
-/// A queue of this configuration with its three senders and two receivers.
+fn let_go_pair<R: Abort>(rt: &R, pair: Pair) {
+    let Pair { left, right } = pair;
+    let_go_receiver(rt, left);
+    let_go_receiver(rt, right);
+}
+
+/// The next group of two receivers at this place of the row, or none where no receivers are left.
+fn next_pair<R: Abort>(rt: &R, queue: &Queue, place: u64, receivers: &mut Vec<Receiver>) -> Pair
+    requires fresh { fresh_from queue.now place receivers.old.items }
+    requires few { place < 2 ^ 33 }
+    ensures pair { IsPairOf queue.now result }
+    ensures rest { fresh_from queue.now (place + 2) receivers.new.items }
+{
+    if receivers.is_empty() {
+        return Pair {
+            left: HeldReceiver::Absent,
+            right: HeldReceiver::Absent,
+        };
+    }
+    Pair {
+        left: HeldReceiver::Idle(next_receiver(rt, queue, place, receivers)),
+        right: HeldReceiver::Idle(next_receiver(rt, queue, place + 1, receivers)),
+    }
+}
+
+/// A queue of this configuration with its three senders and its groups of two receivers.
 fn opened<R: Abort>(rt: &R, alloc: Global, config: &Config) -> (Queue, Passes)
     ensures { AreOf result.0 result.1 }
 {
@@ -321,8 +381,9 @@ fn opened<R: Abort>(rt: &R, alloc: Global, config: &Config) -> (Queue, Passes)
         one: HeldSender::Idle(next_sender(rt, &queue, 0, &mut senders)),
         two: HeldSender::Idle(next_sender(rt, &queue, 1, &mut senders)),
         three: HeldSender::Idle(next_sender(rt, &queue, 2, &mut senders)),
-        left: HeldReceiver::Idle(next_receiver(rt, &queue, first, &mut receivers)),
-        right: HeldReceiver::Idle(next_receiver(rt, &queue, first + 1, &mut receivers)),
+        first: next_pair(rt, &queue, first, &mut receivers),
+        second: next_pair(rt, &queue, first + 2, &mut receivers),
+        third: next_pair(rt, &queue, first + 4, &mut receivers),
     };
     (queue, passes)
 }
@@ -336,6 +397,7 @@ fn run<R: Abort>(rt: &R, alloc: Global, mut dice: Dice, tally: Tally) -> (Dice, 
         bound: dice.roll(4).wrapping_add(1),
         life: u64::from(dice.roll(12)).wrapping_add(1),
         per_sender: dice.roll(6).wrapping_add(1),
+        groups: dice.roll(3).wrapping_add(1),
     };
     let (queue, passes) = opened(rt, alloc, &config);
     let mut beside = Beside::open(rt, alloc, &config, dice, tally);
@@ -345,14 +407,16 @@ fn run<R: Abort>(rt: &R, alloc: Global, mut dice: Dice, tally: Tally) -> (Dice, 
         one,
         two,
         three,
-        left,
-        right,
+        first,
+        second,
+        third,
     } = end(rt, &queue, &mut beside, passes);
     let_go_sender(rt, one);
     let_go_sender(rt, two);
     let_go_sender(rt, three);
-    let_go_receiver(rt, left);
-    let_go_receiver(rt, right);
+    let_go_pair(rt, first);
+    let_go_pair(rt, second);
+    let_go_pair(rt, third);
     beside.compare(rt);
     beside.into_rest()
 }

@@ -74,6 +74,14 @@ struct Made {
     answer: Option<Answer>,
 }
 
+/// The group of a receiver from 0, where each has two.
+fn group_of(pass: Pass) -> usize {
+    match pass {
+        Pass::Sender(_) => usize::MAX,
+        Pass::Receiver(number) => (number.saturating_sub(1) / 2) as usize,
+    }
+}
+
 /// The machine, and what the queue answered.
 #[derive(Drop)]
 pub struct Beside {
@@ -171,13 +179,20 @@ impl Beside {
     /// Every call is answered, and the machine's history has the same answers in the same order.
     pub fn compare<R: Abort>(&self, rt: &R) {
         let history = self.machine.history();
-        assert_eq!(rt; history.e_answers().len(), self.sends.len());
-        for (made, answer) in self.sends.iter().zip(history.e_answers()) {
+        assert_eq!(rt; history.sends().answers().len(), self.sends.len());
+        for (made, answer) in self.sends.iter().zip(history.sends().answers()) {
             assert_eq!(rt; made.answer, Some(*answer));
         }
-        assert_eq!(rt; history.d_answers().len(), self.takes.len());
-        for (made, answer) in self.takes.iter().zip(history.d_answers()) {
-            assert_eq!(rt; made.answer, Some(*answer));
+        for group in 0..history.groups() {
+            let mut answers = history.takes(group).answers().iter();
+            for made in self
+                .takes
+                .iter()
+                .filter(|made| group_of(made.pass) == group)
+            {
+                assert_eq!(rt; made.answer, answers.next().copied());
+            }
+            assert_eq!(rt; answers.next(), None);
         }
     }
 

@@ -17,6 +17,7 @@ pub const SMALL: Config = Config {
     bound: 2,
     life: 10,
     per_sender: 10,
+    groups: 1,
 };
 
 /// Takes the first sender out of the list.

@@ -147,6 +147,7 @@ fn take_some(alloc: Global, queue: &Queue, mut dice: Dice, job: TakeJob) -> Told
 {
     let TakeJob {
         number: own,
+        group: _,
         mut receiver,
     } = job;
     let mut told = Told::new(alloc);
@@ -262,6 +263,7 @@ fn play<R: Threads + Wait + Sync + Abort>(
         bound: 3,
         life: 1 << 48,
         per_sender: u32::MAX,
+        groups: 1,
     };
     let opened = Queue::open(alloc, &config).expect(rt, "the queue opens");
     let queue = opened.queue;

@@ -8,17 +8,25 @@ pub enum HeldSender {
     Closing(PendingClose),
 }
 
-/// A receiver.
+/// A receiver, or none, where the queue has fewer groups.
 pub enum HeldReceiver {
     Idle(Receiver),
     Taking(PendingTake),
+    Absent,
 }
 
-/// Three senders and two receivers.
+/// The two receivers of a group.
+pub struct Pair {
+    pub left: HeldReceiver,
+    pub right: HeldReceiver,
+}
+
+/// Three senders, and up to three groups of two receivers.
 pub struct Passes {
     pub one: HeldSender,
     pub two: HeldSender,
     pub three: HeldSender,
-    pub left: HeldReceiver,
-    pub right: HeldReceiver,
+    pub first: Pair,
+    pub second: Pair,
+    pub third: Pair,
 }

@@ -15,8 +15,10 @@ mod calls;
 mod given_up;
 #[cfg(test)]
 mod giving_up;
+#[cfg(test)]
+mod groups;
 mod held;
 #[cfg(test)]
 mod shared_fifo;
 
-pub use held::{HeldReceiver, HeldSender, Passes};
+pub use held::{HeldReceiver, HeldSender, Pair, Passes};

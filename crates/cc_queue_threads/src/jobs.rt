@@ -13,10 +13,11 @@ pub struct SendJob {
     pub sender: Sender,
 }
 
-/// A receiver, and its number.
+/// A receiver, its number, and its group.
 #[derive(Drop)]
 pub struct TakeJob {
     pub number: u32,
+    pub group: u32,
     pub receiver: Receiver,
 }
 
@@ -70,7 +71,7 @@ pub fn send_jobs(
     Ok(jobs)
 }
 
-/// All receivers, with their numbers. They stand behind so many senders among all passes.
+/// All receivers, with their numbers and groups. They stand behind so many senders among all passes.
 pub fn take_jobs(
     alloc: Global,
     queue: &Queue,
@@ -87,7 +88,12 @@ pub fn take_jobs(
             break;
         };
         number = number.saturating_add(1);
-        jobs.push(TakeJob { number, receiver })?;
+        let group = receiver.group();
+        jobs.push(TakeJob {
+            number,
+            group,
+            receiver,
+        })?;
     }
     Ok(jobs)
 }

@@ -17,11 +17,11 @@ use std::thread::{Threads, join, map_vec};
 /// How a round ended.
 #[derive(Debug, Drop)]
 pub struct Outcome {
-    /// How many items were taken.
+    /// How many items were taken, by all groups.
     pub taken: u64,
     /// How the close was answered.
     pub close: CloseAnswer,
-    /// What the audit of all receipts says.
+    /// What the audit of the receipts says, of the first group of which it isn't Clean.
     pub verdict: Verdict,
     /// How many receipts weren't kept.
     pub lost: u64,
@@ -140,15 +140,33 @@ fn meet_everyone(
     Ok(())
 }
 
-/// A round of a queue that was opened, with all its passes. Each of its senders but the first sends `items` items in a
+/// The verdict on the receipts of each group in turn, up to the first that isn't Clean.
+fn audit_groups(
+    alloc: Global,
+    kept: &Kept,
+    groups: u32,
+    total: u64,
+) -> Result<Verdict, AllocError> {
+    for group in 0..groups {
+        let takes = kept.takes_of(alloc, group + 1)?;
+        let verdict = audit(alloc, &kept.sends, &takes, Some(total))?;
+        if verdict != Verdict::Clean {
+            return Ok(verdict);
+        }
+    }
+    Ok(Verdict::Clean)
+}
+
+/// A round of a queue with so many groups that was opened, with all its passes. Each of its senders but the first sends `items` items in a
 /// thread of its own, and each of its receivers takes in a thread of its own until the queue has ended; the first sender
-/// closes it when all items are sent. Then all passes meet, and the receipts are audited.
+/// closes it when all items are sent. Then all passes meet, and the receipts of each group are audited.
 pub fn play_opened<R: Threads + Wait + Sync>(
     rt: &R,
     alloc: Global,
     queue: &Queue,
     mut senders: Vec<Sender>,
     receivers: Vec<Receiver>,
+    groups: u32,
     items: u64,
 ) -> Result<Outcome, RoundFault>
     requires senders { fresh_from queue.now 0 senders.items }
@@ -167,7 +185,7 @@ pub fn play_opened<R: Threads + Wait + Sync>(
     Ok(Outcome {
         taken: kept.takes.len() as u64,
         close,
-        verdict: audit(alloc, &kept.sends, &kept.takes, Some(total))?,
+        verdict: audit_groups(alloc, &kept, groups, total)?,
         lost: kept.lost,
     })
 }
@@ -184,5 +202,5 @@ pub fn play_round<R: Threads + Wait + Sync>(
         senders,
         receivers,
     } = Queue::open(alloc, config)?;
-    play_opened(rt, alloc, &queue, senders, receivers, items)
+    play_opened(rt, alloc, &queue, senders, receivers, config.groups, items)
 }

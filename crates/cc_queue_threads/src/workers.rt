@@ -90,6 +90,7 @@ pub fn take_all<R: Wait>(
 {
     let TakeJob {
         number,
+        group,
         mut receiver,
     } = job;
     let mut receipts = Vec::new(alloc);
@@ -106,6 +107,6 @@ pub fn take_all<R: Wait>(
         };
         is_whole = receipts.push(receipt).is_ok() && is_whole;
     }
-    keep_takes(rt, kept, receipts.as_slice(), is_whole);
+    keep_takes(rt, kept, group, receipts.as_slice(), is_whole);
     receiver
 }

@@ -32,6 +32,7 @@ fn is_clean<R: Threads + Wait + Sync>(
         bound,
         life: 1 << 48,
         per_sender: u32::MAX,
+        groups: 1,
     };
     let total = u64::from(THREADS) * ITEMS;
     let Outcome {

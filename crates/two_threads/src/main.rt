@@ -89,6 +89,7 @@ fn main(rt: HostRuntime) -> io::Result<ExitCode> {
         bound: 4,
         life: 1000,
         per_sender: 1000,
+        groups: 1,
     };
     let Ok(opened) = Queue::open(rt.alloc(), &config) else {
         return Ok(ExitCode::FAILURE);
