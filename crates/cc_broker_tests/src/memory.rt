@@ -10,6 +10,7 @@ const SMALL: Config = Config {
     bound: 2,
     life: 10,
     per_sender: 10,
+    groups: 1,
 };
 
 /// Three topics are opened, all of them, or there was no memory: for one of them or for the list of them.

@@ -12,6 +12,7 @@ const SMALL: Config = Config {
     bound: 2,
     life: 10,
     per_sender: 10,
+    groups: 1,
 };
 
 const NO_BOUND: Config = Config { bound: 0, ..SMALL };

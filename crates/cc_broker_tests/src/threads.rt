@@ -17,6 +17,7 @@ const ORDERS: Config = Config {
     bound: 2,
     life: 1 << 48,
     per_sender: u32::MAX,
+    groups: 1,
 };
 
 const LETTERS: Config = Config {
@@ -39,7 +40,7 @@ fn play<R: Threads + Wait + Sync>(
         senders,
         receivers,
     } = topic;
-    play_opened(rt, alloc, queue, senders, receivers, items)
+    play_opened(rt, alloc, queue, senders, receivers, 1, items)
 }
 
 /// Two topics at once, each with two threads that send, one that closes, and two that take. Each item is taken once, and
