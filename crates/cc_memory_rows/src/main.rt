@@ -3,6 +3,8 @@
 //! program, and a begin that was refused is made again, and all that follows is the same.
 #![tactic(auto)]
 
+ghost use Rattle.std.specs.Prelude.{◌≡◌, length};
+
 use cc_audit::{SendReceipt, TakeReceipt, Verdict, audit, send_receipts, take_receipts, total};
 use cc_broker::Broker;
 use cc_machine::{BeginFault, CounterMachine, Event, Machine, OpenFault};
@@ -21,6 +23,7 @@ const SMALL: Config = Config {
     bound: 2,
     life: 10,
     per_sender: 10,
+    groups: 1,
 };
 
 const SENDER: Pass = Pass::Sender(1);
@@ -83,10 +86,12 @@ fn count(machine: &mut CounterMachine, pass: u32) -> Option<(u64, u32)> {
     Some((machine.answer(pass)?, refused))
 }
 
-/// The audit of the receipts of a history.
-fn audit_history(alloc: Global, history: &History) -> Result<Verdict, AllocError> {
+/// The audit of the receipts of a history of one group.
+fn audit_history(alloc: Global, history: &History) -> Result<Verdict, AllocError>
+    requires { length history.now.takes ≡ 1 }
+{
     let sends = send_receipts(alloc, history)?;
-    let takes = take_receipts(alloc, history)?;
+    let takes = take_receipts(alloc, history, 0)?;
     audit(alloc, &sends, &takes, total(history))
 }
 
@@ -178,13 +183,14 @@ fn play_machines(
         eprintln!(rt; "begin: {refused} refused, and made again")?;
     }
     let history = machine.history();
-    tell_side(rt, history.e_calls(), history.e_answers())?;
-    tell_side(rt, history.d_calls(), history.d_answers())?;
+    if history.groups() != 1 {
+        return Ok(1);
+    }
+    let (sends, takes) = (history.sends(), history.takes(0));
+    tell_side(rt, sends.calls(), sends.answers())?;
+    tell_side(rt, takes.calls(), takes.answers())?;
     println!(rt; "counted {first} and {second}")?;
-    let (Ok(clean), Ok(gap)) = (
-        audit_history(rt.alloc(), machine.history()),
-        audit_gap(rt.alloc()),
-    ) else {
+    let (Ok(clean), Ok(gap)) = (audit_history(rt.alloc(), history), audit_gap(rt.alloc())) else {
         eprintln!(rt; "audit: AllocError")?;
         return Ok(3);
     };
