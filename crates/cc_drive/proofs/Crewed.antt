@@ -8,7 +8,7 @@ use Rattle.cc_audit.specs.declared.receipt.SendReceipt.{SendReceipt}
 use Rattle.cc_audit.specs.declared.receipt.TakeReceipt.{TakeReceipt}
 use Rattle.cc_queue.specs.Met.{HasMet}
 use Rattle.cc_queue.specs.Receipts.{receipts_in, receipts_by, sent, got}
-use Rattle.cc_queue.proofs.Taken.{Told}
+use Rattle.cc_queue.proofs.OnItsSide.{Told}
 use Rattle.cc_drive.specs.declared.config.DriveConfig.{DriveConfig}
 use Rattle.cc_drive.specs.declared.kept.Worked.{Worked}
 use Rattle.cc_drive.specs.Back.{IsBack, SenderIsBack, ReceiverIsBack, calls}

@@ -9,12 +9,13 @@ use Rattle.cc_steps.specs.Topic.{Topic}
 use Rattle.cc_steps.specs.Walk.{Walk, IsOf, fresh}
 use Rattle.cc_queue.specs.Headline.{entry_of, name, history}
 use Rattle.cc_queue.specs.Met.{HasMet}
-use Rattle.cc_queue.specs.Receipts.{AreInRow, HasAnswer, receipts_in, receipts_by, sent}
-use Rattle.cc_queue.proofs.Taken.{Told}
+use Rattle.cc_model.specs.Items.{HasAnswer}
+use Rattle.cc_queue.specs.Receipts.{AreInRow, receipts_in, receipts_by, sent}
+use Rattle.cc_queue.proofs.OnItsSide.{Told}
 use Rattle.cc_drive.specs.Back.{IsBack, SenderIsBack, ReceiverIsBack, calls}
 use Rattle.cc_drive.specs.Ran.{ClosedAfter}
 use Rattle.cc_drive.specs.Row.{InRow, Pairs}
-use Rattle.cc_drive.proofs.Told.{stands_self, calls_stay}
+use Rattle.cc_drive.proofs.Told.{nil_of, stands_self, calls_stay}
 use Rattle.cc_drive.proofs.Workers.{call_more, back_more}
 
 -- ---- one pass
@@ -99,10 +100,6 @@ all_items z items limit n (w ∷ ws) few row =
     length-append (receipts_in sent (calls w)) (receipts_by sent ws) ∙ (λ i. row.0.all few i + all_items z items limit (n + 1) ws few row.1 i) ∙ (let e : items + length ws * items ≡ suc (length ws) * items = omega arith in e)
 
 -- ---- the closer
-
-nil_of : (zs : List Told) → map (λ (z : Told). z.0) zs ≡ [] → zs ≡ []
-nil_of [] e = refl
-nil_of (z ∷ zs) e = absurd (let n : length (map (λ (y : Told). y.0) (z ∷ zs)) ≡ 0 = ap length e in omega (arith, n))
 
 -- it has made no call before the close
 fresh_met : (z : Topic) (n : ℕ) (c met : Walk) → c ≡ fresh z n → HasMet c met → (calls met ≡ []) × IsBack z n met

@@ -14,8 +14,9 @@ use Rattle.cc_steps.specs.Walk.{Walk, IsOf, fresh}
 use Rattle.cc_audit.specs.Receipts.{sends_of, takes_of, total_of}
 use Rattle.cc_queue.specs.Headline.{name, history}
 use Rattle.cc_queue.specs.Met.{AreOfOne, HasMet, HaveSeenOne}
-use Rattle.cc_queue.specs.Receipts.{AreAll, AreInRow, receipts_by, seen_by, sent, got}
-use Rattle.cc_queue.proofs.Held.{sends_held, takes_held, seen_is}
+use Rattle.cc_queue.specs.Receipts.{AreAll, AreInRow, in_group, receipts_by, seen_by, sent, got}
+use Rattle.cc_queue.proofs.Held.{sends_held, takes_held, only_group, seen_is}
+use Rattle.cc_machine.specs.Words.{groups}
 use Rattle.cc_drive.specs.declared.config.DriveConfig.{DriveConfig}
 use Rattle.cc_drive.specs.declared.driver.Ran.{Ran}
 use Rattle.cc_drive.specs.Config.{queue_of}
@@ -31,7 +32,7 @@ use Rattle.cc_drive.proofs.Ended.{row_weaker, row_all, row_met, back_met, receiv
 pub record Settled (z : Topic) (c : DriveConfig) (r : Ran) (senders receivers : List Walk) : Type 0 where
   pub all : AreAll z senders receivers
   pub sends : receipts_by sent senders ≡ r.sends.items
-  pub takes : receipts_by got receivers ≡ r.takes.items
+  pub takes : receipts_by got (in_group z.setting.config 1 receivers) ≡ r.takes.items
   pub total : Some (total_in r.closed) ≡ total_of (seen_by senders)
   pub even : length r.takes.items ≡ length r.sends.items
   pub count : c.limit < 2 ^ 32 - 1 → length r.sends.items ≡ c.senders * c.items
@@ -44,11 +45,11 @@ lawful : (z : Topic) (n : ℕ) (w : Walk) (seen : List Move) → IsBack z n w �
 lawful z n w seen b is = subst (λ (y : Setting × Record). Legal y.0.config y.1) (λ i. (b.here.1 i, seen_of z n w seen b is i)) b.stands.legal
 
 -- as many were taken as were sent
-even_so : (z : Topic) (n : ℕ) (receivers : List Walk) (seen : List Move) → 0 < length receivers → InRow (ReceiverIsBack z) n receivers → All (λ w. w.seen ≡ seen) receivers → length (takes_of (history_of z.setting seen)) ≡ length (sends_of (history_of z.setting seen))
-even_so z n [] seen some row one = absurd (omega (arith, some))
-even_so z n (w ∷ ws) seen some row one =
+even_so : (z : Topic) (n : ℕ) (receivers : List Walk) (seen : List Move) → z.setting.config.groups ≡ 1 → 0 < length receivers → InRow (ReceiverIsBack z) n receivers → All (λ w. w.seen ≡ seen) receivers → length (takes_of (history_of z.setting seen) 0) ≡ length (sends_of (history_of z.setting seen))
+even_so z n [] seen group some row one = absurd (omega (arith, some))
+even_so z n (w ∷ ws) seen group some row one =
     let is = one 0 w (omega arith) in
-    subst (λ (h : Record). length (takes_of h) ≡ length (sends_of h)) (seen_of z n w seen row.0.back is) (taken_is_sent w.setting.config (history w) (name w) row.0.total row.0.back.stands.legal row.0.ended)
+    subst (λ (h : Record). length (takes_of h 0) ≡ length (sends_of h)) (seen_of z n w seen row.0.back is) (taken_is_sent w.setting.config (history w) (name w) row.0.total (ap (λ (s : Setting). s.config.groups) row.0.back.here.1 ∙ group) row.0.back.stands.legal row.0.ended)
 
 pub settled : (z : Topic) (c : DriveConfig) (r : Ran) (all senders receivers : List Walk) → z.setting ≡ record { served = served.List; config = queue_of c } → 0 < c.receivers → HasRun z c r
     → all ≡ r.senders.items ++ r.closer ∷ [] → Pairs HasMet all senders → Pairs HasMet r.receivers.items receivers → HaveSeenOne senders receivers → Settled z c r senders receivers
@@ -62,12 +63,15 @@ settled z c r all senders receivers setting some run is met met' one =
     let were_back : InRow (IsBack z) (c.senders + 1) r.receivers.items = row_weaker (ReceiverIsBack z) (IsBack z) (λ k w b. b.back) (c.senders + 1) r.receivers.items run.receivers in
     let count : length senders ≡ c.senders + 1 = pairs_length all senders met ∙ ap length is ∙ length-append r.senders.items (r.closer ∷ []) ∙ ap (λ (n : ℕ). n + 1) run.count_senders in
     let count' : length receivers ≡ c.receivers = pairs_length r.receivers.items receivers met' ∙ run.count_receivers in
+    let one_group : z.setting.config.groups ≡ 1 = ap (λ (k : Config). k.groups) config in
+    let all_groups : groups z.setting.config * z.setting.config.receivers ≡ c.receivers = ap (λ (k : Config). k.groups * k.receivers) config ∙ (omega arith) in
+    let its : in_group z.setting.config 1 receivers ≡ receivers = only_group z.setting.config receivers (count' ∙ ap (λ (k : Config). k.receivers) (sym config)) in
     let first : AreAll z senders receivers = (
       are_in_row z 0 z.setting.config.senders senders (count ∙ ap (λ (k : Config). k.senders) (sym config)) ours,
-      subst (λ (n : ℕ). AreInRow z n z.setting.config.receivers receivers) (ap (λ (k : Config). k.senders) (sym config)) (are_in_row z (c.senders + 1) z.setting.config.receivers receivers (count' ∙ ap (λ (k : Config). k.receivers) (sym config)) theirs_back),
+      subst (λ (n : ℕ). AreInRow z n (groups z.setting.config * z.setting.config.receivers) receivers) (ap (λ (k : Config). k.senders) (sym config)) (are_in_row z (c.senders + 1) (groups z.setting.config * z.setting.config.receivers) receivers (count' ∙ sym all_groups) theirs_back),
     ) in
     let sends : receipts_by sent senders ≡ r.sends.items = receipts_met sent z 0 all senders row met ∙ no_more_receipts sent r.senders.items all r.closer is (closer_sent_none z c.senders (fresh z c.senders) r.closer r.senders.items r.closed refl run.closed) ∙ sym run.sends in
-    let takes : receipts_by got receivers ≡ r.takes.items = receipts_met got z (c.senders + 1) r.receivers.items receivers were_back met' ∙ sym run.takes in
+    let takes : receipts_by got (in_group z.setting.config 1 receivers) ≡ r.takes.items = ap (receipts_by got) its ∙ receipts_met got z (c.senders + 1) r.receivers.items receivers were_back met' ∙ sym run.takes in
     let last = pairs_last HasMet r.senders.items senders r.closer (subst (λ l. Pairs HasMet l senders) is met) in
     let who : Walk = last.1 in
     let who_back : IsBack z c.senders who = back_met z c.senders r.closer who closer last.4 in
@@ -80,7 +84,7 @@ settled z c r all senders receivers setting some run is met met' one =
       takes = takes;
       total = total_is who.setting.config (history who) (name who) r.closed who_back.stands.legal (closer_told z c.senders (fresh z c.senders) r.closer who r.senders.items r.closed refl run.closed last.4)
           ∙ ap total_of (seen_of z c.senders who one.seen who_back who_seen ∙ sym seen);
-      even = ap length (sym takes) ∙ sym (length_permutation _ _ (takes_held z receivers one.seen legal first.1 one.receivers_have)) ∙ even_so z (c.senders + 1) receivers one.seen (let n = count' in omega (arith, n, some)) theirs one.receivers_have
+      even = ap length (sym takes) ∙ sym (length_permutation _ _ (takes_held z receivers one.seen 1 (rw (ap (λ (k : Config). k.receivers) config) some) (omega arith) (omega (arith, one_group)) legal first.1 one.receivers_have)) ∙ even_so z (c.senders + 1) receivers one.seen one_group (let n = count' in omega (arith, n, some)) theirs one.receivers_have
           ∙ length_permutation _ _ (sends_held z senders one.seen legal first.0 one.senders_have) ∙ ap length sends;
       count = λ few. ap length run.sends ∙ all_items z c.items c.limit 0 r.senders.items few run.senders ∙ ap (λ (n : ℕ). n * c.items) run.count_senders;
     }

@@ -1,11 +1,11 @@
 -- What a lawful history says of the total that a close told, and of the end that a receiver was told.
-use Rattle.std.proofs.Common.{◌≡◌, ℕ, ◌+◌, ◌≤◌, Bool, true, false, ◌||◌, List, [], ◌∷◌, ◌++◌, length, Option, Some, None, if◌then◌else◌, refl, sym, ap, ◌∙◌, subst, arith, length-append}
+use Rattle.std.proofs.Common.{◌≡◌, ℕ, ◌+◌, ◌<◌, ◌≤◌, Bool, true, false, ◌||◌, List, [], ◌∷◌, ◌++◌, length, Option, Some, None, if◌then◌else◌, refl, sym, ap, ◌∙◌, subst, arith, length-append}
 use Rattle.std.proofs.lemmas.List.{length-map}
 use Rattle.std.proofs.Math.Logic.{◌⊎◌, inl, inr}
 use Rattle.std.specs.List.{AllByRecursion, filter}
 use Rattle.cc_model.specs.Record.{Record}
 use Rattle.cc_model.specs.Items.{answered, is_pass, accepted, accepted_item, shuts, is_shut, handed, handed_by, handed_item}
-use Rattle.cc_model.specs.Legal.{Legal, EAnswer, EAnswers, DAnswer, DAnswers, IsReceivers}
+use Rattle.cc_model.specs.Legal.{Legal, LegalTakes, EAnswer, EAnswers, DAnswer, DAnswers, IsReceivers}
 use Rattle.cc_model.specs.declared.config.Config.{Config}
 use Rattle.cc_model.specs.declared.call.Call.{Call}
 use Rattle.cc_model.specs.declared.call.Call.TheVariants as call
@@ -21,7 +21,11 @@ use Rattle.cc_model.specs.declared.call.CloseAnswer.TheVariants as close
 use Rattle.cc_model.specs.declared.call.TakeAnswer.TheVariants as take
 use Rattle.cc_machine.specs.Machine.{IsLastAnswer}
 use Rattle.cc_audit.specs.Receipts.{sends_of, takes_of, takes_by, take_receipt, total_of, total_by, send_receipt}
-use Rattle.cc_queue.proofs.Taken.{Told}
+use Rattle.cc_queue.proofs.OnItsSide.{Told, its_side, on_its_side}
+use Rattle.cc_model.specs.Record.{Side, silent, of_group}
+use Rattle.cc_model.specs.Config.{group_of}
+use Rattle.std.proofs.lemmas.Bool.{cases_lt}
+use Rattle.std.proofs.lemmas.List.{get_or_past}
 use Rattle.cc_drive.specs.Ran.{total_in}
 
 -- ---- a call among others
@@ -43,19 +47,11 @@ in_filter f z (x ∷ xs) i = go (f x) (in_filter f z xs) i
     go true rest (inr j) = inr (rest j)
     go false rest j = inr (rest j)
 
-in_either : (z : Told) (xs ys : List Told) → In z (xs ++ ys) → In z xs ⊎ In z ys
-in_either z [] ys i = inr i
-in_either z (x ∷ xs) ys (inl e) = inl (inl e)
-in_either z (x ∷ xs) ys (inr i) = go (in_either z xs ys i)
-  where
-    go : In z xs ⊎ In z ys → In z (x ∷ xs) ⊎ In z ys
-    go (inl j) = inl (inr j)
-    go (inr j) = inr j
-
-last_in : (who : Pass) (h : Record) (told : Answer) → (k : IsLastAnswer who h told) → In (k.entry, Some told) (answered h.e_calls h.e_answers) ⊎ In (k.entry, Some told) (answered h.d_calls h.d_answers)
-last_in who h told k =
-    in_either (k.entry, Some told) (answered h.e_calls h.e_answers) (answered h.d_calls h.d_answers)
-    (in_filter (λ c. is_pass who c.0.pass) (k.entry, Some told) (answered h.e_calls h.e_answers ++ answered h.d_calls h.d_answers) (subst (In (k.entry, Some told)) (sym k.last) (in_last k.before (k.entry, Some told))))
+-- a pass's last answer is one of its side
+last_in : (cfg : Config) (who : Pass) (h : Record) (told : Answer) → Legal cfg h → (k : IsLastAnswer who h told) → In (k.entry, Some told) (answered (its_side cfg who h).calls (its_side cfg who h).answers)
+last_in cfg who h told l k =
+    let side = its_side cfg who h in
+    in_filter (λ c. is_pass who c.0.pass) (k.entry, Some told) (answered side.calls side.answers) (subst (In (k.entry, Some told)) (sym k.last ∙ on_its_side cfg h who l) (in_last k.before (k.entry, Some told)))
 
 -- what a call with its answer is
 no_answer : (c e : Entry) (a : Answer) → ◌≡◌ {A = Told} (c, None) (e, Some a) → ⊥
@@ -146,13 +142,22 @@ total_so cfg count (c ∷ calls) (answer.Send a ∷ answers) e told k (inr i) = 
 total_so cfg count (c ∷ calls) (answer.Take a ∷ answers) e told k (inl same) = absurd (let s : answer.Take a ≡ answer.Close told = same_answer c e (answer.Take a) (answer.Close told) same in cc s)
 total_so cfg count (c ∷ calls) (answer.Take a ∷ answers) e told k (inr i) = total_so cfg (count + 0) calls answers e told k.1 i
 
+-- a pass with an answer is a sender, or a receiver of a group that there is
+side_of_answer : (cfg : Config) (h : Record) (r : ℕ) (told : Answer) → Legal cfg h → IsLastAnswer (pass.Receiver r) h told → group_of cfg r < cfg.groups
+side_of_answer cfg h r told l k = elim (cases_lt (group_of cfg r) cfg.groups) [
+  | inl inside ↦ inside
+  | inr far ↦
+      let none : of_group h (group_of cfg r) ≡ silent = get_or_past h.takes (group_of cfg r) silent (omega (arith, far, l.groups)) in
+      absurd (subst (λ (s : Side). In (k.entry, Some told) (answered s.calls s.answers)) none (last_in cfg (pass.Receiver r) h told l k))
+]
+
 -- the answer of a pass's close has the total of the history
 pub total_is : (cfg : Config) (h : Record) (who : Pass) (told : CloseAnswer) → Legal cfg h → IsLastAnswer who h (answer.Close told) → Some (total_in told) ≡ total_of h
-total_is cfg h who told l k = go (last_in who h (answer.Close told) k)
-  where
-    go : In (k.entry, Some (answer.Close told)) (answered h.e_calls h.e_answers) ⊎ In (k.entry, Some (answer.Close told)) (answered h.d_calls h.d_answers) → Some (total_in told) ≡ total_of h
-    go (inl i) = total_so cfg 0 h.e_calls h.e_answers k.entry told l.e_answers i
-    go (inr i) = absurd (no_close_of_receiver (accepted h) (is_shut h) 0 h.d_calls h.d_answers k.entry told l.d_answers i)
+total_is cfg h (pass.Sender s) told l k = total_so cfg 0 h.sends.calls h.sends.answers k.entry told l.answers (last_in cfg (pass.Sender s) h (answer.Close told) l k)
+total_is cfg h (pass.Receiver r) told l k =
+    let g : ℕ = group_of cfg r in
+    let its = l.takes g (side_of_answer cfg h r (answer.Close told) l k) in
+    absurd (no_close_of_receiver (accepted h) (is_shut h) 0 (of_group h g).calls (of_group h g).answers k.entry told its.answers (last_in cfg (pass.Receiver r) h (answer.Close told) l k))
 
 -- ---- the end
 
@@ -167,25 +172,17 @@ ended_so items shut count (c ∷ calls) (a ∷ answers) e total k (inr i) =
     let rest = ended_so items shut (count + length (handed_item a)) calls answers e total k.1 i in
     omega (arith, rest, length-append (handed_item a) (handed_by answers))
 
--- where some receiver was told the end, as many items were handed out as were accepted
-all_handed : (cfg : Config) (h : Record) (who : Pass) (total : ℕ) → Legal cfg h → IsLastAnswer who h (answer.Take (take.Ended total)) → length (handed h) ≡ length (accepted h)
-all_handed cfg h who total l k = go (last_in who h (answer.Take (take.Ended total)) k)
-  where
-    go : In (k.entry, Some (answer.Take (take.Ended total))) (answered h.e_calls h.e_answers) ⊎ In (k.entry, Some (answer.Take (take.Ended total))) (answered h.d_calls h.d_answers) → length (handed h) ≡ length (accepted h)
-    go (inl i) = absurd (no_end_of_sender cfg 0 false h.e_calls h.e_answers k.entry total l.e_answers i)
-    go (inr i) = let more = ended_so (accepted h) (is_shut h) 0 h.d_calls h.d_answers k.entry total l.d_answers i in omega (arith, more, l.within)
-
 -- a receipt of each item that was handed out
-receipts_of : (cfg : Config) (items : List Item) (shut : Bool) (count : ℕ) (calls : List Entry) (answers : List Answer) → AllByRecursion (λ c. IsReceivers cfg c.pass c.call) calls → DAnswers items shut count calls answers → length (takes_by calls answers) ≡ length (handed_by answers)
-receipts_of cfg items shut count [] [] all k = refl
-receipts_of cfg items shut count [] (a ∷ answers) all k = absurd k
-receipts_of cfg items shut count (c ∷ calls) [] all k = refl
-receipts_of cfg items shut count (c ∷ calls) (a ∷ answers) all k =
-    let rest = receipts_of cfg items shut (count + length (handed_item a)) calls answers all.1 k.1 in
+receipts_of : (cfg : Config) (g : ℕ) (items : List Item) (shut : Bool) (count : ℕ) (calls : List Entry) (answers : List Answer) → AllByRecursion (λ c. IsReceivers cfg g c.pass c.call) calls → DAnswers items shut count calls answers → length (takes_by calls answers) ≡ length (handed_by answers)
+receipts_of cfg g items shut count [] [] all k = refl
+receipts_of cfg g items shut count [] (a ∷ answers) all k = absurd k
+receipts_of cfg g items shut count (c ∷ calls) [] all k = refl
+receipts_of cfg g items shut count (c ∷ calls) (a ∷ answers) all k =
+    let rest = receipts_of cfg g items shut (count + length (handed_item a)) calls answers all.1 k.1 in
     let one : length (take_receipt c.pass a) ≡ length (handed_item a) = own c.pass c.call a all.0 in
     omega (arith, rest, one, length-append (take_receipt c.pass a) (takes_by calls answers), length-append (handed_item a) (handed_by answers))
   where
-    own : (p : Pass) (x : Call) (a : Answer) → IsReceivers cfg p x → length (take_receipt p a) ≡ length (handed_item a)
+    own : (p : Pass) (x : Call) (a : Answer) → IsReceivers cfg g p x → length (take_receipt p a) ≡ length (handed_item a)
     own (pass.Receiver r) x (answer.Take (take.Got item)) is = refl
     own (pass.Receiver r) x (answer.Take take.Empty) is = refl
     own (pass.Receiver r) x (answer.Take (take.Ended total)) is = refl
@@ -193,6 +190,18 @@ receipts_of cfg items shut count (c ∷ calls) (a ∷ answers) all k =
     own (pass.Receiver r) x (answer.Close b) is = refl
     own (pass.Sender s) x a is = absurd is
 
--- so as many were taken as were sent
-pub taken_is_sent : (cfg : Config) (h : Record) (who : Pass) (total : ℕ) → Legal cfg h → IsLastAnswer who h (answer.Take (take.Ended total)) → length (takes_of h) ≡ length (sends_of h)
-taken_is_sent cfg h who total l k = receipts_of cfg (accepted h) (is_shut h) 0 h.d_calls h.d_answers l.receivers l.d_answers ∙ all_handed cfg h who total l k ∙ sym (length-map (accepted h) send_receipt)
+-- where a receiver was told the end, its group took as many items as were sent
+group_took_all : (cfg : Config) (h : Record) (r total : ℕ) → Legal cfg h → IsLastAnswer (pass.Receiver r) h (answer.Take (take.Ended total)) → length (takes_of h (group_of cfg r)) ≡ length (sends_of h)
+group_took_all cfg h r total l k =
+    let g : ℕ = group_of cfg r in
+    let its : LegalTakes cfg h g = l.takes g (side_of_answer cfg h r (answer.Take (take.Ended total)) l k) in
+    let more = ended_so (accepted h) (is_shut h) 0 (of_group h g).calls (of_group h g).answers k.entry total its.answers (last_in cfg (pass.Receiver r) h (answer.Take (take.Ended total)) l k) in
+    let all : length (handed h g) ≡ length (accepted h) = omega (arith, more, its.within) in
+    receipts_of cfg g (accepted h) (is_shut h) 0 (of_group h g).calls (of_group h g).answers its.receivers its.answers ∙ all ∙ sym (length-map (accepted h) send_receipt)
+
+-- and so did the one group, where there is one
+pub taken_is_sent : (cfg : Config) (h : Record) (who : Pass) (total : ℕ) → cfg.groups ≡ 1 → Legal cfg h → IsLastAnswer who h (answer.Take (take.Ended total)) → length (takes_of h 0) ≡ length (sends_of h)
+taken_is_sent cfg h (pass.Sender s) total one l k = absurd (no_end_of_sender cfg 0 false h.sends.calls h.sends.answers k.entry total l.answers (last_in cfg (pass.Sender s) h (answer.Take (take.Ended total)) l k))
+taken_is_sent cfg h (pass.Receiver r) total one l k =
+    let only : group_of cfg r ≡ 0 = omega (arith, one, side_of_answer cfg h r (answer.Take (take.Ended total)) l k) in
+    subst (λ (g : ℕ). length (takes_of h g) ≡ length (sends_of h)) only (group_took_all cfg h r total l k)

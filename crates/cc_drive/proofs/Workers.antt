@@ -19,12 +19,13 @@ use Rattle.cc_steps.specs.Walk.{Walk, fresh}
 use Rattle.cc_queue.specs.Calls.{Completed}
 use Rattle.cc_queue.specs.Headline.{entry_of, name}
 use Rattle.cc_queue.specs.Met.{HasMet}
-use Rattle.cc_queue.specs.Receipts.{HasAnswer, receipts_in, sent, got}
+use Rattle.cc_model.specs.Items.{HasAnswer}
+use Rattle.cc_queue.specs.Receipts.{receipts_in, sent, got}
 use Rattle.cc_audit.specs.Receipts.{send_receipt, take_receipt}
 use Rattle.cc_audit.specs.declared.receipt.TakeReceipt.{TakeReceipt}
 use Rattle.cc_queue.proofs.Held.{in_both}
 use Rattle.cc_drive.specs.Back.{IsBack, calls}
-use Rattle.cc_drive.proofs.Told.{Told, stands_self, same_name, calls_more, each_answered}
+use Rattle.cc_drive.proofs.Told.{Told, nil_of, stands_self, same_name, calls_more, each_answered}
 
 -- the pass of a worker so far, and what the worker has kept
 pub record Working {X : Type 0} (receipts : Told → List X) (z : Topic) (row : ℕ) (who : Pass) (w : Walk) (whole : Bool) (keeps : List X) : Type 0 where
@@ -34,12 +35,13 @@ pub record Working {X : Type 0} (receipts : Told → List X) (z : Topic) (row : 
 
 -- ---- before the first call
 
-calls_fresh : (z : Topic) (row : ℕ) → calls (fresh z row) ≡ []
-calls_fresh z row = refl
+-- a fresh pass has made no call
+pub calls_fresh : (z : Topic) (row : ℕ) (w : Walk) → w ≡ fresh z row → HasMet w w → calls w ≡ []
+calls_fresh z row w is met = nil_of (calls w) (met.stands.calls_are ∙ ap (λ (x : Walk). x.made) is)
 
 pub working_none : {X : Type 0} (receipts : Told → List X) (z : Topic) (row : ℕ) (who : Pass) (w : Walk) (whole : Bool) (keeps : List X) → w ≡ fresh z row → pass_at z.setting.config row ≡ who → HasMet w w → keeps ≡ [] → Working receipts z row who w whole keeps
 working_none receipts z row who w whole keeps is named met none =
-    let empty : calls w ≡ [] = ap calls is ∙ calls_fresh z row in
+    let empty : calls w ≡ [] = calls_fresh z row w is met in
     record {
       back = record {
         here = (ap (λ (x : Walk). x.table_id) is, ap (λ (x : Walk). x.setting) is);

@@ -1,7 +1,7 @@
 -- The passes that workers give back.
 use Rattle.std.specs.Prelude.{ℕ, ◌≡◌, ◌<◌, ◌-◌, ◌^◌, List, [], length, Option}
 use Rattle.std.specs.List.{AllByRecursion}
-use Rattle.cc_model.specs.Items.{calls_of}
+use Rattle.cc_model.specs.Items.{HasAnswer, calls_of}
 use Rattle.cc_model.specs.declared.call.Entry.{Entry}
 use Rattle.cc_model.specs.declared.call.Answer.{Answer}
 use Rattle.cc_model.specs.declared.call.Answer.TheVariants as answer
@@ -10,7 +10,7 @@ use Rattle.cc_machine.specs.Machine.{IsLastAnswer}
 use Rattle.cc_steps.specs.Topic.{Topic}
 use Rattle.cc_steps.specs.Walk.{Walk, IsOf}
 use Rattle.cc_queue.specs.Headline.{StandsInOne, name, history}
-use Rattle.cc_queue.specs.Receipts.{HasAnswer, receipts_in, sent}
+use Rattle.cc_queue.specs.Receipts.{receipts_in, sent}
 
 -- the calls of a pass in the history that it has seen, each with its answer or pending
 abbrev pub calls : Walk → List (Entry × Option Answer)

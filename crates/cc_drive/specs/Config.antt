@@ -20,6 +20,7 @@ queue_of c = record {
   bound = c.bound;
   life = 2 ^ 48;
   per_sender = 2 ^ 32 - 1;
+  groups = 1;
 }
 
 -- the first field out of its range

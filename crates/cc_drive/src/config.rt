@@ -102,6 +102,7 @@ impl DriveConfig {
             bound: self.bound,
             life: 1 << 48,
             per_sender: u32::MAX,
+            groups: 1,
         };
         config.check()?;
         Ok(config)

@@ -257,6 +257,7 @@ fn settle(
         queue,
         &senders,
         &receivers,
+        1,
         &sends,
         &takes,
         Some(total),

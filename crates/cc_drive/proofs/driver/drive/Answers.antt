@@ -1,4 +1,5 @@
-use Rattle.std.proofs.Common.{arith, ◌≡◌, ◌∙◌, ◌+◌, ℕ, length, ap, subst}
+use Rattle.std.specs.Result.{OnOk}
+use Rattle.std.proofs.Common.{Result, Ok, Err, arith, ◌≡◌, ◌∙◌, ◌+◌, ℕ, length, ap, subst}
 use Rattle.cc_model.specs.declared.config.Config.{Config}
 use Rattle.cc_machine.specs.declared.setting.Setting.{Setting}
 use Rattle.cc_machine.proofs.Ranges.{in_range}
@@ -37,3 +38,10 @@ run-requires-clause-few g c κs within = let r = in_range (queue_of c.args.confi
 
 pub settle-requires-clause-some : goal.settle-requires-clause-some
 settle-requires-clause-some g c = let r = in_range (queue_of c.args.config.now) c.in_ok-of_queue.ensures.lawful in omega (arith, r.receivers)
+
+pub returns-clause-lawful : goal.returns-clause-lawful
+returns-clause-lawful g c = all_ok c.settle.result c.in_ok-of_queue.ensures.fine
+  where
+    all_ok : {T E P : Type 0} (r : Result T E) → P → OnOk r P
+    all_ok (Ok x) p = p
+    all_ok (Err e) p = tt

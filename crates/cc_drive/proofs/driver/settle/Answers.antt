@@ -1,9 +1,10 @@
-use Rattle.std.proofs.Common.{rules, ◌∙◌, List, Some, sym, subst, ap}
+use Rattle.std.proofs.Common.{rules, arith, ◌∙◌, List, Some, sym, subst, ap}
 use Rattle.std.proofs.lemmas.List.Sorted.{IsPermutation-refl}
 use Rattle.std.specs.List.Sorted.{IsPermutation}
+use Rattle.cc_machine.specs.declared.setting.Setting.{Setting}
 use Rattle.cc_steps.specs.Walk.{Walk}
 use Rattle.cc_audit.specs.Receipts.{total_of}
-use Rattle.cc_queue.specs.Receipts.{AreAll, receipts_by, seen_by, sent, got}
+use Rattle.cc_queue.specs.Receipts.{AreAll, in_group, receipts_by, seen_by, sent, got}
 use Rattle.cc_drive.proofs.Settled.{settled, together}
 use Rattle.cc_drive.proofs.driver.settle.Goals as goal
 
@@ -20,10 +21,14 @@ audit_all-requires-clause-sends c =
     let s = settled c.args.queue.now c.args.config.now c.args.ran _ _ _ c.requires.setting c.requires.some c.requires.run c.in-Ok.ensures.items c.meet_everyone.ensures.senders c.meet_everyone.ensures.receivers c.meet_everyone.ensures.one in
     subst (λ l. IsPermutation (receipts_by sent c.deref.result.now) l) (ap (receipts_by sent) c.deref.ensures.value ∙ s.sends ∙ sym c.deref-3.ensures.value) (IsPermutation-refl (receipts_by sent c.deref.result.now))
 
+pub audit_all-requires-clause-high : goal.audit_all-requires-clause-high
+audit_all-requires-clause-high c = let one = ap (λ (z : Setting). z.config.groups) c.requires.setting in omega (arith, one)
+
 pub audit_all-requires-clause-takes : goal.audit_all-requires-clause-takes
 audit_all-requires-clause-takes c =
     let s = settled c.args.queue.now c.args.config.now c.args.ran _ _ _ c.requires.setting c.requires.some c.requires.run c.in-Ok.ensures.items c.meet_everyone.ensures.senders c.meet_everyone.ensures.receivers c.meet_everyone.ensures.one in
-    subst (λ l. IsPermutation (receipts_by got c.deref-2.result.now) l) (ap (receipts_by got) c.deref-2.ensures.value ∙ s.takes ∙ sym c.deref-4.ensures.value) (IsPermutation-refl (receipts_by got c.deref-2.result.now))
+    let of = λ (l : List Walk). receipts_by got (in_group c.args.queue.now.setting.config 1 l) in
+    subst (λ l. IsPermutation (of c.deref-2.result.now) l) (ap of c.deref-2.ensures.value ∙ s.takes ∙ sym c.deref-4.ensures.value) (IsPermutation-refl (of c.deref-2.result.now))
 
 pub audit_all-requires-clause-total : goal.audit_all-requires-clause-total
 audit_all-requires-clause-total c =

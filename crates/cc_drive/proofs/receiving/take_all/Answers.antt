@@ -5,8 +5,11 @@ use Rattle.cc_model.specs.declared.call.Pass.TheVariants as pass
 use Rattle.cc_model.specs.declared.call.TakeAnswer.{TakeAnswer}
 use Rattle.cc_queue.specs.Calls.{Completed}
 use Rattle.cc_queue.specs.Receipts.{got}
-use Rattle.cc_drive.proofs.Workers.{working_more, got_one, got_empty, got_end, taken_none}
+use Rattle.cc_drive.proofs.Workers.{working_none, working_more, got_one, got_empty, got_end, taken_none}
 use Rattle.cc_drive.proofs.receiving.take_all.Goals as goal
+
+pub loop-turns-init : goal.loop-turns-init
+loop-turns-init g c = (working_none got c.args.queue.now c.args.row (pass.Receiver c.args.number) c.args.receiver _ _ c.requires.fresh c.requires.named c.stands.ensures.met c.new-kept.ensures, search rules)
 
 pub returns-in-Ended-clause-back : goal.returns-in-Ended-clause-back
 returns-in-Ended-clause-back g c =

@@ -1,13 +1,25 @@
-use Rattle.std.proofs.Common.{rules, ◌≡◌, ◌+◌, ◌∙◌, ◌++◌, sym, ap, subst}
+use Rattle.std.proofs.Common.{rules, ◌≡◌, ◌+◌, ◌∙◌, ◌++◌, length, sym, ap, subst}
 use Rattle.cc_model.specs.declared.call.Answer.TheVariants as answer
 use Rattle.cc_model.specs.declared.call.Call.TheVariants as call
 use Rattle.cc_model.specs.declared.call.Pass.TheVariants as pass
 use Rattle.cc_model.specs.declared.call.SendAnswer.{SendAnswer}
+use Rattle.cc_steps.specs.Walk.{Walk}
 use Rattle.cc_queue.specs.Calls.{Completed}
 use Rattle.cc_queue.specs.Headline.{entry_of}
-use Rattle.cc_queue.specs.Receipts.{sent}
-use Rattle.cc_drive.proofs.Workers.{working_more, working_still, sent_one, sent_none, count_one, count_none}
+use Rattle.cc_queue.specs.Receipts.{receipts_in, sent}
+use Rattle.cc_drive.proofs.Workers.{calls_fresh, working_none, working_more, working_still, sent_one, sent_none, count_one, count_none}
 use Rattle.cc_drive.proofs.sending.send_all.Goals as goal
+
+pub loop-accepted-init : goal.loop-accepted-init
+loop-accepted-init g c = (
+  working_none sent c.args.queue.now c.args.row (pass.Sender c.args.number) c.args.sender _ _ c.requires.fresh c.requires.named c.stands.ensures.met c.new-kept.ensures,
+  search rules,
+  search rules,
+  sym (ap (λ (w : Walk). w.stand.begun) c.requires.fresh),
+  search rules,
+  sym (ap (λ l. length (receipts_in sent l)) (calls_fresh c.args.queue.now c.args.row c.args.sender c.requires.fresh c.stands.ensures.met)),
+  search rules,
+)
 
 pub loop-accepted-preserved-in-Accepted : goal.loop-accepted-preserved-in-Accepted
 loop-accepted-preserved-in-Accepted g c =
