@@ -146,6 +146,7 @@ known_ones (Some i) q p e = cc e
 record Valued (p : PlanValue) : Type 0 where
   config : config_fault p.config ≡ Ok tt
   limit : p.config.per_sender ≡ 2 ^ 32 - 1
+  groups : p.config.groups ≡ 1
   senders : length p.senders ≡ p.config.senders
   receivers : length p.receivers ≡ p.config.receivers
   calls : All (All IsOfSender) p.senders
@@ -187,6 +188,7 @@ values_lawful d p e =
           (number_within 1 1024 bound_at.0 bound.0 bound_at.1)
           (number_within 1 (2 ^ 48) life_at.0 life.0 life_at.1);
       limit = refl;
+      groups = refl;
       senders = refl;
       receivers = refl;
       calls = each_all (All IsOfSender) calls_of all_of_sender s.0 senders.0 s.2;
@@ -202,6 +204,7 @@ with_passes q p v e =
     subst Lawful known.1 (record {
       config = v.config;
       limit = v.limit;
+      groups = v.groups;
       senders = v.senders;
       receivers = v.receivers;
       calls = v.calls;

@@ -12,12 +12,13 @@ IsOfSender (call.Send body) = ⊤
 IsOfSender call.Close = ⊤
 IsOfSender call.Take = ⊥
 
--- the configuration is lawful, lets each sender send 2^32 - 1 times, and has as many passes as there are lists of calls;
--- the lists are no longer than the limits, and each sender's calls are those of senders; each entry names a pass of the
+-- the configuration is lawful, lets each sender send 2^32 - 1 times, has one group, and as many passes as there are lists of
+-- calls; the lists are no longer than the limits, and each sender's calls are those of senders; each entry names a pass of the
 -- configuration and a number of steps in its range
 pub record Lawful (p : PlanValue) : Type 0 where
   pub config : config_fault p.config ≡ Ok tt
   pub limit : p.config.per_sender ≡ 2 ^ 32 - 1
+  pub groups : p.config.groups ≡ 1
   pub senders : length p.senders ≡ p.config.senders
   pub receivers : length p.receivers ≡ p.config.receivers
   pub calls : All (All IsOfSender) p.senders

@@ -13,7 +13,7 @@ use Rattle.cc_plan.specs.Refusal.{◌>>=◌, Refusal, wrong_shape, unknown_pass,
 use Rattle.cc_plan.specs.Plan.{PlanValue}
 
 abbrev pub config_of : (senders receivers capacity bound life : ℕ) → Config
-config_of senders receivers capacity bound life = record { senders = senders; receivers = receivers; capacity = capacity; bound = bound; life = life; per_sender = 2 ^ 32 - 1 }
+config_of senders receivers capacity bound life = record { senders = senders; receivers = receivers; capacity = capacity; bound = bound; life = life; per_sender = 2 ^ 32 - 1; groups = 1 }
 
 -- the values in their ranges; of several out of range the first in this order is told
 unfoldable pub plan_of_values : Data → Result PlanValue Refusal

@@ -1,6 +1,6 @@
 -- The text of a report.
 use Rattle.std.specs.Prelude.{ℕ, ◌+◌, List, [], ◌∷◌, ◌++◌, codes, Option, Some, None}
-use Rattle.cc_model.specs.Record.{Record}
+use Rattle.cc_model.specs.Record.{Record, of_group}
 use Rattle.cc_model.specs.declared.call.Pass.{Pass}
 use Rattle.cc_model.specs.declared.call.Pass.TheVariants as pass
 use Rattle.cc_model.specs.declared.call.Call.{Call}
@@ -54,6 +54,6 @@ unfoldable pub verdict_text : Verdict → List ℕ
 verdict_text verdict.Clean = codes "audit clean\n"
 verdict_text (verdict.Fault kind place) = word_text (codes "audit fault ") kind ++ word_text (codes " place ") place ++ codes "\n"
 
--- the lines of the senders' calls, those of the receivers' calls, and the verdict
+-- of a history of one group: the lines of the senders' calls, those of the receivers' calls, and the verdict
 unfoldable pub report_text : Record → Verdict → List ℕ
-report_text h v = lines_text (codes "E") 0 h.e_calls h.e_answers ++ lines_text (codes "D") 0 h.d_calls h.d_answers ++ verdict_text v
+report_text h v = lines_text (codes "E") 0 h.sends.calls h.sends.answers ++ lines_text (codes "D") 0 (of_group h 0).calls (of_group h 0).answers ++ verdict_text v

@@ -18,8 +18,8 @@ use std::alloc::Global;
 /// What is to be played.
 #[derive(Drop)]
 pub struct Plan {
-    /// A lawful configuration with as many senders and receivers as the next two lists have elements. Each sender may
-    /// send up to 2^32 - 1 times.
+    /// A lawful configuration of one group, with as many senders and receivers as the next two lists have elements. Each
+    /// sender may send up to 2^32 - 1 times.
     pub config: Config,
     /// The calls of each of the 1 to 64 senders, at most 65,536 sends and closes each, in their order.
     pub senders: Vec<Vec<Call>>,

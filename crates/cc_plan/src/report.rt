@@ -1,5 +1,6 @@
 //! The report of a run.
-ghost use Rattle.std.specs.Prelude.{◌≡◌, ◌<◌, ◌^◌, ◌-◌, false, is_err, slice_get};
+ghost use Rattle.std.specs.Prelude.{◌≡◌, ◌<◌, ◌^◌, ◌-◌, false, is_err, length, slice_get};
+ghost use Rattle.cc_model.specs.Kept.{lists};
 ghost use Rattle.cc_model.specs.Written.{Writes, Pens, desk};
 ghost use Rattle.cc_plan.specs.Report.{pass_text, call_text, item_text, answer_text, line_text, lines_text, verdict_text, report_text};
 
@@ -9,7 +10,7 @@ use cc_model::{
     WriteFault,
 };
 
-/// A history and the verdict on it.
+/// A history of one group of receivers, and the verdict on it.
 #[derive(Clone, Copy)]
 pub struct Report<'a> {
     /// The whole history, calls without an answer too.
@@ -21,10 +22,11 @@ pub struct Report<'a> {
 /// Writes the text of the report, and stops at the first write that fails.
 #[tactic(auto, using(cc_model::proofs::Writing::all_out))]
 pub fn write_report<W: Sink>(sink: &mut W, report: &Report<'_>) -> Result<(), WriteFault>
-    requires { W.write_failures sink.old < 2 ^ 64 - 1 }
+    requires writes { W.write_failures sink.old < 2 ^ 64 - 1 }
+    requires group { length report.now.history.now.takes ≡ 1 }
     ensures { Writes (is_err result) (W.bytes_written sink.old) (W.bytes_written sink.new)
         (W.write_failures sink.old) (W.write_failures sink.new)
-        (report_text report.now.history.now.lists report.now.verdict) }
+        (report_text (lists report.now.history.now) report.now.verdict) }
 {
     let mut pen = Pen::new();
     write_parts(sink, &mut pen, report);
@@ -45,14 +47,16 @@ pub fn write_verdict<W: Sink>(sink: &mut W, verdict: Verdict) -> Result<(), Writ
 
 /// The lines of the senders' calls, those of the receivers' calls, and the line of the verdict.
 fn write_parts<W: Sink>(sink: &mut W, pen: &mut Pen, report: &Report<'_>)
-    requires { pen.old.failed ≡ false → W.write_failures sink.old < 2 ^ 64 - 1 }
+    requires writes { pen.old.failed ≡ false → W.write_failures sink.old < 2 ^ 64 - 1 }
+    requires group { length report.now.history.now.takes ≡ 1 }
     ensures { Pens (desk pen.old (W.bytes_written sink.old) (W.write_failures sink.old))
         (desk pen.new (W.bytes_written sink.new) (W.write_failures sink.new))
-        (report_text report.now.history.now.lists report.now.verdict) }
+        (report_text (lists report.now.history.now) report.now.verdict) }
 {
-    let history = report.history;
-    write_lines(sink, pen, b"E", history.e_calls(), history.e_answers());
-    write_lines(sink, pen, b"D", history.d_calls(), history.d_answers());
+    let senders = report.history.sends();
+    let receivers = report.history.takes(0);
+    write_lines(sink, pen, b"E", senders.calls(), senders.answers());
+    write_lines(sink, pen, b"D", receivers.calls(), receivers.answers());
     write_verdict_line(sink, pen, report.verdict)
 }
 

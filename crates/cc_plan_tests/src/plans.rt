@@ -75,6 +75,7 @@ fn a_plan_is_read(rt: HostRuntime) -> Result<(), Fail> {
         bound: 1024,
         life: 1 << 48,
         per_sender: u32::MAX,
+        groups: 1,
     };
     assert_eq!(rt; config, wanted);
     assert_eq!(rt; senders.len(), 2);

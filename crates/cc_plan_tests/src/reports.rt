@@ -1,5 +1,5 @@
 //! Reports by their bytes.
-ghost use Rattle.std.specs.Prelude.{◌≡◌};
+ghost use Rattle.std.specs.Prelude.{◌≡◌, ◌<◌, length};
 
 use cc_audit::Verdict;
 use cc_model::{
@@ -77,47 +77,48 @@ impl Sink for CutWriter {
 }
 
 /// Adds a call of a sender, and its answer, if it has one.
-fn add_e(
+fn add_send(
     history: &mut History,
     pass: u32,
     call: Call,
     answer: Option<Answer>,
 ) -> Result<(), AllocError> {
-    history.reserve_e(1)?;
-    history.push_e_call(Entry {
+    history.reserve_sends(1)?;
+    history.push_sends_call(Entry {
         pass: Pass::Sender(pass),
         call,
         number: 0,
         known: 0,
     });
-    if let Some(answer) = answer
-        && history.e_answers().len() < history.e_calls().len()
-    {
-        history.push_e_answer(answer);
+    if let Some(answer) = answer {
+        history.push_sends_answer(answer);
     }
     Ok(())
 }
 
-/// Adds a call of a receiver, and its answer, if it has one.
-fn add_d(history: &mut History, pass: u32, answer: Option<TakeAnswer>) -> Result<(), AllocError> {
-    history.reserve_d(1)?;
-    history.push_d_call(Entry {
-        pass: Pass::Receiver(pass),
-        call: Call::Take,
-        number: 0,
-        known: 0,
-    });
-    if let Some(answer) = answer
-        && history.d_answers().len() < history.d_calls().len()
-    {
-        history.push_d_answer(Answer::Take(answer));
+/// Adds a call of a receiver of the first group, and its answer, if it has one.
+fn add_take(history: &mut History, pass: u32, answer: Option<TakeAnswer>) -> Result<(), AllocError>
+    requires { 0 < length history.old.takes }
+    ensures { length history.new.takes ≡ length history.old.takes }
+{
+    history.reserve_takes(0, 1)?;
+    history.push_takes_call(
+        0,
+        Entry {
+            pass: Pass::Receiver(pass),
+            call: Call::Take,
+            number: 0,
+            known: 0,
+        },
+    );
+    if let Some(answer) = answer {
+        history.push_takes_answer(0, Answer::Take(answer));
     }
     Ok(())
 }
 
-/// A history with each kind of answer.
-fn each_kind(alloc: Global) -> Result<History, AllocError> {
-    let mut history = History::new(alloc);
+/// The calls with each kind of a sender's answer, and two that are pending.
+fn add_sends(history: &mut History) -> Result<(), AllocError> {
     let sends = [
         SendAnswer::Accepted { place: 0 },
         SendAnswer::Full,
@@ -128,36 +129,33 @@ fn each_kind(alloc: Global) -> Result<History, AllocError> {
         },
     ];
     for answer in sends {
-        add_e(
-            &mut history,
-            1,
-            Call::Send(u64::MAX),
-            Some(Answer::Send(answer)),
-        )?;
+        add_send(history, 1, Call::Send(u64::MAX), Some(Answer::Send(answer)))?;
     }
     let closes = [
         CloseAnswer::Shut { total: 10 },
         CloseAnswer::Already { total: 9 },
     ];
     for answer in closes {
-        add_e(&mut history, 64, Call::Close, Some(Answer::Close(answer)))?;
+        add_send(history, 64, Call::Close, Some(Answer::Close(answer)))?;
     }
-    add_e(&mut history, 2, Call::Send(0), None)?;
-    add_e(&mut history, 3, Call::Close, None)?;
-    let takes = [
-        TakeAnswer::Got(Item {
-            place: 12,
-            sender: 34,
-            number: 56,
-            body: 78,
-        }),
-        TakeAnswer::Empty,
-        TakeAnswer::Ended { total: 100 },
-    ];
-    for answer in takes {
-        add_d(&mut history, 1, Some(answer))?;
-    }
-    add_d(&mut history, 64, None)?;
+    add_send(history, 2, Call::Send(0), None)?;
+    add_send(history, 3, Call::Close, None)
+}
+
+/// A history with each kind of answer.
+fn each_kind(alloc: Global) -> Result<History, AllocError> {
+    let mut history = History::new(alloc, 1)?;
+    let item = Item {
+        place: 12,
+        sender: 34,
+        number: 56,
+        body: 78,
+    };
+    add_take(&mut history, 1, Some(TakeAnswer::Got(item)))?;
+    add_take(&mut history, 1, Some(TakeAnswer::Empty))?;
+    add_take(&mut history, 1, Some(TakeAnswer::Ended { total: 100 }))?;
+    add_take(&mut history, 64, None)?;
+    add_sends(&mut history)?;
     Ok(history)
 }
 
@@ -180,6 +178,7 @@ D 3 r64 take -> pending
 fn a_report_is_written(rt: HostRuntime) -> Result<(), Fail> {
     let alloc = rt.alloc();
     let history = each_kind(alloc)?;
+    assert_eq!(rt; history.groups(), 1);
     let rows = [
         (Verdict::Clean, "audit clean\n"),
         (
@@ -204,7 +203,8 @@ fn a_report_is_written(rt: HostRuntime) -> Result<(), Fail> {
         let mut sink = CutWriter::new(alloc, usize::MAX, usize::MAX, Full::Fails);
         assert!(rt; write_verdict(&mut sink, verdict).is_ok());
         assert_eq!(rt; sink.taken.as_slice(), line.as_bytes());
-        let nothing = History::new(alloc);
+        let nothing = History::new(alloc, 1)?;
+        assert_eq!(rt; nothing.groups(), 1);
         let mut sink = CutWriter::new(alloc, usize::MAX, 1, Full::Fails);
         let report = Report {
             history: &nothing,
@@ -220,6 +220,7 @@ fn a_report_is_written(rt: HostRuntime) -> Result<(), Fail> {
 fn writes_fail_at_every_byte(rt: HostRuntime) -> Result<(), Fail> {
     let alloc = rt.alloc();
     let history = each_kind(alloc)?;
+    assert_eq!(rt; history.groups(), 1);
     let report = Report {
         history: &history,
         verdict: Verdict::Clean,
@@ -245,15 +246,16 @@ fn writes_fail_at_every_byte(rt: HostRuntime) -> Result<(), Fail> {
 #[test]
 fn long_reports_go_out_in_blocks(rt: HostRuntime) -> Result<(), Fail> {
     let alloc = rt.alloc();
-    let mut history = History::new(alloc);
+    let mut history = History::new(alloc, 1)?;
     for i in 0..10_000 {
-        add_e(
+        add_send(
             &mut history,
             1,
             Call::Send(i),
             Some(Answer::Send(SendAnswer::Full)),
         )?;
     }
+    assert_eq!(rt; history.groups(), 1);
     let mut sink = CutWriter::new(alloc, usize::MAX, usize::MAX, Full::Fails);
     let report = Report {
         history: &history,

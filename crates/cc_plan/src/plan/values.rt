@@ -49,6 +49,7 @@ pub fn values(alloc: Global, tree: &Value) -> Result<Plan, PlanFault>
         bound: bound as u32,
         life,
         per_sender: u32::MAX,
+        groups: 1,
     };
     Ok(Plan {
         config,

@@ -1,3 +1,6 @@
+use Rattle.std.proofs.Math.ListN.{get_or-map}
+use Rattle.cc_model.specs.Record.{silent}
+use Rattle.cc_model.specs.Kept.{KeptSide}
 use Rattle.cc_model.proofs.Writing.{then}
 use Rattle.cc_plan.specs.Report.{report_text}
 use Rattle.cc_plan.proofs.report.write_parts.Goals as goal
@@ -5,4 +8,5 @@ use Rattle.cc_plan.proofs.report.write_parts.Goals as goal
 pub returns : goal.returns
 unfolding report_text
 returns g c =
-    rw (c.e_calls.ensures, c.e_answers.ensures, c.d_calls.ensures, c.d_answers.ensures) at (then (then c.write_lines.ensures c.write_lines-2.ensures) c.write_verdict_line.ensures)
+    rw (get_or-map (λ (s : KeptSide). s.lists) c.args.report.now.history.now.takes 0 record { lists = silent; room = 0 }, ← c.takes-receivers.ensures, ← c.sends-senders.ensures)
+    (rw (c.calls.ensures, c.answers.ensures, c.calls-2.ensures, c.answers-2.ensures) at (then (then c.write_lines.ensures c.write_lines-2.ensures) c.write_verdict_line.ensures))
