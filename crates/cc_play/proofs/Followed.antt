@@ -10,6 +10,7 @@ use Rattle.cc_machine.specs.Run.{reached, passes, IsRun}
 use Rattle.cc_machine.specs.Machine.{index_of, IsOpened}
 use Rattle.cc_machine.specs.View.{View, state_in}
 use Rattle.cc_plan.specs.Plan.{PlanValue}
+use Rattle.cc_plan.specs.PlanLaws.{Lawful}
 use Rattle.cc_play.specs.Schedule.{setting_of, entry, follow, run_of, IsAt}
 
 -- what a slice of a whole list is after a write
@@ -19,6 +20,10 @@ written_back n xs ys same all = grind (arith, common_steps)
 -- the same of where a machine is
 pub back : (plan : PlanValue) (m : View) (n : ℕ) (xs ys : List ℕ) (run : List Move) → length ys ≡ length xs → n ≡ length xs → IsAt plan m ys run → IsAt plan m (take n (ys ++ drop (length ys) xs)) run
 back plan m n xs ys run same all at = rw (written_back n xs ys same all) at
+
+-- the passes of one group
+pub all_passes : (plan : PlanValue) → Lawful plan → plan.config.senders + plan.config.receivers ≡ passes (setting_of plan)
+all_passes plan lawful = rw lawful.groups (omega arith)
 
 -- the opening
 pub opened : (plan : PlanValue) (m : View) (begun : List ℕ) (n : ℕ) → IsOpened served.List plan.config m → begun ≡ replicate n 0 → n ≡ passes (setting_of plan) → IsAt plan m begun []
