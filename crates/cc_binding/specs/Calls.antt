@@ -7,11 +7,12 @@ use Rattle.cc_model.specs.declared.call.CloseAnswer.{CloseAnswer}
 use Rattle.cc_model.specs.declared.call.TakeAnswer.{TakeAnswer}
 use Rattle.cc_steps.specs.Walk.{Walk}
 use Rattle.cc_queue.specs.Calls.{Begun, Waited, Answered}
+use Rattle.cc_queue.specs.Group.{Ranked}
 use Rattle.cc_binding.specs.declared.kept.Pass.{Pass}
 use Rattle.cc_binding.specs.declared.kept.Pass.TheVariants.{Sender, Sending, Closing, Receiver, Taking}
 use Rattle.cc_binding.specs.declared.told.Told.{Told}
 use Rattle.cc_binding.specs.declared.told.Taken.{Taken}
-use Rattle.cc_binding.specs.declared.codes.TheConstants.{NO_PASS, WRONG_SIDE, BUSY, NOT_BEGUN, WORN, BEGUN, WAITING, FRESH}
+use Rattle.cc_binding.specs.declared.codes.TheConstants.{DONE, NO_PASS, WRONG_SIDE, BUSY, NOT_BEGUN, WORN, BEGUN, WAITING, FRESH}
 use Rattle.cc_binding.specs.Told.{only, sent_as, closed_as, none_taken, taken_as}
 
 -- why a pass that is no idle sender doesn't begin a sender's call
@@ -155,3 +156,9 @@ TurnsTake None new told = (new ≡ None) × (told ≡ none_taken NO_PASS)
 -- a begin of a take, and where it was begun a turn of it
 abbrev pub TriesTake : Option Pass → Option Pass → Taken → Type 0
 TriesTake = Tries none_taken BeginsTake TurnsTake
+
+-- the group of a receiver that has no call, from 1; nothing changes
+abbrev pub TellsGroup : Option Pass → Option Pass → ℕ → ℕ → Type 0
+TellsGroup (Some (Receiver w)) new code group = (new ≡ Some (Receiver w)) × (code ≡ DONE) × Ranked w group
+TellsGroup (Some p) new code group = (new ≡ Some p) × (code ≡ no_idle_receiver p) × (group ≡ 0)
+TellsGroup None new code group = (new ≡ None) × (code ≡ NO_PASS) × (group ≡ 0)

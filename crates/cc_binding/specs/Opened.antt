@@ -1,5 +1,5 @@
 -- The opening of a queue, over two rows of handles.
-use Rattle.std.specs.Prelude.{◌≡◌, ℕ, ◌+◌, Bool, ◌&&◌, nat_eq, if◌then◌else◌, List, [], ◌∷◌, length, Option, Some, Ok, Err}
+use Rattle.std.specs.Prelude.{◌≡◌, ℕ, ◌+◌, ◌*◌, Bool, ◌&&◌, nat_eq, if◌then◌else◌, List, [], ◌∷◌, length, Option, Some, Ok, Err}
 use Rattle.std.specs.List.{list_all}
 use Rattle.std.specs.declared.result.Result.{Result}
 use Rattle.cc_model.specs.Config.{config_fault}
@@ -13,12 +13,12 @@ use Rattle.cc_binding.specs.declared.kept.Pass.{Pass}
 use Rattle.cc_binding.specs.declared.kept.Pass.TheVariants.{Sender, Receiver}
 use Rattle.cc_binding.specs.declared.handle.Handle.{Handle}
 use Rattle.cc_binding.specs.declared.opening.Settings.{Settings}
-use Rattle.cc_binding.specs.declared.codes.TheConstants.{DONE, BAD_SENDERS, BAD_RECEIVERS, BAD_CAPACITY, BAD_BOUND, BAD_LIFE, BAD_PER_SENDER, BAD_HANDLES}
+use Rattle.cc_binding.specs.declared.codes.TheConstants.{DONE, BAD_SENDERS, BAD_RECEIVERS, BAD_CAPACITY, BAD_BOUND, BAD_LIFE, BAD_PER_SENDER, BAD_HANDLES, BAD_GROUPS}
 use Rattle.cc_binding.specs.Handles.{pass_of, is_empty}
 
--- the configuration, as C gives it
-abbrev pub config_of : Settings → Config
-config_of s = record { senders = s.senders; receivers = s.receivers; capacity = s.capacity; bound = s.bound; life = s.life; per_sender = s.per_sender }
+-- the configuration, as C gives it, of so many groups
+abbrev pub config_of : Settings → ℕ → Config
+config_of s groups = record { senders = s.senders; receivers = s.receivers; capacity = s.capacity; bound = s.bound; life = s.life; per_sender = s.per_sender; groups = groups }
 
 -- the code of a field that is out of its range
 abbrev pub field_code : ConfigFault → ℕ
@@ -28,6 +28,7 @@ field_code fault.Capacity = BAD_CAPACITY
 field_code fault.Bound = BAD_BOUND
 field_code fault.Life = BAD_LIFE
 field_code fault.PerSender = BAD_PER_SENDER
+field_code fault.Groups = BAD_GROUPS
 
 -- there are so many handles, and each is empty
 abbrev pub are_free : ℕ → List Handle → Bool
@@ -39,14 +40,15 @@ checked_as (Err f) free = field_code f
 checked_as (Ok u) free = if free then DONE else BAD_HANDLES
 
 abbrev pub refusal : Config → List Handle → List Handle → ℕ
-refusal c senders receivers = checked_as (config_fault c) (are_free c.senders senders && are_free c.receivers receivers)
+refusal c senders receivers = checked_as (config_fault c) (are_free c.senders senders && are_free (c.groups * c.receivers) receivers)
 
 -- these hold, one after another, the passes of this queue from p on, each one its own, which has no call and has seen nothing
 abbrev pub HoldFresh : {X : Type 0} → List X → (X → Option Pass) → (Walk → Pass) → Topic → ℕ → Type 0
 HoldFresh [] held side z p = Unit {0}
 HoldFresh (x ∷ xs) held side z p = (held x ≡ Some (side (fresh z p))) × HoldFresh xs held side z (p + 1)
 
--- the handles are those of the senders and of the receivers of one queue with this configuration, in order
+-- the handles are those of the senders and of the receivers of one queue with this configuration, in order, so those of a
+-- group stand together
 pub record HaveOpened (c : Config) (senders receivers : List Handle) : Type 0 where
   pub queue : Topic
   pub setting : queue.setting ≡ record { served = served.List; config = c }

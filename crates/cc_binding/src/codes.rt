@@ -3,7 +3,7 @@
 /// It was done.
 pub const DONE: u32 = 0;
 
-/// The first field of a configuration that is out of its range.
+/// The first field of a configuration that is out of its range; its groups stand at the end.
 pub const BAD_SENDERS: u32 = 1;
 
 pub const BAD_RECEIVERS: u32 = 2;
@@ -66,3 +66,6 @@ pub const GOT: u32 = 23;
 pub const EMPTY: u32 = 24;
 
 pub const ENDED: u32 = 25;
+
+/// The number of groups is out of its range.
+pub const BAD_GROUPS: u32 = 26;

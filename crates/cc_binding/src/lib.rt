@@ -2,15 +2,16 @@
 //!
 //! A handle holds one pass with its own share of the queue, or none. It is lent to each call: the call takes the pass
 //! out of it, makes the call of `cc_queue` with it, and puts it back. No export requires anything: what can be wrong is
-//! tested, and told by a code. No call but the opening takes memory.
+//! tested, and told by a code. No call but the openings takes memory.
 //!
 //! What each call tells is said in `specs/Calls.antt`, and of the opening in `specs/Opened.antt`.
 #![tactic(auto)]
 
 ghost use Rattle.std.specs.Prelude.{◌≡◌, ◌≢◌};
+ghost use Rattle.cc_binding.specs.declared.codes.TheConstants.{BAD_GROUPS};
 ghost use Rattle.cc_binding.specs.Opened.{config_of, refusal, HaveOpened};
 ghost use Rattle.cc_binding.specs.Handles.{pass_of, IsDropped};
-ghost use Rattle.cc_binding.specs.Calls.{BeginsSend, TurnsSend, TriesSend, TellsWorn, BeginsClose, TurnsClose, BeginsTake, TurnsTake, TriesTake};
+ghost use Rattle.cc_binding.specs.Calls.{BeginsSend, TurnsSend, TriesSend, TellsWorn, BeginsClose, TurnsClose, BeginsTake, TurnsTake, TriesTake, TellsGroup};
 
 mod closes;
 mod codes;
@@ -30,7 +31,8 @@ use opening::{Settings, open, refusal};
 use std::alloc::Global;
 use told::{Taken, TakenItem, Told};
 
-/// Opens a queue, and fills a handle for each sender and each receiver.
+/// Opens a queue of one group of receivers, and fills a handle for each sender and each receiver. It never tells
+/// BAD_GROUPS, a code that its callers may not know.
 #[unsafe(no_mangle)]
 pub extern "C" fn vahepito_open(
     alloc: Global,
@@ -38,12 +40,31 @@ pub extern "C" fn vahepito_open(
     senders: &mut [Handle],
     receivers: &mut [Handle],
 ) -> u32
-    ensures refused { refusal (config_of config.now) senders.old receivers.old ≢ DONE → result ≡ refusal (config_of config.now) senders.old receivers.old }
-    ensures memory { refusal (config_of config.now) senders.old receivers.old ≡ DONE → result ≢ DONE → result ≡ NO_MEMORY }
-    ensures opened { result ≡ DONE → HaveOpened (config_of config.now) senders.new receivers.new }
+    ensures refused { refusal (config_of config.now 1) senders.old receivers.old ≢ DONE → result ≡ refusal (config_of config.now 1) senders.old receivers.old }
+    ensures memory { refusal (config_of config.now 1) senders.old receivers.old ≡ DONE → result ≢ DONE → result ≡ NO_MEMORY }
+    ensures opened { result ≡ DONE → HaveOpened (config_of config.now 1) senders.new receivers.new }
+    ensures known { result ≢ BAD_GROUPS }
     ensures same { result ≢ DONE → (senders.new ≡ senders.old) × (receivers.new ≡ receivers.old) }
 {
-    let config = config.config();
+    vahepito_open_groups(alloc, config, 1, senders, receivers)
+}
+
+/// Opens a queue of so many groups of receivers, and fills a handle for each sender and each receiver. The receivers of a
+/// group stand together, the first group first.
+#[unsafe(no_mangle)]
+pub extern "C" fn vahepito_open_groups(
+    alloc: Global,
+    config: &Settings,
+    groups: u32,
+    senders: &mut [Handle],
+    receivers: &mut [Handle],
+) -> u32
+    ensures refused { refusal (config_of config.now groups) senders.old receivers.old ≢ DONE → result ≡ refusal (config_of config.now groups) senders.old receivers.old }
+    ensures memory { refusal (config_of config.now groups) senders.old receivers.old ≡ DONE → result ≢ DONE → result ≡ NO_MEMORY }
+    ensures opened { result ≡ DONE → HaveOpened (config_of config.now groups) senders.new receivers.new }
+    ensures same { result ≢ DONE → (senders.new ≡ senders.old) × (receivers.new ≡ receivers.old) }
+{
+    let config = config.config(groups);
     let why = refusal(&config, senders, receivers);
     if why != DONE {
         return why;
@@ -224,6 +245,23 @@ pub extern "C" fn vahepito_try_take(
     *total = told.total;
     *served = told.served;
     told.code
+}
+
+/// The group of the receiver, from 1.
+#[unsafe(no_mangle)]
+pub extern "C" fn vahepito_group(alloc: Global, receiver: &mut Handle, group: &mut u32) -> u32
+    ensures { TellsGroup (pass_of receiver.old) (pass_of receiver.new) result group.new }
+{
+    let (code, number) = match receiver.take(alloc) {
+        Some(kept) => {
+            let told = kept.group();
+            *receiver = Handle::of(kept);
+            told
+        }
+        None => (NO_PASS, 0),
+    };
+    *group = number;
+    code
 }
 
 /// Lets a pass go, with its call if it had begun one. The last handle of a queue frees it.

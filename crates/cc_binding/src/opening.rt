@@ -1,5 +1,5 @@
 //! The opening of a queue for C.
-ghost use Rattle.std.specs.Prelude.{◌≡◌, length, map, IfOk, IfErr, Some};
+ghost use Rattle.std.specs.Prelude.{◌≡◌, ◌*◌, length, map, IfOk, IfErr, Some};
 ghost use Rattle.cc_queue.specs.Opened.{HasOpened};
 ghost use Rattle.cc_steps.specs.Walk.{IsOf, fresh_from};
 ghost use Rattle.cc_binding.specs.Passes.{walk_of};
@@ -9,8 +9,8 @@ ghost use Rattle.cc_binding.specs.Handles.{pass_of, is_empty};
 ghost use Rattle.cc_binding.specs.Opened.{config_of, field_code, are_free, refusal, HoldFresh, HaveOpened};
 
 use crate::codes::{
-    BAD_BOUND, BAD_CAPACITY, BAD_HANDLES, BAD_LIFE, BAD_PER_SENDER, BAD_RECEIVERS, BAD_SENDERS,
-    DONE,
+    BAD_BOUND, BAD_CAPACITY, BAD_GROUPS, BAD_HANDLES, BAD_LIFE, BAD_PER_SENDER, BAD_RECEIVERS,
+    BAD_SENDERS, DONE,
 };
 use crate::handle::Handle;
 use crate::kept::{Kept, Pass, let_go};
@@ -18,7 +18,8 @@ use cc_model::{Config, ConfigFault};
 use cc_queue::{Opened, Queue, Receiver, Sender};
 use std::alloc::{AllocError, Global};
 
-/// What a queue is opened with, as C gives it.
+/// What a queue is opened with, as C gives it. How many groups of receivers it has is given beside it: the four bytes
+/// behind `per_sender` are padding, which C leaves undefined.
 #[repr(C)]
 #[derive(Clone, Copy)]
 pub struct Settings {
@@ -31,9 +32,9 @@ pub struct Settings {
 }
 
 impl Settings {
-    /// The configuration that it is.
-    pub fn config(&self) -> Config
-        ensures { result ≡ config_of self.now }
+    /// The configuration that it is, of so many groups.
+    pub fn config(&self, groups: u32) -> Config
+        ensures { result ≡ config_of self.now groups }
     {
         Config {
             senders: self.senders,
@@ -42,6 +43,7 @@ impl Settings {
             bound: self.bound,
             life: self.life,
             per_sender: self.per_sender,
+            groups,
         }
     }
 }
@@ -57,6 +59,7 @@ fn field_code(fault: ConfigFault) -> u32
         ConfigFault::Bound => BAD_BOUND,
         ConfigFault::Life => BAD_LIFE,
         ConfigFault::PerSender => BAD_PER_SENDER,
+        ConfigFault::Groups => BAD_GROUPS,
     }
 }
 
@@ -81,7 +84,8 @@ pub fn refusal(config: &Config, senders: &[Handle], receivers: &[Handle]) -> u32
     if let Err(fault) = config.check() {
         return field_code(fault);
     }
-    if are_free(senders, config.senders) && are_free(receivers, config.receivers) {
+    let all_receivers = config.groups * config.receivers;
+    if are_free(senders, config.senders) && are_free(receivers, all_receivers) {
         DONE
     } else {
         BAD_HANDLES
@@ -164,7 +168,7 @@ fn hand_out(
 ) -> Result<(), AllocError>
     requires opened { HasOpened config.now opened }
     requires senders { length senders.old ≡ config.now.senders }
-    requires receivers { length receivers.old ≡ config.now.receivers }
+    requires receivers { length receivers.old ≡ config.now.groups * config.now.receivers }
     ensures opened { IfOk result (λ _. HaveOpened config.now senders.new receivers.new) }
     ensures same { IfErr result (λ _. (senders.new ≡ senders.old) × (receivers.new ≡ receivers.old)) }
 {
@@ -188,7 +192,7 @@ pub fn open(
     receivers: &mut [Handle],
 ) -> Result<(), AllocError>
     requires senders { length senders.old ≡ config.now.senders }
-    requires receivers { length receivers.old ≡ config.now.receivers }
+    requires receivers { length receivers.old ≡ config.now.groups * config.now.receivers }
     ensures opened { IfOk result (λ _. HaveOpened config.now senders.new receivers.new) }
     ensures same { IfErr result (λ _. (senders.new ≡ senders.old) × (receivers.new ≡ receivers.old)) }
 {

@@ -2,9 +2,9 @@
 ghost use Rattle.std.specs.Prelude.{◌≡◌, Some};
 ghost use Rattle.cc_steps.specs.Walk.{IsOf};
 ghost use Rattle.cc_binding.specs.Passes.{walk_of};
-ghost use Rattle.cc_binding.specs.Calls.{BeginsTake, TurnsTake, TriesTake};
+ghost use Rattle.cc_binding.specs.Calls.{BeginsTake, TurnsTake, TriesTake, TellsGroup};
 
-use crate::codes::{BEGUN, NO_PASS, WAITING};
+use crate::codes::{BEGUN, DONE, NO_PASS, WAITING};
 use crate::kept::{Kept, Pass, put};
 use crate::refusals::{no_idle_receiver, no_pending_take};
 use crate::told::Taken;
@@ -89,5 +89,16 @@ impl Kept {
         let (pass, told) = turned(&self.queue, pass);
         put(&mut self.pass, pass);
         told
+    }
+
+    /// The group of the receiver, from 1.
+    pub fn group(&self) -> (u32, u32)
+        ensures { TellsGroup self.now self.now result.0 result.1 }
+    {
+        match &self.pass {
+            Some(Pass::Receiver(receiver)) => (DONE, receiver.group()),
+            Some(other) => (no_idle_receiver(other), 0),
+            None => (NO_PASS, 0),
+        }
     }
 }
