@@ -75,7 +75,8 @@ build_c() {
     make -s -C bindings/c LIB="$VAHEPITO_LIB" HEAP="$VAHEPITO_HEAP" OUT="$room/$1" CFLAGS="-Wall -Wextra -Werror $2"
 }
 run_c() {
-    prints '30000 items' "$room/$1/consume" && prints 'all memory is free' "$room/$1/memory"
+    prints '30000 items' "$room/$1/consume" && prints '1000 items in each of 2 groups' "$room/$1/groups_threads" &&
+        prints 'all memory is free' "$room/$1/memory"
 }
 # Whether the C compiler has these sanitizers, and they run here.
 has_sanitizers() {
@@ -91,6 +92,7 @@ else
     step 'C: run' bash -c 'run_c plain'
     if has valgrind; then
         step 'C: consume under valgrind' "${valgrind[@]}" "$room/plain/consume" 300
+        step 'C: groups_threads under valgrind' "${valgrind[@]}" "$room/plain/groups_threads"
         step 'C: memory under valgrind' "${valgrind[@]}" "$room/plain/memory"
     else
         skip 'C: under valgrind' 'valgrind is not on this machine'
@@ -114,6 +116,7 @@ else
     step 'Rust: tests' cargo "${options[@]}" test
     step 'Rust: the thread pool' bash -c "prints '9592 primes below 100000' cargo ${options[*]} run --example thread_pool"
     step 'Rust: the pipeline' bash -c "prints '77031 takes 350 steps' cargo ${options[*]} run --example pipeline"
+    step 'Rust: the log' bash -c "prints '40000 events in the archive, 4000 alarms' cargo ${options[*]} run --example log"
     host=$(rustc -vV | sed -n 's/^host: //p')
     runner=CARGO_TARGET_$(tr 'a-z-' 'A-Z_' <<<"$host")_RUNNER
     # One test looks at how much memory the process has, which says nothing under another allocator.

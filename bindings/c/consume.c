@@ -4,14 +4,12 @@
  *
  * Each of three publishers sends ITEMS numbers (10,000), each of two consumers takes until the end. It ends with status 0
  * where each item was taken once, each consumer saw each publisher's items in order, and each answer was a lawful one. */
-#include "vahepito.h"
+#include "waiting.h"
 
 #include <pthread.h>
-#include <sched.h>
 #include <stddef.h>
 #include <stdio.h>
 #include <stdlib.h>
-#include <time.h>
 
 /* The layouts that other languages declare. */
 _Static_assert(sizeof(vahepito_pass) == 16 && offsetof(vahepito_pass, live) == 8, "vahepito_pass");
@@ -27,70 +25,9 @@ enum { PUBLISHERS = 3, CONSUMERS = 2 };
 
 static uint64_t items = 10000;
 
-static void check(int holds, const char *what) {
-    if (!holds) {
-        fprintf(stderr, "consume: not so: %s\n", what);
-        exit(1);
-    }
-}
-
-/* Lets some time pass until the next try of a pass that has no call. */
-static void rest(unsigned *tries) {
-    const struct timespec a_tenth_of_a_millisecond = {0, 100000};
-    if (++*tries < 64)
-        sched_yield();
-    else
-        nanosleep(&a_tenth_of_a_millisecond, NULL);
-}
-
-/* Sends, and waits for the answer. Others may wait for this call, so it goes on without a rest. */
-static uint32_t send_one(vahepito_pass *sender, uint64_t body, uint64_t *place) {
-    uint32_t served = 0;
-    uint32_t code = vahepito_try_send(sender, body, place, &served);
-    while (code == VAHEPITO_WAITING) {
-        sched_yield();
-        code = vahepito_turn_send(sender, place, &served);
-    }
-    return code;
-}
-
-/* Takes, and waits for the answer. */
-static uint32_t take_one(vahepito_pass *receiver, vahepito_item *item, uint64_t *total) {
-    uint32_t served = 0;
-    uint32_t code = vahepito_try_take(receiver, item, total, &served);
-    while (code == VAHEPITO_WAITING) {
-        sched_yield();
-        code = vahepito_turn_take(receiver, item, total, &served);
-    }
-    return code;
-}
-
-static uint64_t close_topic(vahepito_pass *sender) {
-    uint64_t total = 0;
-    uint32_t served = 0;
-    check(vahepito_begin_close(sender) == VAHEPITO_BEGUN, "a close is begun");
-    uint32_t code = vahepito_turn_close(sender, &total, &served);
-    while (code == VAHEPITO_WAITING) {
-        sched_yield();
-        code = vahepito_turn_close(sender, &total, &served);
-    }
-    check(code == VAHEPITO_SHUT, "the first close closes");
-    return total;
-}
-
-/* Sends 1, 2, .. up to the number of items. The handle is this thread's from its start to its end. */
-static void *publish(void *handle) {
-    vahepito_pass *sender = handle;
-    uint64_t last = 0;
-    for (uint64_t body = 1; body <= items; body++) {
-        uint64_t place = 0;
-        unsigned tries = 0;
-        uint32_t code;
-        while ((code = send_one(sender, body, &place)) == VAHEPITO_FULL) rest(&tries);
-        check(code == VAHEPITO_ACCEPTED, "a send is accepted in the end");
-        check(body == 1 || place > last, "places rise");
-        last = place;
-    }
+/* The handle is this thread's from its start to its end. */
+static void *publish(void *sender) {
+    send_up_to(sender, items);
     return NULL;
 }
 

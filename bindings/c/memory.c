@@ -44,25 +44,39 @@ static void check(int holds, const char *what) {
     }
 }
 
-enum { SENDERS = 2, RECEIVERS = 3, PASSES = SENDERS + RECEIVERS };
+/* As many receivers in each group. */
+enum { SENDERS = 2, RECEIVERS = 3, MOST_GROUPS = 2, MOST_PASSES = SENDERS + MOST_GROUPS * RECEIVERS };
+
+/* One receiver of each group takes, and is told this; an item has this body. */
+static void take_in_each(uint32_t groups, vahepito_pass *receivers, int k, uint32_t code, uint64_t body, uint64_t total) {
+    for (uint32_t g = 0; g < groups; g++) {
+        uint64_t number = 0;
+        uint32_t served = 0;
+        vahepito_item item = {0};
+        check(vahepito_begin_take(&receivers[g * RECEIVERS + k]) == VAHEPITO_BEGUN, "begun");
+        check(vahepito_turn_take(&receivers[g * RECEIVERS + k], &item, &number, &served) == code, "the group's take is told so");
+        check(item.body == body && number == total && served == 1, "and what it got");
+    }
+}
 
 /* Every call of an open queue, with each answer. */
-static void call_all(vahepito_pass *senders, vahepito_pass *receivers) {
+static void call_all(uint32_t groups, vahepito_pass *senders, vahepito_pass *receivers) {
     uint64_t number = 0;
-    uint32_t served = 0;
+    uint32_t served = 0, group = 0;
     vahepito_item item = {0};
     for (int k = 0; k < SENDERS; k++) check(vahepito_is_worn(&senders[k]) == VAHEPITO_FRESH, "fresh");
-    check(vahepito_try_take(&receivers[0], &item, &number, &served) == VAHEPITO_EMPTY, "empty");
+    for (uint32_t k = 0; k < groups * RECEIVERS; k++)
+        check(vahepito_group(&receivers[k], &group) == VAHEPITO_DONE && group == k / RECEIVERS + 1, "group by group");
+    take_in_each(groups, receivers, 0, VAHEPITO_EMPTY, 0, 0);
     check(vahepito_try_send(&senders[0], 7, &number, &served) == VAHEPITO_ACCEPTED && number == 0, "accepted");
     check(vahepito_begin_send(&senders[0], 8) == VAHEPITO_BEGUN, "begun");
     check(vahepito_begin_send(&senders[1], 9) == VAHEPITO_BEGUN, "begun");
     check(vahepito_turn_send(&senders[1], &number, &served) == VAHEPITO_WAITING, "waiting");
     check(vahepito_turn_send(&senders[0], &number, &served) == VAHEPITO_ACCEPTED && served == 2, "accepted");
     check(vahepito_turn_send(&senders[1], &number, &served) == VAHEPITO_FULL && served == 0, "full");
-    check(vahepito_begin_take(&receivers[1]) == VAHEPITO_BEGUN, "begun");
-    check(vahepito_turn_take(&receivers[1], &item, &number, &served) == VAHEPITO_GOT && item.body == 7, "got");
+    take_in_each(groups, receivers, 1, VAHEPITO_GOT, 7, 0);
     check(vahepito_try_send(&senders[0], 10, &number, &served) == VAHEPITO_ACCEPTED && number == 2, "accepted");
-    check(vahepito_try_take(&receivers[2], &item, &number, &served) == VAHEPITO_GOT && item.body == 8, "got");
+    take_in_each(groups, receivers, 2, VAHEPITO_GOT, 8, 0);
     check(vahepito_try_send(&senders[1], 11, &number, &served) == VAHEPITO_SPENT, "spent");
     check(vahepito_is_worn(&senders[0]) == VAHEPITO_WORN, "worn");
     check(vahepito_try_send(&senders[0], 12, &number, &served) == VAHEPITO_WORN, "worn");
@@ -73,37 +87,51 @@ static void call_all(vahepito_pass *senders, vahepito_pass *receivers) {
     check(vahepito_try_send(&senders[1], 13, &number, &served) == VAHEPITO_CLOSED, "closed");
     check(vahepito_try_take(&receivers[0], &item, &number, &served) == VAHEPITO_GOT && item.body == 10, "got");
     check(vahepito_try_take(&receivers[0], &item, &number, &served) == VAHEPITO_ENDED && number == 3, "ended");
+    take_in_each(groups - 1, receivers + RECEIVERS, 0, VAHEPITO_GOT, 10, 0);
+    take_in_each(groups, receivers, 1, VAHEPITO_ENDED, 0, 3);
 }
 
-int main(void) {
+/* Opens a queue of so many groups: the first by vahepito_open, which has one. */
+static uint32_t open_queue(uint32_t groups, vahepito_pass *senders, vahepito_pass *receivers) {
     /* of the life and of each sender's sends as many as call_all wants, so that both end in it */
     const vahepito_config config = {SENDERS, RECEIVERS, 2, 8, 3, 3};
-    vahepito_pass passes[PASSES] = {0};
+    if (groups == 1) return vahepito_open(&config, senders, SENDERS, receivers, RECEIVERS);
+    return vahepito_open_groups(&config, groups, senders, SENDERS, receivers, groups * RECEIVERS);
+}
+
+/* A queue of so many groups, from its opening to the drop of its last handle. */
+static void use_queue(uint32_t groups) {
+    const uint32_t count = SENDERS + groups * RECEIVERS;
+    vahepito_pass passes[MOST_PASSES] = {0};
     vahepito_pass *senders = passes, *receivers = passes + SENDERS;
     uint32_t code;
     for (refused = 1;; refused++) {
         asked = 0;
-        code = vahepito_open(&config, senders, SENDERS, receivers, RECEIVERS);
+        code = open_queue(groups, senders, receivers);
         if (asked < refused) break;
         check(code == VAHEPITO_NO_MEMORY, "want of memory is told");
         check(blocks == 0, "nothing is kept");
-        for (int k = 0; k < PASSES; k++) check(!passes[k].live, "the handles are empty");
+        for (uint32_t k = 0; k < count; k++) check(!passes[k].live, "the handles are empty");
     }
     const long opening = asked, kept = blocks;
     check(code == VAHEPITO_DONE && kept > 0, "the queue is opened where nothing is refused");
 
-    call_all(senders, receivers);
+    call_all(groups, senders, receivers);
     check(vahepito_begin_send(&senders[1], 14) == VAHEPITO_WORN, "worn");
     check(vahepito_begin_take(&receivers[2]) == VAHEPITO_BEGUN, "begun");
     check(asked == opening && blocks == kept, "no call takes memory or frees any");
 
     /* One of them has a call that was begun. */
-    for (int k = 0; k < PASSES; k++) {
+    for (uint32_t k = 0; k < count; k++) {
         check(blocks > 0, "the queue is there as long as a handle is");
         check(vahepito_drop(&passes[k]) == VAHEPITO_DONE && !passes[k].live, "a pass is let go");
     }
     check(asked == opening, "no drop takes memory");
     check(blocks == 0, "the last handle frees the queue");
+}
+
+int main(void) {
+    for (uint32_t groups = 1; groups <= MOST_GROUPS; groups++) use_queue(groups);
     printf("%s\n", "all memory is free");
     return 0;
 }

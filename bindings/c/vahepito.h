@@ -5,16 +5,27 @@
  * A pass is one sender or one receiver of one queue, and C holds it by a handle. Passes are not copied and not shared
  * by two threads at once: a queue has as many as its configuration says, all given by its opening.
  *
+ * Receivers stand in groups. A group gets every item once, by one of its receivers; and every group gets every item, from
+ * the first one on, at its own pace. A queue of vahepito_open has one group, one of vahepito_open_groups up to 8:
+ *
+ *                                               group 1
+ *                                        .-->  r1  r2  r3     each item to one of these three,
+ *     s1  s2  ..  -->  item item item  --|
+ *                                        '-->  r4  r5  r6     and to one of these three
+ *                                               group 2
+ *
+ * An item takes up room until each group has taken it.
+ *
  * A call (a send, a close or a take) is begun, and then asked for its answer in turns. No call waits: where its answer is
  * not there yet a turn says so, and the caller decides how to pass the time (sched_yield, a back-off) before the next
  * turn. The turn that finds its pass first in line serves other passes' calls too, at most `bound` of them. So a call
  * that was begun is to be turned to its end: where it is left, or its handle dropped, no pass of its side (the
- * senders, or the receivers) may get an answer any more.
+ * senders, or the receivers of its group) may get an answer any more.
  *
- * No call but vahepito_open takes memory.
+ * No call but the two openings takes memory.
  *
  * What the caller owes, and nothing checks:
- * - A handle begins as {0} and is filled by vahepito_open alone. Its bytes are neither changed nor copied to a second
+ * - A handle begins as {0} and is filled by an opening alone. Its bytes are neither changed nor copied to a second
  *   handle that is used; a handle may be moved to another place, and the old place is then not used.
  * - A handle is given to one call at a time. It may go to another thread: by a mutex, a thread's start or join, or a
  *   sequentially consistent atomic. Different handles may be used by different threads at once, of one queue or of many.
@@ -36,10 +47,10 @@
 extern "C" {
 #endif
 
-/* What a queue is opened with. */
+/* What a queue is opened with. The bytes behind per_sender are not read. */
 typedef struct {
     uint32_t senders;    /* 1 to 64 */
-    uint32_t receivers;  /* 1 to 64 */
+    uint32_t receivers;  /* 1 to 64: how many there are in each group */
     uint32_t capacity;   /* 1 to 4096: how many items the queue holds at once */
     uint32_t bound;      /* 1 to 1024: how many calls one turn serves at most */
     uint64_t life;       /* 1 to 2^48: how many items it accepts in all */
@@ -65,16 +76,16 @@ enum {
     /* it was done */
     VAHEPITO_DONE = 0,
 
-    /* vahepito_open: the first field of the configuration that is out of its range */
+    /* an opening: the first field of the configuration that is out of its range */
     VAHEPITO_BAD_SENDERS = 1,
     VAHEPITO_BAD_RECEIVERS = 2,
     VAHEPITO_BAD_CAPACITY = 3,
     VAHEPITO_BAD_BOUND = 4,
     VAHEPITO_BAD_LIFE = 5,
     VAHEPITO_BAD_PER_SENDER = 6,
-    /* vahepito_open: memory was refused */
+    /* an opening: memory was refused */
     VAHEPITO_NO_MEMORY = 7,
-    /* vahepito_open: not one handle for each pass, or one that is not empty */
+    /* an opening: not one handle for each pass, or one that is not empty */
     VAHEPITO_BAD_HANDLES = 8,
 
     /* the call could not be made, and nothing has changed */
@@ -91,7 +102,7 @@ enum {
 
     /* the answer of a send */
     VAHEPITO_ACCEPTED = 17, /* the item is the place-th that was accepted, from 0 */
-    VAHEPITO_FULL = 18,     /* not accepted: `capacity` items were not known to be taken */
+    VAHEPITO_FULL = 18,     /* not accepted: `capacity` items were not known to be taken by every group */
     VAHEPITO_CLOSED = 19,   /* not accepted: the queue was closed */
     VAHEPITO_SPENT = 20,    /* not accepted: the queue has accepted `life` items */
 
@@ -101,16 +112,30 @@ enum {
 
     /* the answer of a take */
     VAHEPITO_GOT = 23,   /* an item */
-    VAHEPITO_EMPTY = 24, /* there was none */
-    VAHEPITO_ENDED = 25  /* the queue is closed and all of its `total` items were taken */
+    VAHEPITO_EMPTY = 24, /* there was none for its group */
+    VAHEPITO_ENDED = 25, /* the queue is closed and its group has taken all of the `total` items */
+
+    /* vahepito_open_groups: the number of groups is not from 1 to 8 */
+    VAHEPITO_BAD_GROUPS = 26
 };
 
-/* Opens a queue and fills the handles: senders[k] becomes sender k + 1, receivers[k] receiver k + 1. The handles are the
+/* Opens a queue of one group and fills the handles: senders[k] becomes sender k + 1, receivers[k] receiver k + 1. The handles are the
  * caller's, all of them empty before; the queue behind them is theirs together, and the last one that is dropped frees
  * it. Any thread may call.
  * DONE; BAD_SENDERS to BAD_PER_SENDER, then BAD_HANDLES, then NO_MEMORY: no handle was changed. */
 uint32_t vahepito_open(const vahepito_config *config, vahepito_pass *senders, size_t sender_count,
                        vahepito_pass *receivers, size_t receiver_count);
+
+/* Opens a queue of so many groups, 1 to 8, with config->receivers receivers in each, and fills the handles: senders[k]
+ * becomes sender k + 1, receivers[k] receiver k + 1, which is of group k / config->receivers + 1. So there are
+ * groups * config->receivers handles of receivers. All else is as of vahepito_open, which is this call with one group.
+ * DONE; BAD_SENDERS to BAD_PER_SENDER, then BAD_GROUPS, then BAD_HANDLES, then NO_MEMORY: no handle was changed. */
+uint32_t vahepito_open_groups(const vahepito_config *config, uint32_t groups, vahepito_pass *senders, size_t sender_count,
+                              vahepito_pass *receivers, size_t receiver_count);
+
+/* The group of a receiver, from 1. The thread that holds the handle calls.
+ * DONE with the group. NO_PASS, WRONG_SIDE, BUSY as everywhere. Nothing changes. */
+uint32_t vahepito_group(vahepito_pass *receiver, uint32_t *group);
 
 /* Begins a send of this body. The thread that holds the handle calls.
  * BEGUN: turn it. NO_PASS, WRONG_SIDE, BUSY, WORN: nothing has changed. */

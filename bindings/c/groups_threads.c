@@ -1,0 +1,149 @@
+/* Two groups of receivers in C: each group gets every item once.
+ *
+ * One thread sends 1,000 numbers into a queue with room for four, and two threads for each group take until the end. It
+ * ends with status 0 where each group got each item once and each receiver's items came in order; and where the opening
+ * and vahepito_group told what they have to. */
+#include "waiting.h"
+
+#include <pthread.h>
+#include <stdio.h>
+#include <string.h>
+
+enum { GROUPS = 2, IN_EACH = 2, RECEIVERS = GROUPS * IN_EACH, CAPACITY = 4, ITEMS = 1000 };
+
+static const vahepito_config config = {1, IN_EACH, CAPACITY, 8, (uint64_t)1 << 48, UINT32_MAX};
+
+/* What is refused, and which of it first. No handle is changed by that. */
+static void refusals(void) {
+    vahepito_pass sender = {0}, receivers[RECEIVERS] = {0};
+    vahepito_config no_sends = config;
+    no_sends.per_sender = 0;
+    check(vahepito_open_groups(&no_sends, 0, &sender, 1, receivers, 0) == VAHEPITO_BAD_PER_SENDER, "groups are looked at last");
+    const uint32_t refused[] = {0, 9, UINT32_MAX};
+    for (int k = 0; k < 3; k++)
+        check(vahepito_open_groups(&config, refused[k], &sender, 1, receivers, 0) == VAHEPITO_BAD_GROUPS, "1 to 8, and then handles");
+    check(vahepito_open_groups(&config, GROUPS, &sender, 1, receivers, IN_EACH) == VAHEPITO_BAD_HANDLES, "one for each receiver");
+    check(vahepito_open_groups(&config, 1, &sender, 1, receivers, RECEIVERS) == VAHEPITO_BAD_HANDLES, "and no more");
+    check(vahepito_open(&config, &sender, 1, receivers, RECEIVERS) == VAHEPITO_BAD_HANDLES, "it opens one group");
+    for (int k = 0; k < RECEIVERS; k++) check(!sender.live && !receivers[k].live, "no handle was changed");
+}
+
+static uint32_t group_of(vahepito_pass *receiver) {
+    uint32_t group = 99;
+    check(vahepito_group(receiver, &group) == VAHEPITO_DONE, "a group is told");
+    return group;
+}
+
+/* vahepito_open opens one group, whatever the padding of the configuration holds. */
+static void one_group(void) {
+    vahepito_pass sender = {0}, receivers[IN_EACH] = {0};
+    vahepito_config same;
+    memset(&same, 0xff, sizeof same);
+    same.senders = config.senders;
+    same.receivers = config.receivers;
+    same.capacity = config.capacity;
+    same.bound = config.bound;
+    same.life = config.life;
+    same.per_sender = config.per_sender;
+    check(vahepito_open(&same, &sender, 1, receivers, IN_EACH) == VAHEPITO_DONE, "the topic is opened");
+    for (int k = 0; k < IN_EACH; k++) check(group_of(&receivers[k]) == 1, "all receivers are of one group");
+    vahepito_item item = {0};
+    uint64_t number = 0;
+    check(send_one(&sender, 5, &number) == VAHEPITO_ACCEPTED && number == 0, "a send is accepted");
+    check(take_one(&receivers[0], &item, &number) == VAHEPITO_GOT && item.body == 5, "one of them takes the item");
+    check(take_one(&receivers[1], &item, &number) == VAHEPITO_EMPTY, "and no other");
+    check(vahepito_drop(&sender) == VAHEPITO_DONE, "the sender is let go");
+    for (int k = 0; k < IN_EACH; k++) check(vahepito_drop(&receivers[k]) == VAHEPITO_DONE, "a receiver is let go");
+}
+
+/* Whose group is told, and whose not: the number is 0 then. */
+static void told_groups(vahepito_pass *sender, vahepito_pass *receivers) {
+    vahepito_pass empty = {0};
+    vahepito_item item = {0};
+    uint64_t total = 0;
+    uint32_t group = 99, served = 0;
+    const uint32_t groups[RECEIVERS] = {1, 1, 2, 2};
+    for (int k = 0; k < RECEIVERS; k++) check(group_of(&receivers[k]) == groups[k], "receivers stand group by group");
+    check(vahepito_group(&empty, &group) == VAHEPITO_NO_PASS && group == 0, "an empty handle has no pass");
+    group = 99;
+    check(vahepito_group(sender, &group) == VAHEPITO_WRONG_SIDE && group == 0, "a sender has no group");
+    group = 99;
+    check(vahepito_begin_take(&receivers[3]) == VAHEPITO_BEGUN, "a take is begun");
+    check(vahepito_group(&receivers[3], &group) == VAHEPITO_BUSY && group == 0, "a receiver with a call is busy");
+    check(vahepito_turn_take(&receivers[3], &item, &total, &served) == VAHEPITO_EMPTY && served == 1, "there is no item");
+    check(group_of(&receivers[3]) == 2, "and then it isn't");
+}
+
+static void *send_all(void *sender) {
+    send_up_to(sender, ITEMS);
+    return NULL;
+}
+
+struct reader {
+    vahepito_pass *receiver;
+    uint64_t got, total;
+    vahepito_item items[ITEMS];
+};
+
+/* Takes until the end. */
+static void *take_all(void *at) {
+    struct reader *mine = at;
+    unsigned tries = 0;
+    for (;;) {
+        vahepito_item item = {0};
+        uint32_t code = take_one(mine->receiver, &item, &mine->total);
+        if (code == VAHEPITO_ENDED) return NULL;
+        if (code == VAHEPITO_EMPTY) {
+            rest(&tries);
+            continue;
+        }
+        check(code == VAHEPITO_GOT, "a take gets an item, or is told that there is none");
+        check(mine->got < ITEMS, "there are no more items");
+        mine->items[mine->got++] = item;
+        tries = 0;
+    }
+}
+
+/* What the receivers of one group got: each item once, as it was sent, each receiver's in order. */
+static void audit(const struct reader *group) {
+    uint32_t numbers[ITEMS] = {0};
+    for (int k = 0; k < IN_EACH; k++) {
+        for (uint64_t n = 0; n < group[k].got; n++) {
+            const vahepito_item item = group[k].items[n];
+            check(n == 0 || item.place > group[k].items[n - 1].place, "a receiver's items come in order");
+            check(item.place < ITEMS && numbers[item.place] == 0, "a group gets no item twice");
+            check(item.sender == 1 && item.number > 0 && item.body == item.place + 1, "it gets an item as it was sent");
+            numbers[item.place] = item.number;
+        }
+        check(group[k].total == ITEMS, "the end tells the total");
+    }
+    for (int n = 0; n < ITEMS; n++) {
+        check(numbers[n] > 0, "a group gets every item");
+        check(n == 0 || numbers[n] > numbers[n - 1], "the sender's sends come in their order");
+    }
+}
+
+int main(void) {
+    refusals();
+    one_group();
+    vahepito_pass sender = {0}, receivers[RECEIVERS] = {0};
+    check(vahepito_open_groups(&config, GROUPS, &sender, 1, receivers, RECEIVERS) == VAHEPITO_DONE, "the topic is opened");
+    told_groups(&sender, receivers);
+
+    static struct reader readers[RECEIVERS];
+    pthread_t sending, taking[RECEIVERS];
+    for (int k = 0; k < RECEIVERS; k++) {
+        readers[k].receiver = &receivers[k];
+        check(!pthread_create(&taking[k], NULL, take_all, &readers[k]), "a thread starts");
+    }
+    check(!pthread_create(&sending, NULL, send_all, &sender), "a thread starts");
+    check(!pthread_join(sending, NULL), "a thread ends");
+    check(close_topic(&sender) == ITEMS, "all sends were accepted");
+    for (int k = 0; k < RECEIVERS; k++) check(!pthread_join(taking[k], NULL), "a thread ends");
+    for (int g = 0; g < GROUPS; g++) audit(&readers[g * IN_EACH]);
+
+    check(vahepito_drop(&sender) == VAHEPITO_DONE, "the sender is let go");
+    for (int k = 0; k < RECEIVERS; k++) check(vahepito_drop(&receivers[k]) == VAHEPITO_DONE, "a receiver is let go");
+    printf("%d items in each of %d groups\n", ITEMS, GROUPS);
+    return 0;
+}
