@@ -2,7 +2,7 @@
 use crate::handle::{self, Handle, code, unexpected};
 use crate::{OpenError, Receiver, Sender};
 use std::sync::Arc;
-use std::sync::atomic::AtomicUsize;
+use std::sync::atomic::{AtomicUsize, Ordering};
 
 /// What a queue is opened with.
 ///
@@ -17,7 +17,7 @@ use std::sync::atomic::AtomicUsize;
 pub struct Config {
     /// How many senders, 1 to 64.
     pub senders: u32,
-    /// How many receivers, 1 to 64.
+    /// How many receivers, 1 to 64; where there are several groups of them, how many in each.
     pub receivers: u32,
     /// How many items the queue holds at once, 1 to 4,096.
     pub capacity: u32,
@@ -45,16 +45,29 @@ impl Config {
     }
 }
 
-/// How many senders and receivers are left.
+/// How many senders are left, and how many receivers of each group.
 #[derive(Debug)]
 pub(crate) struct Left {
     pub senders: AtomicUsize,
-    pub receivers: AtomicUsize,
+    pub receivers: Box<[AtomicUsize]>,
 }
 
-fn empty_handles(count: u32) -> Vec<Handle> {
-    // A number that is refused below takes no memory.
-    let count = if count <= 64 { count } else { 0 };
+impl Left {
+    /// Whether no receiver is left of some group.
+    pub fn has_lost_a_group(&self) -> bool {
+        let gone = |left: &AtomicUsize| left.load(Ordering::Acquire) == 0;
+        self.receivers.iter().any(gone)
+    }
+}
+
+/// Handles for so many groups of so many passes.
+fn empty_handles(groups: u32, in_each: u32) -> Vec<Handle> {
+    // Numbers that are refused below take no memory.
+    let count = if groups <= 8 && in_each <= 64 {
+        groups * in_each
+    } else {
+        0
+    };
     (0..count).map(|_| Handle::empty()).collect()
 }
 
@@ -67,6 +80,7 @@ fn told(code: u32) -> Result<(), OpenError> {
         code::BAD_BOUND => Err(OpenError::Bound),
         code::BAD_LIFE => Err(OpenError::Life),
         code::BAD_PER_SENDER => Err(OpenError::PerSender),
+        code::BAD_GROUPS => Err(OpenError::Groups),
         code::NO_MEMORY => Err(OpenError::NoMemory),
         code => unexpected(code),
     }
@@ -77,35 +91,92 @@ fn told(code: u32) -> Result<(), OpenError> {
 /// There are no others: a sender isn't cloned. The queue lives until the last of them is dropped.
 /// All its memory is taken here, and by no later call.
 ///
+/// The receivers are one group: each item goes to one of them. See [`open_groups`] for several.
+///
 /// # Errors
 ///
 /// The first field of the configuration that is out of its range; else want of memory for the
-/// queue. (Where std has no memory for the two `Vec`s, it ends the process, as always.)
+/// queue. (Where std has no memory for the `Vec`s, it ends the process, as always.)
 pub fn open(config: Config) -> Result<(Vec<Sender>, Vec<Receiver>), OpenError> {
-    let mut senders = empty_handles(config.senders);
-    let mut receivers = empty_handles(config.receivers);
-    told(handle::open(&config, &mut senders, &mut receivers))?;
+    let (senders, groups) = open_groups(config, 1)?;
+    Ok((senders, groups.into_iter().flatten().collect()))
+}
+
+/// Opens a queue whose receivers stand in groups, and gives its senders, and its receivers by their
+/// groups.
+///
+/// A group gets every item once: each item goes to one of its receivers. And every group gets every
+/// item, from the first one on, at its own pace.
+///
+/// ```text
+///                                            group 1
+///                                     .-->  r1  r2  r3     each item to one of these three,
+///  s1  s2  ..  -->  item item item  --|
+///                                     '-->  r4  r5  r6     and to one of these three
+///                                            group 2
+/// ```
+///
+/// There are 1 to 8 groups, with `config.receivers` receivers in each. Receivers are numbered
+/// through, group by group.
+///
+/// An item takes up room until each group has taken it. So the slowest group sets the pace: where it
+/// falls `capacity` items behind, the senders are told `Full`, until it goes on.
+///
+/// ```
+/// use std::thread;
+/// use vahepito::{Config, open_groups};
+///
+/// // Three threads write a log, how severe each event is. Two services read all of it.
+/// let (writers, mut services) = open_groups(Config::new(3, 1, 16), 2)?;
+/// let (archive, alarm) = (services.remove(0), services.remove(0));
+/// let (stored, severe) = thread::scope(|scope| {
+///     for mut writer in writers {
+///         scope.spawn(move || (0..100).try_for_each(|severity| writer.send(severity).map(drop)));
+///     } // the last writer that is dropped closes the log
+///     let stored = scope.spawn(|| archive.into_iter().flatten().count());
+///     let alarms = alarm.into_iter().flatten();
+///     let severe = alarms.filter(|event| event.body >= 90).count();
+///     (stored.join().unwrap(), severe)
+/// });
+/// assert_eq!((stored, severe), (300, 30));
+/// # Ok::<(), vahepito::OpenError>(())
+/// ```
+///
+/// # Errors
+///
+/// As of [`open`]: the first field of the configuration that is out of its range; then the number of
+/// groups, where it isn't from 1 to 8; else want of memory.
+pub fn open_groups(
+    config: Config,
+    groups: u32,
+) -> Result<(Vec<Sender>, Vec<Vec<Receiver>>), OpenError> {
+    let mut senders = empty_handles(1, config.senders);
+    let mut receivers = empty_handles(groups, config.receivers);
+    told(handle::open(&config, groups, &mut senders, &mut receivers))?;
+    let in_each = config.receivers as usize;
     let left = Arc::new(Left {
         senders: AtomicUsize::new(senders.len()),
-        receivers: AtomicUsize::new(receivers.len()),
+        receivers: (0..groups).map(|_| AtomicUsize::new(in_each)).collect(),
     });
     let senders = (1..)
         .zip(senders)
         .map(|(number, handle)| Sender::new(handle, number, &left))
         .collect();
-    let receivers = (1..)
+    let mut receivers = (1..)
         .zip(receivers)
-        .map(|(number, handle)| Receiver::new(handle, number, &left))
+        .map(|(number, handle)| Receiver::new(handle, number, &left));
+    let groups = (0..groups)
+        .map(|_| receivers.by_ref().take(in_each).collect())
         .collect();
-    Ok((senders, receivers))
+    Ok((senders, groups))
 }
 
 #[cfg(test)]
 mod tests {
     use super::*;
 
-    /// The other codes of an opening are shown by `tests/answers.rs`, this one's cause by
-    /// `bindings/c/memory.c`.
+    /// The other codes of an opening are shown by `tests/answers.rs` and `groups.rs`, this one's
+    /// cause by `bindings/c/memory.c`.
     #[test]
     fn want_of_memory_is_told() {
         assert_eq!(told(code::NO_MEMORY), Err(OpenError::NoMemory));

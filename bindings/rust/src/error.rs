@@ -2,8 +2,8 @@
 use std::error::Error;
 use std::fmt::{Display, Formatter, Result};
 
-/// Why a queue wasn't opened: the first field of its configuration that is out of its range, or
-/// want of memory.
+/// Why a queue wasn't opened: the first field of its configuration that is out of its range, its
+/// number of groups, or want of memory.
 #[derive(Clone, Copy, Debug, PartialEq, Eq, Hash)]
 #[non_exhaustive]
 pub enum OpenError {
@@ -19,6 +19,8 @@ pub enum OpenError {
     Life,
     /// `per_sender` is 0.
     PerSender,
+    /// The number of groups isn't from 1 to 8.
+    Groups,
     /// Memory was refused.
     NoMemory,
 }
@@ -26,7 +28,7 @@ pub enum OpenError {
 /// Why [`try_send`](crate::Sender::try_send) didn't send. Each but `Worn` is the queue's answer.
 #[derive(Clone, Copy, Debug, PartialEq, Eq, Hash)]
 pub enum TrySendError {
-    /// As far as the sender knew, `capacity` items weren't taken yet.
+    /// As far as the sender knew, there were `capacity` items that some group hadn't taken yet.
     Full,
     /// The queue was closed before.
     Closed,
@@ -45,7 +47,7 @@ pub enum SendError {
     Spent,
     /// The sender has begun all the sends that it may. The queue wasn't asked.
     Worn,
-    /// As far as the sender knew, the queue is full, and no receiver is left that could take from it.
+    /// As far as the sender knew, the queue is full, and no receiver is left of some group.
     /// This is no answer of the queue.
     Disconnected,
 }
@@ -53,17 +55,17 @@ pub enum SendError {
 /// Why [`try_recv`](crate::Receiver::try_recv) gave no item. Each is the queue's answer.
 #[derive(Clone, Copy, Debug, PartialEq, Eq, Hash)]
 pub enum TryRecvError {
-    /// As far as the receiver knew, all items that were accepted had been taken.
+    /// As far as the receiver knew, its group had taken all items that were accepted.
     Empty,
-    /// The queue is closed, and all its items were taken.
+    /// The queue is closed, and the receiver's group has taken all its items.
     Ended {
         /// How many items were accepted in all.
         total: u64,
     },
 }
 
-/// The end: [`recv`](crate::Receiver::recv) gives no more items, since the queue is closed and all
-/// its items were taken.
+/// The end: [`recv`](crate::Receiver::recv) gives no more items, since the queue is closed and the
+/// receiver's group has taken all its items.
 #[derive(Clone, Copy, Debug, PartialEq, Eq, Hash)]
 pub struct RecvError {
     /// How many items were accepted in all.
@@ -106,6 +108,7 @@ impl Display for OpenError {
             OpenError::Bound => "the bound isn't from 1 to 1024",
             OpenError::Life => "the life isn't from 1 to 2^48",
             OpenError::PerSender => "the number of sends of a sender is 0",
+            OpenError::Groups => "the number of groups isn't from 1 to 8",
             OpenError::NoMemory => "there is no memory for the queue",
         })
     }
@@ -128,7 +131,7 @@ impl Display for SendError {
             SendError::Closed => CLOSED,
             SendError::Spent => SPENT,
             SendError::Worn => WORN,
-            SendError::Disconnected => "the queue is full and no receiver is left",
+            SendError::Disconnected => "the queue is full and a group of receivers is gone",
         })
     }
 }

@@ -31,6 +31,7 @@ pub mod code {
     pub const GOT: u32 = 23;
     pub const EMPTY: u32 = 24;
     pub const ENDED: u32 = 25;
+    pub const BAD_GROUPS: u32 = 26;
 }
 
 /// A code that the call doesn't tell.
@@ -60,8 +61,9 @@ const _: () = {
 };
 
 unsafe extern "C" {
-    fn vahepito_open(
+    fn vahepito_open_groups(
         config: &Config,
+        groups: u32,
         senders: *mut Handle,
         sender_count: usize,
         receivers: *mut Handle,
@@ -86,6 +88,7 @@ unsafe extern "C" {
         total: &mut u64,
         served: &mut u32,
     ) -> u32;
+    fn vahepito_group(receiver: &mut Pass, group: &mut u32) -> u32;
     fn vahepito_drop(pass: &mut Pass) -> u32;
 }
 
@@ -151,8 +154,8 @@ pub struct Handle(Pass);
 // orders what was done on either.
 unsafe impl Send for Handle {}
 
-// SAFETY, of all the calls below: the handle is empty or was filled by `vahepito_open`, since the
-// field is private; it is the only one of its pass, and this call's alone, by `&mut`; each other
+// SAFETY, of all the calls below: the handle is empty or was filled by `vahepito_open_groups`, since
+// the field is private; it is the only one of its pass, and this call's alone, by `&mut`; each other
 // pointer is that of a variable of its own.
 impl Handle {
     pub const fn empty() -> Handle {
@@ -208,6 +211,13 @@ impl Handle {
             vahepito_try_take(&mut self.0, item, total, served)
         })
     }
+
+    /// The code, and the group where that is DONE.
+    pub fn group(&mut self) -> (u32, u32) {
+        let mut group = 0;
+        let code = unsafe { vahepito_group(&mut self.0, &mut group) };
+        (code, group)
+    }
 }
 
 impl Drop for Handle {
@@ -218,11 +228,12 @@ impl Drop for Handle {
 }
 
 /// Fills the handles, all of which are empty.
-pub fn open(config: &Config, senders: &mut [Handle], receivers: &mut [Handle]) -> u32 {
+pub fn open(config: &Config, groups: u32, senders: &mut [Handle], receivers: &mut [Handle]) -> u32 {
     // SAFETY: the pointers and counts are those of two slices, and the handles of both are empty.
     unsafe {
-        vahepito_open(
+        vahepito_open_groups(
             config,
+            groups,
             senders.as_mut_ptr(),
             senders.len(),
             receivers.as_mut_ptr(),
@@ -278,6 +289,7 @@ mod tests {
             ("GOT", GOT),
             ("EMPTY", EMPTY),
             ("ENDED", ENDED),
+            ("BAD_GROUPS", BAD_GROUPS),
         ];
         assert_eq!(header, BTreeMap::from(here));
     }
@@ -293,8 +305,10 @@ mod tests {
             names.sort();
             names
         };
-        let header = names(HEADER, "uint32_t vahepito_");
+        let mut header = names(HEADER, "uint32_t vahepito_");
+        assert_eq!(header.len(), 13);
+        // This crate opens each queue by `open_groups`.
+        header.retain(|&name| name != "open");
         assert_eq!(names(code, "fn vahepito_"), header);
-        assert_eq!(header.len(), 11);
     }
 }

@@ -8,7 +8,7 @@ mod handle;
 mod receiver;
 mod sender;
 
-pub use config::{Config, open};
+pub use config::{Config, open, open_groups};
 pub use error::{OpenError, RecvError, SendError, TryRecvError, TrySendError, Worn};
 pub use receiver::{IntoIter, Item, Iter, PendingRecv, Receiver, TryIter};
 pub use sender::{Closed, PendingClose, PendingSend, Sender};

@@ -31,6 +31,7 @@ pub struct Item {
 pub struct Receiver {
     handle: Handle,
     number: u32,
+    group: u32,
     left: Arc<Left>,
     /// What a take got whose guard was dropped or forgotten. No call is begun where there is one.
     kept: Option<Item>,
@@ -46,23 +47,33 @@ fn taken(taken: &Taken) -> Result<Item, TryRecvError> {
 }
 
 impl Receiver {
-    pub(crate) fn new(handle: Handle, number: u32, left: &Arc<Left>) -> Receiver {
+    pub(crate) fn new(mut handle: Handle, number: u32, left: &Arc<Left>) -> Receiver {
+        let group = match handle.group() {
+            (code::DONE, group) => group,
+            (code, _) => unexpected(code),
+        };
         Receiver {
             handle,
             number,
+            group,
             left: left.clone(),
             kept: None,
         }
     }
 
-    /// Its number among the receivers, from 1.
+    /// Its number among the receivers of all groups, from 1.
     pub fn number(&self) -> u32 {
         self.number
     }
 
-    /// Takes an item, if there is one.
+    /// Its group, from 1. A queue of [`open`](crate::open) has one.
+    pub fn group(&self) -> u32 {
+        self.group
+    }
+
+    /// Takes an item, if there is one for its group.
     ///
-    /// It isn't crossbeam's `try_recv` in this: another thread may be serving the calls of all
+    /// It isn't crossbeam's `try_recv` in this: another thread may be serving the calls of the group's
     /// receivers at this moment, and then it waits for its answer. To do something else meanwhile,
     /// [`begin`](Receiver::begin) the take and turn it.
     ///
@@ -83,13 +94,13 @@ impl Receiver {
         }
     }
 
-    /// Takes an item, and tries again as long as the queue is empty and open.
+    /// Takes an item, and tries again as long as there is none for its group and the queue is open.
     ///
     /// Between two tries it spins, then yields, and then sleeps up to a millisecond.
     ///
     /// # Errors
     ///
-    /// The queue is closed, and all its items were taken.
+    /// The queue is closed, and its group has taken all its items.
     pub fn recv(&mut self) -> Result<Item, RecvError> {
         let mut backoff = Backoff::new();
         loop {
@@ -113,7 +124,7 @@ impl Receiver {
 
     /// Begins a take, and does nothing more.
     ///
-    /// The call stands in line among the receivers' calls from here on, and may be served by any of
+    /// The call stands in line among its group's calls from here on, and may be served by any of
     /// them. So the guard is to be turned without delay, until it is done: see
     /// [Guards](crate#guards).
     pub fn begin(&mut self) -> PendingRecv<'_> {
@@ -154,7 +165,7 @@ impl Receiver {
 impl Drop for Receiver {
     fn drop(&mut self) {
         self.settle();
-        self.left.receivers.fetch_sub(1, Ordering::AcqRel);
+        self.left.receivers[self.group as usize - 1].fetch_sub(1, Ordering::AcqRel);
     }
 }
 
@@ -178,8 +189,8 @@ pub struct PendingRecv<'a> {
 }
 
 impl PendingRecv<'_> {
-    /// One turn: looks once whether the answer is there, and serves the calls of other receivers
-    /// with its own where it is this call's part to do so. It never waits.
+    /// One turn: looks once whether the answer is there, and serves the calls of its group's other
+    /// receivers with its own where it is this call's part to do so. It never waits.
     pub fn turn(mut self) -> Turn<Self, Result<Item, TryRecvError>> {
         match self.receiver.turn_take() {
             None => Turn::Waiting(self),

@@ -121,22 +121,24 @@ impl Sender {
     ///
     /// # Errors
     ///
-    /// See [`SendError`]. `Disconnected` isn't an answer of the queue but of this crate: where the
-    /// queue was full and all receivers were dropped, it would stay so.
+    /// See [`SendError`]. `Disconnected` isn't an answer of the queue but of this crate: the queue was
+    /// full, and all receivers of a group were dropped. Where there is no other group, the queue stays
+    /// full. Where another group was behind that one, it may still make room, for at most `capacity`
+    /// items, until it has caught up; then the queue stays full.
     pub fn send(&mut self, body: u64) -> Result<u64, SendError> {
         let mut backoff = Backoff::new();
-        let mut alone = false;
+        let mut lost = false;
         loop {
             match self.try_send(body) {
                 Ok(place) => return Ok(place),
                 Err(TrySendError::Closed) => return Err(SendError::Closed),
                 Err(TrySendError::Spent) => return Err(SendError::Spent),
                 Err(TrySendError::Worn) => return Err(SendError::Worn),
-                Err(TrySendError::Full) if alone => return Err(SendError::Disconnected),
+                Err(TrySendError::Full) if lost => return Err(SendError::Disconnected),
                 Err(TrySendError::Full) => {
                     // Receivers that are gone may have gone because the queue was closed since: the
                     // next try tells.
-                    alone = self.left.receivers.load(Ordering::Acquire) == 0;
+                    lost = self.left.has_lost_a_group();
                     backoff.between_tries();
                 }
             }

@@ -366,7 +366,7 @@ fn iterators_end_where_they_say() {
 
 #[test]
 fn errors_say_what_is_wrong() {
-    let errors: [(&str, Box<dyn Error + Send + Sync>); 20] = [
+    let errors: [(&str, Box<dyn Error + Send + Sync>); 21] = [
         (
             "the number of senders isn't from 1 to 64",
             OpenError::Senders.into(),
@@ -384,6 +384,10 @@ fn errors_say_what_is_wrong() {
         (
             "the number of sends of a sender is 0",
             OpenError::PerSender.into(),
+        ),
+        (
+            "the number of groups isn't from 1 to 8",
+            OpenError::Groups.into(),
         ),
         (
             "there is no memory for the queue",
@@ -409,7 +413,7 @@ fn errors_say_what_is_wrong() {
             SendError::from(Worn).into(),
         ),
         (
-            "the queue is full and no receiver is left",
+            "the queue is full and a group of receivers is gone",
             SendError::Disconnected.into(),
         ),
         ("the queue is empty", TryRecvError::Empty.into()),

@@ -2,7 +2,7 @@
 use std::collections::BTreeMap;
 use std::sync::Barrier;
 use std::thread::{self, ScopedJoinHandle};
-use vahepito::{Config, Item, SendError, TryRecvError, TrySendError, open};
+use vahepito::{Config, Item, SendError, TryRecvError, TrySendError, open, open_groups};
 
 /// What each sender was told of its accepted sends, as (place, body), and each receiver of its
 /// takes.
@@ -63,10 +63,10 @@ fn joined<T>(threads: Vec<ScopedJoinHandle<'_, T>>) -> Vec<T> {
         .collect()
 }
 
-/// Each sender sends so many items, and each receiver takes until the end.
-fn pass(config: Config, items: u64) -> Told {
-    let (senders, receivers) = open(config).unwrap();
-    thread::scope(|scope| {
+/// Each sender sends so many items, and each receiver takes until the end: each group gets them all.
+fn pass(config: Config, groups: u32, items: u64) {
+    let (senders, groups) = open_groups(config, groups).unwrap();
+    let told: Vec<Told> = thread::scope(|scope| {
         let sending = senders.into_iter().map(|mut sender| {
             scope.spawn(move || {
                 let body = |n| u64::from(sender.number()) << 32 | n;
@@ -78,38 +78,50 @@ fn pass(config: Config, items: u64) -> Told {
             })
         });
         let sending: Vec<_> = sending.collect();
-        let taking: Vec<_> = receivers
-            .into_iter()
-            .map(|receiver| scope.spawn(|| receiver.into_iter().collect()))
-            .collect();
-        let sent = joined(sending);
-        (sent, joined(taking))
-    })
+        let taking = groups.into_iter().map(|group| {
+            group
+                .into_iter()
+                .map(|receiver| scope.spawn(|| receiver.into_iter().collect()))
+                .collect()
+        });
+        let taking: Vec<Vec<_>> = taking.collect();
+        let sent: Vec<_> = joined(sending);
+        let told = |group| (sent.clone(), joined(group));
+        taking.into_iter().map(told).collect()
+    });
+    for group in &told {
+        audit(group, u64::from(config.senders) * items);
+    }
 }
 
 #[test]
 fn eight_and_eight_threads() {
     for (capacity, bound) in [(1, 1), (64, 8), (64, 1024), (4096, 8)] {
-        audit(
-            &pass(
-                Config {
-                    bound,
-                    ..Config::new(8, 8, capacity)
-                },
-                2_000,
-            ),
-            16_000,
-        );
+        let config = Config {
+            bound,
+            ..Config::new(8, 8, capacity)
+        };
+        pass(config, 1, 2_000);
     }
 }
 
 #[test]
 fn other_numbers_of_threads() {
     for (senders, receivers) in [(1, 1), (1, 8), (8, 1), (64, 64)] {
-        audit(
-            &pass(Config::new(senders, receivers, 16), 100),
-            u64::from(senders) * 100,
-        );
+        pass(Config::new(senders, receivers, 16), 1, 100);
+    }
+}
+
+/// Two groups of two threads: each group gets all items of one sender, each item once and in order.
+#[test]
+fn groups_threads() {
+    pass(Config::new(1, 2, 4), 2, 1_000);
+}
+
+#[test]
+fn other_numbers_of_groups() {
+    for (senders, groups, receivers, capacity) in [(1, 8, 1, 1), (4, 3, 2, 16), (2, 8, 4, 64)] {
+        pass(Config::new(senders, receivers, capacity), groups, 200);
     }
 }
 
@@ -206,6 +218,31 @@ fn the_last_receiver_goes_while_senders_wait() {
         for mut receiver in receivers {
             scope.spawn(move || assert_eq!(receiver.iter().take(100).count(), 100));
         }
+    });
+}
+
+/// And when the last receiver of a group goes, though another group goes on to take all there is.
+#[test]
+fn a_group_goes_while_senders_wait() {
+    let (senders, mut groups) = open_groups(Config::new(4, 2, 2), 2).unwrap();
+    let (stays, goes) = (groups.remove(0), groups.remove(0));
+    thread::scope(|scope| {
+        for mut sender in senders {
+            scope.spawn(move || {
+                let told = (0..).map(|body| sender.send(body)).find_map(Result::err);
+                assert_eq!(told, Some(SendError::Disconnected));
+            });
+        }
+        for mut receiver in goes {
+            scope.spawn(move || assert_eq!(receiver.iter().take(100).count(), 100));
+        }
+        let taking = stays
+            .into_iter()
+            .map(|receiver| scope.spawn(|| receiver.into_iter().count()));
+        let taking: Vec<_> = taking.collect();
+        // Those that went had 200, and there was room for two more.
+        let taken: usize = joined(taking).into_iter().sum();
+        assert!((200..=202).contains(&taken), "{taken}");
     });
 }
 
