@@ -1,11 +1,12 @@
 #!/usr/bin/env python3
 """Times the queue beside other queues, interleaved: each round runs every program once, and the medians are told.
 
-    bench/run.py [--rounds N] [--items N]
+    bench/run.py [--rounds N] [--items N] [--beside TREE]
 
 `cc_bench` is the proved queue (build it by `rt run` in crates/cc_bench), `plain` the same atomic steps by hand, std's
 Mutex with Condvar, and std's sync_channel (build it by `cargo build --release` in bench/plain). A line a shape: senders,
 receivers, capacity, and the nanoseconds of the clock an item of each program; in brackets those of the processors.
+With --beside the queue runs beside that of another tree alone, which is told as `before`, and their ratios are told too.
 """
 import argparse
 import os
@@ -48,12 +49,28 @@ def show(shape, medians):
     print(shape, *(f"{name} {clock:.0f} ({processors:.0f})" for name, (clock, processors) in medians.items()), sep="  ", flush=True)
 
 
+def beside(before, items, rounds):
+    """The queue and that of another tree, in one run, with the first quartile, the median and the third of their ratios."""
+    for senders, receivers in [(0, 1), *SHAPES]:
+        shape = [str(n) for n in (senders, receivers, 64, items)]
+        ratios = []
+        for _ in range(rounds):
+            medians = compare({"queue": [QUEUE, *shape], "before": [before, *shape]}, items, 1)
+            ratios.append(medians["queue"][0] / medians["before"][0])
+        quartiles = " ".join(f"{ratio:.3f}" for ratio in statistics.quantiles(ratios, n=4))
+        print(f"{senders} and {receivers} threads, capacity 64  {quartiles}", flush=True)
+
+
 def main():
     parser = argparse.ArgumentParser()
     parser.add_argument("--rounds", type=int, default=11)
     parser.add_argument("--items", type=int, default=400_000)
+    parser.add_argument("--beside", metavar="TREE")
     options = parser.parse_args()
     items = options.items
+    if options.beside:
+        beside(os.path.join(options.beside, os.path.relpath(QUEUE, TOP)), items, options.rounds)
+        return
     alone = {"queue": [QUEUE, "0", "1", "64", str(items)], "steps": [PLAIN, "alone", "1", "1", "64", str(items)]}
     show("one thread, a send and a take", compare(alone, items, options.rounds))
     for senders, receivers in SHAPES:

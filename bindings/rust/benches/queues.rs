@@ -6,14 +6,16 @@
 //!
 //! `steps` are the queue's atomic steps by hand in plain Rust, `mutex` std's `Mutex` with two
 //! `Condvar`s round a `VecDeque`, and `channel` std's `sync_channel`, whose one receiver is shared
-//! under a lock: all three are those of `bench/plain`.
+//! under a lock: all three are those of `bench/plain`. A second table has groups of receivers: one
+//! queue with so many groups of one receiver beside as many queues with one receiver each, to all of
+//! which the same senders send each item.
 #[path = "../../../bench/plain/src/queues.rs"]
 mod plain;
 
 use std::sync::atomic::{AtomicU64, Ordering};
 use std::thread;
 use std::time::Instant;
-use vahepito::{Config, open};
+use vahepito::{Config, Receiver, Sender, open, open_groups};
 
 /// The numbers of senders and receivers, the capacity, and how many items pass.
 #[derive(Clone, Copy)]
@@ -43,6 +45,9 @@ const SHARED: [Queue; 4] = [
         plain::sync_channel(it.senders, it.receivers, it.capacity, it.items)
     }),
 ];
+
+/// The receivers are as many groups of one, or on a queue each.
+const IN_GROUPS: [Queue; 2] = [("groups", groups), ("queues", queues)];
 
 fn config(it: Shape) -> Config {
     Config::new(it.senders as u32, it.receivers as u32, it.capacity as u32)
@@ -80,6 +85,60 @@ fn shared(it: Shape) -> u64 {
         }
     });
     passed.into_inner()
+}
+
+/// Each item to every group of one queue; how many items each of them got.
+fn groups(it: Shape) -> u64 {
+    let one_each = Config::new(it.senders as u32, 1, it.capacity as u32);
+    let (senders, groups) = open_groups(one_each, it.receivers as u32).unwrap();
+    let senders = senders.into_iter().map(|sender| vec![sender]).collect();
+    copied(it, senders, groups.into_iter().flatten().collect())
+}
+
+/// Each item to every queue; how many items each of them passed.
+fn queues(it: Shape) -> u64 {
+    let mut senders: Vec<Vec<Sender>> = (0..it.senders).map(|_| Vec::new()).collect();
+    let mut receivers = Vec::new();
+    for _ in 0..it.receivers {
+        let one_each = Config::new(it.senders as u32, 1, it.capacity as u32);
+        let (of_queue, mut taker) = open(one_each).unwrap();
+        for (senders, sender) in senders.iter_mut().zip(of_queue) {
+            senders.push(sender);
+        }
+        receivers.append(&mut taker);
+    }
+    copied(it, senders, receivers)
+}
+
+/// A thread for each list of senders, which sends its items by all of them, and one for each
+/// receiver; how many items each receiver got, where all got as many.
+fn copied(it: Shape, senders: Vec<Vec<Sender>>, receivers: Vec<Receiver>) -> u64 {
+    thread::scope(|scope| {
+        for mut all in senders {
+            scope.spawn(move || {
+                for body in 0..it.items / it.senders as u64 {
+                    for sender in &mut all {
+                        sender.send(body).unwrap();
+                    }
+                }
+            });
+        }
+        let takers: Vec<_> = receivers
+            .into_iter()
+            .map(|mut receiver| {
+                scope.spawn(move || plain::take_all(|| receiver.recv().ok().map(|item| item.body)))
+            })
+            .collect();
+        let got: Vec<u64> = takers
+            .into_iter()
+            .map(|taker| taker.join().unwrap())
+            .collect();
+        assert!(
+            got.iter().all(|count| *count == got[0]),
+            "a receiver lost items"
+        );
+        got[0]
+    })
 }
 
 #[repr(C)]
@@ -179,6 +238,19 @@ fn main() {
                 ..it
             };
             compare(&format!("{passes} and {passes}"), &SHARED, it, rounds);
+        }
+    }
+    println!("\n| senders and groups | capacity | groups | queues |\n|---|---|---|---|");
+    for senders in [1, 4] {
+        for receivers in [2, 4, 8] {
+            let it = Shape {
+                senders,
+                receivers,
+                items: items / 4,
+                ..it
+            };
+            let title = format!("{senders} and {receivers}");
+            compare(&title, &IN_GROUPS, it, rounds);
         }
     }
 }
