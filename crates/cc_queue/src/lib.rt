@@ -3,8 +3,8 @@
 //!
 //! `Queue::open` gives the queue with all its senders and receivers, the passes. A pass is a value that its owner moves
 //! into a call and gets back with the answer. A call is begun, and then it is asked for its answer in turns; where a
-//! pass finds itself first in its chain, its turn serves others' calls too. No call after the opening takes memory,
-//! and none of these waits.
+//! pass finds itself first in its chain, its turn serves others' calls too. None of these calls takes memory or waits;
+//! the audit after all of them (`audit_all`) takes memory for the receipts.
 //!
 //! What every answer stands in is said in `specs/Headline.antt`, and what each call tells in `specs/Calls.antt`.
 #![tactic(auto)]
