@@ -6,7 +6,7 @@ use Rattle.cc_model.specs.Config.{config_fault}
 use Rattle.cc_model.specs.declared.config.Config.{Config}
 use Rattle.cc_model.specs.declared.config.ConfigFault.{ConfigFault}
 use Rattle.cc_model.specs.declared.config.ConfigFault.TheVariants as fault
-use Rattle.cc_machine.specs.declared.setting.Served.TheVariants as served
+use Rattle.cc_runs.specs.declared.setting.Served.TheVariants as served
 use Rattle.cc_steps.specs.Topic.{Topic}
 use Rattle.cc_steps.specs.Walk.{Walk, fresh}
 use Rattle.cc_binding.specs.declared.kept.Pass.{Pass}

@@ -3,8 +3,8 @@ use Rattle.std.specs.Prelude.{◌≡◌, ℕ, ◌+◌, ◌≤◌, ◌<◌, List,
 use Rattle.std.specs.Borrow.{Bor}
 use Rattle.cc_model.specs.Config.{config_fault}
 use Rattle.cc_model.specs.declared.config.Config.{Config}
-use Rattle.cc_machine.specs.Machine.{IsOpenFault}
-use Rattle.cc_machine.specs.declared.fault.OpenFault.{OpenFault}
+use Rattle.cc_runs.specs.Opening.{IsOpenFault}
+use Rattle.cc_runs.specs.declared.fault.OpenFault.{OpenFault}
 use Rattle.cc_steps.specs.Topic.{Topic}
 use Rattle.std.specs.declared.alloc.Global.{Global}
 use Rattle.cc_queue.specs.declared.passes.Sender.{Sender}

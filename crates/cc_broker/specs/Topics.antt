@@ -2,8 +2,8 @@
 use Rattle.std.specs.Prelude.{ℕ, List, map}
 use Rattle.std.specs.Borrow.{Bor}
 use Rattle.cc_model.specs.declared.config.Config.{Config}
-use Rattle.cc_machine.specs.declared.setting.Setting.{Setting}
-use Rattle.cc_machine.specs.declared.setting.Served.TheVariants as served
+use Rattle.cc_runs.specs.declared.setting.Setting.{Setting}
+use Rattle.cc_runs.specs.declared.setting.Served.TheVariants as served
 use Rattle.cc_steps.specs.Topic.{Topic}
 
 -- their names, their queues, and what these queues were made with

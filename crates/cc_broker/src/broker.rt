@@ -3,8 +3,8 @@ ghost use Rattle.std.specs.Prelude.{◌≡◌, ◌↔◌, ℕ, [], ◌∷◌, �
 ghost use Rattle.cc_broker.specs.Topics.{names, queues};
 ghost use Rattle.cc_broker.specs.declared.broker.BrokerFault.TheVariants as fault;
 
-use cc_machine::OpenFault;
 use cc_queue::{Queue, Receiver, Sender};
+use cc_runs::OpenFault;
 use indexmap::IndexMap;
 use std::alloc::{AllocError, Global};
 use std::marker::Model;

@@ -4,7 +4,7 @@ use Rattle.std.specs.List.{All, AllByRecursion}
 use Rattle.cc_model.specs.declared.call.Call.TheVariants as call
 use Rattle.cc_model.specs.declared.call.CloseAnswer.{CloseAnswer}
 use Rattle.cc_model.specs.declared.call.Answer.TheVariants as answer
-use Rattle.cc_machine.specs.Machine.{IsLastAnswer}
+use Rattle.cc_runs.specs.ChainLaws.{IsLastAnswer}
 use Rattle.cc_steps.specs.Topic.{Topic}
 use Rattle.cc_steps.specs.Walk.{Walk, IsOf, fresh}
 use Rattle.cc_queue.specs.Headline.{entry_of, name, history}

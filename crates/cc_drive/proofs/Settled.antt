@@ -5,10 +5,10 @@ use Rattle.std.proofs.lemmas.List.Sorted.{length_permutation}
 use Rattle.cc_model.specs.Record.{Record}
 use Rattle.cc_model.specs.Legal.{Legal}
 use Rattle.cc_model.specs.declared.config.Config.{Config}
-use Rattle.cc_machine.specs.Run.{history_of}
-use Rattle.cc_machine.specs.declared.run.Move.{Move}
-use Rattle.cc_machine.specs.declared.setting.Setting.{Setting}
-use Rattle.cc_machine.specs.declared.setting.Served.TheVariants as served
+use Rattle.cc_runs.specs.Run.{history_of}
+use Rattle.cc_runs.specs.declared.run.Move.{Move}
+use Rattle.cc_runs.specs.declared.setting.Setting.{Setting}
+use Rattle.cc_runs.specs.declared.setting.Served.TheVariants as served
 use Rattle.cc_steps.specs.Topic.{Topic}
 use Rattle.cc_steps.specs.Walk.{Walk, IsOf, fresh}
 use Rattle.cc_audit.specs.Receipts.{sends_of, takes_of, total_of}
@@ -16,7 +16,7 @@ use Rattle.cc_queue.specs.Headline.{name, history}
 use Rattle.cc_queue.specs.Met.{AreOfOne, HasMet, HaveSeenOne}
 use Rattle.cc_queue.specs.Receipts.{AreAll, AreInRow, in_group, receipts_by, seen_by, sent, got}
 use Rattle.cc_queue.proofs.Held.{sends_held, takes_held, only_group, seen_is}
-use Rattle.cc_machine.specs.Words.{groups}
+use Rattle.cc_runs.specs.Words.{groups}
 use Rattle.cc_drive.specs.declared.config.DriveConfig.{DriveConfig}
 use Rattle.cc_drive.specs.declared.driver.Ran.{Ran}
 use Rattle.cc_drive.specs.Config.{queue_of}

@@ -10,9 +10,9 @@ use Rattle.cc_model.specs.declared.call.Pass.{Pass}
 use Rattle.cc_model.specs.declared.call.Pass.TheVariants as pass
 use Rattle.cc_model.specs.declared.call.Entry.{Entry}
 use Rattle.cc_model.specs.declared.call.Answer.{Answer}
-use Rattle.cc_machine.specs.declared.setting.Setting.{Setting}
-use Rattle.cc_machine.specs.Machine.{IsLastAnswer}
-use Rattle.cc_machine.specs.State.{pass_at}
+use Rattle.cc_runs.specs.declared.setting.Setting.{Setting}
+use Rattle.cc_runs.specs.ChainLaws.{IsLastAnswer}
+use Rattle.cc_runs.specs.State.{pass_at}
 use Rattle.cc_steps.specs.Walk.{Walk}
 use Rattle.cc_queue.specs.Headline.{StandsInOne, name, history}
 use Rattle.cc_queue.proofs.AnswerKinds.{all_last, last_is}

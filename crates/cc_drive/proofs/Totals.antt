@@ -19,7 +19,7 @@ use Rattle.cc_model.specs.declared.call.SendAnswer.TheVariants as send
 use Rattle.cc_model.specs.declared.call.CloseAnswer.{CloseAnswer}
 use Rattle.cc_model.specs.declared.call.CloseAnswer.TheVariants as close
 use Rattle.cc_model.specs.declared.call.TakeAnswer.TheVariants as take
-use Rattle.cc_machine.specs.Machine.{IsLastAnswer}
+use Rattle.cc_runs.specs.ChainLaws.{IsLastAnswer}
 use Rattle.cc_audit.specs.Receipts.{sends_of, takes_of, takes_by, take_receipt, total_of, total_by, send_receipt}
 use Rattle.cc_queue.proofs.OnItsSide.{Told, its_side, on_its_side}
 use Rattle.cc_model.specs.Record.{Side, silent, of_group}

@@ -13,7 +13,7 @@ use Rattle.cc_model.specs.declared.call.Answer.TheVariants as answer
 use Rattle.cc_model.specs.declared.call.SendAnswer.{SendAnswer}
 use Rattle.cc_model.specs.declared.call.SendAnswer.TheVariants as send
 use Rattle.cc_model.specs.declared.call.TakeAnswer.TheVariants as take
-use Rattle.cc_machine.specs.State.{pass_at}
+use Rattle.cc_runs.specs.State.{pass_at}
 use Rattle.cc_steps.specs.Topic.{Topic}
 use Rattle.cc_steps.specs.Walk.{Walk, fresh}
 use Rattle.cc_queue.specs.Calls.{Completed}

@@ -5,8 +5,8 @@ use Rattle.cc_model.specs.Config.{config_fault}
 use Rattle.cc_model.specs.declared.config.Config.{Config}
 use Rattle.cc_model.specs.declared.config.ConfigFault.{ConfigFault}
 use Rattle.cc_model.specs.declared.config.ConfigFault.TheVariants as fault
-use Rattle.cc_machine.specs.declared.fault.OpenFault.{OpenFault}
-use Rattle.cc_machine.specs.declared.fault.OpenFault.TheVariants as opening
+use Rattle.cc_runs.specs.declared.fault.OpenFault.{OpenFault}
+use Rattle.cc_runs.specs.declared.fault.OpenFault.TheVariants as opening
 use Rattle.cc_drive.specs.declared.config.DriveConfig.{DriveConfig}
 use Rattle.cc_drive.specs.declared.config.DriveFault.{DriveFault}
 use Rattle.cc_drive.specs.declared.config.DriveFault.TheVariants as drive

@@ -5,8 +5,8 @@ ghost use Rattle.cc_drive.specs.Config.{drive_fault, queue_of, told_of_open};
 ghost use Rattle.cc_drive.specs.declared.config.DriveFault.TheVariants as drive;
 
 use cc_audit::Verdict;
-use cc_machine::OpenFault;
 use cc_model::{Config, ConfigFault, is_within};
+use cc_runs::OpenFault;
 use std::alloc::AllocError;
 use thiserror::Error;
 

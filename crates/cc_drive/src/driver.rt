@@ -1,7 +1,7 @@
 //! A run: threads that send beside threads that take, the close, and the audit.
 ghost use Rattle.std.specs.Prelude.{[], ◌≡◌, ◌+◌, ◌*◌, ◌-◌, ◌<◌, ◌≤◌, ◌^◌, IfOk, OnOk, IfErr, IfSome, Ok, length, vec_len};
 ghost use Rattle.cc_audit.specs.declared.receipt.Verdict.TheVariants.{Clean};
-ghost use Rattle.cc_machine.specs.declared.setting.Served.TheVariants as served;
+ghost use Rattle.cc_runs.specs.declared.setting.Served.TheVariants as served;
 ghost use Rattle.cc_steps.specs.Walk.{fresh, fresh_from};
 ghost use Rattle.cc_drive.specs.Config.{drive_fault, queue_of, IsDue};
 ghost use Rattle.cc_drive.specs.Jobs.{IsSending, IsTaking};

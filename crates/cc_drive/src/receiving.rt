@@ -3,7 +3,7 @@ ghost use Rattle.std.specs.Prelude.{◌≡◌, ◌+◌, ◌<◌, ◌≤◌, [], 
 ghost use Rattle.cc_model.specs.declared.call.Answer.TheVariants as answer;
 ghost use Rattle.cc_model.specs.declared.call.Call.TheVariants as call;
 ghost use Rattle.cc_model.specs.declared.call.Pass.TheVariants as pass;
-ghost use Rattle.cc_machine.specs.State.{pass_at};
+ghost use Rattle.cc_runs.specs.State.{pass_at};
 ghost use Rattle.cc_steps.specs.Walk.{IsOf, fresh};
 ghost use Rattle.cc_queue.specs.Calls.{Completed, Ended};
 ghost use Rattle.cc_queue.specs.Headline.{StandsInOne};

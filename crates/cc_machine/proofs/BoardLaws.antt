@@ -6,16 +6,18 @@ use Rattle.cc_model.specs.declared.call.Pass.{Pass}
 use Rattle.std.specs.Option.{option_map}
 use Rattle.cc_model.specs.declared.call.Answer.TheVariants as answer
 use Rattle.cc_model.specs.declared.call.SendAnswer.TheVariants as send
-use Rattle.cc_machine.specs.Codes.{count_word}
-use Rattle.cc_machine.specs.declared.setting.Setting.{Setting}
+use Rattle.cc_runs.specs.Codes.{count_word}
+use Rattle.cc_runs.specs.declared.setting.Setting.{Setting}
 use Rattle.cc_machine.specs.declared.board.Board.{Board}
-use Rattle.cc_machine.specs.declared.place.Place.{Place}
-use Rattle.cc_machine.specs.declared.place.Place.TheVariants as place
-use Rattle.cc_machine.specs.State.{State, pass_at}
-use Rattle.cc_machine.specs.Run.{Move, passes, reached, IsRun}
-use Rattle.cc_machine.specs.Safe.{IsReady}
+use Rattle.cc_runs.specs.declared.place.Place.{Place}
+use Rattle.cc_runs.specs.declared.place.Place.TheVariants as place
+use Rattle.cc_runs.specs.State.{State, pass_at}
+use Rattle.cc_runs.specs.declared.run.Move.{Move}
+use Rattle.cc_runs.specs.Run.{passes, reached, IsRun}
+use Rattle.cc_runs.specs.Safe.{IsReady}
 use Rattle.cc_machine.specs.Shown.{view_of, state_of}
-use Rattle.cc_machine.specs.Machine.{index_of, told_at, told_in, answer_of, IsLastAnswer}
+use Rattle.cc_machine.specs.Machine.{index_of, told_at, told_in, answer_of}
+use Rattle.cc_runs.specs.ChainLaws.{IsLastAnswer}
 use Rattle.cc_machine.specs.Lawful.{IsLawful}
 use Rattle.cc_machine.proofs.Rows.{inside, named}
 use Rattle.cc_machine.proofs.LawfulMoves.{history_in}

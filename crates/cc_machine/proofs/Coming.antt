@@ -3,19 +3,19 @@ use Rattle.std.proofs.Common.{◌≡◌, ℕ, zero, suc, ◌+◌, ◌*◌, Bool,
 use Rattle.std.proofs.lemmas.Bool.{cases_eq}
 use Rattle.std.proofs.lemmas.Nat.{mul-le}
 use Rattle.cc_model.specs.declared.config.Config.{Config}
-use Rattle.cc_machine.specs.declared.setting.Setting.{Setting}
-use Rattle.cc_machine.specs.declared.setting.Served.{Served}
-use Rattle.cc_machine.specs.declared.setting.Served.TheVariants as served
-use Rattle.cc_machine.specs.declared.word.Chain.{Chain}
-use Rattle.cc_machine.specs.declared.word.Chain.TheVariants.{Send, Take}
-use Rattle.cc_machine.specs.declared.place.Stand.{Stand}
-use Rattle.cc_machine.specs.declared.place.Place.{Place}
-use Rattle.cc_machine.specs.declared.place.Place.TheVariants as place
-use Rattle.cc_machine.specs.Words.{groups}
-use Rattle.cc_machine.specs.State.{chain_of, hold}
-use Rattle.cc_machine.specs.Run.{passes_of}
+use Rattle.cc_runs.specs.declared.setting.Setting.{Setting}
+use Rattle.cc_runs.specs.declared.setting.Served.{Served}
+use Rattle.cc_runs.specs.declared.setting.Served.TheVariants as served
+use Rattle.cc_runs.specs.declared.word.Chain.{Chain}
+use Rattle.cc_runs.specs.declared.word.Chain.TheVariants.{Send, Take}
+use Rattle.cc_runs.specs.declared.place.Stand.{Stand}
+use Rattle.cc_runs.specs.declared.place.Place.{Place}
+use Rattle.cc_runs.specs.declared.place.Place.TheVariants as place
+use Rattle.cc_runs.specs.Words.{groups}
+use Rattle.cc_runs.specs.State.{chain_of, hold}
+use Rattle.cc_runs.specs.Run.{passes_of}
 use Rattle.cc_machine.specs.Lawful.{to_come, coming}
-use Rattle.cc_machine.specs.CallsMade.{before_exchange}
+use Rattle.cc_runs.specs.CallsMade.{before_exchange}
 
 at_most_one : (at : Place) → before_exchange at ≤ 1
 at_most_one place.Idle = omega arith

@@ -3,11 +3,11 @@ use Rattle.std.proofs.Common.{◌≡◌, ℕ, Ok, ap, sym, ◌∙◌}
 use Rattle.cc_model.specs.Config.{config_fault}
 use Rattle.cc_model.specs.declared.call.Answer.TheVariants as answer
 use Rattle.cc_model.specs.declared.call.SendAnswer.TheVariants as send
-use Rattle.cc_machine.specs.declared.setting.Setting.{Setting}
-use Rattle.cc_machine.specs.declared.setting.Served.TheVariants as served
-use Rattle.cc_machine.specs.Codes.{count_word}
-use Rattle.cc_machine.proofs.Ranges.{in_range}
-use Rattle.cc_machine.proofs.ChainRuns.{counter_answer, counter_number}
+use Rattle.cc_runs.specs.declared.setting.Setting.{Setting}
+use Rattle.cc_runs.specs.declared.setting.Served.TheVariants as served
+use Rattle.cc_runs.specs.Codes.{count_word}
+use Rattle.cc_runs.proofs.Ranges.{in_range}
+use Rattle.cc_runs.proofs.ChainRuns.{counter_answer, counter_number}
 use Rattle.cc_machine.proofs.BoardLaws.{AlwaysTold, AlwaysNumber}
 
 -- its answer in the history

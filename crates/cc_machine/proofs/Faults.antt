@@ -3,17 +3,18 @@ use Rattle.std.proofs.Common.{◌≡◌, ℕ, ◌≤◌, Option, Some, Result, O
 use Rattle.cc_model.specs.declared.config.Config.{Config}
 use Rattle.cc_model.specs.declared.call.Call.{Call}
 use Rattle.cc_model.specs.declared.call.Call.TheVariants as call
-use Rattle.cc_machine.specs.declared.setting.Served.{Served}
-use Rattle.cc_machine.specs.declared.setting.Served.TheVariants as served
+use Rattle.cc_runs.specs.declared.setting.Served.{Served}
+use Rattle.cc_runs.specs.declared.setting.Served.TheVariants as served
 use Rattle.cc_machine.specs.declared.fault.BeginFault.{BeginFault}
-use Rattle.cc_machine.specs.declared.word.Chain.{Chain}
-use Rattle.cc_machine.specs.declared.word.Chain.TheVariants as chain
-use Rattle.cc_machine.specs.declared.place.Place.{Place}
-use Rattle.cc_machine.specs.declared.place.Place.TheVariants as place
+use Rattle.cc_runs.specs.declared.word.Chain.{Chain}
+use Rattle.cc_runs.specs.declared.word.Chain.TheVariants as chain
+use Rattle.cc_runs.specs.declared.place.Place.{Place}
+use Rattle.cc_runs.specs.declared.place.Place.TheVariants as place
 use Rattle.cc_model.specs.Items.{known_at}
 use Rattle.cc_model.specs.declared.call.Pass.{Pass}
-use Rattle.cc_machine.specs.State.{chain_of}
-use Rattle.cc_machine.specs.Run.{Begin, begun_after, IsOn, IsIdle, May}
+use Rattle.cc_runs.specs.State.{chain_of}
+use Rattle.cc_runs.specs.declared.run.Move.TheVariants.{Begin}
+use Rattle.cc_runs.specs.Run.{begun_after, IsOn, IsIdle, May}
 use Rattle.cc_machine.specs.View.{View, state_in}
 use Rattle.cc_machine.proofs.Rows.{inside, named}
 use Rattle.cc_machine.specs.Machine.{unless_wrong, unless_busy, unless_worn, index_of, fault_at, begin_fault}

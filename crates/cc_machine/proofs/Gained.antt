@@ -6,31 +6,31 @@ use Rattle.cc_model.specs.declared.call.Entry.{Entry}
 use Rattle.cc_model.specs.declared.call.Answer.{Answer}
 use Rattle.cc_model.specs.declared.call.Answer.TheVariants as answer
 use Rattle.cc_model.specs.declared.call.TakeAnswer.TheVariants as take
-use Rattle.cc_machine.specs.declared.setting.Setting.{Setting}
-use Rattle.cc_machine.specs.declared.setting.Served.{Served}
-use Rattle.cc_machine.specs.declared.setting.Served.TheVariants as served
-use Rattle.cc_machine.specs.declared.word.Chain.{Chain}
-use Rattle.cc_machine.specs.declared.word.Chain.TheVariants.{Send, Take}
-use Rattle.cc_machine.specs.declared.place.Request.{Request}
-use Rattle.cc_machine.specs.declared.place.Parcel.{Parcel}
-use Rattle.cc_machine.specs.declared.place.Round.{Round}
-use Rattle.cc_machine.specs.declared.place.Job.{Job}
-use Rattle.cc_machine.specs.declared.place.Place.{Place}
-use Rattle.cc_machine.specs.declared.place.Place.TheVariants as place
-use Rattle.cc_machine.specs.declared.place.Counting.{Counting}
-use Rattle.cc_machine.specs.declared.place.Counting.TheVariants as counting
-use Rattle.cc_machine.specs.declared.place.Sending.{Sending}
-use Rattle.cc_machine.specs.declared.place.Sending.TheVariants as sending
-use Rattle.cc_machine.specs.declared.place.Taking.{Taking}
-use Rattle.cc_machine.specs.declared.place.Taking.TheVariants as taking
-use Rattle.cc_machine.specs.Words.{groups}
-use Rattle.cc_machine.specs.Codes.{code_of}
-use Rattle.cc_machine.specs.State.{appended}
-use Rattle.cc_machine.specs.Columns.{after_exchange, after_state, serves, after_next, after_answer, after_done, after_ret, goes, enters}
-use Rattle.cc_machine.specs.CountColumns as count_side
-use Rattle.cc_machine.specs.SendColumns as send_side
-use Rattle.cc_machine.specs.TakeColumns as take_side
-use Rattle.cc_machine.specs.CallsMade.{before_exchange}
+use Rattle.cc_runs.specs.declared.setting.Setting.{Setting}
+use Rattle.cc_runs.specs.declared.setting.Served.{Served}
+use Rattle.cc_runs.specs.declared.setting.Served.TheVariants as served
+use Rattle.cc_runs.specs.declared.word.Chain.{Chain}
+use Rattle.cc_runs.specs.declared.word.Chain.TheVariants.{Send, Take}
+use Rattle.cc_runs.specs.declared.place.Request.{Request}
+use Rattle.cc_runs.specs.declared.place.Parcel.{Parcel}
+use Rattle.cc_runs.specs.declared.place.Round.{Round}
+use Rattle.cc_runs.specs.declared.place.Job.{Job}
+use Rattle.cc_runs.specs.declared.place.Place.{Place}
+use Rattle.cc_runs.specs.declared.place.Place.TheVariants as place
+use Rattle.cc_runs.specs.declared.place.Counting.{Counting}
+use Rattle.cc_runs.specs.declared.place.Counting.TheVariants as counting
+use Rattle.cc_runs.specs.declared.place.Sending.{Sending}
+use Rattle.cc_runs.specs.declared.place.Sending.TheVariants as sending
+use Rattle.cc_runs.specs.declared.place.Taking.{Taking}
+use Rattle.cc_runs.specs.declared.place.Taking.TheVariants as taking
+use Rattle.cc_runs.specs.Words.{groups}
+use Rattle.cc_runs.specs.Codes.{code_of}
+use Rattle.cc_runs.specs.State.{appended}
+use Rattle.cc_runs.specs.Columns.{after_exchange, after_state, serves, after_next, after_answer, after_done, after_ret, goes, enters}
+use Rattle.cc_runs.specs.CountColumns as count_side
+use Rattle.cc_runs.specs.SendColumns as send_side
+use Rattle.cc_runs.specs.TakeColumns as take_side
+use Rattle.cc_runs.specs.CallsMade.{before_exchange}
 
 -- a place of a call that has exchanged, or of none
 abbrev Past : Place → Type 0

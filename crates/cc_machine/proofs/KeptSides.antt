@@ -1,6 +1,6 @@
 -- What is kept of a history when one side of it changes.
 use Rattle.std.proofs.Common.{◌≡◌, ℕ, zero, suc, List, [], ◌∷◌, map, slice_set, get_or, refl, ap, ◌∙◌}
-use Rattle.cc_model.specs.Record.{Side, Record, silent, of_group, with_takes}
+use Rattle.cc_model.specs.Record.{Side, silent, of_group, with_takes}
 use Rattle.cc_model.specs.Kept.{Kept, KeptSide, lists, kept_of_group, with_kept}
 
 -- another side of a group is one in the lists too

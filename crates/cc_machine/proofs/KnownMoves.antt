@@ -18,19 +18,19 @@ use Rattle.cc_model.specs.declared.call.CloseAnswer.TheVariants as close
 use Rattle.cc_model.specs.declared.call.TakeAnswer.TheVariants as take
 use Rattle.cc_model.proofs.Grows.{get_front, get_last, any-append, accepted_more, handed_by-append}
 use Rattle.cc_machine.specs.declared.known.Known.{Known}
-use Rattle.cc_machine.specs.declared.word.Chain.{Chain}
-use Rattle.cc_machine.specs.declared.word.Chain.TheVariants.{Send, Take}
-use Rattle.cc_machine.specs.State.{side, appended, noted}
-use Rattle.cc_machine.specs.Words.{groups}
-use Rattle.cc_machine.specs.Columns.{group_of}
+use Rattle.cc_runs.specs.declared.word.Chain.{Chain}
+use Rattle.cc_runs.specs.declared.word.Chain.TheVariants.{Send, Take}
+use Rattle.cc_runs.specs.State.{side, appended, noted}
+use Rattle.cc_runs.specs.Words.{groups}
+use Rattle.cc_runs.specs.Columns.{group_of}
 use Rattle.cc_model.specs.declared.config.Config.{Config}
 use Rattle.std.proofs.lemmas.Bool.{cases_eq}
-use Rattle.cc_machine.proofs.Chains.Registers.{HasSide}
-use Rattle.cc_machine.proofs.Chains.Opening.{no_calls}
-use Rattle.cc_machine.proofs.ListRuns.Decided.{group_mine, group_other}
-use Rattle.cc_machine.proofs.ListRuns.Least.{least_smallest, counts_get}
-use Rattle.cc_machine.proofs.LinkedList.Sides.{smallest, smallest_one, smallest_min}
-use Rattle.cc_machine.specs.Safe.{HasOpenCall}
+use Rattle.cc_runs.proofs.Chains.Registers.{HasSide}
+use Rattle.cc_runs.proofs.Chains.Opening.{no_calls}
+use Rattle.cc_runs.proofs.ListRuns.Decided.{group_mine, group_other}
+use Rattle.cc_runs.proofs.ListRuns.Least.{least_smallest, counts_get}
+use Rattle.cc_runs.proofs.LinkedList.Sides.{smallest, smallest_one, smallest_min}
+use Rattle.cc_runs.specs.Safe.{HasOpenCall}
 use Rattle.cc_machine.specs.Known.{adds_entry, adds_shut, adds_handed, HasCounted, IsKnown, least_of, known_count}
 
 -- the smallest is the least one after another

@@ -1,5 +1,5 @@
 -- A board that a run led to, with room for the calls to come, stays one by each move.
-use Rattle.std.proofs.Common.{◌≡◌, ◌≢◌, ◌⊎◌, inl, inr, zero, suc, map, get_or, List, ◌==◌, ℕ, Bool, true, false, nat_lt, if◌then◌else◌, ◌+◌, ◌<◌, ◌≤◌, arith, refl, ap, sym, subst, ◌∙◌, length, [], ◌∷◌, Ok, Option, Some, None, IfSome, IfNone}
+use Rattle.std.proofs.Common.{◌≡◌, ◌≢◌, ◌⊎◌, inl, inr, zero, suc, map, get_or, List, ℕ, Bool, true, false, nat_lt, if◌then◌else◌, ◌+◌, ◌<◌, ◌≤◌, arith, refl, ap, sym, subst, ◌∙◌, length, [], ◌∷◌, Ok, Option, Some, None, IfSome, IfNone}
 use Rattle.std.proofs.lemmas.Bool.{cases_eq, eq-eqb, ne_eqb}
 use Rattle.std.proofs.lemmas.List.{length-map}
 use Rattle.cc_model.specs.Config.{config_fault}
@@ -7,36 +7,38 @@ use Rattle.cc_model.specs.Kept.{Kept, KeptSide, lists}
 use Rattle.cc_model.specs.Record.{Side, Record, silent}
 use Rattle.cc_model.specs.declared.call.Call.{Call}
 use Rattle.cc_model.specs.declared.call.Answer.{Answer}
-use Rattle.cc_machine.specs.declared.setting.Setting.{Setting}
-use Rattle.cc_machine.specs.declared.word.Chain.{Chain}
-use Rattle.cc_machine.specs.declared.word.Chain.TheVariants.{Send, Take}
-use Rattle.cc_machine.specs.declared.place.Stand.{Stand}
-use Rattle.cc_machine.specs.declared.place.Place.{Place}
-use Rattle.cc_machine.specs.declared.place.Place.TheVariants as place
-use Rattle.cc_machine.specs.declared.place.Sending.TheVariants as sending
+use Rattle.cc_runs.specs.declared.setting.Setting.{Setting}
+use Rattle.cc_runs.specs.declared.word.Chain.{Chain}
+use Rattle.cc_runs.specs.declared.word.Chain.TheVariants.{Send, Take}
+use Rattle.cc_runs.specs.declared.place.Stand.{Stand}
+use Rattle.cc_runs.specs.declared.place.Place.{Place}
+use Rattle.cc_runs.specs.declared.place.Place.TheVariants as place
+use Rattle.cc_runs.specs.declared.place.Sending.TheVariants as sending
 use Rattle.cc_machine.specs.declared.board.Board.{Board}
-use Rattle.cc_machine.specs.Words.{groups, IsSmall, layout_of, size}
-use Rattle.cc_machine.specs.Sides.{IsThere}
-use Rattle.cc_machine.specs.declared.setting.Served.{Served}
+use Rattle.cc_runs.specs.Words.{groups, IsSmall, layout_of, size}
+use Rattle.cc_runs.specs.Sides.{IsThere}
+use Rattle.cc_runs.specs.declared.setting.Served.{Served}
 use Rattle.cc_model.specs.declared.config.Config.{Config}
-use Rattle.cc_machine.proofs.Chains.Registers.{IsChainOf, HasSide}
-use Rattle.cc_machine.proofs.Chains.Opening.{no_calls}
-use Rattle.cc_machine.proofs.Chains.Facts.{side_same}
-use Rattle.cc_machine.proofs.Chains.Others.{IsOther, side_other, group_in}
-use Rattle.cc_machine.proofs.Chains.Serving.{chain_is}
-use Rattle.cc_machine.proofs.ChainRuns.{sides_are}
-use Rattle.cc_machine.specs.State.{State, side, appended, chain_of, first_node, hold, noted, word_of}
-use Rattle.cc_machine.specs.Columns.{event_at, operation, goes, enters, decides}
-use Rattle.cc_machine.specs.Step.{advanced, stepped}
-use Rattle.cc_machine.specs.declared.place.Event.{Event}
-use Rattle.cc_machine.specs.declared.place.Event.TheVariants.{Did, Idle}
-use Rattle.cc_machine.specs.Run.{opening, nowhere, Move, Begin, Step, Take as Taken, passes, moved, reached, IsRun, May, rests, IsFinished}
-use Rattle.cc_machine.specs.Safe.{HasOpenCall, IsOpenAt, IsReady}
+use Rattle.cc_runs.proofs.Chains.Registers.{IsChainOf, HasSide}
+use Rattle.cc_runs.proofs.Chains.Opening.{no_calls}
+use Rattle.cc_runs.proofs.Chains.Facts.{side_same}
+use Rattle.cc_runs.proofs.Chains.Others.{IsOther, side_other, group_in}
+use Rattle.cc_runs.proofs.Chains.Serving.{chain_is}
+use Rattle.cc_runs.proofs.ChainRuns.{sides_are}
+use Rattle.cc_runs.specs.State.{State, side, appended, chain_of, first_node, hold, noted, word_of}
+use Rattle.cc_runs.specs.Columns.{event_at, operation, goes, enters, decides}
+use Rattle.cc_runs.specs.Step.{advanced, stepped}
+use Rattle.cc_runs.specs.declared.place.Event.{Event}
+use Rattle.cc_runs.specs.declared.place.Event.TheVariants.{Did, Idle}
+use Rattle.cc_runs.specs.declared.run.Move.{Move}
+use Rattle.cc_runs.specs.declared.run.Move.TheVariants.{Begin, Step, Take as Taken}
+use Rattle.cc_runs.specs.Run.{opening, nowhere, passes, moved, reached, IsRun, May, rests, IsFinished}
+use Rattle.cc_runs.specs.Safe.{HasOpenCall, IsOpenAt, IsReady}
 use Rattle.cc_machine.specs.View.{View, state_in}
 use Rattle.cc_machine.specs.Shown.{kept_side, view_of, state_of, IsLaid, Keeps, HasCallRoom, HasAnswerRoom, HasRoom, CanStep, seat_at, Moved}
 use Rattle.cc_machine.specs.Machine.{IsReached, told_at}
 use Rattle.cc_machine.specs.Lawful.{to_come, coming, HasRoomToCome, IsLawful}
-use Rattle.cc_machine.specs.CallsMade.{before_exchange}
+use Rattle.cc_runs.specs.CallsMade.{before_exchange}
 use Rattle.cc_machine.proofs.Coming.{one_on_side, coming_hold, coming_some, coming_none}
 use Rattle.cc_machine.proofs.Gained.{gained}
 

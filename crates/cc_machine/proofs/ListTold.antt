@@ -5,15 +5,15 @@ use Rattle.cc_model.specs.Kept.{lists}
 use Rattle.cc_model.specs.Record.{Record}
 use Rattle.cc_model.specs.Legal.{Legal}
 use Rattle.cc_machine.specs.declared.board.Board.{Board}
-use Rattle.cc_machine.specs.State.{State}
+use Rattle.cc_runs.specs.State.{State}
 use Rattle.cc_machine.specs.Shown.{view_of, state_of}
 use Rattle.cc_machine.specs.Lawful.{IsLawful}
 use Rattle.cc_machine.proofs.LawfulMoves.{history_in}
-use Rattle.cc_machine.specs.declared.setting.Setting.{Setting}
-use Rattle.cc_machine.specs.declared.setting.Served.TheVariants as served
+use Rattle.cc_runs.specs.declared.setting.Setting.{Setting}
+use Rattle.cc_runs.specs.declared.setting.Served.TheVariants as served
 use Rattle.cc_machine.proofs.BoardLaws.{AlwaysTold}
-use Rattle.cc_machine.proofs.ListRuns.Ready.{list_answer}
-use Rattle.cc_machine.proofs.ListRuns.Laws.{history_is_legal}
+use Rattle.cc_runs.proofs.ListRuns.Ready.{list_answer}
+use Rattle.cc_runs.proofs.ListRuns.Laws.{history_is_legal}
 
 -- its answer in the history
 pub list_told : (c : Setting) → c.served ≡ served.List → config_fault c.config ≡ Ok tt → AlwaysTold c

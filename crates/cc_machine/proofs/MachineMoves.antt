@@ -4,30 +4,30 @@ use Rattle.cc_model.specs.Record.{Record, empty, of_group}
 use Rattle.cc_model.specs.Kept.{lists}
 use Rattle.cc_model.specs.declared.call.Call.{Call}
 use Rattle.cc_model.specs.declared.call.Answer.{Answer}
-use Rattle.cc_machine.specs.declared.setting.Setting.{Setting}
-use Rattle.cc_machine.specs.declared.setting.Served.TheVariants as served
+use Rattle.cc_runs.specs.declared.setting.Setting.{Setting}
+use Rattle.cc_runs.specs.declared.setting.Served.TheVariants as served
 use Rattle.cc_machine.specs.declared.fault.BeginFault.{BeginFault}
 use Rattle.cc_machine.specs.declared.known.Known.{Known}
-use Rattle.cc_machine.specs.declared.word.Chain.{Chain}
+use Rattle.cc_runs.specs.declared.word.Chain.{Chain}
 use Rattle.cc_machine.specs.declared.board.Board.{Board}
-use Rattle.cc_machine.specs.declared.place.Event.{Event}
-use Rattle.cc_machine.specs.declared.place.Event.TheVariants.{Did, Idle}
-use Rattle.cc_machine.specs.declared.place.Place.{Place}
-use Rattle.cc_machine.specs.declared.place.Place.TheVariants as place
-use Rattle.cc_machine.specs.declared.place.Sending.TheVariants as sending
-use Rattle.cc_machine.specs.State.{State, chain_of, word_of}
-use Rattle.cc_machine.specs.Columns.{operation, enters, decides}
-use Rattle.cc_machine.specs.Step.{stepped}
-use Rattle.cc_machine.specs.Run.{opening}
-use Rattle.cc_machine.specs.Safe.{WhileUndecided, HasOpenCall, IsReady}
+use Rattle.cc_runs.specs.declared.place.Event.{Event}
+use Rattle.cc_runs.specs.declared.place.Event.TheVariants.{Did, Idle}
+use Rattle.cc_runs.specs.declared.place.Place.{Place}
+use Rattle.cc_runs.specs.declared.place.Place.TheVariants as place
+use Rattle.cc_runs.specs.declared.place.Sending.TheVariants as sending
+use Rattle.cc_runs.specs.State.{State, chain_of, word_of}
+use Rattle.cc_runs.specs.Columns.{operation, enters, decides}
+use Rattle.cc_runs.specs.Step.{stepped}
+use Rattle.cc_runs.specs.Run.{opening}
+use Rattle.cc_runs.specs.Safe.{WhileUndecided, HasOpenCall, IsReady}
 use Rattle.cc_machine.specs.View.{View}
 use Rattle.cc_machine.specs.Shown.{view_of, state_of}
 use Rattle.cc_machine.specs.Machine.{HasBegun, HasStepped, HasTaken}
-use Rattle.cc_machine.specs.Words.{groups}
-use Rattle.cc_machine.specs.Columns.{group_of}
+use Rattle.cc_runs.specs.Words.{groups}
+use Rattle.cc_runs.specs.Columns.{group_of}
 use Rattle.cc_machine.specs.Shown.{IsLaid}
-use Rattle.cc_machine.specs.Run.{passes}
-use Rattle.cc_machine.proofs.Chains.Registers.{HasSide}
+use Rattle.cc_runs.specs.Run.{passes}
+use Rattle.cc_runs.proofs.Chains.Registers.{HasSide}
 use Rattle.cc_machine.specs.Known.{HasCounted}
 use Rattle.cc_machine.specs.Lawful.{IsLawful, IsMachine}
 use Rattle.cc_machine.proofs.LawfulMoves.{history_in, has_side}

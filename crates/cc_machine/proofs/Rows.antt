@@ -4,11 +4,11 @@ use Rattle.cc_model.specs.Range.{within}
 use Rattle.cc_model.specs.declared.config.Config.{Config}
 use Rattle.cc_model.specs.declared.call.Pass.{Pass}
 use Rattle.cc_model.specs.declared.call.Pass.TheVariants as pass
-use Rattle.cc_machine.specs.declared.setting.Setting.{Setting}
-use Rattle.cc_machine.specs.declared.setting.Served.{Served}
-use Rattle.cc_machine.specs.declared.setting.Served.TheVariants as served
-use Rattle.cc_machine.specs.State.{pass_at}
-use Rattle.cc_machine.specs.Run.{passes_of, passes}
+use Rattle.cc_runs.specs.declared.setting.Setting.{Setting}
+use Rattle.cc_runs.specs.declared.setting.Served.{Served}
+use Rattle.cc_runs.specs.declared.setting.Served.TheVariants as served
+use Rattle.cc_runs.specs.State.{pass_at}
+use Rattle.cc_runs.specs.Run.{passes_of, passes}
 use Rattle.cc_machine.specs.Machine.{receiver_index, index_of}
 
 record IsRowOf (what : Served) (c : Config) (who : Pass) (p : ℕ) : Type 0 where

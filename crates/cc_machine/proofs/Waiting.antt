@@ -2,22 +2,20 @@
 use Rattle.std.proofs.Common.{◌≡◌, ℕ, Bool, true, false, Option, refl, sym, ap, ◌∙◌, Some, None, inl, inr}
 use Rattle.std.specs.Bool.{OnTrue}
 use Rattle.std.proofs.lemmas.Bool.{cases_eq, eqb-true}
-use Rattle.cc_machine.specs.declared.setting.Setting.{Setting}
-use Rattle.cc_machine.specs.declared.word.NodeField.TheVariants as node
-use Rattle.cc_machine.specs.declared.word.Word.TheVariants.{Node}
-use Rattle.cc_machine.specs.declared.place.Place.{Place}
-use Rattle.cc_machine.specs.declared.place.Place.TheVariants as place
-use Rattle.cc_machine.specs.declared.place.Stand.{Stand}
-use Rattle.cc_machine.specs.declared.word.Chain.{Chain}
-use Rattle.cc_machine.specs.declared.word.Chain.TheVariants.{Send, Take}
-use Rattle.cc_model.specs.Record.{Record}
-use Rattle.cc_machine.proofs.Chains.Facts.{noted_none}
-use Rattle.cc_machine.specs.State.{State, chain_of, hold, noted}
-use Rattle.cc_machine.specs.Columns.{after_state}
-use Rattle.cc_machine.specs.Step.{stepped, stepped_from}
+use Rattle.cc_runs.specs.declared.setting.Setting.{Setting}
+use Rattle.cc_runs.specs.declared.word.NodeField.TheVariants as node
+use Rattle.cc_runs.specs.declared.word.Word.TheVariants.{Node}
+use Rattle.cc_runs.specs.declared.place.Place.{Place}
+use Rattle.cc_runs.specs.declared.place.Place.TheVariants as place
+use Rattle.cc_runs.specs.declared.place.Stand.{Stand}
+use Rattle.cc_runs.specs.declared.word.Chain.{Chain}
+use Rattle.cc_runs.proofs.Chains.Facts.{noted_none}
+use Rattle.cc_runs.specs.State.{State, chain_of, hold}
+use Rattle.cc_runs.specs.Columns.{after_state}
+use Rattle.cc_runs.specs.Step.{stepped, stepped_from}
 use Rattle.cc_machine.specs.View.{View, state_in}
 use Rattle.cc_machine.specs.Machine.{waits_at, waits_in, StandsStill}
-use Rattle.cc_machine.proofs.Chains.Frame.{hold_here, hold_apart}
+use Rattle.cc_runs.proofs.Chains.Frame.{hold_here, hold_apart}
 
 -- a pass that waits is about to read its state, and stays as it is
 pub record IsStill (c : Setting) (s : State) (p : ℕ) : Type 0 where

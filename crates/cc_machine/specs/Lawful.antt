@@ -1,22 +1,21 @@
 -- The boards that runs lead to, with room in the history for every call to come.
 use Rattle.std.specs.Prelude.{◌≡◌, ℕ, zero, suc, ◌+◌, ◌≤◌, ◌<◌, ◌==◌, max, Bool, if◌then◌else◌, length, Ok}
 use Rattle.cc_model.specs.Config.{config_fault}
-use Rattle.cc_machine.specs.declared.setting.Setting.{Setting}
-use Rattle.cc_machine.specs.declared.setting.Served.TheVariants as served
-use Rattle.cc_machine.specs.declared.word.Chain.{Chain}
-use Rattle.cc_machine.specs.declared.word.Chain.TheVariants.{Send, Take}
-use Rattle.cc_machine.specs.declared.place.Stand.{Stand}
-use Rattle.cc_machine.specs.declared.place.Place.{Place}
-use Rattle.cc_machine.specs.declared.place.Place.TheVariants as place
+use Rattle.cc_runs.specs.declared.setting.Setting.{Setting}
+use Rattle.cc_runs.specs.declared.setting.Served.TheVariants as served
+use Rattle.cc_runs.specs.declared.word.Chain.{Chain}
+use Rattle.cc_runs.specs.declared.word.Chain.TheVariants.{Send, Take}
+use Rattle.cc_runs.specs.declared.place.Stand.{Stand}
+use Rattle.cc_runs.specs.declared.place.Place.{Place}
 use Rattle.cc_machine.specs.declared.board.Board.{Board}
 use Rattle.cc_model.specs.Kept.{lists}
-use Rattle.cc_machine.specs.Sides.{IsThere}
+use Rattle.cc_runs.specs.Sides.{IsThere}
 use Rattle.cc_machine.specs.declared.known.Known.{Known}
 use Rattle.cc_machine.specs.Known.{IsKnown}
-use Rattle.cc_machine.specs.State.{chain_of, side}
-use Rattle.cc_machine.specs.Run.{passes}
+use Rattle.cc_runs.specs.State.{chain_of, side}
+use Rattle.cc_runs.specs.Run.{passes}
 use Rattle.cc_machine.specs.Shown.{view_of, state_of, IsLaid, kept_side}
-use Rattle.cc_machine.specs.CallsMade.{before_exchange}
+use Rattle.cc_runs.specs.CallsMade.{before_exchange}
 use Rattle.cc_machine.specs.Machine.{IsReached}
 
 -- such a call of a sender, or of a receiver

@@ -1,37 +1,33 @@
 -- What a caller sees of a machine, and what each call does to it.
-use Rattle.std.specs.Prelude.{◌≡◌, ◌==◌, Bool, false, ℕ, ◌+◌, ◌-◌, ◌*◌, nat_lt, if◌then◌else◌, List, [], ◌∷◌, ◌++◌, Option, Some, None, Result, Ok, Err, ⊤}
+use Rattle.std.specs.Prelude.{◌≡◌, ◌==◌, Bool, false, ℕ, ◌+◌, ◌-◌, ◌*◌, nat_lt, if◌then◌else◌, List, Option, Some, None, Result, Ok, Err, ⊤}
 use Rattle.cc_model.specs.Range.{within}
-use Rattle.cc_model.specs.Config.{config_fault}
-use Rattle.cc_model.specs.Items.{calls_of}
-use Rattle.cc_model.specs.Record.{Record}
 use Rattle.cc_model.specs.declared.config.Config.{Config}
-use Rattle.cc_model.specs.declared.call.Entry.{Entry}
 use Rattle.cc_model.specs.declared.call.Pass.{Pass}
 use Rattle.cc_model.specs.declared.call.Pass.TheVariants as pass
 use Rattle.cc_model.specs.declared.call.Call.{Call}
 use Rattle.cc_model.specs.declared.call.Call.TheVariants as call
 use Rattle.cc_model.specs.declared.call.Answer.{Answer}
-use Rattle.cc_machine.specs.declared.setting.Setting.{Setting}
-use Rattle.cc_machine.specs.declared.setting.Served.{Served}
-use Rattle.cc_machine.specs.declared.setting.Served.TheVariants as served
-use Rattle.cc_machine.specs.declared.fault.OpenFault.{OpenFault}
-use Rattle.cc_machine.specs.declared.fault.OpenFault.TheVariants as open_fault
+use Rattle.cc_runs.specs.declared.setting.Setting.{Setting}
+use Rattle.cc_runs.specs.declared.setting.Served.{Served}
+use Rattle.cc_runs.specs.declared.setting.Served.TheVariants as served
 use Rattle.cc_machine.specs.declared.fault.BeginFault.{BeginFault}
 use Rattle.cc_machine.specs.declared.fault.BeginFault.TheVariants as fault
-use Rattle.cc_machine.specs.declared.word.Chain.{Chain}
-use Rattle.cc_machine.specs.declared.word.Chain.TheVariants as chain
-use Rattle.cc_machine.specs.declared.place.Event.{Event}
-use Rattle.cc_machine.specs.declared.place.Event.TheVariants as event
-use Rattle.cc_machine.specs.declared.place.Place.{Place}
-use Rattle.cc_machine.specs.declared.place.Place.TheVariants as place
-use Rattle.cc_machine.specs.Words.{groups}
-use Rattle.cc_machine.specs.declared.word.NodeField.TheVariants as node
-use Rattle.cc_machine.specs.declared.word.Word.TheVariants.{Node}
-use Rattle.cc_machine.specs.State.{State, chain_of}
+use Rattle.cc_runs.specs.declared.word.Chain.{Chain}
+use Rattle.cc_runs.specs.declared.word.Chain.TheVariants as chain
+use Rattle.cc_runs.specs.declared.place.Event.{Event}
+use Rattle.cc_runs.specs.declared.place.Event.TheVariants as event
+use Rattle.cc_runs.specs.declared.place.Place.{Place}
+use Rattle.cc_runs.specs.declared.place.Place.TheVariants as place
+use Rattle.cc_runs.specs.Words.{groups}
+use Rattle.cc_runs.specs.declared.word.NodeField.TheVariants as node
+use Rattle.cc_runs.specs.declared.word.Word.TheVariants.{Node}
+use Rattle.cc_runs.specs.State.{State, chain_of}
 use Rattle.cc_machine.specs.View.{View, state_in}
-use Rattle.cc_machine.specs.Columns.{event_at}
-use Rattle.cc_machine.specs.Step.{stepped}
-use Rattle.cc_machine.specs.Run.{Move, Begin, Step, Take, opening, moved, reached, begun_after, IsRun}
+use Rattle.cc_runs.specs.Columns.{event_at}
+use Rattle.cc_runs.specs.Step.{stepped}
+use Rattle.cc_runs.specs.declared.run.Move.{Move}
+use Rattle.cc_runs.specs.declared.run.Move.TheVariants.{Begin, Step, Take}
+use Rattle.cc_runs.specs.Run.{opening, moved, reached, begun_after, IsRun}
 
 -- some run leads here
 pub record IsReached (m : View) : Type 0 where
@@ -48,11 +44,6 @@ pub record IsOpened (what : Served) (c : Config) (m : View) : Type 0 where
 pub record IsAfter (old : View) (move : Move) (new : View) : Type 0 where
   pub setting : new.setting ≡ old.setting
   pub state : state_in new ≡ moved old.setting (state_in old) move
-
--- an opening is refused for the configuration's first fault, or else for want of memory
-abbrev pub IsOpenFault : Config → OpenFault → Type 0
-IsOpenFault c (open_fault.Config f) = config_fault c ≡ Err f
-IsOpenFault c open_fault.NoMemory = config_fault c ≡ Ok tt
 
 -- the number of one that is numbered from 1 to count
 abbrev pub numbered : ℕ → ℕ → Option ℕ
@@ -158,9 +149,3 @@ abbrev pub HasTaken : View → Option ℕ → Option Answer → View → Type 0
 HasTaken old (Some p) (Some told) new = IsAfter old (Take p) new
 HasTaken old None (Some told) new = ⊥
 HasTaken old _ None new = new ≡ old
-
--- the last call of a pass in a history has this answer
-pub record IsLastAnswer (pass : Pass) (h : Record) (told : Answer) : Type 0 where
-  pub before : List (Entry × Option Answer)
-  pub entry : Entry
-  pub last : calls_of pass h ≡ before ++ (entry, Some told) ∷ []

@@ -1,23 +1,23 @@
 -- The state that a board shows, and what its steps ask for and do.
-use Rattle.std.specs.Prelude.{List, ◌≡◌, ◌≢◌, ℕ, ◌<◌, ◌≤◌, slice_index_or, length}
+use Rattle.std.specs.Prelude.{List, ◌≡◌, ◌≢◌, ℕ, ◌<◌, slice_index_or, length}
 use Rattle.cc_model.specs.Kept.{KeptSide, Kept, kept_of_group, lists}
-use Rattle.cc_machine.specs.declared.setting.Setting.{Setting}
-use Rattle.cc_machine.specs.declared.word.Chain.{Chain}
-use Rattle.cc_machine.specs.declared.word.Chain.TheVariants.{Send, Take}
-use Rattle.cc_machine.specs.declared.place.Kind.{Kind}
-use Rattle.cc_machine.specs.declared.place.Event.{Event}
-use Rattle.cc_machine.specs.declared.place.Event.TheVariants.{Did, Idle}
-use Rattle.cc_machine.specs.declared.place.Stand.{Stand}
-use Rattle.cc_machine.specs.declared.place.Place.{Place}
-use Rattle.cc_machine.specs.declared.place.Place.TheVariants as place
+use Rattle.cc_runs.specs.declared.setting.Setting.{Setting}
+use Rattle.cc_runs.specs.declared.word.Chain.{Chain}
+use Rattle.cc_runs.specs.declared.word.Chain.TheVariants.{Send, Take}
+use Rattle.cc_runs.specs.declared.place.Kind.{Kind}
+use Rattle.cc_runs.specs.declared.place.Event.{Event}
+use Rattle.cc_runs.specs.declared.place.Event.TheVariants.{Did, Idle}
+use Rattle.cc_runs.specs.declared.place.Stand.{Stand}
+use Rattle.cc_runs.specs.declared.place.Place.{Place}
+use Rattle.cc_runs.specs.declared.place.Place.TheVariants as place
 use Rattle.cc_machine.specs.declared.board.Board.{Board}
 use Rattle.cc_machine.specs.declared.board.Seat.{Seat}
-use Rattle.cc_machine.specs.Words.{IsSmall, layout_of, size, groups}
-use Rattle.cc_machine.specs.State.{State, first_node, chain_of}
-use Rattle.cc_machine.specs.Columns.{event_at}
-use Rattle.cc_machine.specs.Safe.{IsSafe, WhileUndecided}
-use Rattle.cc_machine.specs.Step.{stepped_from, stepped}
-use Rattle.cc_machine.specs.Run.{passes, nowhere}
+use Rattle.cc_runs.specs.Words.{IsSmall, layout_of, size, groups}
+use Rattle.cc_runs.specs.State.{State, first_node, chain_of}
+use Rattle.cc_runs.specs.Columns.{event_at}
+use Rattle.cc_runs.specs.Safe.{IsSafe, WhileUndecided}
+use Rattle.cc_runs.specs.Step.{stepped_from, stepped}
+use Rattle.cc_runs.specs.Run.{passes, nowhere}
 use Rattle.cc_machine.specs.View.{View, state_in}
 
 -- the view of a board

@@ -1,14 +1,12 @@
 ghost use Rattle.std.specs.Prelude.{◌≡◌, ◌+◌, ◌<◌, length, slice_set, IsTrue, None, Some, ◌≢◌, IfSome, IfNone};
-ghost use Rattle.cc_machine.specs.Words as laid;
-ghost use Rattle.cc_machine.specs.Words.{layout_of, exists, put};
-ghost use Rattle.cc_machine.specs.State.{hold, noted};
-ghost use Rattle.cc_machine.specs.Columns.{group_of};
+ghost use Rattle.cc_runs.specs.Words as laid;
+ghost use Rattle.cc_runs.specs.Words.{layout_of, exists, put};
+ghost use Rattle.cc_runs.specs.State.{hold, noted};
+ghost use Rattle.cc_runs.specs.Columns.{group_of};
 ghost use Rattle.cc_machine.specs.Shown.{state_of, stand_of, IsLaid, Keeps, HasCallRoom, HasAnswerRoom};
 
-use crate::place::{Place, Stand};
-use crate::setting::Setting;
-use crate::word::{Chain, Word, address};
 use cc_model::{Answer, Entry, History};
+use cc_runs::{Chain, Place, Setting, Stand, Word, address};
 
 /// The words of one topic's table, where each pass stands, and the history.
 #[derive(Drop)]

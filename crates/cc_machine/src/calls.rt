@@ -1,13 +1,13 @@
 ghost use Rattle.cc_machine.specs.Shown.{CanStep, Stepped};
 ghost use Rattle.std.specs.Prelude.{◌≡◌};
-ghost use Rattle.cc_machine.specs.Columns.{serves};
+ghost use Rattle.cc_runs.specs.Columns.{serves};
 
 use crate::board::{Board, Seat};
-use crate::codes::{CODE, item_of, request_in, ret_of, sender_reads};
-use crate::place::{Counting, Job, Kind, Place, Request, Round, Sending, Taking};
-use crate::setting::Served;
-use crate::word::{Chain, NodeField, Word};
 use cc_model::{Answer, Entry, Item, TakeAnswer, pack};
+use cc_runs::{
+    CODE, Chain, Counting, Job, Kind, NodeField, Place, Request, Round, Sending, Served, Taking,
+    Word, item_of, request_in, ret_of, sender_reads,
+};
 
 /// Where a combiner begins: with its own node.
 fn first_round(node: u64) -> Place

@@ -1,9 +1,8 @@
 ghost use Rattle.cc_machine.specs.Shown.{CanStep, Stepped};
 
 use crate::board::{Board, Seat};
-use crate::place::{Counting, Job, Kind, Place};
-use crate::word::{Chain, NodeField, Object, Word};
 use cc_model::{Answer, SendAnswer};
+use cc_runs::{Chain, Counting, Job, Kind, NodeField, Object, Place, Word};
 
 /// The steps of the combiner in the service of one request to the counter.
 impl Board {

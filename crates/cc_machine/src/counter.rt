@@ -1,9 +1,7 @@
 use crate::board::Board;
-use crate::codes::count_word;
-use crate::fault::{BeginFault, OpenFault};
-use crate::place::Event;
-use crate::setting::{Served, Setting};
+use crate::fault::BeginFault;
 use cc_model::{Answer, Call, Config, History, Pass, SendAnswer};
+use cc_runs::{Event, OpenFault, Served, Setting, count_word};
 use std::alloc::Global;
 use std::marker::Model;
 
@@ -33,8 +31,10 @@ impl CounterMachine {
     ghost use Rattle.std.specs.Option.{option_map};
     ghost use Rattle.cc_model.specs.Kept.{lists};
     ghost use Rattle.cc_model.specs.Config.{config_fault};
-    ghost use Rattle.cc_machine.specs.Codes.{count_word};
-    ghost use Rattle.cc_machine.specs.Machine.{IsOpened, index_of, begin_fault, IsBeginFault, IsOpenFault, IsReached, IsLastAnswer, HasBegun, event_of, HasStepped, answer_of, HasTaken};
+    ghost use Rattle.cc_runs.specs.Codes.{count_word};
+    ghost use Rattle.cc_machine.specs.Machine.{IsOpened, index_of, begin_fault, IsBeginFault, IsReached, HasBegun, event_of, HasStepped, answer_of, HasTaken};
+    ghost use Rattle.cc_runs.specs.ChainLaws.{IsLastAnswer};
+    ghost use Rattle.cc_runs.specs.Opening.{IsOpenFault};
 
     /// A machine with every pass idle and the counter at 0. The whole configuration is checked.
     pub fn open(alloc: Global, config: &Config) -> Result<CounterMachine, OpenFault>

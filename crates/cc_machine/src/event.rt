@@ -1,13 +1,13 @@
 ghost use Rattle.std.specs.Prelude.{◌≡◌, ◌<◌, ℕ, Some, length, IfSome, IfNone};
 ghost use Rattle.cc_machine.specs.Shown.{state_of, IsLaid, CanStep, Stepped, seat_at, Moved};
-ghost use Rattle.cc_machine.specs.State.{chain_of};
-ghost use Rattle.cc_machine.specs.Columns.{event_at, group_of};
+ghost use Rattle.cc_runs.specs.State.{chain_of};
+ghost use Rattle.cc_runs.specs.Columns.{event_at, group_of};
 ghost use Rattle.cc_machine.specs.Machine.{index_of, waits_at};
 
 use crate::board::{Board, Seat};
-use crate::place::{Event, Kind, Place, Stand};
-use crate::word::{Chain, NodeField, Word};
+use crate::row::row;
 use cc_model::Pass;
+use cc_runs::{Chain, Event, Kind, NodeField, Place, Stand, Word};
 
 impl Board {
     /// Where a pass stands.
@@ -39,10 +39,10 @@ impl Board {
         ensures chain { (p : ℕ) → index_of self.now.setting pass ≡ Some p → group_of (chain_of self.now.setting.config p) ≡ result }
         ensures inside { result < length self.now.history.takes }
     {
-        let Some(row) = self.setting.row(pass) else {
+        let Some(place) = row(&self.setting, pass) else {
             return 0;
         };
-        match self.chain(row) {
+        match self.chain(place) {
             Chain::Send => 0,
             Chain::Take(group) => group as usize,
         }

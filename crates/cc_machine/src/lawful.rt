@@ -1,21 +1,21 @@
 ghost use Rattle.std.specs.Prelude.{◌≡◌, ◌≤◌, ◌<◌, ℕ, length, Some, Ok, OnOk, OnErr, IfOk, IfErr};
 ghost use Rattle.cc_model.specs.Config.{config_fault};
 ghost use Rattle.cc_model.specs.Items.{known_at};
-ghost use Rattle.cc_machine.specs.Safe.{IsReady};
+ghost use Rattle.cc_runs.specs.Safe.{IsReady};
 ghost use Rattle.cc_machine.specs.Shown.{view_of, state_of, kept_side, IsLaid};
-ghost use Rattle.cc_machine.specs.Run.{passes};
-ghost use Rattle.cc_machine.specs.Machine.{IsOpened, OnSide, index_of, begin_fault, IsBeginFault, IsOpenFault, HasBegun, event_of, HasStepped, answer_of, HasTaken};
-ghost use Rattle.cc_machine.specs.Sides.{IsThere};
+ghost use Rattle.cc_runs.specs.Run.{passes};
+ghost use Rattle.cc_machine.specs.Machine.{IsOpened, OnSide, index_of, begin_fault, IsBeginFault, HasBegun, event_of, HasStepped, answer_of, HasTaken};
+ghost use Rattle.cc_runs.specs.Opening.{IsOpenFault};
+ghost use Rattle.cc_runs.specs.Sides.{IsThere};
 ghost use Rattle.cc_machine.specs.Lawful.{if_to_come, to_come, all_coming, HasRoomToCome, LacksRoom, IsLawful};
-ghost use Rattle.cc_machine.specs.State.{chain_of};
+ghost use Rattle.cc_runs.specs.State.{chain_of};
 
 use crate::board::Board;
-use crate::fault::{BeginFault, OpenFault};
+use crate::fault::BeginFault;
 use crate::open::open;
-use crate::place::{Event, Place};
-use crate::setting::{Served, Setting};
-use crate::word::Chain;
+use crate::row::row;
 use cc_model::{Answer, Call, Pass};
+use cc_runs::{Chain, Event, OpenFault, Place, Served, Setting};
 use std::alloc::{AllocError, Global};
 
 /// A board whose passes are called by their names, and that is only ever moved as a run moves it.
@@ -52,7 +52,7 @@ impl Board {
         ensures ok { OnOk result (begin_fault (view_of self.now) pass call ≡ Ok tt) }
         ensures fault { IfErr result (λ fault. begin_fault (view_of self.now) pass call ≡ Err fault) }
     {
-        let Some(index) = self.setting.row(pass) else {
+        let Some(index) = row(&self.setting, pass) else {
             return Err(BeginFault::NoSuchPass);
         };
         if !self.is_on_side(self.chain(index), call) {
@@ -147,7 +147,7 @@ impl Board {
         ensures state { HasStepped (view_of self.old) (index_of self.old.setting pass) result (view_of self.new) }
         ensures lawful { IsLawful self.new }
     {
-        match self.setting.row(pass) {
+        match row(&self.setting, pass) {
             Some(index) => self.event(index),
             None => Event::Idle,
         }
@@ -160,7 +160,7 @@ impl Board {
         ensures state { HasTaken (view_of self.old) (index_of self.old.setting pass) result (view_of self.new) }
         ensures lawful { IsLawful self.new }
     {
-        match self.setting.row(pass) {
+        match row(&self.setting, pass) {
             Some(index) => self.answer(index),
             None => None,
         }

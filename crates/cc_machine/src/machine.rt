@@ -1,9 +1,9 @@
 use crate::board::Board;
-use crate::fault::{BeginFault, OpenFault};
+use crate::fault::BeginFault;
 use crate::known::Known;
-use crate::place::Event;
-use crate::setting::{Served, Setting};
+use crate::row::row;
 use cc_model::{Answer, Call, Config, History, Pass};
+use cc_runs::{Event, OpenFault, Served, Setting};
 use std::alloc::Global;
 use std::marker::Model;
 
@@ -37,7 +37,9 @@ impl Machine {
     ghost use Rattle.cc_model.specs.Kept.{lists};
     ghost use Rattle.cc_model.specs.Legal.{Legal};
     ghost use Rattle.cc_model.specs.Fifo.{Fifo};
-    ghost use Rattle.cc_machine.specs.Machine.{IsOpened, index_of, begin_fault, IsBeginFault, IsOpenFault, IsReached, IsLastAnswer, HasBegun, event_of, waits_in, StandsStill, HasStepped, answer_of, HasTaken};
+    ghost use Rattle.cc_machine.specs.Machine.{IsOpened, index_of, begin_fault, IsBeginFault, IsReached, HasBegun, event_of, waits_in, StandsStill, HasStepped, answer_of, HasTaken};
+    ghost use Rattle.cc_runs.specs.ChainLaws.{IsLastAnswer};
+    ghost use Rattle.cc_runs.specs.Opening.{IsOpenFault};
 
     /// The setting of a machine of this configuration.
     fn setting_of(config: &Config) -> Setting
@@ -67,7 +69,7 @@ impl Machine {
     pub fn row(config: &Config, pass: Pass) -> Option<usize>
         ensures { result ≡ index_of (record { served = Served.List; config = config.now }) pass }
     {
-        Machine::setting_of(config).row(pass)
+        row(&Machine::setting_of(config), pass)
     }
 
     /// Begins a call of an idle pass. It knows the machine's whole history at this moment. A refused call changes nothing.
@@ -103,7 +105,7 @@ impl Machine {
         ensures waits { result ≡ waits_in self.now (index_of self.now.setting pass) }
         ensures still { OnTrue result (StandsStill self.now (index_of self.now.setting pass)) }
     {
-        match self.board.setting.row(pass) {
+        match row(&self.board.setting, pass) {
             Some(index) => self.board.is_waiting(index),
             None => false,
         }

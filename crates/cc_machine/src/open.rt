@@ -1,13 +1,11 @@
 ghost use Rattle.std.specs.Prelude.{◌≡◌, IfOk};
-ghost use Rattle.cc_machine.specs.Words.{IsSmall, layout_of};
+ghost use Rattle.cc_runs.specs.Words.{IsSmall, layout_of};
 ghost use Rattle.cc_machine.specs.Shown.{state_of, IsLaid, StandFirst};
-ghost use Rattle.cc_machine.specs.Run.{opening};
+ghost use Rattle.cc_runs.specs.Run.{opening};
 
 use crate::board::Board;
-use crate::place::{Place, Stand};
-use crate::setting::{Served, Setting};
-use crate::word::{Chain, ItemField, Object, Word};
 use cc_model::History;
+use cc_runs::{Chain, ItemField, Object, Place, Served, Setting, Stand, Word};
 use std::alloc::{AllocError, Global};
 
 fn first_stand(node: u64) -> Stand
@@ -42,7 +40,7 @@ fn first_stands(alloc: Global, setting: Setting) -> Result<Vec<Stand>, AllocErro
 }
 
 /// A board at its opening.
-#[tactic(auto, using(crate::proofs::Opening::freed_all, crate::proofs::Opening::freed_more))]
+#[tactic(auto, using(cc_runs::proofs::Opening::freed_all, cc_runs::proofs::Opening::freed_more))]
 pub fn open(alloc: Global, setting: Setting) -> Result<Board, AllocError>
     requires small { IsSmall (layout_of setting.config) }
     ensures state { IfOk result (λ b. state_of b ≡ opening setting) }

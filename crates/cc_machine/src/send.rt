@@ -1,9 +1,10 @@
 ghost use Rattle.cc_machine.specs.Shown.{CanStep, Stepped};
 
 use crate::board::{Board, Seat};
-use crate::place::{Job, Kind, Parcel, Place, Request, Sending};
-use crate::word::{Chain, ItemField, NodeField, Object, Word};
 use cc_model::{Answer, CloseAnswer, SendAnswer};
+use cc_runs::{
+    Chain, ItemField, Job, Kind, NodeField, Object, Parcel, Place, Request, Sending, Word,
+};
 
 /// The steps of the senders' combiner in the service of one request.
 impl Board {
@@ -39,7 +40,7 @@ impl Board {
         Kind::ReadRequest
     }
 
-    #[tactic(auto, using(crate::proofs::Chains::Facts::noted_none))]
+    #[tactic(auto, using(cc_runs::proofs::Chains::Facts::noted_none))]
     fn read_shut(&mut self, seat: Seat, job: Job, request: Request) -> Kind
         requires { CanStep self.old seat (Place.Sending job (Sending.ReadShut request)) }
         ensures { Stepped self.old seat (Place.Sending job (Sending.ReadShut request)) result self.new }
@@ -74,7 +75,7 @@ impl Board {
         Kind::ReadObject
     }
 
-    #[tactic(auto, using(crate::proofs::Chains::Facts::noted_none))]
+    #[tactic(auto, using(cc_runs::proofs::Chains::Facts::noted_none))]
     fn read_count(&mut self, seat: Seat, job: Job, request: Request) -> Kind
         requires { CanStep self.old seat (Place.Sending job (Sending.ReadCount request)) }
         ensures { Stepped self.old seat (Place.Sending job (Sending.ReadCount request)) result self.new }
@@ -185,7 +186,7 @@ impl Board {
         Kind::ReadObject
     }
 
-    #[tactic(auto, using(crate::proofs::Chains::Facts::noted_none))]
+    #[tactic(auto, using(cc_runs::proofs::Chains::Facts::noted_none))]
     fn read_passed(&mut self, seat: Seat, job: Job, parcel: Parcel, node: u64, reads: u32) -> Kind
         requires { CanStep self.old seat (Place.Sending job (Sending.ReadPassed parcel node reads)) }
         ensures { Stepped self.old seat (Place.Sending job (Sending.ReadPassed parcel node reads)) result self.new }

@@ -1,10 +1,8 @@
 ghost use Rattle.cc_machine.specs.Shown.{CanStep, Stepped};
 
 use crate::board::{Board, Seat};
-use crate::codes::item_of;
-use crate::place::{Job, Kind, Parcel, Place, Taking};
-use crate::word::{ItemField, Object, Word};
 use cc_model::{Answer, TakeAnswer};
+use cc_runs::{ItemField, Job, Kind, Object, Parcel, Place, Taking, Word, item_of};
 
 /// The steps of a group's combiner in the service of one take.
 impl Board {
@@ -38,7 +36,7 @@ impl Board {
         Kind::ReadObject
     }
 
-    #[tactic(auto, using(crate::proofs::Chains::Facts::noted_none))]
+    #[tactic(auto, using(cc_runs::proofs::Chains::Facts::noted_none))]
     fn read_dummy_next(&mut self, seat: Seat, job: Job, dummy: u64, taken: u64) -> Kind
         requires { CanStep self.old seat (Place.Taking job (Taking.ReadDummyNext dummy taken)) }
         ensures { Stepped self.old seat (Place.Taking job (Taking.ReadDummyNext dummy taken)) result self.new }
@@ -62,7 +60,7 @@ impl Board {
         Kind::ReadDummyNext
     }
 
-    #[tactic(auto, using(crate::proofs::Chains::Facts::noted_none))]
+    #[tactic(auto, using(cc_runs::proofs::Chains::Facts::noted_none))]
     fn read_item_tag(&mut self, seat: Seat, job: Job, dummy: u64, taken: u64, node: u64) -> Kind
         requires { CanStep self.old seat (Place.Taking job (Taking.ReadItemTag dummy taken node)) }
         ensures { Stepped self.old seat (Place.Taking job (Taking.ReadItemTag dummy taken node)) result self.new }

@@ -13,21 +13,21 @@ use Rattle.cc_model.specs.declared.call.Call.TheVariants as call
 use Rattle.cc_model.specs.declared.call.Pass.{Pass}
 use Rattle.cc_model.specs.declared.call.Pass.TheVariants as pass
 use Rattle.cc_machine.specs.declared.fault.BeginFault.{BeginFault}
-use Rattle.cc_machine.specs.declared.setting.Setting.{Setting}
-use Rattle.cc_machine.specs.declared.setting.Served.TheVariants as served
-use Rattle.cc_machine.specs.declared.word.Chain.TheVariants as chain
-use Rattle.cc_machine.specs.declared.place.Event.{Event}
-use Rattle.cc_machine.specs.declared.place.Event.TheVariants as event
-use Rattle.cc_machine.specs.declared.place.Place.{Place}
-use Rattle.cc_machine.specs.declared.place.Place.TheVariants as place
-use Rattle.cc_machine.specs.declared.place.Stand.{Stand}
-use Rattle.cc_machine.specs.Columns.{event_at}
-use Rattle.cc_machine.specs.State.{State, chain_of, hold}
-use Rattle.cc_machine.specs.declared.run.Move.TheVariants.{Begin}
-use Rattle.cc_machine.specs.Run.{begun_after, nowhere, passes}
+use Rattle.cc_runs.specs.declared.setting.Setting.{Setting}
+use Rattle.cc_runs.specs.declared.setting.Served.TheVariants as served
+use Rattle.cc_runs.specs.declared.word.Chain.TheVariants as chain
+use Rattle.cc_runs.specs.declared.place.Event.{Event}
+use Rattle.cc_runs.specs.declared.place.Event.TheVariants as event
+use Rattle.cc_runs.specs.declared.place.Place.{Place}
+use Rattle.cc_runs.specs.declared.place.Place.TheVariants as place
+use Rattle.cc_runs.specs.declared.place.Stand.{Stand}
+use Rattle.cc_runs.specs.Columns.{event_at}
+use Rattle.cc_runs.specs.State.{State, chain_of, hold}
+use Rattle.cc_runs.specs.declared.run.Move.TheVariants.{Begin}
+use Rattle.cc_runs.specs.Run.{begun_after, nowhere, passes}
 use Rattle.cc_machine.specs.Machine.{index_of, IsOpened, IsAfter, event_of, event_in, HasStepped, told_at, told_in, answer_of, HasTaken, HasBegun, begin_fault, fault_at, unless_busy, unless_worn, unless_wrong}
 use Rattle.cc_machine.specs.View.{View, state_in}
-use Rattle.cc_machine.proofs.Chains.Frame.{hold_here, hold_apart}
+use Rattle.cc_runs.proofs.Chains.Frame.{hold_here, hold_apart}
 use Rattle.cc_plan.specs.Plan.{PlanValue}
 use Rattle.cc_plan.specs.PlanLaws.{IsOfSender, Lawful}
 use Rattle.cc_play.specs.Schedule.{setting_of, next_call, IsBetweenTurns}

@@ -4,9 +4,9 @@ use Rattle.std.proofs.lemmas.Grind.{common_steps}
 use Rattle.std.proofs.Math.Seq.{drop-cons}
 use Rattle.std.proofs.lemmas.List.{drop_all, length-replicate, get_or-replicate}
 use Rattle.cc_model.specs.declared.call.Pass.{Pass}
-use Rattle.cc_machine.specs.declared.setting.Served.TheVariants as served
-use Rattle.cc_machine.specs.declared.run.Move.{Move}
-use Rattle.cc_machine.specs.Run.{reached, passes, IsRun}
+use Rattle.cc_runs.specs.declared.setting.Served.TheVariants as served
+use Rattle.cc_runs.specs.declared.run.Move.{Move}
+use Rattle.cc_runs.specs.Run.{reached, passes, IsRun}
 use Rattle.cc_machine.specs.Machine.{index_of, IsOpened}
 use Rattle.cc_machine.specs.View.{View, state_in}
 use Rattle.cc_plan.specs.Plan.{PlanValue}

@@ -6,19 +6,19 @@ use Rattle.cc_model.specs.Items.{known_at}
 use Rattle.cc_model.specs.declared.call.Answer.{Answer}
 use Rattle.cc_model.specs.declared.call.Call.{Call}
 use Rattle.cc_model.specs.declared.call.Pass.{Pass}
-use Rattle.cc_machine.specs.declared.setting.Setting.{Setting}
-use Rattle.cc_machine.specs.declared.place.Event.{Event}
-use Rattle.cc_machine.specs.declared.place.Event.TheVariants as event
-use Rattle.cc_machine.specs.declared.place.Kind.{Kind}
-use Rattle.cc_machine.specs.declared.place.Place.{Place}
-use Rattle.cc_machine.specs.declared.place.Place.TheVariants as place
-use Rattle.cc_machine.specs.Columns.{event_at}
-use Rattle.cc_machine.specs.Step.{stepped as machine_stepped}
-use Rattle.cc_machine.specs.declared.place.Kind.TheVariants as kind
-use Rattle.cc_machine.specs.State.{State}
-use Rattle.cc_machine.specs.declared.run.Move.{Move}
-use Rattle.cc_machine.specs.declared.run.Move.TheVariants.{Begin, Step, Take}
-use Rattle.cc_machine.specs.Run.{reached, moved, rests, May, IsFinished}
+use Rattle.cc_runs.specs.declared.setting.Setting.{Setting}
+use Rattle.cc_runs.specs.declared.place.Event.{Event}
+use Rattle.cc_runs.specs.declared.place.Event.TheVariants as event
+use Rattle.cc_runs.specs.declared.place.Kind.{Kind}
+use Rattle.cc_runs.specs.declared.place.Place.{Place}
+use Rattle.cc_runs.specs.declared.place.Place.TheVariants as place
+use Rattle.cc_runs.specs.Columns.{event_at}
+use Rattle.cc_runs.specs.Step.{stepped as machine_stepped}
+use Rattle.cc_runs.specs.declared.place.Kind.TheVariants as kind
+use Rattle.cc_runs.specs.State.{State}
+use Rattle.cc_runs.specs.declared.run.Move.{Move}
+use Rattle.cc_runs.specs.declared.run.Move.TheVariants.{Begin, Step, Take}
+use Rattle.cc_runs.specs.Run.{reached, moved, rests, May, IsFinished}
 use Rattle.cc_machine.specs.Machine.{index_of, IsAfter, begin_fault, StandsStill, event_of, event_in, HasStepped, told_at, told_in, answer_of, HasTaken, HasBegun}
 use Rattle.cc_machine.specs.View.{View, state_in}
 use Rattle.cc_machine.proofs.Rows.{inside}

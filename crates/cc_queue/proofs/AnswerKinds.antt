@@ -17,7 +17,7 @@ use Rattle.cc_model.specs.declared.call.Answer.{Answer}
 use Rattle.cc_model.specs.declared.call.Answer.TheVariants as answer
 use Rattle.cc_model.specs.declared.call.SendAnswer.TheVariants as send
 use Rattle.cc_model.specs.declared.call.CloseAnswer.TheVariants as close
-use Rattle.cc_machine.specs.Machine.{IsLastAnswer}
+use Rattle.cc_runs.specs.ChainLaws.{IsLastAnswer}
 use Rattle.cc_queue.specs.Kept.{MadeLast, IsSend, IsClose}
 use Rattle.cc_queue.specs.Codes.{IsSendAnswer, IsCloseAnswer}
 

@@ -8,27 +8,27 @@ use Rattle.cc_model.specs.declared.call.Call.{Call}
 use Rattle.cc_model.specs.declared.call.TakeAnswer.{TakeAnswer}
 use Rattle.cc_model.specs.declared.call.TakeAnswer.TheVariants as take
 use Rattle.cc_model.specs.declared.call.Entry.{Entry}
-use Rattle.cc_machine.specs.declared.run.Move.{Move}
-use Rattle.cc_machine.specs.declared.setting.Setting.{Setting}
-use Rattle.cc_machine.specs.declared.setting.Served.TheVariants as served
-use Rattle.cc_machine.specs.declared.place.Stand.{Stand}
-use Rattle.cc_machine.specs.declared.place.Kind.TheVariants as kind
-use Rattle.cc_machine.specs.declared.place.Place.{Place}
-use Rattle.cc_machine.specs.declared.place.Place.TheVariants as place
-use Rattle.cc_machine.specs.Machine.{IsLastAnswer}
-use Rattle.cc_machine.specs.declared.word.Chain.TheVariants.{Send, Take}
+use Rattle.cc_runs.specs.declared.run.Move.{Move}
+use Rattle.cc_runs.specs.declared.setting.Setting.{Setting}
+use Rattle.cc_runs.specs.declared.setting.Served.TheVariants as served
+use Rattle.cc_runs.specs.declared.place.Stand.{Stand}
+use Rattle.cc_runs.specs.declared.place.Kind.TheVariants as kind
+use Rattle.cc_runs.specs.declared.place.Place.{Place}
+use Rattle.cc_runs.specs.declared.place.Place.TheVariants as place
+use Rattle.cc_runs.specs.ChainLaws.{IsLastAnswer}
+use Rattle.cc_runs.specs.declared.word.Chain.TheVariants.{Send, Take}
 use Rattle.cc_model.specs.declared.call.Pass.TheVariants as pass
-use Rattle.cc_machine.specs.Run.{IsRun, history_of, reached, begun_after}
-use Rattle.cc_machine.specs.CallsMade.{made, to_exchange}
-use Rattle.cc_machine.specs.ChainLaws.{IsOut}
-use Rattle.cc_machine.proofs.CallsMade.{calls_made}
-use Rattle.cc_machine.proofs.EndAnswered.{calls_end}
-use Rattle.cc_machine.proofs.RunFronts.{fronts_begin}
-use Rattle.cc_machine.proofs.ListRuns.Laws.{history_is_legal, history_is_fifo}
+use Rattle.cc_runs.specs.Run.{IsRun, history_of, reached, begun_after}
+use Rattle.cc_runs.specs.CallsMade.{made, to_exchange}
+use Rattle.cc_runs.specs.ChainLaws.{IsOut}
+use Rattle.cc_runs.proofs.CallsMade.{calls_made}
+use Rattle.cc_runs.proofs.EndAnswered.{calls_end}
+use Rattle.cc_runs.proofs.RunFronts.{fronts_begin}
+use Rattle.cc_runs.proofs.ListRuns.Laws.{history_is_legal, history_is_fifo}
 use Rattle.cc_steps.specs.Seen.{Onward, GoesOn, stand_in, made_in}
 use Rattle.cc_steps.specs.Topic.{Topic}
 use Rattle.cc_steps.specs.Walk.{Walk, IsOf, IsSameSeat, IsSound, IsPendingIn}
-use Rattle.cc_machine.specs.Columns.{group_of}
+use Rattle.cc_runs.specs.Columns.{group_of}
 use Rattle.cc_queue.specs.Group.{IsGroupOf, Ranked}
 use Rattle.cc_queue.specs.Headline.{StandsInOne, IsAtRest, entry_of, name, history}
 use Rattle.cc_queue.specs.Work.{IsOn, worked_to, tally, reads, marks, hands, scans}

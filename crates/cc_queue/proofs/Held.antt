@@ -19,13 +19,13 @@ use Rattle.cc_model.specs.declared.call.Pass.{Pass}
 use Rattle.cc_model.specs.declared.call.Pass.TheVariants.{Sender, Receiver}
 use Rattle.cc_model.specs.declared.call.Entry.{Entry}
 use Rattle.cc_model.specs.declared.call.Answer.{Answer}
-use Rattle.cc_machine.specs.Words.{groups}
-use Rattle.cc_machine.specs.State.{pass_at}
-use Rattle.cc_machine.specs.declared.run.Move.{Move}
-use Rattle.cc_machine.specs.declared.setting.Setting.{Setting}
-use Rattle.cc_machine.specs.Run.{history_of}
-use Rattle.cc_machine.proofs.ListRuns.Posts.{all_map}
-use Rattle.cc_machine.proofs.Ranges.{in_range}
+use Rattle.cc_runs.specs.Words.{groups}
+use Rattle.cc_runs.specs.State.{pass_at}
+use Rattle.cc_runs.specs.declared.run.Move.{Move}
+use Rattle.cc_runs.specs.declared.setting.Setting.{Setting}
+use Rattle.cc_runs.specs.Run.{history_of}
+use Rattle.cc_runs.proofs.ListRuns.Posts.{all_map}
+use Rattle.cc_runs.proofs.Ranges.{in_range}
 use Rattle.cc_audit.specs.Receipts.{send_receipt, take_receipt, sends_of, takes_of, takes_by, total_of}
 use Rattle.cc_audit.specs.Verdict.{IsVerdict}
 use Rattle.cc_audit.specs.declared.receipt.SendReceipt.{SendReceipt}

@@ -15,7 +15,7 @@ use Rattle.cc_model.specs.declared.call.Pass.{Pass}
 use Rattle.cc_model.specs.declared.call.Pass.TheVariants as pass
 use Rattle.cc_model.specs.declared.call.Entry.{Entry}
 use Rattle.cc_model.specs.declared.call.Answer.{Answer}
-use Rattle.cc_machine.proofs.Chains.Told.{filter-flat, flat-none, flat-one}
+use Rattle.cc_runs.proofs.Chains.Told.{filter-flat, flat-none, flat-one}
 
 abbrev pub Told : Type 0
 Told = Entry × Option Answer

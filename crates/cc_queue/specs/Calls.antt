@@ -7,10 +7,10 @@ use Rattle.cc_model.specs.declared.call.TakeAnswer.{TakeAnswer}
 use Rattle.cc_model.specs.declared.call.TakeAnswer.TheVariants as take
 use Rattle.cc_model.specs.declared.call.Answer.{Answer}
 use Rattle.cc_model.specs.declared.call.Answer.TheVariants as answer
-use Rattle.cc_machine.specs.declared.place.Kind.TheVariants as kind
-use Rattle.cc_machine.specs.Machine.{IsLastAnswer}
-use Rattle.cc_machine.specs.ChainLaws.{IsLastPending}
-use Rattle.cc_machine.specs.Run.{begun_after}
+use Rattle.cc_runs.specs.declared.place.Kind.TheVariants as kind
+use Rattle.cc_runs.specs.ChainLaws.{IsLastAnswer}
+use Rattle.cc_runs.specs.ChainLaws.{IsLastPending}
+use Rattle.cc_runs.specs.Run.{begun_after}
 use Rattle.cc_steps.specs.Walk.{Walk}
 use Rattle.cc_queue.specs.declared.passes.SendTurn.{SendTurn}
 use Rattle.cc_queue.specs.declared.passes.SendTurn.TheVariants as send_turn

@@ -8,8 +8,8 @@ use Rattle.cc_model.specs.Fifo.{Fifo}
 use Rattle.cc_model.specs.declared.call.Call.{Call}
 use Rattle.cc_model.specs.declared.call.Entry.{Entry}
 use Rattle.cc_model.specs.declared.call.Pass.{Pass}
-use Rattle.cc_machine.specs.State.{pass_at}
-use Rattle.cc_machine.specs.Run.{IsRun, history_of, number_of}
+use Rattle.cc_runs.specs.State.{pass_at}
+use Rattle.cc_runs.specs.Run.{IsRun, history_of, number_of}
 use Rattle.cc_steps.specs.Seen.{Onward, known_in}
 use Rattle.cc_steps.specs.Walk.{Walk, IsSameSeat}
 

@@ -1,7 +1,7 @@
 -- What passes know that have met.
 use Rattle.std.specs.Prelude.{◌≡◌, ℕ, ◌<◌, List, [], length, slice_index_or}
 use Rattle.std.specs.List.{All}
-use Rattle.cc_machine.specs.declared.run.Move.{Move}
+use Rattle.cc_runs.specs.declared.run.Move.{Move}
 use Rattle.cc_steps.specs.Topic.{Topic}
 use Rattle.cc_steps.specs.Seen.{Onward, Later}
 use Rattle.cc_steps.specs.Walk.{Walk, IsOf, IsSound}

@@ -9,7 +9,7 @@ use Rattle.cc_audit.specs.Receipts.{send_receipt, take_receipt}
 use Rattle.cc_audit.specs.declared.receipt.SendReceipt.{SendReceipt}
 use Rattle.cc_audit.specs.declared.receipt.TakeReceipt.{TakeReceipt}
 use Rattle.cc_model.specs.declared.config.Config.{Config}
-use Rattle.cc_machine.specs.Words.{groups}
+use Rattle.cc_runs.specs.Words.{groups}
 use Rattle.cc_steps.specs.Topic.{Topic}
 use Rattle.cc_steps.specs.Walk.{Walk, IsOf}
 use Rattle.cc_queue.specs.Headline.{name, history}

@@ -1,13 +1,13 @@
 -- A part of a call, as its seat sees it: where its pass has come, and which steps it did.
 use Rattle.std.specs.Prelude.{◌≡◌, ℕ, ◌+◌, ◌==◌, if◌then◌else◌, List, [], ◌∷◌}
 use Rattle.cc_model.specs.declared.config.Config.{Config}
-use Rattle.cc_machine.specs.declared.setting.Served.TheVariants as served
-use Rattle.cc_machine.specs.declared.word.Chain.{Chain}
-use Rattle.cc_machine.specs.declared.place.Place.{Place}
-use Rattle.cc_machine.specs.declared.place.Place.TheVariants as place
-use Rattle.cc_machine.specs.declared.place.Kind.{Kind}
-use Rattle.cc_machine.specs.declared.place.Kind.TheVariants as kind
-use Rattle.cc_machine.specs.State.{chain_of}
+use Rattle.cc_runs.specs.declared.setting.Served.TheVariants as served
+use Rattle.cc_runs.specs.declared.word.Chain.{Chain}
+use Rattle.cc_runs.specs.declared.place.Place.{Place}
+use Rattle.cc_runs.specs.declared.place.Place.TheVariants as place
+use Rattle.cc_runs.specs.declared.place.Kind.{Kind}
+use Rattle.cc_runs.specs.declared.place.Kind.TheVariants as kind
+use Rattle.cc_runs.specs.State.{chain_of}
 use Rattle.cc_steps.specs.Walk.{Walk}
 
 -- the pass is on this chain

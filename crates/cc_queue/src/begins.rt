@@ -1,20 +1,20 @@
 //! The begin of a call, over its seat: from the reset of the own node to its link.
 ghost use Rattle.std.specs.Prelude.{◌≡◌, ◌+◌, ◌<◌, ◌≤◌, ◌^◌, ◌∷◌, ◌++◌, [], Some, None};
 ghost use Rattle.cc_model.specs.declared.call.Call.TheVariants as call;
-ghost use Rattle.cc_machine.specs.declared.word.Chain.TheVariants.{Send, Take};
-ghost use Rattle.cc_machine.specs.declared.place.Place.TheVariants as place;
-ghost use Rattle.cc_machine.specs.Codes.{request_in};
-ghost use Rattle.cc_machine.specs.Columns.{after_exchange};
-ghost use Rattle.cc_machine.specs.Run.{begun_after};
+ghost use Rattle.cc_runs.specs.declared.word.Chain.TheVariants.{Send, Take};
+ghost use Rattle.cc_runs.specs.declared.place.Place.TheVariants as place;
+ghost use Rattle.cc_runs.specs.Codes.{request_in};
+ghost use Rattle.cc_runs.specs.Columns.{after_exchange};
+ghost use Rattle.cc_runs.specs.Run.{begun_after};
 ghost use Rattle.cc_steps.specs.Seen.{Onward};
 ghost use Rattle.cc_steps.specs.Shown.{CanStart};
-ghost use Rattle.cc_machine.specs.declared.setting.Served.TheVariants as served;
+ghost use Rattle.cc_runs.specs.declared.setting.Served.TheVariants as served;
 ghost use Rattle.cc_steps.specs.Walk.{IsOf, IsSameSeat, IsReadyToStep, IsPendingIn};
 ghost use Rattle.cc_queue.specs.Work.{IsOn, tally, reads, marks};
 ghost use Rattle.cc_queue.specs.Headline.{entry_of};
 
-use cc_machine::{Chain, NodeField, Request};
 use cc_model::Call;
+use cc_runs::{Chain, NodeField, Request};
 use cc_steps::seats::PassSeat;
 use cc_steps::steps;
 use cc_steps::words::Words;

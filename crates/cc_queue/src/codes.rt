@@ -1,11 +1,11 @@
 //! Answers as words: the code of the answer, and its number.
 ghost use Rattle.std.specs.Prelude.{◌≡◌};
 ghost use Rattle.cc_model.specs.declared.call.Answer.TheVariants as answer;
-ghost use Rattle.cc_machine.specs.Codes.{list_reads};
+ghost use Rattle.cc_runs.specs.Codes.{list_reads};
 ghost use Rattle.cc_queue.specs.Codes.{IsSendAnswer, IsCloseAnswer};
 
-use cc_machine::CODE;
 use cc_model::{CloseAnswer, SendAnswer};
+use cc_runs::CODE;
 
 /// The answer of a send that an answer word is.
 pub fn send_answer(ret: u64) -> SendAnswer

@@ -1,16 +1,16 @@
 //! The combining loop of CC-Synch, for either chain.
 ghost use Rattle.std.specs.Prelude.{◌≡◌, ◌≢◌, ◌+◌, ◌*◌, ◌<◌, ◌≤◌, ◌^◌, ◌==◌, if◌then◌else◌, Some, None};
-ghost use Rattle.cc_machine.specs.declared.place.Place.TheVariants as place;
-ghost use Rattle.cc_machine.specs.declared.setting.Served.TheVariants as served;
-ghost use Rattle.cc_machine.specs.Columns.{serves};
+ghost use Rattle.cc_runs.specs.declared.place.Place.TheVariants as place;
+ghost use Rattle.cc_runs.specs.declared.setting.Served.TheVariants as served;
+ghost use Rattle.cc_runs.specs.Columns.{serves};
 ghost use Rattle.cc_steps.specs.Seen.{Onward};
 ghost use Rattle.cc_steps.specs.Walk.{IsOf, IsReadyToStep};
 ghost use Rattle.cc_queue.specs.Work.{IsOn, IsListWith, worked_to, tally, reads, marks, hands, scans, round_place};
 
 use crate::sends::serve_request;
 use crate::takes::serve_take;
-use cc_machine::{Chain, Job, Round};
 use cc_model::Config;
+use cc_runs::{Chain, Job, Round};
 use cc_steps::seats::PassSeat;
 use cc_steps::steps;
 use cc_steps::words::Words;

@@ -24,7 +24,7 @@ pub struct Sender {
 impl Model for Sender {
     ghost use Rattle.std.specs.Arc.{arc_value};
     ghost use Rattle.cc_steps.specs.Walk.{Walk};
-    ghost use Rattle.cc_machine.specs.declared.place.Place.TheVariants.{Idle};
+    ghost use Rattle.cc_runs.specs.declared.place.Place.TheVariants.{Idle};
     ghost use Rattle.cc_queue.specs.Kept.{KeepsSender};
 
     ghost Value = { Walk };
@@ -47,7 +47,7 @@ pub struct PendingSend {
 impl Model for PendingSend {
     ghost use Rattle.std.specs.Arc.{arc_value};
     ghost use Rattle.cc_steps.specs.Walk.{Walk};
-    ghost use Rattle.cc_machine.specs.declared.place.Place.TheVariants.{ReadState};
+    ghost use Rattle.cc_runs.specs.declared.place.Place.TheVariants.{ReadState};
     ghost use Rattle.cc_queue.specs.Kept.{KeepsSender, MadeLast, IsSend};
 
     ghost Value = { Walk };
@@ -70,7 +70,7 @@ pub struct PendingClose {
 impl Model for PendingClose {
     ghost use Rattle.std.specs.Arc.{arc_value};
     ghost use Rattle.cc_steps.specs.Walk.{Walk};
-    ghost use Rattle.cc_machine.specs.declared.place.Place.TheVariants.{ReadState};
+    ghost use Rattle.cc_runs.specs.declared.place.Place.TheVariants.{ReadState};
     ghost use Rattle.cc_queue.specs.Kept.{KeepsSender, MadeLast, IsClose};
 
     ghost Value = { Walk };
@@ -92,7 +92,7 @@ pub struct Receiver {
 impl Model for Receiver {
     ghost use Rattle.std.specs.Arc.{arc_value};
     ghost use Rattle.cc_steps.specs.Walk.{Walk};
-    ghost use Rattle.cc_machine.specs.declared.place.Place.TheVariants.{Idle};
+    ghost use Rattle.cc_runs.specs.declared.place.Place.TheVariants.{Idle};
     ghost use Rattle.cc_queue.specs.Kept.{KeepsReceiver};
 
     ghost Value = { Walk };
@@ -113,7 +113,7 @@ pub struct PendingTake {
 impl Model for PendingTake {
     ghost use Rattle.std.specs.Arc.{arc_value};
     ghost use Rattle.cc_steps.specs.Walk.{Walk};
-    ghost use Rattle.cc_machine.specs.declared.place.Place.TheVariants.{ReadState};
+    ghost use Rattle.cc_runs.specs.declared.place.Place.TheVariants.{ReadState};
     ghost use Rattle.cc_queue.specs.Kept.{KeepsReceiver};
 
     ghost Value = { Walk };

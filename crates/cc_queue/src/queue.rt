@@ -2,16 +2,16 @@
 ghost use Rattle.std.specs.Arc.{arc_value};
 ghost use Rattle.std.specs.Prelude.{◌≡◌, ◌+◌, ◌*◌, ◌-◌, ◌≤◌, ◌<◌, length, IfOk, MatchResult, Ok};
 ghost use Rattle.cc_model.specs.Config.{config_fault};
-ghost use Rattle.cc_machine.specs.declared.setting.Served.TheVariants as served;
-ghost use Rattle.cc_machine.specs.Machine.{IsOpenFault};
-ghost use Rattle.cc_machine.specs.Words.{groups};
+ghost use Rattle.cc_runs.specs.declared.setting.Served.TheVariants as served;
+ghost use Rattle.cc_runs.specs.Opening.{IsOpenFault};
+ghost use Rattle.cc_runs.specs.Words.{groups};
 ghost use Rattle.cc_steps.specs.Opened as opened_words;
 ghost use Rattle.cc_steps.specs.Walk.{fresh, fresh_from};
 ghost use Rattle.cc_queue.specs.Opened.{HasOpened};
 
 use crate::passes::{Receiver, Sender};
-use cc_machine::OpenFault;
 use cc_model::Config;
+use cc_runs::OpenFault;
 use cc_steps::seats::PassSeat;
 use cc_steps::words::{OpenedWords, Words};
 use std::alloc::{AllocError, Global};

@@ -4,7 +4,7 @@ ghost use Rattle.std.specs.List.{All};
 ghost use Rattle.cc_audit.specs.Receipts.{total_of};
 ghost use Rattle.cc_audit.specs.Verdict.{IsVerdict};
 ghost use Rattle.cc_audit.specs.declared.receipt.Verdict.TheVariants.{Clean};
-ghost use Rattle.cc_machine.specs.Words.{groups};
+ghost use Rattle.cc_runs.specs.Words.{groups};
 ghost use Rattle.cc_queue.specs.Headline.{IsAtRest};
 ghost use Rattle.cc_queue.specs.Met.{HaveSeenOne};
 ghost use Rattle.cc_queue.specs.Receipts.{AreAll, HasJustCallsOf, in_group, seen_by, receipts_by, sent, got};

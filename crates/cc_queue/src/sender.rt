@@ -9,8 +9,8 @@ use crate::codes::{close_answer, send_answer};
 use crate::passes::{CloseTurn, PendingClose, PendingSend, SendTurn, Sender};
 use crate::queue::Queue;
 use crate::turns::turn_request;
-use cc_machine::Request;
 use cc_model::{Call, pack};
+use cc_runs::Request;
 
 /// Begins a send of this body. Err hands the sender back unchanged, where it has begun as many sends as one sender may.
 pub fn begin_send(queue: &Queue, sender: Sender, body: u64) -> Result<PendingSend, Sender>

@@ -2,16 +2,16 @@
 ghost use Rattle.std.specs.Prelude.{◌≡◌, ◌+◌, ◌<◌, ◌≤◌, ◌^◌, ◌==◌, if◌then◌else◌, Some, None};
 ghost use Rattle.cc_model.specs.declared.call.Answer.TheVariants as answer;
 ghost use Rattle.cc_model.specs.declared.call.SendAnswer.TheVariants as send;
-ghost use Rattle.cc_machine.specs.declared.setting.Served.TheVariants as served;
-ghost use Rattle.cc_machine.specs.declared.word.Chain.TheVariants.{Send};
-ghost use Rattle.cc_machine.specs.declared.place.Place.TheVariants as place;
-ghost use Rattle.cc_machine.specs.declared.place.Sending.TheVariants as sending;
+ghost use Rattle.cc_runs.specs.declared.setting.Served.TheVariants as served;
+ghost use Rattle.cc_runs.specs.declared.word.Chain.TheVariants.{Send};
+ghost use Rattle.cc_runs.specs.declared.place.Place.TheVariants as place;
+ghost use Rattle.cc_runs.specs.declared.place.Sending.TheVariants as sending;
 ghost use Rattle.cc_steps.specs.Seen.{Onward};
 ghost use Rattle.cc_steps.specs.Walk.{IsOf, IsReadyToStep};
 ghost use Rattle.cc_queue.specs.Work.{IsOn, IsListWith, worked_to, tally, reads, marks, hands, scans};
 
-use cc_machine::{CODE, Chain, ItemField, Job, NodeField, Object, Parcel};
 use cc_model::Config;
+use cc_runs::{CODE, Chain, ItemField, Job, NodeField, Object, Parcel};
 use cc_steps::seats::PassSeat;
 use cc_steps::steps;
 use cc_steps::words::Words;

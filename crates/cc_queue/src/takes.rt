@@ -1,14 +1,14 @@
 //! The service of a take: CC-Queue's dequeue, by the combiner of a group's chain.
 ghost use Rattle.std.specs.Prelude.{◌≡◌, ◌+◌, ◌<◌, ◌^◌, Some, None};
-ghost use Rattle.cc_machine.specs.declared.word.Chain.TheVariants.{Take};
-ghost use Rattle.cc_machine.specs.declared.place.Place.TheVariants as place;
-ghost use Rattle.cc_machine.specs.declared.place.Taking.TheVariants as taking;
-ghost use Rattle.cc_machine.specs.declared.setting.Served.TheVariants as served;
+ghost use Rattle.cc_runs.specs.declared.word.Chain.TheVariants.{Take};
+ghost use Rattle.cc_runs.specs.declared.place.Place.TheVariants as place;
+ghost use Rattle.cc_runs.specs.declared.place.Taking.TheVariants as taking;
+ghost use Rattle.cc_runs.specs.declared.setting.Served.TheVariants as served;
 ghost use Rattle.cc_steps.specs.Seen.{Onward};
 ghost use Rattle.cc_steps.specs.Walk.{IsOf, IsReadyToStep};
 ghost use Rattle.cc_queue.specs.Work.{IsOn, worked_to, tally, reads, marks, hands, scans};
 
-use cc_machine::{CODE, Chain, ItemField, Job, NodeField, Object, Parcel};
+use cc_runs::{CODE, Chain, ItemField, Job, NodeField, Object, Parcel};
 use cc_steps::seats::PassSeat;
 use cc_steps::steps;
 use cc_steps::words::Words;

@@ -1,18 +1,18 @@
 //! A turn, over its seat.
 ghost use Rattle.std.specs.Prelude.{◌≡◌, ◌≢◌, ◌+◌, ◌*◌, ◌<◌, ◌≤◌, ◌^◌, ◌∷◌, ◌==◌, if◌then◌else◌, IfSome, OnSome, IfNone, Some, None};
-ghost use Rattle.cc_machine.specs.declared.word.Chain.TheVariants.{Send, Take};
-ghost use Rattle.cc_machine.specs.declared.place.Kind.TheVariants as kind;
-ghost use Rattle.cc_machine.specs.declared.place.Place.TheVariants as place;
-ghost use Rattle.cc_machine.specs.declared.setting.Served.TheVariants as served;
+ghost use Rattle.cc_runs.specs.declared.word.Chain.TheVariants.{Send, Take};
+ghost use Rattle.cc_runs.specs.declared.place.Kind.TheVariants as kind;
+ghost use Rattle.cc_runs.specs.declared.place.Place.TheVariants as place;
+ghost use Rattle.cc_runs.specs.declared.setting.Served.TheVariants as served;
 ghost use Rattle.cc_model.specs.declared.call.Answer.TheVariants as answer;
-ghost use Rattle.cc_machine.specs.Codes.{list_reads};
+ghost use Rattle.cc_runs.specs.Codes.{list_reads};
 ghost use Rattle.cc_steps.specs.Seen.{Onward};
 ghost use Rattle.cc_steps.specs.Walk.{IsOf, IsReadyToStep, IsToldAt};
 ghost use Rattle.cc_queue.specs.Work.{IsOn, IsListWith, worked_to, tally, reads, marks, hands, scans};
 
 use crate::combine::combine;
-use cc_machine::{CODE, Chain, NodeField};
 use cc_model::{Config, Item, TakeAnswer, unpack};
+use cc_runs::{CODE, Chain, NodeField};
 use cc_steps::seats::PassSeat;
 use cc_steps::steps;
 use cc_steps::words::Words;

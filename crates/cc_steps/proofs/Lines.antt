@@ -1,12 +1,12 @@
 -- The slots of a table: past the configuration, and on different lines where different threads write.
 use Rattle.std.proofs.Common.{◌≡◌, ℕ, ◌+◌, ◌*◌, ◌<◌, ◌≤◌, IsTrue, refl, sym, ap, ◌∙◌, arith}
-use Rattle.cc_machine.specs.declared.word.Chain.TheVariants.{Send, Take}
-use Rattle.cc_machine.specs.declared.word.Chain.TheVariants as chain
-use Rattle.cc_machine.specs.declared.word.Object.TheVariants as object
-use Rattle.cc_machine.specs.declared.word.Word.{Word}
-use Rattle.cc_machine.specs.declared.word.Word.TheVariants as word
-use Rattle.cc_machine.specs.Words.{Layout, IsRoomy, exists}
-use Rattle.cc_machine.proofs.Words.{one_to_one, field_small, part_small}
+use Rattle.cc_runs.specs.declared.word.Chain.TheVariants.{Send, Take}
+use Rattle.cc_runs.specs.declared.word.Chain.TheVariants as chain
+use Rattle.cc_runs.specs.declared.word.Object.TheVariants as object
+use Rattle.cc_runs.specs.declared.word.Word.{Word}
+use Rattle.cc_runs.specs.declared.word.Word.TheVariants as word
+use Rattle.cc_runs.specs.Words.{Layout, IsRoomy, exists}
+use Rattle.cc_runs.proofs.Words.{one_to_one, field_small, part_small}
 use Rattle.cc_steps.specs.Slots.{spread, slot, first_beside, LinesApart}
 
 pub spread_roomy : IsRoomy spread

@@ -1,12 +1,12 @@
 -- A combiner that has served nobody yet finds its own node linked.
 use Rattle.std.proofs.Common.{◌≡◌, ℕ, ◌<◌, List, ◌++◌, None, refl, sym, ap, ◌∙◌, subst}
-use Rattle.cc_machine.specs.declared.run.Move.{Move}
-use Rattle.cc_machine.specs.declared.setting.Setting.{Setting}
-use Rattle.cc_machine.specs.declared.place.Stand.{Stand}
-use Rattle.cc_machine.specs.declared.place.Place.{Place}
-use Rattle.cc_machine.specs.declared.place.Place.TheVariants as place
-use Rattle.cc_machine.specs.State.{word_of}
-use Rattle.cc_machine.proofs.ChainLaws.{chain_laws}
+use Rattle.cc_runs.specs.declared.run.Move.{Move}
+use Rattle.cc_runs.specs.declared.setting.Setting.{Setting}
+use Rattle.cc_runs.specs.declared.place.Stand.{Stand}
+use Rattle.cc_runs.specs.declared.place.Place.{Place}
+use Rattle.cc_runs.specs.declared.place.Place.TheVariants as place
+use Rattle.cc_runs.specs.State.{word_of}
+use Rattle.cc_runs.proofs.ChainLaws.{chain_laws}
 use Rattle.cc_steps.specs.Seen.{stand_in, word_in, does_at}
 use Rattle.cc_steps.specs.Walk.{Walk, Found, walked_to, LinksOwn}
 use Rattle.cc_steps.proofs.StepFacts.{checked, below, run_here, stands}

@@ -3,26 +3,26 @@ use Rattle.std.proofs.Common.{◌≡◌, ◌≢◌, ℕ, ◌<◌, ◌≤◌, Boo
 use Rattle.cc_model.specs.Config.{config_fault}
 use Rattle.cc_model.specs.Items.{Begins}
 use Rattle.cc_model.specs.declared.call.Call.{Call}
-use Rattle.cc_machine.specs.declared.run.Move.{Move}
-use Rattle.cc_machine.specs.declared.run.Move.TheVariants.{Begin, Step, Take}
-use Rattle.cc_machine.specs.declared.setting.Setting.{Setting}
-use Rattle.cc_machine.specs.declared.word.Word.{Word}
-use Rattle.cc_machine.specs.declared.place.Stand.{Stand}
-use Rattle.cc_machine.specs.declared.place.Place.{Place}
-use Rattle.cc_machine.specs.declared.place.Place.TheVariants as place
-use Rattle.cc_machine.specs.declared.place.Event.TheVariants.{Idle}
-use Rattle.cc_machine.specs.Words.{layout_of, exists}
-use Rattle.cc_machine.specs.State.{chain_of, pass_at, word_of, stored}
-use Rattle.cc_machine.specs.Columns.{event_at}
-use Rattle.cc_machine.specs.Step.{advanced}
-use Rattle.cc_machine.specs.Safe.{IsSafe, IsPlaceSafe}
-use Rattle.cc_machine.specs.CallsMade.{made}
-use Rattle.cc_machine.specs.Run.{number_of, IsRun, IsFinished, passes, reached, history_of, begins, rests}
-use Rattle.cc_machine.specs.Passes.{by, then_did, kinds}
-use Rattle.cc_machine.proofs.RunFronts.{fronts_begin}
-use Rattle.cc_machine.proofs.Chains.Frame.{hold_here}
-use Rattle.cc_machine.proofs.Passes.{by-other, others_leave}
-use Rattle.cc_machine.proofs.AllReady.{each_ready}
+use Rattle.cc_runs.specs.declared.run.Move.{Move}
+use Rattle.cc_runs.specs.declared.run.Move.TheVariants.{Begin, Step, Take}
+use Rattle.cc_runs.specs.declared.setting.Setting.{Setting}
+use Rattle.cc_runs.specs.declared.word.Word.{Word}
+use Rattle.cc_runs.specs.declared.place.Stand.{Stand}
+use Rattle.cc_runs.specs.declared.place.Place.{Place}
+use Rattle.cc_runs.specs.declared.place.Place.TheVariants as place
+use Rattle.cc_runs.specs.declared.place.Event.TheVariants.{Idle}
+use Rattle.cc_runs.specs.Words.{layout_of, exists}
+use Rattle.cc_runs.specs.State.{chain_of, pass_at, word_of, stored}
+use Rattle.cc_runs.specs.Columns.{event_at}
+use Rattle.cc_runs.specs.Step.{advanced}
+use Rattle.cc_runs.specs.Safe.{IsSafe, IsPlaceSafe}
+use Rattle.cc_runs.specs.CallsMade.{made}
+use Rattle.cc_runs.specs.Run.{number_of, IsRun, IsFinished, passes, reached, history_of, begins, rests}
+use Rattle.cc_runs.specs.Passes.{by, then_did, kinds}
+use Rattle.cc_runs.proofs.RunFronts.{fronts_begin}
+use Rattle.cc_runs.proofs.Chains.Frame.{hold_here}
+use Rattle.cc_runs.proofs.Passes.{by-other, others_leave}
+use Rattle.cc_runs.proofs.AllReady.{each_ready}
 use Rattle.cc_steps.specs.Seen.{GoesOn, stand_in, word_in, known_in, begun, entered, taken, rested, settled, added, after_step, does_at, did_in, made_in, with_begun}
 use Rattle.cc_steps.specs.Shown.{CanStart}
 

@@ -2,9 +2,9 @@
 use Rattle.std.proofs.Common.{◌≡◌, ℕ, ◌<◌, List, ◌++◌, Option, Some, None, Ok, sym, ap, ◌∙◌, subst}
 use Rattle.cc_model.specs.Config.{config_fault}
 use Rattle.cc_model.specs.declared.call.Call.{Call}
-use Rattle.cc_machine.specs.declared.run.Move.{Move}
-use Rattle.cc_machine.specs.declared.setting.Setting.{Setting}
-use Rattle.cc_machine.specs.Run.{IsRun, passes}
+use Rattle.cc_runs.specs.declared.run.Move.{Move}
+use Rattle.cc_runs.specs.declared.setting.Setting.{Setting}
+use Rattle.cc_runs.specs.Run.{IsRun, passes}
 use Rattle.cc_steps.specs.Seen.{stand_in, begun}
 use Rattle.cc_steps.specs.Walk.{Walk, Walked, walked_to, next_stand}
 use Rattle.cc_steps.proofs.Runs.{stand-others, of_added}

@@ -2,33 +2,33 @@
 use Rattle.std.proofs.Common.{◌≡◌, ℕ, List, ◌∷◌, ◌++◌, Option, Some, None, refl, sym, ap, ◌∙◌, subst}
 use Rattle.cc_model.specs.Record.{Record}
 use Rattle.cc_model.specs.declared.call.Call.{Call}
-use Rattle.cc_machine.specs.declared.run.Move.{Move}
-use Rattle.cc_machine.specs.declared.run.Move.TheVariants.{Step}
-use Rattle.cc_machine.specs.declared.setting.Setting.{Setting}
-use Rattle.cc_machine.specs.declared.setting.Served.TheVariants as served
-use Rattle.cc_machine.specs.declared.word.Chain.{Chain}
-use Rattle.cc_machine.specs.declared.word.Chain.TheVariants.{Send, Take}
-use Rattle.cc_machine.specs.declared.word.ItemField.{ItemField}
-use Rattle.cc_machine.specs.declared.word.NodeField.TheVariants as node
-use Rattle.cc_machine.specs.declared.word.Word.TheVariants.{Item, Node}
-use Rattle.cc_machine.specs.declared.place.Kind.TheVariants as kind
-use Rattle.cc_machine.specs.declared.place.Event.TheVariants.{Did}
-use Rattle.cc_machine.specs.declared.place.Place.{Place}
-use Rattle.cc_machine.specs.declared.place.Place.TheVariants as place
-use Rattle.cc_machine.specs.declared.place.Counting.TheVariants as counting
-use Rattle.cc_machine.specs.declared.place.Sending.TheVariants as sending
-use Rattle.cc_machine.specs.declared.place.Taking.TheVariants as taking
-use Rattle.cc_machine.specs.declared.place.Stand.{Stand}
-use Rattle.cc_machine.proofs.Chains.Facts.{noted_none}
-use Rattle.cc_machine.specs.State.{Operation, Store, chain_of, pass_at, word_of, noted}
-use Rattle.cc_machine.specs.Columns.{operation, event_at, goes, enters, decides}
-use Rattle.cc_machine.specs.Run.{history_of}
-use Rattle.cc_machine.specs.ChainLaws.{IsEntering, IsLastPending}
-use Rattle.cc_machine.specs.MachineLaws.{Resets, Prepares}
-use Rattle.cc_machine.proofs.ListRuns.Laws.{reset_after_the_take, prepared_alone}
-use Rattle.cc_machine.proofs.ChainLaws.{chain_laws}
-use Rattle.cc_machine.proofs.ChainRuns.{calls_wait}
-use Rattle.cc_machine.specs.Step.{advanced}
+use Rattle.cc_runs.specs.declared.run.Move.{Move}
+use Rattle.cc_runs.specs.declared.run.Move.TheVariants.{Step}
+use Rattle.cc_runs.specs.declared.setting.Setting.{Setting}
+use Rattle.cc_runs.specs.declared.setting.Served.TheVariants as served
+use Rattle.cc_runs.specs.declared.word.Chain.{Chain}
+use Rattle.cc_runs.specs.declared.word.Chain.TheVariants.{Send, Take}
+use Rattle.cc_runs.specs.declared.word.ItemField.{ItemField}
+use Rattle.cc_runs.specs.declared.word.NodeField.TheVariants as node
+use Rattle.cc_runs.specs.declared.word.Word.TheVariants.{Item, Node}
+use Rattle.cc_runs.specs.declared.place.Kind.TheVariants as kind
+use Rattle.cc_runs.specs.declared.place.Event.TheVariants.{Did}
+use Rattle.cc_runs.specs.declared.place.Place.{Place}
+use Rattle.cc_runs.specs.declared.place.Place.TheVariants as place
+use Rattle.cc_runs.specs.declared.place.Counting.TheVariants as counting
+use Rattle.cc_runs.specs.declared.place.Sending.TheVariants as sending
+use Rattle.cc_runs.specs.declared.place.Taking.TheVariants as taking
+use Rattle.cc_runs.specs.declared.place.Stand.{Stand}
+use Rattle.cc_runs.proofs.Chains.Facts.{noted_none}
+use Rattle.cc_runs.specs.State.{Operation, Store, chain_of, pass_at, word_of, noted}
+use Rattle.cc_runs.specs.Columns.{operation, event_at, goes, enters, decides}
+use Rattle.cc_runs.specs.Run.{history_of}
+use Rattle.cc_runs.specs.ChainLaws.{IsEntering, IsLastPending}
+use Rattle.cc_runs.specs.MachineLaws.{Resets, Prepares}
+use Rattle.cc_runs.proofs.ListRuns.Laws.{reset_after_the_take, prepared_alone}
+use Rattle.cc_runs.proofs.ChainLaws.{chain_laws}
+use Rattle.cc_runs.proofs.ChainRuns.{calls_wait}
+use Rattle.cc_runs.specs.Step.{advanced}
 use Rattle.cc_steps.specs.Seen.{stand_in, word_in, does_at, rested}
 use Rattle.cc_steps.specs.Walk.{Walk, Walked, Steps, CanBegin, IsPendingIn, walked_to}
 use Rattle.cc_steps.specs.Reuse.{HasReused, HasOwned}

@@ -1,18 +1,18 @@
 -- The answer that a pass reads is that of its last call in the history.
 use Rattle.std.proofs.Common.{◌≡◌, ℕ, List, ◌∷◌, ◌++◌, None, sym, ap, ◌∙◌, subst}
-use Rattle.cc_machine.specs.declared.run.Move.{Move}
-use Rattle.cc_machine.specs.declared.setting.Setting.{Setting}
-use Rattle.cc_machine.specs.declared.place.Stand.{Stand}
-use Rattle.cc_machine.specs.declared.place.Place.{Place}
-use Rattle.cc_machine.specs.declared.place.Place.TheVariants as place
-use Rattle.cc_machine.specs.State.{chain_of, pass_at, word_of}
-use Rattle.cc_machine.specs.Step.{advanced}
-use Rattle.cc_machine.specs.Run.{IsRun, history_of}
-use Rattle.cc_machine.specs.Machine.{IsLastAnswer}
-use Rattle.cc_machine.proofs.ListRuns.Ready.{list_answer}
+use Rattle.cc_runs.specs.declared.run.Move.{Move}
+use Rattle.cc_runs.specs.declared.setting.Setting.{Setting}
+use Rattle.cc_runs.specs.declared.place.Stand.{Stand}
+use Rattle.cc_runs.specs.declared.place.Place.{Place}
+use Rattle.cc_runs.specs.declared.place.Place.TheVariants as place
+use Rattle.cc_runs.specs.State.{chain_of, pass_at, word_of}
+use Rattle.cc_runs.specs.Step.{advanced}
+use Rattle.cc_runs.specs.Run.{IsRun, history_of}
+use Rattle.cc_runs.specs.ChainLaws.{IsLastAnswer}
+use Rattle.cc_runs.proofs.ListRuns.Ready.{list_answer}
 use Rattle.cc_model.specs.Record.{Record}
-use Rattle.cc_machine.specs.declared.run.Move.TheVariants.{Step}
-use Rattle.cc_machine.specs.declared.setting.Served.TheVariants as served
+use Rattle.cc_runs.specs.declared.run.Move.TheVariants.{Step}
+use Rattle.cc_runs.specs.declared.setting.Served.TheVariants as served
 use Rattle.cc_steps.specs.Seen.{stand_in, word_in, does_at}
 use Rattle.cc_steps.specs.Walk.{IsToldAt, leads_to, Walk, Found, walked_to}
 use Rattle.cc_steps.proofs.Runs.{stepped_stand, taken_history, of_taken}

@@ -1,11 +1,11 @@
 -- Where the words of a topic lie in its table: those that different threads write stand on different lines.
 use Rattle.std.specs.Prelude.{◌≡◌, ℕ, ◌/◌, List, IsTrue}
-use Rattle.cc_machine.specs.declared.word.NodeField.TheVariants.{Next}
-use Rattle.cc_machine.specs.declared.word.ItemField.TheVariants.{Tag}
-use Rattle.cc_machine.specs.declared.word.Object.TheVariants as object
-use Rattle.cc_machine.specs.declared.word.Word.{Word}
-use Rattle.cc_machine.specs.declared.word.Word.TheVariants as word
-use Rattle.cc_machine.specs.Words.{Layout, Spacing, exists, lies, row_size, word_in_row}
+use Rattle.cc_runs.specs.declared.word.NodeField.TheVariants.{Next}
+use Rattle.cc_runs.specs.declared.word.ItemField.TheVariants.{Tag}
+use Rattle.cc_runs.specs.declared.word.Object.TheVariants as object
+use Rattle.cc_runs.specs.declared.word.Word.{Word}
+use Rattle.cc_runs.specs.declared.word.Word.TheVariants as word
+use Rattle.cc_runs.specs.Words.{Layout, Spacing, exists, lies, row_size, word_in_row}
 
 -- A slot holds one word of 64 bits, a line 8 slots. Processors fetch lines in pairs, so what many threads wait for stands 16
 -- slots apart: each tail, the words of each side, each node of a chain. List nodes stand 8 apart.

@@ -5,21 +5,21 @@ use Rattle.atomic_table.specs.declared.shared.Seat.{Seat}
 use Rattle.cc_model.specs.Config.{config_fault}
 use Rattle.cc_model.specs.declared.call.Call.{Call}
 use Rattle.cc_model.specs.declared.call.Entry.{Entry}
-use Rattle.cc_machine.specs.declared.setting.Setting.{Setting}
-use Rattle.cc_machine.specs.declared.place.Stand.{Stand}
-use Rattle.cc_machine.specs.declared.place.Place.TheVariants as place
-use Rattle.cc_machine.specs.declared.place.Kind.{Kind}
-use Rattle.cc_machine.specs.declared.place.Event.TheVariants.{Did, Idle}
-use Rattle.cc_machine.specs.Words.{layout_of, exists}
-use Rattle.cc_machine.specs.State.{Operation, chain_of, pass_at, first_node, word_of}
-use Rattle.cc_machine.specs.Columns.{event_at, goes}
-use Rattle.cc_machine.specs.Machine.{IsLastAnswer}
-use Rattle.cc_machine.specs.ChainLaws.{IsLastPending}
-use Rattle.cc_machine.specs.declared.place.Place.{Place}
-use Rattle.cc_machine.specs.Safe.{IsPlaceSafe}
-use Rattle.cc_machine.specs.declared.run.Move.{Move}
-use Rattle.cc_machine.specs.Passes.{by, then_did}
-use Rattle.cc_machine.specs.Run.{IsRun, passes, history_of}
+use Rattle.cc_runs.specs.declared.setting.Setting.{Setting}
+use Rattle.cc_runs.specs.declared.place.Stand.{Stand}
+use Rattle.cc_runs.specs.declared.place.Place.TheVariants as place
+use Rattle.cc_runs.specs.declared.place.Kind.{Kind}
+use Rattle.cc_runs.specs.declared.place.Event.TheVariants.{Did, Idle}
+use Rattle.cc_runs.specs.Words.{layout_of, exists}
+use Rattle.cc_runs.specs.State.{Operation, chain_of, pass_at, first_node, word_of}
+use Rattle.cc_runs.specs.Columns.{event_at, goes}
+use Rattle.cc_runs.specs.ChainLaws.{IsLastAnswer}
+use Rattle.cc_runs.specs.ChainLaws.{IsLastPending}
+use Rattle.cc_runs.specs.declared.place.Place.{Place}
+use Rattle.cc_runs.specs.Safe.{IsPlaceSafe}
+use Rattle.cc_runs.specs.declared.run.Move.{Move}
+use Rattle.cc_runs.specs.Passes.{by, then_did}
+use Rattle.cc_runs.specs.Run.{IsRun, passes, history_of}
 use Rattle.cc_steps.specs.Topic.{Topic}
 use Rattle.cc_steps.specs.Seen.{Onward, Later, Covers, stand_in, word_in, entered, added, after_step, does_at, made_in, did_in, with_begun}
 use Rattle.cc_steps.specs.Shown.{CanStart, stand_of, longer}

@@ -11,23 +11,23 @@
 //!   that it did;
 //! - `later`: what was seen before begins what is seen now.
 ghost use Rattle.std.specs.Prelude.{◌≡◌, ◌+◌, ◌<◌, ◌^◌, Some, None};
-ghost use Rattle.cc_machine.specs.State.{Load, Store, Swap, Add};
-ghost use Rattle.cc_machine.specs.declared.word.Chain.TheVariants.{Send};
-ghost use Rattle.cc_machine.specs.declared.word.Word.TheVariants as word;
-ghost use Rattle.cc_machine.specs.declared.word.Word.TheVariants.{Tail, Node, Item};
-ghost use Rattle.cc_machine.specs.declared.word.NodeField.TheVariants.{Next, State};
-ghost use Rattle.cc_machine.specs.declared.word.ItemField.TheVariants as item;
-ghost use Rattle.cc_machine.specs.declared.place.Kind.TheVariants as kind;
+ghost use Rattle.cc_runs.specs.State.{Load, Store, Swap, Add};
+ghost use Rattle.cc_runs.specs.declared.word.Chain.TheVariants.{Send};
+ghost use Rattle.cc_runs.specs.declared.word.Word.TheVariants as word;
+ghost use Rattle.cc_runs.specs.declared.word.Word.TheVariants.{Tail, Node, Item};
+ghost use Rattle.cc_runs.specs.declared.word.NodeField.TheVariants.{Next, State};
+ghost use Rattle.cc_runs.specs.declared.word.ItemField.TheVariants as item;
+ghost use Rattle.cc_runs.specs.declared.place.Kind.TheVariants as kind;
 ghost use Rattle.cc_steps.specs.Seen.{Onward};
 ghost use Rattle.cc_steps.specs.Reuse.{HasReused, HasOwned};
 ghost use Rattle.cc_steps.specs.Walk.{IsOf, Steps, CanBegin, Found, Walked, walked_to, IsPendingIn, IsToldAt, leads_to, LinksOwn};
-ghost use Rattle.cc_machine.specs.declared.setting.Served.TheVariants as served;
+ghost use Rattle.cc_runs.specs.declared.setting.Served.TheVariants as served;
 
 use crate::moves;
 use crate::seats::PassSeat;
 use crate::words::Words;
-use cc_machine::{Chain, ItemField, NodeField, Object, Word};
 use cc_model::Call;
+use cc_runs::{Chain, ItemField, NodeField, Object, Word};
 
 /// ResetNext, by the caller: stores 0 into `next` of its own node. The call begins with this step, knowing what its pass has
 /// seen. `own`: the pass owned the node, and no other pass of its chain did.

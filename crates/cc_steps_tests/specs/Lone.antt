@@ -1,8 +1,8 @@
 -- The topic of the tests, and a pass of it at some step.
 use Rattle.std.specs.Prelude.{◌≡◌, ℕ, ◌+◌, ◌*◌}
 use Rattle.cc_model.specs.declared.config.Config.{Config}
-use Rattle.cc_machine.specs.declared.setting.Served.TheVariants as served
-use Rattle.cc_machine.specs.declared.place.Place.{Place}
+use Rattle.cc_runs.specs.declared.setting.Served.TheVariants as served
+use Rattle.cc_runs.specs.declared.place.Place.{Place}
 use Rattle.cc_steps.specs.Topic.{Topic}
 use Rattle.cc_steps.specs.Walk.{Walk, IsOf}
 

@@ -1,12 +1,12 @@
 //! The 23 steps of a take that is alone and gets the first item, six at most in a function, with what each of them reads.
 ghost use Rattle.std.specs.Prelude.{◌≡◌, ◌∷◌, []};
-ghost use Rattle.cc_machine.specs.declared.place.Place.TheVariants as place;
-ghost use Rattle.cc_machine.specs.declared.place.Kind.TheVariants as kind;
-ghost use Rattle.cc_machine.specs.declared.place.Taking.TheVariants as taking;
+ghost use Rattle.cc_runs.specs.declared.place.Place.TheVariants as place;
+ghost use Rattle.cc_runs.specs.declared.place.Kind.TheVariants as kind;
+ghost use Rattle.cc_runs.specs.declared.place.Taking.TheVariants as taking;
 ghost use Rattle.cc_steps_tests.specs.Lone.{IsAt, receiver};
 
-use cc_machine::{Chain, ItemField, NodeField, Object};
 use cc_model::Call;
+use cc_runs::{Chain, ItemField, NodeField, Object};
 use cc_steps::seats::PassSeat;
 use cc_steps::steps;
 use cc_steps::words::Words;

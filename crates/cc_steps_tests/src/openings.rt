@@ -1,6 +1,6 @@
 //! Openings: a seat for each pass, or the first field that is out of its range.
-use cc_machine::OpenFault;
 use cc_model::{Config, ConfigFault};
+use cc_runs::OpenFault;
 use cc_steps::words::Words;
 
 /// One sender, one receiver, two items at most.

@@ -1,14 +1,14 @@
 //! What the words of three groups hold at their opening, as each pass finds them in its first steps.
 ghost use Rattle.std.specs.Prelude.{◌≡◌, ◌+◌, ◌<◌};
-ghost use Rattle.cc_machine.specs.declared.place.Place.TheVariants as place;
-ghost use Rattle.cc_machine.specs.declared.place.Sending.TheVariants as sending;
-ghost use Rattle.cc_machine.specs.declared.place.Taking.TheVariants as taking;
-ghost use Rattle.cc_machine.specs.declared.setting.Served.TheVariants as served;
+ghost use Rattle.cc_runs.specs.declared.place.Place.TheVariants as place;
+ghost use Rattle.cc_runs.specs.declared.place.Sending.TheVariants as sending;
+ghost use Rattle.cc_runs.specs.declared.place.Taking.TheVariants as taking;
+ghost use Rattle.cc_runs.specs.declared.setting.Served.TheVariants as served;
 ghost use Rattle.cc_steps.specs.Walk.{fresh, fresh_from};
 ghost use Rattle.cc_steps_tests.specs.Lone.{IsIn, triple, sender, first_of};
 
-use cc_machine::{Chain, ItemField, NodeField, Object};
 use cc_model::{Call, Config};
+use cc_runs::{Chain, ItemField, NodeField, Object};
 use cc_steps::seats::PassSeat;
 use cc_steps::steps;
 use cc_steps::words::Words;

@@ -3,11 +3,11 @@ use Rattle.std.proofs.lemmas.List.{get_or_append_left}
 use Rattle.std.proofs.lemmas.Bool.{cases_lt}
 use Rattle.std.proofs.Math.Seq.{get_or-append_seam}
 use Rattle.cc_model.specs.declared.config.Config.{Config}
-use Rattle.cc_machine.specs.declared.place.Stand.{Stand}
-use Rattle.cc_machine.specs.declared.place.Place.TheVariants as place
-use Rattle.cc_machine.specs.Run.{nowhere}
-use Rattle.cc_machine.specs.State.{first_node}
-use Rattle.cc_machine.proofs.Chains.Opening.{receiver_node}
+use Rattle.cc_runs.specs.declared.place.Stand.{Stand}
+use Rattle.cc_runs.specs.declared.place.Place.TheVariants as place
+use Rattle.cc_runs.specs.Run.{nowhere}
+use Rattle.cc_runs.specs.State.{first_node}
+use Rattle.cc_runs.proofs.Chains.Opening.{receiver_node}
 use Rattle.cc_machine.proofs.open.first_stands.Goals as goal
 
 abbrev first : ℕ → Stand

@@ -1,7 +1,7 @@
 use Rattle.std.proofs.Common.{◌≡◌, ◌≤◌, ◌+◌, ◌*◌, ◌<◌, ℕ, length, slice_index_or}
-use Rattle.cc_machine.specs.declared.place.Place.TheVariants as place
-use Rattle.cc_machine.specs.Run.{nowhere}
-use Rattle.cc_machine.specs.State.{first_node}
+use Rattle.cc_runs.specs.declared.place.Place.TheVariants as place
+use Rattle.cc_runs.specs.Run.{nowhere}
+use Rattle.cc_runs.specs.State.{first_node}
 use Rattle.cc_machine.proofs.open.first_stands.Given as goal
 
 abbrev pub invariant-loop-sender : goal.invariant-loop-sender

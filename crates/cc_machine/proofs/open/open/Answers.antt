@@ -3,22 +3,22 @@ use Rattle.std.proofs.lemmas.List.{get_or-replicate, get_or_past, length-replica
 use Rattle.std.proofs.lemmas.Bool.{cases_lt, lt-ltb, le-ltb}
 use Rattle.cc_model.specs.Record.{Record, silent, empty}
 use Rattle.cc_model.specs.Kept.{lists}
-use Rattle.cc_machine.specs.declared.setting.Setting.{Setting}
-use Rattle.cc_machine.specs.declared.word.Chain.TheVariants.{Send, Take}
-use Rattle.cc_machine.specs.declared.word.Object.TheVariants as object
-use Rattle.cc_machine.specs.declared.place.Stand.{Stand}
-use Rattle.cc_machine.specs.declared.place.Place.TheVariants as place
+use Rattle.cc_runs.specs.declared.setting.Setting.{Setting}
+use Rattle.cc_runs.specs.declared.word.Chain.TheVariants.{Send, Take}
+use Rattle.cc_runs.specs.declared.word.Object.TheVariants as object
+use Rattle.cc_runs.specs.declared.place.Stand.{Stand}
+use Rattle.cc_runs.specs.declared.place.Place.TheVariants as place
 use Rattle.cc_machine.specs.declared.board.Board.{Board}
-use Rattle.cc_machine.specs.declared.word.Word.{Word}
-use Rattle.cc_machine.specs.declared.word.Word.TheVariants as word
-use Rattle.cc_machine.specs.declared.word.ItemField.TheVariants as item
-use Rattle.cc_machine.specs.Words.{IsSmall, size, groups, Layout, put, layout_of, address, exists, word_at}
-use Rattle.cc_machine.specs.State.{State, first_node}
+use Rattle.cc_runs.specs.declared.word.Word.{Word}
+use Rattle.cc_runs.specs.declared.word.Word.TheVariants as word
+use Rattle.cc_runs.specs.declared.word.ItemField.TheVariants as item
+use Rattle.cc_runs.specs.Words.{IsSmall, size, groups, Layout, put, layout_of, address, exists, word_at}
+use Rattle.cc_runs.specs.State.{State, first_node}
 use Rattle.cc_machine.specs.View.{state_in}
 use Rattle.cc_machine.specs.Shown.{state_of, StandFirst, IsLaid}
-use Rattle.cc_machine.specs.Run.{opening, passes, nowhere}
+use Rattle.cc_runs.specs.Run.{opening, passes, nowhere}
 use Rattle.cc_machine.proofs.LawfulMoves.{laid_kept}
-use Rattle.cc_machine.proofs.Opening.{freed, freed_all, freed_more, opened, group_more, groups_all, started}
+use Rattle.cc_runs.proofs.Opening.{freed, freed_all, freed_more, opened, group_more, groups_all, started}
 use Rattle.cc_machine.proofs.open.open.Goals as goal
 
 pub loop-node-preserved : goal.loop-node-preserved

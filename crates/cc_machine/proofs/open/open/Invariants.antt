@@ -1,7 +1,7 @@
 use Rattle.std.proofs.Common.{◌≡◌, ◌≤◌}
 use Rattle.cc_machine.specs.Shown.{state_of, IsLaid}
-use Rattle.cc_machine.proofs.Opening.{freed, opened}
-use Rattle.cc_machine.specs.Run.{opening}
+use Rattle.cc_runs.proofs.Opening.{freed, opened}
+use Rattle.cc_runs.specs.Run.{opening}
 use Rattle.cc_machine.proofs.open.open.Given as goal
 
 abbrev pub invariant-loop-group : goal.invariant-loop-group

@@ -1,6 +1,6 @@
 use Rattle.std.proofs.Common.{◌≡◌, ◌≤◌, ◌+◌}
-use Rattle.cc_machine.specs.declared.place.Place.TheVariants as place
-use Rattle.cc_machine.specs.declared.place.Sending.TheVariants as sending
+use Rattle.cc_runs.specs.declared.place.Place.TheVariants as place
+use Rattle.cc_runs.specs.declared.place.Sending.TheVariants as sending
 use Rattle.cc_steps.specs.Seen.{Onward}
 use Rattle.cc_steps.specs.Walk.{IsReadyToStep}
 use Rattle.cc_queue.specs.Work.{worked_to, tally, reads, marks, hands, scans}

@@ -1,8 +1,9 @@
 use Rattle.std.proofs.Common.{◌≡◌, arith, ap, sym, subst, ◌∙◌}
 use Rattle.cc_machine.specs.declared.board.Board.{Board}
-use Rattle.cc_machine.specs.declared.word.Chain.{Chain}
-use Rattle.cc_machine.specs.State.{chain_of}
-use Rattle.cc_machine.specs.Run.{Begin, May}
+use Rattle.cc_runs.specs.declared.word.Chain.{Chain}
+use Rattle.cc_runs.specs.State.{chain_of}
+use Rattle.cc_runs.specs.declared.run.Move.TheVariants.{Begin}
+use Rattle.cc_runs.specs.Run.{May}
 use Rattle.cc_machine.specs.View.{View, state_in}
 use Rattle.cc_machine.specs.Shown.{view_of, state_of}
 use Rattle.cc_machine.specs.Lawful.{HasRoomToCome}

@@ -1,5 +1,5 @@
 use Rattle.std.proofs.Common.{◌<◌, sym}
-use Rattle.cc_machine.specs.Run.{passes}
+use Rattle.cc_runs.specs.Run.{passes}
 use Rattle.cc_machine.proofs.Rows.{inside}
 use Rattle.cc_machine.proofs.LawfulMoves.{can_step, lawful_event}
 use Rattle.cc_machine.proofs.board.Board.event_by.Goals as goal

@@ -2,13 +2,13 @@ use Rattle.std.proofs.Common.{◌≡◌, ◌≤◌, ◌+◌, ℕ, arith, length,
 use Rattle.cc_model.specs.Record.{Side, Record}
 use Rattle.cc_model.specs.Kept.{Kept, KeptSide, lists, kept_of_group, with_kept}
 use Rattle.cc_model.specs.Room.{most}
-use Rattle.cc_machine.specs.declared.word.Chain.{Chain}
-use Rattle.cc_machine.specs.declared.word.Chain.TheVariants.{Take}
+use Rattle.cc_runs.specs.declared.word.Chain.{Chain}
+use Rattle.cc_runs.specs.declared.word.Chain.TheVariants.{Take}
 use Rattle.cc_machine.specs.declared.board.Board.{Board}
 use Rattle.cc_machine.specs.View.{state_in}
 use Rattle.cc_machine.specs.Shown.{view_of, kept_side}
 use Rattle.cc_machine.specs.Lawful.{HasRoomToCome, all_coming}
-use Rattle.cc_machine.proofs.Chains.Facts.{noted_none}
+use Rattle.cc_runs.proofs.Chains.Facts.{noted_none}
 use Rattle.cc_machine.proofs.KeptSides.{kept_with}
 use Rattle.cc_machine.proofs.board.Board.reserve.Goals as goal
 

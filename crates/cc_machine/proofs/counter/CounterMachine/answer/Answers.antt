@@ -5,8 +5,8 @@ use Rattle.cc_model.specs.declared.call.Answer.{Answer}
 use Rattle.cc_model.specs.declared.call.Answer.TheVariants as answer
 use Rattle.cc_model.specs.declared.call.SendAnswer.TheVariants as send
 use Rattle.cc_model.specs.declared.call.Pass.TheVariants as pass
-use Rattle.cc_machine.specs.Codes.{count_word}
-use Rattle.cc_machine.specs.Machine.{IsLastAnswer}
+use Rattle.cc_runs.specs.Codes.{count_word}
+use Rattle.cc_runs.specs.ChainLaws.{IsLastAnswer}
 use Rattle.cc_machine.proofs.BoardLaws.{number_if}
 use Rattle.cc_machine.proofs.CounterTold.{counter_told, number_told}
 use Rattle.cc_machine.proofs.counter.CounterMachine.answer.Goals as goal

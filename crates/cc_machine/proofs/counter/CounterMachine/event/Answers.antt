@@ -1,5 +1,5 @@
 use Rattle.cc_machine.proofs.BoardLaws.{all_ready}
-use Rattle.cc_machine.proofs.CounterRuns.{counter_ready}
+use Rattle.cc_runs.proofs.CounterRuns.{counter_ready}
 use Rattle.cc_machine.proofs.counter.CounterMachine.event.Goals as goal
 
 pub event_by-requires-clause-ready : goal.event_by-requires-clause-ready

@@ -1,4 +1,4 @@
-use Rattle.std.proofs.Common.{◌≡◌, ℕ, ◌-◌, ◌≤◌, slice_index_or}
+use Rattle.std.proofs.Common.{◌≡◌, ◌-◌, ◌≤◌, slice_index_or}
 use Rattle.cc_machine.specs.Known.{least_of}
 use Rattle.cc_machine.proofs.known.Known.at.Given as goal
 

@@ -1,4 +1,4 @@
-use Rattle.std.proofs.Common.{◌≡◌, ℕ, OnOk, ap, sym, subst, ◌∙◌, arith}
+use Rattle.std.proofs.Common.{◌≡◌, ℕ, OnOk, ap, subst, ◌∙◌, arith}
 use Rattle.cc_model.specs.Kept.{lists}
 use Rattle.cc_model.specs.Items.{known_at}
 use Rattle.cc_model.specs.Record.{Record}
@@ -6,7 +6,7 @@ use Rattle.cc_machine.specs.Machine.{index_of, HasBegun}
 use Rattle.cc_machine.specs.View.{View}
 use Rattle.cc_machine.specs.Shown.{view_of, state_of}
 use Rattle.std.proofs.lemmas.List.{length-map}
-use Rattle.cc_machine.proofs.Ranges.{in_range}
+use Rattle.cc_runs.proofs.Ranges.{in_range}
 use Rattle.cc_machine.proofs.KnownMoves.{known_is}
 use Rattle.cc_machine.proofs.LawfulMoves.{history_in}
 use Rattle.cc_machine.proofs.MachineMoves.{machine_begun}

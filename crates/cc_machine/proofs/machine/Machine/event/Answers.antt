@@ -7,7 +7,7 @@ use Rattle.cc_machine.proofs.KeptSides.{kept_is}
 use Rattle.cc_model.specs.declared.call.Answer.{Answer}
 use Rattle.cc_machine.specs.Known.{HasCounted}
 use Rattle.cc_machine.proofs.BoardLaws.{all_ready}
-use Rattle.cc_machine.proofs.ListRuns.Ready.{list_ready}
+use Rattle.cc_runs.proofs.ListRuns.Ready.{list_ready}
 use Rattle.cc_machine.proofs.MachineMoves.{machine_stepped}
 use Rattle.cc_machine.proofs.machine.Machine.event.Goals as goal
 

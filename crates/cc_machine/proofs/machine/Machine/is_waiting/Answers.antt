@@ -6,7 +6,7 @@ use Rattle.cc_machine.proofs.Waiting.{still_in}
 use Rattle.cc_machine.proofs.Rows.{inside}
 use Rattle.cc_machine.proofs.BoardLaws.{all_ready}
 use Rattle.cc_machine.proofs.LawfulMoves.{can_step}
-use Rattle.cc_machine.proofs.ListRuns.Ready.{list_ready}
+use Rattle.cc_runs.proofs.ListRuns.Ready.{list_ready}
 use Rattle.cc_machine.proofs.machine.Machine.is_waiting.Goals as goal
 
 pub is_waiting-requires-clause-can : goal.is_waiting-requires-clause-can

@@ -1,5 +1,0 @@
-use Rattle.cc_machine.proofs.Passes.{others_leave}
-use Rattle.cc_machine.proofs.run_laws.others_leave_a_pass.Goals as goal
-
-pub returns : goal.returns
-returns c = others_leave

@@ -1,0 +1,302 @@
+-- The history has of each pass just those of its calls that have exchanged.
+use Rattle.std.proofs.Common.{◌≡◌, ◌≢◌, ◌⊎◌, ℕ, zero, suc, ◌+◌, ◌<◌, Bool, true, false, ◌==◌, cond, refl, ap, sym, ◌∙◌, subst, inl, inr, Option, Some, None, List, [], ◌∷◌, ◌++◌, map}
+use Rattle.std.specs.List.{filter}
+use Rattle.std.proofs.lemmas.Bool.{cases_eq, eq-eqb, ne_eqb, lt-ltb}
+use Rattle.std.proofs.lemmas.List.{append-nil}
+use Rattle.std.proofs.lemmas.List.Elements.{filter-append}
+use Rattle.cc_model.specs.Record.{Side, Record}
+use Rattle.cc_model.specs.Items.{is_pass, calls_of}
+use Rattle.cc_model.specs.declared.call.Pass.{Pass}
+use Rattle.cc_model.specs.declared.call.Pass.TheVariants as pass
+use Rattle.cc_model.specs.declared.call.Call.{Call}
+use Rattle.cc_model.specs.declared.call.Entry.{Entry}
+use Rattle.cc_model.specs.declared.call.Answer.{Answer}
+use Rattle.cc_model.specs.declared.call.Answer.TheVariants as answer
+use Rattle.cc_model.specs.declared.call.SendAnswer.TheVariants as send
+use Rattle.cc_model.specs.declared.call.TakeAnswer.TheVariants as take
+use Rattle.cc_runs.specs.declared.setting.Setting.{Setting}
+use Rattle.cc_runs.specs.declared.setting.Served.{Served}
+use Rattle.cc_runs.specs.declared.setting.Served.TheVariants as served
+use Rattle.cc_runs.specs.declared.word.Chain.{Chain}
+use Rattle.cc_runs.specs.declared.word.Chain.TheVariants.{Send, Take}
+use Rattle.cc_runs.specs.declared.place.Round.{Round}
+use Rattle.cc_runs.specs.declared.place.Job.{Job}
+use Rattle.cc_runs.specs.declared.place.Request.{Request}
+use Rattle.cc_runs.specs.declared.place.Stand.{Stand}
+use Rattle.cc_runs.specs.declared.place.Counting.{Counting}
+use Rattle.cc_runs.specs.declared.place.Counting.TheVariants as counting
+use Rattle.cc_runs.specs.declared.place.Sending.{Sending}
+use Rattle.cc_runs.specs.declared.place.Sending.TheVariants as sending
+use Rattle.cc_runs.specs.declared.place.Taking.{Taking}
+use Rattle.cc_runs.specs.declared.place.Taking.TheVariants as taking
+use Rattle.cc_runs.specs.declared.place.Place.{Place}
+use Rattle.cc_runs.specs.declared.place.Place.TheVariants as place
+use Rattle.cc_runs.specs.Words.{groups}
+use Rattle.cc_runs.specs.Codes.{code_of, value_of}
+use Rattle.cc_runs.specs.State.{State, chain_of, pass_at, first_node, hold, noted, appended, word_of}
+use Rattle.cc_runs.specs.CountColumns as count_side
+use Rattle.cc_runs.specs.SendColumns as send_side
+use Rattle.cc_runs.specs.TakeColumns as take_side
+use Rattle.cc_runs.specs.Columns.{operation, goes, enters, decides, after_exchange, after_state, after_next, after_answer, after_ret, serves}
+use Rattle.cc_runs.specs.Step.{stepped, advanced}
+use Rattle.cc_runs.specs.Run.{Move, Begin, Step, Take as Taken, IsRun, IsIdle, IsFinished, begins, rests, number_of, moved, opening, nowhere, reached, passes}
+use Rattle.cc_runs.specs.Sides.{calls_on, answers_on}
+use Rattle.cc_runs.proofs.Ranges.{in_range}
+use Rattle.cc_runs.proofs.ChainRuns.{not_other}
+use Rattle.cc_runs.proofs.Chains.Opening.{no_calls}
+use Rattle.cc_runs.proofs.Chains.View.{pass_on}
+use Rattle.cc_runs.proofs.Chains.Frame.{hold_here, hold_apart}
+use Rattle.cc_runs.proofs.Chains.Registers.{HasSide, HasCall}
+use Rattle.cc_runs.proofs.Chains.Others.{IsOn, IsOff, which, side_other}
+use Rattle.cc_runs.proofs.Chains.Facts.{side_same}
+use Rattle.cc_runs.proofs.Chains.Serving.{Chains, chains_hold, chain_is, on_chain}
+use Rattle.cc_runs.proofs.Chains.Last.{chosen}
+use Rattle.cc_runs.proofs.Chains.Told.{named, name_is, other_name, NotOther, calls_one}
+use Rattle.cc_runs.specs.CallsMade.{made, to_exchange, CallsOfRuns}
+
+-- ---- no step but a begin gives a pass a call to exchange
+
+none_state : (own found : ℕ) → to_exchange (after_state own found) ≡ []
+none_state own zero = refl
+none_state own (suc zero) = refl
+none_state own (suc (suc found)) = refl
+
+none_serves : (what : Served) (x : Chain) (job : Job) → to_exchange (serves what x job) ≡ []
+none_serves served.Counter x job = refl
+none_serves served.List Send job = refl
+none_serves served.List (Take g) job = refl
+
+none_next : (what : Served) (x : Chain) (round : Round) (found : ℕ) → to_exchange (after_next what x round found) ≡ []
+none_next what x round zero = refl
+none_next what x round (suc found) = none_serves what x record { round = round; next = found }
+
+none_exchanged : (x : Chain) (own : ℕ) (call : Entry) → to_exchange (after_exchange x own call) ≡ []
+none_exchanged Send own call = refl
+none_exchanged (Take g) own call = refl
+
+none_answer : (job : Job) (told : Answer) → to_exchange (after_answer job told) ≡ []
+none_answer job (answer.Take (take.Got item)) = refl
+none_answer job (answer.Take take.Empty) = refl
+none_answer job (answer.Take (take.Ended total)) = refl
+none_answer job (answer.Send told) = refl
+none_answer job (answer.Close told) = refl
+
+-- either way there is none
+either : (b : Bool) (first second : Place) → to_exchange first ≡ [] → to_exchange second ≡ [] → to_exchange (cond b first second) ≡ []
+either true first second a z = a
+either false first second a z = z
+
+none_ret : (what : Served) (x : Chain) (ret : ℕ) → to_exchange (after_ret what x ret) ≡ []
+none_ret what Send ret = refl
+none_ret what (Take g) ret =
+    either (code_of ret == 1) (place.ReadAnswerTag (value_of ret)) (cond (code_of ret == 2) (place.Finished (answer.Take take.Empty)) (place.Finished (answer.Take (take.Ended (value_of ret))))) refl
+    (either (code_of ret == 2) (place.Finished (answer.Take take.Empty)) (place.Finished (answer.Take (take.Ended (value_of ret)))) refl refl)
+
+none_count : (job : Job) (service : Counting) (found : ℕ) → to_exchange (count_side.goes job service found) ≡ []
+none_count job counting.ReadTag found = refl
+none_count job counting.ReadBody found = refl
+none_count job counting.ReadCount found = refl
+none_count job (counting.WriteCount count) found = refl
+
+none_shut : (c : Setting) (job : Job) (request : Request) (found : ℕ) → to_exchange (send_side.after_shut job request found) ≡ []
+none_shut c job request zero = refl
+none_shut c job request (suc found) = either (request.tag == 0) (place.Sending job sending.ReadTotal) (place.WriteAnswer job (answer.Send send.Closed)) refl refl
+
+none_send : (c : Setting) (job : Job) (service : Sending) (found : ℕ) → to_exchange (send_side.goes c.config job service found) ≡ []
+none_send c job (sending.ReadShut request) found = none_shut c job request found
+none_send c job (sending.ReadCount request) found =
+    either (request.tag == 0) (place.Sending job (sending.ReadLastToClose found))
+    (cond (found == c.config.life) (place.WriteAnswer job (answer.Send send.Spent)) (place.Sending job (sending.ReadCursor record { place = found; tag = request.tag; body = request.body }))) refl
+    (either (found == c.config.life) (place.WriteAnswer job (answer.Send send.Spent)) (place.Sending job (sending.ReadCursor record { place = found; tag = request.tag; body = request.body })) refl refl)
+none_send c job (sending.ReadPassed parcel at reads) found =
+    either (found == groups c.config) (place.Sending job (sending.ResetPassed parcel at))
+    (cond (reads == c.config.capacity + 1) (place.WriteAnswer job (answer.Send send.Full)) (place.Sending job (sending.ReadPassed parcel (send_side.after c.config at) (reads + 1)))) refl
+    (either (reads == c.config.capacity + 1) (place.WriteAnswer job (answer.Send send.Full)) (place.Sending job (sending.ReadPassed parcel (send_side.after c.config at) (reads + 1))) refl refl)
+none_send c job sending.ReadTag found = refl
+none_send c job service found = refl
+
+none_take : (job : Job) (service : Taking) (found : ℕ) → to_exchange (take_side.goes job service found) ≡ []
+none_take job (taking.ReadDummyNext dummy taken) zero = refl
+none_take job (taking.ReadDummyNext dummy taken) (suc found) = refl
+none_take job (taking.ReadItemTag dummy taken at) zero = refl
+none_take job (taking.ReadItemTag dummy taken at) (suc found) = refl
+none_take job taking.ReadHead found = refl
+none_take job (taking.ReadTaken dummy) found = refl
+none_take job (taking.ReadItemBody dummy taken at tag) found = refl
+none_take job (taking.WriteHead dummy at parcel) found = refl
+none_take job (taking.WriteTaken dummy parcel) found = refl
+none_take job (taking.AddPassed dummy parcel) found = refl
+
+-- ---- one step
+
+-- a step of the pass itself, whose calls are those of which f holds
+own_step : (c : Setting) (x : Chain) (own found : ℕ) (f : Entry → Bool) (calls began : List Entry) (at : Place) → began ≡ filter f calls ++ to_exchange at → ((call : Entry) → at ≡ place.Exchange call → f call ≡ true) →
+    began ≡ filter f (appended calls (enters at)) ++ to_exchange (goes c x own at found)
+own_step c x own found f calls began place.Idle e its = e
+own_step c x own found f calls began (place.ResetNext call) e its = e
+own_step c x own found f calls began (place.ResetState call) e its = e
+own_step c x own found f calls began (place.Exchange call) e its =
+    let one : filter f (call ∷ []) ≡ call ∷ [] = ap (λ (b : Bool). cond b (call ∷ []) []) (its call refl) in
+    let more : filter f (calls ++ call ∷ []) ≡ filter f calls ++ call ∷ [] = filter-append f calls (call ∷ []) ∙ ap (λ (l : List Entry). filter f calls ++ l) one in
+    e ∙ sym more ∙ sym (append-nil (filter f (calls ++ call ∷ []))) ∙ ap (λ (l : List Entry). filter f (calls ++ call ∷ []) ++ l) (sym (none_exchanged x own call))
+own_step c x own found f calls began (place.WriteTag put request) e its = e
+own_step c x own found f calls began (place.WriteBody put body) e its = e
+own_step c x own found f calls began (place.Link put) e its = e
+own_step c x own found f calls began place.ReadState e its = e ∙ ap (λ (l : List Entry). filter f calls ++ l) (sym (none_state own found))
+own_step c x own found f calls began (place.ReadNext round) e its = e ∙ ap (λ (l : List Entry). filter f calls ++ l) (sym (none_next c.served x round found))
+own_step c x own found f calls began (place.Counting job service) e its = e ∙ ap (λ (l : List Entry). filter f calls ++ l) (sym (none_count job service found))
+own_step c x own found f calls began (place.Sending job service) e its = e ∙ ap (λ (l : List Entry). filter f calls ++ l) (sym (none_send c job service found))
+own_step c x own found f calls began (place.Taking job service) e its = e ∙ ap (λ (l : List Entry). filter f calls ++ l) (sym (none_take job service found))
+own_step c x own found f calls began (place.WriteAnswer job told) e its = e ∙ ap (λ (l : List Entry). filter f calls ++ l) (sym (none_answer job told))
+own_step c x own found f calls began (place.WriteAnswerTag job item) e its = e
+own_step c x own found f calls began (place.WriteAnswerBody job body) e its = e
+own_step c x own found f calls began (place.MarkDone job) e its =
+    e ∙ ap (λ (l : List Entry). filter f calls ++ l) (sym (either (job.round.served + 1 == c.config.bound) (place.HandOver job.next) (place.ReadNext record { at = job.next; served = job.round.served + 1 }) refl refl))
+own_step c x own found f calls began (place.HandOver at) e its = e
+own_step c x own found f calls began place.ReadAnswer e its = e ∙ ap (λ (l : List Entry). filter f calls ++ l) (sym (none_ret c.served x found))
+own_step c x own found f calls began (place.ReadAnswerTag at) e its = e
+own_step c x own found f calls began (place.ReadAnswerBody at tag) e its = e
+own_step c x own found f calls began (place.Finished told) e its = e
+
+-- a step of another pass
+other_step : (f : Entry → Bool) (calls : List Entry) (at : Place) → ((call : Entry) → at ≡ place.Exchange call → f call ≡ false) → filter f (appended calls (enters at)) ≡ filter f calls
+other_step f calls (place.Exchange call) its =
+    filter-append f calls (call ∷ []) ∙ ap (λ (b : Bool). filter f calls ++ cond b (call ∷ []) []) (its call refl) ∙ append-nil (filter f calls)
+other_step f calls place.Idle its = refl
+other_step f calls _ its = refl
+
+-- the calls of a chain after a note
+calls_noted : (x : Chain) (h : Record) (e : Option Entry) (a : Option Answer) → HasSide x h → calls_on x (noted x h e a) ≡ appended (calls_on x h) e
+calls_noted x h e a there = ap (λ (s : Side). s.calls) (side_same x h (record { calls = appended (calls_on x h) e; answers = appended (answers_on x h) a }) there)
+
+-- the calls of the history that a test takes, without their answers
+abbrev bare : List (Entry × Option Answer) → List Entry
+bare l = map (λ (z : Entry × Option Answer). z.0) l
+
+bare_more : (e : Entry) (a : Option Answer) (l : List (Entry × Option Answer)) (m : List Entry) (b : Bool) → bare l ≡ m → bare (cond b ((e, a) ∷ l) l) ≡ cond b (e ∷ m) m
+bare_more e a l m true same = ap (λ (n : List Entry). e ∷ n) same
+bare_more e a l m false same = same
+
+chosen_calls : (f : Entry → Bool) (calls : List Entry) (answers : List Answer) → bare (chosen f calls answers) ≡ filter f calls
+chosen_calls f [] answers = refl
+chosen_calls f (e ∷ calls) [] = bare_more e None (chosen f calls []) (filter f calls) (f e) (chosen_calls f calls [])
+chosen_calls f (e ∷ calls) (a ∷ answers) = bare_more e (Some a) (chosen f calls answers) (filter f calls) (f e) (chosen_calls f calls answers)
+
+-- ---- all runs
+
+pass_self : (who : Pass) → is_pass who who ≡ true
+pass_self (pass.Sender s) = eq-eqb s s refl
+pass_self (pass.Receiver r) = eq-eqb r r refl
+
+idle_none : (at : Place) → IsIdle at → to_exchange at ≡ []
+idle_none place.Idle a = refl
+idle_none _ a = absurd a
+
+finished_none : (at : Place) → IsFinished at → to_exchange at ≡ []
+finished_none (place.Finished told) a = refl
+finished_none _ a = absurd a
+
+-- two passes of one chain have two names
+two_names : (c : Setting) (x : Chain) (p q : ℕ) → IsOn c x p → IsOn c x q → q ≢ p → is_pass (pass_at c.config p) (pass_at c.config q) ≡ false
+two_names c x p q on_p on_q ne =
+    let first : pass_at c.config p ≡ named c x on_p.number = ap (λ (z : ℕ). pass_at c.config z) on_p.pass_is ∙ name_is c x on_p.number on_p.inside in
+    let second : pass_at c.config q ≡ named c x on_q.number = ap (λ (z : ℕ). pass_at c.config z) on_q.pass_is ∙ name_is c x on_q.number on_q.inside in
+    (λ i. is_pass (first i) (second i)) ∙ other_name c x on_p.number on_q.number (λ same. ne (on_q.pass_is ∙ ap (λ (z : ℕ). pass_on c x z) same ∙ sym on_p.pass_is))
+
+-- the calls of a pass are among those of its side
+own_calls : (c : Setting) (s : State) (p : ℕ) → p < passes c → NotOther c (chain_of c.config p) s.history →
+    bare (calls_of (pass_at c.config p) s.history) ≡ filter (λ (z : Entry). is_pass (pass_at c.config p) z.pass) (calls_on (chain_of c.config p) s.history)
+own_calls c s p less none =
+    let on : IsOn c (chain_of c.config p) p = on_chain c p less in
+    let name : pass_at c.config p ≡ named c (chain_of c.config p) on.number = ap (λ (z : ℕ). pass_at c.config z) on.pass_is ∙ name_is c (chain_of c.config p) on.number on.inside in
+    ap (λ (w : Pass). bare (calls_of w s.history)) name ∙ ap bare (calls_one c (chain_of c.config p) s.history on.number on.inside none)
+    ∙ chosen_calls (λ (z : Entry). is_pass (named c (chain_of c.config p) on.number) z.pass) (calls_on (chain_of c.config p) s.history) (answers_on (chain_of c.config p) s.history)
+    ∙ ap (λ (w : Pass). filter (λ (z : Entry). is_pass w z.pass) (calls_on (chain_of c.config p) s.history)) (sym name)
+
+-- a call that is about to exchange is of its pass
+exchange_pass : (c : Setting) (s : State) (k : Chains c s) (q : ℕ) → q < passes c → (call : Entry) → (s.stand q).place ≡ place.Exchange call → call.pass ≡ pass_at c.config q
+exchange_pass c s k q less call e =
+    let on : IsOn c (chain_of c.config q) q = on_chain c q less in
+    let has : HasCall c (chain_of c.config q) on.number (place.Exchange call) =
+    subst (λ (z : Place). HasCall c (chain_of c.config q) on.number z) (ap (λ (z : ℕ). (s.stand z).place) (sym on.pass_is) ∙ e) ((k.holds (chain_of c.config q) (chain_is c q less)).ties.begun on.number on.inside) in
+    has.pass_is ∙ ap (λ (z : ℕ). pass_at c.config z) (sym on.pass_is)
+
+module _ (c : Setting) (some : 0 < c.config.bound) (p : ℕ) (less : p < passes c) where
+  abbrev side : Chain
+  side = chain_of c.config p
+
+  abbrev its : Entry → Bool
+  its z = is_pass (pass_at c.config p) z.pass
+
+  abbrev Has : List Entry → State → Type 0
+  Has began s = began ≡ filter its (calls_on side s.history) ++ to_exchange (s.stand p).place
+
+  begin_here : (s : State) (began : List Entry) (call : Call) (known : ℕ) → IsIdle (s.stand p).place → Has began s →
+      (began ++ record { pass = pass_at c.config p; call = call; number = number_of call (s.stand p).begun; known = known } ∷ []) ≡ filter its (calls_on side s.history) ++ to_exchange (begins c.config p call known (s.stand p)).place
+  begin_here s began call known idle has =
+      let none : began ≡ filter its (calls_on side s.history) = has ∙ ap (λ (l : List Entry). filter its (calls_on side s.history) ++ l) (idle_none (s.stand p).place idle) ∙ append-nil (filter its (calls_on side s.history)) in
+      ap (λ (l : List Entry). l ++ record { pass = pass_at c.config p; call = call; number = number_of call (s.stand p).begun; known = known } ∷ []) none
+
+  begin_keeps : (s : State) (began : List Entry) (q : ℕ) (call : Call) (known : ℕ) → IsIdle (s.stand q).place → Has began s → q ≡ p ⊎ q ≢ p →
+      Has (cond (q == p) (began ++ record { pass = pass_at c.config q; call = call; number = number_of call (s.stand q).begun; known = known } ∷ []) began) (moved c s (Begin q call known))
+  begin_keeps s began q call known idle has (inl same) =
+      ap (λ (b : Bool). cond b (began ++ record { pass = pass_at c.config q; call = call; number = number_of call (s.stand q).begun; known = known } ∷ []) began) (eq-eqb q p same)
+      ∙ ap (λ (z : ℕ). began ++ record { pass = pass_at c.config z; call = call; number = number_of call (s.stand z).begun; known = known } ∷ []) same
+      ∙ begin_here s began call known (subst (λ (z : ℕ). IsIdle (s.stand z).place) same idle) has
+      ∙ ap (λ (z : Stand). filter its (calls_on side s.history) ++ to_exchange z.place) (sym (ap (λ (z : ℕ). hold s.stand z (begins c.config z call known (s.stand z)) p) same ∙ hold_here s.stand p (begins c.config p call known (s.stand p))))
+  begin_keeps s began q call known idle has (inr ne) =
+      ap (λ (b : Bool). cond b (began ++ record { pass = pass_at c.config q; call = call; number = number_of call (s.stand q).begun; known = known } ∷ []) began) (ne_eqb q p ne)
+      ∙ has ∙ ap (λ (z : Stand). filter its (calls_on side s.history) ++ to_exchange z.place) (sym (hold_apart s.stand q p (begins c.config q call known (s.stand q)) (λ same. ne (sym same))))
+
+  take_keeps : (s : State) (began : List Entry) (q : ℕ) → IsFinished (s.stand q).place → Has began s → q ≡ p ⊎ q ≢ p → Has began (moved c s (Taken q))
+  take_keeps s began q finished has (inl same) =
+      has ∙ ap (λ (l : List Entry). filter its (calls_on side s.history) ++ l) (finished_none (s.stand p).place (subst (λ (z : ℕ). IsFinished (s.stand z).place) same finished))
+      ∙ ap (λ (z : Stand). filter its (calls_on side s.history) ++ to_exchange z.place) (sym (ap (λ (z : ℕ). hold s.stand z (rests (s.stand z)) p) same ∙ hold_here s.stand p (rests (s.stand p))))
+  take_keeps s began q finished has (inr ne) =
+      has ∙ ap (λ (z : Stand). filter its (calls_on side s.history) ++ to_exchange z.place) (sym (hold_apart s.stand q p (rests (s.stand q)) (λ same. ne (sym same))))
+
+  -- the calls of the side after a step of pass q
+  calls_after : (s : State) (k : Chains c s) (q : ℕ) → chain_of c.config q ≡ side → calls_on side (stepped c s q).history ≡ appended (calls_on side s.history) (enters (s.stand q).place)
+  calls_after s k q same =
+      ap (λ (y : Chain). calls_on side (noted y s.history (enters (s.stand q).place) (decides c (s.stand q).place (s.mem (word_of (operation c (chain_of c.config q) (s.stand q).node (s.stand q).place)))))) same
+      ∙ calls_noted side s.history (enters (s.stand q).place) (decides c (s.stand q).place (s.mem (word_of (operation c (chain_of c.config q) (s.stand q).node (s.stand q).place)))) (k.holds side (chain_is c p less)).side_in
+
+  step_own : (s : State) (k : Chains c s) (began : List Entry) → Has began s → Has began (stepped c s p)
+  step_own s k began has =
+      own_step c side (s.stand p).node (s.mem (word_of (operation c side (s.stand p).node (s.stand p).place))) its (calls_on side s.history) began (s.stand p).place has
+      (λ call is. ap (λ (w : Pass). is_pass (pass_at c.config p) w) (exchange_pass c s k p less call is) ∙ pass_self (pass_at c.config p))
+      ∙ ap (λ (l : List Entry). filter its l ++ to_exchange (advanced c side (s.stand p) (s.mem (word_of (operation c side (s.stand p).node (s.stand p).place)))).place) (sym (calls_after s k p refl))
+      ∙ ap (λ (z : Stand). filter its (calls_on side (stepped c s p).history) ++ to_exchange z.place) (sym (hold_here s.stand p (advanced c side (s.stand p) (s.mem (word_of (operation c side (s.stand p).node (s.stand p).place))))))
+
+  same_stand : (s : State) (q : ℕ) → q ≢ p → (stepped c s q).stand p ≡ s.stand p
+  same_stand s q ne = hold_apart s.stand q p (advanced c (chain_of c.config q) (s.stand q) (s.mem (word_of (operation c (chain_of c.config q) (s.stand q).node (s.stand q).place)))) (λ same. ne (sym same))
+
+  -- another pass of the same side, and one of the other
+  same_calls : (s : State) (k : Chains c s) (q : ℕ) → q < passes c → q ≢ p → IsOn c side q ⊎ IsOff c side q → filter its (calls_on side (stepped c s q).history) ≡ filter its (calls_on side s.history)
+  same_calls s k q qn ne (inl on) =
+      ap (λ (l : List Entry). filter its l) (calls_after s k q on.chain_is)
+      ∙ other_step its (calls_on side s.history) (s.stand q).place
+      (λ call is. ap (λ (w : Pass). is_pass (pass_at c.config p) w) (exchange_pass c s k q qn call is) ∙ two_names c side p q (on_chain c p less) on ne)
+  same_calls s k q qn ne (inr off) =
+      ap (λ (l : List Entry). filter its l) (ap (λ (z : Side). z.calls) (side_other side (chain_of c.config q) s.history _ off.other))
+
+  step_keeps : (s : State) (k : Chains c s) (began : List Entry) (q : ℕ) → q < passes c → Has began s → q ≡ p ⊎ q ≢ p → Has began (stepped c s q)
+  step_keeps s k began q qn has (inl same) = subst (λ (z : ℕ). Has began (stepped c s z)) (sym same) (step_own s k began has)
+  step_keeps s k began q qn has (inr ne) =
+      has ∙ ap (λ (l : List Entry). l ++ to_exchange (s.stand p).place) (sym (same_calls s k q qn ne (which c side (chain_is c p less) q qn)))
+      ∙ ap (λ (z : Stand). filter its (calls_on side (stepped c s q).history) ++ to_exchange z.place) (sym (same_stand s q ne))
+
+  opened : Has [] (opening c)
+  opened = sym (ap (λ (l : List Entry). filter its l ++ to_exchange ((opening c).stand p).place) (ap (λ (z : Side). z.calls) (no_calls (groups c.config) side)) ∙ ap (λ (z : Stand). to_exchange z.place) (ap (λ (b : Bool). cond b record { begun = 0; node = first_node c.config p; place = place.Idle } nowhere) (lt-ltb p (passes c) less)))
+
+  pub has_made : (moves : List Move) → IsRun c moves → Has (made c moves p) (reached c moves)
+  has_made [] run = opened
+  has_made (Begin q call known ∷ earlier) run = begin_keeps (reached c earlier) (made c earlier p) q call known run.1.2 (has_made earlier run.0) (cases_eq q p)
+  has_made (Taken q ∷ earlier) run = take_keeps (reached c earlier) (made c earlier p) q run.1.1 (has_made earlier run.0) (cases_eq q p)
+  has_made (Step q ∷ earlier) run = step_keeps (reached c earlier) (chains_hold c some earlier run.0) (made c earlier p) q run.1.0 (has_made earlier run.0) (cases_eq q p)
+
+pub calls_made : CallsOfRuns
+calls_made c checked moves run p less =
+    let own : bare (calls_of (pass_at c.config p) (reached c moves).history) ≡ filter (λ (z : Entry). is_pass (pass_at c.config p) z.pass) (calls_on (chain_of c.config p) (reached c moves).history) =
+    own_calls c (reached c moves) p less (not_other c (in_range c.config checked).bound.0 moves run (chain_of c.config p)) in
+    has_made c (in_range c.config checked).bound.0 p less moves run ∙ ap (λ (l : List Entry). l ++ to_exchange ((reached c moves).stand p).place) (sym own)

@@ -1,0 +1,366 @@
+-- The laws of the chains, from their invariant.
+use Rattle.std.proofs.Common.{◌≡◌, ◌≢◌, ◌⊎◌, ℕ, ◌+◌, ◌<◌, ◌≤◌, refl, ap, sym, ◌∙◌, subst, arith, inl, inr, Some, List, length, Ok, ◌*◌}
+use Rattle.std.proofs.lemmas.Bool.{cases_lt, cases_eq}
+use Rattle.std.proofs.lemmas.Option.{slice_get-get_or, get_or_from_slice_get, slice_get_within}
+use Rattle.cc_model.specs.Config.{config_fault}
+use Rattle.cc_model.specs.Items.{calls_of}
+use Rattle.cc_model.specs.declared.call.Entry.{Entry}
+use Rattle.cc_model.specs.declared.call.Pass.{Pass}
+use Rattle.cc_model.specs.declared.call.Item.{Item}
+use Rattle.cc_model.specs.declared.call.Answer.{Answer}
+use Rattle.cc_model.specs.declared.call.Answer.TheVariants as answer
+use Rattle.cc_model.specs.declared.call.TakeAnswer.TheVariants as take
+use Rattle.cc_runs.specs.declared.setting.Setting.{Setting}
+use Rattle.cc_runs.specs.declared.setting.Served.{Served}
+use Rattle.cc_runs.specs.declared.setting.Served.TheVariants as served
+use Rattle.cc_runs.specs.declared.word.Chain.{Chain}
+use Rattle.cc_runs.specs.declared.word.Chain.TheVariants.{Send, Take}
+use Rattle.cc_runs.specs.declared.word.NodeField.{NodeField}
+use Rattle.cc_runs.specs.declared.word.NodeField.TheVariants as node
+use Rattle.cc_runs.specs.declared.word.Word.TheVariants.{Tail, Node}
+use Rattle.cc_runs.specs.declared.place.Job.{Job}
+use Rattle.cc_runs.specs.declared.place.Sending.{Sending}
+use Rattle.cc_runs.specs.declared.place.Sending.TheVariants as sending
+use Rattle.cc_runs.specs.declared.place.Stand.{Stand}
+use Rattle.cc_runs.specs.declared.place.Place.{Place}
+use Rattle.cc_runs.specs.declared.place.Place.TheVariants as place
+use Rattle.cc_runs.specs.Codes.{ret_of, code_of}
+use Rattle.cc_runs.specs.State.{side, State, chain_of, pass_at, word_of}
+use Rattle.cc_runs.specs.Columns.{operation}
+use Rattle.cc_model.specs.Record.{Side, silent}
+use Rattle.cc_runs.specs.Words.{groups}
+use Rattle.std.proofs.lemmas.List.{get_or_past}
+use Rattle.cc_runs.specs.Run.{Move, IsRun, reached, passes}
+use Rattle.cc_runs.specs.Safe.{WhileUndecided}
+use Rattle.cc_runs.specs.Sides.{passes_on, calls_on, answers_on}
+use Rattle.cc_runs.specs.ChainLaws.{IsCombining, served_by, AreNodes, served_node, HoldsRequest, ServesNext, IsWithinBound, WasTold, IsReading, ReadsWord, IsToldBy, IsOut, ChainLaws, ChainLawsOfRuns, CounterLawsOfRuns}
+use Rattle.cc_runs.proofs.ListRuns.SideSteps.{read_link, read_head, read_taken}
+use Rattle.cc_runs.proofs.Ranges.{InRange, in_range}
+use Rattle.cc_runs.proofs.Chains.View.{view, pass_on, post_of, post_at, serving, request_words, request_long, asked_words, answer_words, answer_long}
+use Rattle.cc_runs.proofs.Chains.Frame.{answer_first}
+use Rattle.cc_runs.proofs.Chains.Registers.{IsChainOf, IsChain, call_at, answer_at, no_call, no_answer, OnTake, IsAnswer, HasRead, coded_words, tag_word, body_word}
+use Rattle.cc_runs.proofs.Chains.Facts.{own_node, some_words, coded_first, got_item}
+use Rattle.cc_runs.proofs.Chains.Ties.{Holds}
+use Rattle.cc_runs.proofs.Chains.Others.{IsOn}
+use Rattle.cc_runs.proofs.Chains.Safe as safe
+use Rattle.cc_runs.proofs.Chains.Read as read
+use Rattle.cc_runs.proofs.Chains.Touched.{Touches, touches}
+use Rattle.cc_runs.proofs.Combining.Apart.{node_apart}
+use Rattle.cc_runs.proofs.Chains.Serving.{Chains, chains_hold, chain_is, on_chain, one_combiner, sending_where, counting_where, next_call, next_words}
+use Rattle.cc_runs.proofs.Chains.Told.{HasTold, HasAnswer, NotOther, named, name_is, answer_on}
+use Rattle.cc_runs.proofs.Chains.Decoded.{reads_back}
+use Rattle.cc_runs.proofs.Counted.{Counts}
+use Rattle.cc_runs.proofs.CounterRuns.{counter_holds, counter_ready}
+use Rattle.cc_runs.proofs.ChainRuns.{has_told, not_other, silent_takes, sides_are}
+
+combining_rank : (x : Chain) (own : ℕ) (at : Place) → IsCombining at → (post_of x own at).rank ≡ 5
+combining_rank x own (place.ReadNext round) a = refl
+combining_rank x own (place.Counting job service) a = refl
+combining_rank x own (place.Sending job service) a = refl
+combining_rank x own (place.Taking job service) a = refl
+combining_rank x own (place.WriteAnswer job told) a = refl
+combining_rank x own (place.WriteAnswerTag job item) a = refl
+combining_rank x own (place.WriteAnswerBody job body) a = refl
+combining_rank x own (place.MarkDone job) a = refl
+combining_rank x own (place.HandOver at) a = refl
+combining_rank x own _ a = absurd a
+
+-- the request's words, on either side
+holds_request : (s : State) (x : Chain) (at : ℕ) (e : Entry) → ((j : ℕ) → j < request_long x → request_words x (λ (f : NodeField). s.mem (Node x at f)) j ≡ asked_words x e j) → HoldsRequest s x at e
+holds_request s Send at e words = (words 0 (omega arith), words 1 (omega arith))
+holds_request s (Take g) at e words = tt
+
+-- a pass that reads its answer
+reading_post : (x : Chain) (own : ℕ) (at : Place) → IsReading at → post_of x own at ≡ post_of x own place.ReadAnswer
+reading_post x own place.ReadAnswer a = refl
+reading_post x own (place.ReadAnswerTag at) a = refl
+reading_post x own (place.ReadAnswerBody at tag) a = refl
+reading_post x own _ a = absurd a
+
+-- after the first word of an answer there are further ones for an item alone
+item_read : (what : Served) (x : Chain) (a : Answer) (A : Type 0) → IsAnswer what x a → OnTake x A → (A → code_of (ret_of what a) ≡ 1) → (item : Item) × (a ≡ answer.Take (take.Got item))
+item_read what Send a A is had code = absurd had
+item_read what (Take g) a A is had code = got_item what g a is (code had)
+
+tag_read : (what : Served) (x : Chain) (a : Answer) (words : NodeField → ℕ) (A : Type 0) → OnTake x A → answer_words x words 1 ≡ coded_words what x a 1 → words node.Tag ≡ tag_word a
+tag_read what Send a words A had same = absurd had
+tag_read what (Take g) a words A had same = same
+
+body_read : (what : Served) (x : Chain) (a : Answer) (words : NodeField → ℕ) (A : Type 0) → OnTake x A → answer_words x words 2 ≡ coded_words what x a 2 → words node.Body ≡ body_word a
+body_read what Send a words A had same = absurd had
+body_read what (Take g) a words A had same = same
+
+-- a pass out of its chain has none of its words
+pub out_rank : (x : Chain) (own : ℕ) (at : Place) → IsOut at → (post_of x own at).rank ≤ 2
+out_rank x own place.Idle a = omega arith
+out_rank x own (place.ResetNext call) a = omega arith
+out_rank x own (place.ResetState call) a = omega arith
+out_rank x own (place.Exchange call) a = omega arith
+out_rank x own (place.Finished told) a = omega arith
+out_rank x own _ a = absurd a
+
+-- a pass of a chain x, and its place
+module _ (c : Setting) (r : InRange c.config) (s : State) (k : Chains c s) (x : Chain) (ok : IsChain c x) (p : ℕ) (on : IsOn c x p) where
+  w : Holds c x s
+  w = k.holds x ok
+
+  abbrev own : ℕ
+  own = (s.stand p).node
+
+  abbrev Here : Place → Type 0
+  Here at = s.stand p ≡ record { begun = (s.stand p).begun; node = (s.stand p).node; place = at }
+
+  there : (at : Place) → Here at → s.stand (pass_on c x on.number) ≡ record { begun = (s.stand p).begun; node = (s.stand p).node; place = at }
+  there at e = ap s.stand (sym on.pass_is) ∙ e
+
+  target_at : (at : Place) → Here at → (post_of x own at).rank ≡ 5 → (post_of x own at).target ≤ passes_on c x
+  target_at at e five = safe.target_in c x ok r s on.number own (s.stand p).begun on.inside (k.holds x ok) at (there at e) five
+
+  served_at : (at : Place) → Here at → (post_of x own at).rank ≡ 5 → (post_of x own at).stage ≤ 2 → (post_of x own at).served < c.config.bound
+  served_at at e five low = safe.served_in c x ok r s on.number own (s.stand p).begun on.inside (k.holds x ok) at (there at e) five low
+
+  next_at : (at : Place) (job : Job) → Here at → (post_of x own at).rank ≡ 5 → 1 ≤ (post_of x own at).stage → (post_of x own at).stage ≤ 2 → (post_of x own at).next ≡ job.next + 1 → job.next ≤ passes_on c x
+  next_at at job e five low high is =
+      safe.next_in c x ok r s on.number own (s.stand p).begun on.inside (k.holds x ok) at job.next (there at e) five low high is
+
+  bounded_at : (at : Place) → Here at → served_by at < c.config.bound
+  bounded_at (place.ReadNext round) e = served_at (place.ReadNext round) e refl (omega arith)
+  bounded_at (place.Counting job service) e = served_at (place.Counting job service) e refl (omega arith)
+  bounded_at (place.Sending job service) e = served_at (place.Sending job service) e refl (safe.send_low service)
+  bounded_at (place.Taking job service) e = served_at (place.Taking job service) e refl (omega arith)
+  bounded_at (place.WriteAnswer job told) e = served_at (place.WriteAnswer job told) e refl (omega arith)
+  bounded_at (place.WriteAnswerTag job item) e = served_at (place.WriteAnswerTag job item) e refl (omega arith)
+  bounded_at (place.WriteAnswerBody job body) e = served_at (place.WriteAnswerBody job body) e refl (omega arith)
+  bounded_at (place.MarkDone job) e = served_at (place.MarkDone job) e refl (omega arith)
+  bounded_at _ e = r.bound.0
+
+  nodes_at : (at : Place) → Here at → AreNodes (passes_on c x) at
+  nodes_at (place.WriteTag put request) e = safe.put_in c x ok r s on.number own (s.stand p).begun on.inside (k.holds x ok) (place.WriteTag put request) (there (place.WriteTag put request) e) refl
+  nodes_at (place.WriteBody put body) e = safe.put_in c x ok r s on.number own (s.stand p).begun on.inside (k.holds x ok) (place.WriteBody put body) (there (place.WriteBody put body) e) refl
+  nodes_at (place.Link put) e = safe.put_in c x ok r s on.number own (s.stand p).begun on.inside (k.holds x ok) (place.Link put) (there (place.Link put) e) refl
+  nodes_at (place.ReadNext round) e = target_at (place.ReadNext round) e refl
+  nodes_at (place.Counting job service) e = (target_at (place.Counting job service) e refl, next_at (place.Counting job service) job e refl (omega arith) (omega arith) refl)
+  nodes_at (place.Sending job service) e = (target_at (place.Sending job service) e refl, next_at (place.Sending job service) job e refl (safe.send_high service) (safe.send_low service) refl)
+  nodes_at (place.Taking job service) e = (target_at (place.Taking job service) e refl, next_at (place.Taking job service) job e refl (omega arith) (omega arith) refl)
+  nodes_at (place.WriteAnswer job told) e = (target_at (place.WriteAnswer job told) e refl, next_at (place.WriteAnswer job told) job e refl (omega arith) (omega arith) refl)
+  nodes_at (place.WriteAnswerTag job item) e = (target_at (place.WriteAnswerTag job item) e refl, next_at (place.WriteAnswerTag job item) job e refl (omega arith) (omega arith) refl)
+  nodes_at (place.WriteAnswerBody job body) e = (target_at (place.WriteAnswerBody job body) e refl, next_at (place.WriteAnswerBody job body) job e refl (omega arith) (omega arith) refl)
+  nodes_at (place.MarkDone job) e = (target_at (place.MarkDone job) e refl, next_at (place.MarkDone job) job e refl (omega arith) (omega arith) refl)
+  nodes_at (place.HandOver at) e = target_at (place.HandOver at) e refl
+  nodes_at _ e = tt
+
+  link_at : (at served : ℕ) → Here (place.ReadNext record { at = at; served = served }) → s.mem (Node x at node.Next) ≤ passes_on c x + 1
+  link_at at served e = safe.link_in c x ok r s on.number own (s.stand p).begun on.inside (k.holds x ok) record { at = at; served = served } (there (place.ReadNext record { at = at; served = served }) e)
+
+  own_link_at : (at : ℕ) → Here (place.ReadNext record { at = at; served = 0 }) → 0 < s.mem (Node x at node.Next)
+  own_link_at at e = safe.own_link_in c x ok r s on.number own (s.stand p).begun on.inside (k.holds x ok) at (there (place.ReadNext record { at = at; served = 0 }) e)
+
+  own_at : (at : Place) → Here at → own ≤ passes_on c x
+  own_at at e = safe.own_in c x ok r s on.number own (s.stand p).begun on.inside (k.holds x ok) at (there at e)
+
+  post_node : (post_at x (s.stand (pass_on c x on.number))).node ≡ (s.stand p).node
+  post_node = ap (λ (z : ℕ). (post_at x (s.stand z)).node) (sym on.pass_is) ∙ own_node x (s.stand p).node (s.stand p).place
+
+  free_at : s.mem (Tail x) ≢ (s.stand p).node + 1
+  free_at same = (k.holds x ok).inv.nodes.last_apart on.number on.inside (omega (arith, post_node, (k.holds x ok).inv.nodes.tail_is))
+
+  tail_at : (0 < s.mem (Tail x)) × (s.mem (Tail x) ≤ passes_on c x + 1)
+  tail_at = omega (arith, (k.holds x ok).inv.nodes.tail_is, (k.holds x ok).inv.nodes.last_in)
+
+  serves_next : (at : Place) (job : Job) → (s.stand p).place ≡ at → ((own : ℕ) → post_of x own at ≡ serving own job 1 0) → ServesNext s x job.round.at
+  serves_next at job e undecided = record {
+    entry = call_at (calls_on x s.history) (length (answers_on x s.history));
+    next = next_call c s k x ok p on at job e undecided;
+    request = holds_request s x job.round.at (call_at (calls_on x s.history) (length (answers_on x s.history))) (next_words c s k x ok p on at job e undecided);
+  }
+
+  serves_send : (job : Job) (service : Sending) → (s.stand p).place ≡ place.Sending job service → WhileUndecided (place.Sending job service) (ServesNext s x job.round.at)
+  serves_send job (sending.WriteLastMark total) e = tt
+  serves_send job (sending.WriteShut total) e = tt
+  serves_send job (sending.WriteLast at on) e = tt
+  serves_send job (sending.WriteCount at on) e = tt
+  serves_send job (sending.WriteCursor at on) e = tt
+  serves_send job sending.ReadTag e = serves_next (place.Sending job sending.ReadTag) job e (λ own. refl)
+  serves_send job service e = serves_next (place.Sending job service) job e (λ own. refl)
+
+  serves_at : (at : Place) → (s.stand p).place ≡ at → WhileUndecided at (ServesNext s x (served_node at))
+  serves_at (place.Counting job service) e = serves_next (place.Counting job service) job e (λ own. refl)
+  serves_at (place.Sending job service) e = serves_send job service e
+  serves_at (place.Taking job service) e = serves_next (place.Taking job service) job e (λ own. refl)
+  serves_at _ e = tt
+
+  -- the word of its answer that the pass reads next
+  its_read : (at : Place) → Here at → HasRead c.served x (answer_at (answers_on x s.history) ((k.holds x ok).ghost.at on.number)) at
+  its_read at e = subst (λ (z : Stand). HasRead c.served x (answer_at (answers_on x s.history) ((k.holds x ok).ghost.at on.number)) z.place) (there at e) ((k.holds x ok).ties.read on.number on.inside)
+
+  word_of_it : (at : Place) (j : ℕ) → Here at → IsReading at → j < answer_long (answer_at (answers_on x s.history) ((k.holds x ok).ghost.at on.number)) →
+      answer_words x (λ (f : NodeField). s.mem (Node x own f)) j ≡ coded_words c.served x (answer_at (answers_on x s.history) ((k.holds x ok).ghost.at on.number)) j
+  word_of_it at j e reading less = read.word_at c x ok r.bound.0 s on.number (s.stand p).begun own on.inside (k.holds x ok) at j (there at e) (reading_post x own at reading) less
+
+  reads_word : (at : Place) → Here at → IsReading at → IsAnswer c.served x (answer_at (answers_on x s.history) ((k.holds x ok).ghost.at on.number)) →
+      ReadsWord c.served s x own (answer_at (answers_on x s.history) ((k.holds x ok).ghost.at on.number)) at
+  reads_word place.ReadAnswer e reading sided =
+      sym (answer_first x (λ (f : NodeField). s.mem (Node x own f))) ∙ word_of_it place.ReadAnswer 0 e tt (omega (arith, some_words (answer_at (answers_on x s.history) ((k.holds x ok).ghost.at on.number))))
+      ∙ coded_first c.served x (answer_at (answers_on x s.history) ((k.holds x ok).ghost.at on.number))
+  reads_word (place.ReadAnswerTag at) e reading sided =
+      let item = item_read c.served x (answer_at (answers_on x s.history) ((k.holds x ok).ghost.at on.number)) _ sided (its_read (place.ReadAnswerTag at) e) (λ h. h.0) in
+      let long : answer_long (answer_at (answers_on x s.history) ((k.holds x ok).ghost.at on.number)) ≡ 3 = ap answer_long item.1 in (
+        item.0,
+        item.1,
+        tag_read c.served x (answer_at (answers_on x s.history) ((k.holds x ok).ghost.at on.number)) (λ (f : NodeField). s.mem (Node x own f)) _ (its_read (place.ReadAnswerTag at) e) (word_of_it (place.ReadAnswerTag at) 1 e tt (omega (arith, long)))
+            ∙ ap tag_word item.1,
+      )
+  reads_word (place.ReadAnswerBody at tag) e reading sided =
+      let item = item_read c.served x (answer_at (answers_on x s.history) ((k.holds x ok).ghost.at on.number)) _ sided (its_read (place.ReadAnswerBody at tag) e) (λ h. h.0) in
+      let long : answer_long (answer_at (answers_on x s.history) ((k.holds x ok).ghost.at on.number)) ≡ 3 = ap answer_long item.1 in (
+        item.0,
+        item.1,
+        body_read c.served x (answer_at (answers_on x s.history) ((k.holds x ok).ghost.at on.number)) (λ (f : NodeField). s.mem (Node x own f)) _ (its_read (place.ReadAnswerBody at tag) e) (word_of_it (place.ReadAnswerBody at tag) 2 e tt (omega (arith, long)))
+            ∙ ap body_word item.1,
+      )
+  reads_word _ e reading sided = absurd reading
+
+  reads_at : NotOther c x s.history → (at : Place) → Here at → IsReading at → IsToldBy c.served s x own (pass_at c.config p) at
+  reads_at none at e reading =
+      let v : Holds c x s = k.holds x ok in
+      let rank : (post_at x (s.stand (pass_on c x on.number))).rank ≡ 6 = ap (λ (z : Stand). (post_at x z).rank) (there at e) ∙ ap (λ z. z.rank) (reading_post x own at reading) in
+      let a : HasAnswer c x s.history (pass_at c.config (pass_on c x on.number)) ((k.holds x ok).ghost.at on.number) =
+      answer_on c x s (k.holds x ok) none on.number on.inside ((k.holds x ok).inv.passes.late on.number on.inside rank) ((k.holds x ok).inv.passes.at_is on.number on.inside (omega (arith, rank))) in
+      record {
+        before = a.before;
+        entry = call_at (calls_on x s.history) ((k.holds x ok).ghost.at on.number);
+        answer = answer_at (answers_on x s.history) ((k.holds x ok).ghost.at on.number);
+        last = ap (λ (z : ℕ). calls_of (pass_at c.config z) s.history) on.pass_is ∙ a.last;
+        word = reads_word at e reading a.sided;
+      }
+
+  -- the call of a combiner, and how far it has come from there
+  within_at : IsCombining (s.stand p).place → IsWithinBound c.config.bound (calls_on x s.history) (answers_on x s.history) (pass_at c.config p)
+  within_at combining =
+      let v : Holds c x s = k.holds x ok in
+      let rank : (post_at x (s.stand (pass_on c x on.number))).rank ≡ 5 = ap (λ (z : ℕ). (post_at x (s.stand z)).rank) (sym on.pass_is) ∙ combining_rank x (s.stand p).node (s.stand p).place combining in
+      let mine : v.ghost.server ≡ on.number + 1 = v.inv.server.server_is on.number on.inside rank in
+      let called : v.ghost.at on.number < length (calls_on x s.history) = omega (arith, v.ties.calls_are, v.inv.passes.at_in on.number on.inside (omega (arith, rank))) in
+      let its : v.ghost.pass_of (v.ghost.at on.number) ≡ on.number = v.inv.passes.at_is on.number on.inside (omega (arith, rank)) in
+      record {
+        own = v.ghost.at on.number;
+        last = record {
+          entry = call_at (calls_on x s.history) (v.ghost.at on.number);
+          its = slice_get-get_or (calls_on x s.history) (v.ghost.at on.number) no_call called;
+          who_is = (v.ties.entered (v.ghost.at on.number) (omega (arith, v.ties.calls_are))).pass_is ∙ ap (λ (z : ℕ). pass_at c.config (pass_on c x z)) its ∙ ap (λ (z : ℕ). pass_at c.config z) (sym on.pass_is);
+          none_later = λ j later after is same.
+              let below : j < v.ghost.calls = omega (arith, v.ties.calls_are, slice_get_within (calls_on x s.history) j later is) in
+              let theirs : named c x (v.ghost.pass_of j) ≡ named c x on.number =
+              sym (name_is c x (v.ghost.pass_of j) (v.ties.pass_in j below)) ∙ sym (v.ties.entered j below).pass_is ∙ ap (λ (z : Entry). z.pass) (get_or_from_slice_get (calls_on x s.history) j later no_call is) ∙ same
+              ∙ ap (λ (z : ℕ). pass_at c.config z) on.pass_is ∙ name_is c x on.number on.inside in
+              v.inv.passes.at_last on.number j after below (same_number x (v.ghost.pass_of j) on.number theirs);
+        };
+        low = omega (arith, v.ties.answers_are, v.inv.server.server_low on.number mine, v.inv.calls.in_order);
+        high = most v mine;
+      }
+    where
+      same_number : (y : Chain) (a b : ℕ) → named c y a ≡ named c y b → a ≡ b
+      same_number Send a b e = let next : a + 1 ≡ b + 1 = cc in omega arith
+      same_number (Take g) a b e = let next : g * c.config.receivers + a + 1 ≡ g * c.config.receivers + b + 1 = cc in omega arith
+
+      most : (v : Holds c x s) → v.ghost.server ≡ on.number + 1 → length (answers_on x s.history) ≤ v.ghost.at on.number + c.config.bound
+      most v mine = elim (cases_eq (post_at x (s.stand (pass_on c x on.number))).stage 2) [
+        | inl two ↦
+            omega (arith, v.ties.answers_are, v.inv.serving.decided on.number mine two, v.inv.server.server_at on.number mine (omega (arith, two)), v.inv.server.server_bound on.number mine (omega (arith, two)))
+        | inr other ↦ omega (arith, v.ties.answers_are, v.inv.serving.undecided on.number mine other, v.inv.server.server_most on.number mine)
+      ]
+
+ordered_on : (c : Setting) (s : State) (k : Chains c s) (x : Chain) → IsChain c x → length (answers_on x s.history) ≤ length (calls_on x s.history)
+ordered_on c s k x ok = omega (arith, (k.holds x ok).ties.calls_are, (k.holds x ok).ties.answers_are, (k.holds x ok).inv.calls.in_order2, (k.holds x ok).inv.calls.in_order)
+
+-- every side's lists
+ordered_by : (c : Setting) (s : State) (k : Chains c s) (what : Served) → c.served ≡ what → (what ≡ served.Counter → (g : ℕ) → side (Take g) s.history ≡ silent) → length s.history.takes ≡ groups c.config → (x : Chain) → length (answers_on x s.history) ≤ length (calls_on x s.history)
+ordered_by c s k what e none many Send = ordered_on c s k Send tt
+ordered_by c s k served.Counter e none many (Take g) = omega (arith, ap (λ (z : Side). length z.answers) (none refl g))
+ordered_by c s k served.List e none many (Take g) = elim (cases_lt g (groups c.config)) [
+  | inl near ↦ ordered_on c s k (Take g) (subst (λ (z : Served). IsChainOf z (groups c.config) (Take g)) (sym e) near)
+  | inr far ↦ omega (arith, ap (λ (z : Side). length z.answers) (get_or_past s.history.takes g silent (omega (arith, far, many))))
+]
+
+was_told : (c : Setting) (s : State) (x : Chain) (who : Pass) (told : Answer) → HasTold c x s.history who told → WasTold c.served s.history who told
+was_told c s x who told t = record {
+  before = t.before;
+  entry = call_at (calls_on x s.history) t.number;
+  answer = answer_at (answers_on x s.history) t.number;
+  last = t.last;
+  same = λ fits. t.read ∙ reads_back c.served x (answer_at (answers_on x s.history) t.number) t.sided fits;
+}
+
+apart_on : (c : Setting) (s : State) (k : Chains c s) (x : Chain) (ok : IsChain c x) (p q : ℕ) (on_p : IsOn c x p) (on_q : IsOn c x q) → (s.stand p).node ≡ (s.stand q).node → p ≡ q
+apart_on c s k x ok p q on_p on_q same =
+    let first : (post_at x (s.stand (pass_on c x on_p.number))).node ≡ (s.stand p).node = ap (λ (z : ℕ). (post_at x (s.stand z)).node) (sym on_p.pass_is) ∙ own_node x (s.stand p).node (s.stand p).place in
+    let second : (post_at x (s.stand (pass_on c x on_q.number))).node ≡ (s.stand q).node = ap (λ (z : ℕ). (post_at x (s.stand z)).node) (sym on_q.pass_is) ∙ own_node x (s.stand q).node (s.stand q).place in
+    let number : on_p.number ≡ on_q.number = (k.holds x ok).inv.nodes.apart on_p.number on_q.number on_p.inside on_q.inside (first ∙ same ∙ sym second) in
+    on_p.pass_is ∙ ap (λ (z : ℕ). pass_on c x z) number ∙ sym on_q.pass_is
+
+-- no other pass of the chain touches the node of a pass that is out of it
+untouched_on : (c : Setting) (s : State) (k : Chains c s) (x : Chain) (ok : IsChain c x) (p q i : ℕ) (on_p : IsOn c x p) (on_q : IsOn c x q) → p ≢ q → IsOut (s.stand p).place → i ≡ (s.stand p).node →
+    (i ≡ (s.stand q).node) ⊎ (((post_at x (s.stand q)).rank ≡ 5) × (i ≡ (post_at x (s.stand q)).target)) → ⊥
+untouched_on c s k x ok p q i on_p on_q ne out is (inl own) = ne (apart_on c s k x ok p q on_p on_q (sym is ∙ own))
+untouched_on c s k x ok p q i on_p on_q ne out is (inr its) =
+    let v : Holds c x s = k.holds x ok in
+    let rank : (post_at x (s.stand (pass_on c x on_q.number))).rank ≡ 5 = ap (λ (z : ℕ). (post_at x (s.stand z)).rank) (sym on_q.pass_is) ∙ its.0 in
+    let target : (post_at x (s.stand (pass_on c x on_q.number))).target ≡ (post_at x (s.stand q)).target = ap (λ (z : ℕ). (post_at x (s.stand z)).target) (sym on_q.pass_is) in
+    let low : (post_at x (s.stand (pass_on c x on_p.number))).rank ≤ 2 = subst (λ (z : ℕ). (post_at x (s.stand z)).rank ≤ 2) on_p.pass_is (out_rank x (s.stand p).node (s.stand p).place out) in
+    let node_is : (post_at x (s.stand (pass_on c x on_p.number))).node ≡ (s.stand p).node = ap (λ (z : ℕ). (post_at x (s.stand z)).node) (sym on_p.pass_is) ∙ own_node x (s.stand p).node (s.stand p).place in
+    let head : (post_at x (s.stand (pass_on c x on_q.number))).target ≡ v.ghost.chain v.ghost.marked = v.inv.server.server_target on_q.number (v.inv.server.server_is on_q.number on_q.inside rank) in
+    node_apart (passes_on c x) c.config.bound (view c x s) v.ghost v.inv on_p.number v.ghost.marked on_p.inside (omega arith) (omega (arith, v.inv.calls.in_order, v.inv.calls.in_order2))
+    (λ more same. absurd (omega (arith, low, v.inv.calls.open_low v.ghost.marked (omega arith) more, ap (λ (z : ℕ). (post_at x (s.stand (pass_on c x z))).rank) same))) (sym head ∙ target ∙ sym its.1 ∙ is ∙ sym node_is)
+
+untouched_by : (c : Setting) (s : State) (k : Chains c s) (p q : ℕ) (f : NodeField) (pn : p < passes c) (qn : q < passes c) → p ≢ q → IsOut (s.stand p).place →
+    word_of (operation c (chain_of c.config q) (s.stand q).node (s.stand q).place) ≢ Node (chain_of c.config p) (s.stand p).node f
+untouched_by c s k p q f pn qn ne out e =
+    let t : Touches (chain_of c.config q) (chain_of c.config p) (s.stand q).node (s.stand p).node (s.stand q).place =
+    touches c (chain_of c.config q) (chain_of c.config p) (s.stand q).node (s.stand p).node f (s.stand q).place (λ job service is. (counting_where c s k q job service qn is).1) (λ job service is. (sending_where c s k q job service qn is).1) e in
+    untouched_on c s k (chain_of c.config q) (chain_is c q qn) p q (s.stand p).node (subst (λ (y : Chain). IsOn c y p) t.chain (on_chain c p pn)) (on_chain c q qn) ne out refl t.which
+
+module _ (c : Setting) (checked : config_fault c.config ≡ Ok tt) (moves : List Move) (run : IsRun c moves) where
+  abbrev s : State
+  s = reached c moves
+
+  r : InRange c.config
+  r = in_range c.config checked
+
+  k : Chains c (reached c moves)
+  k = chains_hold c r.bound.0 moves run
+
+  abbrev x : ℕ → Chain
+  x p = chain_of c.config p
+
+  pub laws : ChainLaws c (reached c moves)
+  laws = record {
+    one = λ p q pn qn same a b. one_combiner c (reached c moves) k p q pn qn same (combining_rank Send (s.stand p).node (s.stand p).place a) (combining_rank Send (s.stand q).node (s.stand q).place b);
+    bounded = λ p pn. bounded_at c r (reached c moves) k (x p) (chain_is c p pn) p (on_chain c p pn) (s.stand p).place refl;
+    within = λ p pn a. within_at c r (reached c moves) k (x p) (chain_is c p pn) p (on_chain c p pn) a;
+    ordered = λ y. ordered_by c (reached c moves) k c.served refl (λ e. silent_takes c e moves run) (sides_are c moves) y;
+    serves = λ p pn. serves_at c r (reached c moves) k (x p) (chain_is c p pn) p (on_chain c p pn) (s.stand p).place refl;
+    reads = λ p pn reading. reads_at c r (reached c moves) k (x p) (chain_is c p pn) p (on_chain c p pn) (not_other c r.bound.0 moves run (x p)) (s.stand p).place refl reading;
+    told = λ p told pn e. was_told c (reached c moves) (x p) (pass_at c.config p) told (has_told c r.bound.0 moves run p pn told e);
+    own = λ p pn. own_at c r (reached c moves) k (x p) (chain_is c p pn) p (on_chain c p pn) (s.stand p).place refl;
+    nodes = λ p pn. nodes_at c r (reached c moves) k (x p) (chain_is c p pn) p (on_chain c p pn) (s.stand p).place refl;
+    link = λ p at served pn e. link_at c r (reached c moves) k (x p) (chain_is c p pn) p (on_chain c p pn) at served (λ i. record { begun = (s.stand p).begun; node = (s.stand p).node; place = e i });
+    own_link = λ p at pn e. own_link_at c r (reached c moves) k (x p) (chain_is c p pn) p (on_chain c p pn) at (λ i. record { begun = (s.stand p).begun; node = (s.stand p).node; place = e i });
+    tail = λ p pn. tail_at c r (reached c moves) k (x p) (chain_is c p pn) p (on_chain c p pn);
+    apart = λ p q pn qn same e. apart_on c (reached c moves) k (x p) (chain_is c p pn) p q (on_chain c p pn) (subst (λ (y : Chain). IsOn c y q) (sym same) (on_chain c q qn)) e;
+    free = λ p pn. free_at c r (reached c moves) k (x p) (chain_is c p pn) p (on_chain c p pn);
+    untouched = λ p q f pn qn ne out. untouched_by c (reached c moves) k p q f pn qn ne out;
+  }
+
+pub chain_laws : ChainLawsOfRuns
+chain_laws c checked moves run = let u = read_head in let v = read_taken in let w = read_link in laws c checked moves run
+
+pub counter_laws : CounterLawsOfRuns
+counter_laws c counter checked moves run =
+    let r : InRange c.config = in_range c.config checked in
+    let v : Counts c (reached c moves) = counter_holds c counter r.bound.0 moves run in
+    record {
+      chain = laws c checked moves run;
+      count = v.count;
+      numbers = λ n less. slice_get-get_or (reached c moves).history.sends.answers n no_answer less ∙ ap (λ (z : Answer). Some z) (v.kth n less);
+      ready = λ p less. counter_ready c counter checked moves run p less;
+    }

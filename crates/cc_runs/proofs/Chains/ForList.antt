@@ -1,0 +1,43 @@
+-- What the list has from its two chains: one service of a side at most, of the first call without an answer.
+use Rattle.std.proofs.Common.{◌≡◌, ℕ, ◌<◌, refl, subst, arith, Some, length}
+use Rattle.std.specs.List.{slice_get}
+use Rattle.cc_model.specs.declared.call.Entry.{Entry}
+use Rattle.cc_runs.specs.declared.setting.Setting.{Setting}
+use Rattle.cc_runs.specs.declared.setting.Served.{Served}
+use Rattle.cc_runs.specs.declared.setting.Served.TheVariants as served
+use Rattle.cc_runs.specs.declared.word.Chain.{Chain}
+use Rattle.cc_runs.specs.declared.word.Chain.TheVariants.{Send, Take}
+use Rattle.cc_runs.specs.declared.word.NodeField.TheVariants as node
+use Rattle.cc_runs.specs.declared.word.Word.TheVariants.{Node}
+use Rattle.cc_runs.specs.declared.place.Job.{Job}
+use Rattle.cc_runs.specs.declared.place.Sending.TheVariants as sending
+use Rattle.cc_runs.specs.declared.place.Taking.{Taking}
+use Rattle.cc_runs.specs.declared.place.Place.TheVariants as place
+use Rattle.cc_runs.specs.Codes.{request_in}
+use Rattle.cc_runs.specs.State.{State, chain_of}
+use Rattle.cc_runs.specs.Run.{passes}
+use Rattle.cc_runs.proofs.Chains.Registers.{Sends, calls_on, answers_on, call_at}
+use Rattle.cc_runs.proofs.Chains.Others.{IsOn}
+use Rattle.cc_runs.proofs.Chains.Serving.{Chains, chain_is, on_chain, sending_where, next_call, next_service, next_words}
+
+sends_it : (what : Served) (x : Chain) (A : Type 0) → Sends what x A → A
+sends_it served.List Send A a = a
+sends_it served.List (Take g) A a = absurd a
+sends_it served.Counter Send A a = absurd a
+sends_it served.Counter (Take g) A a = absurd a
+
+module _ (c : Setting) (s : State) (k : Chains c s) (p : ℕ) (job : Job) (less : p < passes c) where
+  -- the request's tag is read, and its body is about to be
+  pub read_body : (tag : ℕ) → (s.stand p).place ≡ place.Sending job (sending.ReadBody tag) →
+      (e : Entry) × (slice_get s.history.sends.calls (length s.history.sends.answers) ≡ Some e) × (tag ≡ (request_in e).tag) × (s.mem (Node Send job.round.at node.Body) ≡ (request_in e).body)
+  read_body tag is =
+      let on : IsOn c Send p = subst (λ (y : Chain). IsOn c y p) (sending_where c s k p job (sending.ReadBody tag) less is).1 (on_chain c p less) in
+      let tag_is : tag ≡ (request_in (call_at s.history.sends.calls (length s.history.sends.answers))).tag =
+      sends_it c.served Send (tag ≡ (request_in (call_at s.history.sends.calls (length s.history.sends.answers))).tag)
+      (next_service c s k Send tt p on (place.Sending job (sending.ReadBody tag)) job is (λ own. refl) (call_at s.history.sends.calls (length s.history.sends.answers)) refl) in
+      (call_at s.history.sends.calls (length s.history.sends.answers), next_call c s k Send tt p on (place.Sending job (sending.ReadBody tag)) job is (λ own. refl), tag_is, next_words c s k Send tt p on (place.Sending job (sending.ReadBody tag)) job is (λ own. refl) 1 (omega arith))
+
+  -- a take is in service
+  pub serves_take : (service : Taking) → (s.stand p).place ≡ place.Taking job service → (e : Entry) × (slice_get (calls_on (chain_of c.config p) s.history) (length (answers_on (chain_of c.config p) s.history)) ≡ Some e)
+  serves_take service is =
+      (call_at (calls_on (chain_of c.config p) s.history) (length (answers_on (chain_of c.config p) s.history)), next_call c s k (chain_of c.config p) (chain_is c p less) p (on_chain c p less) (place.Taking job service) job is (λ own. refl))

@@ -1,0 +1,190 @@
+-- The steps that one side alone has, and the reading of an answer, keep what holds of the chain.
+use Rattle.std.proofs.Common.{◌≡◌, ◌≢◌, ◌⊎◌, ℕ, ◌+◌, ◌<◌, refl, ap, sym, ◌∙◌, subst, arith, inl, inr, None}
+use Rattle.cc_model.specs.declared.call.Item.{Item}
+use Rattle.cc_model.specs.declared.call.Answer.{Answer}
+use Rattle.cc_model.specs.declared.call.Answer.TheVariants as answer
+use Rattle.cc_model.specs.declared.call.TakeAnswer.TheVariants as take
+use Rattle.cc_runs.specs.declared.setting.Setting.{Setting}
+use Rattle.cc_runs.specs.declared.word.Chain.{Chain}
+use Rattle.cc_runs.specs.declared.word.Chain.TheVariants.{Send, Take}
+use Rattle.cc_runs.specs.declared.word.NodeField.{NodeField}
+use Rattle.cc_runs.specs.declared.word.NodeField.TheVariants as node
+use Rattle.cc_runs.specs.declared.word.Word.TheVariants.{Tail, Node}
+use Rattle.cc_runs.specs.declared.place.Stand.{Stand}
+use Rattle.cc_runs.specs.declared.place.Job.{Job}
+use Rattle.cc_runs.specs.declared.place.Request.{Request}
+use Rattle.cc_runs.specs.declared.place.Place.{Place}
+use Rattle.cc_runs.specs.declared.place.Place.TheVariants as place
+use Rattle.cc_runs.specs.Codes.{pack, item_of, ret_of, code_of, value_of, sender_reads}
+use Rattle.cc_runs.specs.State.{State}
+use Rattle.cc_runs.specs.Columns.{goes, node_after, enters, decides, after_ret}
+use Rattle.cc_runs.specs.Run.{IsFinished}
+use Rattle.cc_runs.proofs.Combining.Stay as by_stay
+use Rattle.cc_runs.proofs.Combining.WriteRequest as by_writerequest
+use Rattle.cc_runs.proofs.Combining.End as by_end
+use Rattle.cc_runs.proofs.Chains.View.{view, members, pass_on, post_of, post_at, answer_words, answer_long}
+use Rattle.cc_runs.proofs.Chains.Bridge as bridge
+use Rattle.cc_runs.proofs.Chains.Sides as sides
+use Rattle.cc_runs.proofs.Chains.Registers.{IsChain, answers_on, answer_at, HasCall, IsAnswer, HasRead, coded_words, tag_word, body_word}
+use Rattle.cc_runs.proofs.Chains.Ties.{Holds}
+use Rattle.cc_runs.proofs.Chains.Facts.{some_words, got_long, ReadsOn, ReadsAll, reads_first, reads_item}
+use Rattle.cc_runs.proofs.Chains.Steps.{goes_on}
+use Rattle.cc_runs.proofs.Chains.Serve.{At, then, finds, seen, the_answer, serves_at, tells}
+
+-- a sender writes its request
+module _ (c : Setting) (some : 0 < c.config.bound) (s : State) (p begun own : ℕ) (inside : p < members c Send) (w : Holds c Send s) where
+  write_tag_send : (put : ℕ) (request : Request) → At c Send tt some s p begun own inside w (place.WriteTag put request) → Holds c Send (then c Send tt some s p begun own inside w (place.WriteTag put request))
+  write_tag_send put request e =
+      goes_on c Send tt some s p begun own inside w (place.WriteTag put request) (place.WriteBody put request.body) w.ghost.marked w.ghost.server refl refl refl
+      (by_writerequest.keeps (members c Send) c.config.bound (view c Send s) (view c Send (then c Send tt some s p begun own inside w (place.WriteTag put request))) w.ghost p inside w.inv (sides.write_tag c s p begun own put request e))
+      record { onward = omega arith; call = tt; read = tt; ended = λ f. absurd f; serves = λ a. tt; keep = λ q ne a. (a, refl) }
+
+  write_body_send : (put body : ℕ) → At c Send tt some s p begun own inside w (place.WriteBody put body) → Holds c Send (then c Send tt some s p begun own inside w (place.WriteBody put body))
+  write_body_send put body e =
+      goes_on c Send tt some s p begun own inside w (place.WriteBody put body) (place.Link put) w.ghost.marked w.ghost.server refl refl refl
+      (by_writerequest.keeps (members c Send) c.config.bound (view c Send s) (view c Send (then c Send tt some s p begun own inside w (place.WriteBody put body))) w.ghost p inside w.inv (sides.write_body c s p begun own put body e))
+      record { onward = omega arith; call = tt; read = tt; ended = λ f. absurd f; serves = λ a. tt; keep = λ q ne a. (a, refl) }
+
+-- what a call reads of its answer
+module _ (c : Setting) (x : Chain) (ok : IsChain c x) (some : 0 < c.config.bound) (s : State) (p begun own : ℕ) (inside : p < members c x) (w : Holds c x s) where
+  abbrev its_answer : Answer
+  its_answer = answer_at (answers_on x s.history) (w.ghost.at p)
+
+  pub done_before : (at : Place) → At c x ok some s p begun own inside w at → (post_of x own at).rank ≡ 6 → w.ghost.at p < w.ghost.answers
+  done_before at e six = omega (arith, w.inv.passes.late p inside (ap (λ z. z.rank) (seen c x ok some s p begun own inside w at e) ∙ six), w.inv.calls.in_order)
+
+  pub answer_is : (at : Place) → At c x ok some s p begun own inside w at → (post_of x own at).rank ≡ 6 → IsAnswer c.served x its_answer
+  answer_is at e six = w.ties.answered (w.ghost.at p) (done_before at e six)
+
+  -- word j of it
+  pub word_at : (at : Place) (j : ℕ) → At c x ok some s p begun own inside w at → post_of x own at ≡ post_of x own place.ReadAnswer → j < answer_long its_answer →
+      answer_words x (λ (f : NodeField). s.mem (Node x own f)) j ≡ coded_words c.served x its_answer j
+  word_at at j e six less =
+      let is : post_at x (s.stand (pass_on c x p)) ≡ post_of x own place.ReadAnswer = seen c x ok some s p begun own inside w at e ∙ six in
+      let rank : (post_at x (s.stand (pass_on c x p))).rank ≡ 6 = ap (λ z. z.rank) is in
+      let node_is : (post_at x (s.stand (pass_on c x p))).node ≡ own = ap (λ z. z.node) is in
+      let below : w.ghost.at p < w.ghost.answers = done_before at e (ap (λ z. z.rank) six) in
+      let told : answer_words x (λ (f : NodeField). s.mem (Node x (post_at x (s.stand (pass_on c x p))).node f)) j ≡ w.ghost.told (w.ghost.at p) j =
+      w.inv.words.done_told p j inside (omega (arith, rank)) (w.inv.passes.late p inside rank) (omega (arith, w.ties.told_long (w.ghost.at p) below)) in
+      ap (λ (z : ℕ). answer_words x (λ (f : NodeField). s.mem (Node x z f)) j) (sym node_is) ∙ told ∙ w.ties.told (w.ghost.at p) j below
+
+  idle_server : (at : Place) → At c x ok some s p begun own inside w at → (post_of x own at).rank ≡ 6 → w.ghost.server ≢ p + 1
+  idle_server at e six a = absurd (omega (arith, w.inv.server.server_rank p a, ap (λ z. z.rank) (seen c x ok some s p begun own inside w at e) ∙ six))
+
+  -- not all of it is read yet
+  reads_more : (at there : Place) → At c x ok some s p begun own inside w at → post_of x own at ≡ post_of x own place.ReadAnswer → post_of x own there ≡ post_of x own place.ReadAnswer →
+      goes c x own at (finds c x ok some s p begun own inside w at) ≡ there → enters at ≡ None → decides c at (finds c x ok some s p begun own inside w at) ≡ None → node_after own at (finds c x ok some s p begun own inside w at) ≡ own →
+      (then c x ok some s p begun own inside w at).mem (Tail x) ≡ s.mem (Tail x) → ((i : ℕ) (f : NodeField) → (then c x ok some s p begun own inside w at).mem (Node x i f) ≡ s.mem (Node x i f)) →
+      HasCall c x p there → HasRead c.served x its_answer there → (IsFinished there → ⊥) → Holds c x (then c x ok some s p begun own inside w at)
+  reads_more at there e six next_six go enter none keeps_node tail words call read unfinished =
+      goes_on c x ok some s p begun own inside w at there w.ghost.marked w.ghost.server go enter none
+      (by_stay.keeps (members c x) c.config.bound (view c x s) (view c x (then c x ok some s p begun own inside w at)) w.ghost w.inv
+      (bridge.stays c x s p begun own (members c x) at e (ap (λ (z : ℕ). post_of x z (goes c x own at (finds c x ok some s p begun own inside w at))) keeps_node ∙ ap (λ (z : Place). post_of x own z) go ∙ next_six ∙ sym six) tail words))
+      record { onward = omega arith; call = call; read = read; ended = λ f. absurd (unfinished f); serves = λ a. absurd (idle_server at e (ap (λ z. z.rank) six) a); keep = λ q ne a. (a, refl) }
+
+  -- all of it is read
+  reads_end : (at there : Place) → At c x ok some s p begun own inside w at → post_of x own at ≡ post_of x own place.ReadAnswer → post_of x own there ≡ post_of x own place.Idle →
+      goes c x own at (finds c x ok some s p begun own inside w at) ≡ there → enters at ≡ None → decides c at (finds c x ok some s p begun own inside w at) ≡ None → node_after own at (finds c x ok some s p begun own inside w at) ≡ own →
+      (then c x ok some s p begun own inside w at).mem (Tail x) ≡ s.mem (Tail x) → ((i : ℕ) (f : NodeField) → (then c x ok some s p begun own inside w at).mem (Node x i f) ≡ s.mem (Node x i f)) →
+      HasCall c x p there → HasRead c.served x its_answer there → Holds c x (then c x ok some s p begun own inside w at)
+  reads_end at there e six next_out go enter none keeps_node tail words call read =
+      let rank : (post_at x (s.stand (pass_on c x p))).rank ≡ 6 = ap (λ z. z.rank) (seen c x ok some s p begun own inside w at e ∙ six) in
+      goes_on c x ok some s p begun own inside w at there w.ghost.marked w.ghost.server go enter none
+      (by_end.keeps (members c x) c.config.bound (view c x s) (view c x (then c x ok some s p begun own inside w at)) w.ghost p inside w.inv
+      (bridge.end c x s p begun own at e six (ap (λ (z : ℕ). post_of x z (goes c x own at (finds c x ok some s p begun own inside w at))) keeps_node ∙ ap (λ (z : Place). post_of x own z) go ∙ next_out) tail words))
+      record {
+        onward = omega arith;
+        call = call;
+        read = read;
+        ended = λ f. (w.inv.passes.late p inside rank, w.inv.passes.at_is p inside (omega (arith, rank)));
+        serves = λ a. absurd (idle_server at e (ap (λ z. z.rank) six) a);
+        keep = λ q ne a. (a, refl);
+      }
+
+-- a receiver is told an item, and reads it
+module _ (c : Setting) (g : ℕ) (ok : IsChain c (Take g)) (some : 0 < c.config.bound) (s : State) (p begun own : ℕ) (inside : p < members c (Take g)) (w : Holds c (Take g) s) where
+  write_answer_tag_take : (job : Job) (item : Item) → At c (Take g) ok some s p begun own inside w (place.WriteAnswerTag job item) → Holds c (Take g) (then c (Take g) ok some s p begun own inside w (place.WriteAnswerTag job item))
+  write_answer_tag_take job item e =
+      let is : the_answer c (Take g) ok some s p begun own inside w ≡ answer.Take (take.Got item) = serves_at c (Take g) ok some s p begun own inside w (place.WriteAnswerTag job item) e refl in
+      tells c (Take g) ok some s p begun own inside w (place.WriteAnswerTag job item) (place.WriteAnswerBody job item.body) 3 (pack item.sender item.number) 1 e refl refl refl refl refl refl refl
+      (sides.write_answer_tag c g s p begun own job item e) (sym (ap answer_long is)) (sym (ap (λ (z : Answer). coded_words c.served (Take g) z 1) is)) (item, is, refl)
+
+  write_answer_body_take : (job : Job) (body : ℕ) → At c (Take g) ok some s p begun own inside w (place.WriteAnswerBody job body) → Holds c (Take g) (then c (Take g) ok some s p begun own inside w (place.WriteAnswerBody job body))
+  write_answer_body_take job body e =
+      let is = serves_at c (Take g) ok some s p begun own inside w (place.WriteAnswerBody job body) e refl in
+      tells c (Take g) ok some s p begun own inside w (place.WriteAnswerBody job body) (place.MarkDone job) 3 body 2 e refl refl refl refl refl refl refl
+      (sides.write_answer_body c g s p begun own job body e) (sym (ap answer_long is.1)) (sym is.2 ∙ sym (ap (λ (z : Answer). coded_words c.served (Take g) z 2) is.1)) tt
+
+  abbrev item_answer : Answer
+  item_answer = answer_at (answers_on (Take g) s.history) (w.ghost.at p)
+
+  first_is : At c (Take g) ok some s p begun own inside w place.ReadAnswer → s.mem (Node (Take g) own node.Ret) ≡ ret_of c.served item_answer
+  first_is e = word_at c (Take g) ok some s p begun own inside w place.ReadAnswer 0 e refl (omega (arith, some_words item_answer))
+
+  read_answer_by : At c (Take g) ok some s p begun own inside w place.ReadAnswer →
+      ReadsOn c c.served g p own item_answer (after_ret c.served (Take g) (ret_of c.served item_answer)) ⊎ ReadsAll c c.served g p own item_answer (after_ret c.served (Take g) (ret_of c.served item_answer)) →
+      Holds c (Take g) (then c (Take g) ok some s p begun own inside w place.ReadAnswer)
+  read_answer_by e (inl on) =
+      reads_more c (Take g) ok some s p begun own inside w place.ReadAnswer (after_ret c.served (Take g) (ret_of c.served item_answer)) e refl on.post (ap (λ (z : ℕ). after_ret c.served (Take g) z) (first_is e)) refl refl refl refl
+      (λ i f. refl) on.call on.read on.unfinished
+  read_answer_by e (inr all) =
+      reads_end c (Take g) ok some s p begun own inside w place.ReadAnswer (after_ret c.served (Take g) (ret_of c.served item_answer)) e refl all.post (ap (λ (z : ℕ). after_ret c.served (Take g) z) (first_is e)) refl refl refl refl
+      (λ i f. refl) all.call all.read
+
+  read_answer_take : At c (Take g) ok some s p begun own inside w place.ReadAnswer → Holds c (Take g) (then c (Take g) ok some s p begun own inside w place.ReadAnswer)
+  read_answer_take e = read_answer_by e (reads_first c c.served g p own item_answer)
+
+  read_tag_take : (at : ℕ) → At c (Take g) ok some s p begun own inside w (place.ReadAnswerTag at) → Holds c (Take g) (then c (Take g) ok some s p begun own inside w (place.ReadAnswerTag at))
+  read_tag_take at e =
+      let had : (code_of (ret_of c.served item_answer) ≡ 1) × (at ≡ value_of (ret_of c.served item_answer)) = subst (λ (z : Stand). HasRead c.served (Take g) item_answer z.place) e (w.ties.read p inside) in
+      let long : answer_long item_answer ≡ 3 = got_long c.served g item_answer (answer_is c (Take g) ok some s p begun own inside w (place.ReadAnswerTag at) e refl) had.0 in
+      let tag : s.mem (Node (Take g) own node.Tag) ≡ tag_word item_answer = word_at c (Take g) ok some s p begun own inside w (place.ReadAnswerTag at) 1 e refl (omega (arith, long)) in
+      reads_more c (Take g) ok some s p begun own inside w (place.ReadAnswerTag at) (place.ReadAnswerBody at (s.mem (Node (Take g) own node.Tag))) e refl refl refl refl refl refl refl (λ i f. refl) tt (had.0, had.1, tag) (λ f. f)
+
+  read_body_take : (at tag : ℕ) → At c (Take g) ok some s p begun own inside w (place.ReadAnswerBody at tag) → Holds c (Take g) (then c (Take g) ok some s p begun own inside w (place.ReadAnswerBody at tag))
+  read_body_take at tag e =
+      let had : (code_of (ret_of c.served item_answer) ≡ 1) × (at ≡ value_of (ret_of c.served item_answer)) × (tag ≡ tag_word item_answer) =
+      subst (λ (z : Stand). HasRead c.served (Take g) item_answer z.place) e (w.ties.read p inside) in
+      let long : answer_long item_answer ≡ 3 = got_long c.served g item_answer (answer_is c (Take g) ok some s p begun own inside w (place.ReadAnswerBody at tag) e refl) had.0 in
+      let body : s.mem (Node (Take g) own node.Body) ≡ body_word item_answer = word_at c (Take g) ok some s p begun own inside w (place.ReadAnswerBody at tag) 2 e refl (omega (arith, long)) in
+      reads_end c (Take g) ok some s p begun own inside w (place.ReadAnswerBody at tag) (place.Finished (answer.Take (take.Got (item_of at tag (s.mem (Node (Take g) own node.Body)))))) e refl refl refl refl refl refl refl (λ i f. refl) tt
+      ((λ i. answer.Take (take.Got (item_of (had.1 i) (had.2 i) (body i)))) ∙ sym (reads_item c.served g item_answer had.0))
+
+-- each of these on any chain
+module _ (c : Setting) (some : 0 < c.config.bound) (s : State) (p begun own : ℕ) where
+  pub write_tag : (x : Chain) (ok : IsChain c x) (inside : p < members c x) (w : Holds c x s) (put : ℕ) (request : Request) → At c x ok some s p begun own inside w (place.WriteTag put request) →
+      Holds c x (then c x ok some s p begun own inside w (place.WriteTag put request))
+  write_tag Send ok inside w put request e = write_tag_send c some s p begun own inside w put request e
+  write_tag (Take g) ok inside w put request e = absurd (subst (λ (z : Stand). HasCall c (Take g) p z.place) e (w.ties.begun p inside))
+
+  pub write_body : (x : Chain) (ok : IsChain c x) (inside : p < members c x) (w : Holds c x s) (put body : ℕ) → At c x ok some s p begun own inside w (place.WriteBody put body) →
+      Holds c x (then c x ok some s p begun own inside w (place.WriteBody put body))
+  write_body Send ok inside w put body e = write_body_send c some s p begun own inside w put body e
+  write_body (Take g) ok inside w put body e = absurd (subst (λ (z : Stand). HasCall c (Take g) p z.place) e (w.ties.begun p inside))
+
+  pub write_answer_tag : (x : Chain) (ok : IsChain c x) (inside : p < members c x) (w : Holds c x s) (job : Job) (item : Item) → At c x ok some s p begun own inside w (place.WriteAnswerTag job item) →
+      Holds c x (then c x ok some s p begun own inside w (place.WriteAnswerTag job item))
+  write_answer_tag Send ok inside w job item e = absurd (serves_at c Send ok some s p begun own inside w (place.WriteAnswerTag job item) e refl)
+  write_answer_tag (Take g) ok inside w job item e = write_answer_tag_take c g ok some s p begun own inside w job item e
+
+  pub write_answer_body : (x : Chain) (ok : IsChain c x) (inside : p < members c x) (w : Holds c x s) (job : Job) (body : ℕ) → At c x ok some s p begun own inside w (place.WriteAnswerBody job body) →
+      Holds c x (then c x ok some s p begun own inside w (place.WriteAnswerBody job body))
+  write_answer_body Send ok inside w job body e = absurd (serves_at c Send ok some s p begun own inside w (place.WriteAnswerBody job body) e refl)
+  write_answer_body (Take g) ok inside w job body e = write_answer_body_take c g ok some s p begun own inside w job body e
+
+  pub read_answer : (x : Chain) (ok : IsChain c x) (inside : p < members c x) (w : Holds c x s) → At c x ok some s p begun own inside w place.ReadAnswer → Holds c x (then c x ok some s p begun own inside w place.ReadAnswer)
+  read_answer Send ok inside w e =
+      let first : s.mem (Node Send own node.Ret) ≡ ret_of c.served (its_answer c Send ok some s p begun own inside w) =
+      word_at c Send ok some s p begun own inside w place.ReadAnswer 0 e refl (omega (arith, some_words (its_answer c Send ok some s p begun own inside w))) in
+      reads_end c Send ok some s p begun own inside w place.ReadAnswer (place.Finished (sender_reads c.served (s.mem (Node Send own node.Ret)))) e refl refl refl refl refl refl refl (λ i f. refl) tt
+      (ap (λ (z : ℕ). sender_reads c.served z) first)
+  read_answer (Take g) ok inside w e = read_answer_take c g ok some s p begun own inside w e
+
+  pub read_tag : (x : Chain) (ok : IsChain c x) (inside : p < members c x) (w : Holds c x s) (at : ℕ) → At c x ok some s p begun own inside w (place.ReadAnswerTag at) → Holds c x (then c x ok some s p begun own inside w (place.ReadAnswerTag at))
+  read_tag Send ok inside w at e = absurd (subst (λ (z : Stand). HasRead c.served Send (its_answer c Send ok some s p begun own inside w) z.place) e (w.ties.read p inside))
+  read_tag (Take g) ok inside w at e = read_tag_take c g ok some s p begun own inside w at e
+
+  pub read_body : (x : Chain) (ok : IsChain c x) (inside : p < members c x) (w : Holds c x s) (at tag : ℕ) → At c x ok some s p begun own inside w (place.ReadAnswerBody at tag) →
+      Holds c x (then c x ok some s p begun own inside w (place.ReadAnswerBody at tag))
+  read_body Send ok inside w at tag e = absurd (subst (λ (z : Stand). HasRead c.served Send (its_answer c Send ok some s p begun own inside w) z.place) e (w.ties.read p inside))
+  read_body (Take g) ok inside w at tag e = read_body_take c g ok some s p begun own inside w at tag e

@@ -1,0 +1,156 @@
+-- What the places of a chain's passes keep, and what it has to do with the history.
+use Rattle.std.proofs.Common.{◌≡◌, ◌≤◌, ◌<◌, ℕ, length, ◌==◌, if◌then◌else◌, List, get_or}
+use Rattle.cc_model.specs.declared.call.Entry.{Entry}
+use Rattle.cc_model.specs.declared.call.Item.{Item}
+use Rattle.cc_model.specs.declared.call.Pass.TheVariants as pass
+use Rattle.cc_model.specs.declared.call.Call.TheVariants as call
+use Rattle.cc_model.specs.declared.call.Answer.{Answer}
+use Rattle.cc_model.specs.declared.call.Answer.TheVariants as answer
+use Rattle.cc_model.specs.declared.call.SendAnswer.TheVariants as send
+use Rattle.cc_model.specs.declared.call.CloseAnswer.TheVariants as close
+use Rattle.cc_model.specs.declared.call.TakeAnswer.TheVariants as take
+use Rattle.cc_runs.specs.declared.setting.Setting.{Setting}
+use Rattle.cc_runs.specs.declared.setting.Served.{Served}
+use Rattle.cc_runs.specs.declared.setting.Served.TheVariants as served
+use Rattle.cc_runs.specs.declared.word.Chain.{Chain}
+use Rattle.cc_runs.specs.declared.word.Chain.TheVariants.{Send, Take}
+use Rattle.cc_runs.specs.declared.place.Sending.{Sending}
+use Rattle.cc_runs.specs.declared.place.Sending.TheVariants as sending
+use Rattle.cc_runs.specs.declared.place.Place.{Place}
+use Rattle.cc_runs.specs.declared.place.Place.TheVariants as place
+use Rattle.cc_runs.specs.Codes.{pack, item_of, request_in, ret_of, code_of, value_of, sender_reads}
+use Rattle.cc_model.specs.Record.{Record}
+use Rattle.cc_runs.specs.Words.{groups}
+use Rattle.cc_runs.specs.State.{pass_at}
+use Rattle.cc_runs.specs.Run.{IsOn}
+pub use Rattle.cc_runs.specs.Sides.{calls_on, answers_on}
+use Rattle.cc_runs.proofs.Chains.View.{pass_on, told_words}
+
+-- the chains that there are: the counter has the senders' alone
+abbrev pub IsChainOf : Served → (groups : ℕ) → Chain → Type 0
+IsChainOf _ n Send = Unit {0}
+IsChainOf served.List n (Take g) = g < n
+IsChainOf served.Counter n (Take g) = ⊥
+
+abbrev pub IsChain : Setting → Chain → Type 0
+IsChain c x = IsChainOf c.served (groups c.config) x
+
+-- the history has a side for it
+abbrev pub HasSide : Chain → Record → Type 0
+HasSide Send h = Unit {0}
+HasSide (Take g) h = g < length h.takes
+
+abbrev pub no_call : Entry
+no_call = record { pass = pass.Sender 0; call = call.Close; number = 0; known = 0 }
+
+abbrev pub no_answer : Answer
+no_answer = answer.Take take.Empty
+
+abbrev pub call_at : List Entry → ℕ → Entry
+call_at calls k = get_or calls k no_call
+
+abbrev pub answer_at : List Answer → ℕ → Answer
+answer_at answers k = get_or answers k no_answer
+
+-- a call of pass p of the chain
+pub record IsCall (c : Setting) (x : Chain) (p : ℕ) (e : Entry) : Type 0 where
+  pub pass_is : e.pass ≡ pass_at c.config (pass_on c x p)
+  pub on : IsOn c.served x e.call
+  pub number_in : e.number ≤ c.config.per_sender
+
+-- what holds of senders, of receivers, and where this is served
+abbrev pub OnSend : Chain → Type 0
+OnSend Send = Unit {0}
+OnSend (Take g) = ⊥
+
+abbrev pub OnTake : Chain → Type 0 → Type 0
+OnTake Send A = ⊥
+OnTake (Take g) A = A
+
+abbrev pub Counts : Served → Chain → Type 0
+Counts served.Counter Send = Unit {0}
+Counts _ _ = ⊥
+
+abbrev pub Sends : Served → Chain → Type 0 → Type 0
+Sends served.List Send A = A
+Sends _ _ A = ⊥
+
+abbrev pub Takes : Served → Chain → Type 0
+Takes served.List (Take g) = Unit {0}
+Takes _ _ = ⊥
+
+-- a pass with a call that hasn't exchanged keeps it, and only a sender writes a request
+abbrev pub HasCall : Setting → Chain → ℕ → Place → Type 0
+HasCall c x p (place.ResetNext call) = IsCall c x p call
+HasCall c x p (place.ResetState call) = IsCall c x p call
+HasCall c x p (place.Exchange call) = IsCall c x p call
+HasCall c x p (place.WriteTag put request) = OnSend x
+HasCall c x p (place.WriteBody put body) = OnSend x
+HasCall c x p _ = Unit {0}
+
+-- what a call of this chain can be answered
+abbrev pub IsAnswer : Served → Chain → Answer → Type 0
+IsAnswer served.Counter Send (answer.Send (send.Accepted place)) = Unit {0}
+IsAnswer served.List Send (answer.Send told) = Unit {0}
+IsAnswer served.List Send (answer.Close told) = Unit {0}
+IsAnswer served.List (Take g) (answer.Take told) = Unit {0}
+IsAnswer _ _ _ = ⊥
+
+-- the senders' combiner keeps words of the request that it serves, and then the answer that it has decided
+abbrev pub HasSend : Entry → Answer → Sending → Type 0
+HasSend e a (sending.ReadBody tag) = tag ≡ (request_in e).tag
+HasSend e a (sending.ReadShut request) = request ≡ request_in e
+HasSend e a (sending.ReadCount request) = request ≡ request_in e
+HasSend e a (sending.ReadCursor parcel) = (parcel.tag ≡ (request_in e).tag) × (parcel.body ≡ (request_in e).body)
+HasSend e a (sending.ReadPassed parcel at reads) = (parcel.tag ≡ (request_in e).tag) × (parcel.body ≡ (request_in e).body)
+HasSend e a (sending.ResetPassed parcel at) = (parcel.tag ≡ (request_in e).tag) × (parcel.body ≡ (request_in e).body)
+HasSend e a (sending.ResetItemNext parcel at) = (parcel.tag ≡ (request_in e).tag) × (parcel.body ≡ (request_in e).body)
+HasSend e a (sending.WriteItemTag parcel at) = (parcel.tag ≡ (request_in e).tag) × (parcel.body ≡ (request_in e).body)
+HasSend e a (sending.WriteItemBody place body at) = body ≡ (request_in e).body
+HasSend e a (sending.WriteLastMark total) = a ≡ answer.Close (close.Shut total)
+HasSend e a (sending.WriteShut total) = a ≡ answer.Close (close.Shut total)
+HasSend e a (sending.WriteLast place at) = a ≡ answer.Send (send.Accepted place)
+HasSend e a (sending.WriteCount place at) = a ≡ answer.Send (send.Accepted place)
+HasSend e a (sending.WriteCursor place at) = a ≡ answer.Send (send.Accepted place)
+HasSend e a _ = Unit {0}
+
+-- a combiner serves what its chain serves, here the call e, which is answered a
+abbrev pub HasService : Served → Chain → Entry → Answer → Place → Type 0
+HasService served x e a (place.Counting job service) = Counts served x
+HasService served x e a (place.Sending job service) = Sends served x (HasSend e a service)
+HasService served x e a (place.Taking job service) = Takes served x
+HasService served x e a (place.WriteAnswer job told) = a ≡ told
+HasService served x e a (place.WriteAnswerTag job item) = OnTake x (a ≡ answer.Take (take.Got item))
+HasService served x e a (place.WriteAnswerBody job body) = OnTake x ((item : Item) × (a ≡ answer.Take (take.Got item)) × (item.body ≡ body))
+HasService served x e a _ = Unit {0}
+
+-- the words of an answer
+abbrev pub tag_word : Answer → ℕ
+tag_word (answer.Take (take.Got item)) = pack item.sender item.number
+tag_word _ = 0
+
+abbrev pub body_word : Answer → ℕ
+body_word (answer.Take (take.Got item)) = item.body
+body_word _ = 0
+
+abbrev pub coded_words : Served → Chain → Answer → ℕ → ℕ
+coded_words served Send a j = told_words (ret_of served a) 0 0 j
+coded_words served (Take g) a j = told_words (ret_of served a) (tag_word a) (body_word a) j
+
+-- what a call makes of them
+abbrev pub take_reads : ℕ → ℕ → ℕ → Answer
+take_reads ret tag body =
+    if code_of ret == 1 then answer.Take (take.Got (item_of (value_of ret) tag body))
+    else if code_of ret == 2 then answer.Take take.Empty
+    else answer.Take (take.Ended (value_of ret))
+
+abbrev pub reads : Served → Chain → Answer → Answer
+reads served Send a = sender_reads served (ret_of served a)
+reads served (Take g) a = take_reads (ret_of served a) (tag_word a) (body_word a)
+
+-- a call that is answered a has read so much of it
+abbrev pub HasRead : Served → Chain → Answer → Place → Type 0
+HasRead served x a (place.ReadAnswerTag at) = OnTake x ((code_of (ret_of served a) ≡ 1) × (at ≡ value_of (ret_of served a)))
+HasRead served x a (place.ReadAnswerBody at tag) = OnTake x ((code_of (ret_of served a) ≡ 1) × (at ≡ value_of (ret_of served a)) × (tag ≡ tag_word a))
+HasRead served x a (place.Finished told) = told ≡ reads served x a
+HasRead served x a _ = Unit {0}

@@ -1,0 +1,190 @@
+-- A step of a call on its chain finds its words, and no number of the chain leaves its range.
+use Rattle.std.proofs.Common.{◌≡◌, ℕ, ◌+◌, ◌^◌, ◌<◌, ◌≤◌, ◌&&◌, nat_lt, refl, ap, sym, ◌∙◌, subst, arith, length, IsTrue, true, Bool}
+use Rattle.std.proofs.lemmas.Bool.{cases_eq, lt-ltb}
+use Rattle.cc_model.specs.Record.{Record}
+use Rattle.cc_model.specs.declared.call.Answer.{Answer}
+use Rattle.cc_runs.specs.declared.setting.Setting.{Setting}
+use Rattle.cc_runs.specs.declared.word.Chain.{Chain}
+use Rattle.cc_runs.specs.declared.word.Chain.TheVariants.{Send, Take}
+use Rattle.cc_runs.specs.declared.word.NodeField.{NodeField}
+use Rattle.cc_runs.specs.declared.word.NodeField.TheVariants as node
+use Rattle.cc_runs.specs.declared.word.Word.TheVariants.{Tail, Node}
+use Rattle.cc_runs.specs.declared.place.Stand.{Stand}
+use Rattle.cc_runs.specs.declared.place.Round.{Round}
+use Rattle.cc_runs.specs.declared.place.Job.{Job}
+use Rattle.cc_runs.specs.declared.place.Sending.{Sending}
+use Rattle.cc_runs.specs.declared.place.Sending.TheVariants as sending
+use Rattle.cc_runs.specs.declared.place.Place.{Place}
+use Rattle.cc_runs.specs.declared.place.Place.TheVariants as place
+use Rattle.cc_runs.specs.Codes.{ret_of}
+use Rattle.cc_runs.specs.Words.{groups, layout_of, exists}
+use Rattle.cc_runs.specs.State.{State}
+use Rattle.cc_runs.specs.Safe.{IsSafe, HasOpenCall, WhileUndecided, IsOpenAt}
+use Rattle.cc_runs.proofs.Ranges.{InRange}
+use Rattle.cc_runs.proofs.Chains.View.{members, pass_on, post_of, post_at, send_stage}
+use Rattle.cc_runs.proofs.Chains.Registers.{IsChain, calls_on, answers_on, call_at, answer_at, HasService}
+use Rattle.cc_runs.proofs.Chains.Ties.{Holds, send_in}
+use Rattle.cc_runs.proofs.Chains.Facts.{own_node}
+use Rattle.cc_runs.proofs.Chains.Others.{group_in}
+
+-- the words of a chain that there are
+pub node_exists : (c : Setting) (x : Chain) → IsChain c x → (i : ℕ) (f : NodeField) → i ≤ members c x → IsTrue (exists (layout_of c.config) (Node x i f))
+node_exists c Send ok i f low = lt-ltb i (c.config.senders + 1) (omega arith)
+node_exists c (Take g) ok i f low =
+    let group : nat_lt g (groups c.config) ≡ true = lt-ltb g (groups c.config) (group_in c.served (groups c.config) g ok) in
+    ap (λ (b : Bool). b && nat_lt i (c.config.receivers + 1)) group ∙ lt-ltb i (c.config.receivers + 1) (omega arith)
+
+pub tail_exists : (c : Setting) (x : Chain) → IsChain c x → IsTrue (exists (layout_of c.config) (Tail x))
+tail_exists c Send ok = refl
+tail_exists c (Take g) ok = lt-ltb g (groups c.config) (group_in c.served (groups c.config) g ok)
+
+pub few_members : (c : Setting) (x : Chain) → InRange c.config → members c x ≤ 64
+few_members c Send r = r.senders.1
+few_members c (Take g) r = r.receivers.1
+
+-- a place of a service, where the served object has a word in it
+abbrev pub IsService : Place → Type 0
+IsService (place.Counting job service) = Unit {0}
+IsService (place.Sending job service) = Unit {0}
+IsService (place.Taking job service) = Unit {0}
+IsService _ = ⊥
+
+open_call : (x : Chain) (h : Record) → length (answers_on x h) < length (calls_on x h) → HasOpenCall h x
+open_call Send h less = less
+open_call (Take g) h less = less
+
+pub send_high : (service : Sending) → 1 ≤ send_stage service
+send_high service = (send_in service).0
+
+pub send_low : (service : Sending) → send_stage service ≤ 2
+send_low service = (send_in service).1
+
+module _ (c : Setting) (x : Chain) (ok : IsChain c x) (r : InRange c.config) (s : State) (p own begun : ℕ) (inside : p < members c x) (w : Holds c x s) where
+  abbrev At : Place → Type 0
+  At at = s.stand (pass_on c x p) ≡ record { begun = begun; node = own; place = at }
+
+  seen : (at : Place) → At at → post_at x (s.stand (pass_on c x p)) ≡ post_of x own at
+  seen at e = ap (λ (z : Stand). post_at x z) e
+
+  pub own_in : (at : Place) → At at → own ≤ members c x
+  own_in at e = subst (λ (z : ℕ). z ≤ members c x) (ap (λ z. z.node) (seen at e) ∙ own_node x own at) (w.inv.nodes.node_in p inside)
+
+  chain_in : (k : ℕ) → w.ghost.marked ≤ k → k ≤ w.ghost.calls → w.ghost.chain k ≤ members c x
+  chain_in k a b = grind (arith, cases_eq k w.ghost.calls, w.inv.nodes.last_in, w.inv.calls.open_node k, w.inv.calls.open_pass k, w.inv.nodes.node_in (w.ghost.pass_of k))
+
+  pub put_in : (at : Place) → At at → (post_of x own at).rank ≡ 3 → (post_of x own at).put ≤ members c x
+  put_in at e three =
+      let is : post_at x (s.stand (pass_on c x p)) ≡ post_of x own at = seen at e in
+      let rank : (post_at x (s.stand (pass_on c x p))).rank ≡ 3 = ap (λ z. z.rank) is ∙ three in
+      omega (arith, ap (λ z. z.put) is, w.inv.links.put_is p inside rank, chain_in (w.ghost.at p + 1) (omega (arith, w.inv.passes.early p inside rank)) (omega (arith, w.inv.passes.at_in p inside (omega (arith, rank)))))
+
+  pub me : (at : Place) → At at → (post_of x own at).rank ≡ 5 → w.ghost.server ≡ p + 1
+  me at e five = w.inv.server.server_is p inside (ap (λ z. z.rank) (seen at e) ∙ five)
+
+  pub target_in : (at : Place) → At at → (post_of x own at).rank ≡ 5 → (post_of x own at).target ≤ members c x
+  target_in at e five =
+      let mine : w.ghost.server ≡ p + 1 = me at e five in
+      omega (arith, ap (λ z. z.target) (seen at e), w.inv.server.server_target p mine, chain_in w.ghost.marked (omega arith) (omega (arith, w.inv.calls.in_order, w.inv.calls.in_order2)))
+
+  pub served_in : (at : Place) → At at → (post_of x own at).rank ≡ 5 → (post_of x own at).stage ≤ 2 → (post_of x own at).served < c.config.bound
+  served_in at e five low = omega (arith, ap (λ z. z.served) (seen at e), w.inv.server.server_bound p (me at e five) (omega (arith, ap (λ z. z.stage) (seen at e))))
+
+  pub next_in : (at : Place) (next : ℕ) → At at → (post_of x own at).rank ≡ 5 → 1 ≤ (post_of x own at).stage → (post_of x own at).stage ≤ 2 → (post_of x own at).next ≡ next + 1 → next ≤ members c x
+  next_in at next e five low high is =
+      let mine : w.ghost.server ≡ p + 1 = me at e five in
+      let stage : (post_at x (s.stand (pass_on c x p))).stage ≡ (post_of x own at).stage = ap (λ z. z.stage) (seen at e) in
+      let more : w.ghost.marked < w.ghost.calls = w.inv.serving.serving p mine (omega (arith, stage)) (omega (arith, stage)) in
+      omega (arith, ap (λ z. z.next) (seen at e), w.inv.serving.serving_next p mine (omega (arith, stage)) (omega (arith, stage)), chain_in (w.ghost.marked + 1) (omega arith) (omega arith))
+
+  -- the link that a combiner reads
+  pub link_in : (round : Round) → At (place.ReadNext round) → s.mem (Node x round.at node.Next) ≤ members c x + 1
+  link_in round e =
+      let is : post_at x (s.stand (pass_on c x p)) ≡ post_of x own (place.ReadNext round) = seen (place.ReadNext round) e in
+      let mine : w.ghost.server ≡ p + 1 = me (place.ReadNext round) e refl in
+      let target : round.at ≡ w.ghost.chain w.ghost.marked = sym (ap (λ z. z.target) is) ∙ w.inv.server.server_target p mine in
+      grind (
+        arith,
+        cases_eq w.ghost.marked w.ghost.calls,
+        w.inv.links.last_next,
+        target,
+        w.inv.calls.in_order,
+        w.inv.calls.in_order2,
+        w.inv.calls.open_pass w.ghost.marked,
+        w.inv.calls.open_at w.ghost.marked,
+        w.inv.calls.open_low w.ghost.marked,
+        w.inv.calls.open_node w.ghost.marked,
+        cases_eq (post_at x (s.stand (pass_on c x (w.ghost.pass_of w.ghost.marked)))).rank 3,
+        w.inv.links.ready_next (w.ghost.pass_of w.ghost.marked),
+        w.inv.links.linked (w.ghost.pass_of w.ghost.marked),
+        chain_in (w.ghost.marked + 1),
+      )
+
+  -- a combiner that has served nobody yet finds its own node linked
+  pub own_link_in : (at : ℕ) → At (place.ReadNext record { at = at; served = 0 }) → 0 < s.mem (Node x at node.Next)
+  own_link_in at e =
+      let is : post_at x (s.stand (pass_on c x p)) ≡ post_of x own (place.ReadNext record { at = at; served = 0 }) = seen (place.ReadNext record { at = at; served = 0 }) e in
+      let mine : w.ghost.server ≡ p + 1 = me (place.ReadNext record { at = at; served = 0 }) e refl in
+      let rank : (post_at x (s.stand (pass_on c x p))).rank ≡ 5 = ap (λ z. z.rank) is in
+      let first : w.ghost.at p ≡ w.ghost.marked = omega (arith, ap (λ z. z.served) is, w.inv.server.server_at p mine (omega (arith, ap (λ z. z.stage) is))) in
+      let more : w.ghost.marked < w.ghost.calls = omega (arith, w.inv.passes.at_in p inside (omega (arith, rank))) in
+      let its : w.ghost.pass_of w.ghost.marked ≡ p = ap w.ghost.pass_of (sym first) ∙ w.inv.passes.at_is p inside (omega (arith, rank)) in
+      let node_is : (post_at x (s.stand (pass_on c x p))).node ≡ at =
+      ap (λ (z : ℕ). (post_at x (s.stand (pass_on c x z))).node) (sym its) ∙ w.inv.calls.open_node w.ghost.marked (omega arith) more ∙ sym (w.inv.server.server_target p mine) ∙ ap (λ z. z.target) is in
+      omega (arith, w.inv.links.linked p inside (omega (arith, rank)) (omega arith), ap (λ (z : ℕ). s.mem (Node x z node.Next)) node_is)
+
+  -- the request in service has no answer before the step that decides it
+  pub unanswered : (at : Place) → At at → (post_of x own at).rank ≡ 5 → (post_of x own at).stage ≡ 1 → length (answers_on x s.history) < length (calls_on x s.history)
+  unanswered at e five one =
+      let mine : w.ghost.server ≡ p + 1 = me at e five in
+      let stage : (post_at x (s.stand (pass_on c x p))).stage ≡ 1 = ap (λ z. z.stage) (seen at e) ∙ one in
+      omega (arith, w.ties.calls_are, w.ties.answers_are, w.inv.serving.undecided p mine (λ two. omega (arith, stage)), w.inv.serving.serving p mine (omega (arith, stage)) (omega (arith, stage)))
+
+  -- and from that step on the call that is marked next has this answer
+  pub answer_in : (at : Place) → At at → (post_of x own at).rank ≡ 5 → (post_of x own at).stage ≡ 2 → w.ghost.marked < length (answers_on x s.history)
+  answer_in at e five two = omega (arith, w.ties.answers_are, w.inv.serving.decided p (me at e five) (ap (λ z. z.stage) (seen at e) ∙ two))
+
+  abbrev Fit : Type 0
+  Fit = (k : ℕ) → k < length (answers_on x s.history) → ret_of c.served (answer_at (answers_on x s.history) k) < 2 ^ 64
+
+  told_fits : (job : Job) (told : Answer) → At (place.WriteAnswer job told) → Fit → ret_of c.served told < 2 ^ 64
+  told_fits job told e fit =
+      let is : answer_at (answers_on x s.history) w.ghost.marked ≡ told = subst (λ (z : Stand). HasService c.served x (call_at (calls_on x s.history) w.ghost.marked) (answer_at (answers_on x s.history) w.ghost.marked) z.place) e (w.ties.served p (me (place.WriteAnswer job told) e refl)) in
+      subst (λ (z : Answer). ret_of c.served z < 2 ^ 64) is (fit w.ghost.marked (answer_in (place.WriteAnswer job told) e refl refl))
+
+  pub safe_at : (at : Place) → At at → Fit → (IsService at → IsSafe c s x own at) → IsSafe c s x own at
+  safe_at place.Idle e fit served = record { word = tail_exists c x ok; numbers = tt }
+  safe_at (place.ResetNext call) e fit served = record { word = node_exists c x ok own node.Next (own_in (place.ResetNext call) e); numbers = tt }
+  safe_at (place.ResetState call) e fit served = record { word = node_exists c x ok own node.State (own_in (place.ResetState call) e); numbers = tt }
+  safe_at (place.Exchange call) e fit served = record { word = tail_exists c x ok; numbers = (omega (arith, w.inv.nodes.tail_is), omega (arith, own_in (place.Exchange call) e, few_members c x r)) }
+  safe_at (place.WriteTag put request) e fit served = record { word = node_exists c x ok own node.Tag (own_in (place.WriteTag put request) e); numbers = tt }
+  safe_at (place.WriteBody put body) e fit served = record { word = node_exists c x ok own node.Body (own_in (place.WriteBody put body) e); numbers = tt }
+  safe_at (place.Link put) e fit served = record { word = node_exists c x ok own node.Next (own_in (place.Link put) e); numbers = omega (arith, put_in (place.Link put) e refl, few_members c x r) }
+  safe_at place.ReadState e fit served = record { word = node_exists c x ok own node.State (own_in place.ReadState e); numbers = tt }
+  safe_at (place.ReadNext round) e fit served = record { word = node_exists c x ok round.at node.Next (target_in (place.ReadNext round) e refl); numbers = tt }
+  safe_at (place.Counting job service) e fit served = served tt
+  safe_at (place.Sending job service) e fit served = served tt
+  safe_at (place.Taking job service) e fit served = served tt
+  safe_at (place.WriteAnswer job told) e fit served = record { word = node_exists c x ok job.round.at node.Ret (target_in (place.WriteAnswer job told) e refl); numbers = told_fits job told e fit }
+  safe_at (place.WriteAnswerTag job item) e fit served = record { word = node_exists c x ok job.round.at node.Tag (target_in (place.WriteAnswerTag job item) e refl); numbers = tt }
+  safe_at (place.WriteAnswerBody job body) e fit served = record { word = node_exists c x ok job.round.at node.Body (target_in (place.WriteAnswerBody job body) e refl); numbers = tt }
+  safe_at (place.MarkDone job) e fit served = record { word = node_exists c x ok job.round.at node.State (target_in (place.MarkDone job) e refl); numbers = omega (arith, served_in (place.MarkDone job) e refl (omega arith), r.bound) }
+  safe_at (place.HandOver at) e fit served = record { word = node_exists c x ok at node.State (target_in (place.HandOver at) e refl); numbers = tt }
+  safe_at place.ReadAnswer e fit served = record { word = node_exists c x ok own node.Ret (own_in place.ReadAnswer e); numbers = tt }
+  safe_at (place.ReadAnswerTag at) e fit served = record { word = node_exists c x ok own node.Tag (own_in (place.ReadAnswerTag at) e); numbers = tt }
+  safe_at (place.ReadAnswerBody at tag) e fit served = record { word = node_exists c x ok own node.Body (own_in (place.ReadAnswerBody at tag) e); numbers = tt }
+  safe_at (place.Finished told) e fit served = record { word = tail_exists c x ok; numbers = tt }
+
+  send_open : (job : Job) (service : Sending) → At (place.Sending job service) → WhileUndecided (place.Sending job service) (HasOpenCall s.history x)
+  send_open job (sending.WriteLastMark total) e = tt
+  send_open job (sending.WriteShut total) e = tt
+  send_open job (sending.WriteLast at on) e = tt
+  send_open job (sending.WriteCount at on) e = tt
+  send_open job (sending.WriteCursor at on) e = tt
+  send_open job sending.ReadTag e = open_call x s.history (unanswered (place.Sending job sending.ReadTag) e refl refl)
+  send_open job service e = open_call x s.history (unanswered (place.Sending job service) e refl refl)
+
+  pub open_at : (at : Place) → At at → IsOpenAt s.history x at
+  open_at (place.Counting job service) e = open_call x s.history (unanswered (place.Counting job service) e refl refl)
+  open_at (place.Sending job service) e = send_open job service e
+  open_at (place.Taking job service) e = open_call x s.history (unanswered (place.Taking job service) e refl refl)
+  open_at _ e = tt

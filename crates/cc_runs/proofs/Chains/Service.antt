@@ -1,0 +1,156 @@
+-- A step of a service: it goes on, or decides the answer.
+use Rattle.std.proofs.Common.{◌≡◌, ℕ, zero, suc, ◌+◌, Bool, true, false, ◌==◌, cond, refl, ap, Option, Some, None}
+use Rattle.cc_model.specs.declared.call.Entry.{Entry}
+use Rattle.cc_model.specs.declared.call.Answer.{Answer}
+use Rattle.cc_model.specs.declared.call.Answer.TheVariants as answer
+use Rattle.cc_model.specs.declared.call.SendAnswer.TheVariants as send
+use Rattle.cc_model.specs.declared.call.CloseAnswer.TheVariants as close
+use Rattle.cc_model.specs.declared.call.TakeAnswer.TheVariants as take
+use Rattle.cc_runs.specs.declared.setting.Setting.{Setting}
+use Rattle.cc_runs.specs.declared.setting.Served.{Served}
+use Rattle.cc_runs.specs.declared.setting.Served.TheVariants as served
+use Rattle.cc_runs.specs.declared.word.Chain.{Chain}
+use Rattle.cc_runs.specs.declared.word.Chain.TheVariants.{Send, Take}
+use Rattle.cc_runs.specs.declared.word.NodeField.{NodeField}
+use Rattle.cc_runs.specs.declared.word.Word.{Word}
+use Rattle.cc_runs.specs.declared.word.Word.TheVariants.{Tail, Node}
+use Rattle.cc_runs.specs.declared.place.Job.{Job}
+use Rattle.cc_runs.specs.declared.place.Request.{Request}
+use Rattle.cc_runs.specs.declared.place.Parcel.{Parcel}
+use Rattle.cc_runs.specs.declared.place.Counting.{Counting}
+use Rattle.cc_runs.specs.declared.place.Counting.TheVariants as counting
+use Rattle.cc_runs.specs.declared.place.Sending.{Sending}
+use Rattle.cc_runs.specs.declared.place.Sending.TheVariants as sending
+use Rattle.cc_runs.specs.declared.place.Taking.{Taking}
+use Rattle.cc_runs.specs.declared.place.Taking.TheVariants as taking
+use Rattle.cc_runs.specs.declared.place.Place.{Place}
+use Rattle.cc_runs.specs.declared.place.Place.TheVariants as place
+use Rattle.cc_runs.specs.Codes.{request_in}
+use Rattle.cc_runs.specs.Words.{groups}
+use Rattle.cc_runs.specs.State.{stored}
+use Rattle.cc_runs.specs.CountColumns as count_side
+use Rattle.cc_runs.specs.SendColumns as send_side
+use Rattle.cc_runs.specs.TakeColumns as take_side
+use Rattle.cc_runs.specs.SendColumns.{after}
+use Rattle.cc_runs.proofs.Chains.View.{post_of, serving}
+use Rattle.cc_runs.proofs.Chains.Registers.{HasService, IsAnswer}
+
+-- the step from here to there, of the service of call e, whose answer, once decided, is a
+pub data Outcome (served : Served) (x : Chain) (job : Job) (e : Entry) (here there : Place) (decided : Option Answer) : Type 0 where
+  quiet : decided ≡ None → ((own : ℕ) → post_of x own there ≡ post_of x own here) → ((a : Answer) → HasService served x e a here → HasService served x e a there) → Outcome served x job e here there decided
+  decides : (a : Answer) → decided ≡ Some a → ((own : ℕ) → post_of x own here ≡ serving own job 1 0) → ((own : ℕ) → post_of x own there ≡ serving own job 2 0) → IsAnswer served x a → HasService served x e a there → Outcome served x job e here there decided
+
+-- the word of a request that a service reads
+abbrev pub FindsRequest : Entry → Sending → ℕ → Type 0
+FindsRequest e sending.ReadTag found = found ≡ (request_in e).tag
+FindsRequest e (sending.ReadBody tag) found = found ≡ (request_in e).body
+FindsRequest e _ found = Unit {0}
+
+module _ (c : Setting) (job : Job) (e : Entry) where
+  abbrev Sends : Sending → Place → Option Answer → Type 0
+  Sends service there decided = Outcome served.List Send job e (place.Sending job service) there decided
+
+  shut_open : (request : Request) → Sends (sending.ReadShut request) (place.Sending job (sending.ReadCount request)) None
+  shut_open request = quiet refl (λ own. refl) (λ a r. r)
+
+  shut_closed : (request : Request) (b : Bool) →
+      Sends (sending.ReadShut request) (cond b (place.Sending job sending.ReadTotal) (place.WriteAnswer job (answer.Send send.Closed))) (cond b None (Some (answer.Send send.Closed)))
+  shut_closed request true = quiet refl (λ own. refl) (λ a r. tt)
+  shut_closed request false = decides (answer.Send send.Closed) refl (λ own. refl) (λ own. refl) tt refl
+
+  count_life : (request : Request) (count : ℕ) (b : Bool) →
+      Sends (sending.ReadCount request) (cond b (place.WriteAnswer job (answer.Send send.Spent)) (place.Sending job (sending.ReadCursor record { place = count; tag = request.tag; body = request.body }))) (cond b (Some (answer.Send send.Spent)) None)
+  count_life request count true = decides (answer.Send send.Spent) refl (λ own. refl) (λ own. refl) tt refl
+  count_life request count false = quiet refl (λ own. refl) (λ a r. (ap (λ (z : Request). z.tag) r, ap (λ (z : Request). z.body) r))
+
+  count_read : (request : Request) (count : ℕ) (life b : Bool) →
+      Sends (sending.ReadCount request)
+      (cond b (place.Sending job (sending.ReadLastToClose count)) (cond life (place.WriteAnswer job (answer.Send send.Spent)) (place.Sending job (sending.ReadCursor record { place = count; tag = request.tag; body = request.body }))))
+      (cond b None (cond life (Some (answer.Send send.Spent)) None))
+  count_read request count life true = quiet refl (λ own. refl) (λ a r. tt)
+  count_read request count life false = count_life request count life
+
+  passed_full : (parcel : Parcel) (at reads : ℕ) (b : Bool) →
+      Sends (sending.ReadPassed parcel at reads) (cond b (place.WriteAnswer job (answer.Send send.Full)) (place.Sending job (sending.ReadPassed parcel (after c.config at) (reads + 1)))) (cond b (Some (answer.Send send.Full)) None)
+  passed_full parcel at reads true = decides (answer.Send send.Full) refl (λ own. refl) (λ own. refl) tt refl
+  passed_full parcel at reads false = quiet refl (λ own. refl) (λ a r. r)
+
+  passed_read : (parcel : Parcel) (at reads : ℕ) (last b : Bool) →
+      Sends (sending.ReadPassed parcel at reads)
+      (cond b (place.Sending job (sending.ResetPassed parcel at)) (cond last (place.WriteAnswer job (answer.Send send.Full)) (place.Sending job (sending.ReadPassed parcel (after c.config at) (reads + 1)))))
+      (cond b None (cond last (Some (answer.Send send.Full)) None))
+  passed_read parcel at reads last true = quiet refl (λ own. refl) (λ a r. r)
+  passed_read parcel at reads last false = passed_full parcel at reads last
+
+  shut_read : (request : Request) (found : ℕ) → Sends (sending.ReadShut request) (send_side.goes c.config job (sending.ReadShut request) found) (send_side.decides c.config (sending.ReadShut request) found)
+  shut_read request zero = shut_open request
+  shut_read request (suc found) = shut_closed request (request.tag == 0)
+
+  pub sends : (service : Sending) (found : ℕ) → FindsRequest e service found → Sends service (send_side.goes c.config job service found) (send_side.decides c.config service found)
+  sends sending.ReadTag found f = quiet refl (λ own. refl) (λ a r. f)
+  sends (sending.ReadBody tag) found f = quiet refl (λ own. refl) (λ a r. λ i. record { tag = r i; body = f i })
+  sends (sending.ReadShut request) found f = shut_read request found
+  sends sending.ReadTotal found f = decides (answer.Close (close.Already found)) refl (λ own. refl) (λ own. refl) tt refl
+  sends (sending.ReadCount request) found f = count_read request found (found == c.config.life) (request.tag == 0)
+  sends (sending.ReadLastToClose total) found f = quiet refl (λ own. refl) (λ a r. tt)
+  sends (sending.LinkMark total last) found f = decides (answer.Close (close.Shut total)) refl (λ own. refl) (λ own. refl) tt refl
+  sends (sending.WriteLastMark total) found f = quiet refl (λ own. refl) (λ a r. r)
+  sends (sending.WriteShut total) found f = quiet refl (λ own. refl) (λ a r. r)
+  sends (sending.ReadCursor parcel) found f = quiet refl (λ own. refl) (λ a r. r)
+  sends (sending.ReadPassed parcel at reads) found f = passed_read parcel at reads (reads == c.config.capacity + 1) (found == groups c.config)
+  sends (sending.ResetPassed parcel at) found f = quiet refl (λ own. refl) (λ a r. r)
+  sends (sending.ResetItemNext parcel at) found f = quiet refl (λ own. refl) (λ a r. r)
+  sends (sending.WriteItemTag parcel at) found f = quiet refl (λ own. refl) (λ a r. r.1)
+  sends (sending.WriteItemBody place body at) found f = quiet refl (λ own. refl) (λ a r. tt)
+  sends (sending.ReadLast place at) found f = quiet refl (λ own. refl) (λ a r. tt)
+  sends (sending.LinkItem place at last) found f = decides (answer.Send (send.Accepted place)) refl (λ own. refl) (λ own. refl) tt refl
+  sends (sending.WriteLast place at) found f = quiet refl (λ own. refl) (λ a r. r)
+  sends (sending.WriteCount place at) found f = quiet refl (λ own. refl) (λ a r. r)
+  sends (sending.WriteCursor place at) found f = quiet refl (λ own. refl) (λ a r. r)
+
+  abbrev Takes : ℕ → Taking → ℕ → Type 0
+  Takes g service found = Outcome served.List (Take g) job e (place.Taking job service) (take_side.goes job service found) (take_side.decides service found)
+
+  pub takes : (g : ℕ) (service : Taking) (found : ℕ) → Takes g service found
+  takes g taking.ReadHead found = quiet refl (λ own. refl) (λ a r. tt)
+  takes g (taking.ReadTaken dummy) found = quiet refl (λ own. refl) (λ a r. tt)
+  takes g (taking.ReadDummyNext dummy taken) zero = decides (answer.Take take.Empty) refl (λ own. refl) (λ own. refl) tt refl
+  takes g (taking.ReadDummyNext dummy taken) (suc found) = quiet refl (λ own. refl) (λ a r. tt)
+  takes g (taking.ReadItemTag dummy taken at) zero = decides (answer.Take (take.Ended taken)) refl (λ own. refl) (λ own. refl) tt refl
+  takes g (taking.ReadItemTag dummy taken at) (suc found) = quiet refl (λ own. refl) (λ a r. tt)
+  takes g (taking.ReadItemBody dummy taken at tag) found = quiet refl (λ own. refl) (λ a r. tt)
+  takes g (taking.WriteHead dummy at parcel) found = quiet refl (λ own. refl) (λ a r. tt)
+  takes g (taking.WriteTaken dummy parcel) found = quiet refl (λ own. refl) (λ a r. tt)
+  takes g (taking.AddPassed dummy parcel) found = decides _ refl (λ own. refl) (λ own. refl) tt refl
+
+  pub counts : (service : Counting) (found : ℕ) → Outcome served.Counter Send job e (place.Counting job service) (count_side.goes job service found) (count_side.decides service found)
+  counts counting.ReadTag found = quiet refl (λ own. refl) (λ a r. tt)
+  counts counting.ReadBody found = quiet refl (λ own. refl) (λ a r. tt)
+  counts counting.ReadCount found = quiet refl (λ own. refl) (λ a r. tt)
+  counts (counting.WriteCount count) found = decides (answer.Send (send.Accepted count)) refl (λ own. refl) (λ own. refl) tt refl
+
+-- a service changes no word of a chain
+module _ (c : Setting) (mem : Word → ℕ) where
+  pub send_tail : (x : Chain) (at : ℕ) (service : Sending) → stored mem (send_side.operation c.config at service) (Tail x) ≡ mem (Tail x)
+  send_tail x at sending.ReadTag = refl
+  send_tail x at _ = refl
+
+  pub send_words : (x : Chain) (at i : ℕ) (f : NodeField) (service : Sending) → stored mem (send_side.operation c.config at service) (Node x i f) ≡ mem (Node x i f)
+  send_words x at i f sending.ReadTag = refl
+  send_words x at i f _ = refl
+
+  pub take_tail : (x : Chain) (g : ℕ) (service : Taking) → stored mem (take_side.operation g service) (Tail x) ≡ mem (Tail x)
+  take_tail x g taking.ReadHead = refl
+  take_tail x g _ = refl
+
+  pub take_words : (x : Chain) (g i : ℕ) (f : NodeField) (service : Taking) → stored mem (take_side.operation g service) (Node x i f) ≡ mem (Node x i f)
+  take_words x g i f taking.ReadHead = refl
+  take_words x g i f _ = refl
+
+  pub count_tail : (x : Chain) (at : ℕ) (service : Counting) → stored mem (count_side.operation at service) (Tail x) ≡ mem (Tail x)
+  count_tail x at counting.ReadTag = refl
+  count_tail x at _ = refl
+
+  pub count_words : (x : Chain) (at i : ℕ) (f : NodeField) (service : Counting) → stored mem (count_side.operation at service) (Node x i f) ≡ mem (Node x i f)
+  count_words x at i f counting.ReadTag = refl
+  count_words x at i f _ = refl

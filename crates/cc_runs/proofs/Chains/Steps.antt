@@ -1,0 +1,189 @@
+-- Each step of a pass of the chain keeps what holds of the chain.
+use Rattle.std.proofs.Common.{◌≡◌, ◌≢◌, ℕ, zero, suc, ◌+◌, ◌<◌, ◌≤◌, refl, ap, sym, ◌∙◌, subst, arith, Some, None, List, [], ◌∷◌, ◌++◌}
+use Rattle.cc_model.specs.Record.{Side, Record, with_call}
+use Rattle.cc_runs.specs.Words.{groups}
+use Rattle.cc_model.specs.declared.call.Entry.{Entry}
+use Rattle.cc_model.specs.declared.call.Answer.{Answer}
+use Rattle.cc_runs.specs.declared.setting.Setting.{Setting}
+use Rattle.cc_runs.specs.declared.word.Chain.{Chain}
+use Rattle.cc_runs.specs.declared.word.NodeField.TheVariants as node
+use Rattle.cc_runs.specs.declared.word.Word.TheVariants.{Tail, Node}
+use Rattle.cc_runs.specs.declared.place.Stand.{Stand}
+use Rattle.cc_runs.specs.declared.place.Round.{Round}
+use Rattle.cc_runs.specs.declared.place.Place.{Place}
+use Rattle.cc_runs.specs.declared.place.Place.TheVariants as place
+use Rattle.cc_runs.specs.State.{State, side, noted}
+use Rattle.cc_runs.specs.Columns.{goes, enters, decides, after_exchange, after_state, after_next, serves}
+use Rattle.cc_runs.specs.Step.{advanced}
+use Rattle.cc_runs.specs.Run.{IsFinished}
+use Rattle.cc_runs.proofs.Combining.Chain.{Ghost}
+use Rattle.cc_runs.proofs.Combining.Invariant.{Inv}
+use Rattle.cc_runs.proofs.Combining.Link.{Links}
+use Rattle.cc_runs.proofs.Combining.Stay as by_stay
+use Rattle.cc_runs.proofs.Combining.Reset as by_reset
+use Rattle.cc_runs.proofs.Combining.Exchange as by_exchange
+use Rattle.cc_runs.proofs.Combining.Link as by_link
+use Rattle.cc_runs.proofs.Combining.Collect as by_collect
+use Rattle.cc_runs.proofs.Combining.Start as by_start
+use Rattle.cc_runs.proofs.Combining.Stop as by_stop
+use Rattle.cc_runs.proofs.Combining.Pick as by_pick
+use Rattle.cc_runs.proofs.Chains.View.{view, members, pass_on, post_of, post_at}
+use Rattle.cc_runs.proofs.Chains.Frame.{hold_here, hold_apart, pass_apart, serves_post}
+use Rattle.cc_runs.proofs.Chains.Bridge as bridge
+use Rattle.cc_runs.proofs.Chains.Bridge.{standing, after, found}
+use Rattle.cc_runs.proofs.Chains.Registers.{IsChain, HasSide, calls_on, answers_on, call_at, answer_at, HasCall, HasService, HasRead}
+use Rattle.cc_runs.proofs.Chains.Ties.{Ties, Holds, stands_on, ties_moved}
+use Rattle.cc_runs.proofs.Chains.Grown as grown
+use Rattle.cc_runs.proofs.Chains.Facts.{noted_none, side_same, keeps_side, IsFree, free_at, exchanged_free, serves_it}
+
+-- an exchange puts its call at the end of its chain's
+entered : (x : Chain) (h : Record) (e : Entry) → HasSide x h → side x (noted x h (Some e) None) ≡ with_call (side x h) e
+entered x h e i = side_same x h _ i
+
+module _ (c : Setting) (x : Chain) (s : State) (p begun own : ℕ) where
+  pub mine : (at : Place) → (after c x s p begun own at).stand (pass_on c x p) ≡ advanced c x (standing c x s p begun own at) (found c x s p begun own at)
+  mine at = hold_here s.stand (pass_on c x p) _
+
+  pub others : (at : Place) (q : ℕ) → q ≢ p → (after c x s p begun own at).stand (pass_on c x q) ≡ s.stand (pass_on c x q)
+  others at q ne = hold_apart s.stand (pass_on c x p) (pass_on c x q) _ (pass_apart c x p q ne)
+
+  pub history_same : (at : Place) → enters at ≡ None → decides c at (found c x s p begun own at) ≡ None → (after c x s p begun own at).history ≡ s.history
+  history_same at e d = (λ i. noted x s.history (e i) (d i)) ∙ noted_none x s.history
+
+-- what a step keeps of the ties, where the history stays
+pub record Moves (c : Setting) (x : Chain) (s : State) (g : Ghost) (p marked server : ℕ) (there : Place) : Type 0 where
+  pub onward : g.marked ≤ marked
+  pub call : HasCall c x p there
+  pub read : HasRead c.served x (answer_at (answers_on x s.history) (g.at p)) there
+  pub ended : IsFinished there → (g.at p < marked) × (g.pass_of (g.at p) ≡ p)
+  pub serves : server ≡ p + 1 → HasService c.served x (call_at (calls_on x s.history) marked) (answer_at (answers_on x s.history) marked) there
+  pub keep : (q : ℕ) → q ≢ p → server ≡ q + 1 → (g.server ≡ q + 1) × (g.marked ≡ marked)
+
+module _ (c : Setting) (x : Chain) (ok : IsChain c x) (some : 0 < c.config.bound) (s : State) (p begun own : ℕ) (inside : p < members c x) (w : Holds c x s) where
+  abbrev pub Here : Place → Type 0
+  Here at = s.stand (pass_on c x p) ≡ standing c x s p begun own at
+
+  abbrev pub next : Place → State
+  next at = after c x s p begun own at
+
+  abbrev pub found_at : Place → ℕ
+  found_at at = found c x s p begun own at
+
+  -- the history stays, and the pass goes there
+  pub goes_on : (at there : Place) (marked server : ℕ) → goes c x own at (found_at at) ≡ there → enters at ≡ None → decides c at (found_at at) ≡ None →
+      Inv (members c x) c.config.bound (view c x (next at)) (record w.ghost { marked = marked; server = server }) → Moves c x s w.ghost p marked server there → Holds c x (next at)
+  goes_on at there marked server go e d inv m =
+      let place_is : goes c x own at (found_at at) ≡ there = go in
+      let back : there ≡ goes c x own at (found_at at) = sym go in
+      record {
+        ghost = record w.ghost { marked = marked; server = server };
+        inv = inv;
+        ties = subst (λ (r : Record). Ties c x (calls_on x r) (answers_on x r) (stands_on c x (next at)) (record w.ghost { marked = marked; server = server })) (sym (history_same c x s p begun own at e d))
+            (ties_moved c x (calls_on x s.history) (answers_on x s.history) (stands_on c x s) (stands_on c x (next at)) w.ghost p w.ties
+            (advanced c x (standing c x s p begun own at) (found_at at)) marked server (mine c x s p begun own at) (λ q ne. others c x s p begun own at q ne) m.onward
+            (subst (λ (z : Place). HasCall c x p z) back m.call)
+            (subst (λ (z : Place). HasRead c.served x (answer_at (answers_on x s.history) (w.ghost.at p)) z) back m.read)
+            (λ f. m.ended (subst (λ (z : Place). IsFinished z) place_is f))
+            (λ a. subst (λ (z : Place). HasService c.served x (call_at (calls_on x s.history) marked) (answer_at (answers_on x s.history) marked) z) back (m.serves a)) m.keep);
+        side_in = keeps_side x x s.history _ w.side_in;
+      }
+
+  -- the pass keeps its part in the chain
+  pub stays_in : (there : Place) → IsFree c x p there →
+      (w.ghost.server ≡ p + 1 → HasService c.served x (call_at (calls_on x s.history) w.ghost.marked) (answer_at (answers_on x s.history) w.ghost.marked) there) → Moves c x s w.ghost p w.ghost.marked w.ghost.server there
+  stays_in there free serves = record { onward = omega arith; call = free.call; read = free.read _; ended = λ f. absurd (free.unfinished f); serves = serves; keep = λ q ne a. (a, refl) }
+
+  pub reset_next : (call : Entry) → Here (place.ResetNext call) → Holds c x (next (place.ResetNext call))
+  reset_next call e =
+      goes_on (place.ResetNext call) (place.ResetState call) w.ghost.marked w.ghost.server refl refl refl
+      (by_reset.keeps (members c x) c.config.bound (view c x s) (view c x (next (place.ResetNext call))) w.ghost p inside w.inv (bridge.reset_next c x s p begun own call e))
+      record { onward = omega arith; call = subst (λ (z : Stand). HasCall c x p z.place) e (w.ties.begun p inside); read = tt; ended = λ f. absurd f; serves = λ a. tt; keep = λ q ne a. (a, refl) }
+
+  pub reset_state : (call : Entry) → Here (place.ResetState call) → Holds c x (next (place.ResetState call))
+  reset_state call e =
+      let was : post_at x (s.stand (pass_on c x p)) ≡ post_of x own (place.ResetState call) = ap (λ (z : Stand). post_at x z) e in
+      let clear : s.mem (Node x own node.Next) ≡ 0 = grind (arith, w.inv.links.ready_next p) in
+      goes_on (place.ResetState call) (place.Exchange call) w.ghost.marked w.ghost.server refl refl refl
+      (by_reset.keeps (members c x) c.config.bound (view c x s) (view c x (next (place.ResetState call))) w.ghost p inside w.inv (bridge.reset_state c x s p begun own call e clear))
+      record { onward = omega arith; call = subst (λ (z : Stand). HasCall c x p z.place) e (w.ties.begun p inside); read = tt; ended = λ f. absurd f; serves = λ a. tt; keep = λ q ne a. (a, refl) }
+
+  pub link : (put : ℕ) → Here (place.Link put) → Holds c x (next (place.Link put))
+  link put e =
+      goes_on (place.Link put) place.ReadState w.ghost.marked w.ghost.server refl refl refl
+      (by_link.keeps (members c x) c.config.bound (view c x s) (view c x (next (place.Link put))) w.ghost p inside w.inv
+      (subst (λ (m : ℕ). Links m (view c x s) (view c x (next (place.Link put))) p) (sym (w.ties.asks_long (w.ghost.at p))) (bridge.link c x s p begun own put e)))
+      record { onward = omega arith; call = tt; read = tt; ended = λ f. absurd f; serves = λ a. tt; keep = λ q ne a. (a, refl) }
+
+  wait : Here place.ReadState → s.mem (Node x own node.State) ≡ 1 → Holds c x (next place.ReadState)
+  wait e saw =
+      goes_on place.ReadState place.ReadState w.ghost.marked w.ghost.server (ap (λ (z : ℕ). after_state own z) saw) refl refl
+      (by_stay.keeps (members c x) c.config.bound (view c x s) (view c x (next place.ReadState)) w.ghost w.inv
+      (bridge.stays c x s p begun own (members c x) place.ReadState e (ap (λ (z : ℕ). post_of x own (after_state own z)) saw) refl (λ i f. refl)))
+      record { onward = omega arith; call = tt; read = tt; ended = λ f. absurd f; serves = λ a. tt; keep = λ q ne a. (a, refl) }
+
+  collect : (k : ℕ) → Here place.ReadState → s.mem (Node x own node.State) ≡ suc (suc k) → Holds c x (next place.ReadState)
+  collect k e saw =
+      goes_on place.ReadState place.ReadAnswer w.ghost.marked w.ghost.server (ap (λ (z : ℕ). after_state own z) saw) refl refl
+      (by_collect.keeps (members c x) c.config.bound (view c x s) (view c x (next place.ReadState)) w.ghost p inside w.inv (bridge.collect c x s p begun own k e saw))
+      record { onward = omega arith; call = tt; read = tt; ended = λ f. absurd f; serves = λ a. tt; keep = λ q ne a. (a, refl) }
+
+  start : Here place.ReadState → s.mem (Node x own node.State) ≡ 0 → Holds c x (next place.ReadState)
+  start e saw =
+      goes_on place.ReadState (place.ReadNext record { at = own; served = 0 }) w.ghost.marked (p + 1) (ap (λ (z : ℕ). after_state own z) saw) refl refl
+      (by_start.keeps (members c x) c.config.bound (view c x s) (view c x (next place.ReadState)) w.ghost (record w.ghost { server = p + 1 }) p inside w.inv (bridge.start c x s p begun own e saw) some
+      record { calls = refl; answers = refl; marked = refl; server_now = refl; pass_of = λ k. refl; asked = λ k j. refl; asks_long = λ k. refl; told_long = λ k. refl; told = λ k j. refl; chain = λ k. refl; at = λ q. refl })
+      record { onward = omega arith; call = tt; read = tt; ended = λ f. absurd f; serves = λ a. tt; keep = λ q ne a. absurd (ne (omega arith)) }
+
+  read_state_by : (k : ℕ) → Here place.ReadState → s.mem (Node x own node.State) ≡ k → Holds c x (next place.ReadState)
+  read_state_by zero e saw = start e saw
+  read_state_by (suc zero) e saw = wait e saw
+  read_state_by (suc (suc k)) e saw = collect k e saw
+
+  pub read_state : Here place.ReadState → Holds c x (next place.ReadState)
+  read_state e = read_state_by (s.mem (Node x own node.State)) e refl
+
+  stop : (round : Round) → Here (place.ReadNext round) → s.mem (Node x round.at node.Next) ≡ 0 → Holds c x (next (place.ReadNext round))
+  stop round e saw =
+      goes_on (place.ReadNext round) (place.HandOver round.at) w.ghost.marked w.ghost.server (ap (λ (z : ℕ). after_next c.served x round z) saw) refl refl
+      (by_stop.keeps (members c x) c.config.bound (view c x s) (view c x (next (place.ReadNext round))) w.ghost p inside w.inv (bridge.stop c x s p begun own round e saw))
+      record { onward = omega arith; call = tt; read = tt; ended = λ f. absurd f; serves = λ a. tt; keep = λ q ne a. (a, refl) }
+
+  pick : (round : Round) (k : ℕ) → Here (place.ReadNext round) → s.mem (Node x round.at node.Next) ≡ suc k → Holds c x (next (place.ReadNext round))
+  pick round k e saw =
+      goes_on (place.ReadNext round) (serves c.served x record { round = round; next = k }) w.ghost.marked w.ghost.server (ap (λ (z : ℕ). after_next c.served x round z) saw) refl refl
+      (by_pick.keeps (members c x) c.config.bound (view c x s) (view c x (next (place.ReadNext round))) w.ghost p inside w.inv (bridge.pick c x s p begun own round k e saw))
+      (stays_in (serves c.served x record { round = round; next = k }) (free_at c x p own _ (ap (λ z. z.rank) (serves_post c.served x own record { round = round; next = k })))
+      (λ a. serves_it c.served (groups c.config) x (call_at (calls_on x s.history) w.ghost.marked) (answer_at (answers_on x s.history) w.ghost.marked) record { round = round; next = k } ok))
+
+  read_next_by : (round : Round) (k : ℕ) → Here (place.ReadNext round) → s.mem (Node x round.at node.Next) ≡ k → Holds c x (next (place.ReadNext round))
+  read_next_by round zero e saw = stop round e saw
+  read_next_by round (suc k) e saw = pick round k e saw
+
+  pub read_next : (round : Round) → Here (place.ReadNext round) → Holds c x (next (place.ReadNext round))
+  read_next round e = read_next_by round (s.mem (Node x round.at node.Next)) e refl
+
+  pub exchange : (call : Entry) → Here (place.Exchange call) → Holds c x (next (place.Exchange call))
+  exchange call e =
+      let was : post_at x (s.stand (pass_on c x p)) ≡ post_of x own (place.Exchange call) = ap (λ (z : Stand). post_at x z) e in
+      let tailed : 0 < s.mem (Tail x) = omega (arith, w.inv.nodes.tail_is) in
+      let not_server : w.ghost.server ≢ p + 1 = λ a. absurd (grind (arith, w.inv.server.server_rank p)) in
+      let free : IsFree c x p (after_exchange x own call) = exchanged_free c x p own call in
+      let more : calls_on x (next (place.Exchange call)).history ≡ calls_on x s.history ++ call ∷ [] = ap (λ (z : Side). z.calls) (entered x s.history call w.side_in) in
+      let same : answers_on x (next (place.Exchange call)).history ≡ answers_on x s.history = ap (λ (z : Side). z.answers) (entered x s.history call w.side_in) in
+      record {
+        ghost = grown.extended x w.ghost p call own;
+        inv = by_exchange.keeps (members c x) c.config.bound (view c x s) (view c x (next (place.Exchange call))) w.ghost
+            (grown.extended x w.ghost p call own) p inside w.inv
+            (bridge.exchange c x s p begun own call e tailed)
+            (subst (λ (z : ℕ). by_exchange.Extends w.ghost (grown.extended x w.ghost p call own) p z
+            (post_at x ((next (place.Exchange call)).stand (pass_on c x p))).asks) (sym (ap (λ z. z.node) was))
+            (grown.extends c x (calls_on x s.history) (answers_on x s.history) (stands_on c x s) (stands_on c x (next (place.Exchange call))) w.ghost p inside w.ties call own _ (bridge.asks c x s p begun own call)));
+        ties = subst (λ (cs : List Entry). Ties c x cs (answers_on x (next (place.Exchange call)).history) (stands_on c x (next (place.Exchange call))) (grown.extended x w.ghost p call own)) (sym more)
+            (subst (λ (as_ : List Answer). Ties c x (calls_on x s.history ++ call ∷ []) as_ (stands_on c x (next (place.Exchange call))) (grown.extended x w.ghost p call own)) (sym same)
+            (grown.ties_entered c x (calls_on x s.history) (answers_on x s.history) (stands_on c x s) (stands_on c x (next (place.Exchange call))) w.ghost p inside w.ties call own _
+            (subst (λ (z : Stand). HasCall c x p z.place) e (w.ties.begun p inside)) (mine c x s p begun own (place.Exchange call)) (λ q ne. others c x s p begun own (place.Exchange call) q ne) not_server w.inv.server.server_in
+            w.inv.calls.in_order w.inv.calls.in_order2
+            (λ q qn f. let old = w.ties.ended q qn f in omega (arith, old.0, w.inv.calls.in_order, w.inv.calls.in_order2))
+            (λ q a low high. w.inv.serving.serving q a low high) free.call free.read free.unfinished));
+        side_in = keeps_side x x s.history _ w.side_in;
+      }

@@ -1,0 +1,134 @@
+-- What ties a chain to the history, and what of it a step keeps.
+use Rattle.std.proofs.Common.{◌≡◌, ◌≢◌, ℕ, ◌+◌, ◌<◌, ◌≤◌, cond, eqb, List, length, refl, ap, sym, ◌∙◌, subst, arith, inl, inr}
+use Rattle.std.proofs.lemmas.Bool.{cases_eq, eq-eqb, ne_eqb, cond-true, cond-false}
+use Rattle.cc_model.specs.declared.call.Entry.{Entry}
+use Rattle.cc_model.specs.declared.call.Answer.{Answer}
+use Rattle.cc_runs.specs.declared.setting.Setting.{Setting}
+use Rattle.cc_runs.specs.declared.setting.Served.{Served}
+use Rattle.cc_runs.specs.declared.word.Chain.{Chain}
+use Rattle.cc_runs.specs.declared.place.Stand.{Stand}
+use Rattle.cc_runs.specs.declared.place.Sending.{Sending}
+use Rattle.cc_runs.specs.declared.place.Sending.TheVariants as sending
+use Rattle.cc_runs.specs.declared.place.Place.{Place}
+use Rattle.cc_runs.specs.declared.place.Place.TheVariants as place
+use Rattle.cc_runs.specs.State.{State}
+use Rattle.cc_runs.specs.Run.{IsFinished}
+use Rattle.cc_runs.proofs.Combining.Chain.{Ghost}
+use Rattle.cc_runs.proofs.Combining.Invariant.{Inv}
+use Rattle.cc_runs.proofs.Chains.View.{view, members, pass_on, post_of, request_long, asked_words, answer_long, send_stage}
+use Rattle.cc_runs.proofs.Chains.Registers.{HasSide, calls_on, answers_on, call_at, answer_at, IsCall, HasCall, IsAnswer, Sends, HasSend, HasService, coded_words, HasRead}
+
+-- a function with one value changed
+pub upd : {A : Type 0} → (ℕ → A) → ℕ → A → ℕ → A
+upd f k a j = cond (eqb j k) a (f j)
+
+pub upd-same : {A : Type 0} (f : ℕ → A) (k : ℕ) (a : A) → upd f k a k ≡ a
+unfolding upd
+upd-same f k a = cond-true _ _ _ (eq-eqb k k refl)
+
+pub upd-other : {A : Type 0} (f : ℕ → A) (k : ℕ) (a : A) (j : ℕ) → j ≢ k → upd f k a j ≡ f j
+unfolding upd
+upd-other f k a j ne = cond-false _ _ _ (ne_eqb j k ne)
+
+pub record Ties (c : Setting) (x : Chain) (calls : List Entry) (answers : List Answer) (stand : ℕ → Stand) (g : Ghost) : Type 0 where
+  -- the calls and answers of the history are those of the chain
+  pub calls_are : length calls ≡ g.calls
+  pub answers_are : length answers ≡ g.answers
+  pub pass_in : (k : ℕ) → k < g.calls → g.pass_of k < members c x
+  pub entered : (k : ℕ) → k < g.calls → IsCall c x (g.pass_of k) (call_at calls k)
+  pub asked : (k j : ℕ) → k < g.calls → g.asked k j ≡ asked_words x (call_at calls k) j
+  pub asks_long : (k : ℕ) → g.asks_long k ≡ request_long x
+  pub answered : (k : ℕ) → k < g.answers → IsAnswer c.served x (answer_at answers k)
+  pub told : (k j : ℕ) → k < g.answers → g.told k j ≡ coded_words c.served x (answer_at answers k) j
+  pub told_long : (k : ℕ) → k < g.answers → g.told_long k ≡ answer_long (answer_at answers k)
+  -- and the passes keep what they read and wrote
+  pub begun : (q : ℕ) → q < members c x → HasCall c x q (stand q).place
+  pub served : (q : ℕ) → g.server ≡ q + 1 → HasService c.served x (call_at calls g.marked) (answer_at answers g.marked) (stand q).place
+  pub read : (q : ℕ) → q < members c x → HasRead c.served x (answer_at answers (g.at q)) (stand q).place
+  pub ended : (q : ℕ) → q < members c x → IsFinished (stand q).place → (g.at q < g.marked) × (g.pass_of (g.at q) ≡ q)
+
+-- the passes of a chain
+abbrev pub stands_on : Setting → Chain → State → ℕ → Stand
+stands_on c x s q = s.stand (pass_on c x q)
+
+pub record Holds (c : Setting) (x : Chain) (s : State) : Type 0 where
+  pub ghost : Ghost
+  pub inv : Inv (members c x) c.config.bound (view c x s) ghost
+  pub ties : Ties c x (calls_on x s.history) (answers_on x s.history) (stands_on c x s) ghost
+  pub side_in : HasSide x s.history
+
+pub send_in : (service : Sending) → (1 ≤ send_stage service) × (send_stage service ≤ 2)
+send_in sending.ReadTag = omega arith
+send_in (sending.WriteLastMark total) = omega arith
+send_in (sending.WriteShut total) = omega arith
+send_in (sending.WriteLast place at) = omega arith
+send_in (sending.WriteCount place at) = omega arith
+send_in (sending.WriteCursor place at) = omega arith
+send_in _ = omega arith
+
+-- only a service asks which call it serves
+pub service_call : (served : Served) (x : Chain) (own : ℕ) (e e' : Entry) (a : Answer) (at : Place) → (1 ≤ (post_of x own at).stage → (post_of x own at).stage ≤ 2 → e ≡ e') → HasService served x e a at → HasService served x e' a at
+service_call served x own e e' a (place.Sending job service) same h = let i = send_in service in subst (λ (z : Entry). Sends served x (HasSend z a service)) (same i.0 i.1) h
+service_call served x own e e' a at same h = h
+
+-- only a reader asks for its answer
+pub reader_answer : (served : Served) (x : Chain) (own : ℕ) (a a' : Answer) (at : Place) → ((post_of x own at).rank ≡ 6 → a ≡ a') → (IsFinished at → a ≡ a') → HasRead served x a at → HasRead served x a' at
+reader_answer served x own a a' (place.ReadAnswerTag at) same ended h = subst (λ (z : Answer). HasRead served x z (place.ReadAnswerTag at)) (same refl) h
+reader_answer served x own a a' (place.ReadAnswerBody at tag) same ended h = subst (λ (z : Answer). HasRead served x z (place.ReadAnswerBody at tag)) (same refl) h
+reader_answer served x own a a' (place.Finished told) same ended h = subst (λ (z : Answer). HasRead served x z (place.Finished told)) (ended tt) h
+reader_answer served x own a a' at same ended h = h
+
+module _ (c : Setting) (x : Chain) (calls : List Entry) (answers : List Answer) (stand stand' : ℕ → Stand) (g : Ghost) (p : ℕ) (ties : Ties c x calls answers stand g) where
+  -- the passes stand as they stood
+  pub ties_same : ((q : ℕ) → q < members c x → stand' q ≡ stand q) → ((q : ℕ) → g.server ≡ q + 1 → q < members c x) → Ties c x calls answers stand' g
+  ties_same same server_in = record {
+    calls_are = ties.calls_are;
+    answers_are = ties.answers_are;
+    pass_in = ties.pass_in;
+    entered = ties.entered;
+    asked = ties.asked;
+    asks_long = ties.asks_long;
+    answered = ties.answered;
+    told = ties.told;
+    told_long = ties.told_long;
+    begun = λ q qn. subst (λ (z : Stand). HasCall c x q z.place) (sym (same q qn)) (ties.begun q qn);
+    served = λ q a. subst (λ (z : Stand). HasService c.served x (call_at calls g.marked) (answer_at answers g.marked) z.place) (sym (same q (server_in q a))) (ties.served q a);
+    read = λ q qn. subst (λ (z : Stand). HasRead c.served x (answer_at answers (g.at q)) z.place) (sym (same q qn)) (ties.read q qn);
+    ended = λ q qn f. ties.ended q qn (subst (λ (z : Stand). IsFinished z.place) (same q qn) f);
+  }
+
+  -- pass p stands there now, and the history is as it was
+  pub ties_moved : (there : Stand) (marked server : ℕ) → stand' p ≡ there → ((q : ℕ) → q ≢ p → stand' q ≡ stand q) → g.marked ≤ marked →
+      HasCall c x p there.place → HasRead c.served x (answer_at answers (g.at p)) there.place → (IsFinished there.place → (g.at p < marked) × (g.pass_of (g.at p) ≡ p)) →
+      (server ≡ p + 1 → HasService c.served x (call_at calls marked) (answer_at answers marked) there.place) →
+      ((q : ℕ) → q ≢ p → server ≡ q + 1 → (g.server ≡ q + 1) × (g.marked ≡ marked)) →
+      Ties c x calls answers stand' (record g { marked = marked; server = server })
+  ties_moved there marked server here others more call read ended serves keep = record {
+    calls_are = ties.calls_are;
+    answers_are = ties.answers_are;
+    pass_in = ties.pass_in;
+    entered = ties.entered;
+    asked = ties.asked;
+    asks_long = ties.asks_long;
+    answered = ties.answered;
+    told = ties.told;
+    told_long = ties.told_long;
+    begun = λ q qn. elim (cases_eq q p) [
+      | inl is ↦ subst (λ (z : Stand). HasCall c x q z.place) (sym here ∙ ap stand' (sym is)) (subst (λ (z : ℕ). HasCall c x z there.place) (sym is) call)
+      | inr ne ↦ subst (λ (z : Stand). HasCall c x q z.place) (sym (others q ne)) (ties.begun q qn)
+    ];
+    served = λ q a. elim (cases_eq q p) [
+      | inl is ↦ subst (λ (z : Stand). HasService c.served x (call_at calls marked) (answer_at answers marked) z.place) (sym here ∙ ap stand' (sym is)) (serves (a ∙ ap (λ (z : ℕ). z + 1) is))
+      | inr ne ↦
+          let k = keep q ne a in
+          subst (λ (z : ℕ). HasService c.served x (call_at calls z) (answer_at answers z) (stand' q).place) k.1 (subst (λ (z : Stand). HasService c.served x (call_at calls g.marked) (answer_at answers g.marked) z.place) (sym (others q ne)) (ties.served q k.0))
+    ];
+    read = λ q qn. elim (cases_eq q p) [
+      | inl is ↦ subst (λ (z : Stand). HasRead c.served x (answer_at answers (g.at q)) z.place) (sym here ∙ ap stand' (sym is)) (subst (λ (z : ℕ). HasRead c.served x (answer_at answers (g.at z)) there.place) (sym is) read)
+      | inr ne ↦ subst (λ (z : Stand). HasRead c.served x (answer_at answers (g.at q)) z.place) (sym (others q ne)) (ties.read q qn)
+    ];
+    ended = λ q qn f. elim (cases_eq q p) [
+      | inl is ↦ subst (λ (z : ℕ). (g.at z < marked) × (g.pass_of (g.at z) ≡ z)) (sym is) (ended (subst (λ (z : Stand). IsFinished z.place) (ap stand' is ∙ here) f))
+      | inr ne ↦ let old = ties.ended q qn (subst (λ (z : Stand). IsFinished z.place) (others q ne) f) in (omega (arith, old.0), old.1)
+    ];
+  }

@@ -1,0 +1,253 @@
+-- The counter over every run: its word, the answers, and how many there can be.
+use Rattle.std.proofs.Common.{◌≡◌, ◌≢◌, ℕ, zero, suc, ◌+◌, ◌*◌, ◌-◌, ◌^◌, ◌<◌, ◌≤◌, Bool, true, false, ◌==◌, cond, refl, ap, sym, ◌∙◌, subst, arith, inl, inr, Option, None, List, [], ◌∷◌, ◌++◌, length}
+use Rattle.std.proofs.lemmas.Bool.{cases_eq}
+use Rattle.std.proofs.lemmas.List.{length_push, get_or_push, get_or_append_left}
+use Rattle.cc_model.specs.declared.config.Config.{Config}
+use Rattle.cc_model.specs.declared.call.Entry.{Entry}
+use Rattle.cc_model.specs.declared.call.Answer.{Answer}
+use Rattle.cc_model.specs.declared.call.Answer.TheVariants as answer
+use Rattle.cc_model.specs.declared.call.SendAnswer.TheVariants as send
+use Rattle.cc_model.specs.declared.call.TakeAnswer.TheVariants as take
+use Rattle.cc_runs.specs.declared.setting.Setting.{Setting}
+use Rattle.cc_runs.specs.declared.setting.Served.{Served}
+use Rattle.cc_runs.specs.declared.setting.Served.TheVariants as served
+use Rattle.cc_runs.specs.declared.word.Chain.TheVariants.{Send}
+use Rattle.cc_runs.specs.declared.word.Object.TheVariants as object
+use Rattle.cc_runs.specs.declared.word.Word.TheVariants.{Object}
+use Rattle.cc_runs.specs.declared.place.Event.TheVariants.{Idle}
+use Rattle.cc_runs.specs.declared.place.Job.{Job}
+use Rattle.cc_runs.specs.declared.place.Round.{Round}
+use Rattle.cc_runs.specs.declared.place.Stand.{Stand}
+use Rattle.cc_runs.specs.declared.place.Counting.{Counting}
+use Rattle.cc_runs.specs.declared.place.Counting.TheVariants as counting
+use Rattle.cc_runs.specs.declared.place.Place.{Place}
+use Rattle.cc_runs.specs.declared.place.Place.TheVariants as place
+use Rattle.cc_runs.specs.State.{State, hold, appended, word_of}
+use Rattle.cc_runs.specs.Columns.{operation, goes, event_at, enters, decides, after_state, after_next, after_answer}
+use Rattle.cc_runs.specs.Step.{stepped_from, advanced}
+use Rattle.cc_runs.specs.Run.{passes, passes_of}
+use Rattle.cc_runs.specs.CallsMade.{before_exchange}
+use Rattle.cc_runs.proofs.Chains.Frame.{hold_here, hold_apart}
+use Rattle.cc_runs.proofs.Chains.View.{post_of, post_at}
+use Rattle.cc_runs.proofs.Chains.Registers.{call_at, answer_at, no_answer, HasService}
+use Rattle.cc_runs.proofs.Chains.Ties.{Holds}
+use Rattle.cc_runs.proofs.Chains.Own.{sends_where, takes_where}
+
+-- a combiner that has read the counter knows how many answers there are
+abbrev pub HasCount : ℕ → Place → Type 0
+HasCount n (place.Counting job (counting.WriteCount count)) = count ≡ n
+HasCount n _ = Unit {0}
+
+-- where a step doesn't touch the counter, and comes neither from nor to a wait for the exchange
+pub record IsCalm (there : Place) : Type 0 where
+  pub waits_not : before_exchange there ≡ 0
+  pub counts_not : (n : ℕ) → HasCount n there
+
+calm_state : (own found : ℕ) → IsCalm (after_state own found)
+calm_state own zero = record { waits_not = refl; counts_not = λ n. tt }
+calm_state own (suc zero) = record { waits_not = refl; counts_not = λ n. tt }
+calm_state own (suc (suc found)) = record { waits_not = refl; counts_not = λ n. tt }
+
+calm_next : (s : Served) → s ≡ served.Counter → (round : Round) (found : ℕ) → IsCalm (after_next s Send round found)
+calm_next s e round zero = record { waits_not = refl; counts_not = λ n. tt }
+calm_next served.Counter e round (suc found) = record { waits_not = refl; counts_not = λ n. tt }
+calm_next served.List e round (suc found) = absurd (cc)
+
+calm_answer : (job : Job) (told : Answer) → IsCalm (after_answer job told)
+calm_answer job (answer.Take (take.Got item)) = record { waits_not = refl; counts_not = λ n. tt }
+calm_answer job (answer.Take take.Empty) = record { waits_not = refl; counts_not = λ n. tt }
+calm_answer job (answer.Take (take.Ended total)) = record { waits_not = refl; counts_not = λ n. tt }
+calm_answer job (answer.Send told) = record { waits_not = refl; counts_not = λ n. tt }
+calm_answer job (answer.Close told) = record { waits_not = refl; counts_not = λ n. tt }
+
+calm_done : (job : Job) (b : Bool) → IsCalm (cond b (place.HandOver job.next) (place.ReadNext record { at = job.next; served = job.round.served + 1 }))
+calm_done job true = record { waits_not = refl; counts_not = λ n. tt }
+calm_done job false = record { waits_not = refl; counts_not = λ n. tt }
+
+-- the calls of a pass that have exchanged, and those of the first n passes
+abbrev pub gone : Stand → ℕ
+gone at = at.begun - before_exchange at.place
+
+abbrev pub total : (ℕ → Stand) → ℕ → ℕ
+total stands zero = 0
+total stands (suc n) = gone (stands n) + total stands n
+
+total_far : (stands : ℕ → Stand) (p n : ℕ) (there : Stand) → n ≤ p → total (hold stands p there) n ≡ total stands n
+total_far stands p zero there far = refl
+total_far stands p (suc n) there far =
+    let here : gone (hold stands p there n) ≡ gone (stands n) = ap gone (hold_apart stands p n there (λ same. omega arith)) in
+    omega (arith, total_far stands p n there (omega arith))
+
+total_near : (stands : ℕ → Stand) (p n : ℕ) (there : Stand) → p < n → total (hold stands p there) n + gone (stands p) ≡ total stands n + gone there
+total_near stands p zero there near = absurd (omega arith)
+total_near stands p (suc n) there near = elim (cases_eq n p) [
+  | inl same ↦
+      let here : gone (hold stands p there n) ≡ gone there = ap (λ (z : ℕ). gone (hold stands p there z)) same ∙ ap gone (hold_here stands p there) in
+      let old : gone (stands n) ≡ gone (stands p) = ap (λ (z : ℕ). gone (stands z)) same in
+      omega (arith, total_far stands p n there (omega arith))
+  | inr other ↦
+      let here : gone (hold stands p there n) ≡ gone (stands n) = ap gone (hold_apart stands p n there other) in
+      omega (arith, total_near stands p n there (omega arith))
+]
+
+pub total_most : (stands : ℕ → Stand) (n : ℕ) → ((p : ℕ) → p < n → (stands p).begun ≤ 2 ^ 32) → total stands n ≤ n * 2 ^ 32
+total_most stands zero few = omega arith
+total_most stands (suc n) few = omega (arith, few n (omega arith), total_most stands n (λ p less. few p (omega arith)))
+
+pub total_none : (stands : ℕ → Stand) (n : ℕ) → ((p : ℕ) → p < n → (stands p).begun ≡ 0) → total stands n ≡ 0
+total_none stands zero none = refl
+total_none stands (suc n) none = omega (arith, none n (omega arith), total_none stands n (λ p less. none p (omega arith)))
+
+pub record Counts (c : Setting) (s : State) : Type 0 where
+  pub count : s.mem (Object object.Count) ≡ length s.history.sends.answers
+  pub counted : (p : ℕ) → p < passes c → HasCount (length s.history.sends.answers) (s.stand p).place
+  pub kth : (k : ℕ) → k < length s.history.sends.answers → answer_at s.history.sends.answers k ≡ answer.Send (send.Accepted k)
+  pub begun_in : (p : ℕ) → p < passes c → (s.stand p).begun ≤ c.config.per_sender
+  pub began : (p : ℕ) → p < passes c → before_exchange (s.stand p).place ≤ (s.stand p).begun
+  pub calls : length s.history.sends.calls ≡ total s.stand (passes c)
+
+module _ (c : Setting) (s : State) (p : ℕ) (inside : p < passes c) (k : Counts c s) (there : Stand) where
+  begun_after_all : there.begun ≤ c.config.per_sender → (q : ℕ) → q < passes c → (hold s.stand p there q).begun ≤ c.config.per_sender
+  begun_after_all few q qn = elim (cases_eq q p) [
+    | inl same ↦ subst (λ (z : Stand). z.begun ≤ c.config.per_sender) (sym (hold_here s.stand p there) ∙ ap (hold s.stand p there) (sym same)) few
+    | inr ne ↦ subst (λ (z : Stand). z.begun ≤ c.config.per_sender) (sym (hold_apart s.stand p q there ne)) (k.begun_in q qn)
+  ]
+
+  began_all : before_exchange there.place ≤ there.begun → (q : ℕ) → q < passes c → before_exchange (hold s.stand p there q).place ≤ (hold s.stand p there q).begun
+  began_all few q qn = elim (cases_eq q p) [
+    | inl same ↦ subst (λ (z : Stand). before_exchange z.place ≤ z.begun) (sym (hold_here s.stand p there) ∙ ap (hold s.stand p there) (sym same)) few
+    | inr ne ↦ subst (λ (z : Stand). before_exchange z.place ≤ z.begun) (sym (hold_apart s.stand p q there ne)) (k.began q qn)
+  ]
+
+  counted_all : (n : ℕ) → HasCount n there.place → ((q : ℕ) → q < passes c → q ≢ p → HasCount n (s.stand q).place) → (q : ℕ) → q < passes c → HasCount n (hold s.stand p there q).place
+  counted_all n here others q qn = elim (cases_eq q p) [
+    | inl same ↦ subst (λ (z : Stand). HasCount n z.place) (sym (hold_here s.stand p there) ∙ ap (hold s.stand p there) (sym same)) here
+    | inr ne ↦ subst (λ (z : Stand). HasCount n z.place) (sym (hold_apart s.stand p q there ne)) (others q qn ne)
+  ]
+
+  -- the pass goes there, and the history stays but for calls
+  pub counts_on : (t : State) → t.stand ≡ hold s.stand p there → t.mem (Object object.Count) ≡ s.mem (Object object.Count) → t.history.sends.answers ≡ s.history.sends.answers →
+      length t.history.sends.calls + gone (s.stand p) ≡ length s.history.sends.calls + gone there → HasCount (length s.history.sends.answers) there.place → there.begun ≤ c.config.per_sender → before_exchange there.place ≤ there.begun → Counts c t
+  counts_on t stands mem answers calls counted begun began = record {
+    count = mem ∙ k.count ∙ ap length (sym answers);
+    counted = λ q qn. subst (λ (l : List Answer). HasCount (length l) (t.stand q).place) (sym answers)
+        (subst (λ (f : ℕ → Stand). HasCount (length s.history.sends.answers) (f q).place) (sym stands) (counted_all (length s.history.sends.answers) counted (λ r rn ne. k.counted r rn) q qn));
+    kth = λ j l. subst (λ (z : List Answer). answer_at z j ≡ answer.Send (send.Accepted j)) (sym answers) (k.kth j (omega (arith, ap length answers)));
+    begun_in = λ q qn. subst (λ (f : ℕ → Stand). (f q).begun ≤ c.config.per_sender) (sym stands) (begun_after_all begun q qn);
+    began = λ q qn. subst (λ (f : ℕ → Stand). before_exchange (f q).place ≤ (f q).begun) (sym stands) (began_all began q qn);
+    calls = omega (arith, k.calls, total_near s.stand p (passes c) there inside, ap (λ (f : ℕ → Stand). total f (passes c)) stands);
+  }
+
+  -- one answer more
+  counts_more : (t : State) (others : (q : ℕ) → q < passes c → q ≢ p → (n : ℕ) → HasCount n (s.stand q).place) → t.stand ≡ hold s.stand p there →
+      t.mem (Object object.Count) ≡ length s.history.sends.answers + 1 → t.history.sends.answers ≡ s.history.sends.answers ++ answer.Send (send.Accepted (length s.history.sends.answers)) ∷ [] →
+      t.history.sends.calls ≡ s.history.sends.calls → gone there ≡ gone (s.stand p) → ((n : ℕ) → HasCount n there.place) → there.begun ≤ c.config.per_sender → before_exchange there.place ≤ there.begun → Counts c t
+  counts_more t others stands mem answers calls same counted begun began =
+      let a : Answer = answer.Send (send.Accepted (length s.history.sends.answers)) in
+      let long : length t.history.sends.answers ≡ length s.history.sends.answers + 1 = ap length answers ∙ length_push s.history.sends.answers a in
+      record {
+        count = mem ∙ sym long;
+        counted = λ q qn. subst (λ (f : ℕ → Stand). HasCount (length t.history.sends.answers) (f q).place) (sym stands)
+            (counted_all (length t.history.sends.answers) (counted (length t.history.sends.answers)) (λ r rn ne. others r rn ne (length t.history.sends.answers)) q qn);
+        kth = λ j l. subst (λ (z : List Answer). answer_at z j ≡ answer.Send (send.Accepted j)) (sym answers) (elim (cases_eq j (length s.history.sends.answers)) [
+          | inl is ↦ get_or_push s.history.sends.answers a no_answer j (sym is) ∙ ap (λ (z : ℕ). answer.Send (send.Accepted z)) (sym is)
+          | inr ne ↦ let less : j < length s.history.sends.answers = omega (arith, long) in get_or_append_left s.history.sends.answers (a ∷ []) no_answer j less ∙ k.kth j less
+        ]);
+        begun_in = λ q qn. subst (λ (f : ℕ → Stand). (f q).begun ≤ c.config.per_sender) (sym stands) (begun_after_all begun q qn);
+        began = λ q qn. subst (λ (f : ℕ → Stand). before_exchange (f q).place ≤ (f q).begun) (sym stands) (began_all began q qn);
+        calls = omega (arith, k.calls, total_near s.stand p (passes c) there inside, ap (λ (f : ℕ → Stand). total f (passes c)) stands, ap length calls);
+      }
+
+-- a counter has senders alone
+pub senders_only : (what : Served) (config : Config) → what ≡ served.Counter → passes_of what config ≡ config.senders
+senders_only served.Counter config e = refl
+senders_only served.List config e = absurd (cc)
+
+pub not_both : served.Counter ≡ served.List → ⊥
+not_both e = cc
+
+-- only a combiner has read the counter
+not_counting : (own : ℕ) (at : Place) → (post_of Send own at).rank ≢ 5 → (n : ℕ) → HasCount n at
+not_counting own (place.Counting job service) ne n = absurd (ne refl)
+not_counting own at ne n = tt
+
+module _ (c : Setting) (counter : c.served ≡ served.Counter) (s : State) (k : Counts c s) (w : Holds c Send s) (p begun own : ℕ) (inside : p < passes c) (member : p < c.config.senders) where
+  abbrev Here : Place → Type 0
+  Here at = s.stand p ≡ record { begun = begun; node = own; place = at }
+
+  abbrev next : Place → State
+  next at = stepped_from c s Send p record { begun = begun; node = own; place = at }
+
+  abbrev found : Place → ℕ
+  found at = s.mem (word_of (operation c Send own at))
+
+  begun_is : (at : Place) → Here at → begun ≤ c.config.per_sender
+  begun_is at e = subst (λ (z : Stand). z.begun ≤ c.config.per_sender) e (k.begun_in p inside)
+
+  waits_is : (at : Place) → Here at → before_exchange at ≤ begun
+  waits_is at e = subst (λ (z : Stand). before_exchange z.place ≤ z.begun) e (k.began p inside)
+
+  quiet : (at there : Place) → Here at → goes c Send own at (found at) ≡ there → before_exchange there ≡ before_exchange at → HasCount (length s.history.sends.answers) there → (next at).mem (Object object.Count) ≡ s.mem (Object object.Count) →
+      enters at ≡ None → decides c at (found at) ≡ None → Counts c (next at)
+  quiet at there e go wait counted mem enter none =
+      let old : gone (s.stand p) ≡ begun - before_exchange at = ap gone e in
+      let same : before_exchange (goes c Send own at (found at)) ≡ before_exchange at = ap before_exchange go ∙ wait in
+      counts_on c s p inside k (advanced c Send record { begun = begun; node = own; place = at } (found at)) (next at) refl mem (ap (λ (z : Option Answer). appended s.history.sends.answers z) none)
+      (omega (arith, old, same, ap (λ (z : Option Entry). length (appended s.history.sends.calls z)) enter))
+      (subst (λ (z : Place). HasCount (length s.history.sends.answers) z) (sym go) counted) (begun_is at e) (omega (arith, same, waits_is at e))
+
+  calm : (at there : Place) → Here at → goes c Send own at (found at) ≡ there → before_exchange at ≡ 0 → IsCalm there → (next at).mem (Object object.Count) ≡ s.mem (Object object.Count) → enters at ≡ None → decides c at (found at) ≡ None → Counts c (next at)
+  calm at there e go wait is mem enter none = quiet at there e go (is.waits_not ∙ sym wait) (is.counts_not (length s.history.sends.answers)) mem enter none
+
+  exchange : (call : Entry) → Here (place.Exchange call) → Counts c (next (place.Exchange call))
+  exchange call e =
+      let old : gone (s.stand p) ≡ begun - 1 = ap gone e in
+      counts_on c s p inside k (advanced c Send record { begun = begun; node = own; place = place.Exchange call } (found (place.Exchange call))) (next (place.Exchange call)) refl refl refl
+      (omega (arith, old, waits_is (place.Exchange call) e, length_push s.history.sends.calls call)) tt (begun_is (place.Exchange call) e) (omega arith)
+
+  me : (at : Place) → Here at → (post_of Send own at).rank ≡ 5 → w.ghost.server ≡ p + 1
+  me at e five = w.inv.server.server_is p member (ap (λ (z : Stand). (post_at Send z).rank) e ∙ five)
+
+  others : (at : Place) → Here at → (post_of Send own at).rank ≡ 5 → (q : ℕ) → q < passes c → q ≢ p → (n : ℕ) → HasCount n (s.stand q).place
+  others at e five q qn ne n =
+      not_counting (s.stand q).node (s.stand q).place (λ same. ne (omega (arith, me at e five, w.inv.server.server_is q (omega (arith, senders_only c.served c.config counter)) same))) n
+
+  write_count : (job : Job) (count : ℕ) → Here (place.Counting job (counting.WriteCount count)) → Counts c (next (place.Counting job (counting.WriteCount count)))
+  write_count job count e =
+      let is : count ≡ length s.history.sends.answers = subst (λ (z : Stand). HasCount (length s.history.sends.answers) z.place) e (k.counted p inside) in
+      counts_more c s p inside k (advanced c Send record { begun = begun; node = own; place = place.Counting job (counting.WriteCount count) } (found (place.Counting job (counting.WriteCount count)))) (next (place.Counting job (counting.WriteCount count)))
+      (others (place.Counting job (counting.WriteCount count)) e refl) refl (ap (λ (z : ℕ). z + 1) is) (ap (λ (z : ℕ). s.history.sends.answers ++ answer.Send (send.Accepted z) ∷ []) is) refl (sym (ap gone e)) (λ n. tt)
+      (begun_is (place.Counting job (counting.WriteCount count)) e) (omega arith)
+
+  serves_at : (at : Place) → Here at → (post_of Send own at).rank ≡ 5 → HasService c.served Send (call_at s.history.sends.calls w.ghost.marked) (answer_at s.history.sends.answers w.ghost.marked) at
+  serves_at at e five = subst (λ (z : Stand). HasService c.served Send (call_at s.history.sends.calls w.ghost.marked) (answer_at s.history.sends.answers w.ghost.marked) z.place) e (w.ties.served p (me at e five))
+
+  counting_step : (job : Job) (service : Counting) → Here (place.Counting job service) → Counts c (next (place.Counting job service))
+  counting_step job counting.ReadTag e = quiet (place.Counting job counting.ReadTag) (place.Counting job counting.ReadBody) e refl refl tt refl refl refl
+  counting_step job counting.ReadBody e = quiet (place.Counting job counting.ReadBody) (place.Counting job counting.ReadCount) e refl refl tt refl refl refl
+  counting_step job counting.ReadCount e = quiet (place.Counting job counting.ReadCount) (place.Counting job (counting.WriteCount (s.mem (Object object.Count)))) e refl refl k.count refl refl refl
+  counting_step job (counting.WriteCount count) e = write_count job count e
+
+  pub counts_step : (at : Place) → Here at → event_at at ≢ Idle → Counts c (next at)
+  counts_step place.Idle e busy = absurd (busy refl)
+  counts_step (place.ResetNext call) e busy = quiet (place.ResetNext call) (place.ResetState call) e refl refl tt refl refl refl
+  counts_step (place.ResetState call) e busy = quiet (place.ResetState call) (place.Exchange call) e refl refl tt refl refl refl
+  counts_step (place.Exchange call) e busy = exchange call e
+  counts_step (place.WriteTag put request) e busy = quiet (place.WriteTag put request) (place.WriteBody put request.body) e refl refl tt refl refl refl
+  counts_step (place.WriteBody put body) e busy = quiet (place.WriteBody put body) (place.Link put) e refl refl tt refl refl refl
+  counts_step (place.Link put) e busy = quiet (place.Link put) place.ReadState e refl refl tt refl refl refl
+  counts_step place.ReadState e busy = calm place.ReadState _ e refl refl (calm_state own (found place.ReadState)) refl refl refl
+  counts_step (place.ReadNext round) e busy = calm (place.ReadNext round) _ e refl refl (calm_next c.served counter round (found (place.ReadNext round))) refl refl refl
+  counts_step (place.Counting job service) e busy = counting_step job service e
+  counts_step (place.Sending job service) e busy =
+      let no : c.served ≡ served.List = (sends_where c.served Send _ (serves_at (place.Sending job service) e refl)).0 in absurd (not_both (sym counter ∙ no))
+  counts_step (place.Taking job service) e busy = let no : c.served ≡ served.List = (takes_where c.served Send (serves_at (place.Taking job service) e refl)).0 in absurd (not_both (sym counter ∙ no))
+  counts_step (place.WriteAnswer job told) e busy = calm (place.WriteAnswer job told) _ e refl refl (calm_answer job told) refl refl refl
+  counts_step (place.WriteAnswerTag job item) e busy = quiet (place.WriteAnswerTag job item) (place.WriteAnswerBody job item.body) e refl refl tt refl refl refl
+  counts_step (place.WriteAnswerBody job body) e busy = quiet (place.WriteAnswerBody job body) (place.MarkDone job) e refl refl tt refl refl refl
+  counts_step (place.MarkDone job) e busy = calm (place.MarkDone job) _ e refl refl (calm_done job (job.round.served + 1 == c.config.bound)) refl refl refl
+  counts_step (place.HandOver at) e busy = quiet (place.HandOver at) place.ReadAnswer e refl refl tt refl refl refl
+  counts_step place.ReadAnswer e busy = quiet place.ReadAnswer _ e refl refl tt refl refl refl
+  counts_step (place.ReadAnswerTag at) e busy = quiet (place.ReadAnswerTag at) _ e refl refl tt refl refl refl
+  counts_step (place.ReadAnswerBody at tag) e busy = quiet (place.ReadAnswerBody at tag) _ e refl refl tt refl refl refl
+  counts_step (place.Finished told) e busy = absurd (busy refl)

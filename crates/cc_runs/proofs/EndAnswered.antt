@@ -1,0 +1,71 @@
+-- Each call that the history has of a pass out of its chain has its answer.
+use Rattle.std.proofs.Common.{◌≡◌, ℕ, suc, ◌<◌, ◌≤◌, Bool, true, false, cond, refl, ap, sym, ◌∙◌, subst, arith, inl, inr, Option, Some, None, List, [], ◌∷◌, length}
+use Rattle.std.specs.List.{AllByRecursion}
+use Rattle.std.proofs.lemmas.Bool.{cases_lt, cases_eq, true≢false}
+use Rattle.cc_model.specs.Items.{HasAnswer, is_pass, calls_of}
+use Rattle.cc_model.specs.declared.call.Pass.{Pass}
+use Rattle.cc_model.specs.declared.call.Entry.{Entry}
+use Rattle.cc_model.specs.declared.call.Answer.{Answer}
+use Rattle.cc_runs.specs.declared.setting.Setting.{Setting}
+use Rattle.cc_runs.specs.declared.word.Chain.{Chain}
+use Rattle.cc_runs.specs.State.{State, chain_of, pass_at}
+use Rattle.cc_runs.specs.Run.{reached}
+use Rattle.cc_runs.specs.ChainLaws.{CallsEndAnswered}
+use Rattle.cc_runs.proofs.Ranges.{InRange, in_range}
+use Rattle.cc_runs.proofs.ChainLaws.{out_rank}
+use Rattle.cc_runs.proofs.ChainRuns.{not_other}
+use Rattle.cc_runs.proofs.Chains.View.{members, pass_on, post_at}
+use Rattle.cc_runs.proofs.Chains.Registers.{calls_on, answers_on, call_at}
+use Rattle.cc_runs.proofs.Chains.Ties.{Holds}
+use Rattle.cc_runs.proofs.Chains.Last.{chosen}
+use Rattle.cc_runs.proofs.Chains.Others.{IsOn}
+use Rattle.cc_runs.proofs.Chains.Serving.{Chains, chains_hold, chain_is, on_chain}
+use Rattle.cc_runs.proofs.Chains.Told.{NotOther, named, name_is, other_name, calls_one}
+
+keeps : (z : Entry × Option Answer) (rest : List (Entry × Option Answer)) (b : Bool) → (b ≡ true → HasAnswer z) → AllByRecursion HasAnswer rest → AllByRecursion HasAnswer (cond b (z ∷ rest) rest)
+keeps z rest true has all = (has refl, all)
+keeps z rest false has all = all
+
+-- each of the chosen calls is among the first ones, which the answers belong to
+all_chosen : (f : Entry → Bool) (calls : List Entry) (answers : List Answer) → ((j : ℕ) → j < length calls → f (call_at calls j) ≡ true → j < length answers) → AllByRecursion HasAnswer (chosen f calls answers)
+all_chosen f [] answers early = tt
+all_chosen f (e ∷ calls) [] early =
+    keeps (e, None) (chosen f calls []) (f e) (λ is. absurd (let less : 0 < 0 = early 0 (omega arith) is in omega arith))
+    (all_chosen f calls [] (λ j less is. let later : suc j < 0 = early (suc j) (omega (arith, less)) is in omega (arith, later)))
+all_chosen f (e ∷ calls) (a ∷ answers) early =
+    keeps (e, Some a) (chosen f calls answers) (f e) (λ is. tt)
+    (all_chosen f calls answers (λ j less is. let later : suc j < suc (length answers) = early (suc j) (omega (arith, less)) is in omega (arith, later)))
+
+-- pass n of the chain, out of it
+module _ (c : Setting) (x : Chain) (s : State) (w : Holds c x s) (n : ℕ) (inside : n < members c x) (out : (post_at x (s.stand (pass_on c x n))).rank ≤ 2) where
+  abbrev is_its : Entry → Bool
+  is_its e = is_pass (named c x n) e.pass
+
+  -- the calls that aren't marked are of passes in the chain
+  early : (j : ℕ) → j < length (calls_on x s.history) → is_its (call_at (calls_on x s.history) j) ≡ true → j < length (answers_on x s.history)
+  early j less is = elim (cases_lt j w.ghost.marked) [
+    | inl before ↦ omega (arith, before, w.ties.answers_are, w.inv.calls.in_order)
+    | inr late ↦
+        let below : j < w.ghost.calls = omega (arith, less, w.ties.calls_are) in
+        let rank : 3 ≤ (post_at x (s.stand (pass_on c x (w.ghost.pass_of j)))).rank = w.inv.calls.open_low j (omega (arith, late)) below in
+        let theirs : is_its (call_at (calls_on x s.history) j) ≡ is_pass (named c x n) (named c x (w.ghost.pass_of j)) = ap (is_pass (named c x n)) ((w.ties.entered j below).pass_is ∙ name_is c x (w.ghost.pass_of j) (w.ties.pass_in j below)) in
+        absurd (elim (cases_eq (w.ghost.pass_of j) n) [
+          | inl same ↦ let low : 3 ≤ (post_at x (s.stand (pass_on c x n))).rank = subst (λ (q : ℕ). 3 ≤ (post_at x (s.stand (pass_on c x q))).rank) same rank in omega (arith, low, out)
+          | inr ne ↦ true≢false (sym is ∙ theirs ∙ other_name c x n (w.ghost.pass_of j) ne)
+        ])
+  ]
+
+  pub all_answered : NotOther c x s.history → AllByRecursion HasAnswer (calls_of (pass_at c.config (pass_on c x n)) s.history)
+  all_answered none =
+      let are : calls_of (pass_at c.config (pass_on c x n)) s.history ≡ chosen is_its (calls_on x s.history) (answers_on x s.history) = ap (λ (z : Pass). calls_of z s.history) (name_is c x n inside) ∙ calls_one c x s.history n inside none in
+      subst (AllByRecursion HasAnswer) (sym are) (all_chosen is_its (calls_on x s.history) (answers_on x s.history) early)
+
+pub calls_end : CallsEndAnswered
+calls_end c checked moves run p less out =
+    let r : InRange c.config = in_range c.config checked in
+    let x : Chain = chain_of c.config p in
+    let s : State = reached c moves in
+    let k : Chains c s = chains_hold c r.bound.0 moves run in
+    let on : IsOn c x p = on_chain c p less in
+    let low : (post_at x (s.stand (pass_on c x on.number))).rank ≤ 2 = subst (λ (q : ℕ). (post_at x (s.stand q)).rank ≤ 2) on.pass_is (out_rank x (s.stand p).node (s.stand p).place out) in
+    subst (λ (q : ℕ). AllByRecursion HasAnswer (calls_of (pass_at c.config q) s.history)) (sym on.pass_is) (all_answered c x s (k.holds x (chain_is c p less)) on.number on.inside low (not_other c r.bound.0 moves run x))

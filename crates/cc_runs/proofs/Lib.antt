@@ -1,0 +1,17 @@
+pub mod Words
+pub mod Opening
+pub mod Ranges
+pub mod Combining
+pub mod Chains
+pub mod Counted
+pub mod CounterRuns
+pub mod ChainRuns
+pub mod ChainLaws
+pub mod EndAnswered
+pub mod CallsMade
+pub mod RunFronts
+pub mod Passes
+pub mod KnownFronts
+pub mod LinkedList
+pub mod ListRuns
+pub mod AllReady

@@ -1,0 +1,167 @@
+-- The ghosts after each step that moves them.
+use Rattle.std.proofs.Common.{◌≡◌, ℕ, ◌+◌, ◌<◌, ◌≤◌, ◌≢◌, arith, refl, inl, inr}
+use Rattle.std.proofs.lemmas.Bool.{cases_eq}
+use Rattle.cc_runs.proofs.LinkedList.Queue.{Queue, Told}
+use Rattle.cc_runs.proofs.LinkedList.Count.{upd, upd_here, upd_others}
+use Rattle.cc_runs.proofs.LinkedList.Sides.{smallest, smallest_least, smallest_is, above, above_all, above_some, above_none, above_now, above_others}
+use Rattle.cc_runs.proofs.LinkedList.Open.{opening, zeros}
+use Rattle.cc_runs.proofs.LinkedList.LinkItem.{Accepts}
+use Rattle.cc_runs.proofs.LinkedList.LinkMark.{Shuts}
+use Rattle.cc_runs.proofs.LinkedList.ResetPassed.{Prepares}
+use Rattle.cc_runs.proofs.LinkedList.AddPassed.{Gives}
+
+upd2 : (ℕ → ℕ → ℕ) → ℕ → (ℕ → ℕ) → ℕ → ℕ → ℕ
+upd2 f k a x = elim (cases_eq x k) [ inl _ ↦ a | inr _ ↦ f x ]
+
+upd2_here : (f : ℕ → ℕ → ℕ) (k : ℕ) (a : ℕ → ℕ) (j : ℕ) → upd2 f k a k j ≡ a j
+unfolding upd2
+upd2_here f k a j = elim (cases_eq k k) as (λ d. elim d as (λ _. ℕ → ℕ) [ inl _ ↦ a | inr _ ↦ f k ] j ≡ a j) [ inl _ ↦ refl | inr ne ↦ absurd (ne refl) ]
+
+upd2_others : (f : ℕ → ℕ → ℕ) (k : ℕ) (a : ℕ → ℕ) (x j : ℕ) → x ≢ k → upd2 f k a x j ≡ f x j
+unfolding upd2
+upd2_others f k a x j ne = elim (cases_eq x k) as (λ d. elim d as (λ _. ℕ → ℕ) [ inl _ ↦ a | inr _ ↦ f x ] j ≡ f x j) [ inl same ↦ absurd (ne same) | inr _ ↦ refl ]
+
+pub accepting : Queue → Told → Told
+accepting v g = record g {
+  accepted = g.accepted + 1;
+  items = upd2 g.items g.accepted v.enq.asks;
+  long = upd g.long g.accepted v.enq.asks_long;
+  node = upd g.node (g.accepted + 1) v.enq.found;
+  role = upd g.role v.enq.found 2;
+  pos = upd g.pos v.enq.found (g.accepted + 1);
+}
+
+pub accepts : (v : Queue) (g : Told) → Accepts v g (accepting v g)
+unfolding accepting
+accepts v g = record {
+  hands = record { handed = λ s. refl; least = refl; by = λ k. refl };
+  shut = refl;
+  accepted = refl;
+  items_now = upd2_here g.items g.accepted v.enq.asks;
+  items = λ k j ne. upd2_others g.items g.accepted v.enq.asks k j ne;
+  long_now = upd_here g.long g.accepted v.enq.asks_long;
+  long = λ k ne. upd_others g.long g.accepted v.enq.asks_long k ne;
+  tells = λ a. refl;
+  node_now = upd_here g.node (g.accepted + 1) v.enq.found;
+  node = λ k ne. upd_others g.node (g.accepted + 1) v.enq.found k ne;
+  role_now = upd_here g.role v.enq.found 2;
+  role = λ x ne. upd_others g.role v.enq.found 2 x ne;
+  pos_now = upd_here g.pos v.enq.found (g.accepted + 1);
+  pos = λ x ne. upd_others g.pos v.enq.found (g.accepted + 1) x ne;
+}
+
+pub shutting : Told → Told
+shutting g = record g { shut = 1 }
+
+pub shuts : (g : Told) → Shuts g (shutting g)
+unfolding shutting
+shuts g = record {
+  hands = record { handed = λ s. refl; least = refl; by = λ k. refl };
+  roles = record { role = λ x. refl; pos = λ x. refl };
+  shut = refl;
+  accepted = refl;
+  items = λ k j. refl;
+  long = λ k. refl;
+  tells = λ a. refl;
+  node = λ k. refl;
+}
+
+pub preparing : Queue → Told → Told
+preparing v g = record g { role = upd g.role v.enq.found 1 }
+
+pub prepares : (v : Queue) (g : Told) → Prepares v g (preparing v g)
+unfolding preparing
+prepares v g = record {
+  log = record { accepted = refl; shut = refl; items = λ k j. refl; long = λ k. refl; tells = λ a. refl; node = λ k. refl };
+  hands = record { handed = λ s. refl; least = refl; by = λ k. refl };
+  role_now = upd_here g.role v.enq.found 1;
+  role = λ x ne. upd_others g.role v.enq.found 1 x ne;
+  pos = λ x. refl;
+}
+
+-- m + 1 sides: the counts are those of the numbers handed out
+pub record Counted (m : ℕ) (g : Told) : Type 0 where
+  pub least : g.least ≡ smallest m g.handed
+  pub by : (k : ℕ) → g.by k ≡ above (m + 1) g.handed k
+
+pub giving : ℕ → Told → ℕ → Told
+giving m g s = record g {
+  handed = upd g.handed s (g.handed s + 1);
+  least = smallest m (upd g.handed s (g.handed s + 1));
+  by = above (m + 1) (upd g.handed s (g.handed s + 1));
+}
+
+smallest_up : (m : ℕ) (h h' : ℕ → ℕ) → ((s : ℕ) → h s ≤ h' s) → smallest m h ≤ smallest m h'
+smallest_up m h h' up = let r : (s : ℕ) × (s ≤ m) × (h' s ≡ smallest m h') = smallest_is m h' in omega (arith, r.2, up r.0, smallest_least m h r.0 r.1)
+
+module _ (m : ℕ) (g : Told) (s : ℕ) (inside : s < m + 1) (counted : Counted m g) where
+  after : ℕ → ℕ
+  after = upd g.handed s (g.handed s + 1)
+
+  now : after s ≡ g.handed s + 1
+  unfolding after
+  now = upd_here g.handed s (g.handed s + 1)
+
+  others : (q : ℕ) → q ≢ s → after q ≡ g.handed q
+  unfolding after
+  others q ne = upd_others g.handed s (g.handed s + 1) q ne
+
+  up : (q : ℕ) → g.handed q ≤ after q
+  up q = grind (arith, cases_eq q s, now, others q)
+
+  pub gives_counted : Counted m (giving m g s)
+  unfolding giving
+  gives_counted = record { least = refl; by = λ k. refl }
+
+  pub gives : Gives (m + 1) g (giving m g s) s
+  unfolding giving after
+  gives = record {
+    log = record { accepted = refl; shut = refl; items = λ k j. refl; long = λ k. refl; tells = λ a. refl; node = λ k. refl };
+    roles = record { role = λ x. refl; pos = λ x. refl };
+    handed_now = now;
+    handed = others;
+    by_now = omega (arith, above_now (m + 1) g.handed after s inside now others, counted.by (g.handed s));
+    by = λ k ne. omega (arith, above_others (m + 1) g.handed after s inside now others k ne, counted.by k);
+    least_most = λ q l. smallest_least m after q (omega arith);
+    least_grows = omega (arith, counted.least, smallest_up m g.handed after up);
+    by_all = λ k l. above_all m (m + 1) after k refl l;
+    by_some = λ k l. above_some m (m + 1) after k refl l;
+  }
+
+pub preparing_counted : (m : ℕ) (v : Queue) (g : Told) → Counted m g → Counted m (preparing v g)
+unfolding preparing
+preparing_counted m v g k = record { least = k.least; by = k.by }
+
+pub accepting_counted : (m : ℕ) (v : Queue) (g : Told) → Counted m g → Counted m (accepting v g)
+unfolding accepting
+accepting_counted m v g k = record { least = k.least; by = k.by }
+
+pub shutting_counted : (m : ℕ) (g : Told) → Counted m g → Counted m (shutting g)
+unfolding shutting
+shutting_counted m g k = record { least = k.least; by = k.by }
+
+pub opening_counted : (m : ℕ) (tells : ℕ → ℕ) → Counted m (opening tells)
+opening_counted m tells =
+    let r : (s : ℕ) × (s ≤ m) × ((opening tells).handed s ≡ smallest m (opening tells).handed) = smallest_is m (opening tells).handed in
+    record {
+      least = grind (arith, r, zeros tells);
+      by = λ k. grind (arith, zeros tells, above_none (m + 1) (opening tells).handed k (λ s l. grind (arith, zeros tells)));
+    }
+
+-- how many words an item has is told once and for all
+
+pub accepting_tells : (v : Queue) (g : Told) → (accepting v g).tells ≡ g.tells
+unfolding accepting
+accepting_tells v g = refl
+
+pub preparing_tells : (v : Queue) (g : Told) → (preparing v g).tells ≡ g.tells
+unfolding preparing
+preparing_tells v g = refl
+
+pub shutting_tells : (g : Told) → (shutting g).tells ≡ g.tells
+unfolding shutting
+shutting_tells g = refl
+
+pub giving_tells : (m : ℕ) (g : Told) (s : ℕ) → (giving m g s).tells ≡ g.tells
+unfolding giving
+giving_tells m g s = refl

@@ -1,0 +1,78 @@
+-- The list at the opening: node 0 is the first dummy, all others are free.
+use Rattle.std.proofs.Common.{◌≡◌, ℕ, ◌+◌, ◌<◌, ◌≤◌, ◌≢◌, arith, refl, inl, inr}
+use Rattle.std.proofs.lemmas.Bool.{cases_eq}
+use Rattle.cc_runs.proofs.LinkedList.Queue.{Queue, Told}
+use Rattle.cc_runs.proofs.LinkedList.Invariant.{LInv}
+
+pub record Opens (c n : ℕ) (v : Queue) : Type 0 where
+  pub some : 0 < n
+  pub last : v.last ≡ 1
+  pub shut : v.shut ≡ 0
+  pub count : v.count ≡ 0
+  pub cursor : v.cursor ≤ c
+  pub dummy_next : v.next 0 ≡ 0
+  pub dummy_passed : v.passed 0 ≡ 0
+  pub free : (x : ℕ) → x ≢ 0 → x ≤ c → v.passed x ≡ n
+  pub mark_tag : v.word (c + 1) 0 ≡ 0
+  pub rest : v.enq.stage ≡ 0
+  pub side_rest : (s : ℕ) → (v.side s).stage ≡ 0
+  pub head : (s : ℕ) → s < n → (v.side s).head ≡ 1
+  pub taken : (s : ℕ) → (v.side s).taken ≡ 0
+
+pub opening : (ℕ → ℕ) → Told
+opening tells = record {
+  tells = tells;
+  accepted = 0;
+  handed = λ s. 0;
+  shut = 0;
+  items = λ k j. 0;
+  long = λ k. 0;
+  node = λ k. 0;
+  role = λ x. elim (cases_eq x 0) [ inl _ ↦ 2 | inr _ ↦ 0 ];
+  pos = λ x. 0;
+  least = 0;
+  by = λ k. 0;
+}
+
+role_first : (tells : ℕ → ℕ) (x : ℕ) → x ≡ 0 → (opening tells).role x ≡ 2
+unfolding opening
+role_first tells x same = elim (cases_eq x 0) as (λ d. elim d as (λ _. ℕ) [ inl _ ↦ 2 | inr _ ↦ 0 ] ≡ 2) [ inl _ ↦ refl | inr ne ↦ absurd (ne same) ]
+
+role_others : (tells : ℕ → ℕ) (x : ℕ) → x ≢ 0 → (opening tells).role x ≡ 0
+unfolding opening
+role_others tells x ne = elim (cases_eq x 0) as (λ d. elim d as (λ _. ℕ) [ inl _ ↦ 2 | inr _ ↦ 0 ] ≡ 0) [ inl same ↦ absurd (ne same) | inr _ ↦ refl ]
+
+pub record Zero (g : Told) : Type 0 where
+  pub accepted : g.accepted ≡ 0
+  pub handed : (s : ℕ) → g.handed s ≡ 0
+  pub shut : g.shut ≡ 0
+  pub node : (k : ℕ) → g.node k ≡ 0
+  pub pos : (k : ℕ) → g.pos k ≡ 0
+  pub least : g.least ≡ 0
+  pub by : (k : ℕ) → g.by k ≡ 0
+
+pub zeros : (tells : ℕ → ℕ) → Zero (opening tells)
+unfolding opening
+zeros tells = record { accepted = refl; handed = λ s. refl; shut = refl; node = λ k. refl; pos = λ k. refl; least = refl; by = λ k. refl }
+
+pub opens : (c life n : ℕ) (v : Queue) (tells : ℕ → ℕ) → Opens c n v → LInv c life n v (opening tells)
+opens c life n v tells o =
+    let z : Zero (opening tells) = zeros tells in
+    record {
+      hands = grind (arith, z, o);
+      live = grind (arith, z, o, role_first tells);
+      nodes = grind (arith, cases_eq, z, o, role_first tells, role_others tells);
+      links = grind (arith, z, o);
+      words = grind (arith, z, o);
+      branch = grind (arith, z, o);
+      request = grind (arith, z, o);
+      found = grind (arith, z, o);
+      prepared = grind (arith, z, o);
+      scan = grind (arith, z, o);
+      heads = grind (arith, z, o);
+      takes = grind (arith, z, o);
+    }
+
+pub opening_tells : (tells : ℕ → ℕ) → (opening tells).tells ≡ tells
+unfolding opening
+opening_tells tells = refl

@@ -1,0 +1,147 @@
+-- A service begins: the last word of a sender's request is loaded.
+use Rattle.std.proofs.Common.{◌≡◌, ◌≢◌, ℕ, ◌<◌, ◌≤◌, inl, inr, refl, sym, ap, ◌∙◌, subst, arith}
+use Rattle.std.proofs.lemmas.Bool.{cases_eq, cases_lt}
+use Rattle.cc_model.specs.Items.{handed_to_all}
+use Rattle.cc_model.specs.declared.config.Config.{Config}
+use Rattle.cc_model.specs.declared.call.Entry.{Entry}
+use Rattle.cc_runs.specs.declared.word.Chain.TheVariants.{Send, Take}
+use Rattle.cc_runs.specs.declared.word.NodeField.TheVariants as node
+use Rattle.cc_runs.specs.declared.word.Word.TheVariants.{Node}
+use Rattle.cc_runs.specs.declared.place.Job.{Job}
+use Rattle.cc_runs.specs.declared.place.Place.{Place}
+use Rattle.cc_runs.specs.declared.place.Place.TheVariants as place
+use Rattle.cc_runs.specs.declared.place.Sending.{Sending}
+use Rattle.cc_runs.specs.declared.place.Sending.TheVariants as sending
+use Rattle.cc_runs.specs.declared.place.Stand.{Stand}
+use Rattle.cc_runs.specs.State.{State, chain_of, hold}
+use Rattle.cc_runs.specs.Codes.{request_in}
+use Rattle.cc_runs.specs.Run.{IsIdle, passes}
+use Rattle.cc_runs.proofs.LinkedList.Queue.{Queue}
+use Rattle.cc_runs.proofs.LinkedList.EReads as e_reads
+use Rattle.cc_runs.proofs.LinkedList.Runs as runs
+use Rattle.cc_runs.proofs.LinkedList.Runs.{Held, Next}
+use Rattle.cc_runs.proofs.ListRuns.View.{Duty, Regs, enq_in, enq_at, regs_at, regs_of, queue_from, queue_of, hold_here, hold_same, hold_all}
+use Rattle.cc_runs.proofs.ListRuns.Ties.{further, ReadsAt, IsBegun, IsServing, IsTaking, IsNextSend, IsNextTake}
+use Rattle.cc_runs.proofs.ListRuns.SendTurn.{Caller}
+use Rattle.cc_runs.proofs.ListRuns.Facts.{lists, IsSending, ChainFacts}
+use Rattle.cc_runs.proofs.ListRuns.Whole.{Parts, Onward}
+use Rattle.cc_runs.proofs.ListRuns.Least.{least_is}
+
+-- where nothing is served the stage is 0
+begun_or_none : (e : Entry) (from : ℕ) (service : Sending) → (IsBegun service → ⊥) → (enq_in e from service).stage ≡ 0
+begun_or_none e from sending.ReadTag not = refl
+begun_or_none e from (sending.ReadBody tag) not = refl
+begun_or_none e from _ not = absurd (not tt)
+
+stage_none : (e : Entry) (from : ℕ) (at : Place) → (IsServing at → ⊥) → (enq_at e from at).stage ≡ 0
+stage_none e from (place.Sending job service) not = begun_or_none e from service not
+stage_none e from _ not = refl
+
+serving_sends : (at : Place) → IsServing at → IsSending at
+serving_sends (place.Sending job service) u = tt
+serving_sends (place.ResetNext e) u = absurd u
+serving_sends (place.Taking job service) u = absurd u
+serving_sends _ u = absurd u
+
+idle_serves : (at : Place) → IsIdle at → IsServing at → ⊥
+idle_serves place.Idle idle u = u
+idle_serves _ idle u = idle
+
+module _ (c : Config) (s : State) (p begun own : ℕ) (job : Job) (tag : ℕ) (stands : (s.stand p).place ≡ place.Sending job (sending.ReadBody tag)) (within : p < passes (lists c)) (facts : ChainFacts (lists c) s)
+    (outside : (q : ℕ) → passes (lists c) ≤ q → IsIdle (s.stand q).place) (callers : (e : Entry) → IsNextSend s.history e → Caller c e × (e.known ≤ handed_to_all s.history)) (k : Parts c s) where
+  abbrev d : Duty
+  d = k.duty
+
+  abbrev body : ℕ
+  body = s.mem (Node Send job.round.at node.Body)
+
+  abbrev there : Place
+  there = place.Sending job (sending.ReadShut (record { tag = tag; body = body }))
+
+  abbrev now : Stand
+  now = record { begun = begun; node = own; place = there }
+
+  abbrev t : State
+  t = record { mem = s.mem; stand = hold s.stand p now; history = s.history }
+
+  read : (e : Entry) × IsNextSend s.history e × (tag ≡ (request_in e).tag) × (body ≡ (request_in e).body)
+  read = facts.read_body p job tag within stands
+
+  abbrev to : Duty
+  to = record { e_pass = p; e_call = read.0; from = d.from; d_pass = d.d_pass; d_call = d.d_call }
+
+  -- no other pass serves
+  alone : (q : ℕ) → p ≢ q → IsServing (s.stand q).place → ⊥
+  alone q ne u = elim (cases_lt q (passes (lists c))) [
+    | inl l ↦ ne (facts.one_sending p q within l (subst (λ (z : Place). IsSending z) (sym stands) tt) (serving_sends (s.stand q).place u))
+    | inr l ↦ idle_serves (s.stand q).place (outside q l) u
+  ]
+
+  rests : IsServing (s.stand d.e_pass).place → ⊥
+  rests u = elim (cases_eq p d.e_pass) [
+    | inl same ↦ subst (λ (z : Place). IsServing z) (ap (λ (q : ℕ). (s.stand q).place) (sym same) ∙ stands) u
+    | inr ne ↦ alone d.e_pass ne u
+  ]
+
+  abbrev regs : ℕ → Regs
+  regs = regs_of s.stand d
+
+  abbrev before : Queue
+  before = queue_from s.mem d (enq_at d.e_call d.from (s.stand d.e_pass).place) regs
+
+  abbrev after : Queue
+  after = queue_from s.mem to (enq_at to.e_call to.from there) regs
+
+  known : read.0.known ≤ k.told.least
+  known = omega (arith, (callers read.0 read.1).1, least_is k.told s.history (further c) k.list.counted (omega (arith, k.ties.many, k.ties.some)) k.ties.handed_is)
+
+  enters : e_reads.Enters k.told before after
+  enters = record {
+    loads = record {
+      words = record { last = refl; shut = refl; count = refl; cursor = refl };
+      cells = record { next = λ x. refl; passed = λ x. refl; word = λ x j. refl };
+      sides = record { side = λ s. refl };
+    };
+    from = stage_none d.e_call d.from (s.stand d.e_pass).place rests;
+    to = refl;
+    long = omega arith;
+    long_told = ap (λ (f : ℕ → ℕ). f (request_in read.0).tag) (sym k.ties.tells_is);
+    known = known;
+  }
+
+  here : (t.stand p).place ≡ there
+  here = ap (λ (z : Stand). z.place) (hold_here s.stand p now)
+
+  same_regs : regs_of t.stand to ≡ regs
+  same_regs = λ i y. hold_same (λ (z : Stand). regs_at z.place) s.stand p now (ap regs_at (sym stands)) (d.d_pass y) i
+
+  same_queue : queue_of t to ≡ after
+  same_queue =
+      ap (λ (z : Place). queue_from t.mem to (enq_at to.e_call to.from z) (regs_of t.stand to)) here
+      ∙ ap (λ (r : ℕ → Regs). queue_from t.mem to (enq_at to.e_call to.from there) r) same_regs
+
+  list : Held c.capacity c.life (further c) (queue_of t to) k.told
+  list = subst (λ (v : Queue). Held c.capacity c.life (further c) v k.told) (sym same_queue) (runs.next_keeps c.capacity c.life (further c) before k.told after k.list (Next.e_enters enters))
+
+  pub send_enters : Onward c s k t
+  send_enters = record {
+    parts = record {
+      duty = to;
+      told = k.told;
+      list = list;
+      serving = record {
+        e_only = hold_all (λ (q : ℕ) (z : Stand). q ≢ p → IsServing z.place → ⊥) s.stand p now (λ ne u. ne refl) (λ q ne n u. alone q ne u);
+        d_mine = k.serving.d_mine;
+        d_only = λ y. hold_all (λ (q : ℕ) (z : Stand). chain_of c q ≡ Take y → q ≢ d.d_pass y → IsTaking z.place → ⊥) s.stand p now (λ e ne u. u) (λ q ne e n u. k.serving.d_only y q e n u);
+        caller = (callers read.0 read.1).0;
+        reads = subst (λ (z : Place). ReadsAt c to.e_call to.from z) (sym here) (record { tag_is = read.2; body_is = read.3 });
+        next_send = λ u. read.1;
+        next_take = λ y. hold_all (λ (q : ℕ) (z : Stand). q ≡ d.d_pass y → IsTaking z.place → IsNextTake s.history y (d.d_call y)) s.stand p now (λ e u. absurd u)
+            (λ q ne e u. k.serving.next_take y (subst (λ (j : ℕ). IsTaking (s.stand j).place) e u)) (d.d_pass y) refl;
+      };
+      ties = k.ties;
+    };
+    least_up = omega arith;
+    entries_up = omega arith;
+    linked = (refl, λ j l. refl);
+  }

@@ -1,0 +1,164 @@
+-- A service begins: the combiner of a group's takes finds the link to the node after the one that it serves.
+use Rattle.std.proofs.Common.{◌≡◌, ◌≢◌, ℕ, ◌+◌, ◌<◌, ◌≤◌, inl, inr, refl, sym, ap, ◌∙◌, subst, arith}
+use Rattle.std.proofs.lemmas.Bool.{cases_eq, cases_lt}
+use Rattle.cc_model.specs.Items.{entries}
+use Rattle.cc_model.specs.declared.config.Config.{Config}
+use Rattle.cc_model.specs.declared.call.Entry.{Entry}
+use Rattle.cc_runs.specs.declared.place.Job.{Job}
+use Rattle.cc_runs.specs.declared.place.Round.{Round}
+use Rattle.cc_runs.specs.declared.place.Place.{Place}
+use Rattle.cc_runs.specs.declared.place.Place.TheVariants as place
+use Rattle.cc_runs.specs.declared.place.Taking.TheVariants as taking
+use Rattle.cc_runs.specs.declared.place.Stand.{Stand}
+use Rattle.cc_runs.specs.State.{State, chain_of, hold}
+use Rattle.cc_runs.specs.declared.word.Chain.TheVariants.{Take}
+use Rattle.cc_runs.specs.declared.word.Object.TheVariants as object
+use Rattle.cc_runs.specs.declared.word.Word.TheVariants.{Object}
+use Rattle.cc_runs.specs.Words.{groups}
+use Rattle.cc_runs.specs.Columns.{group_of}
+use Rattle.cc_runs.specs.Run.{IsIdle, passes}
+use Rattle.cc_runs.proofs.LinkedList.Queue.{Enq, Queue}
+use Rattle.cc_runs.proofs.LinkedList.DReads as d_reads
+use Rattle.cc_runs.proofs.LinkedList.Runs as runs
+use Rattle.cc_runs.proofs.LinkedList.Runs.{Held, Next}
+use Rattle.cc_runs.proofs.ListRuns.View.{Duty, with_group, group_here, group_away, group_all, enq_at, regs_at, regs_of, side_from, queue_from, queue_of, hold_here, hold_other, hold_same, hold_all}
+use Rattle.cc_runs.proofs.ListRuns.Ties.{further, ReadsAt, IsServing, IsUndecidedAt, IsTaking, IsNextSend, IsNextTake}
+use Rattle.cc_runs.proofs.ListRuns.Facts.{lists, ChainFacts}
+use Rattle.cc_runs.proofs.ListRuns.Whole.{Parts, Onward}
+
+idle_takes : (at : Place) → IsIdle at → IsTaking at → ⊥
+idle_takes place.Idle idle u = u
+idle_takes _ idle u = idle
+
+-- where no take is served the stage is 0
+take_regs_none : (at : Place) → (IsTaking at → ⊥) → (regs_at at).stage ≡ 0
+take_regs_none (place.Taking job service) not = absurd (not tt)
+take_regs_none _ not = refl
+
+module _ (c : Config) (s : State) (p begun own y : ℕ) (chain : chain_of c p ≡ Take y) (inside : y < groups c) (round : Round) (next : ℕ) (stands : (s.stand p).place ≡ place.ReadNext round) (within : p < passes (lists c))
+    (outside : (q : ℕ) → passes (lists c) ≤ q → IsIdle (s.stand q).place) (callers : (e : Entry) → IsNextTake s.history y e → e.known ≤ entries s.history) (k : Parts c s) where
+  abbrev d : Duty
+  d = k.duty
+
+  abbrev job : Job
+  job = record { round = round; next = next }
+
+  abbrev there : Place
+  there = place.Taking job taking.ReadHead
+
+  abbrev now : Stand
+  now = record { begun = begun; node = own; place = there }
+
+  abbrev t : State
+  t = record { mem = s.mem; stand = hold s.stand p now; history = s.history }
+
+  below : y < further c + 1
+  below = omega (arith, inside, k.ties.some)
+
+  module _ (facts : ChainFacts (lists c) t) where
+    here : (t.stand p).place ≡ there
+    here = ap (λ (z : Stand). z.place) (hold_here s.stand p now)
+
+    read : (e : Entry) × IsNextTake s.history y e
+    read = facts.read_head p job y within chain here
+
+    abbrev to : Duty
+    to = record { e_pass = d.e_pass; e_call = d.e_call; from = d.from; d_pass = with_group d.d_pass y p; d_call = with_group d.d_call y read.0 }
+
+    -- no other pass of the group takes
+    alone : (q : ℕ) → chain_of c q ≡ Take y → p ≢ q → IsTaking (s.stand q).place → ⊥
+    alone q on ne u = elim (cases_lt q (passes (lists c))) [
+      | inl l ↦ ne (facts.one_taking p q within l (chain ∙ sym on) (subst (λ (z : Place). IsTaking z) (sym here) tt) (subst (λ (z : Stand). IsTaking z.place) (sym (hold_other s.stand p q now ne)) u))
+      | inr l ↦ idle_takes (s.stand q).place (outside q l) u
+    ]
+
+    rests : IsTaking (s.stand (d.d_pass y)).place → ⊥
+    rests u = elim (cases_eq p (d.d_pass y)) [
+      | inl same ↦ subst (λ (z : Place). IsTaking z) (ap (λ (q : ℕ). (s.stand q).place) (sym same) ∙ stands) u
+      | inr ne ↦ alone (d.d_pass y) (k.serving.d_mine y) ne u
+    ]
+
+    abbrev enq : Enq
+    enq = enq_at d.e_call d.from (s.stand d.e_pass).place
+
+    abbrev before : Queue
+    before = queue_from s.mem d enq (regs_of s.stand d)
+
+    abbrev after : Queue
+    after = queue_from s.mem to enq (regs_of t.stand to)
+
+    mine : with_group d.d_pass y p y ≡ p
+    mine = group_here d.d_pass y p
+
+    apart : (q : ℕ) → q ≢ y → p ≢ d.d_pass q
+    apart q ne same = ne (ap group_of (sym (k.serving.d_mine q) ∙ ap (λ (z : ℕ). chain_of c z) (sym same) ∙ chain))
+
+    stand_away : (q : ℕ) → q ≢ y → t.stand (with_group d.d_pass y p q) ≡ s.stand (d.d_pass q)
+    stand_away q ne = ap t.stand (group_away d.d_pass y p q ne) ∙ hold_other s.stand p (d.d_pass q) now (apart q ne)
+
+    stand_mine : (t.stand (with_group d.d_pass y p y)).place ≡ there
+    stand_mine = ap (λ (z : ℕ). (t.stand z).place) mine ∙ here
+
+    others : (q : ℕ) → q ≢ y → after.side q ≡ before.side q
+    others q ne = λ i. side_from (s.mem (Object (object.Head q))) (s.mem (Object (object.Taken q))) (group_away d.d_call y read.0 q ne i) (regs_at (stand_away q ne i).place)
+
+    call_is : with_group d.d_call y read.0 y ≡ read.0
+    call_is = group_here d.d_call y read.0
+
+    enters : d_reads.Enters k.told before after y
+    enters = record {
+      loads = record {
+        words = record { last = refl; shut = refl; count = refl; cursor = refl };
+        cells = record { next = λ x. refl; passed = λ x. refl; word = λ x j. refl };
+        rest = record { enq = refl; others = others };
+        head = refl;
+        taken = refl;
+      };
+      from = take_regs_none (s.stand (d.d_pass y)).place rests;
+      to = ap (λ (z : Place). (regs_at z).stage) stand_mine;
+      known = let same : (with_group d.d_call y read.0 y).known ≡ read.0.known = ap (λ (z : Entry). z.known) call_is in omega (arith, same, callers read.0 read.1, k.ties.accepted_is, k.ties.shut_is);
+    }
+
+    same_enq : enq_at d.e_call d.from (t.stand d.e_pass).place ≡ enq
+    same_enq = hold_same (λ (z : Stand). enq_at d.e_call d.from z.place) s.stand p now (ap (λ (z : Place). enq_at d.e_call d.from z) (sym stands)) d.e_pass
+
+    same_queue : queue_of t to ≡ after
+    same_queue = ap (λ (e : Enq). queue_from t.mem to e (regs_of t.stand to)) same_enq
+
+    next_at : (x : ℕ) → IsTaking (t.stand (with_group d.d_pass y p x)).place → IsNextTake s.history x (with_group d.d_call y read.0 x)
+    next_at x = elim (cases_eq x y) [
+      | inl same ↦ λ u. subst (λ (z : ℕ). IsNextTake s.history z (with_group d.d_call y read.0 z)) (sym same) (subst (λ (e : Entry). IsNextTake s.history y e) (sym call_is) read.1)
+      | inr ne ↦ λ u. subst (λ (e : Entry). IsNextTake s.history x e) (sym (group_away d.d_call y read.0 x ne)) (k.serving.next_take x (subst (λ (z : Stand). IsTaking z.place) (stand_away x ne) u))
+    ]
+
+    only : (x q : ℕ) → chain_of c q ≡ Take x → q ≢ with_group d.d_pass y p x → IsTaking (t.stand q).place → ⊥
+    only x = hold_all (λ (q : ℕ) (z : Stand). chain_of c q ≡ Take x → q ≢ with_group d.d_pass y p x → IsTaking z.place → ⊥) s.stand p now
+        (λ e ne u. ne (sym mine ∙ ap (with_group d.d_pass y p) (ap group_of (sym chain ∙ e))))
+        (λ q off e. elim (cases_eq x y) [
+          | inl same ↦ λ ne u. alone q (e ∙ ap Take same) off u
+          | inr other ↦ λ ne u. k.serving.d_only x q e (λ z. ne (z ∙ sym (group_away d.d_pass y p x other))) u
+        ])
+
+    pub take_enters : Onward c s k t
+    take_enters = record {
+      parts = record {
+        duty = to;
+        told = k.told;
+        list = subst (λ (v : Queue). Held c.capacity c.life (further c) v k.told) (sym same_queue) (runs.next_keeps c.capacity c.life (further c) before k.told after k.list (Next.d_enters y below enters));
+        serving = record {
+          e_only = hold_all (λ (q : ℕ) (z : Stand). q ≢ d.e_pass → IsServing z.place → ⊥) s.stand p now (λ ne u. u) (λ q ne n u. k.serving.e_only q n u);
+          d_mine = group_all (λ (x : ℕ) (q : ℕ). chain_of c q ≡ Take x) d.d_pass y p chain (λ x ne. k.serving.d_mine x);
+          d_only = only;
+          caller = k.serving.caller;
+          reads = hold_all (λ (q : ℕ) (z : Stand). q ≡ d.e_pass → ReadsAt c d.e_call d.from z.place) s.stand p now (λ e. tt)
+              (λ q ne e. subst (λ (j : ℕ). ReadsAt c d.e_call d.from (s.stand j).place) (sym e) k.serving.reads) d.e_pass refl;
+          next_send = hold_all (λ (q : ℕ) (z : Stand). q ≡ d.e_pass → IsUndecidedAt z.place → IsNextSend s.history d.e_call) s.stand p now (λ e u. absurd u)
+              (λ q ne e u. k.serving.next_send (subst (λ (j : ℕ). IsUndecidedAt (s.stand j).place) e u)) d.e_pass refl;
+          next_take = next_at;
+        };
+        ties = k.ties;
+      };
+      least_up = omega arith;
+      entries_up = omega arith;
+      linked = (refl, λ j l. refl);
+    }

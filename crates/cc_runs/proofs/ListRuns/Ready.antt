@@ -1,0 +1,126 @@
+-- Each step of a machine whose chains serve the list can be done, and each answer that is taken is the history's.
+use Rattle.std.proofs.Common.{◌≡◌, ℕ, ◌^◌, ◌<◌, ◌≤◌, List, length, Ok, refl, sym, ap, ◌∙◌, subst, arith}
+use Rattle.std.proofs.lemmas.Option.{slice_get-get_or}
+use Rattle.cc_model.specs.Config.{config_fault}
+use Rattle.cc_model.specs.Record.{Record}
+use Rattle.cc_model.specs.declared.config.Config.{Config}
+use Rattle.cc_model.specs.declared.call.Answer.{Answer}
+use Rattle.cc_model.specs.declared.call.Answer.TheVariants as answer
+use Rattle.cc_model.specs.declared.call.SendAnswer.TheVariants as send
+use Rattle.cc_model.specs.declared.call.CloseAnswer.TheVariants as close
+use Rattle.cc_model.specs.declared.call.TakeAnswer.TheVariants as take
+use Rattle.cc_runs.specs.declared.setting.Setting.{Setting}
+use Rattle.cc_runs.specs.declared.setting.Served.TheVariants as served
+use Rattle.cc_runs.specs.declared.word.Chain.{Chain}
+use Rattle.cc_runs.specs.declared.word.Chain.TheVariants.{Send}
+use Rattle.cc_runs.specs.declared.word.NodeField.TheVariants as node
+use Rattle.cc_runs.specs.declared.place.Job.{Job}
+use Rattle.cc_runs.specs.declared.place.Place.{Place}
+use Rattle.cc_runs.specs.declared.place.Place.TheVariants as place
+use Rattle.cc_runs.specs.declared.place.Sending.{Sending}
+use Rattle.cc_runs.specs.declared.place.Sending.TheVariants as sending
+use Rattle.cc_runs.specs.State.{State, chain_of, pass_at}
+use Rattle.cc_runs.specs.Safe.{IsSafe, IsReady}
+use Rattle.cc_runs.specs.Run.{Move, passes, reached, IsRun}
+use Rattle.cc_runs.specs.ChainLaws.{IsLastAnswer}
+use Rattle.cc_runs.specs.MachineLaws.{AnswerWithin, IsWithin, StepsAreReady, AnswersAreTold}
+use Rattle.cc_runs.proofs.Ranges.{InRange, in_range}
+use Rattle.cc_runs.proofs.Chains.View.{members, pass_on}
+use Rattle.cc_runs.proofs.Chains.Registers.{IsChain, answers_on, answer_at, no_answer}
+use Rattle.cc_runs.proofs.Chains.Others.{IsOn}
+use Rattle.cc_runs.proofs.Chains.Serving.{Chains, chains_hold, chain_is, on_chain}
+use Rattle.cc_runs.proofs.Chains.Safe as safe
+use Rattle.cc_runs.proofs.Chains.Decoded.{Fits, word_fits}
+use Rattle.cc_runs.proofs.Chains.Safe.{IsService}
+use Rattle.cc_runs.proofs.ChainRuns.{ready, last_answer}
+use Rattle.cc_runs.proofs.ListRuns.Facts.{lists}
+use Rattle.cc_runs.proofs.ListRuns.Posts.{Well, all_get}
+use Rattle.cc_runs.proofs.ListRuns.Runs.{AfterRun}
+use Rattle.cc_runs.proofs.ListRuns.Safe.{send_safe, take_safe}
+use Rattle.cc_runs.proofs.ListRuns.Within.{within}
+use Rattle.cc_runs.proofs.ListRuns.Laws.{taker}
+use Rattle.cc_runs.proofs.ListRuns.FromChains.{after_runs, of_setting}
+
+answer_fits : (most : ℕ) (a : Answer) → most < 2 ^ 56 → AnswerWithin most a → Fits a
+answer_fits most (answer.Send (send.Accepted at)) l w = omega (arith, l, w)
+answer_fits most (answer.Close (close.Shut total)) l w = omega (arith, l, w)
+answer_fits most (answer.Close (close.Already total)) l w = omega (arith, l, w)
+answer_fits most (answer.Take (take.Got item)) l w = (omega (arith, l, w.0), w.1)
+answer_fits most (answer.Take (take.Ended total)) l w = omega (arith, l, w)
+answer_fits most (answer.Take take.Empty) l w = tt
+answer_fits most (answer.Send send.Full) l w = tt
+answer_fits most (answer.Send send.Closed) l w = tt
+answer_fits most (answer.Send send.Spent) l w = tt
+
+-- every answer of a history fits its words
+pub answers_fit : (c : Config) → InRange c → (h : Record) → IsWithin c h → (x : Chain) (n : ℕ) → n < length (answers_on x h) → Fits (answer_at (answers_on x h) n)
+answers_fit c fits h w x n l = answer_fits c.life _ (omega (arith, fits.life)) (all_get (AnswerWithin c.life) (answers_on x h) n (answer_at (answers_on x h) n) (w.answers x) (slice_get-get_or (answers_on x h) n no_answer l))
+
+-- ---- the steps of the services
+
+module _ (c : Config) (fits : InRange c) (moves : List Move) (run : IsRun (lists c) moves) (p : ℕ) (less : p < passes (lists c)) where
+  abbrev s : State
+  s = reached (lists c) moves
+
+  a : AfterRun c moves
+  a = after_runs c fits moves run
+
+  abbrev x : Chain
+  x = chain_of c p
+
+  -- the node that is served is one of the chain's
+  served_node : (job : Job) (service : Sending) → (s.stand p).place ≡ place.Sending job service → job.round.at ≤ members (lists c) x
+  served_node job service stands =
+      let k : Chains (lists c) s = chains_hold (lists c) (omega (arith, fits.bound)) moves run in
+      let ok : IsChain (lists c) x = chain_is (lists c) p less in
+      let on : IsOn (lists c) x p = on_chain (lists c) p less in
+      let here : s.stand (pass_on (lists c) x on.number) ≡ record { begun = (s.stand p).begun; node = (s.stand p).node; place = place.Sending job service } =
+      ap s.stand (sym on.pass_is) ∙ ap (λ (z : Place). record { begun = (s.stand p).begun; node = (s.stand p).node; place = z }) stands in
+      safe.target_in (lists c) x ok fits s on.number (s.stand p).node (s.stand p).begun on.inside (k.holds x ok) (place.Sending job service) here refl
+
+  well_at : (at : Place) → (s.stand p).place ≡ at → Well s.history x (pass_at c p) (s.stand p).begun at
+  well_at at stands = subst (λ (z : Place). Well s.history x (pass_at c p) (s.stand p).begun z) stands (a.whole.posts.well p)
+
+  service_safe : (at : Place) → (s.stand p).place ≡ at → IsService at → IsSafe (lists c) s x (s.stand p).node at
+  service_safe (place.Sending job sending.ReadTag) stands u =
+      subst (λ (y : Chain). IsSafe (lists c) s y (s.stand p).node (place.Sending job sending.ReadTag)) (sym (well_at (place.Sending job sending.ReadTag) stands))
+      (record { word = safe.node_exists (lists c) Send tt job.round.at node.Tag (subst (λ (y : Chain). job.round.at ≤ members (lists c) y) (well_at (place.Sending job sending.ReadTag) stands) (served_node job sending.ReadTag stands)); numbers = tt })
+  service_safe (place.Sending job (sending.ReadBody tag)) stands u =
+      subst (λ (y : Chain). IsSafe (lists c) s y (s.stand p).node (place.Sending job (sending.ReadBody tag))) (sym (well_at (place.Sending job (sending.ReadBody tag)) stands))
+      (record { word = safe.node_exists (lists c) Send tt job.round.at node.Body (subst (λ (y : Chain). job.round.at ≤ members (lists c) y) (well_at (place.Sending job (sending.ReadBody tag)) stands) (served_node job (sending.ReadBody tag) stands)); numbers = tt })
+  service_safe (place.Sending job service) stands u =
+      subst (λ (y : Chain). IsSafe (lists c) s y (s.stand p).node (place.Sending job service)) (sym (well_at (place.Sending job service) stands)) (send_safe c fits s p a.whole.parts (s.stand p).node job service stands tt)
+  service_safe (place.Taking job service) stands u =
+      let t = taker c moves a p job service stands in
+      subst (λ (y : Chain). IsSafe (lists c) s y (s.stand p).node (place.Taking job service)) (sym t.chain) (take_safe c fits s p a.whole.parts t.group t.chain t.inside (s.stand p).node job service stands)
+  service_safe (place.Counting job service) stands u = absurd (well_at (place.Counting job service) stands)
+  service_safe _ stands u = absurd u
+
+  told_fits : (n : ℕ) → n < length (answers_on x s.history) → Fits (answer_at (answers_on x s.history) n)
+  told_fits n l = answers_fit c fits s.history (within c s a.whole) x n l
+
+  ready_here : config_fault c ≡ Ok tt → IsReady (lists c) s p
+  ready_here checked = ready (lists c) checked moves run p less (λ n l. word_fits (answer_at (answers_on x s.history) n) (told_fits n l)) (service_safe (s.stand p).place refl)
+
+  answer_here : (told : Answer) → (s.stand p).place ≡ place.Finished told → IsLastAnswer (pass_at c p) s.history told
+  answer_here told is = last_answer (lists c) (omega (arith, fits.bound)) moves run p less told is told_fits
+
+-- ---- for a setting
+
+-- each step of every run can be done
+pub list_ready : (c : Setting) → c.served ≡ served.List → config_fault c.config ≡ Ok tt → (moves : List Move) → IsRun c moves → (p : ℕ) → p < passes c → IsReady c (reached c moves) p
+list_ready c serves checked moves run p less =
+    of_setting (λ (z : Setting). config_fault z.config ≡ Ok tt → IsRun z moves → p < passes z → IsReady z (reached z moves) p) c serves
+    (λ ok r l. ready_here c.config (in_range c.config ok) moves r p l ok) checked run less
+
+-- and a call that is finished was told its answer in the history
+pub list_answer : (c : Setting) → c.served ≡ served.List → config_fault c.config ≡ Ok tt → (moves : List Move) → IsRun c moves → (p : ℕ) → p < passes c → (told : Answer) → ((reached c moves).stand p).place ≡ place.Finished told → IsLastAnswer (pass_at c.config p) (reached c moves).history told
+list_answer c serves checked moves run p less told is =
+    of_setting (λ (z : Setting). config_fault z.config ≡ Ok tt → IsRun z moves → p < passes z → ((reached z moves).stand p).place ≡ place.Finished told → IsLastAnswer (pass_at z.config p) (reached z moves).history told) c serves
+    (λ ok r l e. answer_here c.config (in_range c.config ok) moves r p l told e) checked run less is
+
+pub list_steps_ready : StepsAreReady
+list_steps_ready c moves serves checked run p less = list_ready c serves checked moves run p less
+
+pub list_answers_told : AnswersAreTold
+list_answers_told c moves serves checked run p told less is = list_answer c serves checked moves run p less told is

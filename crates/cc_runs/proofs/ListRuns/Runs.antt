@@ -1,0 +1,459 @@
+-- The list's invariant after every run.
+use Rattle.std.proofs.Common.{◌≡◌, ◌≢◌, ℕ, ◌+◌, ◌-◌, ◌*◌, ◌/◌, ◌^◌, ◌<◌, ◌≤◌, ◌==◌, nat_lt, List, [], ◌∷◌, ◌++◌, length, Bool, true, false, if◌then◌else◌, Some, None, Option, inl, inr, refl, sym, ap, ◌∙◌, subst, arith, append-nil, length-append}
+use Rattle.std.proofs.lemmas.Bool.{cases_eq, cases_lt, lt-ltb, eqb-true}
+use Rattle.std.specs.List.{AllByRecursion, slice_get}
+use Rattle.std.proofs.lemmas.List.{length-replicate}
+use Rattle.cc_model.specs.Record.{Side, Record, silent, of_group}
+use Rattle.cc_model.specs.Items.{known_at, accepted, is_shut, handed_by, handed_to_all, entries}
+use Rattle.cc_model.specs.Legal.{Legal, DAnswers, IsReceivers, send_numbers}
+use Rattle.cc_model.specs.declared.config.Config.{Config}
+use Rattle.cc_model.specs.declared.call.Pass.{Pass}
+use Rattle.cc_model.specs.declared.call.Pass.TheVariants.{Sender, Receiver}
+use Rattle.cc_model.specs.declared.call.Call.{Call}
+use Rattle.cc_model.specs.declared.call.Call.TheVariants as call
+use Rattle.cc_runs.specs.declared.word.Chain.{Chain}
+use Rattle.cc_runs.specs.declared.word.Chain.TheVariants.{Send, Take}
+use Rattle.cc_runs.specs.declared.place.Place.{Place}
+use Rattle.cc_runs.specs.declared.place.Place.TheVariants as place
+use Rattle.cc_runs.specs.declared.place.Stand.{Stand}
+use Rattle.cc_runs.specs.State.{State, appended, chain_of, pass_at, first_node, word_of}
+use Rattle.cc_runs.specs.Columns.{operation, goes, enters, decides}
+use Rattle.cc_runs.specs.Step.{stepped_from}
+use Rattle.cc_runs.specs.Words.{groups}
+use Rattle.cc_runs.specs.Run as run
+use Rattle.cc_model.specs.declared.call.Entry.{Entry}
+use Rattle.cc_runs.proofs.Chains.Opening.{no_calls}
+use Rattle.cc_runs.proofs.Chains.Others.{receiver_chain, group_is}
+use Rattle.cc_runs.proofs.ListRuns.Decided.{group_mine, group_other}
+use Rattle.cc_runs.specs.Run.{Move, Begin, Step, passes, nowhere, first_word, opening, begun_after, number_of, begins, rests, moved, reached, IsIdle, IsFinished, May, IsRun}
+use Rattle.cc_model.proofs.Grows.{get_front, get_last}
+use Rattle.cc_runs.specs.MachineLaws.{links_at, linked_nodes}
+use Rattle.cc_runs.proofs.Ranges.{InRange}
+use Rattle.cc_runs.proofs.LinkedList.Queue.{Queue, Told}
+use Rattle.cc_runs.proofs.LinkedList.Open as open_list
+use Rattle.cc_runs.proofs.LinkedList.Grow as grow
+use Rattle.cc_runs.proofs.LinkedList.Busy as busy
+use Rattle.cc_runs.proofs.LinkedList.Runs.{Held}
+use Rattle.cc_runs.proofs.ListRuns.View.{Duty, Regs, none, resting, enq_at, regs_at, regs_of, queue_from, queue_of}
+use Rattle.cc_runs.proofs.ListRuns.Ties.{further, ReadsAt, IsServing, IsUndecidedAt, IsTaking, Linked}
+use Rattle.cc_runs.proofs.ListRuns.Facts.{lists, ChainFacts}
+use Rattle.cc_runs.proofs.ListRuns.Posts.{Begun, Well, Posts, Calls, HasNumber, waits, is_send, OfSend, OfTake, of_side, group_in, known_grows}
+use Rattle.cc_runs.proofs.ListRuns.PostSteps.{next_well, next_waits, posts_on, calls_on, own_sent, other_sent, e_calls_on, d_calls_on}
+use Rattle.cc_runs.proofs.ListRuns.Still.{StillSend, StillTake, still_send, still_take}
+use Rattle.cc_runs.proofs.ListRuns.Whole.{Parts, OnwardBy, Onward, quiet}
+use Rattle.cc_runs.proofs.ListRuns.Least.{least_is}
+use Rattle.cc_runs.proofs.ListRuns.Steps.{send_step, take_step, called_mine, called_others}
+
+pub record Whole (c : Config) (s : State) : Type 0 where
+  pub parts : Parts c s
+  pub posts : Posts c s
+  pub calls : Calls c s.history
+
+-- and of a later state, when these nodes were linked
+pub record Goes (c : Config) (s : State) (w : Whole c s) (t : State) (new : List ℕ) : Type 0 where
+  pub whole : Whole c t
+  pub linked : Linked w.parts.told whole.parts.told new
+
+-- the nodes linked so far are those of the places
+pub record LinkedAre (nodes : List ℕ) (g : Told) : Type 0 where
+  pub many : length nodes ≡ g.accepted + 1
+  pub each : (k : ℕ) → k ≤ g.accepted → slice_get nodes k ≡ Some (g.node k)
+
+linked_on : (nodes new : List ℕ) (g g' : Told) → LinkedAre nodes g → Linked g g' new → LinkedAre (nodes ++ new) g'
+linked_on nodes [] g g' a l = record {
+  many = ap length (append-nil nodes) ∙ omega (arith, a.many, l.0);
+  each = λ k low. rw append-nil (a.each k (omega (arith, low, l.0)) ∙ ap (λ (x : ℕ). Some x) (sym (l.1 k (omega (arith, low, l.0)))));
+}
+linked_on nodes (x ∷ rest) g g' a l = record {
+  many = omega (arith, length-append nodes (x ∷ rest), ap length l.0, a.many, l.1);
+  each = λ k low. elim (cases_lt g.accepted k) [
+    | inl more ↦ rw l.0 (last k (omega (arith, low, more, l.1)))
+    | inr less ↦ get_front nodes (x ∷ rest) k (g'.node k) (a.each k less ∙ ap (λ (y : ℕ). Some y) (sym (l.3 k less)))
+  ];
+}
+  where
+    last : (k : ℕ) → k ≡ g.accepted + 1 → slice_get (nodes ++ x ∷ []) k ≡ Some (g'.node k)
+    last k is =
+        let at : k ≡ length nodes = omega (arith, is, a.many) in
+        ap (λ (j : ℕ). slice_get (nodes ++ x ∷ []) j) at ∙ get_last nodes x ∙ ap (λ (y : ℕ). Some y) (sym l.2) ∙ ap (λ (j : ℕ). Some (g'.node j)) (sym is)
+
+-- ---- what is told grows
+
+-- the least number handed out
+pub parts_least : (c : Config) (s : State) (k : Parts c s) → k.told.least ≡ handed_to_all s.history
+parts_least c s k = least_is k.told s.history (further c) k.list.counted (omega (arith, k.ties.many, k.ties.some)) k.ties.handed_is
+
+module _ (c : Config) (s t : State) (k : Parts c s) (new : List ℕ) (on : OnwardBy c s k t new) where
+  pub handed_up : handed_to_all s.history ≤ handed_to_all t.history
+  handed_up = omega (arith, parts_least c s k, parts_least c t on.parts, on.least_up)
+
+  pub entries_up : entries s.history ≤ entries t.history
+  entries_up = omega (arith, k.ties.accepted_is, k.ties.shut_is, on.parts.ties.accepted_is, on.parts.ties.shut_is, on.entries_up)
+
+  pub known_up : (pass : Pass) → known_at pass s.history ≤ known_at pass t.history
+  known_up pass = known_grows s.history t.history pass handed_up entries_up
+
+-- ---- a step
+
+module _ (c : Config) (fits : InRange c) (s : State) (p begun own : ℕ) (within : p < passes (lists c)) (w : Whole c s) where
+  abbrev h : Record
+  h = s.history
+
+  abbrev stand_at : Place → Stand
+  stand_at at = record { begun = begun; node = own; place = at }
+
+  abbrev to : Chain → Place → State
+  to x at = stepped_from (lists c) s x p (stand_at at)
+
+  abbrev finds : Chain → Place → ℕ
+  finds x at = s.mem (word_of (operation (lists c) x own at))
+
+  few_sends : c.per_sender < 2 ^ 32
+  few_sends = omega (arith, fits.per_sender)
+
+  limit_at : (at : Place) → s.stand p ≡ stand_at at → begun ≤ c.per_sender
+  limit_at at stands = subst (λ (z : Stand). z.begun ≤ c.per_sender) stands (w.posts.limit p)
+
+  module _ (of : OfSend c p) where
+    well_at : (at : Place) → s.stand p ≡ stand_at at → Well h Send (Sender (p + 1)) begun at
+    well_at at stands = subst (λ (x : Chain). Well h x (Sender (p + 1)) begun at) of.chain_is (subst (λ (z : Pass). Well h (chain_of c p) z begun at) of.pass_is (subst (λ (z : Stand). Well h (chain_of c p) (pass_at c p) z.begun z.place) stands (w.posts.well p)))
+
+    sent_at : (at : Place) → s.stand p ≡ stand_at at → length (send_numbers (p + 1) h.sends.calls) + waits at ≡ begun
+    sent_at at stands = subst (λ (z : Stand). length (send_numbers (p + 1) h.sends.calls) + waits z.place ≡ z.begun) stands (w.posts.sent p of.within)
+
+    send_well : (at : Place) (later : Record) → s.stand p ≡ stand_at at → ((pass : Pass) → known_at pass h ≤ known_at pass later) → Well later (chain_of c p) (pass_at c p) begun (goes (lists c) Send own at (finds Send at))
+    send_well at later stands up = subst (λ (x : Chain). Well later x (pass_at c p) begun (goes (lists c) Send own at (finds Send at))) (sym of.chain_is) (subst (λ (z : Pass). Well later Send z begun (goes (lists c) Send own at (finds Send at))) (sym of.pass_is)
+        (next_well c Send own at (finds Send at) h later (Sender (p + 1)) begun (up (Sender (p + 1))) (well_at at stands)))
+
+    send_rest : (at : Place) → s.stand p ≡ stand_at at → OnwardBy c s w.parts (to Send at) (links_at at) → Posts c (to Send at) × Calls c (to Send at).history
+    send_rest (place.Exchange e) stands on =
+        let later : Record = (to Send (place.Exchange e)).history in
+        let b : Begun h Send (Sender (p + 1)) begun e = well_at (place.Exchange e) stands in
+        let up = handed_up c s (to Send (place.Exchange e)) w.parts _ on in
+        let d_up = entries_up c s (to Send (place.Exchange e)) w.parts _ on in
+        let known = known_up c s (to Send (place.Exchange e)) w.parts _ on in
+        let limit = limit_at (place.Exchange e) stands in
+        let sent = sent_at (place.Exchange e) stands in (
+          posts_on c s p _ _ _ w.posts within known limit (send_well (place.Exchange e) _ stands known)
+              (λ l. omega (arith, own_sent c h later p begun e refl (λ y. refl) up d_up of.within b limit few_sends sent w.calls))
+              (other_sent c h later p begun e refl (λ y. refl) up d_up of.within b limit few_sends sent w.calls),
+          e_calls_on c h later p begun e refl (λ y. refl) up d_up of.within b limit few_sends sent w.calls,
+        )
+    send_rest at stands on =
+        let known = known_up c s (to Send at) w.parts _ on in (
+          posts_on c s p _ _ _ w.posts within known (limit_at at stands) (send_well at _ stands known)
+              (λ l. omega (arith, next_waits c Send own at (finds Send at) h (Sender (p + 1)) begun (well_at at stands), sent_at at stands))
+              (λ q ne. refl),
+          calls_on c h _ refl (λ y. refl) (handed_up c s (to Send at) w.parts _ on) (entries_up c s (to Send at) w.parts _ on) w.calls,
+        )
+
+    send_whole : (at : Place) → s.stand p ≡ stand_at at → ChainFacts (lists c) s → Goes c s w (to Send at) (links_at at)
+    send_whole at stands facts =
+        let on : OnwardBy c s w.parts (to Send at) (links_at at) = send_step c s p begun own within w.parts w.posts w.calls at stands (well_at at stands) facts in
+        let rest : Posts c (to Send at) × Calls c (to Send at).history = send_rest at stands on in
+        record { whole = record { parts = on.parts; posts = rest.0; calls = rest.1 }; linked = on.linked }
+
+  module _ (of : OfTake c p) where
+    abbrev y : ℕ
+    y = (p - c.senders) / c.receivers
+
+    inside : y < groups c
+    inside = group_in c p within of
+
+    side_in : y < length h.takes
+    side_in = omega (arith, inside, w.parts.ties.many)
+
+    take_well_at : (at : Place) → s.stand p ≡ stand_at at → Well h (Take y) (pass_at c p) begun at
+    take_well_at at stands = subst (λ (x : Chain). Well h x (pass_at c p) begun at) of.chain_is (subst (λ (z : Stand). Well h (chain_of c p) (pass_at c p) z.begun z.place) stands (w.posts.well p))
+
+    take_well : (at : Place) (later : Record) → s.stand p ≡ stand_at at → ((pass : Pass) → known_at pass h ≤ known_at pass later) → Well later (chain_of c p) (pass_at c p) begun (goes (lists c) (Take y) own at (finds (Take y) at))
+    take_well at later stands up = subst (λ (x : Chain). Well later x (pass_at c p) begun (goes (lists c) (Take y) own at (finds (Take y) at))) (sym of.chain_is)
+        (next_well c (Take y) own at (finds (Take y) at) h later (pass_at c p) begun (up (pass_at c p)) (take_well_at at stands))
+
+    -- a step that enters no call leaves the calls
+    same_calls : (at : Place) → enters at ≡ None → (x : ℕ) → (of_group (to (Take y) at).history x).calls ≡ (of_group h x).calls
+    same_calls at none x =
+        let found : ℕ = finds (Take y) at in
+        let now : Side = record { calls = appended (of_group h y).calls (enters at); answers = appended (of_group h y).answers (decides (lists c) at found) } in
+        elim (cases_eq x y) [
+          | inl is ↦ subst (λ (z : ℕ). (of_group (to (Take y) at).history z).calls ≡ (of_group h z).calls) (sym is) (ap (λ (z : Side). z.calls) (group_mine h y now side_in) ∙ ap (λ (e : Option Entry). appended (of_group h y).calls e) none)
+          | inr ne ↦ ap (λ (z : Side). z.calls) (group_other h y x now ne)
+        ]
+
+    take_still : (at : Place) → enters at ≡ None → s.stand p ≡ stand_at at → OnwardBy c s w.parts (to (Take y) at) (links_at at) → Posts c (to (Take y) at) × Calls c (to (Take y) at).history
+    take_still at none stands on =
+        let known = known_up c s (to (Take y) at) w.parts _ on in (
+          posts_on c s p _ _ _ w.posts within known (limit_at at stands) (take_well at _ stands known)
+              (λ l. absurd (omega (arith, l, of.low)))
+              (λ q ne. refl),
+          calls_on c h _ refl (same_calls at none) (handed_up c s (to (Take y) at) w.parts _ on) (entries_up c s (to (Take y) at) w.parts _ on) w.calls,
+        )
+
+    take_rest : (at : Place) → s.stand p ≡ stand_at at → OnwardBy c s w.parts (to (Take y) at) (links_at at) → Posts c (to (Take y) at) × Calls c (to (Take y) at).history
+    take_rest (place.Exchange e) stands on =
+        let later : Record = (to (Take y) (place.Exchange e)).history in
+        let b : Begun h (Take y) (Receiver (p - c.senders + 1)) begun e = subst (λ (z : Pass). Begun h (Take y) z begun e) of.pass_is (take_well_at (place.Exchange e) stands) in
+        let up = handed_up c s (to (Take y) (place.Exchange e)) w.parts _ on in
+        let d_up = entries_up c s (to (Take y) (place.Exchange e)) w.parts _ on in
+        let known = known_up c s (to (Take y) (place.Exchange e)) w.parts _ on in
+        let back : p - c.senders + 1 - 1 ≡ p - c.senders = omega arith in (
+          posts_on c s p _ _ _ w.posts within known (limit_at (place.Exchange e) stands) (take_well (place.Exchange e) _ stands known)
+              (λ l. absurd (omega (arith, l, of.low)))
+              (λ q ne. refl),
+          d_calls_on c h later y (p - c.senders + 1) begun e refl (called_mine c h y e side_in) (called_others c h y e side_in) up d_up (omega arith) (omega (arith, within, of.low)) (ap (λ (k : ℕ). k / c.receivers) back) b w.calls,
+        )
+    take_rest at stands on = take_still at refl stands on
+
+    take_whole : (at : Place) → s.stand p ≡ stand_at at → ChainFacts (lists c) (to (Take y) at) → Goes c s w (to (Take y) at) (links_at at)
+    take_whole at stands facts =
+        let on : OnwardBy c s w.parts (to (Take y) at) (links_at at) = take_step c s p begun own within w.parts w.posts w.calls y of.chain_is inside at stands (take_well_at at stands) facts in
+        let rest : Posts c (to (Take y) at) × Calls c (to (Take y) at).history = take_rest at stands on in
+        record { whole = record { parts = on.parts; posts = rest.0; calls = rest.1 }; linked = on.linked }
+
+  step_on : (at : Place) → s.stand p ≡ stand_at at → ChainFacts (lists c) s → ChainFacts (lists c) (to (chain_of c p) at) → Goes c s w (to (chain_of c p) at) (links_at at)
+  step_on at stands before after = elim (of_side c p) [
+    | inl of ↦ subst (λ (x : Chain). Goes c s w (to x at) (links_at at)) (sym of.chain_is) (send_whole of at stands before)
+    | inr of ↦ subst (λ (x : Chain). Goes c s w (to x at) (links_at at)) (sym of.chain_is) (take_whole of at stands (subst (λ (x : Chain). ChainFacts (lists c) (to x at)) of.chain_is after))
+  ]
+
+-- ---- a call is begun, or its answer taken
+
+idle_still : (at : Place) → IsIdle at → StillSend at × StillTake at
+idle_still place.Idle u = (still_send place.Idle tt, still_take place.Idle tt)
+idle_still _ u = absurd u
+
+finished_still : (at : Place) → IsFinished at → StillSend at × StillTake at
+finished_still (place.Finished told) u = (still_send (place.Finished told) tt, still_take (place.Finished told) tt)
+finished_still _ u = absurd u
+
+idle_waits : (at : Place) → IsIdle at → waits at ≡ 0
+idle_waits place.Idle u = refl
+idle_waits _ u = absurd u
+
+finished_waits : (at : Place) → IsFinished at → waits at ≡ 0
+finished_waits (place.Finished told) u = refl
+finished_waits _ u = absurd u
+
+numbered : (k : Call) (begun : ℕ) → HasNumber k (number_of k begun) (begun_after k begun)
+numbered (call.Send body) begun = refl
+numbered call.Close begun = refl
+numbered call.Take begun = refl
+
+one_more : (k : Call) (begun : ℕ) → begun_after k begun ≡ begun + is_send k
+one_more (call.Send body) begun = refl
+one_more call.Close begun = omega arith
+one_more call.Take begun = omega arith
+
+begin_on : (c : Config) (s : State) (p : ℕ) (k : Call) (known : ℕ) → May (lists c) s (Begin p k known) → (w : Whole c s) → Goes c s w (moved (lists c) s (Begin p k known)) []
+begin_on c s p k known may w =
+    let now : Stand = begins c p k known (s.stand p) in
+    let still : StillSend (s.stand p).place × StillTake (s.stand p).place = idle_still (s.stand p).place may.2 in
+    let on : Onward c s w.parts (moved (lists c) s (Begin p k known)) =
+    quiet c s p (begins c p k known (s.stand p)) s.mem s.history w.parts still.0 still.1 (still_send (place.ResetNext _) tt) (still_take (place.ResetNext _) tt) (λ d e r. refl) (λ e n. n) (λ y e n. n) (λ t. t) in
+    record {
+      whole = record {
+        parts = on.parts;
+        posts = posts_on c s p (begins c p k known (s.stand p)) s.mem s.history w.posts may.0 (λ pass. omega arith) may.3
+            (record { pass_is = refl; on = may.1; number_is = numbered k (s.stand p).begun; known_in = may.4 })
+            (λ l. omega (arith, w.posts.sent p l, idle_waits (s.stand p).place may.2, one_more k (s.stand p).begun))
+            (λ q ne. refl);
+        calls = w.calls;
+      };
+      linked = on.linked;
+    }
+
+answer_on : (c : Config) (s : State) (p : ℕ) → May (lists c) s (run.Take p) → (w : Whole c s) → Goes c s w (moved (lists c) s (run.Take p)) []
+answer_on c s p may w =
+    let still : StillSend (s.stand p).place × StillTake (s.stand p).place = finished_still (s.stand p).place may.1 in
+    let on : Onward c s w.parts (moved (lists c) s (run.Take p)) =
+    quiet c s p (rests (s.stand p)) s.mem s.history w.parts still.0 still.1 (still_send place.Idle tt) (still_take place.Idle tt) (λ d e r. refl) (λ e n. n) (λ y e n. n) (λ t. t) in
+    record {
+      whole = record {
+        parts = on.parts;
+        posts = posts_on c s p (rests (s.stand p)) s.mem s.history w.posts may.0 (λ pass. omega arith) (w.posts.limit p) tt
+            (λ l. omega (arith, w.posts.sent p l, finished_waits (s.stand p).place may.1))
+            (λ q ne. refl);
+        calls = w.calls;
+      };
+      linked = on.linked;
+    }
+
+-- ---- the opening
+
+module _ (c : Config) (fits : InRange c) where
+  abbrev s0 : State
+  s0 = opening (lists c)
+
+  abbrev duty0 : Duty
+  duty0 = record { e_pass = 0; e_call = record { pass = Sender 1; call = call.Close; number = 0; known = 0 }; from = 0; d_pass = λ y. c.senders + (y * c.receivers + 0); d_call = λ y. record { pass = Sender 1; call = call.Close; number = 0; known = 0 } }
+
+  abbrev told0 : Told
+  told0 = open_list.opening (λ (a : ℕ). 2)
+
+  idle0 : (p : ℕ) → (s0.stand p).place ≡ place.Idle
+  idle0 p = by_case (nat_lt p (passes (lists c)))
+    where
+      by_case : (b : Bool) → (if b then record { begun = 0; node = first_node c p; place = place.Idle } else nowhere).place ≡ place.Idle
+      by_case true = refl
+      by_case false = refl
+
+  begun0 : (p : ℕ) → (s0.stand p).begun ≡ 0
+  begun0 p = by_case (nat_lt p (passes (lists c)))
+    where
+      by_case : (b : Bool) → (if b then record { begun = 0; node = first_node c p; place = place.Idle } else nowhere).begun ≡ 0
+      by_case true = refl
+      by_case false = refl
+
+  abbrev queue0 : Queue
+  queue0 = queue_from (first_word c) duty0 (resting duty0.e_call duty0.from) (λ y. none)
+
+  many0 : further c + 1 ≡ groups c
+  many0 = omega (arith, fits.groups)
+
+  free0 : (x : ℕ) → x ≢ 0 → x ≤ c.capacity → queue0.passed x ≡ further c + 1
+  free0 x ne l = by_zero (x == 0) refl ∙ sym many0
+    where
+      by_end : (b : Bool) → (nat_lt x (c.capacity + 1)) ≡ b → (if b then groups c else 0) ≡ groups c
+      by_end true e = refl
+      by_end false e = absurd (true_false (sym (lt-ltb x (c.capacity + 1) (omega (arith, l))) ∙ e))
+        where
+          true_false : true ≡ false → ⊥
+          true_false z = cc
+
+      by_zero : (b : Bool) → (x == 0) ≡ b → (if b then 0 else (if nat_lt x (c.capacity + 1) then groups c else 0)) ≡ groups c
+      by_zero true e = absurd (ne (eqb-true x 0 e))
+      by_zero false e = by_end (nat_lt x (c.capacity + 1)) refl
+
+  head0 : (q : ℕ) → q < further c + 1 → (queue0.side q).head ≡ 1
+  head0 q l = ap (λ (b : Bool). if b then 1 else 0) (lt-ltb q (groups c) (omega (arith, l, many0)))
+
+  opens0 : open_list.Opens c.capacity (further c + 1) queue0
+  opens0 = record {
+    some = omega arith;
+    last = refl;
+    shut = refl;
+    count = refl;
+    cursor = fits.capacity.0;
+    dummy_next = refl;
+    dummy_passed = refl;
+    free = free0;
+    mark_tag = refl;
+    rest = refl;
+    side_rest = λ q. refl;
+    head = head0;
+    taken = λ q. refl;
+  }
+
+  list0 : Held c.capacity c.life (further c) queue0 told0
+  list0 = record { inv = open_list.opens c.capacity c.life (further c + 1) queue0 (λ (a : ℕ). 2) opens0; counted = grow.opening_counted (further c) (λ (a : ℕ). 2) }
+
+  same_queue0 : queue_of s0 duty0 ≡ queue0
+  same_queue0 =
+      ap (λ (z : Place). queue_from (first_word c) duty0 (enq_at duty0.e_call duty0.from z) (regs_of s0.stand duty0)) (idle0 0)
+      ∙ ap (λ (r : ℕ → Regs). queue_from (first_word c) duty0 (resting duty0.e_call duty0.from) r) (λ i y. regs_at (idle0 (duty0.d_pass y) i))
+
+  -- nothing is called yet
+  silent0 : (y : ℕ) → of_group s0.history y ≡ silent
+  silent0 y = no_calls (groups c) (Take y)
+
+  zero0 : open_list.Zero told0
+  zero0 = open_list.zeros (λ (a : ℕ). 2)
+
+  parts0 : Parts c s0
+  parts0 = record {
+    duty = duty0;
+    told = told0;
+    list = subst (λ (v : Queue). Held c.capacity c.life (further c) v told0) (sym same_queue0) list0;
+    serving = record {
+      e_only = λ q ne u. subst (λ (z : Place). IsServing z) (idle0 q) u;
+      d_mine = λ y. receiver_chain c (c.senders + (y * c.receivers + 0)) (omega arith) ∙ ap Take (group_is c y 0 (omega (arith, fits.receivers)));
+      d_only = λ y q on ne u. subst (λ (z : Place). IsTaking z) (idle0 q) u;
+      caller = record { senders = (omega arith, fits.senders.0); small = omega arith };
+      reads = subst (λ (z : Place). ReadsAt c duty0.e_call duty0.from z) (sym (idle0 0)) tt;
+      next_send = λ u. absurd (subst (λ (z : Place). IsUndecidedAt z) (idle0 0) u);
+      next_take = λ y u. absurd (subst (λ (z : Place). IsTaking z) (idle0 (duty0.d_pass y)) u);
+    };
+    ties = record {
+      some = omega (arith, fits.groups);
+      many = length-replicate _ _;
+      accepted_is = zero0.accepted;
+      handed_is = λ y. zero0.handed y ∙ sym (ap (λ (z : Side). length (handed_by z.answers)) (silent0 y));
+      shut_is = zero0.shut;
+      tells_is = open_list.opening_tells (λ (a : ℕ). 2);
+      items_are = λ k l. absurd (omega (arith, l, zero0.accepted));
+      lawful = record { sends = tt; takes = λ y. subst (λ (z : Side). DAnswers (accepted s0.history) (is_shut s0.history) 0 z.calls z.answers) (sym (silent0 y)) tt };
+    };
+  }
+
+  whole0 : Whole c s0
+  whole0 = record {
+    parts = parts0;
+    posts = record {
+      well = λ p. subst (λ (z : Place). Well s0.history (chain_of c p) (pass_at c p) (s0.stand p).begun z) (sym (idle0 p)) tt;
+      outside = λ p l. subst (λ (z : Place). IsIdle z) (sym (idle0 p)) tt;
+      limit = λ p. omega (arith, begun0 p);
+      sent = λ p l. omega (arith, begun0 p, ap waits (idle0 p));
+    };
+    calls = record {
+      senders = tt;
+      receivers = λ y. subst (λ (z : Side). AllByRecursion (λ (e : Entry). IsReceivers c y e.pass e.call) z.calls) (sym (silent0 y)) tt;
+      numbers = λ s. tt;
+      small = tt;
+      e_known = tt;
+      d_known = λ y. subst (λ (z : Side). AllByRecursion (λ (e : Entry). e.known ≤ entries s0.history) z.calls) (sym (silent0 y)) tt;
+    };
+  }
+
+  linked0 : LinkedAre (0 ∷ []) whole0.parts.told
+  unfolding whole0 parts0
+  linked0 = record { many = omega (arith, zero0.accepted); each = λ k l. first k (omega (arith, l, zero0.accepted)) }
+    where
+      first : (k : ℕ) → k ≡ 0 → slice_get (0 ∷ []) k ≡ Some (told0.node k)
+      first k is = ap (λ (j : ℕ). slice_get (0 ∷ []) j) is ∙ ap (λ (y : ℕ). Some y) (sym (zero0.node 0)) ∙ ap (λ (j : ℕ). Some (told0.node j)) (sym is)
+
+-- ---- every run
+
+pub record AfterRun (c : Config) (moves : List Move) : Type 0 where
+  pub whole : Whole c (reached (lists c) moves)
+  pub linked : LinkedAre (linked_nodes (lists c) moves) whole.parts.told
+
+none_linked : (c : Config) (m : Move) (earlier : List Move) (r : AfterRun c earlier) → linked_nodes (lists c) (m ∷ earlier) ≡ linked_nodes (lists c) earlier → Goes c (reached (lists c) earlier) r.whole (moved (lists c) (reached (lists c) earlier) m) [] → AfterRun c (m ∷ earlier)
+none_linked c m earlier r same g = record { whole = g.whole; linked = subst (λ (l : List ℕ). LinkedAre l g.whole.parts.told) (append-nil (linked_nodes (lists c) earlier) ∙ sym same) (linked_on (linked_nodes (lists c) earlier) [] r.whole.parts.told g.whole.parts.told r.linked g.linked) }
+
+pub after_run : (c : Config) → InRange c → ((moves : List Move) → IsRun (lists c) moves → ChainFacts (lists c) (reached (lists c) moves)) → (moves : List Move) → IsRun (lists c) moves → AfterRun c moves
+after_run c fits facts [] r = record { whole = whole0 c fits; linked = linked0 c fits }
+after_run c fits facts (Begin p k known ∷ earlier) r =
+    let before : AfterRun c earlier = after_run c fits facts earlier r.0 in
+    none_linked c (Begin p k known) earlier before refl (begin_on c (reached (lists c) earlier) p k known r.1 before.whole)
+after_run c fits facts (run.Take p ∷ earlier) r =
+    let before : AfterRun c earlier = after_run c fits facts earlier r.0 in
+    none_linked c (run.Take p) earlier before refl (answer_on c (reached (lists c) earlier) p r.1 before.whole)
+after_run c fits facts (Step p ∷ earlier) r =
+    let before : AfterRun c earlier = after_run c fits facts earlier r.0 in
+    let s : Stand = (reached (lists c) earlier).stand p in
+    let on : Goes c (reached (lists c) earlier) before.whole (reached (lists c) (Step p ∷ earlier)) (links_at ((reached (lists c) earlier).stand p).place) =
+    step_on c fits (reached (lists c) earlier) p ((reached (lists c) earlier).stand p).begun ((reached (lists c) earlier).stand p).node r.1.0 before.whole ((reached (lists c) earlier).stand p).place refl (facts earlier r.0) (facts (Step p ∷ earlier) r) in
+    record { whole = on.whole; linked = linked_on (linked_nodes (lists c) earlier) (links_at ((reached (lists c) earlier).stand p).place) before.whole.parts.told on.whole.parts.told before.linked on.linked }
+
+-- ---- the history is lawful
+
+pub legal : (c : Config) (s : State) → Whole c s → Legal c s.history
+legal c s w =
+    let k : Parts c s = w.parts in
+    let room : k.told.accepted ≤ k.told.least + c.capacity = busy.room c.capacity c.life (further c + 1) (queue_of s k.duty) k.told k.list.inv in
+    record {
+      answers = k.ties.lawful.sends;
+      senders = w.calls.senders;
+      numbers = w.calls.numbers;
+      groups = k.ties.many;
+      takes = λ y l.
+          let below : y < further c + 1 = omega (arith, l, k.ties.some) in
+          let in_order : k.told.handed y ≤ k.told.accepted = k.list.inv.hands.order y below in
+          let least : k.told.least ≤ k.told.handed y = k.list.inv.hands.least_is y below in
+          record {
+            answers = k.ties.lawful.takes y;
+            receivers = w.calls.receivers y;
+            within = omega (arith, in_order, k.ties.accepted_is, k.ties.handed_is y);
+            room = omega (arith, room, least, k.ties.accepted_is, k.ties.handed_is y);
+          };
+    }

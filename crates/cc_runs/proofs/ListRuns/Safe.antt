@@ -1,0 +1,152 @@
+-- A step of a service finds its words, and no number of the list leaves its range.
+use Rattle.std.proofs.Common.{◌≡◌, ℕ, ◌+◌, ◌<◌, ◌≤◌, nat_lt, inl, inr, IsTrue, refl, sym, ap, ◌∙◌, subst, arith}
+use Rattle.std.proofs.lemmas.Bool.{cases_eq, cases_lt, lt-ltb}
+use Rattle.cc_model.specs.declared.config.Config.{Config}
+use Rattle.cc_runs.specs.declared.word.Chain.TheVariants.{Send, Take}
+use Rattle.cc_runs.specs.declared.word.ItemField.{ItemField}
+use Rattle.cc_runs.specs.declared.word.ItemField.TheVariants as item
+use Rattle.cc_runs.specs.declared.word.Word.{Word}
+use Rattle.cc_runs.specs.declared.word.Word.TheVariants.{Item}
+use Rattle.cc_runs.specs.declared.place.Job.{Job}
+use Rattle.cc_runs.specs.declared.place.Place.{Place}
+use Rattle.cc_runs.specs.declared.place.Place.TheVariants as place
+use Rattle.cc_runs.specs.declared.place.Sending.{Sending}
+use Rattle.cc_runs.specs.declared.place.Sending.TheVariants as sending
+use Rattle.cc_runs.specs.declared.place.Taking.{Taking}
+use Rattle.cc_runs.specs.declared.place.Taking.TheVariants as taking
+use Rattle.cc_runs.specs.Words.{groups, layout_of, exists}
+use Rattle.cc_runs.specs.State.{State, chain_of}
+use Rattle.cc_runs.specs.Safe.{IsSafe}
+use Rattle.cc_runs.proofs.Ranges.{InRange}
+use Rattle.cc_runs.proofs.LinkedList.Queue.{Queue, Enq, Told}
+use Rattle.cc_runs.proofs.LinkedList.Invariant.{LInv}
+use Rattle.cc_runs.proofs.LinkedList.Limits as limits
+use Rattle.cc_runs.proofs.ListRuns.View.{Duty, Regs, enq_in, enq_at, regs_in, regs_at, regs_of, queue_from}
+use Rattle.cc_runs.proofs.ListRuns.Ties.{further, Reads, ReadsAt, IsBegun, IsServing, IsTaking, Scanned}
+use Rattle.cc_runs.proofs.ListRuns.Facts.{lists}
+use Rattle.cc_runs.proofs.ListRuns.Whole.{Parts}
+
+pub item_exists : (c : Config) (i : ℕ) (f : ItemField) → i ≤ c.capacity + 1 → IsTrue (exists (layout_of c) (Item i f))
+item_exists c i f l = lt-ltb i (c.capacity + 2) (omega (arith, l))
+
+-- ---- the list's invariant, where pass p serves a send or a close
+
+module _ (c : Config) (s : State) (p : ℕ) (job : Job) (service : Sending) (stands : (s.stand p).place ≡ place.Sending job service) (on : IsBegun service) (k : Parts c s) where
+  abbrev d : Duty
+  d = k.duty
+
+  mine : p ≡ d.e_pass
+  mine = elim (cases_eq p d.e_pass) [ inl e ↦ e | inr ne ↦ absurd (k.serving.e_only p ne (subst (λ (z : Place). IsServing z) (sym stands) on)) ]
+
+  stands_there : (s.stand d.e_pass).place ≡ place.Sending job service
+  stands_there = ap (λ (q : ℕ). (s.stand q).place) (sym mine) ∙ stands
+
+  abbrev pub send_queue : Queue
+  send_queue = queue_from s.mem d (enq_in d.e_call d.from service) (regs_of s.stand d)
+
+  pub send_holds : LInv c.capacity c.life (further c + 1) send_queue k.told
+  send_holds = subst (λ (z : Place). LInv c.capacity c.life (further c + 1) (queue_from s.mem d (enq_at d.e_call d.from z) (regs_of s.stand d)) k.told) stands_there k.list.inv
+
+  pub send_reads : Reads c d.e_call d.from service
+  send_reads = subst (λ (z : Place). ReadsAt c d.e_call d.from z) stands_there k.serving.reads
+
+-- ---- and where it serves a take of group y
+
+module _ (c : Config) (s : State) (p y : ℕ) (chain : chain_of c p ≡ Take y) (job : Job) (service : Taking) (stands : (s.stand p).place ≡ place.Taking job service) (k : Parts c s) where
+  mine_take : p ≡ k.duty.d_pass y
+  mine_take = elim (cases_eq p (k.duty.d_pass y)) [ inl e ↦ e | inr ne ↦ absurd (k.serving.d_only y p chain ne (subst (λ (z : Place). IsTaking z) (sym stands) tt)) ]
+
+  -- the registers of the group's service
+  pub take_regs : regs_of s.stand k.duty y ≡ regs_in service
+  take_regs = ap regs_at (ap (λ (q : ℕ). (s.stand q).place) (sym mine_take) ∙ stands)
+
+-- ---- a node that the services name is there
+
+module _ (c : Config) (mem : Word → ℕ) (d : Duty) (e : Enq) (r : ℕ → Regs) (g : Told) (i : LInv c.capacity c.life (further c + 1) (queue_from mem d e r) g) where
+  least_last : g.node g.accepted ≤ c.capacity
+  least_last = i.live.live_in g.accepted i.hands.least_in (omega arith)
+
+  dummy_in : (y : ℕ) → y < further c + 1 → 2 ≤ (r y).stage → (r y).dummy ≤ c.capacity
+  dummy_in y l low = omega (arith, i.heads.dummy_is y l low, i.live.live_in (g.handed y) (i.hands.least_is y l) (i.hands.order y l))
+
+  after_in : (y : ℕ) → y < further c + 1 → 4 ≤ (r y).stage → (r y).stage ≤ 5 → (r y).after ≤ c.capacity + 2
+  after_in y l low high = elim (cases_lt (g.handed y) g.accepted) [
+    | inl more ↦ omega (arith, i.takes.after_is y l low high more, i.live.live_in (g.handed y + 1) (omega (arith, i.hands.least_is y l)) (omega (arith, more)))
+    | inr less ↦ omega (arith, i.takes.after_mark y l low (omega (arith, less, i.hands.order y l)))
+  ]
+
+-- ---- each step of the two services, but for the loads of a request
+
+module _ (c : Config) (r : InRange c) (s : State) (p : ℕ) (k : Parts c s) where
+  pub send_safe : (own : ℕ) (job : Job) (service : Sending) → (s.stand p).place ≡ place.Sending job service → IsBegun service → IsSafe (lists c) s Send own (place.Sending job service)
+  send_safe own job sending.ReadTag e on = absurd on
+  send_safe own job (sending.ReadBody tag) e on = absurd on
+  send_safe own job (sending.ReadLastToClose total) e on = record { word = refl; numbers = (limits.lastc_link c.capacity c.life (further c + 1) _ k.told (send_holds c s p job (sending.ReadLastToClose total) e tt k) refl).0 }
+  send_safe own job (sending.ReadLast count at) e on = record { word = refl; numbers = (limits.last_link c.capacity c.life (further c + 1) _ k.told (send_holds c s p job (sending.ReadLast count at) e tt k) refl).0 }
+  send_safe own job (sending.LinkMark total last) e on =
+      let i : LInv c.capacity c.life (further c + 1) (send_queue c s p job (sending.LinkMark total last) e tt k) k.told = send_holds c s p job (sending.LinkMark total last) e tt k in
+      record { word = item_exists c last item.Next (omega (arith, i.prepared.last_mark refl, least_last c s.mem k.duty _ _ k.told i)); numbers = tt }
+  send_safe own job (sending.ReadPassed parcel at reads) e on =
+      let scanned : Scanned c k.duty.from at reads = (send_reads c s p job (sending.ReadPassed parcel at reads) e tt k).1 in
+      record { word = item_exists c at item.Passed (omega (arith, scanned.within)); numbers = omega (arith, scanned.most, r.capacity) }
+  send_safe own job (sending.ResetPassed parcel at) e on =
+      let i : LInv c.capacity c.life (further c + 1) (send_queue c s p job (sending.ResetPassed parcel at) e tt k) k.told = send_holds c s p job (sending.ResetPassed parcel at) e tt k in
+      record { word = item_exists c at item.Passed (omega (arith, i.found.found_in (omega arith) (omega arith))); numbers = tt }
+  send_safe own job (sending.ResetItemNext parcel at) e on =
+      let i : LInv c.capacity c.life (further c + 1) (send_queue c s p job (sending.ResetItemNext parcel at) e tt k) k.told = send_holds c s p job (sending.ResetItemNext parcel at) e tt k in
+      record { word = item_exists c at item.Next (omega (arith, i.found.found_in (omega arith) (omega arith))); numbers = tt }
+  send_safe own job (sending.WriteItemTag parcel at) e on =
+      let i : LInv c.capacity c.life (further c + 1) (send_queue c s p job (sending.WriteItemTag parcel at) e tt k) k.told = send_holds c s p job (sending.WriteItemTag parcel at) e tt k in
+      record { word = item_exists c at item.Tag (omega (arith, i.found.found_in (omega arith) (omega arith))); numbers = tt }
+  send_safe own job (sending.WriteItemBody count body at) e on =
+      let i : LInv c.capacity c.life (further c + 1) (send_queue c s p job (sending.WriteItemBody count body at) e tt k) k.told = send_holds c s p job (sending.WriteItemBody count body at) e tt k in
+      record { word = item_exists c at item.Body (omega (arith, i.found.found_in (omega arith) (omega arith))); numbers = tt }
+  send_safe own job (sending.LinkItem count at last) e on =
+      let i : LInv c.capacity c.life (further c + 1) (send_queue c s p job (sending.LinkItem count at last) e tt k) k.told = send_holds c s p job (sending.LinkItem count at last) e tt k in
+      record { word = item_exists c last item.Next (omega (arith, i.prepared.last_item refl, least_last c s.mem k.duty _ _ k.told i)); numbers = omega (arith, i.found.found_in (omega arith) (omega arith), r.capacity) }
+  send_safe own job (sending.WriteLast count at) e on =
+      let i : LInv c.capacity c.life (further c + 1) (send_queue c s p job (sending.WriteLast count at) e tt k) k.told = send_holds c s p job (sending.WriteLast count at) e tt k in
+      record { word = refl; numbers = omega (arith, i.found.found_in (omega arith) (omega arith), r.capacity) }
+  send_safe own job (sending.WriteCount count at) e on =
+      let i : LInv c.capacity c.life (further c + 1) (send_queue c s p job (sending.WriteCount count at) e tt k) k.told = send_holds c s p job (sending.WriteCount count at) e tt k in
+      record { word = refl; numbers = omega (arith, limits.count_fits c.capacity c.life (further c + 1) _ k.told i refl, r.life) }
+  send_safe own job (sending.WriteCursor count at) e on =
+      let i : LInv c.capacity c.life (further c + 1) (send_queue c s p job (sending.WriteCursor count at) e tt k) k.told = send_holds c s p job (sending.WriteCursor count at) e tt k in
+      record { word = refl; numbers = omega (arith, i.found.found_in (omega arith) (omega arith), r.capacity) }
+  send_safe own job service e on = record { word = refl; numbers = tt }
+
+  module _ (y : ℕ) (chain : chain_of c p ≡ Take y) (inside : y < groups c) where
+    below : y < further c + 1
+    below = omega (arith, inside, k.ties.some)
+
+    word_in : IsTrue (nat_lt y (groups c))
+    word_in = lt-ltb y (groups c) inside
+
+    dummy_at : (job : Job) (service : Taking) → (s.stand p).place ≡ place.Taking job service → 2 ≤ (regs_in service).stage → (regs_in service).dummy ≤ c.capacity
+    dummy_at job service e low =
+        let same = take_regs c s p y chain job service e k in
+        subst (λ (z : Regs). z.dummy ≤ c.capacity) same (dummy_in c s.mem k.duty _ (regs_of s.stand k.duty) k.told k.list.inv y below (subst (λ (z : Regs). 2 ≤ z.stage) (sym same) low))
+
+    after_at : (job : Job) (service : Taking) → (s.stand p).place ≡ place.Taking job service → 4 ≤ (regs_in service).stage → (regs_in service).stage ≤ 5 → (regs_in service).after ≤ c.capacity + 2
+    after_at job service e low high =
+        let same = take_regs c s p y chain job service e k in
+        subst (λ (z : Regs). z.after ≤ c.capacity + 2) same
+        (after_in c s.mem k.duty _ (regs_of s.stand k.duty) k.told k.list.inv y below (subst (λ (z : Regs). 4 ≤ z.stage) (sym same) low) (subst (λ (z : Regs). z.stage ≤ 5) (sym same) high))
+
+    stage_at : (job : Job) (service : Taking) → (s.stand p).place ≡ place.Taking job service → (regs_of s.stand k.duty y).stage ≡ (regs_in service).stage
+    stage_at job service e = ap (λ (z : Regs). z.stage) (take_regs c s p y chain job service e k)
+
+    pub take_safe : (own : ℕ) (job : Job) (service : Taking) → (s.stand p).place ≡ place.Taking job service → IsSafe (lists c) s (Take y) own (place.Taking job service)
+    take_safe own job taking.ReadHead e = record { word = word_in; numbers = (limits.head_link c.capacity c.life (further c + 1) _ k.told k.list.inv y below (stage_at job taking.ReadHead e)).0 }
+    take_safe own job (taking.ReadTaken dummy) e = record { word = word_in; numbers = tt }
+    take_safe own job (taking.ReadDummyNext dummy taken) e = record { word = item_exists c dummy item.Next (omega (arith, dummy_at job (taking.ReadDummyNext dummy taken) e (omega arith))); numbers = tt }
+    take_safe own job (taking.ReadItemTag dummy taken at) e = record { word = item_exists c at item.Tag (omega (arith, after_at job (taking.ReadItemTag dummy taken at) e (omega arith) (omega arith))); numbers = tt }
+    take_safe own job (taking.ReadItemBody dummy taken at tag) e = record { word = item_exists c at item.Body (omega (arith, after_at job (taking.ReadItemBody dummy taken at tag) e (omega arith) (omega arith))); numbers = tt }
+    take_safe own job (taking.WriteHead dummy at parcel) e = record { word = word_in; numbers = omega (arith, after_at job (taking.WriteHead dummy at parcel) e (omega arith) (omega arith), r.capacity) }
+    take_safe own job (taking.WriteTaken dummy parcel) e =
+        let seen : (regs_of s.stand k.duty y).seen ≡ parcel.place = ap (λ (z : Regs). z.seen) (take_regs c s p y chain job (taking.WriteTaken dummy parcel) e k) in
+        record { word = word_in; numbers = omega (arith, seen, limits.taken_fits c.capacity c.life (further c + 1) _ k.told k.list.inv y below (stage_at job (taking.WriteTaken dummy parcel) e), r.life) }
+    take_safe own job (taking.AddPassed dummy parcel) e =
+        let at : (regs_of s.stand k.duty y).dummy ≡ dummy = ap (λ (z : Regs). z.dummy) (take_regs c s p y chain job (taking.AddPassed dummy parcel) e k) in
+        let few = limits.passed_fits c.capacity c.life (further c + 1) _ k.told k.list.inv y below (stage_at job (taking.AddPassed dummy parcel) e) in
+        record { word = item_exists c dummy item.Passed (omega (arith, dummy_at job (taking.AddPassed dummy parcel) e (omega arith))); numbers = omega (arith, subst (λ (z : ℕ). s.mem (Item z item.Passed) + 1 ≤ further c + 1) at few, r.groups) }

@@ -1,0 +1,454 @@
+-- A step of the service of a send or a close keeps the list's invariant, and decides a lawful answer.
+use Rattle.std.proofs.Common.{◌≡◌, ◌≢◌, ℕ, zero, suc, ◌+◌, ◌-◌, ◌%◌, ◌<◌, ◌≤◌, ◌^◌, ◌==◌, List, [], ◌∷◌, ◌++◌, length, Bool, true, false, ◌||◌, cond, if◌then◌else◌, Some, None, refl, sym, ap, ◌∙◌, subst, arith, inl, inr, append-nil, length-append}
+use Rattle.std.proofs.lemmas.Bool.{cases_eq, cases_lt, eqb-true, eqb-false}
+use Rattle.std.proofs.Math.Nat.{mod-eq_of_lt, mod_self}
+use Rattle.std.specs.List.{slice_get}
+use Rattle.cc_model.specs.Record.{Record}
+use Rattle.cc_model.specs.Items.{accepted, accepted_item, is_shut, shuts}
+use Rattle.cc_model.specs.Legal.{EAnswer, IsSenders}
+use Rattle.cc_model.specs.declared.config.Config.{Config}
+use Rattle.cc_model.specs.declared.call.Entry.{Entry}
+use Rattle.cc_model.specs.declared.call.Item.{Item}
+use Rattle.cc_model.specs.declared.call.Answer.{Answer}
+use Rattle.cc_model.specs.declared.call.Answer.TheVariants as answer
+use Rattle.cc_model.specs.declared.call.SendAnswer.TheVariants as send
+use Rattle.cc_model.specs.declared.call.CloseAnswer.TheVariants as close
+use Rattle.cc_model.proofs.Grows.{get_front, get_last}
+use Rattle.cc_runs.specs.declared.word.Chain.TheVariants.{Send}
+use Rattle.cc_runs.specs.declared.word.ItemField.TheVariants as item
+use Rattle.cc_runs.specs.declared.word.Object.TheVariants as object
+use Rattle.cc_runs.specs.declared.word.Word.{Word}
+use Rattle.cc_runs.specs.declared.word.Word.TheVariants.{Object, Item as ItemWord}
+use Rattle.cc_runs.specs.declared.place.Request.{Request}
+use Rattle.cc_runs.specs.declared.place.Parcel.{Parcel}
+use Rattle.cc_runs.specs.declared.place.Job.{Job}
+use Rattle.cc_runs.specs.declared.place.Place.{Place}
+use Rattle.cc_runs.specs.declared.place.Place.TheVariants as place
+use Rattle.cc_runs.specs.declared.place.Sending.{Sending}
+use Rattle.cc_runs.specs.declared.place.Sending.TheVariants as sending
+use Rattle.cc_runs.specs.Words.{groups, put}
+use Rattle.cc_runs.specs.State.{noted, word_of, stored}
+use Rattle.cc_runs.specs.Codes.{item_of, request_in}
+use Rattle.cc_runs.specs.SendColumns.{operation, goes, decides, after, mark, after_shut, after_count, after_passed}
+use Rattle.cc_runs.specs.MachineLaws.{links}
+use Rattle.cc_runs.proofs.LinkedList.Queue.{Queue, Told}
+use Rattle.cc_runs.proofs.LinkedList.ResetPassed.{Prepares}
+use Rattle.cc_runs.proofs.LinkedList.LinkItem.{Accepts}
+use Rattle.cc_runs.proofs.LinkedList.LinkMark.{Shuts}
+use Rattle.cc_runs.proofs.LinkedList.Grow as grow
+use Rattle.cc_runs.proofs.LinkedList.Runs as runs
+use Rattle.cc_runs.proofs.LinkedList.Runs.{Next, Held}
+use Rattle.cc_runs.proofs.LinkedList.Decide as decide
+use Rattle.cc_runs.proofs.LinkedList.Limits as limits
+use Rattle.cc_runs.proofs.ListRuns.View.{Duty, Regs, enq_in, enq_at, queue_from}
+use Rattle.cc_runs.proofs.ListRuns.SendSteps as steps
+use Rattle.cc_runs.proofs.ListRuns.Fits.{closed_fits, already_fits, shut_fits, spent_fits, full_fits, accepted_fits, item_sent}
+use Rattle.cc_runs.proofs.ListRuns.Decided.{told_send, e_accepted, e_shut, e_decided}
+use Rattle.cc_runs.proofs.ListRuns.Ties.{Ties, further, Asked, Scanned, Reads, ReadsAt, IsUndecided, IsUndecidedAt, IsBegun, IsNextSend, Linked, ties_same, shut_number, shut_true, shut_false}
+
+-- what such a step leads to
+pub record TurnBy (c : Config) (mem : Word → ℕ) (d : Duty) (r : ℕ → Regs) (h : Record) (g : Told) (at : Place) (new : List ℕ) : Type 0 where
+  pub from : ℕ
+  pub told : Told
+  pub list : Held c.capacity c.life (further c) (queue_from mem d (enq_at d.e_call from at) r) told
+  pub least_up : g.least ≤ told.least
+  pub entries_up : g.accepted + g.shut ≤ told.accepted + told.shut
+  pub reads : ReadsAt c d.e_call from at
+  pub next_call : IsUndecidedAt at → IsNextSend h d.e_call
+  pub ties : Ties c h told
+  pub linked : Linked g told new
+
+-- where it links no node
+abbrev pub Turn : Config → (Word → ℕ) → Duty → (ℕ → Regs) → Record → Told → Place → Type 0
+Turn c mem d r h g at = TurnBy c mem d r h g at []
+
+-- the served call is one of a sender
+pub record Caller (c : Config) (e : Entry) : Type 0 where
+  pub senders : IsSenders c e.pass e.call
+  pub small : e.number < 2 ^ 32
+
+-- the scan goes on to the node after, round the end
+scan_on : (c : Config) (from at reads : ℕ) → Scanned c from at reads → reads ≢ c.capacity + 1 → from ≤ c.capacity → Scanned c from (after c at) (reads + 1)
+scan_on c from at reads s more from_in =
+    let some : 1 ≤ reads = s.some in
+    let within : at ≤ c.capacity = s.within in
+    elim (cases_lt c.capacity (from + (reads - 1))) [
+      | inl far ↦
+          let here : at + c.capacity + 1 ≡ from + (reads - 1) = s.round far in
+          elim (cases_eq at c.capacity) [
+            | inl last ↦ absurd (omega (arith, s.most, more, from_in, here, last))
+            | inr ne ↦ let to : after c at ≡ at + 1 = mod-eq_of_lt (omega (arith, ne, within)) in
+                record { some = omega arith; most = omega (arith, s.most, more); within = omega (arith, to, ne, within); past = λ l. absurd (omega (arith, l, far, some)); round = λ l. omega (arith, to, here, some) }
+          ]
+      | inr near ↦
+          let here : at ≡ from + (reads - 1) = s.past near in
+          elim (cases_eq at c.capacity) [
+            | inl last ↦
+                let to : after c at ≡ 0 = ap (λ (k : ℕ). (k + 1) % (c.capacity + 1)) last ∙ mod_self (c.capacity + 1) in
+                record { some = omega arith; most = omega (arith, s.most, more); within = omega (arith, to); past = λ l. absurd (omega (arith, l, here, last, some)); round = λ l. omega (arith, to, here, last, some) }
+            | inr ne ↦ let to : after c at ≡ at + 1 = mod-eq_of_lt (omega (arith, ne, within)) in
+                record { some = omega arith; most = omega (arith, s.most, more); within = omega (arith, to, ne, within); past = λ l. omega (arith, to, here, some); round = λ l. absurd (omega (arith, l, here, ne, within, some)) }
+          ]
+    ]
+
+or_false : (b : Bool) → b || (false || false) ≡ b
+or_false true = refl
+or_false false = refl
+
+or_true : (b : Bool) → b || (true || false) ≡ true
+or_true true = refl
+or_true false = refl
+
+module _ (c : Config) (mem : Word → ℕ) (d : Duty) (r : ℕ → Regs) (h : Record) (g : Told) (ties : Ties c h g) (caller : Caller c d.e_call) (job : Job) where
+  abbrev AtStep : (Word → ℕ) → Sending → Queue
+  AtStep m service = queue_from m d (enq_in d.e_call d.from service) r
+
+  abbrev AtRest : (Word → ℕ) → Queue
+  AtRest m = queue_from m d (enq_at d.e_call d.from place.Idle) r
+
+  abbrev Has : Queue → Told → Type 0
+  Has v told = Held c.capacity c.life (further c) v told
+
+  -- on in the service, with no ghost moved
+  on : (m : Word → ℕ) (service there : Sending) → Has (AtStep mem service) g → Next c.capacity c.life (further c) (AtStep mem service) g (AtStep m there) g → Reads c d.e_call d.from there → (IsUndecided there → IsNextSend h d.e_call) → Turn c m d r h g (place.Sending job there)
+  on m service there has next reads asked = record {
+    from = d.from;
+    told = g;
+    list = runs.next_keeps c.capacity c.life (further c) _ _ _ has next;
+    least_up = omega arith;
+    entries_up = omega arith;
+    reads = reads;
+    next_call = asked;
+    ties = ties;
+    linked = (refl, λ j l. refl);
+  }
+
+  -- to the end of the service, with no ghost moved
+  over : (m : Word → ℕ) (service : Sending) (told : Answer) → Has (AtStep mem service) g → Next c.capacity c.life (further c) (AtStep mem service) g (AtRest m) g → Turn c m d r h g (place.WriteAnswer job told)
+  over m service told has next = record {
+    from = d.from;
+    told = g;
+    list = runs.next_keeps c.capacity c.life (further c) _ _ _ has next;
+    least_up = omega arith;
+    entries_up = omega arith;
+    reads = tt;
+    next_call = λ no. absurd no;
+    ties = ties;
+    linked = (refl, λ j l. refl);
+  }
+
+  -- an answer that accepts nothing and doesn't shut
+  answered : (m : Word → ℕ) (service : Sending) (told : Answer) → Has (AtStep mem service) g → Next c.capacity c.life (further c) (AtStep mem service) g (AtRest m) g
+      → IsNextSend h d.e_call → accepted_item d.e_call told ≡ [] → shuts told ≡ false → EAnswer c (length (accepted h)) (is_shut h) d.e_call.known d.e_call.call told → Turn c m d r (told_send h told) g (place.WriteAnswer job told)
+  answered m service told has next asked none open_ fits = record {
+    from = d.from;
+    told = g;
+    list = runs.next_keeps c.capacity c.life (further c) _ _ _ has next;
+    least_up = omega arith;
+    entries_up = omega arith;
+    reads = tt;
+    next_call = λ no. absurd no;
+    ties = ties_same c h (told_send h told) g ties refl
+        (e_accepted c h ties.lawful d.e_call told asked ∙ ap (λ (l : List Item). accepted h ++ l) none ∙ append-nil (accepted h))
+        (e_shut c h ties.lawful d.e_call told asked ∙ ap (λ (b : Bool). is_shut h || (b || false)) open_ ∙ or_false (is_shut h))
+        (λ y. refl)
+        (e_decided c h ties.lawful d.e_call told asked fits);
+    linked = (refl, λ j l. refl);
+  }
+
+  -- the answer's place in the history is open or shut as the list is
+  fits_shut : (told : Answer) → g.shut ≡ 1 → EAnswer c (length (accepted h)) true d.e_call.known d.e_call.call told → EAnswer c (length (accepted h)) (is_shut h) d.e_call.known d.e_call.call told
+  fits_shut told one fits = subst (λ (b : Bool). EAnswer c (length (accepted h)) b d.e_call.known d.e_call.call told) (sym (shut_true (is_shut h) (sym ties.shut_is ∙ one))) fits
+
+  fits_open : (told : Answer) → g.shut ≡ 0 → EAnswer c (length (accepted h)) false d.e_call.known d.e_call.call told → EAnswer c (length (accepted h)) (is_shut h) d.e_call.known d.e_call.call told
+  fits_open told none fits = subst (λ (b : Bool). EAnswer c (length (accepted h)) b d.e_call.known d.e_call.call told) (sym (shut_false (is_shut h) (sym ties.shut_is ∙ none))) fits
+
+  abbrev tag_asked : ℕ
+  tag_asked = (request_in d.e_call).tag
+
+  -- ---- the load of shut
+
+  shut_branch : (q : Request) (b : Bool) → (q.tag == 0) ≡ b → Has (AtStep mem (sending.ReadShut q)) g → Asked d.e_call q.tag q.body → IsNextSend h d.e_call → mem (Object object.Shut) ≢ 0
+      → Turn c mem d r (noted Send h None (cond b None (Some (answer.Send send.Closed)))) g (cond b (place.Sending job sending.ReadTotal) (place.WriteAnswer job (answer.Send send.Closed)))
+  shut_branch q true e has asked next ne =
+      let z : tag_asked ≡ 0 = sym asked.tag_is ∙ eqb-true q.tag 0 e in
+      on mem (sending.ReadShut q) sending.ReadTotal has (Next.e_shut (steps.read_shut_close mem d r q ne z)) tt (λ u. next)
+  shut_branch q false e has asked next ne =
+      let nz : tag_asked ≢ 0 = λ z. eqb-false q.tag 0 e (asked.tag_is ∙ z) in
+      answered mem (sending.ReadShut q) (answer.Send send.Closed) has (Next.e_shut (steps.read_shut_send mem d r q ne nz)) next refl refl
+      (fits_shut (answer.Send send.Closed) (decide.read_shut c.capacity c.life (further c + 1) (AtStep mem (sending.ReadShut q)) g has.inv refl ne) (closed_fits c (length (accepted h)) d.e_call.known d.e_call.pass d.e_call.call d.e_call.number caller.senders nz))
+
+  read_shut : (q : Request) (found : ℕ) → mem (Object object.Shut) ≡ found → Has (AtStep mem (sending.ReadShut q)) g → Asked d.e_call q.tag q.body → IsNextSend h d.e_call
+      → Turn c mem d r (noted Send h None (decides c (sending.ReadShut q) found)) g (after_shut job q found)
+  read_shut q zero e has asked next = on mem (sending.ReadShut q) (sending.ReadCount q) has (Next.e_shut (steps.read_shut_open mem d r q e)) asked (λ u. next)
+  read_shut q (suc n) e has asked next = shut_branch q (q.tag == 0) refl has asked next (λ z. omega (arith, z, e))
+
+  -- ---- the loads of count
+
+  read_total : Has (AtStep mem sending.ReadTotal) g → IsNextSend h d.e_call
+      → Turn c mem d r (told_send h (answer.Close (close.Already (mem (Object object.Count))))) g (place.WriteAnswer job (answer.Close (close.Already (mem (Object object.Count)))))
+  read_total has next =
+      let known : (mem (Object object.Count) ≡ g.accepted) × (g.shut ≡ 1) × (tag_asked ≡ 0) = decide.already c.capacity c.life (further c + 1) (AtStep mem sending.ReadTotal) g has.inv refl in
+      answered mem sending.ReadTotal (answer.Close (close.Already (mem (Object object.Count)))) has (Next.e_count_a (steps.read_total mem d r)) next refl refl
+      (fits_shut (answer.Close (close.Already (mem (Object object.Count)))) known.1 (already_fits c (length (accepted h)) d.e_call.known d.e_call.pass d.e_call.call d.e_call.number (mem (Object object.Count)) caller.senders known.2 (known.0 ∙ ties.accepted_is)))
+
+  life_branch : (q : Request) (b : Bool) → (mem (Object object.Count) == c.life) ≡ b → tag_asked ≢ 0 → Has (AtStep mem (sending.ReadCount q)) g → Asked d.e_call q.tag q.body → IsNextSend h d.e_call
+      → Turn c mem d r (noted Send h None (cond b (Some (answer.Send send.Spent)) None)) g (cond b (place.WriteAnswer job (answer.Send send.Spent)) (place.Sending job (sending.ReadCursor record { place = mem (Object object.Count); tag = q.tag; body = q.body })))
+  life_branch q true e nz has asked next =
+      let full : mem (Object object.Count) ≡ c.life = eqb-true (mem (Object object.Count)) c.life e in
+      let known : (g.accepted ≡ c.life) × (g.shut ≡ 0) = decide.spent c.capacity c.life (further c + 1) (AtStep mem (sending.ReadCount q)) g has.inv refl full in
+      answered mem (sending.ReadCount q) (answer.Send send.Spent) has (Next.e_count (steps.read_count_spent mem d r c.life q nz full)) next refl refl
+      (fits_open (answer.Send send.Spent) known.1 (spent_fits c (length (accepted h)) d.e_call.known d.e_call.pass d.e_call.call d.e_call.number caller.senders nz (sym ties.accepted_is ∙ known.0)))
+  life_branch q false e nz has asked next =
+      on mem (sending.ReadCount q) (sending.ReadCursor record { place = mem (Object object.Count); tag = q.tag; body = q.body }) has
+      (Next.e_count (steps.read_count_on mem d r c.life q q.tag q.body nz (eqb-false (mem (Object object.Count)) c.life e))) (record { tag_is = asked.tag_is; body_is = asked.body_is }) (λ u. next)
+
+  close_branch : (q : Request) (b : Bool) → (q.tag == 0) ≡ b → Has (AtStep mem (sending.ReadCount q)) g → Asked d.e_call q.tag q.body → IsNextSend h d.e_call
+      → Turn c mem d r (noted Send h None (cond b None (if mem (Object object.Count) == c.life then Some (answer.Send send.Spent) else None))) g
+      (cond b (place.Sending job (sending.ReadLastToClose (mem (Object object.Count)))) (if mem (Object object.Count) == c.life then place.WriteAnswer job (answer.Send send.Spent) else place.Sending job (sending.ReadCursor record { place = mem (Object object.Count); tag = q.tag; body = q.body })))
+  close_branch q true e has asked next =
+      let z : tag_asked ≡ 0 = sym asked.tag_is ∙ eqb-true q.tag 0 e in
+      on mem (sending.ReadCount q) (sending.ReadLastToClose (mem (Object object.Count))) has (Next.e_count (steps.read_count_close mem d r c.life q z)) tt (λ u. next)
+  close_branch q false e has asked next = life_branch q (mem (Object object.Count) == c.life) refl (λ z. eqb-false q.tag 0 e (asked.tag_is ∙ z)) has asked next
+
+  -- ---- the scan
+
+  free_branch : (parcel : Parcel) (at reads : ℕ) (b : Bool) → (reads == c.capacity + 1) ≡ b → mem (ItemWord at item.Passed) ≢ further c + 1 → Has (AtStep mem (sending.ReadPassed parcel at reads)) g → Reads c d.e_call d.from (sending.ReadPassed parcel at reads) → IsNextSend h d.e_call
+      → Turn c mem d r (noted Send h None (cond b (Some (answer.Send send.Full)) None)) g (cond b (place.WriteAnswer job (answer.Send send.Full)) (place.Sending job (sending.ReadPassed parcel (after c at) (reads + 1))))
+  free_branch parcel at reads true e ne has read next =
+      let all : reads ≡ c.capacity + 1 = eqb-true reads (c.capacity + 1) e in
+      let s : Scanned c d.from at reads = read.1 in
+      let v : Queue = AtStep mem (sending.ReadPassed parcel at reads) in
+      let known : (d.e_call.known + c.capacity ≤ g.accepted) × (g.shut ≡ 0) × (g.accepted < c.life) = decide.full c.capacity c.life (further c + 1) v g has.inv at (s.within, s.past, s.round) refl (omega (arith, all)) ne in
+      let nz : tag_asked ≢ 0 = has.inv.request.sends (omega arith) (omega arith) in
+      answered mem (sending.ReadPassed parcel at reads) (answer.Send send.Full) has (Next.e_full at (s.within, s.past, s.round) (steps.look_last mem d r c.capacity (further c + 1) parcel at reads ne all)) next refl refl
+      (fits_open (answer.Send send.Full) known.1 (full_fits c (length (accepted h)) d.e_call.known d.e_call.pass d.e_call.call d.e_call.number caller.senders nz (λ z. omega (arith, z, known, ties.accepted_is)) (omega (arith, known, ties.accepted_is))))
+  free_branch parcel at reads false e ne has read next =
+      let s : Scanned c d.from at reads = read.1 in
+      let more : reads ≢ c.capacity + 1 = eqb-false reads (c.capacity + 1) e in
+      let from_in : d.from ≤ c.capacity = has.inv.scan.from_in refl in
+      let on_scan : Scanned c d.from (after c at) (reads + 1) = scan_on c d.from at reads s more from_in in
+      on mem (sending.ReadPassed parcel at reads) (sending.ReadPassed parcel (after c at) (reads + 1)) has
+      (Next.e_busy at (s.within, s.past, s.round) (steps.look_busy mem d r c.capacity (further c + 1) parcel at (after c at) reads ne s.some (omega (arith, s.most, more)))) (read.0, on_scan) (λ u. next)
+
+  passed_branch : (parcel : Parcel) (at reads : ℕ) (b : Bool) → (mem (ItemWord at item.Passed) == groups c) ≡ b → Has (AtStep mem (sending.ReadPassed parcel at reads)) g → Reads c d.e_call d.from (sending.ReadPassed parcel at reads) → IsNextSend h d.e_call
+      → Turn c mem d r (noted Send h None (cond b None (if reads == c.capacity + 1 then Some (answer.Send send.Full) else None))) g
+      (cond b (place.Sending job (sending.ResetPassed parcel at)) (if reads == c.capacity + 1 then place.WriteAnswer job (answer.Send send.Full) else place.Sending job (sending.ReadPassed parcel (after c at) (reads + 1))))
+  passed_branch parcel at reads true e has read next =
+      let s : Scanned c d.from at reads = read.1 in
+      let free : mem (ItemWord at item.Passed) ≡ further c + 1 = omega (arith, ties.some, eqb-true (mem (ItemWord at item.Passed)) (groups c) e) in
+      on mem (sending.ReadPassed parcel at reads) (sending.ResetPassed parcel at) has (Next.e_free at (s.within, s.past, s.round) (steps.look_free mem d r c.capacity (further c + 1) parcel at reads free)) read.0 (λ u. next)
+  passed_branch parcel at reads false e has read next = free_branch parcel at reads (reads == c.capacity + 1) refl (λ z. eqb-false (mem (ItemWord at item.Passed)) (groups c) e (omega (arith, ties.some, z))) has read next
+
+  -- ---- what the ghosts of the node in preparation change of the ties
+
+  ties_told : (told : Told) → told.accepted ≡ g.accepted → ((y : ℕ) → told.handed y ≡ g.handed y) → told.shut ≡ g.shut → told.tells ≡ g.tells → ((k j : ℕ) → told.items k j ≡ g.items k j) → Ties c h told
+  ties_told told a b s t i = record {
+    some = ties.some;
+    many = ties.many;
+    accepted_is = a ∙ ties.accepted_is;
+    handed_is = λ y. b y ∙ ties.handed_is y;
+    shut_is = s ∙ ties.shut_is;
+    tells_is = t ∙ ties.tells_is;
+    items_are = λ k l. rw (i k 0, i k 1) (ties.items_are k (omega (arith, l, a)));
+    lawful = ties.lawful;
+  }
+
+  reset_passed : (parcel : Parcel) (at : ℕ) → Has (AtStep mem (sending.ResetPassed parcel at)) g → Asked d.e_call parcel.tag parcel.body → IsNextSend h d.e_call
+      → Turn c (put mem (ItemWord at item.Passed) 0) d r h g (place.Sending job (sending.ResetItemNext parcel at))
+  reset_passed parcel at has asked next =
+      let v : Queue = AtStep mem (sending.ResetPassed parcel at) in
+      let told : Told = grow.preparing v g in
+      let u : Prepares v g told = grow.prepares v g in
+      let to : Next c.capacity c.life (further c) v g (AtStep (put mem (ItemWord at item.Passed) 0) (sending.ResetItemNext parcel at)) told = Next.e_passed (steps.reset_passed mem d r parcel at) in
+      let up : (g.least ≤ told.least) × (g.accepted + g.shut ≤ told.accepted + told.shut) = runs.next_grows c.capacity c.life (further c) _ _ _ has to in
+      record {
+        from = d.from;
+        told = told;
+        list = runs.next_keeps c.capacity c.life (further c) _ _ _ has to;
+        least_up = up.0;
+        entries_up = up.1;
+        reads = asked;
+        next_call = λ u. next;
+        ties = ties_told told u.log.accepted u.hands.handed u.log.shut (grow.preparing_tells v g) u.log.items;
+        linked = (u.log.accepted, λ j l. u.log.node j);
+      }
+
+  -- ---- the linking store of an item
+
+  module _ (count at last : ℕ) (has : Has (AtStep mem (sending.LinkItem count at last)) g) (next : IsNextSend h d.e_call) where
+    abbrev before : Queue
+    before = AtStep mem (sending.LinkItem count at last)
+
+    abbrev a : Answer
+    a = answer.Send (send.Accepted count)
+
+    abbrev it : Item
+    it = item_of count (request_in d.e_call).tag (request_in d.e_call).body
+
+    abbrev told : Told
+    told = grow.accepting before g
+
+    u : Accepts before g told
+    u = grow.accepts before g
+
+    known : (count ≡ g.accepted) × (g.accepted < c.life) × (g.shut ≡ 0) × (tag_asked ≢ 0)
+    known = decide.accepted c.capacity c.life (further c + 1) before g has.inv refl
+
+    fits : EAnswer c (length (accepted h)) (is_shut h) d.e_call.known d.e_call.call a
+    fits = fits_open a known.2 (accepted_fits c (length (accepted h)) d.e_call.known d.e_call.pass d.e_call.call d.e_call.number count caller.senders known.3 (λ z. omega (arith, z, known, ties.accepted_is)) (known.0 ∙ ties.accepted_is))
+
+    now : accepted (told_send h a) ≡ accepted h ++ it ∷ []
+    now = e_accepted c h ties.lawful d.e_call a next ∙ ap (λ (l : List Item). accepted h ++ l) (item_sent c d.e_call.pass d.e_call.call d.e_call.number count caller.senders known.3 caller.small)
+
+    new_item : (k : ℕ) → k ≡ g.accepted → slice_get (accepted (told_send h a)) k ≡ Some (item_of k (told.items k 0) (told.items k 1))
+    new_item k same =
+        let place : k ≡ length (accepted h) = same ∙ ties.accepted_is in
+        let is : slice_get (accepted h ++ it ∷ []) (length (accepted h)) ≡ Some it = get_last (accepted h) it in
+        let tag : told.items k 0 ≡ (request_in d.e_call).tag = ap (λ (j : ℕ). told.items j 0) same ∙ u.items_now 0 in
+        let body : told.items k 1 ≡ (request_in d.e_call).body = ap (λ (j : ℕ). told.items j 1) same ∙ u.items_now 1 in
+        rw now (
+        ap (λ (j : ℕ). slice_get (accepted h ++ it ∷ []) j) place
+        ∙ is
+        ∙ ap (λ (j : ℕ). Some (item_of j (request_in d.e_call).tag (request_in d.e_call).body)) (known.0 ∙ sym same)
+        ∙ ap (λ (w : ℕ). Some (item_of k w (request_in d.e_call).body)) (sym tag)
+        ∙ ap (λ (w : ℕ). Some (item_of k (told.items k 0) w)) (sym body)
+        )
+
+    old_item : (k : ℕ) → k < g.accepted → k ≢ g.accepted → slice_get (accepted (told_send h a)) k ≡ Some (item_of k (told.items k 0) (told.items k 1))
+    old_item k l ne =
+        let same : told.items k 0 ≡ g.items k 0 = u.items k 0 ne in
+        let same2 : told.items k 1 ≡ g.items k 1 = u.items k 1 ne in
+        rw (now, same, same2) (get_front (accepted h) (it ∷ []) k (item_of k (g.items k 0) (g.items k 1)) (ties.items_are k l))
+
+    step : Next c.capacity c.life (further c) before g (AtStep (put mem (ItemWord last item.Next) (at + 1)) (sending.WriteLast count at)) told
+    step = Next.e_link (steps.link_item mem d r count at last)
+
+    up : (g.least ≤ told.least) × (g.accepted + g.shut ≤ told.accepted + told.shut)
+    up = runs.next_grows c.capacity c.life (further c) _ _ _ has step
+
+    link_item : TurnBy c (put mem (ItemWord last item.Next) (at + 1)) d r (told_send h a) g (place.Sending job (sending.WriteLast count at)) (at ∷ [])
+    link_item = record {
+      from = d.from;
+      told = told;
+      list = runs.next_keeps c.capacity c.life (further c) _ _ _ has step;
+      least_up = up.0;
+      entries_up = up.1;
+      reads = tt;
+      next_call = λ no. absurd no;
+      ties = record {
+        some = ties.some;
+        many = ties.many;
+        accepted_is = omega (arith, u.accepted, ties.accepted_is, ap length now, length-append (accepted h) (it ∷ []));
+        handed_is = λ y. u.hands.handed y ∙ ties.handed_is y;
+        shut_is = u.shut ∙ ties.shut_is ∙ ap shut_number (sym (e_shut c h ties.lawful d.e_call a next ∙ or_false (is_shut h)));
+        tells_is = grow.accepting_tells before g ∙ ties.tells_is;
+        items_are = λ k l. elim (cases_eq k g.accepted) [ inl same ↦ new_item k same | inr ne ↦ old_item k (omega (arith, l, ne, u.accepted)) ne ];
+        lawful = e_decided c h ties.lawful d.e_call a next fits;
+      };
+      linked = (refl, u.accepted, u.node_now, λ j l. u.node j (λ z. omega (arith, z, l)));
+    }
+
+  -- ---- the linking store of the mark
+
+  module _ (total last : ℕ) (has : Has (AtStep mem (sending.LinkMark total last)) g) (next : IsNextSend h d.e_call) where
+    abbrev before_mark : Queue
+    before_mark = AtStep mem (sending.LinkMark total last)
+
+    abbrev shut_told : Answer
+    shut_told = answer.Close (close.Shut total)
+
+    abbrev told_mark : Told
+    told_mark = grow.shutting g
+
+    shuts_it : Shuts g told_mark
+    shuts_it = grow.shuts g
+
+    known_mark : (total ≡ g.accepted) × (g.shut ≡ 0) × (tag_asked ≡ 0)
+    known_mark = decide.shuts c.capacity c.life (further c + 1) before_mark g has.inv refl
+
+    fits_mark : EAnswer c (length (accepted h)) (is_shut h) d.e_call.known d.e_call.call shut_told
+    fits_mark = fits_open shut_told known_mark.1 (shut_fits c (length (accepted h)) d.e_call.known d.e_call.pass d.e_call.call d.e_call.number total caller.senders known_mark.2 (known_mark.0 ∙ ties.accepted_is))
+
+    now_mark : accepted (told_send h shut_told) ≡ accepted h
+    now_mark = e_accepted c h ties.lawful d.e_call shut_told next ∙ append-nil (accepted h)
+
+    step_mark : Next c.capacity c.life (further c) before_mark g (AtStep (put mem (ItemWord last item.Next) (mark c + 1)) (sending.WriteLastMark total)) told_mark
+    step_mark = Next.e_mark (steps.link_mark mem d r c total last)
+
+    up_mark : (g.least ≤ told_mark.least) × (g.accepted + g.shut ≤ told_mark.accepted + told_mark.shut)
+    up_mark = runs.next_grows c.capacity c.life (further c) _ _ _ has step_mark
+
+    link_mark : Turn c (put mem (ItemWord last item.Next) (mark c + 1)) d r (told_send h shut_told) g (place.Sending job (sending.WriteLastMark total))
+    link_mark = record {
+      from = d.from;
+      told = told_mark;
+      list = runs.next_keeps c.capacity c.life (further c) _ _ _ has step_mark;
+      least_up = up_mark.0;
+      entries_up = up_mark.1;
+      reads = tt;
+      next_call = λ no. absurd no;
+      ties = record {
+        some = ties.some;
+        many = ties.many;
+        accepted_is = shuts_it.accepted ∙ ties.accepted_is ∙ ap length (sym now_mark);
+        handed_is = λ y. shuts_it.hands.handed y ∙ ties.handed_is y;
+        shut_is = shuts_it.shut ∙ ap shut_number (sym (e_shut c h ties.lawful d.e_call shut_told next ∙ or_true (is_shut h)));
+        tells_is = grow.shutting_tells g ∙ ties.tells_is;
+        items_are = λ k l. rw (now_mark, shuts_it.items k 0, shuts_it.items k 1) (ties.items_are k (omega (arith, l, shuts_it.accepted)));
+        lawful = e_decided c h ties.lawful d.e_call shut_told next fits_mark;
+      };
+      linked = (shuts_it.accepted, λ j l. shuts_it.node j);
+    }
+
+  -- ---- the load of the cursor: the scan begins there
+
+  read_cursor : (parcel : Parcel) (found : ℕ) → mem (Object object.Cursor) ≡ found → Has (AtStep mem (sending.ReadCursor parcel)) g → Asked d.e_call parcel.tag parcel.body → IsNextSend h d.e_call
+      → Turn c mem d r h g (place.Sending job (sending.ReadPassed parcel found 1))
+  read_cursor parcel found e has asked next =
+      let within : mem (Object object.Cursor) ≤ c.capacity = has.inv.words.cursor_in in
+      record {
+        from = found;
+        told = g;
+        list = runs.next_keeps c.capacity c.life (further c) _ _ _ has (Next.e_cursor (steps.read_cursor mem d r parcel found e));
+        least_up = omega arith;
+        entries_up = omega arith;
+        reads = (record { tag_is = asked.tag_is; body_is = asked.body_is }, record { some = omega arith; most = omega arith; within = omega (arith, e, within); past = λ l. omega arith; round = λ l. absurd (omega (arith, l, e, within)) });
+        next_call = λ u. next;
+        ties = ties;
+        linked = (refl, λ j l. refl);
+      }
+
+  -- ---- the whole service, but for the loads of the request
+
+  abbrev Needs : Sending → Type 0
+  Needs service = Has (AtStep mem service) g × Reads c d.e_call d.from service × (IsUndecided service → IsNextSend h d.e_call)
+
+  pub send_turn : (service : Sending) (found : ℕ) → IsBegun service → mem (word_of (operation c job.round.at service)) ≡ found → Needs service
+      → TurnBy c (stored mem (operation c job.round.at service)) d r (noted Send h None (decides c service found)) g (goes c job service found) (links service)
+  send_turn sending.ReadTag found low e n = absurd low
+  send_turn (sending.ReadBody tag) found low e n = absurd low
+  send_turn (sending.ReadShut q) found low e n = read_shut q found e n.0 n.1 (n.2 tt)
+  send_turn sending.ReadTotal found low e n = subst (λ (k : ℕ). Turn c mem d r (told_send h (answer.Close (close.Already k))) g (place.WriteAnswer job (answer.Close (close.Already k)))) e (read_total n.0 (n.2 tt))
+  send_turn (sending.ReadCount q) found low e n =
+      subst (λ (k : ℕ). Turn c mem d r (noted Send h None (decides c (sending.ReadCount q) k)) g (after_count c job q k)) e (close_branch q (q.tag == 0) refl n.0 n.1 (n.2 tt))
+  send_turn (sending.ReadLastToClose total) found low e n =
+      let link : (0 < mem (Object object.Last)) × (mem (Object object.Last) ≤ c.capacity + 1) = limits.lastc_link c.capacity c.life (further c + 1) (AtStep mem (sending.ReadLastToClose total)) g n.0.inv refl in
+      subst (λ (k : ℕ). Turn c mem d r h g (place.Sending job (sending.LinkMark total (k - 1)))) e (on mem (sending.ReadLastToClose total) (sending.LinkMark total (mem (Object object.Last) - 1)) n.0 (Next.e_last_c (steps.read_last_to_close mem d r total link.0)) tt (λ u. n.2 tt))
+  send_turn (sending.LinkMark total last) found low e n = link_mark total last n.0 (n.2 tt)
+  send_turn (sending.WriteLastMark total) found low e n = on _ (sending.WriteLastMark total) (sending.WriteShut total) n.0 (Next.e_last_m (steps.write_last_mark mem d r c total)) tt (λ no. absurd no)
+  send_turn (sending.WriteShut total) found low e n = over _ (sending.WriteShut total) (answer.Close (close.Shut total)) n.0 (Next.e_shut_m (steps.write_shut mem d r total))
+  send_turn (sending.ReadCursor parcel) found low e n = read_cursor parcel found e n.0 n.1 (n.2 tt)
+  send_turn (sending.ReadPassed parcel at reads) found low e n =
+      subst (λ (k : ℕ). Turn c mem d r (noted Send h None (decides c (sending.ReadPassed parcel at reads) k)) g (after_passed c job parcel at reads k)) e (passed_branch parcel at reads (mem (ItemWord at item.Passed) == groups c) refl n.0 n.1 (n.2 tt))
+  send_turn (sending.ResetPassed parcel at) found low e n = reset_passed parcel at n.0 n.1 (n.2 tt)
+  send_turn (sending.ResetItemNext parcel at) found low e n = on _ (sending.ResetItemNext parcel at) (sending.WriteItemTag parcel at) n.0 (Next.e_next (steps.reset_next mem d r parcel at)) n.1 (λ u. n.2 tt)
+  send_turn (sending.WriteItemTag parcel at) found low e n = on _ (sending.WriteItemTag parcel at) (sending.WriteItemBody parcel.place parcel.body at) n.0 (Next.e_item (steps.write_tag mem d r parcel at n.1.tag_is)) n.1.body_is (λ u. n.2 tt)
+  send_turn (sending.WriteItemBody count body at) found low e n = on _ (sending.WriteItemBody count body at) (sending.ReadLast count at) n.0 (Next.e_item (steps.write_body mem d r count body at n.1)) tt (λ u. n.2 tt)
+  send_turn (sending.ReadLast count at) found low e n =
+      let link : (0 < mem (Object object.Last)) × (mem (Object object.Last) ≤ c.capacity + 1) = limits.last_link c.capacity c.life (further c + 1) (AtStep mem (sending.ReadLast count at)) g n.0.inv refl in
+      subst (λ (k : ℕ). Turn c mem d r h g (place.Sending job (sending.LinkItem count at (k - 1)))) e (on mem (sending.ReadLast count at) (sending.LinkItem count at (mem (Object object.Last) - 1)) n.0 (Next.e_last (steps.read_last mem d r count at link.0)) tt (λ u. n.2 tt))
+  send_turn (sending.LinkItem count at last) found low e n = link_item count at last n.0 (n.2 tt)
+  send_turn (sending.WriteLast count at) found low e n = on _ (sending.WriteLast count at) (sending.WriteCount count at) n.0 (Next.e_last_i (steps.write_last mem d r count at)) tt (λ no. absurd no)
+  send_turn (sending.WriteCount count at) found low e n = on _ (sending.WriteCount count at) (sending.WriteCursor count at) n.0 (Next.e_count_i (steps.write_count mem d r count at)) tt (λ no. absurd no)
+  send_turn (sending.WriteCursor count at) found low e n = over _ (sending.WriteCursor count at) (answer.Send (send.Accepted count)) n.0 (Next.e_cursor_i (steps.write_cursor mem d r c count at))

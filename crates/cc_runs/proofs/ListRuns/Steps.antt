@@ -1,0 +1,188 @@
+-- Each step of the machine keeps the list's invariant, the passes' and the calls'.
+use Rattle.std.proofs.Common.{◌≡◌, ◌≢◌, ◌∙◌, inl, inr, None, arith, ℕ, zero, suc, ◌+◌, ◌<◌, ◌≤◌, List, [], ◌∷◌, ◌++◌, length, false, Some, refl, sym, ap, subst}
+use Rattle.std.proofs.lemmas.Bool.{cases_eq}
+use Rattle.std.proofs.lemmas.List.{length-set}
+use Rattle.std.specs.List.{slice_get}
+use Rattle.cc_model.specs.Legal.{DAnswers}
+use Rattle.cc_runs.specs.Words.{groups}
+use Rattle.cc_runs.proofs.Chains.Facts.{noted_none}
+use Rattle.cc_runs.proofs.ListRuns.Decided.{group_mine, group_other}
+use Rattle.cc_model.specs.Record.{Side, Record, of_group, with_call, with_sends, with_takes}
+use Rattle.cc_model.specs.Items.{accepted, handed_by, handed_to_all, is_shut, entries}
+use Rattle.cc_model.specs.declared.config.Config.{Config}
+use Rattle.cc_model.specs.declared.call.Pass.TheVariants.{Sender}
+use Rattle.cc_model.specs.declared.call.Entry.{Entry}
+use Rattle.cc_model.proofs.Grows.{get_front, e_calls_more, accepted_calls_more, d_calls_more}
+use Rattle.cc_runs.specs.declared.setting.Served.TheVariants as served
+use Rattle.cc_runs.specs.declared.word.Chain.{Chain}
+use Rattle.cc_runs.specs.declared.word.Chain.TheVariants.{Send, Take}
+use Rattle.cc_runs.specs.declared.word.Word.{Word}
+use Rattle.cc_runs.specs.declared.place.Job.{Job}
+use Rattle.cc_runs.specs.declared.place.Round.{Round}
+use Rattle.cc_runs.specs.declared.place.Place.{Place}
+use Rattle.cc_runs.specs.declared.place.Place.TheVariants as place
+use Rattle.cc_runs.specs.declared.place.Sending.TheVariants as sending
+use Rattle.cc_runs.specs.declared.place.Stand.{Stand}
+use Rattle.cc_runs.specs.State.{State, chain_of, pass_at, hold, noted, word_of}
+use Rattle.cc_runs.specs.Columns.{operation, after_next}
+use Rattle.cc_runs.specs.Step.{stepped_from}
+use Rattle.cc_runs.specs.Run.{passes}
+use Rattle.cc_runs.specs.MachineLaws.{links_at}
+use Rattle.cc_runs.proofs.LinkedList.Queue.{Enq, Told}
+use Rattle.cc_runs.proofs.ListRuns.View.{Duty, Regs, queue_from}
+use Rattle.cc_runs.proofs.ListRuns.Ties.{Ties, IsNextSend, IsNextTake, ties_same}
+use Rattle.cc_runs.proofs.ListRuns.SendTurn.{Caller}
+use Rattle.cc_runs.proofs.ListRuns.Facts.{lists, ChainFacts}
+use Rattle.cc_runs.proofs.ListRuns.Posts.{Well, Posts, Calls, all_get}
+use Rattle.cc_runs.proofs.ListRuns.Still.{StillSend, StillTake, still_send, still_take, in_send, plain_goes}
+use Rattle.cc_runs.proofs.ListRuns.Whole.{Parts, OnwardBy, Onward, quiet}
+use Rattle.cc_runs.proofs.ListRuns.ServeSend.{send_serves}
+use Rattle.cc_runs.proofs.ListRuns.ServeTake.{take_serves}
+use Rattle.cc_runs.proofs.ListRuns.EnterSend.{send_enters}
+use Rattle.cc_runs.proofs.ListRuns.EnterTake.{take_enters}
+
+-- ---- where a combiner goes on
+
+read_tag_still : (job : Job) → StillSend (place.Sending job sending.ReadTag)
+read_tag_still job = record { enq_is = λ e from. refl; serves = λ u. u; open_send = λ u. u; reads = λ c e from. tt }
+
+read_body_still : (job : Job) (tag : ℕ) → StillSend (place.Sending job (sending.ReadBody tag))
+read_body_still job tag = record { enq_is = λ e from. refl; serves = λ u. u; open_send = λ u. u; reads = λ c e from. tt }
+
+next_send_still : (round : Round) (found : ℕ) → StillSend (after_next served.List Send round found)
+next_send_still round zero = still_send (place.HandOver round.at) tt
+next_send_still round (suc n) = read_tag_still _
+
+next_take_still : (round : Round) (found : ℕ) → StillTake (after_next served.List Send round found)
+next_take_still round zero = still_take (place.HandOver round.at) tt
+next_take_still round (suc n) = in_send _ _
+
+-- ---- an exchange puts a call into the history
+
+get_more : {X : Type 0} (xs : List X) (x : X) (k : ℕ) (y : X) → slice_get xs k ≡ Some y → slice_get (xs ++ x ∷ []) k ≡ Some y
+get_more xs x k y is = get_front xs (x ∷ []) k y is
+
+e_call_ties : (c : Config) (h : Record) (e : Entry) (g : Told) → Ties c h g → Ties c (with_sends h (with_call h.sends e)) g
+e_call_ties c h e g t =
+    let same : accepted (with_sends h (with_call h.sends e)) ≡ accepted h = accepted_calls_more c 0 false h.sends.calls h.sends.answers (e ∷ []) t.lawful.sends in
+    ties_same c h (with_sends h (with_call h.sends e)) g t refl same refl (λ y. refl) (record {
+      sends = e_calls_more c 0 false h.sends.calls h.sends.answers (e ∷ []) t.lawful.sends;
+      takes = λ y. rw same (t.lawful.takes y);
+    })
+
+-- a history with a call of a group more
+abbrev called : Record → ℕ → Entry → Record
+called h y e = with_takes h y (with_call (of_group h y) e)
+
+module _ (c : Config) (h : Record) (y : ℕ) (e : Entry) (inside : y < length h.takes) where
+  -- what the calls of a side don't change
+  pub called_side : {X : Type 0} (look : Side → X) → look (with_call (of_group h y) e) ≡ look (of_group h y) → (x : ℕ) → look (of_group (called h y e) x) ≡ look (of_group h x)
+  called_side look same x = elim (cases_eq x y) [
+    | inl at ↦ subst (λ (z : ℕ). look (of_group (called h y e) z) ≡ look (of_group h z)) (sym at) (ap look (group_mine h y (with_call (of_group h y) e) inside) ∙ same)
+    | inr ne ↦ ap look (group_other h y x (with_call (of_group h y) e) ne)
+  ]
+
+  pub called_mine : (of_group (called h y e) y).calls ≡ (of_group h y).calls ++ e ∷ []
+  called_mine = ap (λ (s : Side). s.calls) (group_mine h y (with_call (of_group h y) e) inside)
+
+  pub called_others : (x : ℕ) → x ≢ y → (of_group (called h y e) x).calls ≡ (of_group h x).calls
+  called_others x ne = ap (λ (s : Side). s.calls) (group_other h y x (with_call (of_group h y) e) ne)
+
+  pub called_next : (x : ℕ) (a : Entry) → IsNextTake h x a → IsNextTake (called h y e) x a
+  called_next x a n = elim (cases_eq x y) [
+    | inl at ↦ subst (λ (z : ℕ). IsNextTake (called h y e) z a) (sym at)
+        (subst (λ (s : Side). slice_get s.calls (length s.answers) ≡ Some a) (sym (group_mine h y (with_call (of_group h y) e) inside)) (get_more (of_group h y).calls e (length (of_group h y).answers) a (subst (λ (z : ℕ). IsNextTake h z a) at n)))
+    | inr ne ↦ subst (λ (s : Side). slice_get s.calls (length s.answers) ≡ Some a) (sym (group_other h y x (with_call (of_group h y) e) ne)) n
+  ]
+
+  pub d_call_ties : (g : Told) → Ties c h g → Ties c (called h y e) g
+  d_call_ties g t = ties_same c h (called h y e) g t (length-set h.takes y _) refl refl (called_side (λ (s : Side). length (handed_by s.answers)) refl) (record {
+    sends = t.lawful.sends;
+    takes = λ x. elim (cases_eq x y) [
+      | inl at ↦ subst (λ (z : ℕ). DAnswers (accepted h) (is_shut h) 0 (of_group (called h y e) z).calls (of_group (called h y e) z).answers) (sym at)
+          (subst (λ (s : Side). DAnswers (accepted h) (is_shut h) 0 s.calls s.answers) (sym (group_mine h y (with_call (of_group h y) e) inside)) (d_calls_more (accepted h) (is_shut h) 0 (of_group h y).calls (of_group h y).answers (e ∷ []) (t.lawful.takes y)))
+      | inr ne ↦ subst (λ (s : Side). DAnswers (accepted h) (is_shut h) 0 s.calls s.answers) (sym (group_other h y x (with_call (of_group h y) e) ne)) (t.lawful.takes x)
+    ];
+  })
+
+-- ---- a step of a sender
+
+module _ (c : Config) (s : State) (p begun own : ℕ) (within : p < passes (lists c)) (k : Parts c s) (posts : Posts c s) (calls : Calls c s.history) where
+  e_callers : (e : Entry) → IsNextSend s.history e → Caller c e × (e.known ≤ handed_to_all s.history)
+  e_callers e is = (record { senders = all_get _ s.history.sends.calls (length s.history.sends.answers) e calls.senders is; small = all_get _ s.history.sends.calls (length s.history.sends.answers) e calls.small is }, all_get _ s.history.sends.calls (length s.history.sends.answers) e calls.e_known is)
+
+  d_callers : (y : ℕ) (e : Entry) → IsNextTake s.history y e → e.known ≤ entries s.history
+  d_callers y e is = all_get _ (of_group s.history y).calls (length (of_group s.history y).answers) e (calls.d_known y) is
+
+  abbrev stand_at : Place → Stand
+  stand_at at = record { begun = begun; node = own; place = at }
+
+  -- what the step finds
+  abbrev finds : Chain → Place → ℕ
+  finds x at = s.mem (word_of (operation (lists c) x own at))
+
+  -- at a place of the chain's own, which leads to one
+  chain_step : (x : Chain) (at : Place) → s.stand p ≡ stand_at at → (mem' : Word → ℕ) (now : Stand)
+      → StillSend at → StillTake at → StillSend now.place → StillTake now.place
+      → ((d : Duty) (e : Enq) (r : ℕ → Regs) → queue_from mem' d e r ≡ queue_from s.mem d e r)
+      → Onward c s k (record { mem = mem'; stand = hold s.stand p now; history = s.history })
+  chain_step x at stands mem' now a b e f words =
+      let same : at ≡ (s.stand p).place = ap (λ (z : Stand). z.place) (sym stands) in
+      quiet c s p now mem' s.history k (subst StillSend same a) (subst StillTake same b) e f words (λ e n. n) (λ y e n. n) (λ t. t)
+
+  pub send_step : (at : Place) → s.stand p ≡ stand_at at → Well s.history Send (Sender (p + 1)) begun at → ChainFacts (lists c) s → OnwardBy c s k (stepped_from (lists c) s Send p (stand_at at)) (links_at at)
+  send_step (place.Counting job service) stands w facts = absurd w
+  send_step (place.Taking job service) stands w facts = absurd w
+  send_step (place.Sending job sending.ReadTag) stands w facts =
+      chain_step Send _ stands _ _ (read_tag_still job) (in_send job _) (read_body_still job _) (in_send job _) (λ d e r. refl)
+  send_step (place.Sending job (sending.ReadBody tag)) stands w facts = send_enters c s p begun own job tag (ap (λ (z : Stand). z.place) stands) within facts posts.outside e_callers k
+  send_step (place.Sending job service) stands w facts = send_serves c s p begun own job service stands tt k
+  send_step (place.ReadNext round) stands w facts =
+      chain_step Send _ stands _ _ (still_send (place.ReadNext round) tt) (still_take (place.ReadNext round) tt) (next_send_still round _) (next_take_still round _) (λ d e r. refl)
+  send_step (place.Exchange e) stands w facts =
+      let same : place.Exchange e ≡ (s.stand p).place = ap (λ (z : Stand). z.place) (sym stands) in
+      quiet c s p _ _ (with_sends s.history (with_call s.history.sends e)) k (subst StillSend same (still_send (place.Exchange e) tt)) (subst StillTake same (still_take (place.Exchange e) tt))
+      (still_send (place.WriteTag own _) tt) (still_take (place.WriteTag own _) tt) (λ d e r. refl)
+      (λ a n. get_more s.history.sends.calls e (length s.history.sends.answers) a n) (λ y a n. n) (e_call_ties c s.history e k.told)
+  send_step (place.ResetNext e) stands w facts = chain_step Send _ stands _ _ (still_send (place.ResetNext e) tt) (still_take (place.ResetNext e) tt) (still_send (place.ResetState e) tt) (still_take (place.ResetState e) tt) (λ d e r. refl)
+  send_step (place.ResetState e) stands w facts = chain_step Send _ stands _ _ (still_send (place.ResetState e) tt) (still_take (place.ResetState e) tt) (still_send (place.Exchange e) tt) (still_take (place.Exchange e) tt) (λ d e r. refl)
+  send_step place.Idle stands w facts = chain_step Send _ stands _ _ (still_send place.Idle tt) (still_take place.Idle tt) (still_send place.Idle tt) (still_take place.Idle tt) (λ d e r. refl)
+  send_step at stands w facts = chain_step Send _ stands _ _ (still_send at tt) (still_take at tt) (plain_goes c Send own at (finds Send at) tt).still_send (plain_goes c Send own at (finds Send at) tt).still_take (λ d e r. refl)
+
+  -- ---- a step of a receiver of group y
+
+  module _ (y : ℕ) (chain : chain_of c p ≡ Take y) (inside : y < groups c) where
+    side_in : y < length s.history.takes
+    side_in = omega (arith, inside, k.ties.many)
+
+    -- at a place of the chain's own, which leads to one, with nothing for the history
+    quiet_step : (at : Place) → s.stand p ≡ stand_at at → (mem' : Word → ℕ) (now : Stand)
+        → StillSend at → StillTake at → StillSend now.place → StillTake now.place
+        → ((d : Duty) (e : Enq) (r : ℕ → Regs) → queue_from mem' d e r ≡ queue_from s.mem d e r)
+        → Onward c s k (record { mem = mem'; stand = hold s.stand p now; history = noted (Take y) s.history None None })
+    quiet_step at stands mem' now a b e f words =
+        subst (λ (h : Record). Onward c s k (record { mem = mem'; stand = hold s.stand p now; history = h })) (sym (noted_none (Take y) s.history)) (chain_step (Take y) at stands mem' now a b e f words)
+
+    next_step : (round : Round) → s.stand p ≡ stand_at (place.ReadNext round) → (found : ℕ)
+        → ChainFacts (lists c) (record { mem = s.mem; stand = hold s.stand p (stand_at (after_next served.List (Take y) round found)); history = noted (Take y) s.history None None })
+        → Onward c s k (record { mem = s.mem; stand = hold s.stand p (stand_at (after_next served.List (Take y) round found)); history = noted (Take y) s.history None None })
+    next_step round stands zero facts = quiet_step _ stands _ _ (still_send (place.ReadNext round) tt) (still_take (place.ReadNext round) tt) (still_send (place.HandOver round.at) tt) (still_take (place.HandOver round.at) tt) (λ d e r. refl)
+    next_step round stands (suc next) facts =
+        subst (λ (h : Record). Onward c s k (record { mem = s.mem; stand = hold s.stand p (stand_at (after_next served.List (Take y) round (suc next))); history = h })) (sym (noted_none (Take y) s.history))
+        (take_enters c s p begun own y chain inside round next (ap (λ (z : Stand). z.place) stands) within posts.outside (d_callers y) k
+        (subst (λ (h : Record). ChainFacts (lists c) (record { mem = s.mem; stand = hold s.stand p (stand_at (after_next served.List (Take y) round (suc next))); history = h })) (noted_none (Take y) s.history) facts))
+
+    pub take_step : (at : Place) → s.stand p ≡ stand_at at → Well s.history (Take y) (pass_at c p) begun at → ChainFacts (lists c) (stepped_from (lists c) s (Take y) p (stand_at at)) → OnwardBy c s k (stepped_from (lists c) s (Take y) p (stand_at at)) (links_at at)
+    take_step (place.Counting job service) stands w facts = absurd w
+    take_step (place.Sending job service) stands w facts = absurd cc
+    take_step (place.Taking job service) stands w facts = take_serves c s p begun own y chain inside job service stands k
+    take_step (place.ReadNext round) stands w facts = next_step round stands (finds (Take y) (place.ReadNext round)) facts
+    take_step (place.Exchange e) stands w facts =
+        let same : place.Exchange e ≡ (s.stand p).place = ap (λ (z : Stand). z.place) (sym stands) in
+        quiet c s p _ _ (called s.history y e) k (subst StillSend same (still_send (place.Exchange e) tt)) (subst StillTake same (still_take (place.Exchange e) tt))
+        (still_send (place.Link own) tt) (still_take (place.Link own) tt) (λ d e r. refl)
+        (λ a n. n) (called_next c s.history y e side_in) (d_call_ties c s.history y e side_in k.told)
+    take_step (place.ResetNext e) stands w facts = quiet_step _ stands _ _ (still_send (place.ResetNext e) tt) (still_take (place.ResetNext e) tt) (still_send (place.ResetState e) tt) (still_take (place.ResetState e) tt) (λ d e r. refl)
+    take_step (place.ResetState e) stands w facts = quiet_step _ stands _ _ (still_send (place.ResetState e) tt) (still_take (place.ResetState e) tt) (still_send (place.Exchange e) tt) (still_take (place.Exchange e) tt) (λ d e r. refl)
+    take_step place.Idle stands w facts = quiet_step _ stands _ _ (still_send place.Idle tt) (still_take place.Idle tt) (still_send place.Idle tt) (still_take place.Idle tt) (λ d e r. refl)
+    take_step at stands w facts = quiet_step _ stands _ _ (still_send at tt) (still_take at tt) (plain_goes c (Take y) own at (finds (Take y) at) tt).still_send (plain_goes c (Take y) own at (finds (Take y) at) tt).still_take (λ d e r. refl)

@@ -1,0 +1,183 @@
+-- Places at which a pass isn't in the service of the list, on the one side or on the other; and the steps between them.
+use Rattle.std.proofs.Common.{◌≡◌, ℕ, zero, suc, ◌+◌, ◌==◌, Bool, true, false, if◌then◌else◌, refl}
+use Rattle.cc_model.specs.Record.{Record}
+use Rattle.cc_model.specs.declared.config.Config.{Config}
+use Rattle.cc_model.specs.declared.call.Entry.{Entry}
+use Rattle.cc_model.specs.declared.call.Pass.{Pass}
+use Rattle.cc_model.specs.declared.call.Answer.{Answer}
+use Rattle.cc_model.specs.declared.call.Answer.TheVariants as answer
+use Rattle.cc_model.specs.declared.call.TakeAnswer.TheVariants as take
+use Rattle.cc_runs.specs.declared.setting.Served.TheVariants as served
+use Rattle.cc_runs.specs.declared.word.Chain.{Chain}
+use Rattle.cc_runs.specs.declared.word.Chain.TheVariants.{Send, Take}
+use Rattle.cc_runs.specs.declared.place.Job.{Job}
+use Rattle.cc_runs.specs.declared.place.Request.{Request}
+use Rattle.cc_runs.specs.declared.place.Place.{Place}
+use Rattle.cc_runs.specs.declared.place.Place.TheVariants as place
+use Rattle.cc_runs.specs.declared.place.Sending.{Sending}
+use Rattle.cc_runs.specs.declared.place.Sending.TheVariants as sending
+use Rattle.cc_runs.specs.declared.place.Taking.{Taking}
+use Rattle.cc_runs.specs.declared.place.Taking.TheVariants as taking
+use Rattle.cc_runs.specs.Words.{groups}
+use Rattle.cc_runs.specs.Codes.{code_of}
+use Rattle.cc_runs.specs.Columns.{goes, after_state, after_answer, after_done, after_ret}
+use Rattle.cc_runs.specs.SendColumns as send_side
+use Rattle.cc_runs.specs.TakeColumns as take_side
+use Rattle.cc_runs.proofs.ListRuns.View.{none, resting, enq_at, regs_at}
+use Rattle.cc_runs.proofs.ListRuns.Ties.{ReadsAt, IsServing, IsUndecidedAt, IsTaking}
+use Rattle.cc_runs.proofs.ListRuns.Facts.{lists}
+use Rattle.cc_runs.proofs.ListRuns.Posts.{Well, waits}
+
+-- no service of a send or a close is under way
+pub record StillSend (at : Place) : Type 0 where
+  pub enq_is : (e : Entry) (from : ℕ) → enq_at e from at ≡ resting e from
+  pub serves : IsServing at → ⊥
+  pub open_send : IsUndecidedAt at → ⊥
+  pub reads : (c : Config) (e : Entry) (from : ℕ) → ReadsAt c e from at
+
+-- no service of a take
+pub record StillTake (at : Place) : Type 0 where
+  pub regs_are : regs_at at ≡ none
+  pub takes : IsTaking at → ⊥
+
+-- neither, and no call that hasn't exchanged
+pub record Plain (at : Place) : Type 0 where
+  pub still_send : StillSend at
+  pub still_take : StillTake at
+  pub well : (h : Record) (x : Chain) (pass : Pass) (begun : ℕ) → Well h x pass begun at
+  pub waits_none : waits at ≡ 0
+
+if_plain : (b : Bool) (first second : Place) → Plain first → Plain second → Plain (if b then first else second)
+if_plain true first second y n = y
+if_plain false first second y n = n
+
+if_take : (b : Bool) (first second : Place) → StillTake first → StillTake second → StillTake (if b then first else second)
+if_take true first second y n = y
+if_take false first second y n = n
+
+-- ---- each place of the chain's own
+
+abbrev IsChain : Place → Type 0
+IsChain (place.Sending job service) = ⊥
+IsChain (place.Taking job service) = ⊥
+IsChain (place.Counting job service) = ⊥
+IsChain _ = Unit {0}
+
+pub still_send : (at : Place) → IsChain at → StillSend at
+still_send (place.Sending job service) never = absurd never
+still_send (place.Taking job service) never = absurd never
+still_send (place.Counting job service) never = absurd never
+still_send _ u = record { enq_is = λ e from. refl; serves = λ never. never; open_send = λ never. never; reads = λ c e from. tt }
+
+pub still_take : (at : Place) → IsChain at → StillTake at
+still_take (place.Sending job service) never = absurd never
+still_take (place.Taking job service) never = absurd never
+still_take (place.Counting job service) never = absurd never
+still_take _ u = record { regs_are = refl; takes = λ never. never }
+
+abbrev IsAfter : Place → Type 0
+IsAfter (place.ResetNext e) = ⊥
+IsAfter (place.ResetState e) = ⊥
+IsAfter (place.Exchange e) = ⊥
+IsAfter (place.Sending job service) = ⊥
+IsAfter (place.Taking job service) = ⊥
+IsAfter (place.Counting job service) = ⊥
+IsAfter _ = Unit {0}
+
+pub plain : (at : Place) → IsAfter at → Plain at
+plain (place.ResetNext e) never = absurd never
+plain (place.ResetState e) never = absurd never
+plain (place.Exchange e) never = absurd never
+plain (place.Sending job service) never = absurd never
+plain (place.Taking job service) never = absurd never
+plain (place.Counting job service) never = absurd never
+plain _ u = record {
+  still_send = record { enq_is = λ e from. refl; serves = λ never. never; open_send = λ never. never; reads = λ c e from. tt };
+  still_take = record { regs_are = refl; takes = λ never. never };
+  well = λ h x pass begun. tt;
+  waits_none = refl;
+}
+
+-- ---- where the chain's steps lead
+
+pub plain_state : (own found : ℕ) → Plain (after_state own found)
+plain_state own zero = plain (place.ReadNext record { at = own; served = 0 }) tt
+plain_state own (suc zero) = plain place.ReadState tt
+plain_state own (suc (suc n)) = plain place.ReadAnswer tt
+
+pub plain_answer : (job : Job) (told : Answer) → Plain (after_answer job told)
+plain_answer job (answer.Take (take.Got item)) = plain (place.WriteAnswerTag job item) tt
+plain_answer job _ = plain (place.MarkDone job) tt
+
+pub plain_done : (bound : ℕ) (job : Job) → Plain (after_done bound job)
+plain_done bound job = if_plain (job.round.served + 1 == bound) _ _ (plain (place.HandOver job.next) tt) (plain (place.ReadNext record { at = job.next; served = job.round.served + 1 }) tt)
+
+pub plain_ret : (x : Chain) (ret : ℕ) → Plain (after_ret served.List x ret)
+plain_ret Send ret = plain (place.Finished _) tt
+plain_ret (Take g) ret = if_plain (code_of ret == 1) _ _ (plain (place.ReadAnswerTag _) tt) (if_plain (code_of ret == 2) _ _ (plain (place.Finished _) tt) (plain (place.Finished _) tt))
+
+-- the steps of the chain after the link, but for the one that begins a service
+abbrev pub IsWaiting : Place → Type 0
+IsWaiting (place.ReadNext round) = ⊥
+IsWaiting place.Idle = ⊥
+IsWaiting at = IsAfter at
+
+pub plain_goes : (c : Config) (x : Chain) (own : ℕ) (at : Place) (found : ℕ) → IsWaiting at → Plain (goes (lists c) x own at found)
+plain_goes c x own (place.ReadNext round) found never = absurd never
+plain_goes c x own place.Idle found never = absurd never
+plain_goes c x own (place.ResetNext e) found never = absurd never
+plain_goes c x own (place.ResetState e) found never = absurd never
+plain_goes c x own (place.Exchange e) found never = absurd never
+plain_goes c x own (place.Sending job service) found never = absurd never
+plain_goes c x own (place.Taking job service) found never = absurd never
+plain_goes c x own (place.Counting job service) found never = absurd never
+plain_goes c x own (place.WriteTag put request) found u = plain (place.WriteBody put request.body) tt
+plain_goes c x own (place.WriteBody put body) found u = plain (place.Link put) tt
+plain_goes c x own (place.Link put) found u = plain place.ReadState tt
+plain_goes c x own place.ReadState found u = plain_state own found
+plain_goes c x own (place.WriteAnswer job told) found u = plain_answer job told
+plain_goes c x own (place.WriteAnswerTag job item) found u = plain (place.WriteAnswerBody job item.body) tt
+plain_goes c x own (place.WriteAnswerBody job body) found u = plain (place.MarkDone job) tt
+plain_goes c x own (place.MarkDone job) found u = plain_done c.bound job
+plain_goes c x own (place.HandOver at) found u = plain place.ReadAnswer tt
+plain_goes c x own place.ReadAnswer found u = plain_ret x found
+plain_goes c x own (place.ReadAnswerTag at) found u = plain (place.ReadAnswerBody at found) tt
+plain_goes c x own (place.ReadAnswerBody at tag) found u = plain (place.Finished _) tt
+plain_goes c x own (place.Finished told) found u = plain (place.Finished told) tt
+
+-- ---- where a service's steps lead
+
+pub in_send : (job : Job) (service : Sending) → StillTake (place.Sending job service)
+in_send job service = record { regs_are = refl; takes = λ never. never }
+
+pub in_take : (job : Job) (service : Taking) → StillSend (place.Taking job service)
+in_take job service = record { enq_is = λ e from. refl; serves = λ never. never; open_send = λ never. never; reads = λ c e from. tt }
+
+over_send : (job : Job) (told : Answer) → StillTake (place.WriteAnswer job told)
+over_send job told = still_take (place.WriteAnswer job told) tt
+
+over_take : (job : Job) (told : Answer) → StillSend (place.WriteAnswer job told)
+over_take job told = still_send (place.WriteAnswer job told) tt
+
+shut_still : (job : Job) (q : Request) (found : ℕ) → StillTake (send_side.after_shut job q found)
+shut_still job q zero = in_send job (sending.ReadCount q)
+shut_still job q (suc n) = if_take (q.tag == 0) _ _ (in_send job sending.ReadTotal) (over_send job _)
+
+pub send_still : (c : Config) (job : Job) (service : Sending) (found : ℕ) → StillTake (send_side.goes c job service found)
+send_still c job sending.ReadTag found = in_send job _
+send_still c job (sending.ReadShut q) found = shut_still job q found
+send_still c job (sending.ReadCount q) found = if_take (q.tag == 0) _ _ (in_send job _) (if_take (found == c.life) _ _ (over_send job _) (in_send job _))
+send_still c job (sending.ReadPassed parcel at reads) found = if_take (found == groups c) _ _ (in_send job _) (if_take (reads == c.capacity + 1) _ _ (over_send job _) (in_send job _))
+send_still c job sending.ReadTotal found = over_send job _
+send_still c job (sending.WriteShut total) found = over_send job _
+send_still c job (sending.WriteCursor count at) found = over_send job _
+send_still c job _ found = in_send job _
+
+pub take_still : (job : Job) (service : Taking) (found : ℕ) → StillSend (take_side.goes job service found)
+take_still job taking.ReadHead found = in_take job _
+take_still job (taking.ReadDummyNext dummy taken) zero = over_take job _
+take_still job (taking.ReadDummyNext dummy taken) (suc n) = in_take job _
+take_still job (taking.ReadItemTag dummy taken at) zero = over_take job _
+take_still job (taking.ReadItemTag dummy taken at) (suc n) = in_take job _
+take_still job (taking.AddPassed dummy parcel) found = over_take job _
+take_still job _ found = in_take job _

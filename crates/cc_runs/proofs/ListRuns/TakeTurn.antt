@@ -1,0 +1,236 @@
+-- A step of the service of a take of a group keeps the list's invariant, and decides a lawful answer.
+use Rattle.std.proofs.Common.{◌≡◌, ◌≢◌, inl, inr, ℕ, zero, suc, ◌+◌, ◌-◌, ◌<◌, ◌≤◌, [], ◌∷◌, length, Some, None, refl, sym, ap, ◌∙◌, subst, arith, length-append}
+use Rattle.std.proofs.lemmas.Bool.{cases_eq}
+use Rattle.std.proofs.lemmas.List.{length-set}
+use Rattle.std.specs.List.{slice_get}
+use Rattle.cc_model.specs.Record.{Record}
+use Rattle.cc_model.specs.Items.{accepted, is_shut, handed, handed_item}
+use Rattle.cc_model.specs.Legal.{DAnswer}
+use Rattle.cc_model.specs.declared.config.Config.{Config}
+use Rattle.cc_model.specs.declared.call.Answer.{Answer}
+use Rattle.cc_model.specs.declared.call.Answer.TheVariants as answer
+use Rattle.cc_model.specs.declared.call.TakeAnswer.TheVariants as take
+use Rattle.cc_runs.specs.declared.word.Chain.TheVariants.{Take}
+use Rattle.cc_runs.specs.declared.word.ItemField.TheVariants as item
+use Rattle.cc_runs.specs.declared.word.Object.TheVariants as object
+use Rattle.cc_runs.specs.declared.word.Word.{Word}
+use Rattle.cc_runs.specs.declared.word.Word.TheVariants.{Object, Item as ItemWord}
+use Rattle.cc_runs.specs.declared.place.Parcel.{Parcel}
+use Rattle.cc_runs.specs.declared.place.Job.{Job}
+use Rattle.cc_runs.specs.declared.place.Place.{Place}
+use Rattle.cc_runs.specs.declared.place.Place.TheVariants as place
+use Rattle.cc_runs.specs.declared.place.Taking.{Taking}
+use Rattle.cc_runs.specs.declared.place.Taking.TheVariants as taking
+use Rattle.cc_runs.specs.Words.{groups, put}
+use Rattle.cc_runs.specs.State.{noted, word_of, stored}
+use Rattle.cc_runs.specs.Codes.{item_of, item_in}
+use Rattle.cc_runs.specs.TakeColumns.{operation, goes, decides, after_next, after_tag}
+use Rattle.cc_runs.proofs.Chains.Facts.{noted_none}
+use Rattle.cc_runs.proofs.LinkedList.Queue.{Enq, Queue, Told}
+use Rattle.cc_runs.proofs.LinkedList.AddPassed.{Gives}
+use Rattle.cc_runs.proofs.LinkedList.DReads.{ReadsItem}
+use Rattle.cc_runs.proofs.LinkedList.Grow as grow
+use Rattle.cc_runs.proofs.LinkedList.Runs as runs
+use Rattle.cc_runs.proofs.LinkedList.Runs.{Next, Held}
+use Rattle.cc_runs.proofs.LinkedList.Decide as decide
+use Rattle.cc_runs.proofs.LinkedList.Limits as limits
+use Rattle.cc_runs.proofs.ListRuns.View.{Duty, Regs, none, regs_in, regs_at, queue_from}
+use Rattle.cc_runs.proofs.ListRuns.TakeSteps as steps
+use Rattle.cc_runs.proofs.ListRuns.Decided.{told_take, d_handed, d_others, d_decided}
+use Rattle.cc_runs.proofs.ListRuns.Ties.{Ties, further, IsTaking, IsNextTake, Linked, ties_same, shut_true}
+
+-- what such a step leads to, where the services' registers are these then
+pub record Turn (c : Config) (mem : Word → ℕ) (d : Duty) (e : Enq) (y : ℕ) (r : ℕ → Regs) (h : Record) (g : Told) (at : Place) : Type 0 where
+  pub told : Told
+  pub list : Held c.capacity c.life (further c) (queue_from mem d e r) told
+  pub least_up : g.least ≤ told.least
+  pub entries_up : g.accepted + g.shut ≤ told.accepted + told.shut
+  pub next_call : IsTaking at → IsNextTake h y (d.d_call y)
+  pub ties : Ties c h told
+  pub linked : Linked g told []
+
+-- a step of group y, whose service alone has other registers then
+module _ (c : Config) (mem : Word → ℕ) (d : Duty) (e : Enq) (h : Record) (g : Told) (ties : Ties c h g) (y : ℕ) (inside : y < groups c) (next : IsNextTake h y (d.d_call y)) (job : Job)
+    (r r' : ℕ → Regs) (same : (q : ℕ) → q ≢ y → r' q ≡ r q) (has : Held c.capacity c.life (further c) (queue_from mem d e r) g) where
+  below : y < further c + 1
+  below = omega (arith, inside, ties.some)
+
+  side_in : y < length h.takes
+  side_in = omega (arith, inside, ties.many)
+
+  abbrev Before : Queue
+  Before = queue_from mem d e r
+
+  abbrev After : (Word → ℕ) → Queue
+  After m = queue_from m d e r'
+
+  abbrev From : Taking → Type 0
+  From service = r y ≡ regs_in service
+
+  abbrev To : Taking → Type 0
+  To service = r' y ≡ regs_in service
+
+  abbrev Over : Type 0
+  Over = r' y ≡ none
+
+  stage_is : (service : Taking) → From service → (r y).stage ≡ (regs_in service).stage
+  stage_is service a = ap (λ (z : Regs). z.stage) a
+
+  -- on in the service, with no ghost moved
+  on : (m : Word → ℕ) (there : Taking) → Next c.capacity c.life (further c) Before g (After m) g → Turn c m d e y r' (noted (Take y) h None None) g (place.Taking job there)
+  on m there to = subst (λ (z : Record). Turn c m d e y r' z g (place.Taking job there)) (sym (noted_none (Take y) h)) (record {
+    told = g;
+    list = runs.next_keeps c.capacity c.life (further c) _ _ _ has to;
+    least_up = omega arith;
+    entries_up = omega arith;
+    next_call = λ u. next;
+    ties = ties;
+    linked = (refl, λ j l. refl);
+  })
+
+  -- an answer that hands nothing out
+  answered : (told : Answer) → Next c.capacity c.life (further c) Before g (After mem) g
+      → handed_item told ≡ [] → DAnswer (accepted h) (is_shut h) (length (handed h y)) (d.d_call y).known told → Turn c mem d e y r' (told_take h y told) g (place.WriteAnswer job told)
+  answered told to none_handed fits = record {
+    told = g;
+    list = runs.next_keeps c.capacity c.life (further c) _ _ _ has to;
+    least_up = omega arith;
+    entries_up = omega arith;
+    next_call = λ no. absurd no;
+    ties = ties_same c h (told_take h y told) g ties (length-set h.takes y _) refl refl all_same (d_decided c h ties.lawful y side_in (d.d_call y) told next fits);
+    linked = (refl, λ j l. refl);
+  }
+    where
+      no_more : length (handed_item told) ≡ 0 → length (handed h y) + length (handed_item told) ≡ length (handed h y)
+      no_more z = omega (arith, z)
+
+      mine : length (handed (told_take h y told) y) ≡ length (handed h y)
+      mine = ap length (d_handed c h ties.lawful y side_in (d.d_call y) told next) ∙ length-append (handed h y) (handed_item told) ∙ no_more (ap length none_handed)
+
+      all_same : (x : ℕ) → length (handed (told_take h y told) x) ≡ length (handed h x)
+      all_same x = elim (cases_eq x y) [
+        | inl is ↦ subst (λ (z : ℕ). length (handed (told_take h y told) z) ≡ length (handed h z)) (sym is) mine
+        | inr ne ↦ ap length (d_others c h ties.lawful y side_in (d.d_call y) told next x ne)
+      ]
+
+  read_head : From taking.ReadHead → To (taking.ReadTaken (mem (Object (object.Head y)) - 1)) → Turn c mem d e y r' (noted (Take y) h None None) g (place.Taking job (taking.ReadTaken (mem (Object (object.Head y)) - 1)))
+  read_head a b =
+      let link : (0 < mem (Object (object.Head y))) × (mem (Object (object.Head y)) ≤ c.capacity + 1) = limits.head_link c.capacity c.life (further c + 1) Before g has.inv y below (stage_is taking.ReadHead a) in
+      on mem (taking.ReadTaken (mem (Object (object.Head y)) - 1)) (Next.d_head y below (steps.read_head mem d e y r r' same a b link.0))
+
+  read_next : (dummy taken found : ℕ) → mem (ItemWord dummy item.Next) ≡ found → From (taking.ReadDummyNext dummy taken) → r' y ≡ regs_at (after_next job dummy taken found)
+      → Turn c mem d e y r' (noted (Take y) h None (decides (taking.ReadDummyNext dummy taken) found)) g (after_next job dummy taken found)
+  read_next dummy taken zero is a b =
+      let null : mem (ItemWord (r y).dummy item.Next) ≡ 0 = ap (λ (z : Regs). mem (ItemWord z.dummy item.Next)) a ∙ is in
+      let known : (d.d_call y).known ≤ g.handed y = decide.empty c.capacity c.life (further c + 1) Before g has.inv y below (stage_is (taking.ReadDummyNext dummy taken) a) null in
+      answered (answer.Take take.Empty) (Next.d_null y below (steps.read_null mem d e y r r' same dummy taken a b is)) refl (omega (arith, known, ties.handed_is y))
+  read_next dummy taken (suc at) is a b = on mem (taking.ReadItemTag dummy taken at) (Next.d_next y below (steps.read_link mem d e y r r' same dummy taken at a b is))
+
+  read_tag : (dummy taken at found : ℕ) → mem (ItemWord at item.Tag) ≡ found → From (taking.ReadItemTag dummy taken at) → r' y ≡ regs_at (after_tag job dummy taken at found)
+      → Turn c mem d e y r' (noted (Take y) h None (decides (taking.ReadItemTag dummy taken at) found)) g (after_tag job dummy taken at found)
+  read_tag dummy taken at zero is a b =
+      let zero_is : (x : ℕ) → x + 1 ≡ (r y).after → mem (ItemWord x item.Tag) ≡ 0 = λ x same. let here = ap (λ (z : Regs). z.after) a in ap (λ (k : ℕ). mem (ItemWord k item.Tag)) (omega (arith, same, here)) ∙ is in
+      let seen : (r y).seen ≡ taken = ap (λ (z : Regs). z.seen) a in
+      let known : ((r y).seen ≡ g.accepted) × (g.handed y ≡ g.accepted) × (g.shut ≡ 1) = decide.ended c.capacity c.life (further c + 1) Before g has.inv y below (stage_is (taking.ReadItemTag dummy taken at) a) zero_is in
+      answered (answer.Take (take.Ended taken)) (Next.d_mark y below (steps.read_mark mem d e y r r' same dummy taken at a b is)) refl
+      (shut_true (is_shut h) (sym ties.shut_is ∙ known.2), sym seen ∙ known.0 ∙ sym known.1 ∙ ties.handed_is y, sym (ties.handed_is y) ∙ known.1 ∙ ties.accepted_is)
+  read_tag dummy taken at (suc tag) is a b =
+      on mem (taking.ReadItemBody dummy taken at (suc tag))
+      (Next.d_item y below (subst (λ (t : ℕ → ℕ). ReadsItem t Before (After mem) y) (sym ties.tells_is) (steps.read_tag mem d e y r r' same dummy taken at tag a b is)))
+
+  read_body : (dummy taken at tag : ℕ) → From (taking.ReadItemBody dummy taken at tag) → To (taking.WriteHead dummy at record { place = taken; tag = tag; body = mem (ItemWord at item.Body) })
+      → Turn c mem d e y r' (noted (Take y) h None None) g (place.Taking job (taking.WriteHead dummy at record { place = taken; tag = tag; body = mem (ItemWord at item.Body) }))
+  read_body dummy taken at tag a b =
+      on mem (taking.WriteHead dummy at record { place = taken; tag = tag; body = mem (ItemWord at item.Body) })
+      (Next.d_item y below (subst (λ (t : ℕ → ℕ). ReadsItem t Before (After mem) y) (sym ties.tells_is) (steps.read_body mem d e y r r' same dummy taken at tag a b)))
+
+  -- ---- the add to passed of the old dummy
+
+  module _ (dummy : ℕ) (parcel : Parcel) (from : From (taking.AddPassed dummy parcel)) (to : Over) where
+    abbrev a : Answer
+    a = answer.Take (take.Got (item_in parcel))
+
+    abbrev told : Told
+    told = grow.giving (further c) g y
+
+    u : Gives (further c + 1) g told y
+    u = grow.gives (further c) g y below has.counted
+
+    stage : (r y).stage ≡ 7
+    stage = stage_is (taking.AddPassed dummy parcel) from
+
+    more : g.handed y < g.accepted
+    more = decide.got_more c.capacity c.life (further c + 1) Before g has.inv y below stage
+
+    place_is : parcel.place ≡ g.handed y
+    place_is = sym (ap (λ (z : Regs). z.seen) from) ∙ decide.got_place c.capacity c.life (further c + 1) Before g has.inv y below stage
+
+    long_is : 2 ≡ g.long (g.handed y)
+    long_is = sym (ap (λ (z : Regs). z.got) from) ∙ decide.got_long c.capacity c.life (further c + 1) Before g has.inv y below stage
+
+    tag_is : parcel.tag ≡ g.items (g.handed y) 0
+    tag_is = sym (ap (λ (z : Regs). z.word 0) from) ∙ decide.got_word c.capacity c.life (further c + 1) Before g has.inv y below stage 0 (omega (arith, long_is))
+
+    body_is : parcel.body ≡ g.items (g.handed y) 1
+    body_is = sym (ap (λ (z : Regs). z.word 1) from) ∙ decide.got_word c.capacity c.life (further c + 1) Before g has.inv y below stage 1 (omega (arith, long_is))
+
+    item_is : slice_get (accepted h) (length (handed h y)) ≡ Some (item_in parcel)
+    item_is =
+        ap (λ (k : ℕ). slice_get (accepted h) k) (sym (ties.handed_is y))
+        ∙ ties.items_are (g.handed y) more
+        ∙ ap (λ (k : ℕ). Some (item_of k (g.items (g.handed y) 0) (g.items (g.handed y) 1))) (sym place_is)
+        ∙ ap (λ (w : ℕ). Some (item_of parcel.place w (g.items (g.handed y) 1))) (sym tag_is)
+        ∙ ap (λ (w : ℕ). Some (item_of parcel.place parcel.tag w)) (sym body_is)
+
+    step : Next c.capacity c.life (further c) Before g (After (put mem (ItemWord dummy item.Passed) (mem (ItemWord dummy item.Passed) + 1))) told
+    step = Next.d_passed y below (steps.add_passed mem d e y r r' same dummy parcel from to)
+
+    up : (g.least ≤ told.least) × (g.accepted + g.shut ≤ told.accepted + told.shut)
+    up = runs.next_grows c.capacity c.life (further c) _ _ _ has step
+
+    mine : told.handed y ≡ length (handed (told_take h y a) y)
+    mine = omega (arith, u.handed_now, ties.handed_is y, ap length (d_handed c h ties.lawful y side_in (d.d_call y) a next), length-append (handed h y) (item_in parcel ∷ []))
+
+    all_handed : (x : ℕ) → told.handed x ≡ length (handed (told_take h y a) x)
+    all_handed x = elim (cases_eq x y) [
+      | inl is ↦ subst (λ (z : ℕ). told.handed z ≡ length (handed (told_take h y a) z)) (sym is) mine
+      | inr ne ↦ u.handed x ne ∙ ties.handed_is x ∙ sym (ap length (d_others c h ties.lawful y side_in (d.d_call y) a next x ne))
+    ]
+
+    add_passed : Turn c (put mem (ItemWord dummy item.Passed) (mem (ItemWord dummy item.Passed) + 1)) d e y r' (told_take h y a) g (place.WriteAnswer job a)
+    add_passed = record {
+      told = told;
+      list = runs.next_keeps c.capacity c.life (further c) _ _ _ has step;
+      least_up = up.0;
+      entries_up = up.1;
+      next_call = λ no. absurd no;
+      ties = record {
+        some = ties.some;
+        many = length-set h.takes y _ ∙ ties.many;
+        accepted_is = u.log.accepted ∙ ties.accepted_is;
+        handed_is = all_handed;
+        shut_is = u.log.shut ∙ ties.shut_is;
+        tells_is = grow.giving_tells (further c) g y ∙ ties.tells_is;
+        items_are = λ k l. rw (u.log.items k 0, u.log.items k 1) (ties.items_are k (omega (arith, l, u.log.accepted)));
+        lawful = d_decided c h ties.lawful y side_in (d.d_call y) a next (item_is, place_is ∙ ties.handed_is y);
+      };
+      linked = (u.log.accepted, λ j l. u.log.node j);
+    }
+
+  -- ---- the whole service
+
+  pub take_turn : (service : Taking) (found : ℕ) → mem (word_of (operation y service)) ≡ found → From service → r' y ≡ regs_at (goes job service found)
+      → Turn c (stored mem (operation y service)) d e y r' (noted (Take y) h None (decides service found)) g (goes job service found)
+  take_turn taking.ReadHead found is a b =
+      subst (λ (k : ℕ). Turn c mem d e y r' (noted (Take y) h None None) g (place.Taking job (taking.ReadTaken (k - 1)))) is (read_head a (b ∙ sym (ap (λ (k : ℕ). regs_in (taking.ReadTaken (k - 1))) is)))
+  take_turn (taking.ReadTaken dummy) found is a b =
+      subst (λ (k : ℕ). Turn c mem d e y r' (noted (Take y) h None None) g (place.Taking job (taking.ReadDummyNext dummy k))) is
+      (on mem (taking.ReadDummyNext dummy (mem (Object (object.Taken y)))) (Next.d_taken y below (steps.read_taken mem d e y r r' same dummy a (b ∙ sym (ap (λ (k : ℕ). regs_in (taking.ReadDummyNext dummy k)) is)))))
+  take_turn (taking.ReadDummyNext dummy taken) found is a b = read_next dummy taken found is a b
+  take_turn (taking.ReadItemTag dummy taken at) found is a b = read_tag dummy taken at found is a b
+  take_turn (taking.ReadItemBody dummy taken at tag) found is a b =
+      subst (λ (k : ℕ). Turn c mem d e y r' (noted (Take y) h None None) g (place.Taking job (taking.WriteHead dummy at record { place = taken; tag = tag; body = k }))) is
+      (read_body dummy taken at tag a (b ∙ sym (ap (λ (k : ℕ). regs_in (taking.WriteHead dummy at record { place = taken; tag = tag; body = k })) is)))
+  take_turn (taking.WriteHead dummy at parcel) found is a b = on _ (taking.WriteTaken dummy parcel) (Next.d_head_w y below (steps.write_head mem d e y r r' same dummy at parcel a b))
+  take_turn (taking.WriteTaken dummy parcel) found is a b = on _ (taking.AddPassed dummy parcel) (Next.d_taken_w y below (steps.write_taken mem d e y r r' same dummy parcel a b))
+  take_turn (taking.AddPassed dummy parcel) found is a b = add_passed dummy parcel a b

@@ -1,0 +1,127 @@
+-- How the list's ghosts, and what the services have read, are tied to the history.
+use Rattle.std.proofs.Common.{◌≡◌, ℕ, ◌+◌, ◌-◌, ◌<◌, ◌≤◌, List, [], ◌∷◌, length, Bool, true, false, if◌then◌else◌, Some, refl, sym, ap, ◌∙◌, arith}
+use Rattle.std.specs.List.{slice_get}
+use Rattle.cc_model.specs.Record.{Record, of_group}
+use Rattle.cc_model.specs.Items.{accepted, is_shut, handed}
+use Rattle.cc_model.specs.declared.config.Config.{Config}
+use Rattle.cc_model.specs.declared.call.Entry.{Entry}
+use Rattle.cc_runs.specs.declared.place.Place.{Place}
+use Rattle.cc_runs.specs.declared.place.Place.TheVariants as place
+use Rattle.cc_runs.specs.declared.place.Sending.{Sending}
+use Rattle.cc_runs.specs.declared.place.Sending.TheVariants as sending
+use Rattle.cc_runs.specs.Words.{groups}
+use Rattle.cc_runs.specs.Codes.{item_of, request_in}
+use Rattle.cc_runs.proofs.LinkedList.Queue.{Told}
+use Rattle.cc_runs.proofs.ListRuns.Decided.{Lawful}
+
+-- 1 where the list is shut
+abbrev pub shut_number : Bool → ℕ
+shut_number b = if b then 1 else 0
+
+-- the sides of the list beside the first: one for each group
+abbrev pub further : Config → ℕ
+further c = groups c - 1
+
+-- the ghosts are those of the history, which has a side for each group and whose answers are lawful; each item has two words
+pub record Ties (c : Config) (h : Record) (g : Told) : Type 0 where
+  pub some : 0 < groups c
+  pub many : length h.takes ≡ groups c
+  pub accepted_is : g.accepted ≡ length (accepted h)
+  pub handed_is : (y : ℕ) → g.handed y ≡ length (handed h y)
+  pub shut_is : g.shut ≡ shut_number (is_shut h)
+  pub tells_is : g.tells ≡ (λ (a : ℕ). 2)
+  pub items_are : (k : ℕ) → k < g.accepted → slice_get (accepted h) k ≡ Some (item_of k (g.items k 0) (g.items k 1))
+  pub lawful : Lawful c h
+
+-- the words that were read are those of the request that is served
+pub record Asked (e : Entry) (tag body : ℕ) : Type 0 where
+  pub tag_is : tag ≡ (request_in e).tag
+  pub body_is : body ≡ (request_in e).body
+
+-- the reads-th node of the scan, round the end, is at
+pub record Scanned (c : Config) (from at reads : ℕ) : Type 0 where
+  pub some : 1 ≤ reads
+  pub most : reads ≤ c.capacity + 1
+  pub within : at ≤ c.capacity
+  pub past : from + (reads - 1) ≤ c.capacity → at ≡ from + (reads - 1)
+  pub round : c.capacity < from + (reads - 1) → at + c.capacity + 1 ≡ from + (reads - 1)
+
+-- what the service of the send side holds
+abbrev pub Reads : Config → Entry → ℕ → Sending → Type 0
+Reads c e from (sending.ReadShut q) = Asked e q.tag q.body
+Reads c e from (sending.ReadCount q) = Asked e q.tag q.body
+Reads c e from (sending.ReadCursor parcel) = Asked e parcel.tag parcel.body
+Reads c e from (sending.ReadPassed parcel at reads) = Asked e parcel.tag parcel.body × Scanned c from at reads
+Reads c e from (sending.ResetPassed parcel at) = Asked e parcel.tag parcel.body
+Reads c e from (sending.ResetItemNext parcel at) = Asked e parcel.tag parcel.body
+Reads c e from (sending.WriteItemTag parcel at) = Asked e parcel.tag parcel.body
+Reads c e from (sending.WriteItemBody count body at) = body ≡ (request_in e).body
+Reads c e from _ = Unit {0}
+
+abbrev pub ReadsAt : Config → Entry → ℕ → Place → Type 0
+ReadsAt c e from (place.Sending job service) = Reads c e from service
+ReadsAt c e from _ = Unit {0}
+
+-- the service has read its request, and its answer isn't decided
+abbrev pub IsUndecided : Sending → Type 0
+IsUndecided sending.ReadTag = ⊥
+IsUndecided (sending.ReadBody tag) = ⊥
+IsUndecided (sending.WriteLast count at) = ⊥
+IsUndecided (sending.WriteCount count at) = ⊥
+IsUndecided (sending.WriteCursor count at) = ⊥
+IsUndecided (sending.WriteLastMark total) = ⊥
+IsUndecided (sending.WriteShut total) = ⊥
+IsUndecided _ = Unit {0}
+
+-- the service has read its request
+abbrev pub IsBegun : Sending → Type 0
+IsBegun sending.ReadTag = ⊥
+IsBegun (sending.ReadBody tag) = ⊥
+IsBegun _ = Unit {0}
+
+abbrev pub IsServing : Place → Type 0
+IsServing (place.Sending job service) = IsBegun service
+IsServing _ = ⊥
+
+abbrev pub IsUndecidedAt : Place → Type 0
+IsUndecidedAt (place.Sending job service) = IsUndecided service
+IsUndecidedAt _ = ⊥
+
+-- a take is in service
+abbrev pub IsTaking : Place → Type 0
+IsTaking (place.Taking job service) = Unit {0}
+IsTaking _ = ⊥
+
+-- the call that is served is the first one without an answer
+abbrev pub IsNextSend : Record → Entry → Type 0
+IsNextSend h e = slice_get h.sends.calls (length h.sends.answers) ≡ Some e
+
+abbrev pub IsNextTake : Record → (group : ℕ) → Entry → Type 0
+IsNextTake h y e = slice_get (of_group h y).calls (length (of_group h y).answers) ≡ Some e
+
+-- the nodes of the places so far stay, and these nodes were linked behind them
+abbrev pub Linked : Told → Told → List ℕ → Type 0
+Linked g g' [] = (g'.accepted ≡ g.accepted) × ((j : ℕ) → j ≤ g.accepted → g'.node j ≡ g.node j)
+Linked g g' (x ∷ rest) = (rest ≡ []) × (g'.accepted ≡ g.accepted + 1) × (g'.node (g.accepted + 1) ≡ x) × ((j : ℕ) → j ≤ g.accepted → g'.node j ≡ g.node j)
+
+-- ---- ties of a history that accepted and handed out the same
+
+pub ties_same : (c : Config) (h later : Record) (g : Told) → Ties c h g → length later.takes ≡ length h.takes → accepted later ≡ accepted h → is_shut later ≡ is_shut h → ((y : ℕ) → length (handed later y) ≡ length (handed h y)) → Lawful c later → Ties c later g
+ties_same c h later g t n a s d lawful = record {
+  some = t.some;
+  many = n ∙ t.many;
+  accepted_is = t.accepted_is ∙ ap length (sym a);
+  handed_is = λ y. t.handed_is y ∙ sym (d y);
+  shut_is = t.shut_is ∙ ap shut_number (sym s);
+  tells_is = t.tells_is;
+  items_are = λ k l. rw a (t.items_are k l);
+  lawful = lawful;
+}
+
+pub shut_true : (b : Bool) → shut_number b ≡ 1 → b ≡ true
+shut_true true e = refl
+shut_true false e = absurd (omega (arith, e))
+
+pub shut_false : (b : Bool) → shut_number b ≡ 0 → b ≡ false
+shut_false true e = absurd (omega (arith, e))
+shut_false false e = refl

@@ -1,0 +1,210 @@
+-- A state of the machine as the list between the chains.
+use Rattle.std.proofs.Common.{◌≡◌, ◌≢◌, ℕ, zero, suc, ◌+◌, ◌-◌, ◌==◌, Bool, true, false, cond, refl, sym, ap, ◌∙◌, subst}
+use Rattle.std.proofs.lemmas.Bool.{eq-eqb, ne_eqb, eqb-true, eqb-false}
+use Rattle.cc_model.specs.declared.call.Entry.{Entry}
+use Rattle.cc_runs.specs.declared.word.ItemField.{ItemField}
+use Rattle.cc_runs.specs.declared.word.ItemField.TheVariants as item
+use Rattle.cc_runs.specs.declared.word.Object.{Object as Obj}
+use Rattle.cc_runs.specs.declared.word.Object.TheVariants as object
+use Rattle.cc_runs.specs.declared.word.Word.{Word}
+use Rattle.cc_runs.specs.declared.word.Word.TheVariants.{Object, Item}
+use Rattle.cc_runs.specs.declared.place.Place.{Place}
+use Rattle.cc_runs.specs.declared.place.Place.TheVariants as place
+use Rattle.cc_runs.specs.declared.place.Sending.{Sending}
+use Rattle.cc_runs.specs.declared.place.Sending.TheVariants as sending
+use Rattle.cc_runs.specs.declared.place.Taking.{Taking}
+use Rattle.cc_runs.specs.declared.place.Taking.TheVariants as taking
+use Rattle.cc_runs.specs.declared.place.Stand.{Stand}
+use Rattle.cc_runs.specs.Words.{put, object_number}
+use Rattle.cc_runs.specs.State.{State, hold}
+use Rattle.cc_runs.specs.Codes.{request_in}
+use Rattle.cc_runs.proofs.LinkedList.Queue.{Enq, Side, Queue}
+
+-- What no word and no place holds of the two services: which pass served last on each side, the call that it serves or
+-- served last, and where the scan for a free node began; the takes' by the group
+pub record Duty : Type 0 where
+  pub e_pass : ℕ
+  pub e_call : Entry
+  pub from : ℕ
+  pub d_pass : ℕ → ℕ
+  pub d_call : ℕ → Entry
+
+-- another value for one group
+abbrev pub with_group : {X : Type 0} → (ℕ → X) → ℕ → X → ℕ → X
+with_group f y now x = cond (x == y) now (f x)
+
+-- a list of two words
+abbrev pub two : ℕ → ℕ → ℕ → ℕ
+two a b zero = a
+two a b (suc zero) = b
+two a b (suc (suc _)) = 0
+
+-- the words of the request that is served
+abbrev pub asks_of : Entry → ℕ → ℕ
+asks_of e = two (request_in e).tag (request_in e).body
+
+-- the service of the send side where nobody serves
+abbrev pub resting : Entry → ℕ → Enq
+resting e from = record { stage = 0; asks = asks_of e; asks_long = 2; known = e.known; seen = 0; cursor = from; tried = 0; found = 0; wrote = 0; last = 0 }
+
+-- and at a step of the service of this call, whose scan began so
+abbrev pub enq_in : Entry → ℕ → Sending → Enq
+enq_in e from sending.ReadTag = resting e from
+enq_in e from (sending.ReadBody tag) = resting e from
+enq_in e from (sending.ReadShut request) = record (resting e from) { stage = 1 }
+enq_in e from sending.ReadTotal = record (resting e from) { stage = 2 }
+enq_in e from (sending.ReadCount request) = record (resting e from) { stage = 3 }
+enq_in e from (sending.ReadCursor parcel) = record (resting e from) { stage = 4; seen = parcel.place }
+enq_in e from (sending.ReadPassed parcel at reads) = record (resting e from) { stage = 5; seen = parcel.place; tried = reads - 1 }
+enq_in e from (sending.ResetPassed parcel at) = record (resting e from) { stage = 6; seen = parcel.place; found = at }
+enq_in e from (sending.ResetItemNext parcel at) = record (resting e from) { stage = 7; seen = parcel.place; found = at }
+enq_in e from (sending.WriteItemTag parcel at) = record (resting e from) { stage = 8; seen = parcel.place; found = at }
+enq_in e from (sending.WriteItemBody count body at) = record (resting e from) { stage = 8; seen = count; found = at; wrote = 1 }
+enq_in e from (sending.ReadLast count at) = record (resting e from) { stage = 9; seen = count; found = at; wrote = 2 }
+enq_in e from (sending.LinkItem count at last) = record (resting e from) { stage = 10; seen = count; found = at; wrote = 2; last = last + 1 }
+enq_in e from (sending.WriteLast count at) = record (resting e from) { stage = 11; seen = count; found = at }
+enq_in e from (sending.WriteCount count at) = record (resting e from) { stage = 12; seen = count; found = at }
+enq_in e from (sending.WriteCursor count at) = record (resting e from) { stage = 13; seen = count; found = at }
+enq_in e from (sending.ReadLastToClose total) = record (resting e from) { stage = 14; seen = total }
+enq_in e from (sending.LinkMark total last) = record (resting e from) { stage = 15; seen = total; last = last + 1 }
+enq_in e from (sending.WriteLastMark total) = record (resting e from) { stage = 16; seen = total }
+enq_in e from (sending.WriteShut total) = record (resting e from) { stage = 17; seen = total }
+
+abbrev pub enq_at : Entry → ℕ → Place → Enq
+enq_at e from (place.Sending job service) = enq_in e from service
+enq_at e from _ = resting e from
+
+-- the registers of the service of a take
+pub record Regs : Type 0 where
+  pub stage : ℕ
+  pub dummy : ℕ
+  pub seen : ℕ
+  pub after : ℕ
+  pub got : ℕ
+  pub word : ℕ → ℕ
+
+abbrev pub none : Regs
+none = record { stage = 0; dummy = 0; seen = 0; after = 0; got = 0; word = two 0 0 }
+
+abbrev pub regs_in : Taking → Regs
+regs_in taking.ReadHead = record none { stage = 1 }
+regs_in (taking.ReadTaken dummy) = record none { stage = 2; dummy = dummy }
+regs_in (taking.ReadDummyNext dummy taken) = record none { stage = 3; dummy = dummy; seen = taken }
+regs_in (taking.ReadItemTag dummy taken at) = record none { stage = 4; dummy = dummy; seen = taken; after = at + 1 }
+regs_in (taking.ReadItemBody dummy taken at tag) = record { stage = 4; dummy = dummy; seen = taken; after = at + 1; got = 1; word = two tag 0 }
+regs_in (taking.WriteHead dummy at parcel) = record { stage = 5; dummy = dummy; seen = parcel.place; after = at + 1; got = 2; word = two parcel.tag parcel.body }
+regs_in (taking.WriteTaken dummy parcel) = record { stage = 6; dummy = dummy; seen = parcel.place; after = 0; got = 2; word = two parcel.tag parcel.body }
+regs_in (taking.AddPassed dummy parcel) = record { stage = 7; dummy = dummy; seen = parcel.place; after = 0; got = 2; word = two parcel.tag parcel.body }
+
+abbrev pub regs_at : Place → Regs
+regs_at (place.Taking job service) = regs_in service
+regs_at _ = none
+
+abbrev pub side_from : (head taken : ℕ) → Entry → Regs → Side
+side_from head taken call r = record {
+  head = head;
+  taken = taken;
+  stage = r.stage;
+  known = call.known;
+  dummy = r.dummy;
+  seen = r.seen;
+  after = r.after;
+  got = r.got;
+  word = r.word;
+}
+
+abbrev pub item_word : (Word → ℕ) → ℕ → ℕ → ℕ
+item_word mem x = two (mem (Item x item.Tag)) (mem (Item x item.Body))
+
+-- of the words, the calls that the groups serve, and the registers of all services
+abbrev pub queue_from : (Word → ℕ) → Duty → Enq → (ℕ → Regs) → Queue
+queue_from mem d e r = record {
+  last = mem (Object object.Last);
+  shut = mem (Object object.Shut);
+  count = mem (Object object.Count);
+  cursor = mem (Object object.Cursor);
+  next = λ x. mem (Item x item.Next);
+  passed = λ x. mem (Item x item.Passed);
+  word = λ x. item_word mem x;
+  enq = e;
+  side = λ y. side_from (mem (Object (object.Head y))) (mem (Object (object.Taken y))) (d.d_call y) (r y);
+}
+
+-- the registers of the groups' services where the passes stand so
+abbrev pub regs_of : (ℕ → Stand) → Duty → ℕ → Regs
+regs_of stands d y = regs_at (stands (d.d_pass y)).place
+
+abbrev pub queue_of : State → Duty → Queue
+queue_of s d = queue_from s.mem d (enq_at d.e_call d.from (s.stand d.e_pass).place) (regs_of s.stand d)
+
+-- ---- one group's value
+
+pub group_here : {X : Type 0} (f : ℕ → X) (y : ℕ) (now : X) → with_group f y now y ≡ now
+group_here f y now = ap (λ (b : Bool). cond b now (f y)) (eq-eqb y y refl)
+
+pub group_away : {X : Type 0} (f : ℕ → X) (y : ℕ) (now : X) (x : ℕ) → x ≢ y → with_group f y now x ≡ f x
+group_away f y now x ne = ap (λ (b : Bool). cond b now (f x)) (ne_eqb x y ne)
+
+-- what holds of that group's value and of the others' holds of all
+pub group_all : {X : Type 0} (P : ℕ → X → Type 0) (f : ℕ → X) (y : ℕ) (now : X) → P y now → ((x : ℕ) → x ≢ y → P x (f x)) → (x : ℕ) → P x (with_group f y now x)
+group_all {X} P f y now here others x = by_case (x == y) refl
+  where
+    by_case : (b : Bool) → (x == y) ≡ b → P x (cond b now (f x))
+    by_case true same = subst (λ (k : ℕ). P k now) (sym (eqb-true x y same)) here
+    by_case false other = others x (eqb-false x y other)
+
+-- ---- a store to a word of a list node
+
+same_number : (x : ℕ) → (x == x) ≡ true
+same_number x = eq-eqb x x refl
+
+other_number : (x y : ℕ) → x ≢ y → (x == y) ≡ false
+other_number x y ne = by_case (x == y) refl
+  where
+    by_case : (b : Bool) → (x == y) ≡ b → b ≡ false
+    by_case true e = absurd (ne (eqb-true x y e))
+    by_case false e = refl
+
+pub item_here : (mem : Word → ℕ) (x : ℕ) (f : ItemField) (value : ℕ) → put mem (Item x f) value (Item x f) ≡ value
+item_here mem x item.Tag value = ap (λ (b : Bool). cond b value (mem (Item x item.Tag))) (same_number x)
+item_here mem x item.Body value = ap (λ (b : Bool). cond b value (mem (Item x item.Body))) (same_number x)
+item_here mem x item.Next value = ap (λ (b : Bool). cond b value (mem (Item x item.Next))) (same_number x)
+item_here mem x item.Passed value = ap (λ (b : Bool). cond b value (mem (Item x item.Passed))) (same_number x)
+
+pub item_other : (mem : Word → ℕ) (x y : ℕ) (f : ItemField) (value : ℕ) → x ≢ y → put mem (Item x f) value (Item y f) ≡ mem (Item y f)
+item_other mem x y item.Tag value ne = ap (λ (b : Bool). cond b value (mem (Item y item.Tag))) (other_number x y ne)
+item_other mem x y item.Body value ne = ap (λ (b : Bool). cond b value (mem (Item y item.Body))) (other_number x y ne)
+item_other mem x y item.Next value ne = ap (λ (b : Bool). cond b value (mem (Item y item.Next))) (other_number x y ne)
+item_other mem x y item.Passed value ne = ap (λ (b : Bool). cond b value (mem (Item y item.Passed))) (other_number x y ne)
+
+-- ---- a store to a word of the object
+
+pub object_here : (mem : Word → ℕ) (o : Obj) (value : ℕ) → put mem (Object o) value (Object o) ≡ value
+object_here mem o value = ap (λ (b : Bool). cond b value (mem (Object o))) (same_number (object_number o))
+
+pub object_other : (mem : Word → ℕ) (o q : Obj) (value : ℕ) → object_number o ≢ object_number q → put mem (Object o) value (Object q) ≡ mem (Object q)
+object_other mem o q value ne = ap (λ (b : Bool). cond b value (mem (Object q))) (other_number (object_number o) (object_number q) ne)
+
+-- ---- a pass that goes on
+
+pub hold_here : (stands : ℕ → Stand) (p : ℕ) (now : Stand) → hold stands p now p ≡ now
+hold_here stands p now = ap (λ (b : Bool). cond b now (stands p)) (same_number p)
+
+pub hold_other : (stands : ℕ → Stand) (p q : ℕ) (now : Stand) → p ≢ q → hold stands p now q ≡ stands q
+hold_other stands p q now ne = ap (λ (b : Bool). cond b now (stands q)) (other_number p q ne)
+
+-- what a pass doesn't change of itself it changes of nobody
+pub hold_same : {X : Type 0} (look : Stand → X) (stands : ℕ → Stand) (p : ℕ) (now : Stand) → look now ≡ look (stands p) → (q : ℕ) → look (hold stands p now q) ≡ look (stands q)
+hold_same {X} look stands p now e q = by_case (p == q) refl
+  where
+    by_case : (b : Bool) → (p == q) ≡ b → look (cond b now (stands q)) ≡ look (stands q)
+    by_case true same = e ∙ ap (λ (k : ℕ). look (stands k)) (eqb-true p q same)
+    by_case false same = refl
+
+-- what holds of the pass as it stands now, and of each other one, holds of all
+pub hold_all : (P : ℕ → Stand → Type 0) (stands : ℕ → Stand) (p : ℕ) (now : Stand) → P p now → ((q : ℕ) → p ≢ q → P q (stands q)) → (q : ℕ) → P q (hold stands p now q)
+hold_all P stands p now here others q = by_case (p == q) refl
+  where
+    by_case : (b : Bool) → (p == q) ≡ b → P q (cond b now (stands q))
+    by_case true same = subst (λ (k : ℕ). P k now) (eqb-true p q same) here
+    by_case false same = others q (eqb-false p q same)

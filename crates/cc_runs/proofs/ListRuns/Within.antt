@@ -1,0 +1,88 @@
+-- No number of an answer is greater than the number of items that may ever be accepted.
+use Rattle.std.proofs.Common.{◌≡◌, ℕ, ◌+◌, ◌^◌, ◌<◌, ◌≤◌, List, [], ◌∷◌, length, Bool, true, false, ◌||◌, Some, Ok, sym, ap, ◌∙◌, arith, length-append}
+use Rattle.std.proofs.lemmas.Option.{slice_get_within}
+use Rattle.std.specs.List.{AllByRecursion, slice_get}
+use Rattle.cc_model.specs.Config.{config_fault}
+use Rattle.cc_model.specs.Items.{accepted, accepted_by, accepted_item, shuts, is_shut, handed_item}
+use Rattle.cc_model.specs.Legal.{EAnswer, EAnswers, DAnswer, DAnswers}
+use Rattle.cc_model.specs.declared.config.Config.{Config}
+use Rattle.cc_model.specs.declared.call.Call.{Call}
+use Rattle.cc_model.specs.declared.call.Call.TheVariants as call
+use Rattle.cc_model.specs.declared.call.Entry.{Entry}
+use Rattle.cc_model.specs.declared.call.Item.{Item}
+use Rattle.cc_model.specs.declared.call.Answer.{Answer}
+use Rattle.cc_model.specs.declared.call.Answer.TheVariants as answer
+use Rattle.cc_model.specs.declared.call.SendAnswer.TheVariants as send
+use Rattle.cc_model.specs.declared.call.CloseAnswer.TheVariants as close
+use Rattle.cc_model.specs.declared.call.TakeAnswer.TheVariants as take
+use Rattle.cc_runs.specs.declared.setting.Setting.{Setting}
+use Rattle.cc_runs.specs.Codes.{item_of}
+use Rattle.cc_model.specs.Record.{of_group}
+use Rattle.cc_runs.specs.declared.word.Chain.{Chain}
+use Rattle.cc_runs.specs.declared.word.Chain.TheVariants.{Send, Take}
+use Rattle.cc_runs.specs.Sides.{answers_on}
+use Rattle.cc_runs.specs.State.{State}
+use Rattle.cc_runs.specs.Run.{reached, history_of, IsRun}
+use Rattle.cc_runs.specs.MachineLaws.{AnswerWithin, IsWithin, NumbersStayWithin}
+use Rattle.cc_runs.proofs.Ranges.{in_range}
+use Rattle.cc_runs.proofs.ListRuns.Facts.{lists}
+use Rattle.cc_runs.proofs.ListRuns.Whole.{Parts}
+use Rattle.cc_runs.proofs.ListRuns.Runs.{Whole}
+use Rattle.cc_runs.proofs.ListRuns.FromChains.{after_runs, of_setting}
+
+e_within : (c : Config) (n : ℕ) (shut : Bool) (known : ℕ) (k : Call) (a : Answer) → EAnswer c n shut known k a → n ≤ c.life → AnswerWithin c.life a
+e_within c n true known (call.Send body) (answer.Send send.Closed) h l = tt
+e_within c n true known call.Close (answer.Close (close.Already total)) h l = omega (arith, h, l)
+e_within c n false known call.Close (answer.Close (close.Shut total)) h l = omega (arith, h, l)
+e_within c n false known (call.Send body) (answer.Send send.Spent) h l = tt
+e_within c n false known (call.Send body) (answer.Send (send.Accepted place)) h l = omega (arith, h.0, h.1, l)
+e_within c n false known (call.Send body) (answer.Send send.Full) h l = tt
+e_within _ _ _ _ _ _ h l = absurd h
+
+all_e_within : (c : Config) (n : ℕ) (shut : Bool) (calls : List Entry) (answers : List Answer) → EAnswers c n shut calls answers → n + length (accepted_by calls answers) ≤ c.life → AllByRecursion (AnswerWithin c.life) answers
+all_e_within c n shut calls [] h l = tt
+all_e_within c n shut [] (a ∷ answers) h l = absurd h
+all_e_within c n shut (e ∷ calls) (a ∷ answers) h l = (
+  e_within c n shut e.known e.call a h.0 (omega (arith, l)),
+  all_e_within c (n + length (accepted_item e a)) (shut || shuts a) calls answers h.1 (omega (arith, l, length-append (accepted_item e a) (accepted_by calls answers))),
+)
+
+-- the items' numbers
+abbrev Small : List Item → Type 0
+Small items = (i : ℕ) (x : Item) → slice_get items i ≡ Some x → x.number < 2 ^ 32
+
+d_within : (items : List Item) (shut : Bool) (n known : ℕ) (a : Answer) (most : ℕ) → DAnswer items shut n known a → Small items → length items ≤ most → AnswerWithin most a
+d_within items shut n known (answer.Take (take.Got item)) most h small l = (omega (arith, h.1, slice_get_within items n item h.0, l), small n item h.0)
+d_within items shut n known (answer.Take take.Empty) most h small l = tt
+d_within items shut n known (answer.Take (take.Ended total)) most h small l = omega (arith, h.1, h.2, l)
+d_within _ _ _ _ _ _ h small l = absurd h
+
+all_d_within : (items : List Item) (shut : Bool) (n : ℕ) (calls : List Entry) (answers : List Answer) (most : ℕ) → DAnswers items shut n calls answers → Small items → length items ≤ most → AllByRecursion (AnswerWithin most) answers
+all_d_within items shut n calls [] most h small l = tt
+all_d_within items shut n [] (a ∷ answers) most h small l = absurd h
+all_d_within items shut n (e ∷ calls) (a ∷ answers) most h small l = (d_within items shut n e.known a most h.0 small l, all_d_within items shut (n + length (handed_item a)) calls answers most h.1 small l)
+
+pub within : (c : Config) (s : State) → Whole c s → IsWithin c s.history
+within c s w =
+    let k : Parts c s = w.parts in
+    let life : length (accepted s.history) ≤ c.life = omega (arith, k.ties.accepted_is, k.list.inv.branch.life_in) in
+    record {
+      life = life;
+      answers = by_chain life;
+    }
+  where
+    small : Small (accepted s.history)
+    small i x is =
+        let low : i < w.parts.told.accepted = omega (arith, slice_get_within (accepted s.history) i x is, w.parts.ties.accepted_is) in
+        let at : Some x ≡ Some (item_of i (w.parts.told.items i 0) (w.parts.told.items i 1)) = sym is ∙ w.parts.ties.items_are i low in
+        let same : x ≡ item_of i (w.parts.told.items i 0) (w.parts.told.items i 1) = cc in
+        omega (arith, ap (λ (y : Item). y.number) same)
+
+    by_chain : length (accepted s.history) ≤ c.life → (x : Chain) → AllByRecursion (AnswerWithin c.life) (answers_on x s.history)
+    by_chain life Send = all_e_within c 0 false s.history.sends.calls s.history.sends.answers w.parts.ties.lawful.sends (omega (arith, life))
+    by_chain life (Take y) = all_d_within (accepted s.history) (is_shut s.history) 0 (of_group s.history y).calls (of_group s.history y).answers c.life (w.parts.ties.lawful.takes y) small life
+
+pub numbers_stay_within : NumbersStayWithin
+numbers_stay_within c moves serves checked run =
+    of_setting (λ (z : Setting). config_fault z.config ≡ Ok tt → IsRun z moves → IsWithin z.config (history_of z moves)) c serves
+    (λ ok r. within c.config (reached (lists c.config) moves) (after_runs c.config (in_range c.config ok) moves r).whole) checked run

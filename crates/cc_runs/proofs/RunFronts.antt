@@ -1,0 +1,82 @@
+-- A front of a run is a run, and its history begins the later one.
+use Rattle.std.proofs.Common.{◌≡◌, ℕ, ◌≤◌, length, slice_set, subst, arith, inl, inr, List, [], ◌∷◌, ◌++◌, Option, Some, None, refl, sym, ap, ◌∙◌, append_assoc, append-nil}
+use Rattle.std.proofs.lemmas.Bool.{cases_eq, cases_lt}
+use Rattle.std.proofs.lemmas.List.{length-set, get_or_past}
+use Rattle.cc_runs.proofs.ListRuns.Decided.{group_mine, group_other}
+use Rattle.cc_model.specs.Record.{Side, Record, silent, of_group, with_takes}
+use Rattle.cc_model.specs.Items.{IsFront, SideBegins, Begins}
+use Rattle.cc_model.specs.declared.call.Entry.{Entry}
+use Rattle.cc_model.specs.declared.call.Answer.{Answer}
+use Rattle.cc_runs.specs.declared.setting.Setting.{Setting}
+use Rattle.cc_runs.specs.declared.word.Chain.{Chain}
+use Rattle.cc_runs.specs.declared.word.Chain.TheVariants.{Send, Take}
+use Rattle.cc_runs.specs.State.{State, appended, noted, chain_of}
+use Rattle.cc_runs.specs.Run as run
+use Rattle.cc_runs.specs.Run.{Move, Begin, Step, moved, reached, history_of, IsRun}
+use Rattle.cc_runs.specs.MachineLaws.{FrontsBegin}
+
+front_self : {X : Type 0} (xs : List X) → IsFront xs xs
+front_self xs = ([], sym (append-nil xs))
+
+front_more : {X : Type 0} (xs ys zs : List X) → IsFront xs ys → IsFront ys zs → IsFront xs zs
+front_more {X} xs ys zs a b = (a.0 ++ b.0, b.1 ∙ ap (λ (l : List X). l ++ b.0) a.1 ∙ append_assoc xs a.0 b.0)
+
+front_appended : {X : Type 0} (xs : List X) (x : Option X) → IsFront xs (appended xs x)
+front_appended xs None = front_self xs
+front_appended xs (Some x) = (x ∷ [], refl)
+
+side_self : (s : Side) → SideBegins s s
+side_self s = record { calls = front_self s.calls; answers = front_self s.answers }
+
+begins_self : (h : Record) → Begins h h
+begins_self h = record { sends = side_self h.sends; takes = λ y. side_self (of_group h y); groups = refl }
+
+side_more : (s l m : Side) → SideBegins s l → SideBegins l m → SideBegins s m
+side_more s l m a b = record { calls = front_more s.calls l.calls m.calls a.calls b.calls; answers = front_more s.answers l.answers m.answers a.answers b.answers }
+
+begins_more : (h l m : Record) → Begins h l → Begins l m → Begins h m
+begins_more h l m a b = record {
+  sends = side_more h.sends l.sends m.sends a.sends b.sends;
+  takes = λ y. side_more (of_group h y) (of_group l y) (of_group m y) (a.takes y) (b.takes y);
+  groups = a.groups ∙ b.groups;
+}
+
+side_appended : (s : Side) (call : Option Entry) (told : Option Answer) → SideBegins s (record { calls = appended s.calls call; answers = appended s.answers told })
+side_appended s call told = record { calls = front_appended s.calls call; answers = front_appended s.answers told }
+
+-- where there is no such group nothing changes
+past : (h : Record) (y x : ℕ) (now : Side) → length h.takes ≤ y → of_group (with_takes h y now) x ≡ of_group h x
+past h y x now far = elim (cases_eq x y) [
+  | inl is ↦ get_or_past (slice_set h.takes y now) x silent (omega (arith, is, far, length-set h.takes y now)) ∙ sym (get_or_past h.takes x silent (omega (arith, is, far)))
+  | inr ne ↦ group_other h y x now ne
+]
+
+begins_noted : (x : Chain) (h : Record) (call : Option Entry) (told : Option Answer) → Begins h (noted x h call told)
+begins_noted Send h call told = record { sends = side_appended h.sends call told; takes = λ y. side_self (of_group h y); groups = refl }
+begins_noted (Take g) h call told = record {
+  sends = side_self h.sends;
+  takes = λ y. elim (cases_lt g (length h.takes)) [
+    | inl inside ↦ elim (cases_eq y g) [
+      | inl is ↦ subst (λ (z : ℕ). SideBegins (of_group h z) (of_group (with_takes h g (now call told)) z)) (sym is)
+          (subst (λ (s : Side). SideBegins (of_group h g) s) (sym (group_mine h g (now call told) inside)) (side_appended (of_group h g) call told))
+      | inr ne ↦ subst (λ (s : Side). SideBegins (of_group h y) s) (sym (group_other h g y (now call told) ne)) (side_self (of_group h y))
+    ]
+    | inr far ↦ subst (λ (s : Side). SideBegins (of_group h y) s) (sym (past h g y (now call told) far)) (side_self (of_group h y))
+  ];
+  groups = sym (length-set h.takes g (now call told));
+}
+  where
+    now : Option Entry → Option Answer → Side
+    now call told = record { calls = appended (of_group h g).calls call; answers = appended (of_group h g).answers told }
+
+-- one move
+begins_moved : (c : Setting) (s : State) (m : Move) → Begins s.history (moved c s m).history
+begins_moved c s (Begin p call known) = begins_self s.history
+begins_moved c s (run.Take p) = begins_self s.history
+begins_moved c s (Step p) = begins_noted (chain_of c.config p) s.history _ _
+
+pub fronts_begin : FrontsBegin
+fronts_begin c [] earlier r = (r, begins_self (history_of c earlier))
+fronts_begin c (m ∷ later) earlier r =
+    let so_far : IsRun c earlier × Begins (history_of c earlier) (history_of c (later ++ earlier)) = fronts_begin c later earlier r.0 in
+    (so_far.0, begins_more (history_of c earlier) (history_of c (later ++ earlier)) (history_of c (m ∷ (later ++ earlier))) so_far.1 (begins_moved c (reached c (later ++ earlier)) m))

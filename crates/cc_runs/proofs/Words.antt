@@ -1,0 +1,290 @@
+-- Two words that there are lie in two places of a row, so a store changes the word of its name alone.
+use Rattle.std.proofs.Common.{◌≡◌, ◌≢◌, ◌⊎◌, ℕ, zero, suc, ◌+◌, ◌*◌, ◌<◌, ◌≤◌, Bool, true, false, ◌&&◌, ◌==◌, List, length, slice_index_or, slice_set, IsTrue, cond, refl, ap, sym, ◌∙◌, subst, arith, ⊎_elim, inl, inr, if◌then◌else◌}
+use Rattle.std.proofs.Math.Nat.{mul-le-mul_left}
+use Rattle.std.proofs.lemmas.Bool.{cases_lt, eqb-true, eq-eqb, cases_Bool, false≢true}
+use Rattle.std.proofs.lemmas.List.{get_or-set_same, get_or-set_other}
+use Rattle.cc_runs.specs.declared.word.Chain.{Chain}
+use Rattle.cc_runs.specs.declared.word.Chain.TheVariants.{Send, Take}
+use Rattle.cc_runs.specs.declared.word.NodeField.{NodeField}
+use Rattle.cc_runs.specs.declared.word.NodeField.TheVariants as node
+use Rattle.cc_runs.specs.declared.word.ItemField.{ItemField}
+use Rattle.cc_runs.specs.declared.word.ItemField.TheVariants as item
+use Rattle.cc_runs.specs.declared.word.Object.{Object}
+use Rattle.cc_runs.specs.declared.word.Object.TheVariants as object
+use Rattle.cc_runs.specs.declared.word.Word.{Word}
+use Rattle.cc_runs.specs.declared.word.Word.TheVariants as word
+use Rattle.cc_runs.specs.Words.{Layout, Spacing, IsRoomy, dense, node_field, item_field, lies, exists, same, same_chain, object_number, word_in_row, put, OneToOne}
+
+-- the field of a number, and its node's
+field_at : Chain → ℕ → NodeField
+field_at x zero = node.Next
+field_at x (suc zero) = node.State
+field_at Send (suc (suc zero)) = node.Tag
+field_at Send (suc (suc (suc zero))) = node.Body
+field_at Send (suc (suc (suc (suc n)))) = node.Ret
+field_at (Take g) (suc (suc zero)) = node.Ret
+field_at (Take g) (suc (suc (suc zero))) = node.Tag
+field_at (Take g) (suc (suc (suc (suc n)))) = node.Body
+
+field_back : (x : Chain) (f : NodeField) → field_at x (node_field x f) ≡ f
+unfolding field_at
+field_back Send node.Next = refl
+field_back Send node.State = refl
+field_back Send node.Tag = refl
+field_back Send node.Body = refl
+field_back Send node.Ret = refl
+field_back (Take g) node.Next = refl
+field_back (Take g) node.State = refl
+field_back (Take g) node.Tag = refl
+field_back (Take g) node.Body = refl
+field_back (Take g) node.Ret = refl
+
+field_same : (x : Chain) (f g : NodeField) → node_field x f ≡ node_field x g → f ≡ g
+field_same x f g e = sym (field_back x f) ∙ ap (λ (n : ℕ). field_at x n) e ∙ field_back x g
+
+pub field_small : (x : Chain) (f : NodeField) → node_field x f < 5
+field_small Send node.Next = omega arith
+field_small Send node.State = omega arith
+field_small Send node.Tag = omega arith
+field_small Send node.Body = omega arith
+field_small Send node.Ret = omega arith
+field_small (Take g) node.Next = omega arith
+field_small (Take g) node.State = omega arith
+field_small (Take g) node.Tag = omega arith
+field_small (Take g) node.Body = omega arith
+field_small (Take g) node.Ret = omega arith
+
+-- the order of the fields is one for all groups
+field_fixed : (g h : ℕ) (f : NodeField) → node_field (Take g) f ≡ node_field (Take h) f
+field_fixed g h node.Next = refl
+field_fixed g h node.State = refl
+field_fixed g h node.Tag = refl
+field_fixed g h node.Body = refl
+field_fixed g h node.Ret = refl
+
+part_at : ℕ → ItemField
+part_at zero = item.Tag
+part_at (suc zero) = item.Body
+part_at (suc (suc zero)) = item.Next
+part_at (suc (suc (suc n))) = item.Passed
+
+part_back : (f : ItemField) → part_at (item_field f) ≡ f
+unfolding part_at
+part_back item.Tag = refl
+part_back item.Body = refl
+part_back item.Next = refl
+part_back item.Passed = refl
+
+part_same : (f g : ItemField) → item_field f ≡ item_field g → f ≡ g
+part_same f g e = sym (part_back f) ∙ ap (λ (n : ℕ). part_at n) e ∙ part_back g
+
+pub part_small : (f : ItemField) → item_field f < 4
+part_small item.Tag = omega arith
+part_small item.Body = omega arith
+part_small item.Next = omega arith
+part_small item.Passed = omega arith
+
+-- a later one of a kind begins after an earlier one's end
+steps_apart : (n i count : ℕ) → i < count → n * i + n ≤ n * count
+steps_apart n i count less = grind arith
+
+steps_order : (n i j : ℕ) → ((i ≡ j) × (n * i ≡ n * j)) ⊎ ((n * i + n ≤ n * j) ⊎ (n * j + n ≤ n * i))
+steps_order n i j = ⊎_elim (λ (lt : i < j). inr (inl (steps_apart n i j lt))) (λ (le : j ≤ i). ⊎_elim (λ (lt : j < i). inr (inr (steps_apart n j i lt))) (λ (ge : i ≤ j). let same : i ≡ j = omega (arith, le, ge) in inl (same, ap (λ (z : ℕ). n * z) same)) (cases_lt j i)) (cases_lt i j)
+
+-- and the nodes of a later group after those of an earlier one
+scaled : (n x y z : ℕ) → x + y ≤ z → n * x + n * y ≤ n * z
+scaled n x y z le = let whole : n * (x + y) ≤ n * z = mul-le-mul_left n le in let parts : n * (x + y) ≡ n * x + n * y = omega arith in omega (arith, whole, parts)
+
+groups_apart : (n m g h : ℕ) → g < h → n * (g * m) + n * m ≤ n * (h * m)
+groups_apart n m g h lt = scaled n (g * m) m (h * m) (grind arith)
+
+groups_order : (n m g h : ℕ) → (g ≡ h) ⊎ ((n * (g * m) + n * m ≤ n * (h * m)) ⊎ (n * (h * m) + n * m ≤ n * (g * m)))
+groups_order n m g h = ⊎_elim (λ (lt : g < h). inr (inl (groups_apart n m g h lt))) (λ (le : h ≤ g). ⊎_elim (λ (lt : h < g). inr (inr (groups_apart n m h g lt))) (λ (ge : g ≤ h). inl (omega (arith, le, ge))) (cases_lt h g)) (cases_lt g h)
+
+-- the numbers of a word that there is
+abbrev Within : Spacing → Layout → Word → Type 0
+Within k l (word.Tail Send) = 0 < 1
+Within k l (word.Tail (Take g)) = k.end_step * g + k.end_step ≤ k.end_step * l.groups
+Within k l (word.Object (object.Head g)) = k.end_step * g + k.end_step ≤ k.end_step * l.groups
+Within k l (word.Object (object.Taken g)) = k.end_step * g + k.end_step ≤ k.end_step * l.groups
+Within k l (word.Object _) = 0 < 1
+Within k l (word.Node Send i f) = (k.node_step * i + k.node_step ≤ k.node_step * (l.senders + 1)) × (node_field Send f < 5)
+Within k l (word.Node (Take g) i f) = (k.node_step * i + k.node_step ≤ k.node_step * (l.receivers + 1)) × (node_field (Take g) f < 5) × (k.node_step * (g * (l.receivers + 1)) + k.node_step * (l.receivers + 1) ≤ k.node_step * (l.groups * (l.receivers + 1)))
+Within k l (word.Item i f) = (k.item_step * i + k.item_step ≤ k.item_step * (l.capacity + 2)) × (item_field f < 4)
+
+within : (k : Spacing) (l : Layout) (w : Word) → IsTrue (exists l w) → Within k l w
+within k l (word.Tail Send) a = omega arith
+within k l (word.Tail (Take g)) a = steps_apart k.end_step g l.groups (grind arith)
+within k l (word.Object object.Last) a = omega arith
+within k l (word.Object object.Shut) a = omega arith
+within k l (word.Object object.Count) a = omega arith
+within k l (word.Object object.Cursor) a = omega arith
+within k l (word.Object (object.Head g)) a = steps_apart k.end_step g l.groups (grind arith)
+within k l (word.Object (object.Taken g)) a = steps_apart k.end_step g l.groups (grind arith)
+within k l (word.Node Send i f) a = (steps_apart k.node_step i (l.senders + 1) (grind arith), field_small Send f)
+within k l (word.Node (Take g) i f) a = (steps_apart k.node_step i (l.receivers + 1) (grind arith), field_small (Take g) f, groups_apart k.node_step (l.receivers + 1) g l.groups (grind arith))
+within k l (word.Item i f) a = (steps_apart k.item_step i (l.capacity + 2) (grind arith), part_small f)
+
+-- the group whose word it is
+abbrev group_of : Object → ℕ
+group_of (object.Head g) = g
+group_of (object.Taken g) = g
+group_of _ = 0
+
+-- the words of the object lie between the senders' tail and the nodes, and aren't a group's tail
+object_low : (k : Spacing) → IsRoomy k → (l : Layout) (a : Object) → IsTrue (exists l (word.Object a)) → (k.objects ≤ lies k l (word.Object a)) × (lies k l (word.Object a) < k.ends + k.end_step * l.groups)
+object_low k r l object.Last e = (omega arith, omega (arith, r))
+object_low k r l object.Shut e = (omega arith, omega (arith, r))
+object_low k r l object.Count e = (omega arith, omega (arith, r))
+object_low k r l object.Cursor e = (omega arith, omega (arith, r))
+object_low k r l (object.Head g) e = let m = within k l (word.Object (object.Head g)) e in (omega (arith, r), omega (arith, m, r))
+object_low k r l (object.Taken g) e = let m = within k l (word.Object (object.Taken g)) e in (omega (arith, r), omega (arith, m, r))
+
+object_tail : (k : Spacing) → IsRoomy k → (l : Layout) (a : Object) (g : ℕ) → lies k l (word.Object a) ≢ k.ends + k.end_step * g
+object_tail k r l object.Last g e = omega (arith, e, r)
+object_tail k r l object.Shut g e = omega (arith, e, r)
+object_tail k r l object.Count g e = omega (arith, e, r)
+object_tail k r l object.Cursor g e = omega (arith, e, r)
+object_tail k r l (object.Head h) g e = omega (arith, e, r, steps_order k.end_step h g)
+object_tail k r l (object.Taken h) g e = omega (arith, e, r, steps_order k.end_step h g)
+
+-- so there is in a dense row
+pub roomy : IsRoomy dense
+roomy = omega arith
+
+pub one_to_one : OneToOne
+one_to_one k r l (word.Tail Send) (word.Tail Send) a b e = refl
+one_to_one k r l (word.Tail (Take g)) (word.Tail (Take h)) a b e = ap (λ (z : ℕ). word.Tail (Take z)) (omega (arith, e, r, steps_order k.end_step g h))
+one_to_one k r l (word.Object object.Last) (word.Object object.Last) a b e = refl
+one_to_one k r l (word.Object object.Shut) (word.Object object.Shut) a b e = refl
+one_to_one k r l (word.Object object.Count) (word.Object object.Count) a b e = refl
+one_to_one k r l (word.Object object.Cursor) (word.Object object.Cursor) a b e = refl
+one_to_one k r l (word.Object (object.Head g)) (word.Object (object.Head h)) a b e = ap (λ (z : ℕ). word.Object (object.Head z)) (omega (arith, e, r, steps_order k.end_step g h))
+one_to_one k r l (word.Object (object.Taken g)) (word.Object (object.Taken h)) a b e = ap (λ (z : ℕ). word.Object (object.Taken z)) (omega (arith, e, r, steps_order k.end_step g h))
+one_to_one k r l (word.Node Send i f) (word.Node Send j g) a b e =
+    let m = within k l (word.Node Send i f) a in
+    let n = within k l (word.Node Send j g) b in
+    let index : i ≡ j = omega (arith, m, n, e, r, steps_order k.node_step i j) in
+    let start : k.node_step * i ≡ k.node_step * j = ap (λ (z : ℕ). k.node_step * z) index in
+    let field : node_field Send f ≡ node_field Send g = omega (arith, e, start) in
+    λ q. word.Node Send (index q) (field_same Send f g field q)
+one_to_one k r l (word.Node (Take c) i f) (word.Node (Take d) j g) a b e =
+    let m = within k l (word.Node (Take c) i f) a in
+    let n = within k l (word.Node (Take d) j g) b in
+    let group : c ≡ d = omega (arith, m, n, e, r, groups_order k.node_step (l.receivers + 1) c d) in
+    let before : k.node_step * (c * (l.receivers + 1)) ≡ k.node_step * (d * (l.receivers + 1)) = ap (λ (z : ℕ). k.node_step * (z * (l.receivers + 1))) group in
+    let index : i ≡ j = omega (arith, m, n, e, r, before, steps_order k.node_step i j) in
+    let start : k.node_step * i ≡ k.node_step * j = ap (λ (z : ℕ). k.node_step * z) index in
+    let field : node_field (Take c) f ≡ node_field (Take c) g = omega (arith, e, before, start, field_fixed c d g) in
+    λ q. word.Node (Take (group q)) (index q) (field_same (Take c) f g field q)
+one_to_one k r l (word.Item i f) (word.Item j g) a b e =
+    let m = within k l (word.Item i f) a in
+    let n = within k l (word.Item j g) b in
+    let index : i ≡ j = omega (arith, m, n, e, r, steps_order k.item_step i j) in
+    let start : k.item_step * i ≡ k.item_step * j = ap (λ (z : ℕ). k.item_step * z) index in
+    let field : item_field f ≡ item_field g = omega (arith, e, start) in
+    λ q. word.Item (index q) (part_same f g field q)
+one_to_one k r l (word.Tail Send) (word.Tail (Take h)) a b e = absurd (omega (arith, within k l (word.Tail Send) a, within k l (word.Tail (Take h)) b, e, r))
+one_to_one k r l (word.Tail Send) (word.Object d) a b e = absurd (omega (arith, within k l (word.Tail Send) a, object_low k r l d b, e, r))
+one_to_one k r l (word.Tail Send) (word.Node Send j q) a b e = absurd (omega (arith, within k l (word.Tail Send) a, within k l (word.Node Send j q) b, e, r))
+one_to_one k r l (word.Tail Send) (word.Node (Take h) j q) a b e = absurd (omega (arith, within k l (word.Tail Send) a, within k l (word.Node (Take h) j q) b, e, r))
+one_to_one k r l (word.Tail Send) (word.Item j q) a b e = absurd (omega (arith, within k l (word.Tail Send) a, within k l (word.Item j q) b, e, r))
+one_to_one k r l (word.Tail (Take g)) (word.Tail Send) a b e = absurd (omega (arith, within k l (word.Tail (Take g)) a, within k l (word.Tail Send) b, e, r))
+one_to_one k r l (word.Tail (Take g)) (word.Object d) a b e = absurd (omega (arith, within k l (word.Tail (Take g)) a, object_low k r l d b, object_tail k r l d g, e, r))
+one_to_one k r l (word.Tail (Take g)) (word.Node Send j q) a b e = absurd (omega (arith, within k l (word.Tail (Take g)) a, within k l (word.Node Send j q) b, e, r))
+one_to_one k r l (word.Tail (Take g)) (word.Node (Take h) j q) a b e = absurd (omega (arith, within k l (word.Tail (Take g)) a, within k l (word.Node (Take h) j q) b, e, r))
+one_to_one k r l (word.Tail (Take g)) (word.Item j q) a b e = absurd (omega (arith, within k l (word.Tail (Take g)) a, within k l (word.Item j q) b, e, r))
+one_to_one k r l (word.Object c) (word.Tail Send) a b e = absurd (omega (arith, object_low k r l c a, within k l (word.Tail Send) b, e, r))
+one_to_one k r l (word.Object c) (word.Tail (Take h)) a b e = absurd (omega (arith, object_low k r l c a, object_tail k r l c h, within k l (word.Tail (Take h)) b, e, r))
+one_to_one k r l (word.Object c) (word.Node Send j q) a b e = absurd (omega (arith, object_low k r l c a, within k l (word.Node Send j q) b, e, r))
+one_to_one k r l (word.Object c) (word.Node (Take h) j q) a b e = absurd (omega (arith, object_low k r l c a, within k l (word.Node (Take h) j q) b, e, r))
+one_to_one k r l (word.Object c) (word.Item j q) a b e = absurd (omega (arith, object_low k r l c a, within k l (word.Item j q) b, e, r))
+one_to_one k r l (word.Node Send i f) (word.Tail Send) a b e = absurd (omega (arith, within k l (word.Node Send i f) a, within k l (word.Tail Send) b, e, r))
+one_to_one k r l (word.Node Send i f) (word.Tail (Take h)) a b e = absurd (omega (arith, within k l (word.Node Send i f) a, within k l (word.Tail (Take h)) b, e, r))
+one_to_one k r l (word.Node Send i f) (word.Object d) a b e = absurd (omega (arith, within k l (word.Node Send i f) a, object_low k r l d b, e, r))
+one_to_one k r l (word.Node Send i f) (word.Node (Take h) j q) a b e = absurd (omega (arith, within k l (word.Node Send i f) a, within k l (word.Node (Take h) j q) b, e, r))
+one_to_one k r l (word.Node Send i f) (word.Item j q) a b e = absurd (omega (arith, within k l (word.Node Send i f) a, within k l (word.Item j q) b, e, r))
+one_to_one k r l (word.Node (Take g) i f) (word.Tail Send) a b e = absurd (omega (arith, within k l (word.Node (Take g) i f) a, within k l (word.Tail Send) b, e, r))
+one_to_one k r l (word.Node (Take g) i f) (word.Tail (Take h)) a b e = absurd (omega (arith, within k l (word.Node (Take g) i f) a, within k l (word.Tail (Take h)) b, e, r))
+one_to_one k r l (word.Node (Take g) i f) (word.Object d) a b e = absurd (omega (arith, within k l (word.Node (Take g) i f) a, object_low k r l d b, e, r))
+one_to_one k r l (word.Node (Take g) i f) (word.Node Send j q) a b e = absurd (omega (arith, within k l (word.Node (Take g) i f) a, within k l (word.Node Send j q) b, e, r))
+one_to_one k r l (word.Node (Take g) i f) (word.Item j q) a b e = absurd (omega (arith, within k l (word.Node (Take g) i f) a, within k l (word.Item j q) b, e, r))
+one_to_one k r l (word.Item i f) (word.Tail Send) a b e = absurd (omega (arith, within k l (word.Item i f) a, within k l (word.Tail Send) b, e, r))
+one_to_one k r l (word.Item i f) (word.Tail (Take h)) a b e = absurd (omega (arith, within k l (word.Item i f) a, within k l (word.Tail (Take h)) b, e, r))
+one_to_one k r l (word.Item i f) (word.Object d) a b e = absurd (omega (arith, within k l (word.Item i f) a, object_low k r l d b, e, r))
+one_to_one k r l (word.Item i f) (word.Node Send j q) a b e = absurd (omega (arith, within k l (word.Item i f) a, within k l (word.Node Send j q) b, e, r))
+one_to_one k r l (word.Item i f) (word.Node (Take h) j q) a b e = absurd (omega (arith, within k l (word.Item i f) a, within k l (word.Node (Take h) j q) b, e, r))
+one_to_one k r l (word.Object c) (word.Object d) a b e = absurd (omega (arith, steps_order k.end_step (group_of c) (group_of d), e, r))
+
+and_both : (a b : Bool) → a && b ≡ true → (a ≡ true) × (b ≡ true)
+and_both true b e = (refl, e)
+and_both false b e = absurd (cc)
+
+chain_is : (x y : Chain) → same_chain x y ≡ true → x ≡ y
+chain_is Send Send e = refl
+chain_is (Take g) (Take h) e = ap (λ (k : ℕ). Take k) (eqb-true g h e)
+chain_is _ _ e = absurd (cc)
+
+object_is : (a b : Object) → object_number a ≡ object_number b → a ≡ b
+object_is object.Last object.Last e = refl
+object_is object.Shut object.Shut e = refl
+object_is object.Count object.Count e = refl
+object_is object.Cursor object.Cursor e = refl
+object_is (object.Head g) (object.Head h) e = ap (λ (k : ℕ). object.Head k) (omega arith)
+object_is (object.Taken g) (object.Taken h) e = ap (λ (k : ℕ). object.Taken k) (omega arith)
+object_is _ _ e = absurd (omega (arith, e))
+
+pub same_is : (v w : Word) → same v w ≡ true → v ≡ w
+same_is (word.Tail x) (word.Tail y) e = ap (λ (z : Chain). word.Tail z) (chain_is x y e)
+same_is (word.Object a) (word.Object b) e = ap (λ (z : Object). word.Object z) (object_is a b (eqb-true (object_number a) (object_number b) e))
+same_is (word.Node x i f) (word.Node y j g) e =
+    let t = and_both (node_field Send f == node_field Send g && same_chain x y) (i == j) e in
+    let u = and_both (node_field Send f == node_field Send g) (same_chain x y) t.0 in
+    let field = field_same Send f g (eqb-true (node_field Send f) (node_field Send g) u.0) in
+    let chain = chain_is x y u.1 in
+    let index = eqb-true i j t.1 in
+    λ k. word.Node (chain k) (index k) (field k)
+same_is (word.Item i f) (word.Item j g) e =
+    let t = and_both (item_field f == item_field g) (i == j) e in
+    let field = part_same f g (eqb-true (item_field f) (item_field g) t.0) in
+    let index = eqb-true i j t.1 in
+    λ k. word.Item (index k) (field k)
+same_is _ _ e = absurd (cc)
+
+chain_self : (x : Chain) → same_chain x x ≡ true
+chain_self Send = refl
+chain_self (Take g) = eq-eqb g g refl
+
+both_and : (a b : Bool) → a ≡ true → b ≡ true → a && b ≡ true
+both_and true b e f = f
+both_and false b e f = absurd (cc)
+
+pub same_self : (w : Word) → same w w ≡ true
+same_self (word.Tail x) = chain_self x
+same_self (word.Object a) = eq-eqb (object_number a) (object_number a) refl
+same_self (word.Node x i f) = both_and (node_field Send f == node_field Send f && same_chain x x) (i == i) (both_and (node_field Send f == node_field Send f) (same_chain x x) (eq-eqb (node_field Send f) (node_field Send f) refl) (chain_self x)) (eq-eqb i i refl)
+same_self (word.Item i f) = both_and (item_field f == item_field f) (i == i) (eq-eqb (item_field f) (item_field f) refl) (eq-eqb i i refl)
+
+pub stored_words : (k : Spacing) → IsRoomy k → (l : Layout) (words : List ℕ) (w : Word) (value : ℕ) → IsTrue (exists l w) → lies k l w < length words → word_in_row k l (slice_set words (lies k l w) value) ≡ put (word_in_row k l words) w value
+stored_words k r l words w value a below = λ i v. at v i
+  where
+    new : List ℕ
+    new = slice_set words (lies k l w) value
+
+    here : word_in_row k l (slice_set words (lies k l w) value) w ≡ value
+    here = ap (λ (b : Bool). cond b (slice_index_or (slice_set words (lies k l w) value) (lies k l w) 0) 0) a ∙ get_or-set_same words (lies k l w) value 0 below
+
+    other : (v : Word) → same w v ≡ false → word_in_row k l (slice_set words (lies k l w) value) v ≡ word_in_row k l words v
+    other v off = elim (exists l v) as (λ b. exists l v ≡ b → cond b (slice_index_or (slice_set words (lies k l w) value) (lies k l v) 0) 0 ≡ cond b (slice_index_or words (lies k l v) 0) 0) [
+      | true ↦ λ e. get_or-set_other words (lies k l w) (lies k l v) value 0 (λ same_place. apart e same_place)
+      | false ↦ λ e. refl
+    ] refl
+      where
+        apart : exists l v ≡ true → lies k l v ≡ lies k l w → ⊥
+        apart e same_place = let is : v ≡ w = one_to_one k r l v w e a same_place in false≢true (sym off ∙ ap (λ (z : Word). same w z) is ∙ same_self w)
+
+    at : (v : Word) → word_in_row k l (slice_set words (lies k l w) value) v ≡ put (word_in_row k l words) w value v
+    at v = ⊎_elim
+        (λ (e : same w v ≡ true). subst (λ (z : Word). word_in_row k l (slice_set words (lies k l w) value) z ≡ put (word_in_row k l words) w value z) (same_is w v e) (here ∙ sym (ap (λ (b : Bool). if b then value else word_in_row k l words w) (same_self w))))
+        (λ (e : same w v ≡ false). other v e ∙ sym (ap (λ (b : Bool). if b then value else word_in_row k l words v) e))
+        (cases_Bool (same w v))

@@ -1,0 +1,37 @@
+-- The calls that a pass began in a run, and that the history has them.
+use Rattle.std.specs.Prelude.{◌≡◌, ℕ, ◌<◌, ◌==◌, if◌then◌else◌, List, [], ◌∷◌, ◌++◌, map, Ok}
+use Rattle.cc_model.specs.Items.{calls_of}
+use Rattle.cc_model.specs.Config.{config_fault}
+use Rattle.cc_model.specs.declared.call.Entry.{Entry}
+use Rattle.cc_runs.specs.declared.setting.Setting.{Setting}
+use Rattle.cc_runs.specs.declared.place.Place.{Place}
+use Rattle.cc_runs.specs.declared.place.Place.TheVariants as place
+use Rattle.cc_runs.specs.State.{pass_at}
+use Rattle.cc_runs.specs.Run.{Move, Begin, IsRun, reached, passes, number_of}
+
+-- the calls that pass p began, in order, each with its number and what it knew
+abbrev pub made : Setting → List Move → ℕ → List Entry
+made c [] p = []
+made c (Begin q call known ∷ earlier) p =
+    if q == p then made c earlier p ++ record { pass = pass_at c.config q; call = call; number = number_of call ((reached c earlier).stand q).begun; known = known } ∷ []
+    else made c earlier p
+made c (_ ∷ earlier) p = made c earlier p
+
+-- the call that hasn't exchanged yet, if there is one
+abbrev pub to_exchange : Place → List Entry
+to_exchange (place.ResetNext call) = call ∷ []
+to_exchange (place.ResetState call) = call ∷ []
+to_exchange (place.Exchange call) = call ∷ []
+to_exchange _ = []
+
+-- after every run the history has of each pass just those calls, each once and in order, that have exchanged
+abbrev pub CallsOfRuns : Type 0
+CallsOfRuns = (c : Setting) → config_fault c.config ≡ Ok tt → (moves : List Move) → IsRun c moves → (p : ℕ) → p < passes c →
+    made c moves p ≡ map (λ z. z.0) (calls_of (pass_at c.config p) (reached c moves).history) ++ to_exchange ((reached c moves).stand p).place
+
+-- a call that was begun and hasn't exchanged
+abbrev pub before_exchange : Place → ℕ
+before_exchange (place.ResetNext call) = 1
+before_exchange (place.ResetState call) = 1
+before_exchange (place.Exchange call) = 1
+before_exchange _ = 0

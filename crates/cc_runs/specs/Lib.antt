@@ -1,0 +1,16 @@
+pub mod Words
+pub mod State
+pub mod Columns
+pub mod CountColumns
+pub mod SendColumns
+pub mod TakeColumns
+pub mod Codes
+pub mod Step
+pub mod Run
+pub mod Safe
+pub mod Sides
+pub mod ChainLaws
+pub mod CallsMade
+pub mod Passes
+pub mod MachineLaws
+pub mod Opening

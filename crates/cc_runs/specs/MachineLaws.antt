@@ -1,0 +1,212 @@
+-- What holds after every run of a machine; but for the last law, of one whose chains serve the list.
+use Rattle.std.specs.Prelude.{◌≡◌, ◌⊎◌, ℕ, zero, suc, ◌+◌, ◌<◌, ◌≤◌, ◌^◌, ◌==◌, if◌then◌else◌, List, [], ◌∷◌, ◌++◌, length, Some, Ok}
+use Rattle.std.specs.List.{AllByRecursion, slice_get}
+use Rattle.cc_model.specs.Config.{config_fault}
+use Rattle.cc_model.specs.Record.{Record}
+use Rattle.cc_model.specs.Items.{Begins, accepted, handed_to_all}
+use Rattle.cc_model.specs.Legal.{Legal}
+use Rattle.cc_model.specs.Fifo.{Fifo}
+use Rattle.cc_model.specs.declared.config.Config.{Config}
+use Rattle.cc_model.specs.declared.call.Answer.{Answer}
+use Rattle.cc_model.specs.declared.call.Answer.TheVariants as answer
+use Rattle.cc_model.specs.declared.call.SendAnswer.TheVariants as send
+use Rattle.cc_model.specs.declared.call.CloseAnswer.TheVariants as close
+use Rattle.cc_model.specs.declared.call.TakeAnswer.TheVariants as take
+use Rattle.cc_runs.specs.declared.setting.Setting.{Setting}
+use Rattle.cc_runs.specs.declared.setting.Served.TheVariants as served
+use Rattle.cc_runs.specs.declared.word.ItemField.TheVariants as item
+use Rattle.cc_runs.specs.declared.word.Object.TheVariants as object
+use Rattle.cc_runs.specs.declared.word.Word.{Word}
+use Rattle.cc_runs.specs.declared.word.Word.TheVariants.{Item, Object}
+use Rattle.cc_runs.specs.declared.place.Place.{Place}
+use Rattle.cc_runs.specs.declared.place.Place.TheVariants as place
+use Rattle.cc_runs.specs.declared.place.Sending.{Sending}
+use Rattle.cc_runs.specs.declared.place.Sending.TheVariants as sending
+use Rattle.cc_runs.specs.declared.place.Taking.{Taking}
+use Rattle.cc_runs.specs.declared.place.Taking.TheVariants as taking
+use Rattle.cc_runs.specs.Words.{groups}
+use Rattle.cc_runs.specs.State.{State, chain_of, pass_at}
+use Rattle.cc_runs.specs.Columns.{group_of}
+use Rattle.cc_runs.specs.Sides.{answers_on}
+use Rattle.cc_runs.specs.declared.word.Chain.{Chain}
+use Rattle.cc_runs.specs.Safe.{IsReady}
+use Rattle.cc_runs.specs.ChainLaws.{IsLastAnswer}
+use Rattle.cc_runs.specs.Run.{Move, Begin, Step, Take, passes, reached, history_of, IsRun}
+
+-- of every run of such a machine, whose configuration was checked
+abbrev pub AfterEveryRun : (Setting → List Move → Type 0) → Type 0
+AfterEveryRun P = (c : Setting) (moves : List Move) → c.served ≡ served.List → config_fault c.config ≡ Ok tt → IsRun c moves → P c moves
+
+-- ---- the history
+
+-- its answers are lawful
+abbrev pub HistoryIsLegal : Type 0
+HistoryIsLegal = AfterEveryRun (λ c moves. Legal c.config (history_of c moves))
+
+-- and so items are handed out in the order in which they were accepted
+abbrev pub HistoryIsFifo : Type 0
+HistoryIsFifo = AfterEveryRun (λ c moves. Fifo (history_of c moves))
+
+-- ---- busy nodes
+
+-- a list node is busy until every group has passed it
+abbrev pub is_busy : Config → (Word → ℕ) → ℕ → ℕ
+is_busy c mem i = if mem (Item i item.Passed) == groups c then 0 else 1
+
+-- how many of the first nodes are busy
+abbrev pub busy_below : Config → (Word → ℕ) → ℕ → ℕ
+busy_below c mem zero = 0
+busy_below c mem (suc n) = is_busy c mem n + busy_below c mem n
+
+-- a send's service prepares a node, from the reset of its count of groups up to its link
+abbrev pub IsPreparing : Sending → ℕ → Type 0
+IsPreparing (sending.ResetItemNext parcel at) x = at ≡ x
+IsPreparing (sending.WriteItemTag parcel at) x = at ≡ x
+IsPreparing (sending.WriteItemBody count body at) x = at ≡ x
+IsPreparing (sending.ReadLast count at) x = at ≡ x
+IsPreparing (sending.LinkItem count at last) x = at ≡ x
+IsPreparing _ x = ⊥
+
+-- a pass that stands here does
+abbrev pub Prepares : Place → ℕ → Type 0
+Prepares (place.Sending job service) x = IsPreparing service x
+Prepares _ x = ⊥
+
+-- outside the preparation of a node the items that wait have a busy node each, and the dummy is one more
+abbrev pub BusyNodesAreItems : Type 0
+BusyNodesAreItems = AfterEveryRun (λ c moves. let s : State = reached c moves in
+    ((p x : ℕ) → Prepares (s.stand p).place x → ⊥)
+    → busy_below c.config s.mem (c.config.capacity + 1) + handed_to_all s.history ≡ length (accepted s.history) + 1)
+
+-- and in it the node that is prepared is one more
+abbrev pub PreparedNodeIsBusy : Type 0
+PreparedNodeIsBusy = AfterEveryRun (λ c moves. let s : State = reached c moves in
+    (p x : ℕ) → Prepares (s.stand p).place x
+    → busy_below c.config s.mem (c.config.capacity + 1) + handed_to_all s.history ≡ length (accepted s.history) + 2)
+
+-- ---- reuse of list nodes
+
+-- the node that a step links into the list
+abbrev pub links : Sending → List ℕ
+links (sending.LinkItem count at last) = at ∷ []
+links _ = []
+
+-- and a step of a pass that stands here
+abbrev pub links_at : Place → List ℕ
+links_at (place.Sending job service) = links service
+links_at _ = []
+
+-- the nodes of the list in order, the first dummy and then the node of each accepted item
+abbrev pub linked_nodes : Setting → List Move → List ℕ
+linked_nodes c [] = 0 ∷ []
+linked_nodes c (Step p ∷ earlier) = linked_nodes c earlier ++ links_at ((reached c earlier).stand p).place
+linked_nodes c (Begin p call known ∷ earlier) = linked_nodes c earlier
+linked_nodes c (Take p ∷ earlier) = linked_nodes c earlier
+
+-- the node that is reset now: its count of groups, or its link
+abbrev pub Resets : Place → ℕ → Type 0
+Resets (place.Sending job (sending.ResetPassed parcel at)) x = at ≡ x
+Resets (place.Sending job (sending.ResetItemNext parcel at)) x = at ≡ x
+Resets _ x = ⊥
+
+-- A node that was in the list is reset only after the take that went past it was decided: the take with number k goes
+-- from the node at place k to the next one.
+abbrev pub ResetAfterTheTake : Type 0
+ResetAfterTheTake = AfterEveryRun (λ c moves. let s : State = reached c moves in
+    (p x k : ℕ) → Resets (s.stand p).place x → slice_get (linked_nodes c moves) k ≡ Some x → k < handed_to_all s.history)
+
+-- a take's service holds the dummy for steps to come, and the node after it once its link was read
+abbrev pub Holds : Taking → ℕ → Type 0
+Holds taking.ReadHead x = ⊥
+Holds (taking.ReadTaken dummy) x = dummy ≡ x
+Holds (taking.ReadDummyNext dummy taken) x = dummy ≡ x
+Holds (taking.ReadItemTag dummy taken at) x = (dummy ≡ x) ⊎ (at ≡ x)
+Holds (taking.ReadItemBody dummy taken at tag) x = (dummy ≡ x) ⊎ (at ≡ x)
+Holds (taking.WriteHead dummy at parcel) x = (dummy ≡ x) ⊎ (at ≡ x)
+Holds (taking.WriteTaken dummy parcel) x = dummy ≡ x
+Holds (taking.AddPassed dummy parcel) x = dummy ≡ x
+
+-- a pass that stands here does
+abbrev pub HoldsAt : Place → ℕ → Type 0
+HoldsAt (place.Taking job service) x = Holds service x
+HoldsAt _ x = ⊥
+
+-- from its reset up to its link no take holds a node
+abbrev pub PreparedAlone : Type 0
+PreparedAlone = AfterEveryRun (λ c moves. let s : State = reached c moves in (p q x : ℕ) → Prepares (s.stand p).place x → HoldsAt (s.stand q).place x → ⊥)
+
+-- ---- links and numbers
+
+-- the link of an ordinary list node
+abbrev pub NamesNode : Config → ℕ → Type 0
+NamesNode c link = (1 ≤ link) × (link ≤ c.capacity + 1)
+
+-- What a step of a service finds: `last` and `head` name ordinary nodes, and the dummy's next is null or names a node, or the
+-- closing mark. The scan starts at an ordinary node, and from there on up to the last word of its send the node that is
+-- looked at, or was found, is an ordinary one.
+abbrev pub FindsNode : Config → State → Chain → Place → Type 0
+FindsNode c s x (place.Sending job (sending.ReadLastToClose total)) = NamesNode c (s.mem (Object object.Last))
+FindsNode c s x (place.Sending job (sending.ReadCursor parcel)) = s.mem (Object object.Cursor) ≤ c.capacity
+FindsNode c s x (place.Sending job (sending.ReadPassed parcel at reads)) = at ≤ c.capacity
+FindsNode c s x (place.Sending job (sending.ResetPassed parcel at)) = at ≤ c.capacity
+FindsNode c s x (place.Sending job (sending.ResetItemNext parcel at)) = at ≤ c.capacity
+FindsNode c s x (place.Sending job (sending.WriteItemTag parcel at)) = at ≤ c.capacity
+FindsNode c s x (place.Sending job (sending.WriteItemBody count body at)) = at ≤ c.capacity
+FindsNode c s x (place.Sending job (sending.ReadLast count at)) = NamesNode c (s.mem (Object object.Last)) × (at ≤ c.capacity)
+FindsNode c s x (place.Sending job (sending.LinkItem count at last)) = at ≤ c.capacity
+FindsNode c s x (place.Sending job (sending.WriteLast count at)) = at ≤ c.capacity
+FindsNode c s x (place.Sending job (sending.WriteCount count at)) = at ≤ c.capacity
+FindsNode c s x (place.Sending job (sending.WriteCursor count at)) = at ≤ c.capacity
+FindsNode c s x (place.Taking job taking.ReadHead) = NamesNode c (s.mem (Object (object.Head (group_of x))))
+FindsNode c s x (place.Taking job (taking.ReadDummyNext dummy taken)) = s.mem (Item dummy item.Next) ≤ c.capacity + 2
+FindsNode c s x _ = Unit {0}
+
+-- each link that is read is one, and a scan reads ordinary nodes alone
+abbrev pub LinksNameNodes : Type 0
+LinksNameNodes = AfterEveryRun (λ c moves. (p : ℕ) → FindsNode c.config (reached c moves) (chain_of c.config p) ((reached c moves).stand p).place)
+
+-- a scan that stands here has read so many nodes, the next one counted in
+abbrev pub scan_reads : Place → ℕ
+scan_reads (place.Sending job (sending.ReadPassed parcel at reads)) = reads
+scan_reads _ = 0
+
+-- a scan reads at most as many nodes as there are ordinary ones
+abbrev pub ScansAreShort : Type 0
+ScansAreShort = AfterEveryRun (λ c moves. (p : ℕ) → scan_reads ((reached c moves).stand p).place ≤ c.config.capacity + 1)
+
+-- a place is below this number, and a count of items at most so great
+abbrev pub AnswerWithin : ℕ → Answer → Type 0
+AnswerWithin most (answer.Send (send.Accepted at)) = at < most
+AnswerWithin most (answer.Close (close.Shut total)) = total ≤ most
+AnswerWithin most (answer.Close (close.Already total)) = total ≤ most
+AnswerWithin most (answer.Take (take.Got item)) = (item.place < most) × (item.number < 2 ^ 32)
+AnswerWithin most (answer.Take (take.Ended total)) = total ≤ most
+AnswerWithin most _ = Unit {0}
+
+-- at most `life` items are accepted; each place in an answer is below that, each total at most that, and each send's number
+-- below 2^32
+pub record IsWithin (c : Config) (h : Record) : Type 0 where
+  pub life : length (accepted h) ≤ c.life
+  pub answers : (x : Chain) → AllByRecursion (AnswerWithin c.life) (answers_on x h)
+
+-- of every history
+abbrev pub NumbersStayWithin : Type 0
+NumbersStayWithin = AfterEveryRun (λ c moves. IsWithin c.config (history_of c moves))
+
+-- ---- steps
+
+-- each step finds its words, no number leaves its range, and an answer is decided of a call that has none
+abbrev pub StepsAreReady : Type 0
+StepsAreReady = AfterEveryRun (λ c moves. (p : ℕ) → p < passes c → IsReady c (reached c moves) p)
+
+-- ---- answers
+
+-- what a call has read as its answer is the answer of its pass's last call in the history
+abbrev pub AnswersAreTold : Type 0
+AnswersAreTold = AfterEveryRun (λ c moves. (p : ℕ) (told : Answer) → p < passes c → ((reached c moves).stand p).place ≡ place.Finished told → IsLastAnswer (pass_at c.config p) (history_of c moves) told)
+
+-- ---- fronts of runs, whatever is served
+
+-- a front of a run is a run, and its history begins the later one
+abbrev pub FrontsBegin : Type 0
+FrontsBegin = (c : Setting) (later earlier : List Move) → IsRun c (later ++ earlier) → IsRun c earlier × Begins (history_of c earlier) (history_of c (later ++ earlier))

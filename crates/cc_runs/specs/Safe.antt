@@ -1,0 +1,90 @@
+-- What a step needs: its word is there, and no number leaves its range.
+use Rattle.std.specs.Prelude.{ℕ, ◌+◌, ◌<◌, ◌^◌, length, IsTrue}
+use Rattle.cc_model.specs.Record.{Record}
+use Rattle.cc_runs.specs.declared.setting.Setting.{Setting}
+use Rattle.cc_runs.specs.declared.word.Chain.{Chain}
+use Rattle.cc_runs.specs.declared.place.Place.{Place}
+use Rattle.cc_runs.specs.declared.place.Place.TheVariants as place
+use Rattle.cc_runs.specs.declared.place.Counting.{Counting}
+use Rattle.cc_runs.specs.declared.place.Counting.TheVariants as counting
+use Rattle.cc_runs.specs.declared.place.Sending.{Sending}
+use Rattle.cc_runs.specs.declared.place.Sending.TheVariants as sending
+use Rattle.cc_runs.specs.declared.place.Taking.{Taking}
+use Rattle.cc_runs.specs.declared.place.Taking.TheVariants as taking
+use Rattle.cc_runs.specs.Words.{layout_of, exists}
+use Rattle.cc_runs.specs.State.{State, side, word_of, chain_of}
+use Rattle.cc_runs.specs.Codes.{ret_of}
+use Rattle.cc_runs.specs.Columns.{operation}
+
+-- a count stays in a word
+abbrev pub IsCountSafe : Counting → Type 0
+IsCountSafe (counting.WriteCount count) = count + 1 < 2 ^ 64
+IsCountSafe _ = Unit {0}
+
+-- a link that is found isn't null, and links and counts stay in words
+abbrev pub IsSendSafe : ℕ → Sending → Type 0
+IsSendSafe found (sending.ReadLastToClose total) = 0 < found
+IsSendSafe found (sending.ReadPassed parcel at reads) = reads + 1 < 2 ^ 32
+IsSendSafe found (sending.ReadLast place at) = 0 < found
+IsSendSafe found (sending.LinkItem place at last) = at + 1 < 2 ^ 64
+IsSendSafe found (sending.WriteLast place at) = at + 1 < 2 ^ 64
+IsSendSafe found (sending.WriteCount place at) = place + 1 < 2 ^ 64
+IsSendSafe found (sending.WriteCursor place at) = at + 1 < 2 ^ 64
+IsSendSafe found _ = Unit {0}
+
+-- the same of a take
+abbrev pub IsTakeSafe : ℕ → Taking → Type 0
+IsTakeSafe found taking.ReadHead = 0 < found
+IsTakeSafe found (taking.WriteHead dummy at parcel) = at + 1 < 2 ^ 64
+IsTakeSafe found (taking.WriteTaken dummy parcel) = parcel.place + 1 < 2 ^ 64
+IsTakeSafe found (taking.AddPassed dummy parcel) = found + 1 < 2 ^ 64
+IsTakeSafe found _ = Unit {0}
+
+-- of what the step at this place finds
+abbrev pub IsPlaceSafe : Setting → ℕ → ℕ → Place → Type 0
+IsPlaceSafe c own found (place.Exchange call) = (0 < found) × (own + 1 < 2 ^ 64)
+IsPlaceSafe c own found (place.Link put) = put + 1 < 2 ^ 64
+IsPlaceSafe c own found (place.Counting job service) = IsCountSafe service
+IsPlaceSafe c own found (place.Sending job service) = IsSendSafe found service
+IsPlaceSafe c own found (place.Taking job service) = IsTakeSafe found service
+IsPlaceSafe c own found (place.WriteAnswer job told) = ret_of c.served told < 2 ^ 64
+IsPlaceSafe c own found (place.MarkDone job) = job.round.served + 1 < 2 ^ 32
+IsPlaceSafe c own found _ = Unit {0}
+
+-- what a step of a pass of chain x finds
+abbrev pub found_at : Setting → State → Chain → ℕ → Place → ℕ
+found_at c s x own at = s.mem (word_of (operation c x own at))
+
+-- such a step can be done
+pub record IsSafe (c : Setting) (s : State) (x : Chain) (own : ℕ) (at : Place) : Type 0 where
+  pub word : IsTrue (exists (layout_of c.config) (word_of (operation c x own at)))
+  pub numbers : IsPlaceSafe c own (found_at c s x own at) at
+
+-- the next step of pass p can be done
+abbrev pub IsStepSafe : Setting → State → ℕ → Type 0
+IsStepSafe c s p = IsSafe c s (chain_of c.config p) (s.stand p).node (s.stand p).place
+
+-- some call of this chain has no answer yet
+abbrev pub HasOpenCall : Record → Chain → Type 0
+HasOpenCall h x = length (side x h).answers < length (side x h).calls
+
+-- a fact of the places of a service up to the step that decides its answer
+abbrev pub WhileUndecided : Place → Type 0 → Type 0
+WhileUndecided (place.Counting job service) P = P
+WhileUndecided (place.Sending job (sending.WriteLastMark total)) P = Unit {0}
+WhileUndecided (place.Sending job (sending.WriteShut total)) P = Unit {0}
+WhileUndecided (place.Sending job (sending.WriteLast at node)) P = Unit {0}
+WhileUndecided (place.Sending job (sending.WriteCount at node)) P = Unit {0}
+WhileUndecided (place.Sending job (sending.WriteCursor at node)) P = Unit {0}
+WhileUndecided (place.Sending job service) P = P
+WhileUndecided (place.Taking job service) P = P
+WhileUndecided _ P = Unit {0}
+
+-- there a call has no answer yet
+abbrev pub IsOpenAt : Record → Chain → Place → Type 0
+IsOpenAt h x at = WhileUndecided at (HasOpenCall h x)
+
+-- the next step of pass p can be done, and decides no answer but that of a call that has none
+pub record IsReady (c : Setting) (s : State) (p : ℕ) : Type 0 where
+  pub safe : IsStepSafe c s p
+  pub unanswered : IsOpenAt s.history (chain_of c.config p) (s.stand p).place

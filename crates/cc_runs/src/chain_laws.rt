@@ -1,0 +1,35 @@
+ghost use Rattle.cc_runs.specs.CallsMade.{CallsOfRuns};
+ghost use Rattle.cc_runs.specs.ChainLaws.{ChainLawsOfRuns, CounterLawsOfRuns, CallsWaitForTheirLink, CallsEndAnswered};
+
+/// The laws of the combining chains (CC-Synch, Fatourou and Kallimanis, PPoPP 2012), after every run of every machine,
+/// whatever its chains serve: one pass of a chain combines at most, and answers at most `bound` calls before it hands
+/// over; what it serves is the first call without an answer, so answers come in the order of the exchanges; a call
+/// reads its answer in the history; each link that is read is null or names a node of the chain; and a pass resets no
+/// node but its own.
+pub fn laws_of_chains()
+    ensures { ChainLawsOfRuns }
+{}
+
+/// The laws of a counter, after every run: it hands out the numbers from 0 on, one to each call, in the order of the
+/// exchanges; and each step can be done, with its words in the table and every number in its range.
+pub fn laws_of_counters()
+    ensures { CounterLawsOfRuns }
+{}
+
+/// The calls of every pass, after every run: the history has just those that the pass began and that have exchanged,
+/// each once and in the order of their begins, with what was handed in and known at the begin.
+pub fn laws_of_calls()
+    ensures { CallsOfRuns }
+{}
+
+/// A call that has exchanged and whose pass stands before its link is pending, after every run: it is its pass's last
+/// call in the history, and has no answer there. A combiner reaches a call only over the link to the next node.
+pub fn calls_wait_for_their_link()
+    ensures { CallsWaitForTheirLink }
+{}
+
+/// A pass that is out of its chain has no pending call, after every run: each of its calls in the history has its answer
+/// there. So has an idle pass.
+pub fn calls_end_answered()
+    ensures { CallsEndAnswered }
+{}

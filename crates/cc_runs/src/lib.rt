@@ -1,0 +1,37 @@
+//! The runs of the queue's machine: its words, where a pass stands, what each atomic step does, and the laws of every run.
+//!
+//! A machine is one combining chain round a counter, or the queue, whose senders' and receivers' chains stand round one
+//! list. The chains are CC-Synch, and the queue is CC-Queue (Fatourou and Kallimanis, PPoPP 2012), which puts them into
+//! the two-lock list queue (Michael and Scott, PODC 1996). A run is any order of the begins, the steps and the takings of
+//! answers of all passes; no code here does one. What holds of all of them stands as the contracts of functions with
+//! empty bodies: on these laws the machine of one thread stands, and the queue that threads share.
+#![tactic(auto)]
+
+mod chain_laws;
+mod codes;
+mod fault;
+mod list_laws;
+mod place;
+mod run;
+mod run_laws;
+mod setting;
+mod word;
+
+pub use chain_laws::{
+    calls_end_answered, calls_wait_for_their_link, laws_of_calls, laws_of_chains, laws_of_counters,
+};
+pub use codes::{CODE, count_word, item_of, list_reads, request_in, ret_of, sender_reads};
+pub use fault::OpenFault;
+pub use list_laws::{
+    answers_are_told, busy_nodes_are_items, fronts_of_runs_begin, histories_are_fifo,
+    histories_are_legal, links_name_nodes, nodes_are_prepared_alone,
+    nodes_are_reset_after_their_take, numbers_stay_within, prepared_node_is_busy, scans_are_short,
+    steps_are_ready,
+};
+pub use place::{
+    Counting, Event, Job, Kind, Parcel, Place, Request, Round, Sending, Stand, Taking,
+};
+pub use run::Move;
+pub use run_laws::{fronts_know_no_more, others_leave_a_pass};
+pub use setting::{Served, Setting};
+pub use word::{Chain, ItemField, NodeField, Object, Word, address};

@@ -1,0 +1,123 @@
+ghost use Rattle.std.specs.Prelude.{◌≡◌, ◌<◌, IsTrue};
+ghost use Rattle.cc_runs.specs.Words as laid;
+ghost use Rattle.cc_runs.specs.Words.{IsSmall, layout_of, exists, size, node_field, item_field};
+
+use cc_model::Config;
+
+/// A chain of waiting calls: the senders', or that of one group of receivers.
+#[derive(Clone, Copy)]
+pub enum Chain {
+    Send,
+    Take(u32),
+}
+
+/// A word of a chain's node.
+#[derive(Clone, Copy)]
+pub enum NodeField {
+    Next,
+    State,
+    Tag,
+    Body,
+    Ret,
+}
+
+/// A word of a list node.
+#[derive(Clone, Copy)]
+pub enum ItemField {
+    Tag,
+    Body,
+    Next,
+    Passed,
+}
+
+/// A word of the list as a whole, or of one group's end of it.
+#[derive(Clone, Copy)]
+pub enum Object {
+    Last,
+    Shut,
+    Count,
+    Cursor,
+    Head(u32),
+    Taken(u32),
+}
+
+/// A word of a topic's table.
+#[derive(Clone, Copy)]
+pub enum Word {
+    Tail(Chain),
+    Object(Object),
+    Node(Chain, u64, NodeField),
+    Item(u64, ItemField),
+}
+
+impl NodeField {
+    /// The place of this word among the five of a node of this chain, from 0 on.
+    #[inline(always)]
+    pub fn offset(self, chain: Chain) -> usize
+        ensures place { result ≡ node_field chain self }
+        ensures few { result < 5 }
+    {
+        match (chain, self) {
+            (_, NodeField::Next) => 0,
+            (_, NodeField::State) => 1,
+            (Chain::Send, NodeField::Tag) => 2,
+            (Chain::Send, NodeField::Body) => 3,
+            (Chain::Send, NodeField::Ret) => 4,
+            (Chain::Take(_), NodeField::Ret) => 2,
+            (Chain::Take(_), NodeField::Tag) => 3,
+            (Chain::Take(_), NodeField::Body) => 4,
+        }
+    }
+}
+
+impl ItemField {
+    /// The place of this word among the four of a list node, from 0 on.
+    #[inline(always)]
+    pub fn offset(self) -> usize
+        ensures place { result ≡ item_field self }
+        ensures few { result < 4 }
+    {
+        match self {
+            ItemField::Tag => 0,
+            ItemField::Body => 1,
+            ItemField::Next => 2,
+            ItemField::Passed => 3,
+        }
+    }
+}
+
+/// The number of a word among all words of a topic, from 0 on: words 0 to 7 are kept for the configuration; then come the
+/// senders' tail, `last`, `shut`, `count`, `cursor`, then tail, `head` and `taken` of each group, the senders' nodes, the
+/// nodes of each group, and the list nodes.
+#[inline(always)]
+pub fn address(config: &Config, word: Word) -> usize
+    requires small { IsSmall (layout_of config.now) }
+    requires word { IsTrue (exists (layout_of config.now) word) }
+    ensures place { result ≡ laid.address (layout_of config.now) word }
+    ensures below { result < size (layout_of config.now) }
+{
+    let groups = config.groups as usize;
+    let send_nodes = 13 + 3 * groups;
+    let take_nodes = send_nodes + 5 * (config.senders as usize + 1);
+    let items = take_nodes + 5 * (groups * (config.receivers as usize + 1));
+    match word {
+        Word::Tail(Chain::Send) => 8,
+        Word::Object(Object::Last) => 9,
+        Word::Object(Object::Shut) => 10,
+        Word::Object(Object::Count) => 11,
+        Word::Object(Object::Cursor) => 12,
+        Word::Tail(Chain::Take(group)) => 13 + 3 * group as usize,
+        Word::Object(Object::Head(group)) => 14 + 3 * group as usize,
+        Word::Object(Object::Taken(group)) => 15 + 3 * group as usize,
+        Word::Node(Chain::Send, index, field) => {
+            send_nodes + 5 * index as usize + field.offset(Chain::Send)
+        }
+        Word::Node(Chain::Take(group), index, field) => {
+            take_nodes
+                + 5 * (group as usize * (config.receivers as usize + 1))
+                + 5 * index as usize
+                + field.offset(Chain::Take(group))
+        }
+        Word::Item(index, field) => items + 4 * index as usize + field.offset(),
+    }
+}
