@@ -8,4 +8,5 @@ pub mod DeviceParts
 pub mod Items
 pub mod Legal
 pub mod Fifo
+pub mod Fresh
 pub mod Written

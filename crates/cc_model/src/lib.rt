@@ -13,6 +13,6 @@ pub use call::{Answer, Call, CloseAnswer, Entry, Item, Pass, SendAnswer, TakeAns
 pub use config::{Config, ConfigFault, is_within};
 pub use device::{Device, DeviceFault, Sink, Source};
 pub use history::History;
-pub use laws::legal_gives_fifo;
+pub use laws::{empty_is_fresh, full_is_fresh, legal_gives_fifo};
 pub use pen::{Pen, WriteFault, write_bytes};
 pub use tag::{pack, unpack};
