@@ -130,7 +130,7 @@ none_take job (taking.AddPassed dummy parcel) found = refl
 -- ---- one step
 
 -- a step of the pass itself, whose calls are those of which f holds
-own_step : (c : Setting) (x : Chain) (own found : ℕ) (f : Entry → Bool) (calls began : List Entry) (at : Place) → began ≡ filter f calls ++ to_exchange at → ((call : Entry) → at ≡ place.Exchange call → f call ≡ true) →
+pub own_step : (c : Setting) (x : Chain) (own found : ℕ) (f : Entry → Bool) (calls began : List Entry) (at : Place) → began ≡ filter f calls ++ to_exchange at → ((call : Entry) → at ≡ place.Exchange call → f call ≡ true) →
     began ≡ filter f (appended calls (enters at)) ++ to_exchange (goes c x own at found)
 own_step c x own found f calls began place.Idle e its = e
 own_step c x own found f calls began (place.ResetNext call) e its = e

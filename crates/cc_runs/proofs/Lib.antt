@@ -9,6 +9,7 @@ pub mod ChainRuns
 pub mod ChainLaws
 pub mod EndAnswered
 pub mod CallsMade
+pub mod SendNumbers
 pub mod RunFronts
 pub mod Passes
 pub mod KnownFronts

@@ -1,13 +1,16 @@
 -- The calls that a pass began in a run, and that the history has them.
-use Rattle.std.specs.Prelude.{◌≡◌, ℕ, ◌<◌, ◌==◌, if◌then◌else◌, List, [], ◌∷◌, ◌++◌, map, Ok}
+use Rattle.std.specs.Prelude.{◌≡◌, ℕ, ◌<◌, ◌≤◌, ◌==◌, if◌then◌else◌, List, [], ◌∷◌, ◌++◌, map, Ok}
+use Rattle.std.specs.List.{AllByRecursion}
 use Rattle.cc_model.specs.Items.{calls_of}
 use Rattle.cc_model.specs.Config.{config_fault}
 use Rattle.cc_model.specs.declared.call.Entry.{Entry}
 use Rattle.cc_runs.specs.declared.setting.Setting.{Setting}
+use Rattle.cc_runs.specs.declared.word.Chain.{Chain}
 use Rattle.cc_runs.specs.declared.place.Place.{Place}
 use Rattle.cc_runs.specs.declared.place.Place.TheVariants as place
 use Rattle.cc_runs.specs.State.{pass_at}
-use Rattle.cc_runs.specs.Run.{Move, Begin, IsRun, reached, passes, number_of}
+use Rattle.cc_runs.specs.Run.{Move, Begin, IsRun, reached, passes, number_of, history_of}
+use Rattle.cc_runs.specs.Sides.{calls_on}
 
 -- the calls that pass p began, in order, each with its number and what it knew
 abbrev pub made : Setting → List Move → ℕ → List Entry
@@ -28,6 +31,10 @@ to_exchange _ = []
 abbrev pub CallsOfRuns : Type 0
 CallsOfRuns = (c : Setting) → config_fault c.config ≡ Ok tt → (moves : List Move) → IsRun c moves → (p : ℕ) → p < passes c →
     made c moves p ≡ map (λ z. z.0) (calls_of (pass_at c.config p) (reached c moves).history) ++ to_exchange ((reached c moves).stand p).place
+
+-- after every run the number of each call in the history is at most `per_sender`
+abbrev pub NumbersOfSends : Type 0
+NumbersOfSends = (c : Setting) (moves : List Move) → IsRun c moves → (x : Chain) → AllByRecursion (λ e. e.number ≤ c.config.per_sender) (calls_on x (history_of c moves))
 
 -- a call that was begun and hasn't exchanged
 abbrev pub before_exchange : Place → ℕ

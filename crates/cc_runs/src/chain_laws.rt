@@ -1,4 +1,4 @@
-ghost use Rattle.cc_runs.specs.CallsMade.{CallsOfRuns};
+ghost use Rattle.cc_runs.specs.CallsMade.{CallsOfRuns, NumbersOfSends};
 ghost use Rattle.cc_runs.specs.ChainLaws.{ChainLawsOfRuns, CounterLawsOfRuns, CallsWaitForTheirLink, CallsEndAnswered};
 
 /// The laws of the combining chains (CC-Synch, Fatourou and Kallimanis, PPoPP 2012), after every run of every machine,
@@ -20,6 +20,12 @@ pub fn laws_of_counters()
 /// each once and in the order of their begins, with what was handed in and known at the begin.
 pub fn laws_of_calls()
     ensures { CallsOfRuns }
+{}
+
+/// The numbers of the calls, after every run: no call in the history has a greater number than `per_sender`, which is how
+/// many sends one sender may begin.
+pub fn numbers_of_sends()
+    ensures { NumbersOfSends }
 {}
 
 /// A call that has exchanged and whose pass stands before its link is pending, after every run: it is its pass's last

@@ -19,6 +19,7 @@ mod word;
 
 pub use chain_laws::{
     calls_end_answered, calls_wait_for_their_link, laws_of_calls, laws_of_chains, laws_of_counters,
+    numbers_of_sends,
 };
 pub use codes::{CODE, count_word, item_of, list_reads, request_in, ret_of, sender_reads};
 pub use fault::OpenFault;
