@@ -1,6 +1,7 @@
 pub mod Lines
 pub mod Runs
 pub mod Keeps
+pub mod Longest
 pub mod Walks
 pub mod Joined
 pub mod StepFacts
