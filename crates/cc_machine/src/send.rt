@@ -4,6 +4,7 @@ use crate::board::{Board, Seat};
 use cc_model::{Answer, CloseAnswer, SendAnswer};
 use cc_runs::{
     Chain, ItemField, Job, Kind, NodeField, Object, Parcel, Place, Request, Sending, Word,
+    node_after,
 };
 
 /// The steps of the senders' combiner in the service of one request.
@@ -204,7 +205,7 @@ impl Board {
             self.decide(seat.chain, answer);
             Place::WriteAnswer { job, answer }
         } else {
-            let node = (node + 1) % ordinary;
+            let node = node_after(node, ordinary);
             Place::Sending {
                 job,
                 service: Sending::ReadPassed {
@@ -353,7 +354,7 @@ impl Board {
         ensures { Stepped self.old seat (Place.Sending job (Sending.WriteCursor place node)) result self.new }
     {
         let ordinary = self.setting.config.capacity as u64 + 1;
-        self.store(Word::Object(Object::Cursor), (node + 1) % ordinary);
+        self.store(Word::Object(Object::Cursor), node_after(node, ordinary));
         let answer = Answer::Send(SendAnswer::Accepted { place });
         self.go(seat, Place::WriteAnswer { job, answer });
         Kind::WriteObject

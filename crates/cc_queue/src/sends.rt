@@ -11,7 +11,7 @@ ghost use Rattle.cc_steps.specs.Walk.{IsOf, IsReadyToStep};
 ghost use Rattle.cc_queue.specs.Work.{IsOn, IsListWith, worked_to, tally, reads, marks, hands, scans};
 
 use cc_model::Config;
-use cc_runs::{CODE, Chain, ItemField, Job, NodeField, Object, Parcel};
+use cc_runs::{CODE, Chain, ItemField, Job, NodeField, Object, Parcel, node_after};
 use cc_steps::seats::PassSeat;
 use cc_steps::steps;
 use cc_steps::words::Words;
@@ -121,7 +121,7 @@ fn scan(words: &Words, seat: &mut PassSeat, config: &Config, job: Job, parcel: P
             prepare(words, seat, config, job, parcel, node);
             return;
         }
-        node = (node + 1) % nodes;
+        node = node_after(node, nodes);
     }
     if steps::read_passed(words, seat, node) == groups {
         prepare(words, seat, config, job, parcel, node);
@@ -168,7 +168,7 @@ fn append(words: &Words, seat: &mut PassSeat, config: &Config, job: Job, count: 
     steps::link_last(words, seat, last, node + 1);
     steps::write_object(words, seat, Object::Last, node + 1);
     steps::write_object(words, seat, Object::Count, count + 1);
-    let cursor = (node + 1) % (config.capacity as u64 + 1);
+    let cursor = node_after(node, config.capacity as u64 + 1);
     steps::write_object(words, seat, Object::Cursor, cursor);
     steps::write_answer(words, seat, Chain::Send, at, NodeField::Ret, CODE + count);
 }

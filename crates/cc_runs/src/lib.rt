@@ -35,4 +35,4 @@ pub use place::{
 pub use run::Move;
 pub use run_laws::{fronts_know_no_more, others_leave_a_pass};
 pub use setting::{Served, Setting};
-pub use word::{Chain, ItemField, NodeField, Object, Word, address};
+pub use word::{Chain, ItemField, NodeField, Object, Word, address, node_after};

@@ -1,4 +1,4 @@
-ghost use Rattle.std.specs.Prelude.{◌≡◌, ◌<◌, IsTrue};
+ghost use Rattle.std.specs.Prelude.{◌+◌, ◌%◌, ◌^◌, ◌≡◌, ◌<◌, IsTrue};
 ghost use Rattle.cc_runs.specs.Words as laid;
 ghost use Rattle.cc_runs.specs.Words.{IsSmall, layout_of, exists, size, node_field, item_field};
 
@@ -84,6 +84,18 @@ impl ItemField {
             ItemField::Passed => 3,
         }
     }
+}
+
+/// The list node behind this one in a row of so many: behind the last comes the first. It divides only there, since a scan
+/// of the whole row asks it for each node.
+#[inline(always)]
+pub fn node_after(node: u64, nodes: u64) -> u64
+    requires some { 0 < nodes }
+    requires fits { node + 1 < 2 ^ 64 }
+    ensures { result ≡ (node + 1) % nodes }
+{
+    let next = node + 1;
+    if next < nodes { next } else { next % nodes }
 }
 
 /// The number of a word among all words of a topic, from 0 on: words 0 to 7 are kept for the configuration; then come the
