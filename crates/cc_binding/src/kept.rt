@@ -1,5 +1,7 @@
 //! What stands behind a handle.
 ghost use Rattle.std.specs.Prelude.{◌≡◌, Some};
+ghost use Rattle.cc_steps.specs.Walk.{IsOf};
+ghost use Rattle.cc_binding.specs.Passes.{walk_of};
 
 use cc_queue::{PendingClose, PendingSend, PendingTake, Queue, Receiver, Sender};
 use std::marker::Model;
@@ -13,10 +15,18 @@ pub enum Pass {
     Taking(PendingTake),
 }
 
-/// The pass of a handle with its own share of the queue. It has none only inside a call.
+/// A line of the processor's memory that nobody uses, 64 bytes.
+type Spare = [u64; 8];
+
+/// The pass of a handle with its own share of the queue. It has none only inside a call. Each call writes the pass and
+/// reads the share; with a spare line on either side of the pass no call writes to a line that another handle's calls
+/// read.
+#[repr(C)]
 pub struct Kept {
     pub(crate) queue: Queue,
+    before: Spare,
     pub(crate) pass: Option<Pass>,
+    behind: Spare,
 }
 
 impl Model for Kept {
@@ -29,6 +39,21 @@ impl Model for Kept {
     ghost view = { λ k. k.pass };
 
     ghost invariant = { λ k. IsPassOf k.queue k.pass };
+}
+
+impl Kept {
+    /// A pass and a share of its queue.
+    pub(crate) fn new(queue: Queue, pass: Pass) -> Kept
+        requires { IsOf queue (walk_of pass) }
+        ensures { result ≡ Some pass }
+    {
+        Kept {
+            queue,
+            before: [0; 8],
+            pass: Some(pass),
+            behind: [0; 8],
+        }
+    }
 }
 
 /// Lets a pass go. A call that it had begun is given up.
@@ -44,7 +69,12 @@ pub fn let_go(pass: Pass) {
 
 impl Drop for Kept {
     fn drop(self) {
-        let Kept { queue: _, pass } = self;
+        let Kept {
+            queue: _,
+            before: _,
+            pass,
+            behind: _,
+        } = self;
         if let Some(pass) = pass {
             let_go(pass);
         }

@@ -98,10 +98,7 @@ fn kept(alloc: Global, queue: &Queue, pass: Pass) -> Result<Box<Kept>, AllocErro
     ensures { IfOk result (λ k. k.value ≡ Some pass) }
 {
     match queue.share() {
-        Ok(queue) => {
-            let pass = Some(pass);
-            Ok(Box::new(alloc, Kept { queue, pass })?)
-        }
+        Ok(queue) => Ok(Box::new(alloc, Kept::new(queue, pass))?),
         Err(refused) => {
             let_go(pass);
             Err(refused)
