@@ -1,5 +1,6 @@
 pub mod Headline
 pub mod AnswerKinds
+pub mod SendCount
 pub mod Meetings
 pub mod OnItsSide
 pub mod Trying

@@ -32,13 +32,14 @@ pub record KeepsSender (z : Topic) (w : Walk) (number limit begun node : ℕ) (a
   pub low : 1 ≤ number
   pub high : number ≤ 64
 
--- A receiver of this group, from 0, stands here, with this node.
-pub record KeepsReceiver (z : Topic) (w : Walk) (group node : ℕ) (at : Place) : Type 0 where
+-- The receiver of this number, of this group, from 0, stands here, with this node.
+pub record KeepsReceiver (z : Topic) (w : Walk) (number group node : ℕ) (at : Place) : Type 0 where
   pub here : IsOf z w
   pub list : w.setting.served ≡ served.List
   pub chain : IsOn w (Take group)
   pub few : group < 8
   pub stand : w.stand ≡ record { begun = 0; node = node; place = at }
+  pub named : name w ≡ pass.Receiver number
 
 -- which calls are sends, and which are closes
 abbrev pub IsSend : Call → Type 0

@@ -2,6 +2,7 @@ pub mod Work
 pub mod Headline
 pub mod Codes
 pub mod Kept
+pub mod SendCount
 pub mod Calls
 pub mod Met
 pub mod Opened

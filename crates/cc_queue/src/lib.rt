@@ -24,7 +24,7 @@ mod takes;
 mod turns;
 
 pub use blocking::{close, send, take, take_until};
-pub use cc_machine::OpenFault;
+pub use cc_runs::OpenFault;
 pub use cc_model::{CloseAnswer, Config, ConfigFault, Item, SendAnswer, TakeAnswer};
 pub use meets::{meet, meet_all, meet_receivers, meet_senders};
 pub use passes::{

@@ -1,6 +1,8 @@
 //! The passes of a queue: its senders and receivers, idle or with a pending call; and what a turn answers.
-ghost use Rattle.std.specs.Prelude.{[]};
-ghost use Rattle.cc_queue.specs.Headline.{StandsInOne, IsAtRest};
+ghost use Rattle.std.specs.Prelude.{◌≡◌, []};
+ghost use Rattle.cc_model.specs.declared.call.Pass.TheVariants as pass;
+ghost use Rattle.cc_queue.specs.SendCount.{HasBegunSends};
+ghost use Rattle.cc_queue.specs.Headline.{StandsInOne, IsAtRest, name};
 ghost use Rattle.cc_queue.specs.Met.{HasMet};
 
 use cc_model::{CloseAnswer, SendAnswer, TakeAnswer};
@@ -85,6 +87,7 @@ impl Model for PendingClose {
 pub struct Receiver {
     pub(crate) words: Arc<Words, Global>,
     pub(crate) seat: PassSeat,
+    pub(crate) number: u32,
     pub(crate) group: u32,
     pub(crate) node: u64,
 }
@@ -99,13 +102,14 @@ impl Model for Receiver {
 
     ghost view = { λ r. r.seat };
 
-    ghost invariant = { λ r. KeepsReceiver (arc_value r.words) r.seat r.group r.node Idle };
+    ghost invariant = { λ r. KeepsReceiver (arc_value r.words) r.seat r.number r.group r.node Idle };
 }
 
 /// A receiver whose take is pending. It must be spent, by a turn or by `abandon`.
 pub struct PendingTake {
     pub(crate) words: Arc<Words, Global>,
     pub(crate) seat: PassSeat,
+    pub(crate) number: u32,
     pub(crate) group: u32,
     pub(crate) node: u64,
 }
@@ -120,7 +124,7 @@ impl Model for PendingTake {
 
     ghost view = { λ r. r.seat };
 
-    ghost invariant = { λ r. KeepsReceiver (arc_value r.words) r.seat r.group r.node ReadState };
+    ghost invariant = { λ r. KeepsReceiver (arc_value r.words) r.seat r.number r.group r.node ReadState };
 }
 
 /// What a turn of a send answers. `served` is how many requests this turn served: 0 where another pass had served the
@@ -158,6 +162,21 @@ pub enum TakeTurn {
 }
 
 impl Sender {
+    /// The number by which the queue knows the sender, from 1.
+    pub fn number(&self) -> u32
+        ensures { name self.now ≡ pass.Sender result }
+    {
+        self.number
+    }
+
+    /// How many sends the sender has begun, whatever their answers.
+    pub fn begun(&self) -> u32
+        ensures { HasBegunSends self.now result }
+    {
+        self.seat.stands();
+        self.begun
+    }
+
     /// All that the sender has seen stands in one history, in which each of its calls has its answer: a fact for proofs,
     /// and no work.
     pub fn stands(&self)

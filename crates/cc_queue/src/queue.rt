@@ -75,6 +75,7 @@ fn receiver_on(words: Arc<Words, Global>, seat: PassSeat, config: &Config, place
     Receiver {
         words,
         seat,
+        number: place + 1,
         group: place / config.receivers,
         node: (place % config.receivers) as u64 + 1,
     }

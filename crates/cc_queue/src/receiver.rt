@@ -1,9 +1,11 @@
 //! The calls of a receiver.
 ghost use Rattle.std.specs.Prelude.{◌≡◌, ◌+◌, ◌<◌, ◌≤◌, ◌^◌, ◌∷◌, ◌++◌, []};
 ghost use Rattle.cc_model.specs.declared.call.Call.TheVariants as call;
+ghost use Rattle.cc_model.specs.declared.call.Pass.TheVariants as pass;
 ghost use Rattle.cc_steps.specs.Walk.{IsOf};
 ghost use Rattle.cc_queue.specs.Calls.{Begun, TurnedTake};
 ghost use Rattle.cc_queue.specs.Group.{Ranked};
+ghost use Rattle.cc_queue.specs.Headline.{name};
 
 use crate::passes::{PendingTake, Receiver, TakeTurn};
 use crate::queue::Queue;
@@ -17,6 +19,7 @@ pub fn begin_take(queue: &Queue, receiver: Receiver) -> PendingTake
     let Receiver {
         words,
         mut seat,
+        number,
         group,
         node,
     } = receiver;
@@ -25,6 +28,7 @@ pub fn begin_take(queue: &Queue, receiver: Receiver) -> PendingTake
     PendingTake {
         words,
         seat,
+        number,
         group,
         node,
     }
@@ -39,6 +43,7 @@ pub fn turn_take(queue: &Queue, pending: PendingTake) -> TakeTurn
     let PendingTake {
         words,
         mut seat,
+        number,
         group,
         node,
     } = pending;
@@ -48,6 +53,7 @@ pub fn turn_take(queue: &Queue, pending: PendingTake) -> TakeTurn
         None => TakeTurn::Waiting(PendingTake {
             words,
             seat,
+            number,
             group,
             node,
         }),
@@ -55,6 +61,7 @@ pub fn turn_take(queue: &Queue, pending: PendingTake) -> TakeTurn
             receiver: Receiver {
                 words,
                 seat,
+                number,
                 group,
                 node,
             },
@@ -65,6 +72,13 @@ pub fn turn_take(queue: &Queue, pending: PendingTake) -> TakeTurn
 }
 
 impl Receiver {
+    /// The number by which the queue knows the receiver, from 1, group by group.
+    pub fn number(&self) -> u32
+        ensures { name self.now ≡ pass.Receiver result }
+    {
+        self.number
+    }
+
     /// The group whose chain its takes go to, from 1.
     pub fn group(&self) -> u32
         ensures { Ranked self.now result }
@@ -79,6 +93,7 @@ impl PendingTake {
         let PendingTake {
             words: _,
             seat: _,
+            number: _,
             group: _,
             node: _,
         } = self;

@@ -58,6 +58,7 @@ fn worn_sender(rt: HostRuntime) {
     };
     let (queue, first, _second, _receiver) = opened(&rt, rt.alloc(), &once);
     assert!(rt; !first.is_worn());
+    assert_eq!(rt; first.begun(), 0);
     let (first, answer) = send(&rt, &queue, first, 7);
     assert_eq!(rt; answer, SendAnswer::Accepted { place: 0 });
     match cc_queue::begin_send(&queue, first, 9) {
@@ -67,6 +68,7 @@ fn worn_sender(rt: HostRuntime) {
         }
         Err(first) => {
             assert!(rt; first.is_worn());
+            assert_eq!(rt; first.begun(), 1);
             let (_, answer) = close(&rt, &queue, first);
             assert_eq!(rt; answer, CloseAnswer::Shut { total: 1 });
         }

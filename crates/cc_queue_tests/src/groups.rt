@@ -1,6 +1,6 @@
 //! Two groups of one receiver each: every group gets every item, and a node is free when both have it.
 use crate::calls::{SMALL, close, opened_wide, send, take};
-use cc_model::{CloseAnswer, Config, Item, SendAnswer, TakeAnswer};
+use cc_queue::{CloseAnswer, Config, Item, SendAnswer, TakeAnswer};
 
 const PAIR: Config = Config {
     senders: 1,
@@ -55,18 +55,26 @@ fn full_until_each_group_took(rt: HostRuntime) {
     assert_eq!(rt; answer, TakeAnswer::Ended { total: 2 });
 }
 
-/// Receivers are numbered through, and each knows its group: three groups of two.
+/// Receivers are numbered through, and each knows its number and its group: three groups of two. Senders are numbered too.
 #[test]
-fn receivers_by_group(rt: HostRuntime) {
+fn numbers_and_groups(rt: HostRuntime) {
     let config = Config {
         receivers: 2,
         groups: 3,
         ..SMALL
     };
     let opened = cc_queue::Queue::open(rt.alloc(), &config).expect(&rt, "the queue opens");
-    let mut groups = opened.receivers.iter().map(|receiver| receiver.group());
-    for group in [1, 1, 2, 2, 3, 3] {
-        assert_eq!(rt; groups.next(), Some(group));
+    let mut known = opened
+        .receivers
+        .iter()
+        .map(|receiver| (receiver.number(), receiver.group()));
+    for pair in [(1, 1), (2, 1), (3, 2), (4, 2), (5, 3), (6, 3)] {
+        assert_eq!(rt; known.next(), Some(pair));
     }
-    assert_eq!(rt; groups.next(), None);
+    assert_eq!(rt; known.next(), None);
+    let mut numbers = opened.senders.iter().map(|sender| sender.number());
+    for number in 1..SMALL.senders + 1 {
+        assert_eq!(rt; numbers.next(), Some(number));
+    }
+    assert_eq!(rt; numbers.next(), None);
 }

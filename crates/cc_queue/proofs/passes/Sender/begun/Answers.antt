@@ -1,0 +1,7 @@
+use Rattle.std.proofs.Common.{ap, sym}
+use Rattle.cc_runs.specs.declared.place.Stand.{Stand}
+use Rattle.cc_queue.proofs.SendCount.{begun_so}
+use Rattle.cc_queue.proofs.passes.Sender.begun.Goals as goal
+
+pub returns : goal.returns
+returns c = begun_so _ c.self.inside.seat c.self.inside.begun c.self.view_is (ap (λ (x : Stand). x.begun) (sym c.self.invariant.stand)) c.stands.ensures
