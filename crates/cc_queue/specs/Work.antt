@@ -1,5 +1,5 @@
 -- A part of a call, as its seat sees it: where its pass has come, and which steps it did.
-use Rattle.std.specs.Prelude.{◌≡◌, ℕ, ◌+◌, ◌==◌, if◌then◌else◌, List, [], ◌∷◌}
+use Rattle.std.specs.Prelude.{◌≡◌, ℕ, ◌≤◌, ◌+◌, ◌==◌, if◌then◌else◌, List, [], ◌∷◌}
 use Rattle.cc_model.specs.declared.config.Config.{Config}
 use Rattle.cc_runs.specs.declared.setting.Served.TheVariants as served
 use Rattle.cc_runs.specs.declared.word.Chain.{Chain}
@@ -8,6 +8,7 @@ use Rattle.cc_runs.specs.declared.place.Place.TheVariants as place
 use Rattle.cc_runs.specs.declared.place.Kind.{Kind}
 use Rattle.cc_runs.specs.declared.place.Kind.TheVariants as kind
 use Rattle.cc_runs.specs.State.{chain_of}
+use Rattle.cc_steps.specs.Seen.{Onward}
 use Rattle.cc_steps.specs.Walk.{Walk}
 
 -- the pass is on this chain
@@ -50,3 +51,13 @@ worked_to v at w = record v { seen = w.seen; did = w.did; stand = record v.stand
 -- where a combiner stands at the end of a round
 abbrev pub round_place : ℕ → ℕ → ℕ → Place
 round_place bound at served = if served == bound then place.HandOver at else place.ReadNext record { at = at; served = served }
+
+-- Within the service of one request the pass has gone on to this place: it read no state, marked nothing, handed nothing over, and
+-- looked whether a list node is free so many times at most.
+pub record Serves (v : Walk) (at : Place) (most : ℕ) (w : Walk) : Type 0 where
+  pub worked : w ≡ worked_to v at w
+  pub reads : tally reads w.did ≡ tally reads v.did
+  pub marks : tally marks w.did ≡ tally marks v.did
+  pub hands : tally hands w.did ≡ tally hands v.did
+  pub scans : tally scans w.did ≤ most + tally scans v.did
+  pub later : Onward v.seen w.seen

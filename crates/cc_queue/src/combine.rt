@@ -5,7 +5,7 @@ ghost use Rattle.cc_runs.specs.declared.setting.Served.TheVariants as served;
 ghost use Rattle.cc_runs.specs.Columns.{serves};
 ghost use Rattle.cc_steps.specs.Seen.{Onward};
 ghost use Rattle.cc_steps.specs.Walk.{IsOf, IsReadyToStep};
-ghost use Rattle.cc_queue.specs.Work.{IsOn, IsListWith, worked_to, tally, reads, marks, hands, scans, round_place};
+ghost use Rattle.cc_queue.specs.Work.{IsOn, IsListWith, Serves, worked_to, tally, reads, marks, hands, scans, round_place};
 
 use crate::sends::serve_request;
 use crate::takes::serve_take;
@@ -21,12 +21,7 @@ fn serve(words: &Words, seat: &mut PassSeat, config: &Config, chain: Chain, job:
     requires list { IsListWith seat.old config.now }
     requires chain { IsOn seat.old chain }
     requires at { seat.old.stand.place ≡ serves served.List chain job }
-    ensures worked { seat.new ≡ worked_to seat.old (place.MarkDone job) seat.new }
-    ensures reads { tally reads seat.new.did ≡ tally reads seat.old.did }
-    ensures marks { tally marks seat.new.did ≡ tally marks seat.old.did }
-    ensures hands { tally hands seat.new.did ≡ tally hands seat.old.did }
-    ensures scans { tally scans seat.new.did ≤ config.now.capacity + 1 + tally scans seat.old.did }
-    ensures later { Onward seat.old.seen seat.new.seen }
+    ensures { Serves seat.old (place.MarkDone job) (config.now.capacity + 1) seat.new }
 {
     match chain {
         Chain::Send => serve_request(words, seat, config, job),

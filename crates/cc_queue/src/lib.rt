@@ -21,6 +21,7 @@ mod receiver;
 mod sender;
 mod sends;
 mod takes;
+mod tell;
 mod turns;
 
 pub use blocking::{close, send, take, take_until};

@@ -8,10 +8,11 @@ ghost use Rattle.cc_runs.specs.declared.place.Place.TheVariants as place;
 ghost use Rattle.cc_runs.specs.declared.place.Sending.TheVariants as sending;
 ghost use Rattle.cc_steps.specs.Seen.{Onward};
 ghost use Rattle.cc_steps.specs.Walk.{IsOf, IsReadyToStep};
-ghost use Rattle.cc_queue.specs.Work.{IsOn, IsListWith, worked_to, tally, reads, marks, hands, scans};
+ghost use Rattle.cc_queue.specs.Work.{IsOn, IsListWith, Serves};
 
-use cc_model::Config;
-use cc_runs::{CODE, Chain, ItemField, Job, NodeField, Object, Parcel, node_after};
+use crate::tell::tell;
+use cc_model::{Answer, CloseAnswer, Config, SendAnswer};
+use cc_runs::{Chain, ItemField, Job, NodeField, Object, Parcel, node_after};
 use cc_steps::seats::PassSeat;
 use cc_steps::steps;
 use cc_steps::words::Words;
@@ -22,12 +23,7 @@ pub fn serve_request(words: &Words, seat: &mut PassSeat, config: &Config, job: J
     requires list { IsListWith seat.old config.now }
     requires chain { IsOn seat.old Send }
     requires at { seat.old.stand.place ≡ place.Sending job sending.ReadTag }
-    ensures worked { seat.new ≡ worked_to seat.old (place.MarkDone job) seat.new }
-    ensures reads { tally reads seat.new.did ≡ tally reads seat.old.did }
-    ensures marks { tally marks seat.new.did ≡ tally marks seat.old.did }
-    ensures hands { tally hands seat.new.did ≡ tally hands seat.old.did }
-    ensures scans { tally scans seat.new.did ≤ config.now.capacity + 1 + tally scans seat.old.did }
-    ensures later { Onward seat.old.seen seat.new.seen }
+    ensures { Serves seat.old (place.MarkDone job) (config.now.capacity + 1) seat.new }
 {
     let at = job.round.at;
     let tag = steps::read_request(words, seat, at, NodeField::Tag);
@@ -41,7 +37,13 @@ pub fn serve_request(words: &Words, seat: &mut PassSeat, config: &Config, job: J
     if tag == 0 {
         link_mark(words, seat, config, job, count);
     } else if count == config.life {
-        steps::write_answer(words, seat, Chain::Send, at, NodeField::Ret, 4 * CODE);
+        tell(
+            words,
+            seat,
+            Chain::Send,
+            job,
+            Answer::Send(SendAnswer::Spent),
+        );
     } else {
         let parcel = Parcel {
             place: count,
@@ -58,21 +60,16 @@ fn refuse_after_close(words: &Words, seat: &mut PassSeat, job: Job, tag: u64)
     requires chain { IsOn seat.old Send }
     requires list { seat.old.setting.served ≡ served.List }
     requires at { seat.old.stand.place ≡ (if tag == 0 then place.Sending job sending.ReadTotal else place.WriteAnswer job (answer.Send send.Closed)) }
-    ensures worked { seat.new ≡ worked_to seat.old (place.MarkDone job) seat.new }
-    ensures reads { tally reads seat.new.did ≡ tally reads seat.old.did }
-    ensures marks { tally marks seat.new.did ≡ tally marks seat.old.did }
-    ensures hands { tally hands seat.new.did ≡ tally hands seat.old.did }
-    ensures scans { tally scans seat.new.did ≡ tally scans seat.old.did }
-    ensures later { Onward seat.old.seen seat.new.seen }
+    requires ready { IsReadyToStep seat.old }
+    ensures { Serves seat.old (place.MarkDone job) 0 seat.new }
 {
-    let at = job.round.at;
-    if tag == 0 {
+    let answer = if tag == 0 {
         let total = steps::read_object(words, seat, Object::Count);
-        let told = 6 * CODE + total;
-        steps::write_answer(words, seat, Chain::Send, at, NodeField::Ret, told);
+        Answer::Close(CloseAnswer::Already { total })
     } else {
-        steps::write_answer(words, seat, Chain::Send, at, NodeField::Ret, 3 * CODE);
-    }
+        Answer::Send(SendAnswer::Closed)
+    };
+    tell(words, seat, Chain::Send, job, answer);
 }
 
 /// Closes: links the reserved node behind the last one, and sets `shut`.
@@ -81,21 +78,15 @@ fn link_mark(words: &Words, seat: &mut PassSeat, config: &Config, job: Job, tota
     requires list { IsListWith seat.old config.now }
     requires chain { IsOn seat.old Send }
     requires at { seat.old.stand.place ≡ place.Sending job (sending.ReadLastToClose total) }
-    ensures worked { seat.new ≡ worked_to seat.old (place.MarkDone job) seat.new }
-    ensures reads { tally reads seat.new.did ≡ tally reads seat.old.did }
-    ensures marks { tally marks seat.new.did ≡ tally marks seat.old.did }
-    ensures hands { tally hands seat.new.did ≡ tally hands seat.old.did }
-    ensures scans { tally scans seat.new.did ≡ tally scans seat.old.did }
-    ensures later { Onward seat.old.seen seat.new.seen }
+    ensures { Serves seat.old (place.MarkDone job) 0 seat.new }
 {
-    let at = job.round.at;
     let mark = config.capacity as u64 + 1;
     let last = steps::read_object(words, seat, Object::Last) - 1;
     steps::link_last(words, seat, last, mark + 1);
     steps::write_object(words, seat, Object::Last, mark + 1);
     steps::write_object(words, seat, Object::Shut, 1);
-    let told = 5 * CODE + total;
-    steps::write_answer(words, seat, Chain::Send, at, NodeField::Ret, told);
+    let answer = Answer::Close(CloseAnswer::Shut { total });
+    tell(words, seat, Chain::Send, job, answer);
 }
 
 /// Looks for a free node from the cursor on, once round, and appends the item there, or tells that the queue is full.
@@ -104,14 +95,8 @@ fn scan(words: &Words, seat: &mut PassSeat, config: &Config, job: Job, parcel: P
     requires list { IsListWith seat.old config.now }
     requires chain { IsOn seat.old Send }
     requires at { seat.old.stand.place ≡ place.Sending job (sending.ReadCursor parcel) }
-    ensures worked { seat.new ≡ worked_to seat.old (place.MarkDone job) seat.new }
-    ensures reads { tally reads seat.new.did ≡ tally reads seat.old.did }
-    ensures marks { tally marks seat.new.did ≡ tally marks seat.old.did }
-    ensures hands { tally hands seat.new.did ≡ tally hands seat.old.did }
-    ensures scans { tally scans seat.new.did ≤ config.now.capacity + 1 + tally scans seat.old.did }
-    ensures later { Onward seat.old.seen seat.new.seen }
+    ensures { Serves seat.old (place.MarkDone job) (config.now.capacity + 1) seat.new }
 {
-    let at = job.round.at;
     let nodes = config.capacity as u64 + 1;
     let groups = config.groups as u64;
     let mut node = steps::read_object(words, seat, Object::Cursor);
@@ -126,7 +111,13 @@ fn scan(words: &Words, seat: &mut PassSeat, config: &Config, job: Job, parcel: P
     if steps::read_passed(words, seat, node) == groups {
         prepare(words, seat, config, job, parcel, node);
     } else {
-        steps::write_answer(words, seat, Chain::Send, at, NodeField::Ret, 2 * CODE);
+        tell(
+            words,
+            seat,
+            Chain::Send,
+            job,
+            Answer::Send(SendAnswer::Full),
+        );
     }
 }
 
@@ -136,12 +127,7 @@ fn prepare(words: &Words, seat: &mut PassSeat, config: &Config, job: Job, parcel
     requires list { IsListWith seat.old config.now }
     requires chain { IsOn seat.old Send }
     requires at { seat.old.stand.place ≡ place.Sending job (sending.ResetPassed parcel node) }
-    ensures worked { seat.new ≡ worked_to seat.old (place.MarkDone job) seat.new }
-    ensures reads { tally reads seat.new.did ≡ tally reads seat.old.did }
-    ensures marks { tally marks seat.new.did ≡ tally marks seat.old.did }
-    ensures hands { tally hands seat.new.did ≡ tally hands seat.old.did }
-    ensures scans { tally scans seat.new.did ≡ tally scans seat.old.did }
-    ensures later { Onward seat.old.seen seat.new.seen }
+    ensures { Serves seat.old (place.MarkDone job) 0 seat.new }
 {
     steps::reset_list_node(words, seat, node, ItemField::Passed);
     steps::reset_list_node(words, seat, node, ItemField::Next);
@@ -156,19 +142,14 @@ fn append(words: &Words, seat: &mut PassSeat, config: &Config, job: Job, count: 
     requires list { IsListWith seat.old config.now }
     requires chain { IsOn seat.old Send }
     requires at { seat.old.stand.place ≡ place.Sending job (sending.ReadLast count node) }
-    ensures worked { seat.new ≡ worked_to seat.old (place.MarkDone job) seat.new }
-    ensures reads { tally reads seat.new.did ≡ tally reads seat.old.did }
-    ensures marks { tally marks seat.new.did ≡ tally marks seat.old.did }
-    ensures hands { tally hands seat.new.did ≡ tally hands seat.old.did }
-    ensures scans { tally scans seat.new.did ≡ tally scans seat.old.did }
-    ensures later { Onward seat.old.seen seat.new.seen }
+    ensures { Serves seat.old (place.MarkDone job) 0 seat.new }
 {
-    let at = job.round.at;
     let last = steps::read_object(words, seat, Object::Last) - 1;
     steps::link_last(words, seat, last, node + 1);
     steps::write_object(words, seat, Object::Last, node + 1);
     steps::write_object(words, seat, Object::Count, count + 1);
     let cursor = node_after(node, config.capacity as u64 + 1);
     steps::write_object(words, seat, Object::Cursor, cursor);
-    steps::write_answer(words, seat, Chain::Send, at, NodeField::Ret, CODE + count);
+    let answer = Answer::Send(SendAnswer::Accepted { place: count });
+    tell(words, seat, Chain::Send, job, answer);
 }

@@ -6,8 +6,10 @@ ghost use Rattle.cc_runs.specs.declared.place.Taking.TheVariants as taking;
 ghost use Rattle.cc_runs.specs.declared.setting.Served.TheVariants as served;
 ghost use Rattle.cc_steps.specs.Seen.{Onward};
 ghost use Rattle.cc_steps.specs.Walk.{IsOf, IsReadyToStep};
-ghost use Rattle.cc_queue.specs.Work.{IsOn, worked_to, tally, reads, marks, hands, scans};
+ghost use Rattle.cc_queue.specs.Work.{IsOn, Serves};
 
+use crate::tell::tell;
+use cc_model::{Answer, TakeAnswer};
 use cc_runs::{CODE, Chain, ItemField, Job, NodeField, Object, Parcel};
 use cc_steps::seats::PassSeat;
 use cc_steps::steps;
@@ -19,26 +21,40 @@ pub fn serve_take(words: &Words, seat: &mut PassSeat, group: u32, job: Job)
     requires list { seat.old.setting.served ≡ served.List }
     requires chain { IsOn seat.old (Take group) }
     requires at { seat.old.stand.place ≡ place.Taking job taking.ReadHead }
-    ensures worked { seat.new ≡ worked_to seat.old (place.MarkDone job) seat.new }
-    ensures reads { tally reads seat.new.did ≡ tally reads seat.old.did }
-    ensures marks { tally marks seat.new.did ≡ tally marks seat.old.did }
-    ensures hands { tally hands seat.new.did ≡ tally hands seat.old.did }
-    ensures scans { tally scans seat.new.did ≡ tally scans seat.old.did }
-    ensures later { Onward seat.old.seen seat.new.seen }
+    ensures { Serves seat.old (place.MarkDone job) 0 seat.new }
 {
     let chain = Chain::Take(group);
-    let at = job.round.at;
     let dummy = steps::read_object(words, seat, Object::Head(group)) - 1;
     let taken = steps::read_object(words, seat, Object::Taken(group));
     let next = steps::read_dummy_next(words, seat, dummy);
     if next == 0 {
-        steps::write_answer(words, seat, chain, at, NodeField::Ret, 2 * CODE);
+        tell(words, seat, chain, job, Answer::Take(TakeAnswer::Empty));
         return;
     }
-    let node = next - 1;
+    take_item(words, seat, group, job, dummy, taken, next - 1);
+}
+
+/// Reads the item of the node behind the dummy and hands it out, or tells the end where that node is the close mark.
+fn take_item(
+    words: &Words,
+    seat: &mut PassSeat,
+    group: u32,
+    job: Job,
+    dummy: u64,
+    taken: u64,
+    node: u64,
+)
+    requires here { IsOf words.now seat.old }
+    requires list { seat.old.setting.served ≡ served.List }
+    requires chain { IsOn seat.old (Take group) }
+    requires at { seat.old.stand.place ≡ place.Taking job (taking.ReadItemTag dummy taken node) }
+    requires ready { IsReadyToStep seat.old }
+    ensures { Serves seat.old (place.MarkDone job) 0 seat.new }
+{
     let tag = steps::read_item(words, seat, node, ItemField::Tag);
     if tag == 0 {
-        steps::write_answer(words, seat, chain, at, NodeField::Ret, 3 * CODE + taken);
+        let answer = Answer::Take(TakeAnswer::Ended { total: taken });
+        tell(words, seat, Chain::Take(group), job, answer);
         return;
     }
     let body = steps::read_item(words, seat, node, ItemField::Body);
@@ -65,12 +81,7 @@ fn hand_out(
     requires chain { IsOn seat.old (Take group) }
     requires at { seat.old.stand.place ≡ place.Taking job (taking.WriteHead dummy node parcel) }
     requires ready { IsReadyToStep seat.old }
-    ensures worked { seat.new ≡ worked_to seat.old (place.MarkDone job) seat.new }
-    ensures reads { tally reads seat.new.did ≡ tally reads seat.old.did }
-    ensures marks { tally marks seat.new.did ≡ tally marks seat.old.did }
-    ensures hands { tally hands seat.new.did ≡ tally hands seat.old.did }
-    ensures scans { tally scans seat.new.did ≡ tally scans seat.old.did }
-    ensures later { Onward seat.old.seen seat.new.seen }
+    ensures { Serves seat.old (place.MarkDone job) 0 seat.new }
 {
     let chain = Chain::Take(group);
     let at = job.round.at;
