@@ -1,5 +1,7 @@
 pub mod Told
 pub mod Workers
+pub mod Counted
+pub mod Unclosed
 pub mod Rows
 pub mod Crews
 pub mod Totals

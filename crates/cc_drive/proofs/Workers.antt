@@ -1,7 +1,9 @@
 -- A worker's calls, one after another, and the receipts that it keeps of them.
-use Rattle.std.proofs.Common.{◌≡◌, ◌≢◌, ℕ, ◌+◌, Bool, true, List, [], ◌∷◌, ◌++◌, map, length, Some, refl, sym, ap, ◌∙◌, subst, arith, append-nil, length-append}
+use Rattle.std.proofs.Common.{◌≡◌, ◌≢◌, ℕ, ◌+◌, Bool, true, List, [], ◌∷◌, ◌++◌, map, length, Some, None, refl, sym, ap, ◌∙◌, subst, arith, append-nil, length-append}
 use Rattle.std.specs.List.{AllByRecursion}
+use Rattle.std.proofs.lemmas.List.{map-append, length-map}
 use Rattle.cc_model.specs.Items.{sent_item}
+use Rattle.cc_model.specs.Legal.{CountsFrom}
 use Rattle.cc_model.specs.declared.call.Call.{Call}
 use Rattle.cc_model.specs.declared.call.Call.TheVariants as call
 use Rattle.cc_model.specs.declared.call.Pass.{Pass}
@@ -24,7 +26,8 @@ use Rattle.cc_queue.specs.Receipts.{receipts_in, sent, got}
 use Rattle.cc_audit.specs.Receipts.{send_receipt, take_receipt}
 use Rattle.cc_audit.specs.declared.receipt.TakeReceipt.{TakeReceipt}
 use Rattle.cc_queue.proofs.Held.{in_both}
-use Rattle.cc_drive.specs.Back.{IsBack, calls}
+use Rattle.cc_audit.specs.declared.receipt.SendReceipt.{SendReceipt}
+use Rattle.cc_drive.specs.Back.{IsBack, SendsFrom, calls}
 use Rattle.cc_drive.proofs.Told.{Told, nil_of, stands_self, same_name, calls_more, each_answered}
 
 -- the pass of a worker so far, and what the worker has kept
@@ -119,3 +122,48 @@ count_one z row n w x body place so_far b named k are =
 pub count_none : (z : Topic) (row : ℕ) (w x : Walk) (body so_far : ℕ) (told : SendAnswer) → IsBack z row w → Completed w (call.Send body) (answer.Send told) x → sent (entry_of w (call.Send body), Some (answer.Send told)) ≡ [] → so_far ≡ length (receipts_in sent (calls w)) → so_far ≡ length (receipts_in sent (calls x))
 count_none z row w x body so_far told b k none are =
     are ∙ sym (count_more z row w x body told b k ∙ ap (λ l. length (receipts_in sent (calls w)) + length l) none ∙ (let e : length (receipts_in sent (calls w)) + 0 ≡ length (receipts_in sent (calls w)) = omega arith in e))
+
+-- ---- sends of the bodies in order
+
+-- one more
+sends_end : (n : ℕ) (zs : List Told) (z : Told) → SendsFrom n zs → z.0.call ≡ call.Send (n + length (receipts_in sent zs)) → SendsFrom n (zs ++ z ∷ [])
+sends_end n [] z s is = (is ∙ (let e : n + 0 ≡ n = omega arith in ap (λ (m : ℕ). call.Send m) e), tt)
+sends_end n (y ∷ zs) z s is = (
+  s.0,
+  sends_end (n + length (sent y)) zs z s.1
+      (is ∙ (let e : n + length (sent y ++ receipts_in sent zs) ≡ n + length (sent y) + length (receipts_in sent zs) = omega (arith, length-append (sent y) (receipts_in sent zs)) in ap (λ (m : ℕ). call.Send m) e)),
+)
+
+pub sends_more : (z : Topic) (row : ℕ) (w x : Walk) (so_far : ℕ) (told : Answer) → IsBack z row w → Completed w (call.Send (so_far + 1)) told x → so_far ≡ length (receipts_in sent (calls w)) → SendsFrom 1 (calls w) → SendsFrom 1 (calls x)
+sends_more z row w x so_far told b k are s =
+    subst (SendsFrom 1) (sym (call_more z row w x (call.Send (so_far + 1)) told b k))
+    (sends_end 1 (calls w) (entry_of w (call.Send (so_far + 1)), Some told) s (let e : so_far + 1 ≡ 1 + length (receipts_in sent (calls w)) = omega (arith, are) in ap (λ (m : ℕ). call.Send m) e))
+
+-- their receipts have these bodies
+abbrev body_of : SendReceipt → ℕ
+body_of r = r.body
+
+one_body : (body : ℕ) (z : Told) → z.0.call ≡ call.Send body → CountsFrom body (map body_of (sent z))
+one_body body (e, None) is = tt
+one_body body (e, Some (answer.Send (send.Accepted place))) is = go e.pass e.call is
+  where
+    go : (p : Pass) (c : Call) → c ≡ call.Send body → CountsFrom body (map body_of (map send_receipt (sent_item p c e.number place)))
+    go (pass.Sender s) (call.Send other) is = (let same : other ≡ body = cc is in same, tt)
+    go (pass.Sender s) call.Close is = tt
+    go (pass.Sender s) call.Take is = tt
+    go (pass.Receiver r) c is = tt
+one_body body (e, Some (answer.Send send.Full)) is = tt
+one_body body (e, Some (answer.Send send.Closed)) is = tt
+one_body body (e, Some (answer.Send send.Spent)) is = tt
+one_body body (e, Some (answer.Close told)) is = tt
+one_body body (e, Some (answer.Take told)) is = tt
+
+counts_both : (n m : ℕ) (xs ys : List ℕ) → m ≡ n + length xs → CountsFrom n xs → CountsFrom m ys → CountsFrom n (xs ++ ys)
+counts_both n m [] ys at k l = (let e : m ≡ n = omega (arith, at) in subst (λ (j : ℕ). CountsFrom j ys) e l)
+counts_both n m (x ∷ xs) ys at k l = (k.0, counts_both (n + 1) m xs ys (omega (arith, at)) k.1 l)
+
+pub bodies_of : (n : ℕ) (zs : List Told) → SendsFrom n zs → CountsFrom n (map body_of (receipts_in sent zs))
+bodies_of n [] s = tt
+bodies_of n (z ∷ zs) s =
+    subst (CountsFrom n) (sym (map-append body_of (sent z) (receipts_in sent zs)))
+    (counts_both n (n + length (sent z)) (map body_of (sent z)) (map body_of (receipts_in sent zs)) (ap (λ (m : ℕ). n + m) (sym (length-map (sent z) body_of))) (one_body n z s.0) (bodies_of (n + length (sent z)) zs s.1))

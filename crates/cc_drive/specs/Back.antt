@@ -1,16 +1,22 @@
 -- The passes that workers give back.
-use Rattle.std.specs.Prelude.{ℕ, ◌≡◌, ◌<◌, ◌-◌, ◌^◌, List, [], length, Option}
+use Rattle.std.specs.Prelude.{ℕ, ◌≡◌, ◌+◌, ◌<◌, ◌≤◌, ◌-◌, ◌^◌, List, [], ◌∷◌, length, map, true, Option, Some, IfSome, IfNone, ⊤}
 use Rattle.std.specs.List.{AllByRecursion}
 use Rattle.cc_model.specs.Items.{HasAnswer, calls_of}
+use Rattle.cc_model.specs.Legal.{CountsFrom}
+use Rattle.cc_model.specs.declared.call.Call.TheVariants as call
 use Rattle.cc_model.specs.declared.call.Entry.{Entry}
 use Rattle.cc_model.specs.declared.call.Answer.{Answer}
 use Rattle.cc_model.specs.declared.call.Answer.TheVariants as answer
+use Rattle.cc_model.specs.declared.call.SendAnswer.TheVariants as send
 use Rattle.cc_model.specs.declared.call.TakeAnswer.TheVariants as take
 use Rattle.cc_runs.specs.ChainLaws.{IsLastAnswer}
 use Rattle.cc_steps.specs.Topic.{Topic}
 use Rattle.cc_steps.specs.Walk.{Walk, IsOf}
 use Rattle.cc_queue.specs.Headline.{StandsInOne, name, history}
-use Rattle.cc_queue.specs.Receipts.{receipts_in, sent}
+use Rattle.cc_audit.specs.declared.receipt.SendReceipt.{SendReceipt}
+use Rattle.cc_audit.specs.declared.receipt.TakeReceipt.{TakeReceipt}
+use Rattle.cc_queue.specs.Receipts.{receipts_in, sent, got}
+use Rattle.cc_drive.specs.declared.kept.Worked.{Worked}
 
 -- the calls of a pass in the history that it has seen, each with its answer or pending
 abbrev pub calls : Walk → List (Entry × Option Answer)
@@ -24,10 +30,22 @@ pub record IsBack (z : Topic) (row : ℕ) (w : Walk) : Type 0 where
   pub stands : StandsInOne w [] w
   pub answered : AllByRecursion HasAnswer (calls w)
 
--- A sender of which so many items were accepted. Where it could make fewer turns than a sender may begin sends, it wasn't
--- worn, and these are all that it had to send.
+-- these calls are sends of the bodies from this one on, in order: of each one until it was accepted
+abbrev pub SendsFrom : ℕ → List (Entry × Option Answer) → Type 0
+SendsFrom body [] = ⊤
+SendsFrom body (z ∷ zs) = (z.0.call ≡ call.Send body) × SendsFrom (body + length (sent z)) zs
+
+-- the call wasn't told that the queue is closed
+abbrev pub IsNotClosed : Entry × Option Answer → Type 0
+IsNotClosed (e, Some (answer.Send send.Closed)) = ⊥
+IsNotClosed _ = ⊤
+
+-- A sender whose calls are sends of the bodies 1, 2 and so on, as its receipts have them. Where it could make fewer turns than
+-- a sender may begin sends, it wasn't worn, and so many were accepted as it had to send.
 pub record SenderIsBack (z : Topic) (items limit row : ℕ) (w : Walk) : Type 0 where
   pub back : IsBack z row w
+  pub sends : SendsFrom 1 (calls w)
+  pub bodies : CountsFrom 1 (map (λ r. r.body) (receipts_in sent (calls w)))
   pub all : limit < 2 ^ 32 - 1 → length (receipts_in sent (calls w)) ≡ items
 
 -- A receiver whose last take was answered that the queue has ended.
@@ -35,3 +53,16 @@ pub record ReceiverIsBack (z : Topic) (row : ℕ) (w : Walk) : Type 0 where
   pub back : IsBack z row w
   pub total : ℕ
   pub ended : IsLastAnswer (name w) (history w) (answer.Take (take.Ended total))
+
+-- What the thread of a sender gives back: the pass, with the receipts of its calls where there was memory for each of them; or
+-- none, where it made as many turns as it may.
+abbrev pub SenderGave : Topic → (items limit row : ℕ) → Worked Walk SendReceipt → Type 0
+SenderGave z items limit row d =
+    IfSome d.pass (SenderIsBack z items limit row) × IfSome d.pass (λ w. d.kept.is_whole ≡ true → d.kept.receipts.items ≡ receipts_in sent (calls w))
+    × IfNone d.pass (d.made ≡ limit) × (d.made ≤ limit)
+
+-- and that of a receiver
+abbrev pub ReceiverGave : Topic → (limit row : ℕ) → Worked Walk TakeReceipt → Type 0
+ReceiverGave z limit row d =
+    IfSome d.pass (ReceiverIsBack z row) × IfSome d.pass (λ w. d.kept.is_whole ≡ true → d.kept.receipts.items ≡ receipts_in got (calls w))
+    × IfNone d.pass (d.made ≡ limit) × (d.made ≤ limit)

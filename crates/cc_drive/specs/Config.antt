@@ -1,5 +1,5 @@
 -- The configuration of a run.
-use Rattle.std.specs.Prelude.{◌≡◌, ◌+◌, ◌-◌, ◌^◌, not, if◌then◌else◌, Result, Ok, Err, ⊤}
+use Rattle.std.specs.Prelude.{ℕ, ◌≡◌, ◌≤◌, ◌+◌, ◌-◌, ◌^◌, not, if◌then◌else◌, Result, Ok, Err, ⊤}
 use Rattle.cc_model.specs.Range.{within}
 use Rattle.cc_model.specs.Config.{config_fault}
 use Rattle.cc_model.specs.declared.config.Config.{Config}
@@ -27,12 +27,13 @@ queue_of c = record {
 abbrev pub drive_fault : DriveConfig → Result ⊤ ConfigFault
 drive_fault c = if not (within 1 63 c.senders) then Err fault.Senders else config_fault (queue_of c)
 
--- Why a run has no end, whose configuration has this fault or none: for that fault where there is one, and else never for
--- one of the configuration.
-abbrev pub IsDue : Result ⊤ ConfigFault → DriveFault → Type 0
-IsDue (Err f) told = told ≡ drive.Config f
-IsDue (Ok _) (drive.Config f) = ⊥
-IsDue (Ok _) _ = ⊤
+-- Why a run of so many workers has no end, whose configuration has this fault or none: for that fault where there is one, and
+-- else never for one of the configuration. At a limit is one of the workers, from 0, or the closer, whose number is the next.
+abbrev pub IsDue : Result ⊤ ConfigFault → (workers : ℕ) → DriveFault → Type 0
+IsDue (Err f) workers told = told ≡ drive.Config f
+IsDue (Ok _) workers (drive.Config f) = ⊥
+IsDue (Ok _) workers (drive.Limit n) = n ≤ workers
+IsDue (Ok _) workers _ = ⊤
 
 -- how it is told that the queue wasn't opened
 abbrev pub told_of_open : OpenFault → DriveFault

@@ -1,6 +1,6 @@
 -- A run whose threads have ended.
-use Rattle.std.specs.Prelude.{ℕ, ◌≡◌, ◌+◌, Bool, true, false, List, length, Option, Some, None}
-use Rattle.std.specs.List.{All}
+use Rattle.std.specs.Prelude.{ℕ, ◌≡◌, ◌<◌, ◌+◌, ◌⊎◌, Bool, true, false, List, length, map, Option, Some, None}
+use Rattle.std.specs.List.{All, AllByRecursion}
 use Rattle.cc_model.specs.declared.call.Answer.TheVariants as answer
 use Rattle.cc_model.specs.declared.call.Call.TheVariants as call
 use Rattle.cc_model.specs.declared.call.CloseAnswer.{CloseAnswer}
@@ -14,7 +14,12 @@ use Rattle.cc_drive.specs.declared.config.DriveConfig.{DriveConfig}
 use Rattle.cc_drive.specs.declared.config.DriveFault.{DriveFault}
 use Rattle.cc_drive.specs.declared.config.DriveFault.TheVariants as fault
 use Rattle.cc_drive.specs.declared.driver.Ran.{Ran}
-use Rattle.cc_drive.specs.Back.{SenderIsBack, ReceiverIsBack}
+use Rattle.cc_drive.specs.declared.kept.Worked.{Worked}
+use Rattle.cc_drive.specs.declared.turns.Turns.{Turns}
+use Rattle.cc_audit.specs.declared.receipt.SendReceipt.{SendReceipt}
+use Rattle.cc_audit.specs.declared.receipt.TakeReceipt.{TakeReceipt}
+use Rattle.cc_drive.specs.Back.{SenderIsBack, ReceiverIsBack, SenderGave, ReceiverGave, IsNotClosed, calls}
+use Rattle.cc_drive.specs.Crew.{least_missing}
 use Rattle.cc_drive.specs.Row.{InRow}
 
 -- the total that a close tells
@@ -29,11 +34,12 @@ pub record ClosedAfter (closer : Walk) (senders : List Walk) (told : CloseAnswer
   pub after : All (λ s. s.seen ≡ met.seen) senders
   pub close : Completed met call.Close (answer.Close told) w
 
--- A run has come to its end. The senders are back, and then the closer closed; the receivers are back, each of which was told
--- the end. The receipts are those of their calls.
+-- A run has come to its end. The senders are back, none of whose sends was told that the queue is closed, and then the closer
+-- closed; the receivers are back, each of which was told the end. The receipts are those of their calls.
 pub record HasRun (z : Topic) (c : DriveConfig) (r : Ran) : Type 0 where
   pub senders : InRow (SenderIsBack z c.items c.limit) 0 r.senders.items
   pub count_senders : length r.senders.items ≡ c.senders
+  pub unclosed : AllByRecursion (λ w. AllByRecursion IsNotClosed (calls w)) r.senders.items
   pub closed : ClosedAfter (fresh z c.senders) r.senders.items r.closed r.closer
   pub receivers : InRow (ReceiverIsBack z) (c.senders + 1) r.receivers.items
   pub count_receivers : length r.receivers.items ≡ c.receivers
@@ -49,3 +55,24 @@ due false workers None (Some n) closed whole = Some (fault.Limit n)
 due false workers None None false whole = Some (fault.Limit workers)
 due false workers None None true false = Some fault.NoMemory
 due false workers None None true true = None
+
+-- All threads of a run that were started have ended, and this is due for what they gave back. Where a thread was refused they
+-- are fewer than the run has workers; where the close has no answer the closer made as many turns as it may.
+pub record EndedWith (z : Topic) (c : DriveConfig) (told : DriveFault) : Type 0 where
+  pub senders : List (Worked Walk SendReceipt)
+  pub receivers : List (Worked Walk TakeReceipt)
+  pub turns : Turns
+  pub refused : Bool
+  pub closed : Bool
+  pub whole : Bool
+  pub senders_gave : InRow (SenderGave z c.items c.limit) 0 senders
+  pub receivers_gave : InRow (ReceiverGave z c.limit) (c.senders + 1) receivers
+  pub all : refused ≡ false → (length senders ≡ c.senders) × (length receivers ≡ c.receivers)
+  pub fewer : refused ≡ true → length senders + length receivers < c.senders + c.receivers
+  pub limit : turns.limit ≡ c.limit
+  pub limited : closed ≡ false → turns.made ≡ turns.limit
+  pub why : due refused (c.senders + c.receivers) (least_missing 0 (map (λ d. d.pass) senders)) (least_missing c.senders (map (λ d. d.pass) receivers)) closed whole ≡ Some told
+
+-- why a run has no end: memory was refused before a thread was started; or else its threads have ended so
+abbrev pub IsTold : Topic → DriveConfig → DriveFault → Type 0
+IsTold z c told = (told ≡ fault.NoMemory) ⊎ EndedWith z c told

@@ -1,5 +1,5 @@
 //! The close of a run.
-ghost use Rattle.std.specs.Prelude.{◌≡◌, ◌<◌, ◌≤◌, [], IfSome, vec_len, vec_capacity};
+ghost use Rattle.std.specs.Prelude.{◌≡◌, ◌<◌, ◌≤◌, [], IfSome, IfNone, vec_len, vec_capacity};
 ghost use Rattle.std.specs.List.{All};
 ghost use Rattle.cc_model.specs.declared.call.Answer.TheVariants as answer;
 ghost use Rattle.cc_steps.specs.Walk.{IsOf};
@@ -8,22 +8,33 @@ ghost use Rattle.cc_queue.specs.Headline.{StandsInOne};
 ghost use Rattle.cc_queue.specs.Met.{HasMet};
 ghost use Rattle.cc_drive.specs.Ran.{ClosedAfter, total_in};
 ghost use Rattle.cc_drive.specs.Row.{Pairs};
+ghost use Rattle.cc_drive.specs.Work.{WentOn, EachRead};
 
 use crate::meeting::meet_everyone;
+use crate::turns::Turns;
 use cc_model::CloseAnswer;
 use cc_queue::{CloseTurn, PendingClose, Queue, Sender, begin_close, turn_close};
 use crossbeam_utils::Backoff;
 use std::alloc::Global;
 
-/// Waits for the answer of a close, for so many turns.
-fn await_close(queue: &Queue, pending: PendingClose, limit: u64) -> Option<(Sender, CloseAnswer)>
+/// Waits for the answer of a close within the limit.
+fn await_close(
+    queue: &Queue,
+    pending: PendingClose,
+    turns: &mut Turns,
+) -> Option<(Sender, CloseAnswer)>
     requires here { IsOf queue.now pending }
     requires stands { StandsInOne pending [] pending }
-    ensures { IfSome result (λ r. Ended pending (answer.Close r.1) r.0) }
+    requires within { turns.old.made ≤ turns.old.limit }
+    ensures ended { IfSome result (λ r. Ended pending (answer.Close r.1) r.0) }
+    ensures reads { IfSome result (λ r. EachRead turns.old turns.new pending.did r.0.did) }
+    ensures limited { IfNone result (turns.new.made ≡ turns.new.limit) }
+    ensures on { WentOn turns.old turns.new }
 {
     let backoff = Backoff::new();
     let mut pending = pending;
-    for _ in 0..limit {
+    while turns.made < turns.limit {
+        turns.made += 1;
         match turn_close(queue, pending) {
             CloseTurn::Waiting(same) => pending = same,
             CloseTurn::Done {
@@ -43,16 +54,19 @@ fn await_close(queue: &Queue, pending: PendingClose, limit: u64) -> Option<(Send
 pub fn close_after(
     alloc: Global,
     queue: &Queue,
-    limit: u64,
+    turns: &mut Turns,
     closer: Sender,
     senders: &mut Vec<Sender>,
 ) -> Option<(Sender, CloseAnswer)>
     requires closer { IsOf queue.now closer }
     requires senders { All (IsOf queue.now) senders.old.items }
     requires room { vec_len senders.old < vec_capacity senders.old }
+    requires within { turns.old.made ≤ turns.old.limit }
     ensures met { Pairs HasMet senders.old.items senders.new.items }
     ensures room { vec_capacity senders.old ≤ vec_capacity senders.new }
     ensures closed { IfSome result (λ r. ClosedAfter closer senders.new.items r.1 r.0) }
+    ensures limited { IfNone result (turns.new.made ≡ turns.new.limit) }
+    ensures on { WentOn turns.old turns.new }
 {
     let Ok(()) = senders.push(closer) else {
         unreachable!()
@@ -62,7 +76,7 @@ pub fn close_after(
         unreachable!()
     };
     let pending = begin_close(queue, closer);
-    await_close(queue, pending, limit)
+    await_close(queue, pending, turns)
 }
 
 /// The total that a close tells.

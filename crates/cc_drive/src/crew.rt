@@ -43,7 +43,11 @@ pub fn gather<P: Drop, X: Drop>(
     let mut limited = None;
     let mut number = first;
     for worker in workers {
-        let Worked { pass, kept } = worker;
+        let Worked {
+            pass,
+            made: _,
+            kept,
+        } = worker;
         let is_back = add_pass(&mut passes, pass);
         limited = earlier(limited, is_back, number);
         is_whole &= add_receipts(&mut receipts, kept);

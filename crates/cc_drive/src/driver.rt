@@ -1,11 +1,12 @@
 //! A run: threads that send beside threads that take, the close, and the audit.
-ghost use Rattle.std.specs.Prelude.{[], ◌≡◌, ◌+◌, ◌*◌, ◌-◌, ◌<◌, ◌≤◌, ◌^◌, IfOk, OnOk, IfErr, IfSome, Ok, length, vec_len};
+ghost use Rattle.std.specs.Prelude.{◌≡◌, ◌+◌, ◌*◌, ◌-◌, ◌<◌, ◌^◌, IfOk, OnOk, IfErr, Ok, length, vec_len};
 ghost use Rattle.cc_audit.specs.declared.receipt.Verdict.TheVariants.{Clean};
 ghost use Rattle.cc_runs.specs.declared.setting.Served.TheVariants as served;
 ghost use Rattle.cc_steps.specs.Walk.{fresh, fresh_from};
 ghost use Rattle.cc_drive.specs.Config.{drive_fault, queue_of, IsDue};
 ghost use Rattle.cc_drive.specs.Jobs.{IsSending, IsTaking};
-ghost use Rattle.cc_drive.specs.Ran.{HasRun, due};
+ghost use Rattle.cc_drive.specs.Ran.{HasRun, IsTold, due};
+ghost use Rattle.cc_drive.specs.declared.config.DriveFault.TheVariants as drive;
 ghost use Rattle.cc_drive.specs.Row.{InRow};
 
 use crate::closing::{close_after, total_of};
@@ -15,6 +16,7 @@ use crate::gate::Gate;
 use crate::jobs::{Job, deal};
 use crate::meeting::meet_everyone;
 use crate::threads::{Brief, Started, join_all, start_all};
+use crate::turns::Turns;
 use cc_audit::{SendReceipt, TakeReceipt};
 use cc_model::CloseAnswer;
 use cc_queue::{Opened, Queue, Receiver, Sender, audit_all};
@@ -52,7 +54,7 @@ pub fn drive<G: Gate + Send, R: Threads + Wait + Sync>(
 ) -> Result<DriveEnd, DriveFault>
     requires gates { vec_len gates ≡ config.now.senders + config.now.receivers }
     ensures lawful { OnOk result (drive_fault config.now ≡ Ok tt) }
-    ensures due { IfErr result (IsDue (drive_fault config.now)) }
+    ensures due { IfErr result (IsDue (drive_fault config.now) (config.now.senders + config.now.receivers)) }
     ensures clean { IfOk result (λ e. e.verdict ≡ Clean) }
     ensures all_taken { IfOk result (λ e. e.taken ≡ e.sent) }
     ensures all_sent { config.now.limit < 2 ^ 32 - 1 → IfOk result (λ e. e.sent ≡ config.now.senders * config.now.items) }
@@ -89,8 +91,10 @@ fn run<G: Gate + Send, R: Threads + Wait>(
     requires receivers { InRow (IsTaking queue.now) (config.now.senders + 1) receivers.items }
     requires count_receivers { vec_len receivers ≡ config.now.receivers }
     requires few { config.now.senders + config.now.receivers < 2 ^ 16 }
+    requires setting { queue.now.setting.config ≡ queue_of config.now }
     ensures run { IfOk result (HasRun queue.now config.now) }
-    ensures due { IfErr result (IsDue (Ok tt)) }
+    ensures told { IfErr result (IsTold queue.now config.now) }
+    ensures due { IfErr result (IsDue (Ok tt) (config.now.senders + config.now.receivers)) }
 {
     let config = *config;
     scope(
@@ -103,8 +107,10 @@ fn run<G: Gate + Send, R: Threads + Wait>(
             requires receivers { InRow (IsTaking queue.now) (config.senders + 1) receivers.items }
             requires count_receivers { vec_len receivers ≡ config.receivers }
             requires few { config.senders + config.receivers < 2 ^ 16 }
+            requires setting { queue.now.setting.config ≡ queue_of config }
             ensures run { IfOk result (HasRun queue.entry.now config) }
-            ensures due { IfErr result (IsDue (Ok tt)) }
+            ensures told { IfErr result (IsTold queue.entry.now config) }
+            ensures due { IfErr result (IsDue (Ok tt) (config.senders + config.receivers)) }
         { run_in(scope, rt, alloc, queue, config, closer, senders, receivers) },
     )
 }
@@ -126,8 +132,10 @@ fn run_in<'s, E, G: Gate + Send + 's, R: Threads>(
     requires receivers { InRow (IsTaking queue.now) (config.senders + 1) receivers.items }
     requires count_receivers { vec_len receivers ≡ config.receivers }
     requires few { config.senders + config.receivers < 2 ^ 16 }
+    requires setting { queue.now.setting.config ≡ queue_of config }
     ensures run { IfOk result (HasRun queue.now config) }
-    ensures due { IfErr result (IsDue (Ok tt)) }
+    ensures told { IfErr result (IsTold queue.now config) }
+    ensures due { IfErr result (IsDue (Ok tt) (config.senders + config.receivers)) }
 {
     let count = config.senders;
     let workers = count + config.receivers;
@@ -162,7 +170,8 @@ fn run_in<'s, E, G: Gate + Send + 's, R: Threads>(
 
     let sent = join_all(rt, queue, brief, 0, sending, sent);
     let mut sent = gather(sent, 0, sender_room, Vec::new(alloc));
-    let closed = close_after(alloc, queue, config.limit, closer, &mut sent.passes);
+    let mut turns = Turns::new(config.limit);
+    let closed = close_after(alloc, queue, &mut turns, closer, &mut sent.passes);
     let taken = join_all(rt, queue, brief, count + 1, taking, taken);
     let taken = gather(taken, count, receiver_room, Vec::new(alloc));
 
@@ -200,8 +209,7 @@ fn fault_of(
     is_closed: bool,
     is_whole: bool,
 ) -> Option<DriveFault>
-    ensures first { result ≡ due refused workers sender receiver is_closed is_whole }
-    ensures due { IfSome result (IsDue (Ok tt)) }
+    ensures { result ≡ due refused workers sender receiver is_closed is_whole }
 {
     if refused {
         return Some(DriveFault::Thread);
@@ -231,7 +239,7 @@ fn settle(
     requires setting { queue.now.setting ≡ record { served = served.List; config = queue_of config.now } }
     requires some { 0 < config.now.receivers }
     requires run { HasRun queue.now config.now ran }
-    ensures due { IfErr result (IsDue (Ok tt)) }
+    ensures memory { IfErr result (λ f. f ≡ drive.NoMemory) }
     ensures clean { IfOk result (λ e. e.verdict ≡ Clean) }
     ensures sent { IfOk result (λ e. e.sent ≡ length ran.sends.items) }
     ensures taken { IfOk result (λ e. e.taken ≡ length ran.takes.items) }

@@ -24,6 +24,14 @@ pub enum Go {
 
 /// Who is asked: a worker has a gate of its own, which may hold it up.
 pub trait Gate: Drop {
+    ghost use Rattle.std.specs.Prelude.{⊤};
+    ghost use Rattle.cc_drive.specs.declared.gate.Go.{Go};
+    ghost use Rattle.cc_drive.specs.declared.gate.Point.{Point};
+
+    /// What it may tell its worker at a point, and what it is afterwards. A gate that doesn't say so may tell anything.
+    ghost tells: { Self → Point → Go → Self → Type 0 } = { λ _ _ _ _. ⊤ };
+
     /// What the worker is told at this point.
-    fn at(&mut self, point: Point) -> Go;
+    fn at(&mut self, point: Point) -> Go
+        ensures { tells self.old point result self.new };
 }

@@ -21,16 +21,14 @@ pub struct Job<P: Drop, G: Gate> {
 }
 
 impl<G: Gate + Send> Worker for Job<Sender, G> {
-    ghost use Rattle.std.specs.Prelude.{◌≡◌, IfSome, true};
-    ghost use Rattle.cc_queue.specs.Receipts.{receipts_in, sent};
-    ghost use Rattle.cc_drive.specs.Back.{SenderIsBack, calls};
+    ghost use Rattle.cc_drive.specs.Back.{SenderGave};
     ghost use Rattle.cc_drive.specs.Jobs.{IsSending};
 
     type Done = Worked<Sender, SendReceipt>;
 
     ghost is_ready = { λ z n j. IsSending z n j };
 
-    ghost gives = { λ z b n d. IfSome d.pass (SenderIsBack z b.items b.limit n) × IfSome d.pass (λ w. d.kept.is_whole ≡ true → d.kept.receipts.items ≡ receipts_in sent (calls w)) };
+    ghost gives = { λ z b n d. SenderGave z b.items b.limit n d };
 
     fn run(
         self,
@@ -46,16 +44,14 @@ impl<G: Gate + Send> Worker for Job<Sender, G> {
 }
 
 impl<G: Gate + Send> Worker for Job<Receiver, G> {
-    ghost use Rattle.std.specs.Prelude.{◌≡◌, IfSome, true};
-    ghost use Rattle.cc_queue.specs.Receipts.{receipts_in, got};
-    ghost use Rattle.cc_drive.specs.Back.{ReceiverIsBack, calls};
+    ghost use Rattle.cc_drive.specs.Back.{ReceiverGave};
     ghost use Rattle.cc_drive.specs.Jobs.{IsTaking};
 
     type Done = Worked<Receiver, TakeReceipt>;
 
     ghost is_ready = { λ z n j. IsTaking z n j };
 
-    ghost gives = { λ z b n d. IfSome d.pass (ReceiverIsBack z n) × IfSome d.pass (λ w. d.kept.is_whole ≡ true → d.kept.receipts.items ≡ receipts_in got (calls w)) };
+    ghost gives = { λ z b n d. ReceiverGave z b.limit n d };
 
     fn run(
         self,

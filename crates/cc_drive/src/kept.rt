@@ -11,10 +11,11 @@ pub struct Kept<X: Drop> {
     pub is_whole: bool,
 }
 
-/// What a worker gives back: its pass, but where it reached its limit, and what it kept.
+/// What a worker gives back: its pass, but where it reached its limit, how many turns it made, and what it kept.
 #[derive(Drop)]
 pub struct Worked<P: Drop, X: Drop> {
     pub pass: Option<P>,
+    pub made: u64,
     pub kept: Kept<X>,
 }
 

@@ -1,5 +1,5 @@
 //! The work of a receiver's thread.
-ghost use Rattle.std.specs.Prelude.{◌≡◌, ◌+◌, ◌<◌, ◌≤◌, [], IfSome, OnSome, true};
+ghost use Rattle.std.specs.Prelude.{◌≡◌, ◌<◌, ◌≤◌, [], IfSome, IfNone, OnSome};
 ghost use Rattle.cc_model.specs.declared.call.Answer.TheVariants as answer;
 ghost use Rattle.cc_model.specs.declared.call.Call.TheVariants as call;
 ghost use Rattle.cc_model.specs.declared.call.Pass.TheVariants as pass;
@@ -7,9 +7,8 @@ ghost use Rattle.cc_runs.specs.State.{pass_at};
 ghost use Rattle.cc_steps.specs.Walk.{IsOf, fresh};
 ghost use Rattle.cc_queue.specs.Calls.{Completed, Ended};
 ghost use Rattle.cc_queue.specs.Headline.{StandsInOne};
-ghost use Rattle.cc_queue.specs.Receipts.{receipts_in, got};
-ghost use Rattle.cc_drive.specs.Back.{ReceiverIsBack, calls};
-ghost use Rattle.cc_drive.specs.Work.{WentOn};
+ghost use Rattle.cc_drive.specs.Back.{ReceiverGave};
+ghost use Rattle.cc_drive.specs.Work.{WentOn, EachRead};
 
 use crate::gate::{Gate, Point};
 use crate::kept::{Kept, Worked};
@@ -31,6 +30,8 @@ fn await_take(
     requires within { turns.old.made ≤ turns.old.limit }
     ensures ended { IfSome result (λ r. Ended pending (answer.Take r.1) r.0) }
     ensures turned { OnSome result (turns.old.made < turns.new.made) }
+    ensures reads { IfSome result (λ r. EachRead turns.old turns.new pending.did r.0.did) }
+    ensures limited { IfNone result (turns.new.made ≡ turns.new.limit) }
     ensures on { WentOn turns.old turns.new }
 {
     let backoff = Backoff::new();
@@ -63,6 +64,7 @@ fn take_one<G: Gate>(
     requires within { turns.old.made ≤ turns.old.limit }
     ensures taken { IfSome result (λ r. Completed receiver call.Take (answer.Take r.1) r.0) }
     ensures turned { OnSome result (turns.old.made < turns.new.made) }
+    ensures limited { IfNone result (turns.new.made ≡ turns.new.limit) }
     ensures on { WentOn turns.old turns.new }
 {
     let pending = begin_take(queue, receiver);
@@ -90,8 +92,7 @@ pub(crate) fn take_all<G: Gate>(
 ) -> Worked<Receiver, TakeReceipt>
     requires fresh { receiver ≡ fresh queue.now row }
     requires named { pass_at queue.now.setting.config row ≡ pass.Receiver number }
-    ensures back { IfSome result.pass (ReceiverIsBack queue.now row) }
-    ensures kept { IfSome result.pass (λ w. result.kept.is_whole ≡ true → result.kept.receipts.items ≡ receipts_in got (calls w)) }
+    ensures { ReceiverGave queue.now limit row result }
 {
     let _ = row;
     let mut gate = gate;
@@ -102,7 +103,11 @@ pub(crate) fn take_all<G: Gate>(
     let backoff = Backoff::new();
     while turns.made < turns.limit {
         let Some((after, answer)) = take_one(queue, receiver, &mut gate, &mut turns) else {
-            return Worked { pass: None, kept };
+            return Worked {
+                pass: None,
+                made: turns.made,
+                kept,
+            };
         };
         match answer {
             TakeAnswer::Got(item) => kept.keep(TakeReceipt {
@@ -113,11 +118,16 @@ pub(crate) fn take_all<G: Gate>(
             TakeAnswer::Ended { total: _ } => {
                 return Worked {
                     pass: Some(after),
+                    made: turns.made,
                     kept,
                 };
             }
         }
         receiver = after;
     }
-    Worked { pass: None, kept }
+    Worked {
+        pass: None,
+        made: turns.made,
+        kept,
+    }
 }

@@ -1,14 +1,13 @@
 //! The work of a sender's thread.
-ghost use Rattle.std.specs.Prelude.{◌≡◌, ◌+◌, ◌-◌, ◌^◌, ◌<◌, ◌≤◌, [], IfSome, OnSome, true};
+ghost use Rattle.std.specs.Prelude.{◌≡◌, ◌+◌, ◌-◌, ◌^◌, ◌<◌, ◌≤◌, [], IfSome, IfNone, OnSome};
 ghost use Rattle.cc_model.specs.declared.call.Answer.TheVariants as answer;
 ghost use Rattle.cc_model.specs.declared.call.Pass.TheVariants as pass;
 ghost use Rattle.cc_runs.specs.State.{pass_at};
 ghost use Rattle.cc_steps.specs.Walk.{IsOf, fresh};
 ghost use Rattle.cc_queue.specs.Calls.{Ended};
 ghost use Rattle.cc_queue.specs.Headline.{StandsInOne};
-ghost use Rattle.cc_queue.specs.Receipts.{receipts_in, sent};
-ghost use Rattle.cc_drive.specs.Back.{SenderIsBack, calls};
-ghost use Rattle.cc_drive.specs.Work.{WentOn, IsSent, CostsOfSend};
+ghost use Rattle.cc_drive.specs.Back.{SenderGave};
+ghost use Rattle.cc_drive.specs.Work.{WentOn, EachRead, IsSent, CostsOfSend};
 
 use crate::gate::{Gate, Point};
 use crate::kept::{Kept, Worked};
@@ -41,6 +40,8 @@ fn await_send(
     ensures ended { IfSome result (λ r. Ended pending (answer.Send r.1) r.0) }
     ensures begun { IfSome result (λ r. r.0.stand.begun ≡ pending.stand.begun) }
     ensures turned { OnSome result (turns.old.made < turns.new.made) }
+    ensures reads { IfSome result (λ r. EachRead turns.old turns.new pending.did r.0.did) }
+    ensures limited { IfNone result (turns.new.made ≡ turns.new.limit) }
     ensures on { WentOn turns.old turns.new }
 {
     let backoff = Backoff::new();
@@ -108,8 +109,7 @@ pub(crate) fn send_all<G: Gate>(
     requires fresh { sender ≡ fresh queue.now row }
     requires named { pass_at queue.now.setting.config row ≡ pass.Sender number }
     requires worn { queue.now.setting.config.per_sender ≡ 2 ^ 32 - 1 }
-    ensures back { IfSome result.pass (SenderIsBack queue.now items limit row) }
-    ensures kept { IfSome result.pass (λ w. result.kept.is_whole ≡ true → result.kept.receipts.items ≡ receipts_in sent (calls w)) }
+    ensures { SenderGave queue.now items limit row result }
 {
     let _ = row;
     let mut gate = gate;
@@ -141,14 +141,22 @@ pub(crate) fn send_all<G: Gate>(
             Sent::Worn(after) => {
                 return Worked {
                     pass: Some(after),
+                    made: turns.made,
                     kept,
                 };
             }
-            Sent::Limited => return Worked { pass: None, kept },
+            Sent::Limited => {
+                return Worked {
+                    pass: None,
+                    made: turns.made,
+                    kept,
+                };
+            }
         }
     }
     Worked {
         pass: Some(sender),
+        made: turns.made,
         kept,
     }
 }

@@ -1,5 +1,5 @@
 //! Workers in threads: starting them in a row, and joining them.
-ghost use Rattle.std.specs.Prelude.{[], ◌≡◌, ◌+◌, ◌<◌, ◌≤◌, ◌^◌, false, vec_len, vec_capacity};
+ghost use Rattle.std.specs.Prelude.{[], ◌≡◌, ◌+◌, ◌<◌, ◌≤◌, ◌^◌, true, false, vec_len, vec_capacity};
 ghost use Rattle.cc_drive.specs.Row.{InRow};
 
 use cc_queue::Queue;
@@ -90,6 +90,7 @@ pub fn start_all<'s, E, J: Worker + 's>(
     ensures few { vec_len result.handles ≤ vec_len workers }
     ensures before { result.refused ≡ false → refused ≡ false }
     ensures all { result.refused ≡ false → vec_len result.handles ≡ vec_len workers }
+    ensures fewer { refused ≡ false → result.refused ≡ true → vec_len result.handles < vec_len workers }
 {
     let mut handles = handles;
     let mut row = first;

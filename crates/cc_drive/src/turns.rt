@@ -1,6 +1,6 @@
 //! The turns of one worker under its limit.
-ghost use Rattle.std.specs.Prelude.{◌≡◌, ◌≤◌};
-ghost use Rattle.cc_drive.specs.Work.{WentOn};
+ghost use Rattle.std.specs.Prelude.{◌≡◌, ◌≤◌, false};
+ghost use Rattle.cc_drive.specs.Work.{WentOn, WasAsked};
 
 use crate::gate::{Gate, Go, Point};
 use crossbeam_utils::Backoff;
@@ -23,7 +23,9 @@ impl Turns {
     /// Asks the gate until it lets the worker go on: whether it did within the limit.
     pub fn pass<G: Gate>(&mut self, gate: &mut G, point: Point) -> bool
         requires { self.old.made ≤ self.old.limit }
-        ensures { WentOn self.old self.new }
+        ensures on { WentOn self.old self.new }
+        ensures asked { WasAsked G.tells point self.old self.new result gate.old gate.new }
+        ensures held { result ≡ false → self.new.made ≡ self.new.limit }
     {
         let backoff = Backoff::new();
         while self.made < self.limit {

@@ -33,4 +33,4 @@ returns-clause-closed c =
       after = λ k d less. seen.0 k d less ∙ sym seen.1;
       close = completed_so _ _ _ _ _ c.begin_close-pending.ensures e;
     })
-    c.await_close.ensures
+    c.await_close.ensures.ended

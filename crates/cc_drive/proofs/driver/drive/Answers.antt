@@ -4,8 +4,9 @@ use Rattle.cc_model.specs.declared.config.Config.{Config}
 use Rattle.cc_runs.specs.declared.setting.Setting.{Setting}
 use Rattle.cc_runs.proofs.Ranges.{in_range}
 use Rattle.cc_steps.specs.Walk.{fresh, fresh_from}
-use Rattle.cc_drive.specs.Config.{queue_of}
+use Rattle.cc_drive.specs.Config.{queue_of, drive_fault}
 use Rattle.cc_drive.proofs.Rows.{one_longer}
+use Rattle.cc_drive.proofs.Crewed.{memory_due}
 use Rattle.cc_drive.proofs.Dealt.{fresh_split, sending_row, taking_row}
 use Rattle.cc_drive.proofs.driver.drive.Goals as goal
 
@@ -45,3 +46,9 @@ returns-clause-lawful g c = all_ok c.settle.result c.in_ok-of_queue.ensures.fine
     all_ok : {T E P : Type 0} (r : Result T E) → P → OnOk r P
     all_ok (Ok x) p = p
     all_ok (Err e) p = tt
+
+pub run-requires-clause-setting : goal.run-requires-clause-setting
+run-requires-clause-setting g c κs within = ap (λ (s : Setting). s.config) c.in_ok-queue.ensures.setting ∙ c.in_ok-of_queue.ensures.config
+
+pub returns-clause-due : goal.returns-clause-due
+returns-clause-due g c = memory_due (drive_fault c.args.config.now) (c.args.config.now.senders + c.args.config.now.receivers) c.settle.result c.in_ok-of_queue.ensures.fine c.settle.ensures.memory

@@ -9,23 +9,18 @@ use Rattle.cc_drive.proofs.Workers.{working_none, working_more, got_one, got_emp
 use Rattle.cc_drive.proofs.receiving.take_all.Goals as goal
 
 pub loop-turns-init : goal.loop-turns-init
-loop-turns-init g c = (working_none got c.args.queue.now c.args.row (pass.Receiver c.args.number) c.args.receiver _ _ c.requires.fresh c.requires.named c.stands.ensures.met c.new-kept.ensures, search rules)
+loop-turns-init g c = (working_none got c.args.queue.now c.args.row (pass.Receiver c.args.number) c.args.receiver _ _ c.requires.fresh c.requires.named c.stands.ensures.met c.new-kept.ensures, search rules, search rules)
 
-pub returns-in-Ended-clause-back : goal.returns-in-Ended-clause-back
-returns-in-Ended-clause-back g c =
+pub returns-in-Ended : goal.returns-in-Ended
+returns-in-Ended g c =
     let was = c.loop-turns.invariant.0 in
     let done = subst (λ (a : TakeAnswer). Completed c.loop-turns.receiver call.Take (answer.Take a) c.in-Some.after) c.in-Ended.is c.in-Some.ensures.taken in
-    record {
-      back = (taken_none c.args.queue.now c.args.row c.args.number c.loop-turns.receiver c.in-Some.after c.loop-turns.kept.is_whole c.loop-turns.kept.receipts.items _ was done (got_end c.args.number c.loop-turns.receiver c.in-Ended.total was.named)).back;
-      total = c.in-Ended.total;
-      ended = done.last;
-    }
-
-pub returns-in-Ended-clause-kept : goal.returns-in-Ended-clause-kept
-returns-in-Ended-clause-kept g c =
-    let was = c.loop-turns.invariant.0 in
-    let done = subst (λ (a : TakeAnswer). Completed c.loop-turns.receiver call.Take (answer.Take a) c.in-Some.after) c.in-Ended.is c.in-Some.ensures.taken in
-    (taken_none c.args.queue.now c.args.row c.args.number c.loop-turns.receiver c.in-Some.after c.loop-turns.kept.is_whole c.loop-turns.kept.receipts.items _ was done (got_end c.args.number c.loop-turns.receiver c.in-Ended.total was.named)).kept
+    let last = taken_none c.args.queue.now c.args.row c.args.number c.loop-turns.receiver c.in-Some.after c.loop-turns.kept.is_whole c.loop-turns.kept.receipts.items _ was done (got_end c.args.number c.loop-turns.receiver c.in-Ended.total was.named) in (
+      record { back = last.back; total = c.in-Ended.total; ended = done.last },
+      last.kept,
+      tt,
+      search rules,
+    )
 
 pub loop-turns-preserved-in-Got : goal.loop-turns-preserved-in-Got
 loop-turns-preserved-in-Got g c =
@@ -34,6 +29,7 @@ loop-turns-preserved-in-Got g c =
       working_more got c.args.queue.now c.args.row (pass.Receiver c.args.number) c.loop-turns.receiver c.in-Some.after _ _ _ _ call.Take _ was done c.keep.ensures.whole
           (λ is. c.keep.ensures.kept is ∙ ap (λ l. c.loop-turns.kept.receipts.items ++ l) (sym (got_one c.args.number c.loop-turns.receiver c.in-Got.item was.named))),
       search rules,
+      search rules,
     )
 
 pub loop-turns-preserved : goal.loop-turns-preserved
@@ -41,5 +37,6 @@ loop-turns-preserved g c =
     let was = c.loop-turns.invariant.0 in
     let done = subst (λ (a : TakeAnswer). Completed c.loop-turns.receiver call.Take (answer.Take a) c.in-Some.after) c.in-Empty.is c.in-Some.ensures.taken in (
       taken_none c.args.queue.now c.args.row c.args.number c.loop-turns.receiver c.in-Some.after c.loop-turns.kept.is_whole c.loop-turns.kept.receipts.items _ was done (got_empty c.args.number c.loop-turns.receiver was.named),
+      search rules,
       search rules,
     )
