@@ -1,9 +1,10 @@
 //! Gates of the tests.
-ghost use Rattle.std.specs.Prelude.{◌≡◌, ◌+◌, ◌<◌, ◌^◌, IfOk, vec_len};
+ghost use Rattle.std.specs.Prelude.{◌≡◌, ◌+◌, ◌<◌, ◌^◌, IfOk, length, vec_len};
 
 use cc_drive::{DriveConfig, DriveEnd, DriveFault, Gate, Go, Point, drive};
 use std::alloc::{AllocError, Global};
 use std::sync::Wait;
+use std::sync::atomic::{AtomicU64, Ordering};
 use std::thread::Threads;
 
 /// Lets its worker go on at each point but one, where it never does.
@@ -20,6 +21,41 @@ impl Gate for Holding {
             Go::On
         }
     }
+}
+
+/// Lets its worker go on at each point but one, if it holds there, and counts how often it was asked there.
+#[derive(Drop)]
+pub struct Counting<'a> {
+    pub at: Point,
+    pub holds: bool,
+    pub asked: &'a AtomicU64,
+}
+
+impl<'a> Gate for Counting<'a> {
+    fn at(&mut self, point: Point) -> Go {
+        if self.at != point {
+            return Go::On;
+        }
+        self.asked.fetch_add(1, Ordering::SeqCst);
+        if self.holds { Go::Again } else { Go::On }
+    }
+}
+
+/// A gate for each of these, which says whether it holds. All of them count together.
+pub fn counting_gates<'a>(
+    alloc: Global,
+    at: Point,
+    holds: &[bool],
+    asked: &'a AtomicU64,
+) -> Result<Vec<Counting<'a>>, AllocError>
+    ensures { IfOk result (λ v. vec_len v ≡ length holds.now) }
+{
+    let mut gates = Vec::new(alloc);
+    for _ in 0..holds.len() {
+        let holds = holds[gates.len()];
+        gates.push(Counting { at, holds, asked })?;
+    }
+    Ok(gates)
 }
 
 /// So many gates of a kind.

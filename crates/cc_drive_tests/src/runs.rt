@@ -1,10 +1,11 @@
 //! Runs in which each worker has the same gate.
 ghost use Rattle.std.specs.Prelude.{◌≡◌};
 
-use crate::gates::{Holding, drive_all};
+use crate::gates::{Holding, counting_gates, drive_all};
 use cc_audit::Verdict;
-use cc_drive::{DriveConfig, DriveEnd, DriveFault, Point};
+use cc_drive::{DriveConfig, DriveEnd, DriveFault, Point, drive};
 use cc_model::ConfigFault;
+use std::sync::atomic::{AtomicU64, Ordering};
 use std::test::Fail;
 
 /// Enough for any run here that isn't held.
@@ -65,21 +66,71 @@ fn ranges(rt: HostRuntime) -> Result<(), Fail> {
     Ok(())
 }
 
-/// A worker that its gate never lets go on reaches its limit: the least such worker is told, the senders first.
+/// A worker that its gate never lets go on reaches its limit: the least such worker is told, the senders first. Each question
+/// is a turn, and so was the read of the state that gave the answer: it makes as many turns as it may.
 #[test]
 fn held(rt: HostRuntime) -> Result<(), Fail> {
-    for (point, number) in [
-        (Point::SendBegun, 0),
-        (Point::SendAnswered, 0),
-        (Point::TakeBegun, 1),
-        (Point::TakeAnswered, 1),
+    for (point, number, turns) in [
+        (Point::SendBegun, 0, 1000),
+        (Point::SendAnswered, 0, 999),
+        (Point::TakeBegun, 1, 1000),
+        (Point::TakeAnswered, 1, 999),
     ] {
         let config = DriveConfig {
             limit: 1000,
             ..config(1, 1, 1, 2, 2)
         };
-        let end = drive_all(&rt, rt.alloc(), &config, Holding { at: Some(point) });
+        let asked = AtomicU64::new(0);
+        let gates = counting_gates(rt.alloc(), point, &[true, true], &asked)?;
+        let end = drive(&rt, rt.alloc(), &config, gates);
         assert_eq!(rt; end, Err(DriveFault::Limit(number)));
+        assert_eq!(rt; asked.load(Ordering::SeqCst), turns);
+    }
+    Ok(())
+}
+
+/// Of three senders and three receivers some are held behind an answer, and the others come to their ends: the least that is
+/// held is told, the senders first, from 0.
+#[test]
+fn some_are_held(rt: HostRuntime) -> Result<(), Fail> {
+    let (off, on) = (false, true);
+    for (point, holds, number) in [
+        (Point::SendAnswered, [off, on, off, off, off, off], 1),
+        (Point::SendAnswered, [off, off, on, off, off, off], 2),
+        (Point::SendAnswered, [off, on, on, off, off, off], 1),
+        (Point::TakeAnswered, [off, off, off, on, off, off], 3),
+        (Point::TakeAnswered, [off, off, off, off, on, off], 4),
+        (Point::TakeAnswered, [off, off, off, off, on, on], 4),
+        (Point::TakeAnswered, [off, off, off, off, off, on], 5),
+    ] {
+        let config = DriveConfig {
+            limit: 1_000_000,
+            ..config(3, 3, 2, 64, 2)
+        };
+        let asked = AtomicU64::new(0);
+        let gates = counting_gates(rt.alloc(), point, &holds, &asked)?;
+        let end = drive(&rt, rt.alloc(), &config, gates);
+        assert_eq!(rt; end, Err(DriveFault::Limit(number)));
+    }
+    Ok(())
+}
+
+/// A gate that lets its worker go on is asked once behind each begin and each answer.
+#[test]
+fn asked_at_each_point(rt: HostRuntime) -> Result<(), Fail> {
+    for (point, least, most) in [
+        (Point::SendBegun, 5, 5),
+        (Point::SendAnswered, 5, 5),
+        (Point::TakeBegun, 6, LIMIT),
+        (Point::TakeAnswered, 6, LIMIT),
+    ] {
+        let config = config(1, 1, 5, 8, 2);
+        let asked = AtomicU64::new(0);
+        let gates = counting_gates(rt.alloc(), point, &[false, false], &asked)?;
+        let end = drive(&rt, rt.alloc(), &config, gates)?;
+        assert_eq!(rt; end.sent, 5);
+        let times = asked.load(Ordering::SeqCst);
+        assert!(rt; least <= times && times <= most);
     }
     Ok(())
 }
