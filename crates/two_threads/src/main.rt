@@ -1,13 +1,17 @@
-//! One thread sends the numbers 1 to 100 and closes, another takes until the end and adds them up.
+//! One thread sends the numbers 1 to 100 and closes, another takes until the end and adds them up. Then one thread sends an
+//! item in turns, closes, and takes what there is.
 #![tactic(auto)]
 
 ghost use Rattle.std.specs.Prelude.{◌≡◌, IfSome};
 ghost use Rattle.std.specs.Thread.{IsSync};
 ghost use Rattle.cc_steps.specs.Walk.{IsOf};
 
+mod in_turns;
+
 use cc_model::{Config, SendAnswer, TakeAnswer};
 use cc_queue::{Opened, Queue, Receiver, Sender, close, send, take_until};
 use crossbeam_utils::Backoff;
+use in_turns::one_thread;
 use std::io;
 use std::process::ExitCode;
 use std::sync::Wait;
@@ -101,5 +105,6 @@ fn main(rt: HostRuntime) -> io::Result<ExitCode> {
     } = opened;
     let (sent, sum) = pass(&rt, &queue, senders.remove(0), receivers.remove(0));
     println!(rt; "sent {}, sum {sum}", sent.unwrap_or(0))?;
+    one_thread(&rt, rt.alloc(), &config)?;
     Ok(ExitCode::SUCCESS)
 }
