@@ -57,13 +57,12 @@ Usage: ccq <COMMAND>
 Commands:
   play   Plays the plan on standard input and writes the report of its whole history
   audit  Audits the receipts on standard input and writes the verdict on them
+  drive  Drives a queue by threads that send and threads that take, and audits their receipts
 
 Options:
   -h, --help  Print help
 
-With threads:
-  drive  Drives a queue by threads that send and threads that take, and audits their receipts
-         (see `ccq drive --help`)
+`ccq play --help`, `ccq audit --help` and `ccq drive --help` say more.
 
 Examples:
   ccq play < PLAN
@@ -122,21 +121,61 @@ fn help_goes_to_the_output(rt: HostRuntime) -> Result<(), Fail> {
     Ok(())
 }
 
+/// Each text of help fits on a terminal of a hundred columns.
+#[test]
+fn help_fits_on_a_terminal(rt: HostRuntime) -> Result<(), Fail> {
+    let lines: [&[&str]; 4] = [
+        &["--help"],
+        &["play", "--help"],
+        &["audit", "--help"],
+        &["drive", "--help"],
+    ];
+    for line in lines {
+        let outcome = ran(rt.alloc(), line, b"".as_slice())?;
+        let mut column: u32 = 0;
+        for byte in outcome.output.iter() {
+            column = if *byte == b'\n' {
+                0
+            } else {
+                column.saturating_add(1)
+            };
+            assert!(rt; column <= 100, "{line:?}");
+        }
+    }
+    Ok(())
+}
+
+/// A task that gets a word says that its input comes on standard input, and a misspelt task is told of.
 #[test]
 fn lines_are_refused(rt: HostRuntime) -> Result<(), Fail> {
-    let rows: [(&[&str], &str); 9] = [
+    let rows: [(&[&str], &str); 15] = [
         (&[], HELP),
+        (
+            &["drvie", "--items", "5"],
+            "error: unrecognized subcommand 'drvie'\n\n  tip: a similar subcommand exists: 'drive'\n\nUsage: ccq <COMMAND>\n\nFor more information, try '--help'.\n",
+        ),
+        (
+            &["audti"],
+            "error: unrecognized subcommand 'audti'\n\n  tip: a similar subcommand exists: 'audit'\n\n",
+        ),
+        (&["drive"], "Drives a queue by threads"),
+        (&["drive", "--"], "Drives a queue by threads"),
+        (&["drive", "x"], "error: unexpected argument 'x' found"),
+        (
+            &["drive", "--items", "5"],
+            "error: unexpected argument '--items' found",
+        ),
         (
             &["plaz"],
             "error: unrecognized subcommand 'plaz'\n\n  tip: a similar subcommand exists: 'play'\n\nUsage: ccq <COMMAND>\n\nFor more information, try '--help'.\n",
         ),
         (
             &["play", "x"],
-            "error: unexpected argument 'x' found\n\nUsage: ccq play\n\nFor more information, try '--help'.\n",
+            "error: unexpected argument 'x' found\n\nUsage: ccq play < PLAN (the plan comes on standard input)\n\nFor more information, try '--help'.\n",
         ),
         (
             &["audit", "play"],
-            "error: unexpected argument 'play' found\n\nUsage: ccq audit\n\nFor more information, try '--help'.\n",
+            "error: unexpected argument 'play' found\n\nUsage: ccq audit < RECEIPTS (the receipts come on standard input)\n\nFor more information, try '--help'.\n",
         ),
         (
             &["--version"],
