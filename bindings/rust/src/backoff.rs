@@ -58,3 +58,15 @@ pub fn turn_until<T>(mut turn: impl FnMut() -> Option<T>) -> T {
         backoff.between_turns();
     }
 }
+
+/// Does turns for some rounds. Gives the answer where there is one by then.
+pub fn turn_shortly<T>(mut turn: impl FnMut() -> Option<T>) -> Option<T> {
+    let mut backoff = Backoff::new();
+    for _ in 0..SPINS + YIELDS {
+        if let Some(answer) = turn() {
+            return Some(answer);
+        }
+        backoff.between_turns();
+    }
+    None
+}

@@ -1,4 +1,5 @@
 //! What a queue is opened with, and its opening.
+use crate::abandoned::Abandoned;
 use crate::handle::{self, Handle, code, unexpected};
 use crate::{OpenError, Receiver, Sender};
 use std::sync::Arc;
@@ -45,11 +46,15 @@ impl Config {
     }
 }
 
-/// How many senders are left, and how many receivers of each group.
+/// How many senders are left, and how many receivers of each group; and what those that are gone
+/// have left.
 #[derive(Debug)]
 pub(crate) struct Left {
     pub senders: AtomicUsize,
     pub receivers: Box<[AtomicUsize]>,
+    pub senders_calls: Abandoned,
+    /// By groups.
+    pub takes: Box<[Abandoned]>,
 }
 
 impl Left {
@@ -157,6 +162,8 @@ pub fn open_groups(
     let left = Arc::new(Left {
         senders: AtomicUsize::new(senders.len()),
         receivers: (0..groups).map(|_| AtomicUsize::new(in_each)).collect(),
+        senders_calls: Abandoned::default(),
+        takes: (0..groups).map(|_| Abandoned::default()).collect(),
     });
     let senders = (1..)
         .zip(senders)

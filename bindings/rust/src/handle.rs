@@ -212,6 +212,17 @@ impl Handle {
         })
     }
 
+    /// Whether no call is begun any more, after a turn of the one that was. An item that it got is
+    /// lost.
+    pub fn is_settled(&mut self) -> bool {
+        let codes = [
+            self.turn_send().code,
+            self.turn_close().code,
+            self.turn_take().code,
+        ];
+        !codes.contains(&code::WAITING)
+    }
+
     /// The code, and the group where that is DONE.
     pub fn group(&mut self) -> (u32, u32) {
         let mut group = 0;

@@ -1,10 +1,11 @@
 //! Receivers, and their pending calls.
-use crate::backoff::{Backoff, turn_until};
+use crate::backoff::{Backoff, turn_shortly, turn_until};
 use crate::config::Left;
 use crate::handle::{Handle, Taken, code, unexpected};
 use crate::{RecvError, TryRecvError, Turn};
 use std::fmt;
 use std::iter::FusedIterator;
+use std::mem;
 use std::sync::Arc;
 use std::sync::atomic::Ordering;
 
@@ -27,7 +28,8 @@ pub struct Item {
 /// It goes to another thread, and is used by one thread at a time: its calls take it by `&mut`, so
 /// there is nothing to share by `&`. It isn't cloned: a queue has as many as it was opened with.
 ///
-/// Its drop goes on to the end of a call that was begun; an item that this call got is lost.
+/// Its drop turns a call that was begun for some rounds, and then leaves it to those that wait in
+/// its group; an item that this call got is lost.
 pub struct Receiver {
     handle: Handle,
     number: u32,
@@ -145,27 +147,50 @@ impl Receiver {
         if let Some(item) = self.kept.take() {
             return Some((Ok(item), 0));
         }
-        let told = self.handle.turn_take();
-        (told.code != code::WAITING).then(|| (taken(&told), told.served))
+        let told = self.turn_handle()?;
+        Some((taken(&told), told.served))
     }
 
-    /// Goes on to the end of a call whose guard was dropped or forgotten, if there is one, and
-    /// keeps what it got.
-    #[cold]
-    fn settle(&mut self) {
+    /// What a turn told, unless its call waits. Then those that are gone get a turn.
+    fn turn_handle(&mut self) -> Option<Taken> {
+        let told = self.handle.turn_take();
+        if told.code == code::WAITING {
+            self.left.takes[self.group as usize - 1].turn();
+            return None;
+        }
+        Some(told)
+    }
+
+    /// One turn of a call whose guard was dropped or forgotten, if there is one: keeps what it got.
+    fn turn_to_keep(&mut self) -> Option<()> {
         if self.kept.is_none() {
-            let told = turn_until(|| {
-                Some(self.handle.turn_take()).filter(|told| told.code != code::WAITING)
-            });
+            let told = self.turn_handle()?;
             self.kept = (told.code == code::GOT).then_some(told.item);
         }
+        Some(())
+    }
+
+    /// Goes on to the end of such a call.
+    #[cold]
+    fn settle(&mut self) {
+        turn_until(|| self.turn_to_keep());
+    }
+
+    /// The same for some rounds. Tells whether no call is begun any more.
+    fn settle_shortly(&mut self) -> bool {
+        turn_shortly(|| self.turn_to_keep()).is_some()
     }
 }
 
 impl Drop for Receiver {
     fn drop(&mut self) {
-        self.settle();
-        self.left.receivers[self.group as usize - 1].fetch_sub(1, Ordering::AcqRel);
+        let settled = self.settle_shortly();
+        let group = self.group as usize - 1;
+        self.left.receivers[group].fetch_sub(1, Ordering::AcqRel);
+        if !settled {
+            let handle = mem::replace(&mut self.handle, Handle::empty());
+            self.left.takes[group].leave(handle);
+        }
     }
 }
 
@@ -212,7 +237,7 @@ impl PendingRecv<'_> {
 impl Drop for PendingRecv<'_> {
     fn drop(&mut self) {
         if !self.done {
-            self.receiver.settle();
+            self.receiver.settle_shortly();
         }
     }
 }

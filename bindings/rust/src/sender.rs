@@ -1,9 +1,10 @@
 //! Senders, and their pending calls.
-use crate::backoff::{Backoff, turn_until};
+use crate::backoff::{Backoff, turn_shortly, turn_until};
 use crate::config::Left;
 use crate::handle::{Handle, Told, code, unexpected};
 use crate::{SendError, TrySendError, Turn, Worn};
 use std::fmt;
+use std::mem;
 use std::sync::Arc;
 use std::sync::atomic::Ordering;
 
@@ -12,8 +13,8 @@ use std::sync::atomic::Ordering;
 /// It goes to another thread, and is used by one thread at a time: its calls take it by `&mut`, so
 /// there is nothing to share by `&`. It isn't cloned: a queue has as many as it was opened with.
 ///
-/// Its drop goes on to the end of a call that was begun. The drop of the last sender also closes
-/// the queue, so that the receivers see its end.
+/// Its drop turns a call that was begun for some rounds, and then leaves it to those that wait on
+/// its side. The drop of the last sender also closes the queue, so that the receivers see its end.
 pub struct Sender {
     handle: Handle,
     number: u32,
@@ -192,30 +193,56 @@ impl Sender {
         }
     }
 
+    /// The told of a turn, unless its call waits. Then those that are gone get a turn.
+    fn answered(&self, told: Told) -> Option<Told> {
+        if told.code == code::WAITING {
+            self.left.senders_calls.turn();
+            return None;
+        }
+        Some(told)
+    }
+
     fn turn_send(&mut self) -> Option<(Result<u64, TrySendError>, u32)> {
         let told = self.handle.turn_send();
-        (told.code != code::WAITING).then(|| (sent(&told), told.served))
+        let told = self.answered(told)?;
+        Some((sent(&told), told.served))
     }
 
     fn turn_close(&mut self) -> Option<(Closed, u32)> {
         let told = self.handle.turn_close();
-        (told.code != code::WAITING).then(|| (closed(&told), told.served))
+        let told = self.answered(told)?;
+        Some((closed(&told), told.served))
     }
 
-    /// Goes on to the end of a call whose guard was forgotten. A send that isn't there says so, and
-    /// so does a close.
+    fn turn_any(&mut self) -> Option<()> {
+        if self.handle.is_settled() {
+            return Some(());
+        }
+        self.left.senders_calls.turn();
+        None
+    }
+
+    /// Goes on to the end of a call whose guard was dropped or forgotten.
     #[cold]
     fn settle(&mut self) {
-        turn_until(|| (self.handle.turn_send().code != code::WAITING).then_some(()));
-        turn_until(|| (self.handle.turn_close().code != code::WAITING).then_some(()));
+        turn_until(|| self.turn_any());
+    }
+
+    /// The same for some rounds. Tells whether no call is begun any more.
+    fn settle_shortly(&mut self) -> bool {
+        turn_shortly(|| self.turn_any()).is_some()
     }
 }
 
 impl Drop for Sender {
     fn drop(&mut self) {
-        self.settle();
+        let settled = self.settle_shortly();
         if self.left.senders.fetch_sub(1, Ordering::AcqRel) == 1 {
+            // All others are gone: whatever this waits for is turned here.
             self.close();
+        } else if !settled {
+            let handle = mem::replace(&mut self.handle, Handle::empty());
+            self.left.senders_calls.leave(handle);
         }
     }
 }
@@ -261,7 +288,7 @@ impl PendingSend<'_> {
 impl Drop for PendingSend<'_> {
     fn drop(&mut self) {
         if !self.done {
-            self.sender.settle();
+            self.sender.settle_shortly();
         }
     }
 }
@@ -297,7 +324,7 @@ impl PendingClose<'_> {
 impl Drop for PendingClose<'_> {
     fn drop(&mut self) {
         if !self.done {
-            self.sender.settle();
+            self.sender.settle_shortly();
         }
     }
 }

@@ -155,12 +155,12 @@ fn orders() -> Vec<[usize; 4]> {
         .collect()
 }
 
-/// One thread drops all passes. At most one of a side has a call that was begun, so that no drop waits for another.
+/// One thread drops all passes, in every state: no drop waits for another.
 #[test]
 fn passes_go_in_every_order() {
     assert_eq!(orders().len(), 24);
     for order in orders() {
-        for begun in [0, 1, 2, 4, 8, 5, 6, 9, 10] {
+        for begun in 0..16 {
             for closes in [false, true] {
                 let mut passes = passes(begun, closes).map(Some);
                 for at in order {
