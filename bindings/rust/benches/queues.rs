@@ -15,7 +15,7 @@ mod plain;
 use std::sync::atomic::{AtomicU64, Ordering};
 use std::thread;
 use std::time::Instant;
-use vahepito::{Config, Receiver, Sender, open, open_groups};
+use vahepito::words::{Config, Receiver, Sender, open, open_groups};
 
 /// The numbers of senders and receivers, the capacity, and how many items pass.
 #[derive(Clone, Copy)]

@@ -12,7 +12,7 @@
 //! tells how many events were archived, and how many alarms there were, where each thread writes so
 //! many events (10,000). Each service is a group of receivers: it gets every event once.
 use std::thread;
-use vahepito::{Config, Item, OpenError, open_groups};
+use vahepito::words::{Config, Item, OpenError, open_groups};
 
 /// How severe an event is, 0 to 9: the last digit of its one word.
 fn severity(event: &Item) -> u64 {

@@ -6,7 +6,7 @@
 //! tells the number below LIMIT (100,000) that takes the most steps. Each stage ends when the one
 //! before it has ended: its last sender is dropped, and that closes the queue.
 use std::thread;
-use vahepito::{Config, OpenError, open};
+use vahepito::words::{Config, OpenError, open};
 
 fn steps_to_one(mut n: u64) -> u64 {
     let mut steps = 0;

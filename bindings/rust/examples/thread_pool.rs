@@ -7,7 +7,7 @@
 use std::sync::atomic::{AtomicUsize, Ordering};
 use std::sync::{Arc, Mutex};
 use std::thread::{self, JoinHandle};
-use vahepito::{Config, OpenError, Receiver, Sender, open};
+use vahepito::words::{Config, OpenError, Receiver, Sender, open};
 
 type Job = Box<dyn FnOnce() + Send>;
 type Slots = Arc<[Mutex<Option<Job>>]>;

@@ -1,57 +1,10 @@
 #![doc = include_str!("../README.md")]
 #![deny(missing_docs, unsafe_code)]
 
-mod abandoned;
-mod backoff;
-mod config;
-mod error;
-mod handle;
-mod receiver;
-mod sender;
+pub mod words;
 
-pub use config::{Config, open, open_groups};
-pub use error::{OpenError, RecvError, SendError, TryRecvError, TrySendError, Worn};
-pub use receiver::{IntoIter, Item, Iter, PendingRecv, Receiver, TryIter};
-pub use sender::{Closed, PendingClose, PendingSend, Sender};
-
-/// What one turn of a guard told.
-#[derive(Debug)]
-#[must_use = "a call that was begun is to be turned until it is done"]
-pub enum Turn<P, A> {
-    /// The answer isn't there yet: turn the guard again.
-    Waiting(P),
-    /// The call is done.
-    Done {
-        /// The queue's answer.
-        answer: A,
-        /// How many calls this turn served: 0 where another pass had served this one, else from 1
-        /// to `bound`.
-        served: u32,
-    },
-}
-
-/// What doesn't compile: a pass is neither shared nor cloned, and a guard holds its pass.
-///
-/// ```compile_fail,E0277
-/// fn shared<T: Sync>() {}
-/// shared::<vahepito::Sender>();
-/// ```
-///
-/// ```compile_fail,E0277
-/// fn shared<T: Sync>() {}
-/// shared::<vahepito::Receiver>();
-/// ```
-///
-/// ```compile_fail,E0277
-/// fn cloned<T: Clone>() {}
-/// cloned::<vahepito::Sender>();
-/// ```
-///
-/// ```compile_fail,E0499
-/// let (mut senders, _receivers) = vahepito::open(vahepito::Config::new(1, 1, 1)).unwrap();
-/// let pending = senders[0].begin(1).unwrap();
-/// let again = senders[0].begin(2);
-/// drop(pending);
-/// ```
-#[cfg(doctest)]
-mod refused {}
+#[doc(hidden)]
+pub use words::{
+    Closed, Config, Item, OpenError, PendingClose, PendingRecv, PendingSend, Turn, Worn, open,
+    open_groups,
+};

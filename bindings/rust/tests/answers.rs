@@ -1,6 +1,6 @@
 //! Every answer that a call tells, on one thread.
 use std::error::Error;
-use vahepito::{
+use vahepito::words::{
     Closed, Config, Item, OpenError, Receiver, RecvError, SendError, Sender, TryRecvError,
     TrySendError, Turn, Worn, open,
 };

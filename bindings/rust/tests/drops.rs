@@ -1,7 +1,7 @@
 //! Passes and guards that are let go, in every state.
 use std::mem::forget;
 use std::thread;
-use vahepito::{Closed, Config, Receiver, Sender, TryRecvError, Turn, open};
+use vahepito::words::{Closed, Config, Receiver, Sender, TryRecvError, Turn, open};
 
 fn two_and_two() -> ([Sender; 2], [Receiver; 2]) {
     let (senders, receivers) = open(Config::new(2, 2, 4)).unwrap();

@@ -1,6 +1,6 @@
 //! Several groups of receivers, on one thread.
 use std::mem::forget;
-use vahepito::{
+use vahepito::words::{
     Closed, Config, OpenError, Receiver, RecvError, SendError, Sender, TryRecvError, TrySendError,
     Turn, open, open_groups,
 };

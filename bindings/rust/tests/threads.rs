@@ -2,7 +2,7 @@
 use std::collections::BTreeMap;
 use std::sync::Barrier;
 use std::thread::{self, ScopedJoinHandle};
-use vahepito::{Config, Item, SendError, TryRecvError, TrySendError, open, open_groups};
+use vahepito::words::{Config, Item, SendError, TryRecvError, TrySendError, open, open_groups};
 
 /// What each sender was told of its accepted sends, as (place, body), and each receiver of its
 /// takes.

@@ -4,7 +4,7 @@ use std::panic::{AssertUnwindSafe, catch_unwind, panic_any};
 use std::sync::mpsc;
 use std::thread;
 use std::time::Duration;
-use vahepito::{
+use vahepito::words::{
     Config, PendingClose, PendingRecv, PendingSend, Receiver, RecvError, SendError, Sender,
     TryRecvError, TrySendError, Turn, open,
 };

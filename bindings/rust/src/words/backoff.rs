@@ -24,7 +24,7 @@ impl Backoff {
 
     /// Until the next turn of a call that was begun. Others may wait for this call, so it never
     /// sleeps.
-    fn between_turns(&mut self) {
+    pub fn between_turns(&mut self) {
         if self.round < SPINS {
             for _ in 0..1 << self.round {
                 std::hint::spin_loop();

@@ -2,7 +2,7 @@
 //! keeps what they ask for. All unsafe code of this crate is here.
 #![allow(unsafe_code)]
 
-use crate::{Config, Item};
+use crate::words::{Config, Item};
 use std::ffi::c_void;
 use std::mem::{offset_of, size_of};
 use std::ptr::null_mut;
@@ -258,7 +258,7 @@ mod tests {
     use super::code::*;
     use std::collections::BTreeMap;
 
-    const HEADER: &str = include_str!("../../c/vahepito.h");
+    const HEADER: &str = include_str!("../../../c/vahepito.h");
 
     /// The header's codes by their names.
     fn codes() -> BTreeMap<&'static str, u32> {

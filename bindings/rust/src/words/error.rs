@@ -25,7 +25,7 @@ pub enum OpenError {
     NoMemory,
 }
 
-/// Why [`try_send`](crate::Sender::try_send) didn't send. Each but `Worn` is the queue's answer.
+/// Why [`try_send`](crate::words::Sender::try_send) didn't send. Each but `Worn` is the queue's answer.
 #[derive(Clone, Copy, Debug, PartialEq, Eq, Hash)]
 pub enum TrySendError {
     /// As far as the sender knew, there were `capacity` items that some group hadn't taken yet.
@@ -38,7 +38,7 @@ pub enum TrySendError {
     Worn,
 }
 
-/// Why [`send`](crate::Sender::send) didn't send. `Closed` and `Spent` are the queue's answers.
+/// Why [`send`](crate::words::Sender::send) didn't send. `Closed` and `Spent` are the queue's answers.
 #[derive(Clone, Copy, Debug, PartialEq, Eq, Hash)]
 pub enum SendError {
     /// The queue was closed before.
@@ -52,7 +52,7 @@ pub enum SendError {
     Disconnected,
 }
 
-/// Why [`try_recv`](crate::Receiver::try_recv) gave no item. Each is the queue's answer.
+/// Why [`try_recv`](crate::words::Receiver::try_recv) gave no item. Each is the queue's answer.
 #[derive(Clone, Copy, Debug, PartialEq, Eq, Hash)]
 pub enum TryRecvError {
     /// As far as the receiver knew, its group had taken all items that were accepted.
@@ -64,7 +64,7 @@ pub enum TryRecvError {
     },
 }
 
-/// The end: [`recv`](crate::Receiver::recv) gives no more items, since the queue is closed and the
+/// The end: [`recv`](crate::words::Receiver::recv) gives no more items, since the queue is closed and the
 /// receiver's group has taken all its items.
 #[derive(Clone, Copy, Debug, PartialEq, Eq, Hash)]
 pub struct RecvError {

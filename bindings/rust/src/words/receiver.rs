@@ -1,8 +1,8 @@
 //! Receivers, and their pending calls.
-use crate::backoff::{Backoff, turn_shortly, turn_until};
-use crate::config::Left;
-use crate::handle::{Handle, Taken, code, unexpected};
-use crate::{RecvError, TryRecvError, Turn};
+use crate::words::backoff::{Backoff, turn_shortly, turn_until};
+use crate::words::config::Left;
+use crate::words::handle::{Handle, Taken, code, unexpected};
+use crate::words::{RecvError, TryRecvError, Turn};
 use std::fmt;
 use std::iter::FusedIterator;
 use std::mem;
@@ -68,7 +68,7 @@ impl Receiver {
         self.number
     }
 
-    /// Its group, from 1. A queue of [`open`](crate::open) has one.
+    /// Its group, from 1. A queue of [`open`](crate::words::open) has one.
     pub fn group(&self) -> u32 {
         self.group
     }
@@ -128,7 +128,7 @@ impl Receiver {
     ///
     /// The call stands in line among its group's calls from here on, and may be served by any of
     /// them. So the guard is to be turned without delay, until it is done: see
-    /// [Guards](crate#guards).
+    /// [Guards](crate::words#guards).
     pub fn begin(&mut self) -> PendingRecv<'_> {
         while self.kept.is_none() {
             match self.handle.begin_take() {
@@ -202,7 +202,7 @@ impl fmt::Debug for Receiver {
     }
 }
 
-/// A take that was begun: see [Guards](crate#guards).
+/// A take that was begun: see [Guards](crate::words#guards).
 ///
 /// What it gets isn't lost where the guard is dropped: the receiver keeps the item, and its next
 /// call gives it.

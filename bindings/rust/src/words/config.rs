@@ -1,16 +1,16 @@
 //! What a queue is opened with, and its opening.
-use crate::abandoned::Abandoned;
-use crate::handle::{self, Handle, code, unexpected};
-use crate::{OpenError, Receiver, Sender};
+use crate::words::abandoned::Abandoned;
+use crate::words::handle::{self, Handle, code, unexpected};
+use crate::words::{OpenError, Receiver, Sender};
 use std::sync::Arc;
 use std::sync::atomic::{AtomicUsize, Ordering};
 
 /// What a queue is opened with.
 ///
 /// ```
-/// use vahepito::Config;
+/// use vahepito::words::Config;
 ///
-/// let config = Config { bound: 64, ..Config::new(4, 4, 1024) };
+/// let config = Config { life: 1_000_000, ..Config::new(4, 4, 1024) };
 /// # let _ = config;
 /// ```
 #[derive(Clone, Copy, Debug, PartialEq, Eq, Hash)]
@@ -22,7 +22,7 @@ pub struct Config {
     pub receivers: u32,
     /// How many items the queue holds at once, 1 to 4,096.
     pub capacity: u32,
-    /// How many calls one turn serves at most, 1 to 1,024.
+    /// How many calls one turn serves at most, 1 to 1,024: see [The bound](crate::words#the-bound).
     pub bound: u32,
     /// How many items the queue accepts in all, 1 to 2^48.
     pub life: u64,
@@ -32,14 +32,14 @@ pub struct Config {
 }
 
 impl Config {
-    /// So many senders, receivers, and items at once; a bound of 8, and the longest life: 2^48
+    /// So many senders, receivers, and items at once; a bound of 64, and the longest life: 2^48
     /// items, and 2^32 - 1 sends of each sender.
     pub const fn new(senders: u32, receivers: u32, capacity: u32) -> Config {
         Config {
             senders,
             receivers,
             capacity,
-            bound: 8,
+            bound: 64,
             life: 1 << 48,
             per_sender: u32::MAX,
         }
@@ -129,7 +129,7 @@ pub fn open(config: Config) -> Result<(Vec<Sender>, Vec<Receiver>), OpenError> {
 ///
 /// ```
 /// use std::thread;
-/// use vahepito::{Config, open_groups};
+/// use vahepito::words::{Config, open_groups};
 ///
 /// // Three threads write a log, how severe each event is. Two services read all of it.
 /// let (writers, mut services) = open_groups(Config::new(3, 1, 16), 2)?;
@@ -144,7 +144,7 @@ pub fn open(config: Config) -> Result<(Vec<Sender>, Vec<Receiver>), OpenError> {
 ///     (stored.join().unwrap(), severe)
 /// });
 /// assert_eq!((stored, severe), (300, 30));
-/// # Ok::<(), vahepito::OpenError>(())
+/// # Ok::<(), vahepito::words::OpenError>(())
 /// ```
 ///
 /// # Errors

@@ -1,5 +1,5 @@
 //! Calls that were begun by passes that are gone.
-use crate::handle::Handle;
+use crate::words::handle::Handle;
 use std::fmt;
 use std::sync::atomic::{AtomicUsize, Ordering};
 use std::sync::{Mutex, PoisonError};

@@ -1,8 +1,8 @@
 //! Senders, and their pending calls.
-use crate::backoff::{Backoff, turn_shortly, turn_until};
-use crate::config::Left;
-use crate::handle::{Handle, Told, code, unexpected};
-use crate::{SendError, TrySendError, Turn, Worn};
+use crate::words::backoff::{Backoff, turn_shortly, turn_until};
+use crate::words::config::Left;
+use crate::words::handle::{Handle, Told, code, unexpected};
+use crate::words::{SendError, TrySendError, Turn, Worn};
 use std::fmt;
 use std::mem;
 use std::sync::Arc;
@@ -72,7 +72,7 @@ impl Sender {
         }
     }
 
-    /// Its number among the senders, from 1. [`Item::sender`](crate::Item::sender) is this number.
+    /// Its number among the senders, from 1. [`Item::sender`](crate::words::Item::sender) is this number.
     pub fn number(&self) -> u32 {
         self.number
     }
@@ -156,7 +156,7 @@ impl Sender {
     ///
     /// The call stands in line among the senders' calls from here on, and may be served by any of
     /// them. So the guard is to be turned without delay, until it is done: see
-    /// [Guards](crate#guards).
+    /// [Guards](crate::words#guards).
     ///
     /// # Errors
     ///
@@ -255,7 +255,7 @@ impl fmt::Debug for Sender {
     }
 }
 
-/// A send that was begun: see [Guards](crate#guards).
+/// A send that was begun: see [Guards](crate::words#guards).
 #[derive(Debug)]
 #[must_use = "a call that was begun is to be turned until it is done"]
 pub struct PendingSend<'a> {
@@ -293,7 +293,7 @@ impl Drop for PendingSend<'_> {
     }
 }
 
-/// A close that was begun: see [Guards](crate#guards).
+/// A close that was begun: see [Guards](crate::words#guards).
 #[derive(Debug)]
 #[must_use = "a call that was begun is to be turned until it is done"]
 pub struct PendingClose<'a> {
