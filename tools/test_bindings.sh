@@ -119,9 +119,11 @@ else
     step 'Rust: the log' bash -c "prints '40000 events in the archive, 4000 alarms' cargo ${options[*]} run --example log"
     host=$(rustc -vV | sed -n 's/^host: //p')
     runner=CARGO_TARGET_$(tr 'a-z-' 'A-Z_' <<<"$host")_RUNNER
-    # One test looks at how much memory the process has, which says nothing under another allocator.
+    # One test looks at how much memory the process has, which says nothing under another allocator; two search a model,
+    # and call nothing. Of the rounds of the long tests a twentieth is enough here.
     if has valgrind; then
-        step 'Rust: under valgrind' env "$runner=${valgrind[*]}" cargo "${options[@]}" test --tests -- --skip frees_the_queue
+        step 'Rust: under valgrind' env "$runner=${valgrind[*]}" VAHEPITO_ROUNDS=5 cargo "${options[@]}" test --tests -- \
+            --skip frees_the_queue --skip interleaving --skip the_search
     else
         skip 'Rust: under valgrind' 'valgrind is not on this machine'
     fi

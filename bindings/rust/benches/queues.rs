@@ -4,7 +4,8 @@
 //!
 //!     cargo bench --offline [-- --rounds N] [--items N]
 //!
-//! `steps` are the queue's atomic steps by hand in plain Rust, `mutex` std's `Mutex` with two
+//! `vahepito` are its queues of words and `typed` its channel of any type, here of words too. `steps`
+//! are the queue's atomic steps by hand in plain Rust, `mutex` std's `Mutex` with two
 //! `Condvar`s round a `VecDeque`, and `channel` std's `sync_channel`, whose one receiver is shared
 //! under a lock: all three are those of `bench/plain`. A second table has groups of receivers: one
 //! queue with so many groups of one receiver beside as many queues with one receiver each, to all of
@@ -15,7 +16,8 @@ mod plain;
 use std::sync::atomic::{AtomicU64, Ordering};
 use std::thread;
 use std::time::Instant;
-use vahepito::words::{Config, Receiver, Sender, open, open_groups};
+use vahepito::words::{self, Config, open, open_groups};
+use vahepito::{Receiver, Sender, channel};
 
 /// The numbers of senders and receivers, the capacity, and how many items pass.
 #[derive(Clone, Copy)]
@@ -29,12 +31,14 @@ struct Shape {
 /// A queue's name, and what passes the items through it and says how many were taken.
 type Queue = (&'static str, fn(Shape) -> u64);
 
-const ALONE: [Queue; 2] = [
+const ALONE: [Queue; 3] = [
     ("vahepito", alone),
+    ("typed", typed_alone),
     ("steps", |it| plain::alone(it.capacity, it.items)),
 ];
-const SHARED: [Queue; 4] = [
+const SHARED: [Queue; 5] = [
     ("vahepito", shared),
+    ("typed", typed_shared),
     ("steps", |it| {
         plain::steps(it.senders, it.receivers, it.capacity, it.items)
     }),
@@ -97,7 +101,7 @@ fn groups(it: Shape) -> u64 {
 
 /// Each item to every queue; how many items each of them passed.
 fn queues(it: Shape) -> u64 {
-    let mut senders: Vec<Vec<Sender>> = (0..it.senders).map(|_| Vec::new()).collect();
+    let mut senders: Vec<Vec<words::Sender>> = (0..it.senders).map(|_| Vec::new()).collect();
     let mut receivers = Vec::new();
     for _ in 0..it.receivers {
         let one_each = Config::new(it.senders as u32, 1, it.capacity as u32);
@@ -112,7 +116,7 @@ fn queues(it: Shape) -> u64 {
 
 /// A thread for each list of senders, which sends its items by all of them, and one for each
 /// receiver; how many items each receiver got, where all got as many.
-fn copied(it: Shape, senders: Vec<Vec<Sender>>, receivers: Vec<Receiver>) -> u64 {
+fn copied(it: Shape, senders: Vec<Vec<words::Sender>>, receivers: Vec<words::Receiver>) -> u64 {
     thread::scope(|scope| {
         for mut all in senders {
             scope.spawn(move || {
@@ -139,6 +143,41 @@ fn copied(it: Shape, senders: Vec<Vec<Sender>>, receivers: Vec<Receiver>) -> u64
         );
         got[0]
     })
+}
+
+/// As `alone`, by a channel.
+fn typed_alone(it: Shape) -> u64 {
+    let (sender, receiver) = channel(it.capacity).unwrap();
+    let mut bodies = 0..it.items;
+    plain::take_all(|| {
+        sender.try_send(bodies.next()?).unwrap();
+        Some(receiver.try_recv().unwrap())
+    })
+}
+
+/// As `shared`, by a channel whose ends are cloned.
+fn typed_shared(it: Shape) -> u64 {
+    let (sender, receiver) = channel(it.capacity).unwrap();
+    let senders: Vec<Sender<u64>> = (1..it.senders).map(|_| sender.clone()).collect();
+    let receivers: Vec<Receiver<u64>> = (1..it.receivers).map(|_| receiver.clone()).collect();
+    let passed = AtomicU64::new(0);
+    thread::scope(|scope| {
+        for receiver in receivers.into_iter().chain([receiver]) {
+            let passed = &passed;
+            scope.spawn(move || {
+                let got = plain::take_all(|| receiver.recv().ok());
+                passed.fetch_add(got, Ordering::SeqCst);
+            });
+        }
+        for sender in senders.into_iter().chain([sender]) {
+            scope.spawn(move || {
+                for body in 0..it.items / it.senders as u64 {
+                    sender.send(body).unwrap();
+                }
+            });
+        }
+    });
+    passed.into_inner()
 }
 
 #[repr(C)]
@@ -221,7 +260,7 @@ fn main() {
         "| senders and receivers | capacity | {} |",
         SHARED.map(|queue| queue.0).join(" | ")
     );
-    println!("|---|---|---|---|---|---|");
+    println!("|---|---|---|---|---|---|---|");
     let it = Shape {
         senders: 1,
         receivers: 1,

@@ -1,10 +1,15 @@
 #![doc = include_str!("../README.md")]
 #![deny(missing_docs, unsafe_code)]
 
+mod channel;
 pub mod words;
 
+pub use channel::{
+    CloneError, IntoIter, Iter, Receiver, RecvError, RecvFuture, RecvTimeoutError, SendError,
+    SendFuture, SendTimeoutError, Sender, TryIter, TryRecvError, TrySendError, channel, groups,
+};
+pub use words::OpenError;
 #[doc(hidden)]
 pub use words::{
-    Closed, Config, Item, OpenError, PendingClose, PendingRecv, PendingSend, Turn, Worn, open,
-    open_groups,
+    Closed, Config, Item, PendingClose, PendingRecv, PendingSend, Turn, Worn, open, open_groups,
 };

@@ -1,5 +1,5 @@
 //! Guards and passes that leave a scope as safe code lets them: each of these ends.
-use std::mem::forget;
+use std::mem::{ManuallyDrop, forget};
 use std::panic::{AssertUnwindSafe, catch_unwind, panic_any};
 use std::sync::mpsc;
 use std::thread;
@@ -240,21 +240,22 @@ fn guards_are_waited_for_elsewhere() {
     });
 }
 
-/// A thread ends, and its sender is forgotten with a call begun: its side is stopped for good. A
-/// guard's drop comes back all the same, and so does a sender's.
+/// A sender is forgotten with a call begun: its side is stopped. A guard's drop comes back all the
+/// same, and so does a sender's.
 #[test]
 fn a_sender_is_forgotten_with_its_call() {
     ends(|| {
-        let ([mut one, mut two], [mut receiver, _]) = two_and_two();
-        let leaks = thread::spawn(move || {
-            forget(one.begin(1));
-            forget(one);
-        });
-        leaks.join().unwrap();
+        let ([one, mut two], [mut receiver, _]) = two_and_two();
+        let mut one = ManuallyDrop::new(one);
+        forget(one.begin(1));
         drop(two.begin(2));
         drop(two);
         // The receivers' side goes on.
         assert_eq!(receiver.try_recv(), Err(TryRecvError::Empty));
+        // Were it never dropped, its memory would be lost, and nobody would close the queue.
+        drop(ManuallyDrop::into_inner(one));
+        assert_eq!(bodies(&mut receiver), [1, 2]);
+        assert_eq!(receiver.recv(), Err(RecvError { total: 2 }));
     });
 }
 

@@ -1,0 +1,416 @@
+//! What the handles of a channel share: seats, slots, and the calls that don't wait.
+//!
+//! A handle has the number of a seat. A seat has a pass of a queue under a lock, which is held for one
+//! call of the pass, and never while foreign code runs: an item's drop or copy, or a waker. Locks are
+//! taken in this order: a seat's, a queue's `accepted`, the line's.
+use super::PASSES;
+use super::event::{Event, lock};
+use super::line::{Extended, Line, Seated};
+use super::slots::{Free, Padded, Slots};
+use crate::words::{self, Config, OpenError};
+use std::any::Any;
+use std::panic::{AssertUnwindSafe, catch_unwind, resume_unwind};
+use std::sync::Mutex;
+use std::sync::atomic::{AtomicBool, AtomicU64, AtomicUsize, Ordering};
+
+/// What a sender's seat has.
+struct Sends {
+    at: Seated<words::Sender>,
+    /// The slot for the next item, where it has one in hand.
+    free: Option<Free>,
+    /// Whether it knows that every group has all items of the earlier queues.
+    is_first: bool,
+}
+
+struct Seat<P> {
+    /// None until it is used for the first time.
+    pass: Mutex<Option<P>>,
+    /// How many items went through it. Written under the lock.
+    count: AtomicU64,
+}
+
+impl<P> Seat<P> {
+    fn count_one(&self) {
+        let count = self.count.load(Ordering::Relaxed);
+        self.count.store(count + 1, Ordering::SeqCst);
+    }
+}
+
+/// The seats of one side, and which of them handles have.
+struct Seats<P> {
+    /// A bit for each seat that a handle has.
+    taken: AtomicU64,
+    seats: Box<[Padded<Seat<P>>]>,
+}
+
+impl<P> Seats<P> {
+    /// One handle has the first seat.
+    fn new() -> Seats<P> {
+        let seat = |_| {
+            Padded(Seat {
+                pass: Mutex::new(None),
+                count: AtomicU64::new(0),
+            })
+        };
+        Seats {
+            taken: AtomicU64::new(1),
+            seats: (0..PASSES).map(seat).collect(),
+        }
+    }
+
+    fn at(&self, seat: usize) -> &Seat<P> {
+        &self.seats[seat].0
+    }
+
+    /// How many items went through all of them.
+    fn count(&self) -> u64 {
+        let counts = self
+            .seats
+            .iter()
+            .map(|seat| seat.0.count.load(Ordering::SeqCst));
+        counts.sum()
+    }
+
+    /// A seat for a further handle, if there is one.
+    fn enter(&self) -> Option<usize> {
+        let mut taken = self.taken.load(Ordering::SeqCst);
+        while taken != u64::MAX {
+            let seat = taken.trailing_ones();
+            let with = taken | 1 << seat;
+            match (self.taken).compare_exchange(taken, with, Ordering::SeqCst, Ordering::SeqCst) {
+                Ok(_) => return Some(seat as usize),
+                Err(now) => taken = now,
+            }
+        }
+        None
+    }
+
+    /// Gives a handle's seat back. Tells whether it was the last one.
+    fn leave(&self, seat: usize) -> bool {
+        self.taken.fetch_and(!(1 << seat), Ordering::SeqCst) == 1 << seat
+    }
+}
+
+pub struct Group {
+    /// Where its receivers wait for items.
+    pub items: Event,
+    seats: Seats<Seated<words::Receiver>>,
+    /// Once it has lost its last receiver: that one's seat and 1, by which its items are let go.
+    left: AtomicUsize,
+    /// Whether somebody lets them go at this moment.
+    letting_go: AtomicBool,
+}
+
+/// Why a send wasn't made.
+#[derive(Debug, PartialEq, Eq)]
+pub enum Refusal {
+    /// There is no room. A take or a loss of receivers rings for room.
+    Full,
+    /// There is no room, and there may be without a ring: a queue is about to follow another.
+    FullSoon,
+    Closed,
+}
+
+/// Why a take wasn't made.
+#[derive(Debug, PartialEq, Eq)]
+pub enum NoItem {
+    Empty,
+    Ended,
+}
+
+pub struct Core<T> {
+    slots: Slots<T>,
+    capacity: u64,
+    line: Line,
+    senders: Seats<Sends>,
+    pub groups: Box<[Group]>,
+    /// How many groups have lost all their receivers.
+    lost: AtomicUsize,
+    /// Where senders wait for room.
+    pub room: Event,
+}
+
+/// Rings for room at its end, also where the copying of an item panics.
+struct Rings<'a>(&'a Event);
+
+impl Drop for Rings<'_> {
+    fn drop(&mut self) {
+        self.0.ring();
+    }
+}
+
+type Panic = Box<dyn Any + Send>;
+
+impl<T> Core<T> {
+    /// Opens a channel whose slots are made by this function: it is told how many there are, and
+    /// among how many senders.
+    pub fn open(
+        config: Config,
+        groups: u32,
+        slots: impl FnOnce(usize, usize) -> Slots<T>,
+    ) -> Result<Core<T>, OpenError> {
+        let line = Line::open(config, groups)?;
+        let group = |_| Group {
+            items: Event::new(),
+            seats: Seats::new(),
+            left: AtomicUsize::new(0),
+            letting_go: AtomicBool::new(false),
+        };
+        let groups: Box<[Group]> = (0..groups).map(group).collect();
+        // Those in the queues, one in the hand of each sender, and one that each receiver reads.
+        let count = config.capacity as usize + PASSES * (1 + groups.len());
+        Ok(Core {
+            slots: slots(count, PASSES),
+            capacity: config.capacity.into(),
+            line,
+            senders: Seats::new(),
+            groups,
+            lost: AtomicUsize::new(0),
+            room: Event::new(),
+        })
+    }
+
+    pub fn capacity(&self) -> usize {
+        self.capacity as usize
+    }
+
+    pub fn is_closed(&self) -> bool {
+        self.line.is_closed()
+    }
+
+    /// Of so many items of the channel, every group has each.
+    fn taken(&self) -> u64 {
+        let taken = self.groups.iter().map(|group| group.seats.count());
+        taken.min().expect("there is a group")
+    }
+
+    /// How many items some group hasn't taken.
+    pub fn len(&self) -> usize {
+        let taken = self.taken();
+        self.between(taken)
+    }
+
+    /// How many items this group hasn't taken.
+    pub fn len_of(&self, group: usize) -> usize {
+        let taken = self.groups[group].seats.count();
+        self.between(taken)
+    }
+
+    fn between(&self, taken: u64) -> usize {
+        let len = self.senders.count().saturating_sub(taken);
+        len.min(self.capacity) as usize
+    }
+
+    /// Sends an item, or hands it back.
+    #[inline]
+    pub fn try_send(&self, seat: usize, item: T) -> Result<(), (Refusal, T)> {
+        let sent = self.send_once(seat, item);
+        if self.lost.load(Ordering::SeqCst) != 0 {
+            return self.without_the_lost(seat, sent);
+        }
+        sent
+    }
+
+    fn send_once(&self, seat: usize, item: T) -> Result<(), (Refusal, T)> {
+        {
+            let sends = self.senders.at(seat);
+            let mut pass = lock(&sends.pass);
+            let pass = pass.get_or_insert_with(|| Sends {
+                at: self.line.first_sender(seat),
+                free: None,
+                is_first: false,
+            });
+            // There is none where a shared receiver reads many items at once. It rings after it.
+            let Some(free) = pass.free.take().or_else(|| self.slots.free(seat)) else {
+                return Err((Refusal::Full, item));
+            };
+            let held = self.slots.put(free, item);
+            if let Err(refusal) = self.send_word(seat, pass, held.word()) {
+                let (free, item) = self.slots.take_back(held);
+                pass.free = Some(free);
+                return Err((refusal, item));
+            }
+            sends.count_one();
+        }
+        self.groups.iter().for_each(|group| group.items.ring());
+        Ok(())
+    }
+
+    /// Sends a word, and goes on to a further queue where this one is used up.
+    fn send_word(&self, seat: usize, sends: &mut Sends, word: u64) -> Result<(), Refusal> {
+        use words::TrySendError::{Closed, Full, Spent, Worn};
+        loop {
+            if !sends.is_first {
+                sends.is_first = self.taken() >= sends.at.queue.before;
+            }
+            let told = match sends.is_first {
+                true => sends
+                    .at
+                    .pass
+                    .try_send(word)
+                    .map_err(|it| (it, Refusal::Full)),
+                false => self.send_behind(&mut sends.at, word),
+            };
+            match told {
+                Ok(_) => return Ok(()),
+                Err((Full, refusal)) => return Err(refusal),
+                Err((Closed, _)) => {}
+                Err((Worn | Spent, _)) => {
+                    if let Extended::NoMemory = self.line.extend(&mut sends.at, self.taken()) {
+                        return Err(Refusal::FullSoon);
+                    }
+                }
+            }
+            if !self.line.sender_goes_on(seat, &mut sends.at) {
+                return Err(Refusal::Closed);
+            }
+            sends.is_first = false;
+        }
+    }
+
+    /// Sends to a queue while an earlier one may still hold items, so that both together hold no more
+    /// than the capacity: all that send to it then do so under one lock.
+    fn send_behind(
+        &self,
+        at: &mut Seated<words::Sender>,
+        word: u64,
+    ) -> Result<u64, (words::TrySendError, Refusal)> {
+        let mut accepted = lock(&at.queue.accepted);
+        let sent = at.queue.before + *accepted;
+        if sent.saturating_sub(self.taken()) >= self.capacity {
+            // Nobody asked the queue, so that it can't tell that it is closed.
+            return Err(match self.line.is_closed() {
+                true => (words::TrySendError::Closed, Refusal::Closed),
+                false => (words::TrySendError::Full, Refusal::FullSoon),
+            });
+        }
+        let sent = at.pass.try_send(word);
+        *accepted += u64::from(sent.is_ok());
+        sent.map_err(|it| (it, Refusal::FullSoon))
+    }
+
+    /// Lets go what groups without receivers would take, and tries again where there was no room.
+    #[cold]
+    fn without_the_lost(
+        &self,
+        seat: usize,
+        sent: Result<(), (Refusal, T)>,
+    ) -> Result<(), (Refusal, T)> {
+        let panic = self.let_go();
+        let sent = match sent {
+            Err((Refusal::Full | Refusal::FullSoon, item)) => self.send_once(seat, item),
+            sent => sent,
+        };
+        panic.map_or(sent, |panic| resume_unwind(panic))
+    }
+
+    /// Takes an item for a group.
+    #[inline]
+    pub fn try_recv(&self, group: usize, seat: usize) -> Result<T, NoItem> {
+        let (owner, word) = self.take_word(group, seat)?;
+        let _rings = Rings(&self.room);
+        Ok(self.slots.take(group, owner, word))
+    }
+
+    /// Takes a word. Gives its sender's seat, and the word.
+    #[inline]
+    fn take_word(&self, group: usize, seat: usize) -> Result<(usize, u64), NoItem> {
+        let takes = self.groups[group].seats.at(seat);
+        let mut pass = lock(&takes.pass);
+        let at = pass.get_or_insert_with(|| self.line.first_receiver(group, seat));
+        loop {
+            match at.pass.try_recv() {
+                Ok(item) => {
+                    takes.count_one();
+                    return Ok((item.sender as usize - 1, item.body));
+                }
+                Err(words::TryRecvError::Empty) => return Err(NoItem::Empty),
+                Err(words::TryRecvError::Ended { .. }) => {
+                    if !self.line.receiver_goes_on((group, seat), at) {
+                        return Err(NoItem::Ended);
+                    }
+                }
+            }
+        }
+    }
+
+    /// Closes the channel. Tells whether it was open.
+    pub fn close(&self) -> bool {
+        // Any seat does, and there is one at all times.
+        const SEAT: usize = 0;
+        let closed = {
+            let mut pass = lock(&self.senders.at(SEAT).pass);
+            let sends = pass.get_or_insert_with(|| Sends {
+                at: self.line.first_sender(SEAT),
+                free: None,
+                is_first: false,
+            });
+            sends.is_first = false;
+            self.line.close(SEAT, &mut sends.at)
+        };
+        if closed {
+            self.groups
+                .iter()
+                .for_each(|group| group.items.ring_for_all());
+            self.room.ring_for_all();
+        }
+        closed
+    }
+
+    /// A seat for a further sender, if there is one.
+    pub fn add_sender(&self) -> Option<usize> {
+        self.senders.enter()
+    }
+
+    /// A seat for a further receiver of a group, if there is one.
+    pub fn add_receiver(&self, group: usize) -> Option<usize> {
+        self.groups[group].seats.enter()
+    }
+
+    /// A sender is gone. The last one closes.
+    pub fn drop_sender(&self, seat: usize) {
+        if self.senders.leave(seat) {
+            self.close();
+        }
+    }
+
+    /// A receiver is gone. With the last one of a group its items are let go, and the last one of all
+    /// closes.
+    pub fn drop_receiver(&self, group: usize, seat: usize) {
+        if !self.groups[group].seats.leave(seat) {
+            return;
+        }
+        self.groups[group].left.store(seat + 1, Ordering::SeqCst);
+        let lost = self.lost.fetch_add(1, Ordering::SeqCst) + 1;
+        if lost == self.groups.len() {
+            self.close();
+        }
+        if let Some(panic) = self.let_go()
+            && !std::thread::panicking()
+        {
+            resume_unwind(panic);
+        }
+    }
+
+    /// Lets go the items of groups that have no receivers. Gives the first panic of their drops.
+    fn let_go(&self) -> Option<Panic> {
+        let mut panic = None;
+        for (number, group) in self.groups.iter().enumerate() {
+            let left = group.left.load(Ordering::SeqCst);
+            // Who finds another at it leaves it to that one, who looks once more when it is done. So a
+            // drop of an item that sends again doesn't come here again.
+            while left != 0 && !group.letting_go.swap(true, Ordering::SeqCst) {
+                while let Ok((owner, word)) = self.take_word(number, left - 1) {
+                    let drops = || drop(self.slots.pass_over(number, owner, word));
+                    panic = panic.or(catch_unwind(AssertUnwindSafe(drops)).err());
+                }
+                group.letting_go.store(false, Ordering::SeqCst);
+                self.room.ring_for_all();
+                if self.len_of(number) == 0 {
+                    break;
+                }
+            }
+        }
+        panic
+    }
+}

@@ -1,0 +1,258 @@
+//! The receivers of a channel.
+use super::core::{Core, NoItem};
+use super::event::{Again, Event, wait};
+use super::future::RecvFuture;
+use super::{CloneError, RecvError, RecvTimeoutError, TryRecvError};
+use std::fmt;
+use std::iter::FusedIterator;
+use std::panic::{RefUnwindSafe, UnwindSafe};
+use std::sync::Arc;
+use std::time::{Duration, Instant};
+
+/// A receiver of a channel: see [`channel`](crate::channel()) and [`groups`](crate::groups).
+///
+/// Its calls take it by `&self`, and threads may share it; but each has its answer sooner with a clone
+/// of its own. The drop of the last receiver closes the channel, and drops the items that are left.
+pub struct Receiver<T> {
+    core: Arc<Core<T>>,
+    group: usize,
+    seat: usize,
+}
+
+impl<T> UnwindSafe for Receiver<T> {}
+impl<T> RefUnwindSafe for Receiver<T> {}
+
+impl<T> Receiver<T> {
+    pub(super) fn new(core: Arc<Core<T>>, group: usize, seat: usize) -> Receiver<T> {
+        Receiver { core, group, seat }
+    }
+
+    /// Where its group waits for items.
+    pub(super) fn items(&self) -> &Event {
+        &self.core.groups[self.group].items
+    }
+
+    /// Takes an item, if there is one. It doesn't wait for an item, but where another thread serves
+    /// the calls of its group at this moment, for its answer.
+    ///
+    /// # Errors
+    ///
+    /// There is none now, or the channel is closed and there are no more.
+    ///
+    /// ```
+    /// use vahepito::TryRecvError;
+    ///
+    /// let (sender, receiver) = vahepito::channel(4)?;
+    /// assert_eq!(receiver.try_recv(), Err(TryRecvError::Empty));
+    /// sender.send('a').unwrap();
+    /// drop(sender);
+    /// assert_eq!(receiver.try_recv(), Ok('a'));
+    /// assert_eq!(receiver.try_recv(), Err(TryRecvError::Disconnected));
+    /// # Ok::<(), vahepito::OpenError>(())
+    /// ```
+    pub fn try_recv(&self) -> Result<T, TryRecvError> {
+        let taken = self.core.try_recv(self.group, self.seat);
+        taken.map_err(|none| match none {
+            NoItem::Empty => TryRecvError::Empty,
+            NoItem::Ended => TryRecvError::Disconnected,
+        })
+    }
+
+    /// Tries to take an item. Tells the end of the channel by an answer.
+    pub(super) fn attempt(&self) -> Result<Result<T, RecvError>, Again> {
+        match self.core.try_recv(self.group, self.seat) {
+            Ok(item) => Ok(Ok(item)),
+            Err(NoItem::Ended) => Ok(Err(RecvError)),
+            Err(NoItem::Empty) => Err(Again::AtARing),
+        }
+    }
+
+    /// Takes an item, and waits for one until this moment.
+    fn recv_until(&self, until: Option<Instant>) -> Result<T, RecvTimeoutError> {
+        match wait(self.items(), until, || self.attempt()) {
+            Some(taken) => taken.map_err(RecvTimeoutError::from),
+            None => Err(RecvTimeoutError::Timeout),
+        }
+    }
+
+    /// Takes an item, and waits while there is none. It parks after a few tries.
+    ///
+    /// # Errors
+    ///
+    /// The channel is closed, and its group has all its items.
+    pub fn recv(&self) -> Result<T, RecvError> {
+        self.recv_until(None).map_err(|_| RecvError)
+    }
+
+    /// Takes an item, and waits for one, but not longer than this.
+    ///
+    /// # Errors
+    ///
+    /// There was none in that time, or the channel is closed and there are no more.
+    pub fn recv_timeout(&self, time: Duration) -> Result<T, RecvTimeoutError> {
+        // A moment that the clock can't tell never comes.
+        self.recv_until(Instant::now().checked_add(time))
+    }
+
+    /// Takes an item, and waits for one, but not beyond this moment.
+    ///
+    /// # Errors
+    ///
+    /// As of [`recv_timeout`](Receiver::recv_timeout).
+    pub fn recv_deadline(&self, until: Instant) -> Result<T, RecvTimeoutError> {
+        self.recv_until(Some(until))
+    }
+
+    /// Takes an item, as a future of any runtime. Where it is dropped before it is done, nothing was
+    /// taken.
+    pub fn recv_async(&self) -> RecvFuture<'_, T> {
+        RecvFuture::new(self)
+    }
+
+    /// Takes items until the end, by [`recv`](Receiver::recv).
+    pub fn iter(&self) -> Iter<'_, T> {
+        Iter { receiver: self }
+    }
+
+    /// Takes items as long as there are some, by [`try_recv`](Receiver::try_recv).
+    pub fn try_iter(&self) -> TryIter<'_, T> {
+        TryIter { receiver: self }
+    }
+
+    /// A further receiver of its group.
+    ///
+    /// # Errors
+    ///
+    /// 64 receivers of the group are open.
+    pub fn try_clone(&self) -> Result<Receiver<T>, CloneError> {
+        let seat = self.core.add_receiver(self.group);
+        let seat = seat.ok_or(CloneError::Receivers)?;
+        Ok(Receiver::new(self.core.clone(), self.group, seat))
+    }
+
+    /// Closes the channel, as [`Sender::close`](crate::Sender::close): what was sent before can still
+    /// be taken. Tells whether it was open.
+    pub fn close(&self) -> bool {
+        self.core.close()
+    }
+
+    /// Whether the channel is closed: by a call, or since all senders or all receivers are gone. It may
+    /// still hold items.
+    pub fn is_closed(&self) -> bool {
+        self.core.is_closed()
+    }
+
+    /// Its group, from 1. A channel of [`channel`](crate::channel()) has one.
+    pub fn group(&self) -> usize {
+        self.group + 1
+    }
+
+    /// How many items its group hasn't taken. While others send and take it is near the number.
+    pub fn len(&self) -> usize {
+        self.core.len_of(self.group)
+    }
+
+    /// Whether its group has taken all items.
+    pub fn is_empty(&self) -> bool {
+        self.len() == 0
+    }
+
+    /// Whether its group hasn't taken as many items as the channel may hold.
+    pub fn is_full(&self) -> bool {
+        self.len() == self.core.capacity()
+    }
+
+    /// How many items the channel may hold. Every channel has a bound.
+    pub fn capacity(&self) -> Option<usize> {
+        Some(self.core.capacity())
+    }
+
+    /// Whether both are receivers of one channel.
+    pub fn same_channel(&self, other: &Receiver<T>) -> bool {
+        Arc::ptr_eq(&self.core, &other.core)
+    }
+}
+
+/// # Panics
+///
+/// 64 receivers of the group are open: [`try_clone`](Receiver::try_clone) tells that by an error.
+impl<T> Clone for Receiver<T> {
+    fn clone(&self) -> Receiver<T> {
+        self.try_clone().unwrap_or_else(|error| panic!("{error}"))
+    }
+}
+
+impl<T> Drop for Receiver<T> {
+    fn drop(&mut self) {
+        self.core.drop_receiver(self.group, self.seat);
+    }
+}
+
+impl<T> fmt::Debug for Receiver<T> {
+    fn fmt(&self, f: &mut fmt::Formatter<'_>) -> fmt::Result {
+        f.pad("Receiver { .. }")
+    }
+}
+
+/// Takes items until the end: see [`Receiver::iter`].
+#[derive(Debug)]
+pub struct Iter<'a, T> {
+    receiver: &'a Receiver<T>,
+}
+
+/// Takes items as long as there are some: see [`Receiver::try_iter`].
+#[derive(Debug)]
+pub struct TryIter<'a, T> {
+    receiver: &'a Receiver<T>,
+}
+
+/// Takes items until the end, and has the receiver.
+#[derive(Debug)]
+pub struct IntoIter<T> {
+    receiver: Receiver<T>,
+}
+
+impl<T> Iterator for Iter<'_, T> {
+    type Item = T;
+
+    fn next(&mut self) -> Option<T> {
+        self.receiver.recv().ok()
+    }
+}
+
+impl<T> Iterator for TryIter<'_, T> {
+    type Item = T;
+
+    fn next(&mut self) -> Option<T> {
+        self.receiver.try_recv().ok()
+    }
+}
+
+impl<T> Iterator for IntoIter<T> {
+    type Item = T;
+
+    fn next(&mut self) -> Option<T> {
+        self.receiver.recv().ok()
+    }
+}
+
+impl<T> FusedIterator for Iter<'_, T> {}
+impl<T> FusedIterator for IntoIter<T> {}
+
+impl<'a, T> IntoIterator for &'a Receiver<T> {
+    type Item = T;
+    type IntoIter = Iter<'a, T>;
+
+    fn into_iter(self) -> Iter<'a, T> {
+        self.iter()
+    }
+}
+
+impl<T> IntoIterator for Receiver<T> {
+    type Item = T;
+    type IntoIter = IntoIter<T>;
+
+    fn into_iter(self) -> IntoIter<T> {
+        IntoIter { receiver: self }
+    }
+}

@@ -1,0 +1,174 @@
+//! A channel has no end: its queues accept a few items, and its senders begin a few sends.
+use super::slots::Slots;
+use super::*;
+use std::collections::BTreeMap;
+use std::sync::Mutex;
+use std::thread;
+use std::time::Duration;
+
+/// A channel whose queues accept so many items, and whose senders begin so many sends.
+fn short<T: Send>(capacity: usize, life: u64, per_sender: u32) -> (Sender<T>, Receiver<T>) {
+    let config = Config {
+        life,
+        per_sender,
+        ..config(capacity)
+    };
+    let (sender, mut receivers) = open(config, 1, Slots::of_one_group).unwrap();
+    (sender, receivers.remove(0))
+}
+
+const SHORT: [(u64, u32); 5] = [(1, 1), (3, 1000), (1000, 2), (2, 3), (7, 5)];
+
+#[test]
+fn one_thread_meets_no_end() {
+    for (life, per_sender) in SHORT {
+        for capacity in [1, 2, 5] {
+            let (sender, receiver) = short(capacity, life, per_sender);
+            let other = receiver.clone();
+            let mut taken = 0..;
+            for number in 0..200_u64 {
+                while let Err(told) = sender.try_send(number) {
+                    assert!(told.is_full());
+                    assert_eq!(sender.len(), capacity, "it is full and has room");
+                    let receiver = [&receiver, &other][number as usize % 2];
+                    assert_eq!(receiver.recv().ok(), taken.next());
+                }
+                assert!(sender.len() <= capacity);
+            }
+            sender.close();
+            assert!(sender.try_send(0).unwrap_err().is_disconnected());
+            let rest: Vec<u64> = receiver.iter().collect();
+            assert!(rest.into_iter().eq(taken.take(capacity)));
+            assert_eq!(other.recv(), Err(RecvError));
+        }
+    }
+}
+
+/// Sends that find no room are begun too, and wear a sender out.
+#[test]
+fn tries_that_find_no_room_meet_no_end() {
+    let (sender, receiver) = short(2, 1000, 3);
+    for number in 0..50 {
+        sender.send(number).unwrap();
+        sender.send(number).unwrap();
+        for _ in 0..10 {
+            assert_eq!(sender.try_send(number), Err(TrySendError::Full(number)));
+        }
+        assert_eq!((receiver.recv(), receiver.recv()), (Ok(number), Ok(number)));
+        assert_eq!(receiver.try_recv(), Err(TryRecvError::Empty));
+    }
+}
+
+/// Each sender's items come in its order, and no more than the capacity are there at any time.
+fn threads(capacity: usize, life: u64, per_sender: u32, senders: u64, receivers: usize) {
+    const ITEMS: u64 = 60;
+    let (sender, receiver) = short(capacity, life, per_sender);
+    let taken: Mutex<Vec<Vec<(u64, u64)>>> = Mutex::default();
+    thread::scope(|scope| {
+        for number in 0..senders {
+            let sender = sender.clone();
+            scope.spawn(move || (0..ITEMS).for_each(|n| sender.send((number, n)).unwrap()));
+        }
+        drop(sender);
+        for _ in 0..receivers {
+            let (receiver, taken) = (receiver.clone(), &taken);
+            scope.spawn(move || {
+                let mut items = vec![];
+                while let Ok(item) = receiver.recv() {
+                    assert!(receiver.len() <= capacity);
+                    items.push(item);
+                }
+                taken.lock().unwrap().push(items);
+            });
+        }
+        drop(receiver);
+    });
+    let taken = taken.into_inner().unwrap();
+    for items in &taken {
+        let mut last = BTreeMap::new();
+        for (sender, number) in items {
+            assert!(last.insert(sender, number) < Some(number), "{items:?}");
+        }
+    }
+    let mut all: Vec<_> = taken.into_iter().flatten().collect();
+    all.sort();
+    let sent = (0..senders).flat_map(|sender| (0..ITEMS).map(move |n| (sender, n)));
+    assert!(all.into_iter().eq(sent));
+}
+
+#[test]
+fn threads_meet_no_end() {
+    for (life, per_sender) in SHORT {
+        for capacity in [1, 3] {
+            threads(capacity, life, per_sender, 3, 2);
+        }
+    }
+    threads(2, 5, 4, 8, 8);
+}
+
+#[test]
+fn groups_meet_no_end() {
+    let config = Config {
+        life: 3,
+        per_sender: 2,
+        ..config(2)
+    };
+    let slots = |count, owners| Slots::of_groups(count, owners, 2);
+    let (sender, receivers) = open::<String>(config, 2, slots).unwrap();
+    let taken: Vec<Vec<String>> = thread::scope(|scope| {
+        let taking = receivers
+            .into_iter()
+            .map(|receiver| scope.spawn(|| receiver.into_iter().collect()));
+        let taking: Vec<_> = taking.collect();
+        (0..50).for_each(|number| sender.send(number.to_string()).unwrap());
+        drop(sender);
+        taking
+            .into_iter()
+            .map(|thread| thread.join().unwrap())
+            .collect()
+    });
+    let all: Vec<String> = (0..50).map(|number| number.to_string()).collect();
+    assert_eq!(taken, [all.clone(), all]);
+}
+
+/// A handle that was idle while queues came and went goes on with the present one.
+#[test]
+fn an_idle_handle_goes_on() {
+    let (sender, receiver) = short(2, 2, 2);
+    let (idle, last) = (sender.clone(), receiver.clone());
+    idle.send(0).unwrap();
+    assert_eq!(last.recv(), Ok(0));
+    for number in 0..40 {
+        sender.send(number).unwrap();
+        assert_eq!(receiver.recv(), Ok(number));
+    }
+    idle.send(7).unwrap();
+    assert_eq!(last.recv(), Ok(7));
+    sender.send(8).unwrap();
+    drop((sender, receiver));
+    idle.send(9).unwrap();
+    assert!(last.try_iter().eq([8, 9]));
+    drop(idle);
+    assert_eq!(last.recv(), Err(RecvError));
+}
+
+/// A sender waits for room where one queue follows another, and a receiver that takes one item and
+/// no more makes it.
+#[test]
+fn room_between_two_queues() {
+    for life in 1..4 {
+        let (sender, receiver) = short(1, life, 100);
+        for number in 0..20 {
+            sender.send(number).unwrap();
+            thread::scope(|scope| {
+                let waits = scope.spawn(|| sender.send(number + 100));
+                if number % 4 == 0 {
+                    thread::sleep(Duration::from_millis(1));
+                }
+                assert_eq!(receiver.recv(), Ok(number));
+                assert_eq!(waits.join().unwrap(), Ok(()));
+            });
+            assert_eq!(receiver.recv(), Ok(number + 100));
+        }
+    }
+}

@@ -1,0 +1,595 @@
+//! Channels of any type: every answer, handles, and what becomes of items.
+use std::collections::BTreeSet;
+use std::error::Error;
+use std::panic::{AssertUnwindSafe, catch_unwind};
+use std::sync::atomic::{AtomicI64, AtomicUsize, Ordering};
+use std::sync::{Arc, Mutex};
+use std::thread;
+use std::time::{Duration, Instant};
+use vahepito::{
+    CloneError, OpenError, Receiver, RecvError, RecvTimeoutError, SendError, SendTimeoutError,
+    Sender, TryRecvError, TrySendError, channel, groups,
+};
+
+/// An item that counts how many of its kind there are.
+#[derive(Debug)]
+struct Counted(Arc<AtomicI64>, u64);
+
+impl Counted {
+    fn new(alive: &Arc<AtomicI64>, number: u64) -> Counted {
+        alive.fetch_add(1, Ordering::SeqCst);
+        Counted(alive.clone(), number)
+    }
+}
+
+impl Clone for Counted {
+    fn clone(&self) -> Counted {
+        Counted::new(&self.0, self.1)
+    }
+}
+
+impl Drop for Counted {
+    fn drop(&mut self) {
+        self.0.fetch_sub(1, Ordering::SeqCst);
+    }
+}
+
+fn alive(count: &Arc<AtomicI64>) -> i64 {
+    count.load(Ordering::SeqCst)
+}
+
+#[test]
+fn openings_are_refused_out_of_their_range() {
+    for capacity in [0, 4097, usize::MAX] {
+        let told = channel::<u8>(capacity).unwrap_err();
+        assert_eq!(told, OpenError::Capacity, "{capacity}");
+    }
+    for number in [0, 9, usize::MAX] {
+        let told = groups::<u8>(4, number).unwrap_err();
+        assert_eq!(told, OpenError::Groups, "{number}");
+    }
+    assert!(channel::<[u64; 100]>(4096).is_ok());
+    assert_eq!(groups::<u8>(1, 8).unwrap().1.len(), 8);
+}
+
+#[test]
+fn items_come_in_order_and_are_handed_back() {
+    let (sender, receiver) = channel(2).unwrap();
+    assert_eq!(receiver.try_recv(), Err(TryRecvError::Empty));
+    assert_eq!(sender.try_send("a".to_string()), Ok(()));
+    assert_eq!(sender.clone().send("b".to_string()), Ok(()));
+    let told = sender.try_send("c".to_string());
+    assert_eq!(told, Err(TrySendError::Full("c".to_string())));
+    assert!(told.unwrap_err().is_full());
+    assert_eq!(receiver.clone().recv().as_deref(), Ok("a"));
+    assert_eq!(receiver.try_recv().as_deref(), Ok("b"));
+    drop(receiver);
+    let told = sender.try_send("d".to_string()).unwrap_err();
+    assert!(told.is_disconnected());
+    assert_eq!(told.into_inner(), "d");
+    assert_eq!(sender.send("e".to_string()).unwrap_err().into_inner(), "e");
+}
+
+#[test]
+fn any_type_passes() {
+    fn passes<T: Send + PartialEq + std::fmt::Debug>(items: [T; 3]) {
+        let (sender, receiver) = channel(1).unwrap();
+        for item in items {
+            let kept = format!("{item:?}");
+            sender.send(item).unwrap();
+            assert_eq!(format!("{:?}", receiver.recv().unwrap()), kept);
+        }
+    }
+    passes([(), (), ()]);
+    passes([1_u8, 0, 255]);
+    passes([[7_u64; 40], [0; 40], [u64::MAX; 40]]);
+    passes([Some(Box::new(1)), None, Some(Box::new(3))]);
+}
+
+#[test]
+fn len_is_that_of_a_queue_at_rest() {
+    let (sender, receiver) = channel(3).unwrap();
+    for round in 0..5 {
+        assert!(sender.is_empty() && receiver.is_empty() && !sender.is_full());
+        for number in 1..=3 {
+            sender.send(round).unwrap();
+            assert_eq!((sender.len(), receiver.len()), (number, number));
+        }
+        assert!(sender.is_full() && receiver.is_full() && !receiver.is_empty());
+        assert!(sender.try_send(9).is_err());
+        assert_eq!(receiver.clone().try_iter().count(), 3);
+    }
+    assert_eq!((sender.capacity(), receiver.capacity()), (Some(3), Some(3)));
+}
+
+#[test]
+fn a_close_is_told() {
+    let (sender, receiver) = channel(4).unwrap();
+    let other = sender.clone();
+    sender.send(1).unwrap();
+    assert!(!sender.is_closed() && !receiver.is_closed());
+    assert!(sender.close());
+    assert!(!other.close() && !receiver.close());
+    assert!(other.is_closed() && receiver.is_closed());
+    assert_eq!(other.send(2), Err(SendError(2)));
+    assert_eq!(other.try_send(2), Err(TrySendError::Disconnected(2)));
+    let told = other.send_timeout(2, Duration::from_secs(60));
+    assert_eq!(told, Err(SendTimeoutError::Disconnected(2)));
+    assert_eq!(receiver.recv(), Ok(1));
+    assert_eq!(receiver.recv(), Err(RecvError));
+    assert_eq!(receiver.try_recv(), Err(TryRecvError::Disconnected));
+    let told = receiver.recv_timeout(Duration::from_secs(60));
+    assert_eq!(told, Err(RecvTimeoutError::Disconnected));
+
+    let (sender, receiver) = channel(4).unwrap();
+    sender.send(1).unwrap();
+    assert!(receiver.close());
+    assert_eq!(sender.send(2), Err(SendError(2)));
+    assert_eq!(receiver.into_iter().collect::<Vec<_>>(), [1]);
+}
+
+#[test]
+fn the_last_handle_of_a_side_closes() {
+    let (sender, receiver) = channel(4).unwrap();
+    let (second, third) = (sender.clone(), sender.clone());
+    second.send(1).unwrap();
+    drop((second, sender));
+    assert!(!third.is_closed());
+    drop(third);
+    assert!(receiver.is_closed());
+    assert_eq!(receiver.recv(), Ok(1));
+    assert_eq!(receiver.recv(), Err(RecvError));
+
+    let (sender, receiver) = channel(4).unwrap();
+    let second = receiver.clone();
+    drop(receiver);
+    assert_eq!(sender.send(1), Ok(()));
+    drop(second);
+    assert!(sender.is_closed() && sender.is_empty());
+    assert_eq!(sender.send(2), Err(SendError(2)));
+}
+
+#[test]
+fn sixty_four_handles_of_each_side() {
+    let (sender, receiver) = channel(64).unwrap();
+    for _ in 0..3 {
+        let senders: Vec<_> = (0..63).map(|_| sender.clone()).collect();
+        let receivers: Vec<_> = (0..63).map(|_| receiver.clone()).collect();
+        assert_eq!(sender.try_clone().unwrap_err(), CloneError::Senders);
+        assert_eq!(receiver.try_clone().unwrap_err(), CloneError::Receivers);
+        let clones = AssertUnwindSafe(|| drop(sender.clone()));
+        let panic = catch_unwind(clones).unwrap_err();
+        let told = panic.downcast_ref::<String>().unwrap();
+        assert_eq!(told, "the channel has 64 senders already");
+        // Each of them sends and takes.
+        for (number, sender) in senders.iter().enumerate() {
+            sender.send(number).unwrap();
+        }
+        let taken = receivers.iter().map(|receiver| receiver.recv().unwrap());
+        assert!(taken.eq(0..63));
+        // A seat that is given back is another's.
+        drop(senders.into_iter().nth(40));
+        assert_eq!(sender.clone().send(7), Ok(()));
+        assert_eq!(receivers[62].recv(), Ok(7));
+    }
+    assert!(sender.same_channel(&sender.clone()));
+    assert!(!receiver.same_channel(&channel(1).unwrap().1));
+}
+
+#[test]
+fn times_that_are_over() {
+    let time = Duration::from_millis(20);
+    let (sender, receiver) = channel(1).unwrap();
+    let start = Instant::now();
+    let told = receiver.recv_timeout(time);
+    assert_eq!(told, Err(RecvTimeoutError::Timeout));
+    let told = receiver.recv_deadline(start + 2 * time);
+    assert_eq!(told, Err(RecvTimeoutError::Timeout));
+    assert!(start.elapsed() >= 2 * time);
+    sender.send(1).unwrap();
+    let start = Instant::now();
+    let told = sender.send_timeout(2, time);
+    assert_eq!(told, Err(SendTimeoutError::Timeout(2)));
+    let told = sender.send_deadline(3, start + 2 * time).unwrap_err();
+    assert!(told.is_timeout() && told.into_inner() == 3);
+    assert!(start.elapsed() >= 2 * time);
+    // A moment that has passed is no reason not to try.
+    assert_eq!(receiver.recv_deadline(start), Ok(1));
+    assert_eq!(sender.send_deadline(4, start), Ok(()));
+    assert_eq!(receiver.recv_timeout(Duration::ZERO), Ok(4));
+    assert_eq!(sender.send_timeout(5, Duration::MAX), Ok(()));
+    assert_eq!(receiver.recv_timeout(Duration::MAX), Ok(5));
+}
+
+#[test]
+fn iterators_end_where_they_say() {
+    let (sender, receiver) = channel(8).unwrap();
+    (1..=6).for_each(|number| sender.send(number).unwrap());
+    assert!(receiver.iter().take(2).eq([1, 2]));
+    assert!(receiver.try_iter().eq(3..=6));
+    sender.send(7).unwrap();
+    sender.send(8).unwrap();
+    drop(sender);
+    assert_eq!((&receiver).into_iter().next(), Some(7));
+    let mut rest = receiver.into_iter();
+    assert_eq!(rest.next(), Some(8));
+    assert_eq!((rest.next(), rest.next()), (None, None));
+}
+
+#[test]
+fn errors_say_what_is_wrong() {
+    const CLOSED: &str = "sending on a channel that is closed";
+    const ENDED: &str = "receiving on a channel that is closed and has no more items";
+    // An item without `Debug`.
+    struct Item;
+    let errors: [(&str, &str, Box<dyn Error>); 12] = [
+        (CLOSED, "SendError(..)", SendError(Item).into()),
+        (
+            "sending on a channel that is full",
+            "Full(..)",
+            TrySendError::Full(Item).into(),
+        ),
+        (
+            CLOSED,
+            "Disconnected(..)",
+            TrySendError::from(SendError(Item)).into(),
+        ),
+        (
+            "sending took longer than it was given",
+            "Timeout(..)",
+            SendTimeoutError::Timeout(Item).into(),
+        ),
+        (
+            CLOSED,
+            "Disconnected(..)",
+            SendTimeoutError::from(SendError(Item)).into(),
+        ),
+        (ENDED, "RecvError", RecvError.into()),
+        (
+            "receiving on a channel that is empty",
+            "Empty",
+            TryRecvError::Empty.into(),
+        ),
+        (ENDED, "Disconnected", TryRecvError::from(RecvError).into()),
+        (
+            "receiving took longer than it was given",
+            "Timeout",
+            RecvTimeoutError::Timeout.into(),
+        ),
+        (
+            ENDED,
+            "Disconnected",
+            RecvTimeoutError::from(RecvError).into(),
+        ),
+        (
+            "the channel has 64 senders already",
+            "Senders",
+            CloneError::Senders.into(),
+        ),
+        (
+            "the group has 64 receivers already",
+            "Receivers",
+            CloneError::Receivers.into(),
+        ),
+    ];
+    for (display, debug, error) in errors {
+        assert_eq!(
+            (error.to_string(), format!("{error:?}")),
+            (display.into(), debug.into())
+        );
+    }
+    assert!(TryRecvError::Empty.is_empty() && TryRecvError::Disconnected.is_disconnected());
+    assert!(RecvTimeoutError::Timeout.is_timeout());
+    assert!(RecvTimeoutError::Disconnected.is_disconnected());
+    let (sender, receiver) = channel::<Item>(1).unwrap();
+    assert_eq!(
+        format!("{sender:?} {receiver:?}"),
+        "Sender { .. } Receiver { .. }"
+    );
+}
+
+#[test]
+fn handles_go_where_they_may() {
+    fn goes<T: Send + Sync + std::panic::UnwindSafe + std::panic::RefUnwindSafe + Unpin>() {}
+    // An item that isn't `Sync`.
+    goes::<Sender<std::cell::Cell<u8>>>();
+    goes::<Receiver<std::cell::Cell<u8>>>();
+}
+
+/// What is left is dropped with the last receiver; else with whoever takes it.
+#[test]
+fn what_is_left_is_dropped() {
+    for left in 0..9 {
+        let count = Arc::default();
+        let (sender, receiver) = channel(8).unwrap();
+        let (second, other) = (sender.clone(), receiver.clone());
+        for number in 0..left.min(8) {
+            let sender = [&sender, &second][number as usize % 2];
+            sender.send(Counted::new(&count, number)).unwrap();
+        }
+        drop(receiver);
+        assert_eq!(alive(&count), left.min(8) as i64);
+        if left % 2 == 0 {
+            drop(other);
+            assert_eq!(alive(&count), 0);
+            let told = sender.send(Counted::new(&count, 9)).unwrap_err();
+            assert_eq!((told.0.1, alive(&count)), (9, 1));
+        } else {
+            drop((sender, second));
+            assert_eq!(alive(&count), left.min(8) as i64);
+            drop(other);
+        }
+        assert_eq!(alive(&count), 0);
+    }
+}
+
+/// An item's drop panics: the others are dropped all the same, and the panic goes on.
+#[test]
+fn a_drop_that_panics_breaks_nothing() {
+    struct Panics(Option<u32>, #[allow(dead_code)] Counted);
+    impl Drop for Panics {
+        fn drop(&mut self) {
+            if let Some(number) = self.0 {
+                std::panic::resume_unwind(Box::new(number));
+            }
+        }
+    }
+    let count = Arc::default();
+    let (sender, receiver) = channel(8).unwrap();
+    for number in 0..8 {
+        let panics = (number % 3 == 1).then_some(number);
+        let item = Panics(panics, Counted::new(&count, 0));
+        assert!(sender.send(item).is_ok());
+    }
+    let panic = catch_unwind(AssertUnwindSafe(|| drop(receiver))).unwrap_err();
+    assert_eq!(panic.downcast_ref(), Some(&1_u32));
+    assert_eq!(alive(&count), 0);
+    assert!(sender.is_closed());
+    let told = sender.send(Panics(None, Counted::new(&count, 0)));
+    assert!(told.is_err());
+}
+
+/// An item's drop sends again on its own channel, and it holds a sender of it.
+#[test]
+fn a_drop_that_sends_breaks_nothing() {
+    struct Sends(Sender<Sends>, Arc<AtomicUsize>);
+    impl Drop for Sends {
+        fn drop(&mut self) {
+            if self.1.fetch_add(1, Ordering::SeqCst) < 5 {
+                let again = Sends(self.0.clone(), self.1.clone());
+                match self.0.try_send(again) {
+                    Ok(()) | Err(TrySendError::Full(_)) => panic!("it was open"),
+                    Err(TrySendError::Disconnected(back)) => drop(back),
+                }
+            }
+        }
+    }
+    let drops = Arc::new(AtomicUsize::new(0));
+    let (sender, receiver) = channel(4).unwrap();
+    for _ in 0..4 {
+        let item = Sends(sender.clone(), drops.clone());
+        assert!(sender.send(item).is_ok());
+    }
+    drop(receiver);
+    assert!(drops.load(Ordering::SeqCst) >= 4);
+    assert!(sender.is_closed());
+}
+
+/// Less of everything where `VAHEPITO_ROUNDS` says how many of a hundred rounds are made.
+fn rounds(all: u64) -> u64 {
+    let percent = std::env::var("VAHEPITO_ROUNDS").map_or(100, |it| it.parse().unwrap());
+    (all * percent / 100).max(1)
+}
+
+fn many(senders: usize, receivers: usize, capacity: usize, items: u64) {
+    let count = Arc::default();
+    let (sender, receiver) = channel(capacity).unwrap();
+    let sum: u64 = thread::scope(|scope| {
+        for _ in 1..senders {
+            let (sender, count) = (sender.clone(), &count);
+            scope.spawn(move || {
+                (1..=items).for_each(|n| sender.send(Counted::new(count, n)).unwrap())
+            });
+        }
+        (scope.spawn(|| {
+            let sender = sender;
+            (1..=items).for_each(|n| sender.send(Counted::new(&count, n)).unwrap())
+        }));
+        let handles: Vec<_> = (0..receivers).map(|_| receiver.clone()).collect();
+        drop(receiver);
+        let taking = handles
+            .into_iter()
+            .map(|receiver| scope.spawn(|| receiver.into_iter().map(|item| item.1).sum::<u64>()));
+        let taking: Vec<_> = taking.collect();
+        taking
+            .into_iter()
+            .map(|thread| thread.join().unwrap())
+            .sum()
+    });
+    assert_eq!(sum, senders as u64 * items * (items + 1) / 2);
+    assert_eq!(alive(&count), 0);
+}
+
+#[test]
+fn many_threads() {
+    for capacity in [1, 3, 64] {
+        for (senders, receivers) in [(1, 1), (4, 4), (3, 1), (1, 3), (8, 8)] {
+            many(senders, receivers, capacity, rounds(500));
+        }
+    }
+    many(63, 63, 16, 20);
+}
+
+/// One sender and one receiver that many threads share.
+#[test]
+fn shared_handles() {
+    let (sender, receiver) = channel(4).unwrap();
+    let taken = Mutex::new(BTreeSet::new());
+    thread::scope(|scope| {
+        for from in 0..4 {
+            let (sender, receiver, taken) = (&sender, &receiver, &taken);
+            scope.spawn(move || (0..200).for_each(|n| sender.send(from * 1000 + n).unwrap()));
+            scope.spawn(move || {
+                for item in receiver.iter().take(200) {
+                    assert!(taken.lock().unwrap().insert(item));
+                }
+            });
+        }
+    });
+    assert_eq!(taken.into_inner().unwrap().len(), 800);
+    assert!(receiver.is_empty());
+}
+
+/// Receivers leave in the middle of it all, and then the channel is closed.
+#[test]
+fn receivers_leave_while_senders_wait() {
+    for _ in 0..rounds(10) {
+        let count = Arc::default();
+        let (sender, receiver) = channel(3).unwrap();
+        thread::scope(|scope| {
+            for _ in 0..4 {
+                let (sender, count) = (sender.clone(), &count);
+                scope.spawn(move || {
+                    let mut sent = (0..).map(|n| sender.send(Counted::new(count, n)));
+                    assert!(sent.any(|sent| sent.is_err()));
+                });
+                let receiver = receiver.clone();
+                scope.spawn(move || assert_eq!(receiver.iter().take(100).count(), 100));
+            }
+            drop((sender, receiver));
+        });
+        assert_eq!(alive(&count), 0);
+    }
+}
+
+#[test]
+fn every_group_gets_every_item() {
+    let count = Arc::default();
+    let (sender, receivers) = groups(2, 3).unwrap();
+    assert!(receivers.iter().map(Receiver::group).eq(1..=3));
+    sender.send(Counted::new(&count, 1)).unwrap();
+    sender.send(Counted::new(&count, 2)).unwrap();
+    assert_eq!(alive(&count), 2);
+    let [one, two, three] = receivers.try_into().unwrap();
+    let first = [one.recv().unwrap(), two.recv().unwrap()];
+    assert_eq!((first.map(|item| item.1), alive(&count)), ([1, 1], 2));
+    assert_eq!(
+        (one.len(), two.len(), three.len(), sender.len()),
+        (1, 1, 2, 2)
+    );
+    assert!(
+        sender
+            .try_send(Counted::new(&count, 3))
+            .unwrap_err()
+            .is_full()
+    );
+    // The last one gets the item itself, so nothing is copied.
+    let last = three.recv().unwrap();
+    assert_eq!((last.1, alive(&count)), (1, 2));
+    drop(last);
+    assert_eq!(alive(&count), 1);
+    sender.send(Counted::new(&count, 3)).unwrap();
+    drop(sender);
+    let (again, rest) = (one.clone(), |it: Receiver<Counted>| -> Vec<u64> {
+        it.into_iter().map(|item| item.1).collect()
+    });
+    assert_eq!(again.recv().unwrap().1, 2);
+    assert_eq!(
+        (rest(one), rest(two), rest(three)),
+        (vec![3], vec![2, 3], vec![2, 3])
+    );
+    assert_eq!(
+        (again.recv().map(|item| item.1), alive(&count)),
+        (Err(RecvError), 0)
+    );
+}
+
+/// A group that has lost its last receiver holds nobody up, and keeps no item.
+#[test]
+fn a_group_that_is_gone_holds_nobody_up() {
+    let count = Arc::default();
+    let (sender, mut receivers) = groups(2, 2).unwrap();
+    let (gone, stays) = (receivers.remove(1), receivers.remove(0));
+    sender.send(Counted::new(&count, 1)).unwrap();
+    sender.send(Counted::new(&count, 2)).unwrap();
+    assert_eq!(stays.recv().unwrap().1, 1);
+    thread::scope(|scope| {
+        let waits = scope.spawn(|| sender.send(Counted::new(&count, 3)));
+        thread::sleep(Duration::from_millis(10));
+        drop(gone);
+        assert!(waits.join().unwrap().is_ok());
+    });
+    assert_eq!((stays.recv().unwrap().1, stays.recv().unwrap().1), (2, 3));
+    assert_eq!(alive(&count), 0);
+    for number in 0..10 {
+        sender.send(Counted::new(&count, number)).unwrap();
+        let taken = stays.recv().unwrap().1;
+        assert_eq!((taken, alive(&count)), (number, 0));
+    }
+    assert!(!sender.is_closed());
+    sender.send(Counted::new(&count, 0)).unwrap();
+    drop(stays);
+    assert!(sender.is_closed());
+    assert_eq!(alive(&count), 0);
+}
+
+/// A clone panics: its receiver's call does, and the other group gets the item.
+#[test]
+fn a_clone_that_panics_breaks_nothing() {
+    struct Refuses(Counted, Arc<AtomicUsize>);
+    impl Clone for Refuses {
+        fn clone(&self) -> Refuses {
+            if self.1.fetch_add(1, Ordering::SeqCst) == 0 {
+                std::panic::resume_unwind(Box::new("no clone"));
+            }
+            Refuses(self.0.clone(), self.1.clone())
+        }
+    }
+    let count = Arc::default();
+    let clones = Arc::new(AtomicUsize::new(0));
+    let (sender, receivers) = groups(1, 2).unwrap();
+    let send = |number| sender.send(Refuses(Counted::new(&count, number), clones.clone()));
+    assert!(send(1).is_ok());
+    assert!(catch_unwind(AssertUnwindSafe(|| receivers[0].recv().is_ok())).is_err());
+    assert_eq!(receivers[1].recv().map(|item| item.0.1), Ok(1));
+    for number in 2..200 {
+        assert!(send(number).is_ok());
+        assert_eq!(receivers[1].recv().map(|item| item.0.1), Ok(number));
+        assert_eq!(receivers[0].recv().map(|item| item.0.1), Ok(number));
+        assert_eq!(alive(&count), 0);
+    }
+}
+
+#[test]
+fn groups_of_threads() {
+    for (senders, kinds, each, capacity) in [(1, 8, 1, 1), (4, 3, 2, 16), (2, 2, 4, 3)] {
+        let (items, count) = (rounds(300), Arc::default());
+        let (sender, receivers) = groups(capacity, kinds).unwrap();
+        let sums: Vec<u64> = thread::scope(|scope| {
+            for _ in 0..senders {
+                let (sender, count) = (sender.clone(), &count);
+                scope.spawn(move || {
+                    (1..=items).for_each(|n| sender.send(Counted::new(count, n)).unwrap())
+                });
+            }
+            drop(sender);
+            let taking = receivers.into_iter().map(|receiver| {
+                let handles: Vec<_> = (0..each).map(|_| receiver.clone()).collect();
+                let taking = handles.into_iter().map(|receiver| {
+                    scope.spawn(|| receiver.into_iter().map(|item| item.1).sum::<u64>())
+                });
+                taking.collect::<Vec<_>>()
+            });
+            let taking: Vec<_> = taking.collect();
+            let sum = |group: Vec<thread::ScopedJoinHandle<'_, u64>>| {
+                group.into_iter().map(|thread| thread.join().unwrap()).sum()
+            };
+            taking.into_iter().map(sum).collect()
+        });
+        assert!(
+            sums.iter()
+                .all(|sum| *sum == senders * items * (items + 1) / 2)
+        );
+        assert_eq!(alive(&count), 0);
+    }
+}

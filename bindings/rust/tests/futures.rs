@@ -1,0 +1,161 @@
+//! Sends and takes as futures, polled by a loop that parks.
+use std::pin::{Pin, pin};
+use std::sync::Arc;
+use std::sync::atomic::{AtomicUsize, Ordering};
+use std::task::{Context, Poll, Wake, Waker};
+use std::thread;
+use vahepito::{RecvError, SendError, channel};
+
+struct Unpark(thread::Thread);
+
+impl Wake for Unpark {
+    fn wake(self: Arc<Self>) {
+        self.0.unpark();
+    }
+}
+
+fn block_on<F: Future>(future: F) -> F::Output {
+    let mut future = pin!(future);
+    let waker = Arc::new(Unpark(thread::current())).into();
+    let mut context = Context::from_waker(&waker);
+    loop {
+        match future.as_mut().poll(&mut context) {
+            Poll::Ready(output) => return output,
+            Poll::Pending => thread::park(),
+        }
+    }
+}
+
+/// Counts how often it was woken.
+#[derive(Default)]
+struct Woken(AtomicUsize);
+
+impl Wake for Woken {
+    fn wake(self: Arc<Self>) {
+        self.0.fetch_add(1, Ordering::SeqCst);
+    }
+}
+
+impl Woken {
+    fn times(&self) -> usize {
+        self.0.load(Ordering::SeqCst)
+    }
+}
+
+fn poll<F: Future + Unpin>(future: &mut F, woken: &Arc<Woken>) -> Poll<F::Output> {
+    let waker = Waker::from(woken.clone());
+    Pin::new(future).poll(&mut Context::from_waker(&waker))
+}
+
+#[test]
+fn futures_of_many_threads() {
+    for (senders, receivers) in [(1, 1), (3, 3)] {
+        let (sender, receiver) = channel::<Box<u64>>(4).unwrap();
+        let taken: u64 = thread::scope(|scope| {
+            for number in 0..senders {
+                let sender = sender.clone();
+                scope.spawn(move || {
+                    block_on(async {
+                        for item in 0..1000 {
+                            let sent = match item % 2 == number % 2 {
+                                true => sender.send_async(Box::new(item)).await,
+                                false => sender.send(Box::new(item)),
+                            };
+                            assert!(sent.is_ok());
+                        }
+                    })
+                });
+            }
+            let taking = (0..receivers).map(|_| {
+                let receiver = receiver.clone();
+                scope.spawn(move || {
+                    block_on(async {
+                        let mut sum = 0;
+                        while let Ok(item) = receiver.recv_async().await {
+                            sum += *item;
+                        }
+                        sum
+                    })
+                })
+            });
+            let taking: Vec<_> = taking.collect();
+            drop(sender);
+            taking
+                .into_iter()
+                .map(|thread| thread.join().unwrap())
+                .sum()
+        });
+        assert_eq!(taken, senders * 999 * 1000 / 2);
+    }
+}
+
+#[test]
+fn a_take_is_woken_once_there_is_an_item() {
+    let (sender, receiver) = channel(1).unwrap();
+    let woken = Arc::new(Woken::default());
+    let mut takes = receiver.recv_async();
+    assert_eq!(poll(&mut takes, &woken), Poll::Pending);
+    assert_eq!(poll(&mut takes, &woken), Poll::Pending);
+    assert_eq!(woken.times(), 0);
+    sender.send(5).unwrap();
+    assert_eq!(woken.times(), 1);
+    assert_eq!(poll(&mut takes, &woken), Poll::Ready(Ok(5)));
+    assert_eq!(poll(&mut receiver.recv_async(), &woken), Poll::Pending);
+    let mut takes = receiver.recv_async();
+    assert_eq!(poll(&mut takes, &woken), Poll::Pending);
+    drop(sender);
+    assert_eq!(woken.times(), 2);
+    assert_eq!(poll(&mut takes, &woken), Poll::Ready(Err(RecvError)));
+    assert_eq!(format!("{takes:?}"), "RecvFuture { .. }");
+}
+
+#[test]
+fn a_send_is_woken_once_there_is_room() {
+    let (sender, receiver) = channel(1).unwrap();
+    let woken = Arc::new(Woken::default());
+    assert_eq!(poll(&mut sender.send_async(1), &woken), Poll::Ready(Ok(())));
+    let mut sends = sender.send_async(2);
+    assert_eq!(poll(&mut sends, &woken), Poll::Pending);
+    assert_eq!(receiver.recv(), Ok(1));
+    assert_eq!(woken.times(), 1);
+    assert_eq!(poll(&mut sends, &woken), Poll::Ready(Ok(())));
+    let mut sends = sender.send_async(3);
+    assert_eq!(poll(&mut sends, &woken), Poll::Pending);
+    drop(receiver);
+    assert_eq!(woken.times(), 2);
+    assert_eq!(poll(&mut sends, &woken), Poll::Ready(Err(SendError(3))));
+}
+
+/// A future that is dropped was never begun in the queue: it takes and sends nothing.
+#[test]
+fn a_future_that_is_dropped_does_nothing() {
+    let (sender, receiver) = channel(1).unwrap();
+    let woken = Arc::new(Woken::default());
+    let mut takes = receiver.recv_async();
+    assert_eq!(poll(&mut takes, &woken), Poll::Pending);
+    drop(takes);
+    sender.send(Arc::new(1)).unwrap();
+    let item = Arc::new(2);
+    let mut sends = sender.send_async(item.clone());
+    assert!(poll(&mut sends, &woken).is_pending());
+    drop(sends);
+    assert_eq!(Arc::strong_count(&item), 1);
+    assert_eq!(
+        (woken.times(), receiver.recv(), receiver.len()),
+        (0, Ok(Arc::new(1)), 0)
+    );
+}
+
+/// A task is woken and then dropped: the next in line is woken in its place.
+#[test]
+fn a_task_that_is_dropped_passes_the_ring_on() {
+    let (sender, receiver) = channel(4).unwrap();
+    let (one, two) = (Arc::new(Woken::default()), Arc::new(Woken::default()));
+    let (mut first, mut second) = (receiver.recv_async(), receiver.recv_async());
+    assert!(poll(&mut first, &one).is_pending() && poll(&mut second, &two).is_pending());
+    sender.send(7).unwrap();
+    assert_eq!((one.times(), two.times()), (1, 0));
+    drop(first);
+    assert_eq!(two.times(), 1);
+    assert_eq!(poll(&mut second, &two), Poll::Ready(Ok(7)));
+}
