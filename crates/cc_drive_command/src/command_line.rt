@@ -126,6 +126,12 @@ What is measured: what the threads were told, each item that was sent and each t
 whether these receipts fit together. What isn't: times, and the order of the threads' steps, which
 is another in each run.
 
+Each thread has a stack as large as the limit on stacks says (`ulimit -s`); 128 KiB are enough. At
+8 MiB the stacks of 127 threads are 1 GB of address space, of which little is used, and with what
+the C library sets aside such a run wants up to 3.5 GB of it on four processors. Under a limit on
+that (`ulimit -v`) a thread may be refused; with small stacks 100 MB are enough:
+  (ulimit -s 128; ulimit -v 100000; ccq drive --senders 63 --receivers 64)
+
 Exit status:
   0   done, and the verdict is clean
   1   the audit found a fault
