@@ -1,5 +1,6 @@
 //! Devices that fail, and how often they are called.
 use crate::outcomes::{FIRST, REPORT};
+use cc_audit::Verdict;
 use cc_model::{Device, DeviceFault, Sink, Source};
 use cc_play::play::play;
 use cc_play::{PlayFault, tell};
@@ -208,19 +209,54 @@ fn devices_are_called_by_the_block(rt: HostRuntime) -> Result<(), Fail> {
     Ok(())
 }
 
+/// Tells an outcome on standard error, which takes all, or fails at once, behind five bytes, or by taking nothing: the status
+/// is the same, and the line goes out as far as it is taken.
+fn has_status<R: Abort>(
+    rt: &R,
+    alloc: Global,
+    outcome: Result<Verdict, PlayFault>,
+    due: u8,
+    line: &str,
+) {
+    for takes in [usize::MAX, 0, 5] {
+        for refusal in [Refusal::Error, Refusal::Nothing] {
+            let mut errors = CutWriter::new(alloc, takes, usize::MAX, refusal);
+            assert_eq!(rt; tell(&mut errors, outcome), due, "{outcome:?}, {takes}");
+            let told = line.len().min(takes);
+            assert_eq!(rt; errors.taken.as_slice(), &line.as_bytes()[..told]);
+        }
+    }
+}
+
 #[test]
 fn failing_devices_have_a_status(rt: HostRuntime) {
+    let alloc = rt.alloc();
+    let fault = Verdict::Fault { kind: 1, place: 0 };
     let rows = [
-        (PlayFault::Read, "ccq: reading failed\n"),
-        (PlayFault::Write, "ccq: writing failed\n"),
+        (Ok(Verdict::Clean), 0, ""),
+        (Ok(fault), 1, ""),
+        (Err(PlayFault::NoMemory), 3, "ccq: out of memory\n"),
+        (Err(PlayFault::Read), 4, "ccq: reading failed\n"),
+        (Err(PlayFault::Write), 4, "ccq: writing failed\n"),
     ];
-    for (fault, line) in rows {
-        let mut errors = CutWriter::new(rt.alloc(), usize::MAX, usize::MAX, Refusal::Error);
-        assert_eq!(rt; tell(&mut errors, Err(fault)), 4);
-        assert_eq!(rt; errors.taken.as_slice(), line.as_bytes());
-        let mut errors = CutWriter::new(rt.alloc(), 0, usize::MAX, Refusal::Error);
-        let status = tell(&mut errors, Err(fault));
-        assert_eq!(rt; status, 4, "a failure on standard error changes no status");
+    for (outcome, due, line) in rows {
+        has_status(&rt, alloc, outcome, due, line);
+    }
+    let stranger =
+        "{\"capacity\":2,\"bound\":2,\"life\":10,\"senders\":[[]],\"receivers\":[0],\"schedule\":[[\"r9\",1]]}";
+    let refused = [
+        ("", "ccq: plan refused: P1\n"),
+        ("{}", "ccq: plan refused: P2\n"),
+        (
+            "{\"capacity\":0,\"bound\":2,\"life\":10,\"senders\":[[]],\"receivers\":[0],\"schedule\":[]}",
+            "ccq: plan refused: P3 capacity\n",
+        ),
+        (stranger, "ccq: plan refused: P4 at 0\n"),
+    ];
+    for (plan, line) in refused {
+        let mut sink = CutWriter::new(alloc, usize::MAX, usize::MAX, Refusal::Error);
+        let outcome = play(alloc, &mut Device::new(plan.as_bytes()), &mut sink);
+        has_status(&rt, alloc, outcome, 2, line);
     }
 }
 
