@@ -4,6 +4,8 @@ mod error;
 mod event;
 mod future;
 mod line;
+#[cfg(test)]
+mod linear;
 mod receiver;
 mod sender;
 mod slots;
