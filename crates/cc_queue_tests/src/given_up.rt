@@ -24,6 +24,8 @@ pub struct Told {
     /// The sends that were begun and given up. No place was told, and 0 stands there.
     pub sends_given_up: Vec<SendReceipt>,
     pub takes_given_up: u32,
+    /// How many answers came by a turn that served no call: another pass had served it.
+    pub served_by_others: u32,
     /// How many answers can't be in such a round, and receipts for which there was no memory.
     pub wrong: u32,
 }
@@ -35,6 +37,7 @@ impl Told {
             takes: Vec::new(alloc),
             sends_given_up: Vec::new(alloc),
             takes_given_up: 0,
+            served_by_others: 0,
             wrong: 0,
         }
     }
@@ -51,12 +54,20 @@ impl Told {
             self.give_send_up(send.sender, send.number);
         }
         self.takes_given_up = self.takes_given_up.saturating_add(other.takes_given_up);
+        self.served_by_others = self.served_by_others.saturating_add(other.served_by_others);
         self.wrong = self.wrong.saturating_add(other.wrong);
     }
 
     /// Counts an answer that can't be.
     pub fn tell_wrong(&mut self) {
         self.wrong = self.wrong.saturating_add(1);
+    }
+
+    /// Counts an answer by how many calls its turn served.
+    pub fn count_served(&mut self, served: u32) {
+        if served == 0 {
+            self.served_by_others = self.served_by_others.saturating_add(1);
+        }
     }
 
     pub fn add_send(&mut self, receipt: SendReceipt) {

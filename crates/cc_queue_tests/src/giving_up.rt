@@ -55,12 +55,12 @@ fn pause(times: u32) {
     }
 }
 
-/// Turns of a send until it is answered; after so many it is given up.
+/// Turns of a send until it is answered, with how many calls the last one served; after so many it is given up.
 fn wait_for_send(
     queue: &Queue,
     mut pending: PendingSend,
     temper: Temper,
-) -> Option<(Sender, SendAnswer)>
+) -> Option<(Sender, SendAnswer, u32)>
     requires { IsOf queue.now pending }
     ensures { IfSome result (λ r. IsOf queue.now r.0) }
 {
@@ -72,8 +72,8 @@ fn wait_for_send(
             SendTurn::Done {
                 sender,
                 answer,
-                served: _,
-            } => return Some((sender, answer)),
+                served,
+            } => return Some((sender, answer, served)),
         }
         backoff.snooze();
     }
@@ -81,12 +81,12 @@ fn wait_for_send(
     None
 }
 
-/// Turns of a take until it is answered; after so many it is given up.
+/// Turns of a take until it is answered, with how many calls the last one served; after so many it is given up.
 fn wait_for_take(
     queue: &Queue,
     mut pending: PendingTake,
     temper: Temper,
-) -> Option<(Receiver, TakeAnswer)>
+) -> Option<(Receiver, TakeAnswer, u32)>
     requires { IsOf queue.now pending }
     ensures { IfSome result (λ r. IsOf queue.now r.0) }
 {
@@ -98,8 +98,8 @@ fn wait_for_take(
             TakeTurn::Done {
                 receiver,
                 answer,
-                served: _,
-            } => return Some((receiver, answer)),
+                served,
+            } => return Some((receiver, answer, served)),
         }
         backoff.snooze();
     }
@@ -122,11 +122,13 @@ fn send_some(alloc: Global, queue: &Queue, mut dice: Dice, job: SendJob) -> Told
             told.tell_wrong();
             return told;
         };
-        let Some((after, answer)) = wait_for_send(queue, pending, roll_temper(&mut dice)) else {
+        let temper = roll_temper(&mut dice);
+        let Some((after, answer, served)) = wait_for_send(queue, pending, temper) else {
             told.give_send_up(own, number);
             return told;
         };
         sender = after;
+        told.count_served(served);
         match answer {
             SendAnswer::Accepted { place } => told.add_send(SendReceipt {
                 sender: own,
@@ -154,11 +156,13 @@ fn take_some(alloc: Global, queue: &Queue, mut dice: Dice, job: TakeJob) -> Told
     let mut least: u64 = 0;
     for _ in 1..CALLS {
         let pending = begin_take(queue, receiver);
-        let Some((after, answer)) = wait_for_take(queue, pending, roll_temper(&mut dice)) else {
+        let temper = roll_temper(&mut dice);
+        let Some((after, answer, served)) = wait_for_take(queue, pending, temper) else {
             told.give_take_up();
             return told;
         };
         receiver = after;
+        told.count_served(served);
         match answer {
             TakeAnswer::Got(item) => {
                 if item.place < least {
@@ -283,6 +287,7 @@ fn calls_are_given_up_by_threads(rt: HostRuntime) -> Result<(), Fail> {
     let mut sends_given_up: usize = 0;
     let mut takes_given_up: u32 = 0;
     let mut taken: usize = 0;
+    let mut by_others: u32 = 0;
     let mut strangers: u32 = 0;
     let mut gaps: u32 = 0;
     for round in 0..200u64 {
@@ -291,12 +296,17 @@ fn calls_are_given_up_by_threads(rt: HostRuntime) -> Result<(), Fail> {
         sends_given_up = sends_given_up.saturating_add(told.sends_given_up.len());
         takes_given_up = takes_given_up.saturating_add(told.takes_given_up);
         taken = taken.saturating_add(told.takes.len());
+        by_others = by_others.saturating_add(told.served_by_others);
         let judged = told.judge(rt.alloc())?;
         assert_eq!(rt; judged.verdict, Verdict::Clean, "{round}: {judged:?}");
         strangers = strangers.saturating_add(judged.strangers);
         gaps = gaps.saturating_add(judged.gaps);
     }
     assert!(rt; sends_given_up > 0 && takes_given_up > 0 && taken > 0);
+    assert!(rt;
+        by_others >= 1_000,
+        "{by_others} calls were served by other passes"
+    );
     assert!(rt;
         strangers > 0 && gaps > 0,
         "no call that was given up was served"
