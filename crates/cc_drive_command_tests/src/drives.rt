@@ -288,6 +288,15 @@ fn help_goes_to_the_output(rt: HostRuntime) -> Result<(), Fail> {
         assert!(rt; text.starts_with(HELP.as_bytes()), "{text:?}");
         assert!(rt; outcome.errors.is_empty());
         assert_eq!(rt; outcome.left, 9);
+        let mut column: u32 = 0;
+        for byte in text {
+            column = if *byte == b'\n' {
+                0
+            } else {
+                column.saturating_add(1)
+            };
+            assert!(rt; column <= 100);
+        }
     }
     let outcome = ran(&rt, rt.alloc(), &["--help"], b"".as_slice())?;
     assert_eq!(rt; outcome.status, 0);
@@ -376,18 +385,28 @@ fn other_lines(rt: HostRuntime) -> Result<(), Fail> {
         audited.output.as_slice(),
         b"audit fault 3 place 0\n".as_slice()
     );
-    let refused: [&[&str]; 5] = [
-        &[],
-        &["Drive"],
-        &["drives"],
-        &["--", "drive"],
-        &["play", "drive"],
+    let refused: [(&[&str], &str); 5] = [
+        (&[], "Plays plans of CC-Queue"),
+        (
+            &["Drive"],
+            "error: unrecognized subcommand 'Drive'\n\n  tip: a similar subcommand exists: 'drive'\n\n",
+        ),
+        (
+            &["drives", "--items", "5"],
+            "error: unrecognized subcommand 'drives'\n\n  tip: a similar subcommand exists: 'drive'\n\n",
+        ),
+        (&["--", "drive"], "error: unexpected argument 'drive' found"),
+        (
+            &["play", "drive"],
+            "error: unexpected argument 'drive' found",
+        ),
     ];
-    for line in refused {
+    for (line, text) in refused {
         let outcome = ran(&rt, alloc, line, PLAN.as_bytes())?;
         assert_eq!(rt; outcome.status, 64);
         assert_eq!(rt; outcome.output.len(), 0);
-        assert!(rt; !outcome.errors.is_empty());
+        let told = outcome.errors.as_slice();
+        assert!(rt; told.starts_with(text.as_bytes()), "{told:?}");
     }
     Ok(())
 }
