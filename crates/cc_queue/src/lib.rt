@@ -25,8 +25,8 @@ mod tell;
 mod turns;
 
 pub use blocking::{close, send, take, take_until};
-pub use cc_runs::OpenFault;
 pub use cc_model::{CloseAnswer, Config, ConfigFault, Item, SendAnswer, TakeAnswer};
+pub use cc_runs::OpenFault;
 pub use meets::{meet, meet_all, meet_receivers, meet_senders};
 pub use passes::{
     CloseTurn, PendingClose, PendingSend, PendingTake, Receiver, SendTurn, Sender, TakeTurn,
