@@ -94,17 +94,34 @@ fn held(rt: HostRuntime) -> Result<(), Fail> {
 #[test]
 fn some_are_held(rt: HostRuntime) -> Result<(), Fail> {
     let (off, on) = (false, true);
-    for (point, holds, number) in [
-        (Point::SendAnswered, [off, on, off, off, off, off], 1),
-        (Point::SendAnswered, [off, off, on, off, off, off], 2),
-        (Point::SendAnswered, [off, on, on, off, off, off], 1),
-        (Point::TakeAnswered, [off, off, off, on, off, off], 3),
-        (Point::TakeAnswered, [off, off, off, off, on, off], 4),
-        (Point::TakeAnswered, [off, off, off, off, on, on], 4),
-        (Point::TakeAnswered, [off, off, off, off, off, on], 5),
+    for (point, limit, holds, number) in [
+        (
+            Point::SendAnswered,
+            100_000,
+            [off, on, on, off, off, off],
+            1,
+        ),
+        (
+            Point::SendAnswered,
+            100_000,
+            [off, off, on, off, off, off],
+            2,
+        ),
+        (
+            Point::TakeAnswered,
+            1_000_000,
+            [off, off, off, off, on, on],
+            4,
+        ),
+        (
+            Point::TakeAnswered,
+            1_000_000,
+            [off, off, off, off, off, on],
+            5,
+        ),
     ] {
         let config = DriveConfig {
-            limit: 1_000_000,
+            limit,
             ..config(3, 3, 2, 64, 2)
         };
         let asked = AtomicU64::new(0);
