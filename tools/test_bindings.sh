@@ -122,7 +122,7 @@ else
     # One test looks at how much memory the process has, which says nothing under another allocator; two search a model,
     # and call nothing. Of the rounds of the long tests a twentieth is enough here.
     if has valgrind; then
-        step 'Rust: under valgrind' env "$runner=${valgrind[*]}" VAHEPITO_ROUNDS=5 cargo "${options[@]}" test --tests -- \
+        limit=600 step 'Rust: under valgrind' env "$runner=${valgrind[*]}" VAHEPITO_ROUNDS=5 cargo "${options[@]}" test --tests -- \
             --skip frees_the_queue --skip interleaving --skip the_search
     else
         skip 'Rust: under valgrind' 'valgrind is not on this machine'

@@ -2,7 +2,7 @@
 //!
 //! A handle has the number of a seat. A seat has a pass of a queue under a lock, which is held for one
 //! call of the pass, and never while foreign code runs: an item's drop or copy, or a waker. Locks are
-//! taken in this order: a seat's, a queue's `accepted`, the line's.
+//! taken in this order: a sender's seat, a queue's `accepted`, a receiver's seat, the line.
 use super::PASSES;
 use super::event::{Event, lock};
 use super::line::{Extended, Line, Seated};
@@ -32,7 +32,7 @@ struct Seat<P> {
 impl<P> Seat<P> {
     fn count_one(&self) {
         let count = self.count.load(Ordering::Relaxed);
-        self.count.store(count + 1, Ordering::SeqCst);
+        self.count.store(count + 1, Ordering::Release);
     }
 }
 
@@ -67,7 +67,16 @@ impl<P> Seats<P> {
         let counts = self
             .seats
             .iter()
-            .map(|seat| seat.0.count.load(Ordering::SeqCst));
+            .map(|seat| seat.0.count.load(Ordering::Acquire));
+        counts.sum()
+    }
+
+    /// The same, with each whose call began before this.
+    fn count_all_begun(&self) -> u64 {
+        let counts = self.seats.iter().map(|Padded(seat)| {
+            let _no_call = lock(&seat.pass);
+            seat.count.load(Ordering::Acquire)
+        });
         counts.sum()
     }
 
@@ -106,8 +115,8 @@ pub struct Group {
 pub enum Refusal {
     /// There is no room. A take or a loss of receivers rings for room.
     Full,
-    /// There is no room, and there may be without a ring: a queue is about to follow another.
-    FullSoon,
+    /// There is no memory for a further queue. Nobody rings where there is.
+    NoMemory,
     Closed,
 }
 
@@ -180,8 +189,15 @@ impl<T> Core<T> {
 
     /// Of so many items of the channel, every group has each.
     fn taken(&self) -> u64 {
-        let taken = self.groups.iter().map(|group| group.seats.count());
-        taken.min().expect("there is a group")
+        self.least(|group| group.seats.count())
+    }
+
+    fn least(&self, count: impl Fn(&Group) -> u64) -> u64 {
+        self.groups
+            .iter()
+            .map(count)
+            .min()
+            .expect("there is a group")
     }
 
     /// How many items some group hasn't taken.
@@ -244,20 +260,16 @@ impl<T> Core<T> {
                 sends.is_first = self.taken() >= sends.at.queue.before;
             }
             let told = match sends.is_first {
-                true => sends
-                    .at
-                    .pass
-                    .try_send(word)
-                    .map_err(|it| (it, Refusal::Full)),
+                true => sends.at.pass.try_send(word),
                 false => self.send_behind(&mut sends.at, word),
             };
             match told {
                 Ok(_) => return Ok(()),
-                Err((Full, refusal)) => return Err(refusal),
-                Err((Closed, _)) => {}
-                Err((Worn | Spent, _)) => {
+                Err(Full) => return Err(Refusal::Full),
+                Err(Closed) => {}
+                Err(Worn | Spent) => {
                     if let Extended::NoMemory = self.line.extend(&mut sends.at, self.taken()) {
-                        return Err(Refusal::FullSoon);
+                        return Err(Refusal::NoMemory);
                     }
                 }
             }
@@ -274,19 +286,23 @@ impl<T> Core<T> {
         &self,
         at: &mut Seated<words::Sender>,
         word: u64,
-    ) -> Result<u64, (words::TrySendError, Refusal)> {
+    ) -> Result<u64, words::TrySendError> {
         let mut accepted = lock(&at.queue.accepted);
         let sent = at.queue.before + *accepted;
-        if sent.saturating_sub(self.taken()) >= self.capacity {
+        let is_full = |taken| sent.saturating_sub(taken) >= self.capacity;
+        // A take that isn't counted yet may have made room. The locks of the seats also see to it that
+        // such a take finds this sender in line, where it stands there.
+        let counted = |group: &Group| group.seats.count_all_begun();
+        if is_full(self.taken()) && is_full(self.least(counted)) {
             // Nobody asked the queue, so that it can't tell that it is closed.
             return Err(match self.line.is_closed() {
-                true => (words::TrySendError::Closed, Refusal::Closed),
-                false => (words::TrySendError::Full, Refusal::FullSoon),
+                true => words::TrySendError::Closed,
+                false => words::TrySendError::Full,
             });
         }
-        let sent = at.pass.try_send(word);
-        *accepted += u64::from(sent.is_ok());
-        sent.map_err(|it| (it, Refusal::FullSoon))
+        let sent = at.pass.try_send(word)?;
+        *accepted += 1;
+        Ok(sent)
     }
 
     /// Lets go what groups without receivers would take, and tries again where there was no room.
@@ -296,9 +312,13 @@ impl<T> Core<T> {
         seat: usize,
         sent: Result<(), (Refusal, T)>,
     ) -> Result<(), (Refusal, T)> {
-        let panic = self.let_go();
+        let mut panic = self.let_go();
         let sent = match sent {
-            Err((Refusal::Full | Refusal::FullSoon, item)) => self.send_once(seat, item),
+            Err((Refusal::Full | Refusal::NoMemory, item)) => {
+                let sent = self.send_once(seat, item);
+                panic = panic.or(self.let_go());
+                sent
+            }
             sent => sent,
         };
         panic.map_or(sent, |panic| resume_unwind(panic))
@@ -404,7 +424,8 @@ impl<T> Core<T> {
                     let drops = || drop(self.slots.pass_over(number, owner, word));
                     panic = panic.or(catch_unwind(AssertUnwindSafe(drops)).err());
                 }
-                group.letting_go.store(false, Ordering::SeqCst);
+                // A swap, which sees what was counted before the last one who left it.
+                group.letting_go.swap(false, Ordering::SeqCst);
                 self.room.ring_for_all();
                 if self.len_of(number) == 0 {
                     break;

@@ -50,7 +50,7 @@ impl<T> Sender<T> {
         let sent = self.core.try_send(self.seat, item);
         sent.map_err(|(refusal, item)| match refusal {
             Refusal::Closed => TrySendError::Disconnected(item),
-            Refusal::Full | Refusal::FullSoon => TrySendError::Full(item),
+            Refusal::Full | Refusal::NoMemory => TrySendError::Full(item),
         })
     }
 
@@ -63,10 +63,10 @@ impl<T> Sender<T> {
         };
         match refusal {
             Refusal::Closed => return Ok(Err(SendError(back))),
-            Refusal::Full | Refusal::FullSoon => *item = Some(back),
+            Refusal::Full | Refusal::NoMemory => *item = Some(back),
         }
         Err(match refusal {
-            Refusal::FullSoon => Again::Soon,
+            Refusal::NoMemory => Again::Soon,
             _ => Again::AtARing,
         })
     }
