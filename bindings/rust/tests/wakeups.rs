@@ -4,7 +4,7 @@ use std::collections::HashSet;
 use std::sync::mpsc;
 use std::thread;
 use std::time::{Duration, Instant};
-use vahepito::{Receiver, RecvTimeoutError, Sender, channel};
+use vahepito::{Receiver, RecvTimeoutError, SendError, Sender, channel};
 
 /// What is left out or turned round in a model, to see that the search finds it.
 #[derive(Clone, Copy, PartialEq, Eq, Debug)]
@@ -384,6 +384,45 @@ fn many_waiters() {
     many_wait(3, [NEVER; 4], rounds(2000));
     // One that waits without end is rung for though others give up.
     many_wait(1, [NEVER, 20, 50, 100], rounds(2000));
+}
+
+/// Those that wait on either side are told of a close.
+#[test]
+fn a_close_wakes_all() {
+    const SOON: Duration = Duration::from_millis(30);
+    ends(|| {
+        let (sender, receiver) = channel(1).unwrap();
+        sender.send(0).unwrap();
+        thread::scope(|scope| {
+            let sends = (1..4).map(|number| {
+                let sender = sender.clone();
+                scope.spawn(move || sender.send(number))
+            });
+            let sends: Vec<_> = sends.collect();
+            thread::sleep(SOON);
+            assert!(receiver.close());
+            let told = sends.into_iter().map(|it| it.join().unwrap());
+            assert!(told.eq((1..4).map(|number| Err(SendError(number)))));
+        });
+        assert_eq!(receiver.recv(), Ok(0));
+    });
+    ends(|| {
+        let (sender, receiver) = channel::<u64>(1).unwrap();
+        thread::scope(|scope| {
+            let takes = [(); 3].map(|()| {
+                let receiver = receiver.clone();
+                scope.spawn(move || receiver.recv())
+            });
+            thread::sleep(SOON);
+            assert!(sender.close());
+            assert!(
+                takes
+                    .map(|it| it.join().unwrap())
+                    .iter()
+                    .all(Result::is_err)
+            );
+        });
+    });
 }
 
 /// Who waits costs no processor time.
