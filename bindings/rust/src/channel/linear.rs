@@ -131,7 +131,31 @@ fn calls(
     (first..first + 4).map(&mut call).collect()
 }
 
-/// Runs of three threads with four calls each, and then what is left.
+/// What three threads are told that start at once, each with four calls.
+fn record(
+    run: u64,
+    clock: &AtomicU64,
+    sender: &Sender<u32>,
+    receivers: &[Receiver<u32>],
+) -> Vec<Call> {
+    let start = &Barrier::new(3);
+    thread::scope(|scope| {
+        let threads = (0..3_u32).map(|number| {
+            let receiver = receivers[number as usize % receivers.len()].clone();
+            let (sender, seed) = (sender.clone(), run * 3 + u64::from(number) + 1);
+            let random = Random(seed.wrapping_mul(0x9e37_79b9_7f4a_7c15));
+            scope.spawn(move || {
+                start.wait();
+                calls(&sender, &receiver, clock, random, number * 100)
+            })
+        });
+        let threads: Vec<_> = threads.collect();
+        let told = threads.into_iter().flat_map(|it| it.join().unwrap());
+        told.collect()
+    })
+}
+
+/// Such runs, each with what is left after it.
 fn runs(count: u64, groups: usize, life: u64, per_sender: u32) {
     let percent = std::env::var("VAHEPITO_ROUNDS").map_or(100, |it| it.parse().unwrap());
     for run in 0..(count * percent / 100).max(1) {
@@ -143,42 +167,22 @@ fn runs(count: u64, groups: usize, life: u64, per_sender: u32) {
         };
         let slots = |count, owners| Slots::of_groups(count, owners, groups as u32);
         let (sender, receivers) = open(config, groups as u32, slots).unwrap();
-        let (clock, start) = (AtomicU64::new(0), Barrier::new(3));
-        let mut told: Vec<Call> = thread::scope(|scope| {
-            let threads = (0..3_u32).map(|number| {
-                let receiver = receivers[number as usize % groups].clone();
-                let (sender, clock, start) = (sender.clone(), &clock, &start);
-                let seed = run * 3 + u64::from(number) + 1;
-                let random = Random(seed.wrapping_mul(0x9e37_79b9_7f4a_7c15));
-                scope.spawn(move || {
-                    start.wait();
-                    calls(&sender, &receiver, clock, random, number * 100)
-                })
-            });
-            let threads: Vec<_> = threads.collect();
-            threads
-                .into_iter()
-                .flat_map(|it| it.join().unwrap())
-                .collect()
-        });
-        let mut at_rest = |told_now| {
+        let clock = AtomicU64::new(0);
+        let mut all = record(run, &clock, &sender, &receivers);
+        let mut at_rest = |told| {
             let begin = clock.fetch_add(2, Ordering::SeqCst);
-            told.push(Call {
-                begin,
-                end: begin + 1,
-                told: told_now,
-            });
+            let end = begin + 1;
+            all.push(Call { begin, end, told });
         };
         at_rest(Told::Len(sender.len()));
         for (group, receiver) in receivers.iter().enumerate() {
-            receiver
-                .try_iter()
-                .for_each(|item| at_rest(Told::Got(group, item)));
+            let left = receiver.try_iter().map(|item| Told::Got(group, item));
+            left.for_each(&mut at_rest);
         }
-        told.sort_by_key(|call| call.begin);
+        all.sort_by_key(|call| call.begin);
         assert!(
-            is_linear(&told, groups, capacity),
-            "capacity {capacity}: {told:#?}"
+            is_linear(&all, groups, capacity),
+            "capacity {capacity}: {all:#?}"
         );
     }
 }
