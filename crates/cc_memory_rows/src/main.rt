@@ -26,6 +26,17 @@ const SMALL: Config = Config {
     groups: 1,
 };
 
+/// The same with two groups of receivers.
+const GROUPED: Config = Config {
+    senders: 2,
+    receivers: 1,
+    capacity: 2,
+    bound: 2,
+    life: 10,
+    per_sender: 10,
+    groups: 2,
+};
+
 const SENDER: Pass = Pass::Sender(1);
 
 const RECEIVER: Pass = Pass::Receiver(1);
@@ -120,11 +131,12 @@ fn audit_gap(alloc: Global) -> Result<Verdict, AllocError> {
     audit(alloc, &sends, &takes, None)
 }
 
-/// A machine of a list, and one of a counter.
-fn open_machines(alloc: Global) -> Result<(Machine, CounterMachine), OpenFault> {
+/// A machine of a list, one of a list with two groups, and one of a counter.
+fn open_machines(alloc: Global) -> Result<(Machine, Machine, CounterMachine), OpenFault> {
     let machine = Machine::open(alloc, &SMALL)?;
+    let grouped = Machine::open(alloc, &GROUPED)?;
     let counter = CounterMachine::open(alloc, &SMALL)?;
-    Ok((machine, counter))
+    Ok((machine, grouped, counter))
 }
 
 /// Tells by which number a name is found, and whether a queue stands there.
@@ -137,9 +149,9 @@ fn tell_topic(rt: &HostRuntime, broker: &Broker, name: &str) -> Result<(), io::E
     println!(rt; "topic {name}: {number:?}, {is_there}")
 }
 
-/// Opens three topics, and tells of them. The answer is false where there was no memory for one of them, or for their list.
+/// Opens three topics, the second with two groups, and tells of them. The answer is false where there was no memory for one of them, or for their list.
 fn open_topics(rt: &HostRuntime) -> Result<bool, io::Error> {
-    match Broker::open(rt.alloc(), &[("a", SMALL), ("b", SMALL), ("c", SMALL)]) {
+    match Broker::open(rt.alloc(), &[("a", SMALL), ("b", GROUPED), ("c", SMALL)]) {
         Ok(opened) => {
             tell_topic(rt, &opened.broker, "a")?;
             tell_topic(rt, &opened.broker, "b")?;
@@ -203,7 +215,10 @@ fn main(rt: HostRuntime) -> Result<ExitCode, io::Error> {
         return Ok(ExitCode::from(3));
     }
     let status = match open_machines(rt.alloc()) {
-        Ok((mut machine, mut counter)) => play_machines(&rt, &mut machine, &mut counter)?,
+        Ok((mut machine, grouped, mut counter)) => {
+            println!(rt; "groups: {}", grouped.history().groups())?;
+            play_machines(&rt, &mut machine, &mut counter)?
+        }
         Err(fault) => {
             eprintln!(rt; "machine: {fault:?}")?;
             3
