@@ -18,14 +18,14 @@
  *
  * A call (a send, a close or a take) is begun, and then asked for its answer in turns. No call waits: where its answer is
  * not there yet a turn says so, and the caller decides how to pass the time (sched_yield, a back-off) before the next
- * turn. The turn that finds its pass first in line serves other passes' calls too, at most `bound` of them. So a call
+ * turn; vahepito_wait.h has calls that wait so. The turn that finds its pass first in line serves other passes' calls too, at most `bound` of them. So a call
  * that was begun is to be turned to its end: where it is left, or its handle dropped, no pass of its side (the
  * senders, or the receivers of its group) may get an answer any more.
  *
  * No call but the two openings takes memory.
  *
  * What the caller owes, and nothing checks:
- * - A handle begins as {0} and is filled by an opening alone. Its bytes are neither changed nor copied to a second
+ * - A handle begins as VAHEPITO_PASS_EMPTY, or all zero, and is filled by an opening alone. Its bytes are neither changed nor copied to a second
  *   handle that is used; a handle may be moved to another place, and the old place is then not used.
  * - A handle is given to one call at a time. It may go to another thread: by a mutex, a thread's start or join, or a
  *   sequentially consistent atomic. Different handles may be used by different threads at once, of one queue or of many.
@@ -57,11 +57,15 @@ typedef struct {
     uint32_t per_sender; /* 1 to 2^32 - 1: how many sends one sender begins at most */
 } vahepito_config;
 
-/* A handle of one pass. It is empty, as {0}, or it holds a pass. */
+/* A handle of one pass. It is empty, as VAHEPITO_PASS_EMPTY, or it holds a pass. */
 typedef struct {
     void *at;
     bool live; /* whether it holds a pass: to be read, and not to be written */
 } vahepito_pass;
+
+/* What an empty handle is initialised with. As the first element of an array it does for all of them, since the others
+ * are zero then: vahepito_pass senders[4] = {VAHEPITO_PASS_EMPTY}; */
+#define VAHEPITO_PASS_EMPTY {NULL, false}
 
 /* An item that was taken. */
 typedef struct {

@@ -1,0 +1,42 @@
+/* The headers in C99 to C23 and in C++11 to C++23: compiled by each compiler that is there, with all warnings. Run, it
+ * makes each call that waits, on one thread. */
+#include "vahepito_wait.h"
+
+/* A caller's own struct with handles in it. */
+struct service {
+    vahepito_pass sender, receiver;
+};
+
+static vahepito_pass alone = VAHEPITO_PASS_EMPTY;
+static vahepito_pass several[3] = {VAHEPITO_PASS_EMPTY};
+
+/* One item through a queue with room for one, and the end. Gives how far that went: 0 where all was as it has to be. */
+static int one_item(struct service *service) {
+    vahepito_item item;
+    uint64_t number;
+    if (vahepito_send(&service->sender, 7, &number) != VAHEPITO_ACCEPTED || number != 0) return 1;
+    if (vahepito_begin_send(&service->sender, 8) != VAHEPITO_BEGUN) return 2;
+    if (vahepito_finish_send(&service->sender, NULL) != VAHEPITO_FULL) return 3;
+    if (vahepito_take(&service->receiver, &item, &number) != VAHEPITO_GOT) return 4;
+    if (item.body != 7 || item.place != 0 || item.sender != 1 || item.number != 1 || number != 0) return 5;
+    if (vahepito_begin_take(&service->receiver) != VAHEPITO_BEGUN) return 6;
+    if (vahepito_finish_take(&service->receiver, NULL, NULL) != VAHEPITO_EMPTY) return 7;
+    if (vahepito_close(&service->sender, &number) != VAHEPITO_SHUT || number != 1) return 8;
+    if (vahepito_begin_close(&service->sender) != VAHEPITO_BEGUN) return 9;
+    if (vahepito_finish_close(&service->sender, &number) != VAHEPITO_ALREADY || number != 1) return 10;
+    return vahepito_take(&service->receiver, &item, &number) == VAHEPITO_ENDED && number == 1 ? 0 : 11;
+}
+
+int main(void) {
+    const vahepito_config config = {1, 1, 1, 8, (uint64_t)1 << 48, UINT32_MAX};
+    struct service service = {VAHEPITO_PASS_EMPTY, VAHEPITO_PASS_EMPTY};
+    vahepito_backoff backoff = VAHEPITO_BACKOFF;
+    int failed;
+    while (backoff.microseconds < VAHEPITO_LONGEST_SLEEP) vahepito_between_tries(&backoff);
+    if (alone.live || several[0].live || several[2].live) return 20;
+    if (vahepito_drop(&alone) != VAHEPITO_NO_PASS || vahepito_drop(&several[2]) != VAHEPITO_NO_PASS) return 21;
+    if (vahepito_open(&config, &service.sender, 1, &service.receiver, 1) != VAHEPITO_DONE) return 22;
+    failed = one_item(&service);
+    if (vahepito_drop(&service.sender) != VAHEPITO_DONE || vahepito_drop(&service.receiver) != VAHEPITO_DONE) return 23;
+    return failed;
+}

@@ -1,0 +1,195 @@
+/* Vahepito for C, the calls that wait: for room, for an item, or for an answer alone. They are inline functions over
+ * those of vahepito.h, with a back-off in between; nothing more is to be linked.
+ *
+ *     what waits               until
+ *     vahepito_send            the item is accepted, or will never be
+ *     vahepito_take            there is an item, or the queue has ended
+ *     vahepito_close           the queue is closed
+ *     vahepito_finish_send     a send that was begun is answered, maybe by FULL
+ *     vahepito_finish_close    a close that was begun is answered
+ *     vahepito_finish_take     a take that was begun is answered, maybe by EMPTY
+ *
+ * A call that waits for room or for an item tries again and again: for some 260 rounds, in which it spins and then yields
+ * the processor, and from then on after a sleep of 50 microseconds, which doubles up to a millisecond. Between two tries
+ * its pass has no call, so it holds nobody up. A call that was begun never sleeps until it is answered, since others may
+ * wait for it. Nobody is woken: who sleeps sees an item at most a millisecond late, and who waits for hours takes a
+ * little processor time all the while.
+ *
+ * Of each call the thread that holds the handle calls. An out-parameter may be NULL, and needs no value before; it is
+ * written, with 0 where the code tells nothing of it. All else that vahepito.h says of handles holds here.
+ *
+ * Time passes by POSIX's sched_yield and select where the system is one, else by C++'s <thread> or C11's <threads.h>.
+ * Where VAHEPITO_STANDARD_THREADS is defined before this header, it passes by these everywhere. No feature macro needs
+ * to be defined. */
+#ifndef VAHEPITO_WAIT_H
+#define VAHEPITO_WAIT_H
+
+#include "vahepito.h"
+
+#if !defined(VAHEPITO_STANDARD_THREADS) && (defined(__unix__) || defined(__APPLE__))
+#define VAHEPITO_POSIX 1
+#include <sched.h>
+#include <sys/select.h>
+#include <sys/time.h>
+#elif defined(__cplusplus)
+#include <chrono>
+#include <thread>
+#else
+#include <threads.h>
+#include <time.h>
+#endif
+
+#ifdef __cplusplus
+extern "C" {
+#endif
+
+/* How the time passes until the next turn, or the next try: which round it is, and how long it sleeps. */
+typedef struct {
+    uint32_t round;
+    uint32_t microseconds;
+} vahepito_backoff;
+
+/* What a back-off begins as. */
+#define VAHEPITO_BACKOFF {0, 50}
+
+enum {
+    VAHEPITO_SPINS = 7,           /* so many rounds spin, each twice as long as the one before */
+    VAHEPITO_YIELDS = 256,        /* so many rounds more give the processor to another thread */
+    VAHEPITO_LONGEST_SLEEP = 1000 /* how many microseconds a round sleeps at most */
+};
+
+/* Tells the processor that this thread spins. */
+static inline void vahepito_spin(void) {
+#if defined(__GNUC__) && (defined(__x86_64__) || defined(__i386__))
+    __builtin_ia32_pause();
+#elif defined(__GNUC__)
+    __asm__ __volatile__("" ::: "memory");
+#endif
+}
+
+/* Gives the processor to another thread. */
+static inline void vahepito_yield(void) {
+#if defined(VAHEPITO_POSIX)
+    (void)sched_yield();
+#elif defined(__cplusplus)
+    std::this_thread::yield();
+#else
+    thrd_yield();
+#endif
+}
+
+/* Sleeps for so long, which is less than a second; for less where a signal comes. */
+static inline void vahepito_sleep(uint32_t microseconds) {
+#if defined(VAHEPITO_POSIX)
+    struct timeval time;
+    time.tv_sec = 0;
+    time.tv_usec = (int)microseconds;
+    (void)select(0, NULL, NULL, NULL, &time);
+#elif defined(__cplusplus)
+    std::this_thread::sleep_for(std::chrono::microseconds(microseconds));
+#else
+    struct timespec time;
+    time.tv_sec = 0;
+    time.tv_nsec = (long)microseconds * 1000;
+    (void)thrd_sleep(&time, NULL);
+#endif
+}
+
+/* Until the next turn of a call that was begun. Others may wait for this call, so it never sleeps. */
+static inline void vahepito_between_turns(vahepito_backoff *backoff) {
+    if (backoff->round < VAHEPITO_SPINS) {
+        for (uint32_t spin = (uint32_t)1 << backoff->round; spin > 0; spin--) vahepito_spin();
+    } else {
+        vahepito_yield();
+    }
+    if (backoff->round < UINT32_MAX) backoff->round++;
+}
+
+/* Until the next try of a pass that has no call. Nobody waits for it, so it sleeps where it has tried for long. */
+static inline void vahepito_between_tries(vahepito_backoff *backoff) {
+    if (backoff->round < VAHEPITO_SPINS + VAHEPITO_YIELDS) {
+        vahepito_between_turns(backoff);
+    } else {
+        vahepito_sleep(backoff->microseconds);
+        backoff->microseconds *= 2;
+        if (backoff->microseconds > VAHEPITO_LONGEST_SLEEP) backoff->microseconds = VAHEPITO_LONGEST_SLEEP;
+    }
+}
+
+/* Turns a send that was begun until it is answered.
+ * ACCEPTED with the place, FULL, CLOSED, SPENT. NO_PASS, WRONG_SIDE, NOT_BEGUN: nothing has changed. */
+static inline uint32_t vahepito_finish_send(vahepito_pass *sender, uint64_t *place) {
+    vahepito_backoff backoff = VAHEPITO_BACKOFF;
+    uint64_t told = 0;
+    uint32_t served = 0, code;
+    while ((code = vahepito_turn_send(sender, &told, &served)) == VAHEPITO_WAITING) vahepito_between_turns(&backoff);
+    if (place) *place = told;
+    return code;
+}
+
+/* Turns a close that was begun until it is answered.
+ * SHUT, ALREADY with the total. NO_PASS, WRONG_SIDE, NOT_BEGUN: nothing has changed. */
+static inline uint32_t vahepito_finish_close(vahepito_pass *sender, uint64_t *total) {
+    vahepito_backoff backoff = VAHEPITO_BACKOFF;
+    uint64_t told = 0;
+    uint32_t served = 0, code;
+    while ((code = vahepito_turn_close(sender, &told, &served)) == VAHEPITO_WAITING) vahepito_between_turns(&backoff);
+    if (total) *total = told;
+    return code;
+}
+
+/* Turns a take that was begun until it is answered.
+ * GOT with the item, EMPTY, ENDED with the total. NO_PASS, WRONG_SIDE, NOT_BEGUN: nothing has changed. */
+static inline uint32_t vahepito_finish_take(vahepito_pass *receiver, vahepito_item *item, uint64_t *total) {
+    vahepito_backoff backoff = VAHEPITO_BACKOFF;
+    vahepito_item got = {0, 0, 0, 0};
+    uint64_t told = 0;
+    uint32_t served = 0, code;
+    while ((code = vahepito_turn_take(receiver, &got, &told, &served)) == VAHEPITO_WAITING) vahepito_between_turns(&backoff);
+    if (item) *item = got;
+    if (total) *total = told;
+    return code;
+}
+
+/* Sends this body, and waits for room. Each try counts as one of the sends that the sender may begin.
+ * ACCEPTED with the place; CLOSED, SPENT: not accepted, and nothing will be. NO_PASS, WRONG_SIDE, BUSY, WORN: not
+ * accepted. */
+static inline uint32_t vahepito_send(vahepito_pass *sender, uint64_t body, uint64_t *place) {
+    vahepito_backoff backoff = VAHEPITO_BACKOFF;
+    for (;;) {
+        uint32_t code = vahepito_begin_send(sender, body);
+        if (place) *place = 0;
+        if (code == VAHEPITO_BEGUN) code = vahepito_finish_send(sender, place);
+        if (code != VAHEPITO_FULL) return code;
+        vahepito_between_tries(&backoff);
+    }
+}
+
+/* Takes an item, and waits until there is one.
+ * GOT with the item; ENDED with the total: there will be none any more. NO_PASS, WRONG_SIDE, BUSY: nothing has changed. */
+static inline uint32_t vahepito_take(vahepito_pass *receiver, vahepito_item *item, uint64_t *total) {
+    const vahepito_item none = {0, 0, 0, 0};
+    vahepito_backoff backoff = VAHEPITO_BACKOFF;
+    for (;;) {
+        uint32_t code = vahepito_begin_take(receiver);
+        if (item) *item = none;
+        if (total) *total = 0;
+        if (code == VAHEPITO_BEGUN) code = vahepito_finish_take(receiver, item, total);
+        if (code != VAHEPITO_EMPTY) return code;
+        vahepito_between_tries(&backoff);
+    }
+}
+
+/* Closes the queue: nothing is accepted after it, and receivers are told the end once they have taken what was.
+ * SHUT, ALREADY with the total. NO_PASS, WRONG_SIDE, BUSY: nothing has changed. A worn sender may close. */
+static inline uint32_t vahepito_close(vahepito_pass *sender, uint64_t *total) {
+    uint32_t code = vahepito_begin_close(sender);
+    if (total) *total = 0;
+    return code == VAHEPITO_BEGUN ? vahepito_finish_close(sender, total) : code;
+}
+
+#ifdef __cplusplus
+}
+#endif
+
+#endif
