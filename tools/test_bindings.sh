@@ -76,6 +76,7 @@ build_c() {
 }
 run_c() {
     prints '30000 items' "$room/$1/consume" && prints '1000 items in each of 2 groups' "$room/$1/groups_threads" &&
+        prints '1000 items through room for one' "$room/$1/waits" && prints '' "$room/$1/headers" &&
         prints 'all memory is free' "$room/$1/memory"
 }
 # Whether the C compiler has these sanitizers, and they run here.
@@ -93,6 +94,7 @@ else
     if has valgrind; then
         step 'C: consume under valgrind' "${valgrind[@]}" "$room/plain/consume" 300
         step 'C: groups_threads under valgrind' "${valgrind[@]}" "$room/plain/groups_threads"
+        step 'C: waits under valgrind' "${valgrind[@]}" "$room/plain/waits"
         step 'C: memory under valgrind' "${valgrind[@]}" "$room/plain/memory"
     else
         skip 'C: under valgrind' 'valgrind is not on this machine'

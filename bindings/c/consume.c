@@ -4,7 +4,7 @@
  *
  * Each of three publishers sends ITEMS numbers (10,000), each of two consumers takes until the end. It ends with status 0
  * where each item was taken once, each consumer saw each publisher's items in order, and each answer was a lawful one. */
-#include "waiting.h"
+#include "checks.h"
 
 #include <pthread.h>
 #include <stddef.h>
@@ -40,24 +40,18 @@ struct consumer {
 static void *consume(void *at) {
     struct consumer *mine = at;
     uint64_t last[PUBLISHERS + 1] = {0};
-    unsigned tries = 0;
-    for (;;) {
-        vahepito_item item = {0};
-        uint32_t code = take_one(mine->receiver, &item, &mine->total);
-        if (code == VAHEPITO_ENDED) return NULL;
-        if (code == VAHEPITO_EMPTY) {
-            rest(&tries);
-            continue;
-        }
-        check(code == VAHEPITO_GOT, "a take gets an item, or is told that there is none");
+    vahepito_item item;
+    uint32_t code;
+    while ((code = vahepito_take(mine->receiver, &item, &mine->total)) != VAHEPITO_ENDED) {
+        check(code == VAHEPITO_GOT, "a take gets an item, or is told the end");
         check(item.sender >= 1 && item.sender <= PUBLISHERS, "an item has its sender");
         check(item.body > last[item.sender], "each sender's items come in order");
         check(item.number >= item.body, "each send has a number");
         last[item.sender] = item.body;
         mine->got++;
         mine->sum += item.body;
-        tries = 0;
     }
+    return NULL;
 }
 
 /* What is refused, on one thread. */
@@ -65,7 +59,7 @@ static void refusals(vahepito_pass *senders, vahepito_pass *receivers) {
     uint64_t number = 0;
     uint32_t served = 0;
     vahepito_item item = {0};
-    vahepito_pass empty = {0};
+    vahepito_pass empty = VAHEPITO_PASS_EMPTY;
     check(vahepito_begin_send(&empty, 1) == VAHEPITO_NO_PASS, "an empty handle has no pass");
     check(vahepito_drop(&empty) == VAHEPITO_NO_PASS, "an empty handle has nothing to drop");
     check(vahepito_begin_send(&receivers[0], 1) == VAHEPITO_WRONG_SIDE, "a receiver doesn't send");
@@ -83,7 +77,7 @@ int main(int count, char **words) {
     if (count > 1) items = strtoull(words[1], NULL, 10);
     const vahepito_config config = {PUBLISHERS, CONSUMERS, 64, 8, (uint64_t)1 << 48, UINT32_MAX};
     const vahepito_config no_capacity = {PUBLISHERS, CONSUMERS, 0, 8, (uint64_t)1 << 48, UINT32_MAX};
-    vahepito_pass senders[PUBLISHERS] = {0}, receivers[CONSUMERS] = {0};
+    vahepito_pass senders[PUBLISHERS] = {VAHEPITO_PASS_EMPTY}, receivers[CONSUMERS] = {VAHEPITO_PASS_EMPTY};
     check(vahepito_open(&no_capacity, senders, PUBLISHERS, receivers, CONSUMERS) == VAHEPITO_BAD_CAPACITY, "no capacity is refused");
     check(vahepito_open(&config, senders, PUBLISHERS - 1, receivers, CONSUMERS) == VAHEPITO_BAD_HANDLES, "a handle is missing");
     check(vahepito_open(&config, senders, PUBLISHERS, receivers, CONSUMERS) == VAHEPITO_DONE, "the topic is opened");
@@ -98,15 +92,15 @@ int main(int count, char **words) {
     }
     for (int k = 0; k < PUBLISHERS; k++) check(!pthread_create(&publishers[k], NULL, publish, &senders[k]), "a thread starts");
     for (int k = 0; k < PUBLISHERS; k++) check(!pthread_join(publishers[k], NULL), "a thread ends");
-    uint64_t total = close_topic(&senders[0]), got = 0, sum = 0;
+    uint64_t total, got = 0, sum = 0;
+    check(vahepito_close(&senders[0], &total) == VAHEPITO_SHUT, "the first close closes");
     for (int k = 0; k < CONSUMERS; k++) {
         check(!pthread_join(threads[k], NULL), "a thread ends");
         check(consumers[k].total == total, "the end tells the total");
         got += consumers[k].got;
         sum += consumers[k].sum;
     }
-    uint64_t place = 0;
-    check(send_one(&senders[1], 1, &place) == VAHEPITO_CLOSED, "nothing is accepted after the close");
+    check(vahepito_send(&senders[1], 1, NULL) == VAHEPITO_CLOSED, "nothing is accepted after the close");
 
     /* A call that was begun is given up with its handle; the last handle frees the topic. */
     check(vahepito_begin_send(&senders[2], 1) == VAHEPITO_BEGUN, "a send is begun");

@@ -3,7 +3,7 @@
  * One thread sends 1,000 numbers into a queue with room for four, and two threads for each group take until the end. It
  * ends with status 0 where each group got each item once and each receiver's items came in order; and where the opening
  * and vahepito_group told what they have to. */
-#include "waiting.h"
+#include "checks.h"
 
 #include <pthread.h>
 #include <stdio.h>
@@ -15,7 +15,7 @@ static const vahepito_config config = {1, IN_EACH, CAPACITY, 8, (uint64_t)1 << 4
 
 /* What is refused, and which of it first. No handle is changed by that. */
 static void refusals(void) {
-    vahepito_pass sender = {0}, receivers[RECEIVERS] = {0};
+    vahepito_pass sender = VAHEPITO_PASS_EMPTY, receivers[RECEIVERS] = {VAHEPITO_PASS_EMPTY};
     vahepito_config no_sends = config;
     no_sends.per_sender = 0;
     check(vahepito_open_groups(&no_sends, 0, &sender, 1, receivers, 0) == VAHEPITO_BAD_PER_SENDER, "groups are looked at last");
@@ -36,7 +36,7 @@ static uint32_t group_of(vahepito_pass *receiver) {
 
 /* vahepito_open opens one group, whatever the padding of the configuration holds. */
 static void one_group(void) {
-    vahepito_pass sender = {0}, receivers[IN_EACH] = {0};
+    vahepito_pass sender = VAHEPITO_PASS_EMPTY, receivers[IN_EACH] = {VAHEPITO_PASS_EMPTY};
     vahepito_config same;
     memset(&same, 0xff, sizeof same);
     same.senders = config.senders;
@@ -47,18 +47,19 @@ static void one_group(void) {
     same.per_sender = config.per_sender;
     check(vahepito_open(&same, &sender, 1, receivers, IN_EACH) == VAHEPITO_DONE, "the topic is opened");
     for (int k = 0; k < IN_EACH; k++) check(group_of(&receivers[k]) == 1, "all receivers are of one group");
-    vahepito_item item = {0};
-    uint64_t number = 0;
-    check(send_one(&sender, 5, &number) == VAHEPITO_ACCEPTED && number == 0, "a send is accepted");
-    check(take_one(&receivers[0], &item, &number) == VAHEPITO_GOT && item.body == 5, "one of them takes the item");
-    check(take_one(&receivers[1], &item, &number) == VAHEPITO_EMPTY, "and no other");
+    vahepito_item item;
+    uint64_t number;
+    check(vahepito_send(&sender, 5, &number) == VAHEPITO_ACCEPTED && number == 0, "a send is accepted");
+    check(vahepito_take(&receivers[0], &item, NULL) == VAHEPITO_GOT && item.body == 5, "one of them takes the item");
+    check(vahepito_begin_take(&receivers[1]) == VAHEPITO_BEGUN, "another's take is begun");
+    check(vahepito_finish_take(&receivers[1], &item, NULL) == VAHEPITO_EMPTY && item.body == 0, "and it gets none");
     check(vahepito_drop(&sender) == VAHEPITO_DONE, "the sender is let go");
     for (int k = 0; k < IN_EACH; k++) check(vahepito_drop(&receivers[k]) == VAHEPITO_DONE, "a receiver is let go");
 }
 
 /* Whose group is told, and whose not: the number is 0 then. */
 static void told_groups(vahepito_pass *sender, vahepito_pass *receivers) {
-    vahepito_pass empty = {0};
+    vahepito_pass empty = VAHEPITO_PASS_EMPTY;
     vahepito_item item = {0};
     uint64_t total = 0;
     uint32_t group = 99, served = 0;
@@ -88,20 +89,14 @@ struct reader {
 /* Takes until the end. */
 static void *take_all(void *at) {
     struct reader *mine = at;
-    unsigned tries = 0;
-    for (;;) {
-        vahepito_item item = {0};
-        uint32_t code = take_one(mine->receiver, &item, &mine->total);
-        if (code == VAHEPITO_ENDED) return NULL;
-        if (code == VAHEPITO_EMPTY) {
-            rest(&tries);
-            continue;
-        }
-        check(code == VAHEPITO_GOT, "a take gets an item, or is told that there is none");
+    vahepito_item item;
+    uint32_t code;
+    while ((code = vahepito_take(mine->receiver, &item, &mine->total)) != VAHEPITO_ENDED) {
+        check(code == VAHEPITO_GOT, "a take gets an item, or is told the end");
         check(mine->got < ITEMS, "there are no more items");
         mine->items[mine->got++] = item;
-        tries = 0;
     }
+    return NULL;
 }
 
 /* What the receivers of one group got: each item once, as it was sent, each receiver's in order. */
@@ -126,7 +121,7 @@ static void audit(const struct reader *group) {
 int main(void) {
     refusals();
     one_group();
-    vahepito_pass sender = {0}, receivers[RECEIVERS] = {0};
+    vahepito_pass sender = VAHEPITO_PASS_EMPTY, receivers[RECEIVERS] = {VAHEPITO_PASS_EMPTY};
     check(vahepito_open_groups(&config, GROUPS, &sender, 1, receivers, RECEIVERS) == VAHEPITO_DONE, "the topic is opened");
     told_groups(&sender, receivers);
 
@@ -138,7 +133,8 @@ int main(void) {
     }
     check(!pthread_create(&sending, NULL, send_all, &sender), "a thread starts");
     check(!pthread_join(sending, NULL), "a thread ends");
-    check(close_topic(&sender) == ITEMS, "all sends were accepted");
+    uint64_t total;
+    check(vahepito_close(&sender, &total) == VAHEPITO_SHUT && total == ITEMS, "all sends were accepted");
     for (int k = 0; k < RECEIVERS; k++) check(!pthread_join(taking[k], NULL), "a thread ends");
     for (int g = 0; g < GROUPS; g++) audit(&readers[g * IN_EACH]);
 

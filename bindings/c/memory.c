@@ -102,7 +102,7 @@ static uint32_t open_queue(uint32_t groups, vahepito_pass *senders, vahepito_pas
 /* A queue of so many groups, from its opening to the drop of its last handle. */
 static void use_queue(uint32_t groups) {
     const uint32_t count = SENDERS + groups * RECEIVERS;
-    vahepito_pass passes[MOST_PASSES] = {0};
+    vahepito_pass passes[MOST_PASSES] = {VAHEPITO_PASS_EMPTY};
     vahepito_pass *senders = passes, *receivers = passes + SENDERS;
     uint32_t code;
     for (refused = 1;; refused++) {
