@@ -86,6 +86,38 @@ has_sanitizers() {
 export -f build_c run_c
 export room
 
+# Compiles the headers by this compiler in each of these standards, without a warning; and in those that have threads of
+# their own again with these in place of POSIX's calls.
+compile_headers() {
+    local standard define
+    for standard in "${@:2}"; do
+        for define in VAHEPITO_HEADERS VAHEPITO_STANDARD_THREADS; do
+            [ "$standard $define" = 'c99 VAHEPITO_STANDARD_THREADS' ] && continue
+            "$1" "-std=$standard" "-D$define" -O2 -Wall -Wextra -Wpedantic -Wconversion -Wshadow -Werror \
+                -x "$language" -c -o "$room/headers.o" bindings/c/headers.c || { echo "-std=$standard -D$define"; return 1; }
+        done
+    done
+}
+export -f compile_headers
+for compiler in gcc clang g++ clang++; do
+    case $compiler in
+        *++) export language=c++; wanted=(c++11 c++14 c++17 c++20 c++23/c++2b) ;;
+        *) export language=c; wanted=(c99 c11 c17 c23/c2x) ;;
+    esac
+    if ! has "$compiler"; then
+        skip "C: the headers by $compiler" 'it is not on this machine'
+        continue
+    fi
+    standards=()
+    for names in "${wanted[@]}"; do
+        for name in ${names/\// } ''; do
+            [ -z "$name" ] || "$compiler" "-std=$name" -x "$language" -fsyntax-only /dev/null 2>/dev/null && break
+        done
+        if [ -n "$name" ]; then standards+=("$name"); else skip "C: the headers by $compiler in $names" 'it does not know that'; fi
+    done
+    step "C: the headers by $compiler in ${standards[*]}" bash -c "compile_headers $compiler ${standards[*]}"
+done
+
 if ! has make || ! has cc; then
     skip 'the programs in C' 'make or cc is not on this machine'
 else
