@@ -1,0 +1,20 @@
+# Gives the target vahepito::vahepito: headers and archives of the folder in which this file lies, wherever that is.
+if(NOT CMAKE_SYSTEM_NAME STREQUAL "Linux" OR NOT CMAKE_SYSTEM_PROCESSOR MATCHES "^(x86_64|AMD64)$" OR NOT CMAKE_SIZEOF_VOID_P EQUAL 8)
+  set(vahepito_FOUND FALSE)
+  set(vahepito_NOT_FOUND_MESSAGE "its archives are for Linux on x86_64 with 64 bits")
+  return()
+endif()
+
+if(NOT TARGET vahepito::vahepito)
+  get_filename_component(vahepito_prefix "${CMAKE_CURRENT_LIST_DIR}/../../.." ABSOLUTE)
+  add_library(vahepito::heap STATIC IMPORTED)
+  set_target_properties(vahepito::heap PROPERTIES
+    IMPORTED_LINK_INTERFACE_LANGUAGES C
+    IMPORTED_LOCATION "${vahepito_prefix}/lib/libvahepito_heap.a")
+  add_library(vahepito::vahepito STATIC IMPORTED)
+  set_target_properties(vahepito::vahepito PROPERTIES
+    IMPORTED_LINK_INTERFACE_LANGUAGES C
+    IMPORTED_LOCATION "${vahepito_prefix}/lib/libvahepito.a"
+    INTERFACE_INCLUDE_DIRECTORIES "${vahepito_prefix}/include"
+    INTERFACE_LINK_LIBRARIES vahepito::heap)
+endif()
