@@ -141,6 +141,37 @@ else
     done
 fi
 
+# The program of the C README, by the commands that stand there: so many of its blocks of commands, by their numbers. The
+# last line that they print is the program's.
+readme_c() {
+    local readme=$top/bindings/c/README.md block
+    rm -rf "$room/readme" && mkdir "$room/readme" && cd "$room/readme" && ln -s "$top/bindings" bindings || return
+    sed -n '/^```c$/,/^```$/{/^```/d; p}' "$readme" >log.c
+    sed -n '/^```cmake$/,/^```$/{/^```/d; p}' "$readme" >CMakeLists.txt
+    for block in "$@"; do
+        awk -v block="$block" '/^```/ { shown = $0 == "```sh" && ++count == block; next } shown' "$readme"
+    done >commands
+    HOME=$PWD bash -e commands >printed || return
+    prints '20000 events in the archive, 2000 alarms' tail -n 1 printed
+}
+export -f readme_c
+export top
+if ! has make || ! has cc; then
+    skip 'C: the README' 'make or cc is not on this machine'
+else
+    step 'C: the README, by its command' bash -c 'readme_c 1'
+    if has pkg-config; then
+        step 'C: the README, by pkg-config' bash -c 'readme_c 2 3'
+    else
+        skip 'C: the README, by pkg-config' 'it is not on this machine'
+    fi
+    if has cmake; then
+        step 'C: the README, by CMake' bash -c 'readme_c 2 4'
+    else
+        skip 'C: the README, by CMake' 'it is not on this machine'
+    fi
+fi
+
 cd bindings/rust || exit 1
 export CARGO_TARGET_DIR=$room/target CARGO_TERM_COLOR=never
 options=(--quiet --locked --offline)

@@ -151,7 +151,8 @@ static inline uint32_t vahepito_finish_take(vahepito_pass *receiver, vahepito_it
     return code;
 }
 
-/* Sends this body, and waits for room. Each try counts as one of the sends that the sender may begin.
+/* Sends this body, and waits for room. Each try counts as one of the sends that the sender may begin, so a sender that
+ * waits again and again is WORN after hours (README.md).
  * ACCEPTED with the place; CLOSED, SPENT: not accepted, and nothing will be. NO_PASS, WRONG_SIDE, BUSY, WORN: not
  * accepted. */
 static inline uint32_t vahepito_send(vahepito_pass *sender, uint64_t body, uint64_t *place) {
