@@ -45,8 +45,8 @@ export -f prints
 if [ -z "${VAHEPITO_LIB:-}" ]; then
     export VAHEPITO_LIB=$top/crates/cc_binding/out/libcc_binding.a
     if [ ! -f "$VAHEPITO_LIB" ] || [ -n "$(find crates/*/src -name '*.rt' -newer "$VAHEPITO_LIB" -print -quit)" ]; then
-        echo 'bindings: the library is not there or older than its sources: proving and building it, which may take minutes'
-        limit=7200 step 'the library, by rt lib' env -C crates/cc_binding rt lib || exit 1
+        echo 'bindings: the library is not there or older than its sources'
+        timeout 7200 tools/build_library.sh || exit 1
     fi
 fi
 if [ -z "${VAHEPITO_HEAP:-}" ]; then
