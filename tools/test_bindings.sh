@@ -61,10 +61,10 @@ fi
 lost='definite,indirect'
 valgrind=(valgrind -q --fair-sched=yes --error-exitcode=99 --leak-check=full "--show-leak-kinds=$lost" "--errors-for-leak-kinds=$lost")
 
-# The README shows the lines that the crate's tests run, each with four blanks before it.
+# The README shows the lines that the crate's tests run in a main, each with eight blanks before it.
 shows_doc_test() {
     local lines
-    lines=$(sed -n '/^```rust$/,/^```$/p' bindings/rust/README.md | sed '/^```/d; /^# /d; s/^./    &/')
+    lines=$(sed -n '/^```rust$/,/^```$/p' bindings/rust/README.md | sed '/^```/d; /^# /d; s/^./        &/')
     [[ -n $lines && $(<README.md) == *"$lines"* ]] || { echo "README.md lacks these lines:"; echo "$lines"; return 1; }
 }
 export -f shows_doc_test
@@ -170,6 +170,10 @@ else
     else
         skip 'C: the README, by CMake' 'it is not on this machine'
     fi
+fi
+
+if ! tools/test_package.sh; then
+    failed=$((failed + 1))
 fi
 
 cd bindings/rust || exit 1
