@@ -86,15 +86,16 @@ has_sanitizers() {
 export -f build_c run_c
 export room
 
-# Compiles the headers by this compiler in each of these standards, without a warning; and in those that have threads of
-# their own again with these in place of POSIX's calls.
+# Compiles the headers by this compiler in each of these standards, without a warning, and runs their program; and in the
+# standards that have threads of their own again with these in place of POSIX's calls.
 compile_headers() {
     local standard define
     for standard in "${@:2}"; do
         for define in VAHEPITO_HEADERS VAHEPITO_STANDARD_THREADS; do
             [ "$standard $define" = 'c99 VAHEPITO_STANDARD_THREADS' ] && continue
             "$1" "-std=$standard" "-D$define" -O2 -Wall -Wextra -Wpedantic -Wconversion -Wshadow -Werror \
-                -x "$language" -c -o "$room/headers.o" bindings/c/headers.c || { echo "-std=$standard -D$define"; return 1; }
+                -x "$language" bindings/c/headers.c -x none "$VAHEPITO_LIB" "$VAHEPITO_HEAP" -pthread -o "$room/headers" &&
+                "$room/headers" || { echo "status $?: $1 -std=$standard -D$define"; return 1; }
         done
     done
 }

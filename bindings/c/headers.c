@@ -1,5 +1,5 @@
 /* The headers in C99 to C23 and in C++11 to C++23: compiled by each compiler that is there, with all warnings. Run, it
- * makes each call that waits, on one thread. */
+ * makes each call that waits, on one thread, and ends with status 0 where each told what it has to. */
 #include "vahepito_wait.h"
 
 /* A caller's own struct with handles in it. */
