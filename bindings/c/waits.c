@@ -117,10 +117,49 @@ static void close_over_receivers(void) {
     drop_all();
 }
 
+static void *finishes_full(void *sender) {
+    uint64_t place = 99;
+    check(vahepito_finish_send(sender, &place) == VAHEPITO_FULL && place == 0, "the second send finds no room");
+    return NULL;
+}
+
+static void *finishes_shut(void *sender) {
+    uint64_t total = 0;
+    check(vahepito_finish_close(sender, &total) == VAHEPITO_SHUT && total == 1, "the close comes after it");
+    return NULL;
+}
+
+static void *finishes_ended(void *receiver) {
+    uint64_t total = 0;
+    check(vahepito_finish_take(receiver, NULL, &total) == VAHEPITO_ENDED && total == 1, "the second take is told the end");
+    return NULL;
+}
+
+/* Calls that were begun behind another one are finished once that is turned, and not before. */
+static void behind_another(void) {
+    vahepito_item item;
+    uint64_t place = 99;
+    open_for(1, (uint64_t)1 << 48, UINT32_MAX);
+    check(vahepito_begin_send(&senders[0], 1) == VAHEPITO_BEGUN, "a send is begun");
+    check(vahepito_begin_send(&senders[1], 2) == VAHEPITO_BEGUN, "and one behind it");
+    check(vahepito_begin_close(&senders[2]) == VAHEPITO_BEGUN, "and a close");
+    check(vahepito_begin_take(&receivers[0]) == VAHEPITO_BEGUN, "a take is begun");
+    check(vahepito_begin_take(&receivers[1]) == VAHEPITO_BEGUN, "and one behind it");
+    start(&sending[1], finishes_full, &senders[1]);
+    start(&sending[2], finishes_shut, &senders[2]);
+    start(&taking[1], finishes_ended, &receivers[1]);
+    let_them_sleep();
+    check(vahepito_finish_send(&senders[0], &place) == VAHEPITO_ACCEPTED && place == 0, "the first send is accepted");
+    check(!pthread_join(sending[1], NULL) && !pthread_join(sending[2], NULL), "those behind it end");
+    check(vahepito_finish_take(&receivers[0], &item, NULL) == VAHEPITO_GOT && item.body == 1, "the first take gets it");
+    check(!pthread_join(taking[1], NULL), "the one behind it ends");
+    drop_all();
+}
+
 /* What a call can't be made for: the out-parameters are 0 then, whatever they were. */
 static void refusals(void) {
     vahepito_pass empty = VAHEPITO_PASS_EMPTY;
-    vahepito_item item;
+    vahepito_item item = {9, 9, 9, 9};
     uint64_t number = 99;
     open_for(1, 2, UINT32_MAX);
     check(vahepito_send(&empty, 1, &number) == VAHEPITO_NO_PASS && number == 0, "an empty handle doesn't send");
@@ -162,6 +201,7 @@ static void worn_while_it_waits(void) {
 int main(void) {
     refusals();
     worn_while_it_waits();
+    behind_another();
     close_over_senders();
     close_over_receivers();
     room_for_one();
