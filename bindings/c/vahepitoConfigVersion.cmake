@@ -1,0 +1,10 @@
+# Which versions a find_package may ask for: this one, and earlier ones with the same first two numbers.
+set(PACKAGE_VERSION "@VERSION@")
+string(REGEX MATCH "^[0-9]+[.][0-9]+" vahepito_series "${PACKAGE_VERSION}")
+set(PACKAGE_VERSION_COMPATIBLE FALSE)
+if("${PACKAGE_FIND_VERSION_MAJOR}.${PACKAGE_FIND_VERSION_MINOR}" STREQUAL vahepito_series AND NOT PACKAGE_VERSION VERSION_LESS PACKAGE_FIND_VERSION)
+  set(PACKAGE_VERSION_COMPATIBLE TRUE)
+endif()
+if(PACKAGE_FIND_VERSION VERSION_EQUAL PACKAGE_VERSION)
+  set(PACKAGE_VERSION_EXACT TRUE)
+endif()
