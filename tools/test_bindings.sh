@@ -200,8 +200,17 @@ else
     if cargo +nightly --version >/dev/null 2>&1; then
         step 'Rust: sanitizer address' env RUSTFLAGS=-Zsanitizer=address cargo +nightly "${options[@]}" test \
             --target "$host" --tests -- --skip frees_the_queue
+        # Its std isn't built for this sanitizer, which so reports the test runner's own channel.
+        thread='-Zsanitizer=thread -Cunsafe-allow-abi-mismatch=sanitizer'
+        echo 'race:std::sync::mpmc::list::Channel<test::event::CompletedTest>' >"$room/of_the_runner"
+        if echo 'fn main() {}' | rustc +nightly $thread -o "$room/probe" - 2>/dev/null && "$room/probe" 2>/dev/null; then
+            step 'Rust: sanitizer thread' env RUSTFLAGS="$thread" TSAN_OPTIONS="suppressions=$room/of_the_runner" \
+                cargo +nightly "${options[@]}" test --target "$host" --test hand_over -- --test-threads=1
+        else
+            skip 'Rust: sanitizer thread' 'the nightly compiler has none that runs here'
+        fi
     else
-        skip 'Rust: sanitizer address' 'there is no nightly cargo on this machine'
+        skip 'Rust: the sanitizers' 'there is no nightly cargo on this machine'
     fi
 fi
 
