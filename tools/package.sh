@@ -79,15 +79,10 @@ proof_of_package() {
     echo 'The proofs end at the exports of libcc_binding.a: the crate, the header and liblibc_c.a are not proved.'
 }
 
-# The file of bindings/c, or the one of tools/package where there is none.
-template() {
-    if [ -f "bindings/c/$1" ]; then echo "bindings/c/$1"; else echo "tools/package/$1"; fi
-}
-
-# Writes a template with its placeholders filled: the template, the prefix, where to.
+# Writes a template of bindings/c with its placeholders filled: the template, the prefix, where to.
 fill() {
     mkdir -p "$(dirname "$3")"
-    sed "s:@PREFIX@:$2:g; s:@VERSION@:$version:g" "$(template "$1")" >"$3"
+    sed "s:@PREFIX@:$2:g; s:@VERSION@:$version:g" "bindings/c/$1" >"$3"
 }
 
 # Makes NAME.tar.gz of the folder NAME, with the same bytes for the same files.
@@ -114,7 +109,7 @@ cp bindings/c/vahepito*.h "$room/$c/include/"
 cp "$archive" "$room/$c/lib/libvahepito.a"
 cp "$heap" "$room/$c/lib/libvahepito_heap.a"
 cp "$room/PROOF" "$room/$c/share/doc/vahepito/"
-if [ -f bindings/c/README.md ]; then cp bindings/c/README.md "$room/$c/share/doc/vahepito/"; fi
+cp bindings/c/README.md "$room/$c/share/doc/vahepito/"
 fill vahepito.pc.in '${pcfiledir}/../..' "$room/$c/lib/pkgconfig/vahepito.pc"
 fill vahepitoConfig.cmake '${CMAKE_CURRENT_LIST_DIR}/../../..' "$room/$c/lib/cmake/vahepito/vahepitoConfig.cmake"
 fill vahepitoConfigVersion.cmake '' "$room/$c/lib/cmake/vahepito/vahepitoConfigVersion.cmake"

@@ -1,9 +1,0 @@
-# The version @VERSION@ serves who asks for it, or for an older one of the same first two numbers.
-set(PACKAGE_VERSION "@VERSION@")
-if(PACKAGE_FIND_VERSION VERSION_EQUAL PACKAGE_VERSION)
-  set(PACKAGE_VERSION_EXACT TRUE)
-endif()
-string(REGEX MATCH "^[0-9]+\\.[0-9]+" vahepito_line "${PACKAGE_VERSION}")
-if(NOT PACKAGE_FIND_VERSION VERSION_GREATER PACKAGE_VERSION AND NOT PACKAGE_FIND_VERSION VERSION_LESS vahepito_line)
-  set(PACKAGE_VERSION_COMPATIBLE TRUE)
-endif()
