@@ -79,10 +79,10 @@ proof_of_package() {
     echo 'The proofs end at the exports of libcc_binding.a: the crate, the header and liblibc_c.a are not proved.'
 }
 
-# Writes a template of bindings/c with its placeholders filled: the template, the prefix, where to.
+# Writes a file of bindings/c with its placeholder filled: which, and where to.
 fill() {
-    mkdir -p "$(dirname "$3")"
-    sed "s:@PREFIX@:$2:g; s:@VERSION@:$version:g" "bindings/c/$1" >"$3"
+    mkdir -p "$(dirname "$2")"
+    sed "s:@VERSION@:$version:g" "bindings/c/$1" >"$2"
 }
 
 # Makes NAME.tar.gz of the folder NAME, with the same bytes for the same files.
@@ -110,8 +110,9 @@ cp "$archive" "$room/$c/lib/libvahepito.a"
 cp "$heap" "$room/$c/lib/libvahepito_heap.a"
 cp "$room/PROOF" "$room/$c/share/doc/vahepito/"
 cp bindings/c/README.md "$room/$c/share/doc/vahepito/"
-fill vahepito.pc.in '${pcfiledir}/../..' "$room/$c/lib/pkgconfig/vahepito.pc"
-fill vahepitoConfig.cmake '${CMAKE_CURRENT_LIST_DIR}/../../..' "$room/$c/lib/cmake/vahepito/vahepitoConfig.cmake"
-fill vahepitoConfigVersion.cmake '' "$room/$c/lib/cmake/vahepito/vahepitoConfigVersion.cmake"
+fill vahepito.pc.in "$room/$c/lib/pkgconfig/vahepito.pc"
+for name in vahepitoConfig.cmake vahepitoConfigVersion.cmake; do
+    fill "$name" "$room/$c/lib/cmake/vahepito/$name"
+done
 pack "$c"
 grep '^proof: ' "$room/PROOF" | sed 's/^/package: /'
