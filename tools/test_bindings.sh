@@ -183,7 +183,7 @@ options=(--quiet --locked --offline)
 if ! cargo --version >/dev/null 2>&1; then
     skip 'the crate in Rust' 'cargo is not on this machine'
 else
-    step 'Rust: tests' cargo "${options[@]}" test
+    limit=600 step 'Rust: tests' cargo "${options[@]}" test
     step 'Rust: the thread pool' bash -c "prints '9592 primes below 100000' cargo ${options[*]} run --example thread_pool"
     step 'Rust: the pipeline' bash -c "prints '77031 takes 350 steps' cargo ${options[*]} run --example pipeline"
     step 'Rust: the log' bash -c "prints '40000 events in the archive, 4000 alarms' cargo ${options[*]} run --example log"
