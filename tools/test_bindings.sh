@@ -198,7 +198,7 @@ else
         skip 'Rust: under valgrind' 'valgrind is not on this machine'
     fi
     if cargo +nightly --version >/dev/null 2>&1; then
-        step 'Rust: sanitizer address' env RUSTFLAGS=-Zsanitizer=address cargo +nightly "${options[@]}" test \
+        limit=600 step 'Rust: sanitizer address' env RUSTFLAGS=-Zsanitizer=address cargo +nightly "${options[@]}" test \
             --target "$host" --tests -- --skip frees_the_queue
         # Its std isn't built for this sanitizer, which so reports the test runner's own channel.
         thread='-Zsanitizer=thread -Cunsafe-allow-abi-mismatch=sanitizer'
