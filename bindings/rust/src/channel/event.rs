@@ -1,45 +1,46 @@
 //! Where callers wait for an item, or for room, and why no wake-up is lost.
 //!
 //! An event is a line of those that wait. A waiter is a [`Waker`]: a task's, or that of a thread that
-//! parks. Waiting goes so:
+//! parks. Waiting goes so, step by step on either side:
 //!
 //! ```text
-//! waiter                                     ringer
-//!   W1  stand in line, waiting := its length   R1  make a try succeed: send an item, or take one
-//!   W2  try                                    R2  waiting = 0? then nothing
-//!   W3  park                                   R3  take the first out of the line
-//!   W4  leave the line                         R4  wake it
-//!   W5  try; none: from W1
+//! waiter                                        ringer
+//!   stand   in line, waiting := its length        make      a try succeed: send an item, or take one
+//!   look    whether a try succeeds                check     is waiting 0? then that is all
+//!   park                                          take out  the first of the line
+//!   leave   the line                              wake      it
+//!   retry   and if there is nothing, stand again
 //! ```
 //!
-//! W1, R3 and W4 each hold the line's lock; R2 doesn't. `waiting` is written under the lock, so that
-//! R2 reads the length of the line at some moment.
+//! *Stand*, *take out* and *leave* each hold the line's lock; *check* doesn't. `waiting` is written
+//! under the lock, so that *check* reads the length of the line at some moment.
 //!
-//! **What is used of the queue.** A try that begins after R1 was answered finds what R1 made, unless
-//! another try took it first: all steps of the queue are sequentially consistent, and each step sees
-//! the longest run there is. So are the accesses to `waiting`; all of them, and the queue's steps,
+//! **What is used of the queue.** A try that begins after *make* was answered finds what it made,
+//! unless another try took it first: all steps of the queue are sequentially consistent, and each step
+//! sees the longest run there is. So are the accesses to `waiting`; all of them, and the queue's steps,
 //! stand in one order that every thread agrees on.
 //!
 //! **The claim.** When nobody makes a step any more, there isn't at once a waiter in line and something
 //! for its try to take.
 //!
 //! **Why.** Suppose that there were: a waiter `w` in line for good, and an item (or room) that no try
-//! took. Let `t` be the moment of `w`'s last try, which is its W2: it came after its W1, since which
-//! `waiting` has never been 0, and it found nothing. Let `e` be the last moment at which there was
-//! nothing to take, so `e >= t`. After `e` things were made, and fewer were taken, since one is left.
-//! Each thing that was made after `e` has its R1 after `e`, and then its R2, which is after W1 of `w`:
-//! so it finds `waiting` above 0, and goes on to R3, where it takes a waiter out of the line: not `w`,
-//! who is there for good, but one that came before `w`. Each waiter that is taken out makes a try
-//! after that: W5, or W2 where it was only about to try. This try begins after `e`, and after R1 of the
-//! ring that took the waiter out; from then on there was always something to take. So the try took
-//! something. Different rings take out different entries of the line, and each entry has its own try;
-//! so at least as many things were taken after `e` as were made. That is a contradiction.
+//! took. Let `t` be the moment of `w`'s last try, which is its *look*: it came after its *stand*, since
+//! which `waiting` has never been 0, and it found nothing. Let `e` be the last moment at which there
+//! was nothing to take, so `e >= t`. After `e` things were made, and fewer were taken, since one is
+//! left. Each thing that was made after `e` has its *make* after `e`, and then its *check*, which is
+//! after `w` stood in line: so it finds `waiting` above 0, and goes on to *take out* a waiter: not `w`,
+//! who is there for good, but one that came before `w`. Each waiter that is taken out makes a try after
+//! that: its *retry*, or its *look* where it was only about to try. This try begins after `e`, and
+//! after the *make* of the ring that took the waiter out; from then on there was always something to
+//! take. So the try took something. Different rings take out different entries of the line, and each
+//! entry has its own try; so at least as many things were taken after `e` as were made. That is a
+//! contradiction.
 //!
 //! **Who is taken out and doesn't try any more** rings for the next in line instead
-//! ([`Entry`]'s drop): a waiter whose W2 took something while it was taken out (its try may have come
-//! before R1), and a task that is dropped before its next poll. A thread whose time is over tries
-//! once more after it left the line (W5), and so needs no ring. The ring that is passed on ends at a
-//! waiter that tries, or at an empty line.
+//! ([`Entry`]'s drop): a waiter whose *look* took something while it was taken out (its try may have
+//! come before the *make*), and a task that is dropped before its next poll. A thread whose time is
+//! over tries once more after it left the line, and so needs no ring. The ring that is passed on ends
+//! at a waiter that tries, or at an empty line.
 //!
 //! **Rings for nothing** are harmless: their waiter tries, finds nothing, and stands in line again.
 //! So a take rings for room though another group hasn't taken the item yet, and a close rings for all.
