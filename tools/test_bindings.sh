@@ -7,40 +7,8 @@
 set -u
 cd "$(dirname "$0")/.." || exit 1
 top=$PWD
-room=$(mktemp -d) || exit 1
-trap 'rm -rf "$room"' EXIT
-failed=0
-
-# Does a step: its name, and a command, which has five minutes or as many seconds as `limit` says. What that prints is
-# shown where it failed.
-step() {
-    local name=$1 start=$SECONDS
-    shift
-    if timeout "${limit:-300}" "$@" >"$room/log" 2>&1 </dev/null; then
-        echo "bindings: $name: passed ($((SECONDS - start)) s)"
-    else
-        echo "bindings: $name: FAILED (status $?); its last lines:"
-        tail -n 60 "$room/log"
-        failed=$((failed + 1))
-        return 1
-    fi
-}
-
-skip() {
-    echo "bindings: $1: SKIPPED: $2"
-}
-
-has() {
-    command -v "$1" >/dev/null
-}
-
-# Does a command that has to print just this line.
-prints() {
-    local printed
-    printed=$("${@:2}") || return
-    [ "$printed" = "$1" ] || { echo "it printed '$printed' in place of '$1'"; return 1; }
-}
-export -f prints
+tests=bindings
+. tools/steps.sh
 
 if [ -z "${VAHEPITO_LIB:-}" ]; then
     export VAHEPITO_LIB=$top/crates/cc_binding/out/libcc_binding.a
@@ -84,7 +52,6 @@ has_sanitizers() {
     echo 'int main(void) { return 0; }' | cc -x c "-fsanitize=$1" -o "$room/probe" - 2>/dev/null && "$room/probe" 2>/dev/null
 }
 export -f build_c run_c
-export room
 
 # Compiles the headers by this compiler in each of these standards, without a warning, and runs their program; and in the
 # standards that have threads of their own again with these in place of POSIX's calls.
@@ -214,7 +181,4 @@ else
     fi
 fi
 
-if [ "$failed" != 0 ]; then
-    echo "bindings: $failed steps failed"
-    exit 1
-fi
+end_steps

@@ -8,37 +8,13 @@
 set -u
 cd "$(dirname "$0")/.." || exit 1
 top=$PWD
-room=$(mktemp -d) || exit 1
-export top room
-trap 'rm -rf "$room"' EXIT
-failed=0
+export top
+tests=package
+. tools/steps.sh
 
-# Does a step: its name, and its lines, which have five minutes. What they print is shown where they failed.
-step() {
-    local start=$SECONDS
-    if timeout 300 bash -euc "$2" >"$room/log" 2>&1 </dev/null; then
-        echo "package: $1: passed ($((SECONDS - start)) s)"
-    else
-        echo "package: $1: FAILED (status $?); its last lines:"
-        tail -n 40 "$room/log"
-        failed=$((failed + 1))
-        return 1
-    fi
-}
-
-skip() {
-    echo "package: $1: SKIPPED: $2"
-}
-
-has() {
-    command -v "$1" >/dev/null
-}
-
-# Does a command that has to print just these lines.
-prints() {
-    local printed
-    printed=$("${@:2}") || return
-    [ "$printed" = "$1" ] || { echo "it printed '$printed' in place of '$1'"; return 1; }
+# Does a step that is some lines of a script.
+lines() {
+    step "$1" bash -euc "$2"
 }
 
 # Does a command that has to fail, and to say this.
@@ -73,11 +49,11 @@ main_of() {
         /^use .*;$/ || shown { print substr($0, length(margin) + 1) }
         shown && $0 == margin "}" { exit }' "$1"
 }
-export -f prints refuses main_of
+export -f refuses main_of
 
-step 'made' "tools/package.sh '$room/packed'" || exit 1
-step 'made again, with the same bytes' "sleep 1; tools/package.sh '$room/again'; diff -r '$room/packed' '$room/again'"
-step 'a proof is told of the archive and the sources of its record alone' '
+lines 'made' "tools/package.sh '$room/packed'" || exit 1
+lines 'made again, with the same bytes' "sleep 1; tools/package.sh '$room/again'; diff -r '$room/packed' '$room/again'"
+lines 'a proof is told of the archive and the sources of its record alone' '
     mkdir "$room/record"
     cp "${VAHEPITO_LIB:-crates/cc_binding/out/libcc_binding.a}" "$room/record/libcc_binding.a"
     export VAHEPITO_LIB=$room/record/libcc_binding.a
@@ -103,8 +79,8 @@ prefix=$(echo "$room"/vahepito-c-*)
 version=${prefix##*-}
 export crate prefix version
 
-step 'no rt on the path' '! command -v rt'
-step 'each says what is known of its proof' '
+lines 'no rt on the path' '! command -v rt'
+lines 'each says what is known of its proof' '
     for proof in "$crate/PROOF" "$prefix/share/doc/vahepito/PROOF"; do
         grep -E "^proof: (logic=proved .*sum=|not seen\. )" "$proof"
         grep -F ": $(sha256sum <"$crate/lib/libcc_binding.a" | cut -d" " -f1)" "$proof"
@@ -112,14 +88,14 @@ step 'each says what is known of its proof' '
     done
     cmp "$crate/lib/libcc_binding.a" "$prefix/lib/libvahepito.a"
     cmp "$crate/lib/liblibc_c.a" "$prefix/lib/libvahepito_heap.a"'
-step 'the READMEs name this version' '
+lines 'the READMEs name this version' '
     grep -F "vahepito-$version" "$crate/README.md"
     grep -F "vahepito-$version" "$top/README.md"'
 
 if ! cargo --version >/dev/null 2>&1; then
     skip 'Rust' 'cargo is not on this machine'
 else
-    step 'Rust: the main of the README of the repository' '
+    lines 'Rust: the main of the README of the repository' '
         cargo new --quiet --vcs none trial
         cd trial
         if cargo add --help >/dev/null 2>&1; then
@@ -133,7 +109,7 @@ else
         prints "" cargo run --quiet --offline
         cargo test --quiet --offline'
     # The crate within the folder of a workspace is a member of it.
-    step 'Rust: the main of the README of the crate, in a workspace' '
+    lines 'Rust: the main of the README of the crate, in a workspace' '
         cargo new --quiet --vcs none within
         cp -r "$crate" within/vahepito
         cd within
@@ -141,10 +117,10 @@ else
         main_of "$crate/README.md" >src/main.rs
         cat src/main.rs
         prints "$(seq -f "line %g" 0 9)" cargo run --quiet --offline'
-    step 'Rust: an example of the package' '
+    lines 'Rust: an example of the package' '
         cd "$crate"
         prints "9592 primes below 100000" cargo run --quiet --offline --example thread_pool'
-    step 'Rust: another target is told' '
+    lines 'Rust: another target is told' '
         cd trial
         refuses "for x86_64 Linux with the GNU C library, and the target is aarch64-unknown-linux-gnu" \
             cargo check --offline --target aarch64-unknown-linux-gnu'
@@ -157,7 +133,7 @@ if ! has cc; then
     skip 'C' 'cc is not on this machine'
 else
     if has pkg-config; then
-        step 'C: by pkg-config' '
+        lines 'C: by pkg-config' '
             cd c
             export PKG_CONFIG_PATH=$prefix/lib/pkgconfig
             prints "$version" pkg-config --modversion vahepito
@@ -171,18 +147,15 @@ else
     elif ! has make && ! has ninja; then
         skip 'C: by CMake' 'neither make nor ninja is on this machine'
     else
-        step 'C: by CMake' '
+        lines 'C: by CMake' '
             cmake -S c -B built -DCMAKE_PREFIX_PATH="$prefix"
             cmake --build built
             prints "taken 42" built/trial'
-        step 'C: by CMake, another processor is told' '
+        lines 'C: by CMake, another processor is told' '
             refuses "its archives are for" cmake -S c -B other -DCMAKE_PREFIX_PATH="$prefix" \
                 -DCMAKE_SYSTEM_NAME=Linux -DCMAKE_SYSTEM_PROCESSOR=aarch64
             refuses "9.0" cmake -S c -B newer -DCMAKE_PREFIX_PATH="$prefix" -DWANTED=9.0'
     fi
 fi
 
-if [ "$failed" != 0 ]; then
-    echo "package: $failed steps failed"
-    exit 1
-fi
+end_steps
