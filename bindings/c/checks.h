@@ -1,4 +1,4 @@
-/* What the programs here share: a check that ends them, and a sender's thread. */
+/* What the programs here share: a check that ends them, and what a sender's thread and a receiver's do. */
 #ifndef CHECKS_H
 #define CHECKS_H
 
@@ -23,6 +23,31 @@ static inline void send_up_to(vahepito_pass *sender, uint64_t items) {
         check(body == 1 || place > last, "places rise");
         last = place;
     }
+}
+
+/* A receiver with what it took and the total that its end told; the most senders that a queue has. */
+struct taker {
+    vahepito_pass *receiver;
+    uint64_t got, sum, total;
+};
+enum { MOST_SENDERS = 64 };
+
+/* Takes until the end what so many senders send by send_up_to. */
+static inline void take_to_the_end(struct taker *mine, uint32_t senders) {
+    uint64_t last[MOST_SENDERS + 1] = {0};
+    vahepito_item item;
+    uint32_t code;
+    while ((code = vahepito_take(mine->receiver, &item, &mine->total)) != VAHEPITO_ENDED) {
+        check(code == VAHEPITO_GOT, "a take gets an item, or is told the end");
+        check(mine->total == 0, "an item comes without a total");
+        check(item.sender >= 1 && item.sender <= senders, "an item has its sender");
+        check(item.body > last[item.sender], "each sender's items come in order");
+        check(item.number >= item.body, "each send has a number");
+        last[item.sender] = item.body;
+        mine->got++;
+        mine->sum += item.body;
+    }
+    check(item.body == 0 && item.sender == 0, "the end comes without an item");
 }
 
 #endif

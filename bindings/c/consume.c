@@ -31,26 +31,8 @@ static void *publish(void *sender) {
     return NULL;
 }
 
-struct consumer {
-    vahepito_pass *receiver;
-    uint64_t got, sum, total;
-};
-
-/* Takes until the end. */
-static void *consume(void *at) {
-    struct consumer *mine = at;
-    uint64_t last[PUBLISHERS + 1] = {0};
-    vahepito_item item;
-    uint32_t code;
-    while ((code = vahepito_take(mine->receiver, &item, &mine->total)) != VAHEPITO_ENDED) {
-        check(code == VAHEPITO_GOT, "a take gets an item, or is told the end");
-        check(item.sender >= 1 && item.sender <= PUBLISHERS, "an item has its sender");
-        check(item.body > last[item.sender], "each sender's items come in order");
-        check(item.number >= item.body, "each send has a number");
-        last[item.sender] = item.body;
-        mine->got++;
-        mine->sum += item.body;
-    }
+static void *consume(void *mine) {
+    take_to_the_end(mine, PUBLISHERS);
     return NULL;
 }
 
@@ -85,7 +67,7 @@ int main(int count, char **words) {
     refusals(senders, receivers);
 
     pthread_t publishers[PUBLISHERS], threads[CONSUMERS];
-    struct consumer consumers[CONSUMERS] = {0};
+    struct taker consumers[CONSUMERS] = {0};
     for (int k = 0; k < CONSUMERS; k++) {
         consumers[k].receiver = &receivers[k];
         check(!pthread_create(&threads[k], NULL, consume, &consumers[k]), "a thread starts");

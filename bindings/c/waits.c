@@ -32,24 +32,8 @@ static void *send_all(void *sender) {
     return NULL;
 }
 
-struct taker {
-    vahepito_pass *receiver;
-    uint64_t got, sum, total;
-};
-
-static void *take_all(void *at) {
-    struct taker *mine = at;
-    uint64_t last[EACH + 1] = {0};
-    vahepito_item item;
-    uint32_t code;
-    while ((code = vahepito_take(mine->receiver, &item, &mine->total)) == VAHEPITO_GOT) {
-        check(mine->total == 0, "an item comes without a total");
-        check(item.sender >= 1 && item.sender <= EACH && item.body > last[item.sender], "each sender's items come in order");
-        last[item.sender] = item.body;
-        mine->got++;
-        mine->sum += item.body;
-    }
-    check(code == VAHEPITO_ENDED && item.body == 0 && item.sender == 0, "the end comes without an item");
+static void *take_all(void *mine) {
+    take_to_the_end(mine, EACH);
     return NULL;
 }
 
