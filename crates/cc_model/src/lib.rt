@@ -10,7 +10,7 @@ mod pen;
 mod tag;
 
 pub use call::{Answer, Call, CloseAnswer, Entry, Item, Pass, SendAnswer, TakeAnswer};
-pub use config::{Config, ConfigFault, is_within};
+pub use config::{CheckedConfig, Config, ConfigFault, is_within};
 pub use device::{Device, DeviceFault, Sink, Source};
 pub use history::History;
 pub use laws::{empty_is_fresh, full_is_fresh, legal_gives_fifo};
