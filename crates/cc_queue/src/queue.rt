@@ -10,7 +10,7 @@ ghost use Rattle.cc_steps.specs.Walk.{fresh, fresh_from};
 ghost use Rattle.cc_queue.specs.Opened.{HasOpened};
 
 use crate::passes::{Receiver, Sender};
-use cc_model::Config;
+use cc_model::{CheckedConfig, Config};
 use cc_runs::OpenFault;
 use cc_steps::seats::PassSeat;
 use cc_steps::words::{OpenedWords, Words};
@@ -124,9 +124,12 @@ fn all_receivers(
 }
 
 /// The queue over its words, with a sender and a receiver on each seat.
-fn over_words(alloc: Global, words: OpenedWords, config: &Config) -> Result<Opened, AllocError>
-    requires opened { opened_words.HasOpened config.now words }
-    requires checked { config_fault config.now ≡ Ok tt }
+fn over_words(
+    alloc: Global,
+    words: OpenedWords,
+    config: &CheckedConfig,
+) -> Result<Opened, AllocError>
+    requires { opened_words.HasOpened config.now words }
     ensures { IfOk result (λ o. HasOpened config.now o) }
 {
     let OpenedWords {
@@ -134,6 +137,7 @@ fn over_words(alloc: Global, words: OpenedWords, config: &Config) -> Result<Open
         senders,
         receivers,
     } = words;
+    let config = config.config();
     let shared = Arc::new(alloc, words.share()?)?;
     let senders = all_senders(alloc, &shared, senders, config)?;
     let receivers = all_receivers(alloc, &shared, receivers, config)?;
@@ -154,11 +158,23 @@ impl Queue {
     pub fn open(alloc: Global, config: &Config) -> Result<Opened, OpenFault>
         ensures { MatchResult result (λ o. HasOpened config.now o) (λ f. IsOpenFault config.now f) }
     {
-        if let Err(fault) = config.check() {
-            return Err(OpenFault::Config(fault));
+        match CheckedConfig::of(config) {
+            Ok(config) => Ok(Queue::open_checked(alloc, &config)?),
+            Err(fault) => Err(OpenFault::Config(fault)),
         }
+    }
+
+    /// Opens a queue of a configuration that was checked, with all its senders and receivers. No later call of the queue
+    /// takes memory.
+    ///
+    /// # Errors
+    ///
+    /// Memory was refused. Nothing is left then.
+    pub fn open_checked(alloc: Global, config: &CheckedConfig) -> Result<Opened, AllocError>
+        ensures { IfOk result (λ o. HasOpened config.now o) }
+    {
         let words = Words::open(alloc, config)?;
-        Ok(over_words(alloc, words, config)?)
+        over_words(alloc, words, config)
     }
 
     /// Another share of the same queue, for an owner of its own.

@@ -19,6 +19,8 @@ mod giving_up;
 mod groups;
 mod held;
 #[cfg(test)]
+mod openings;
+#[cfg(test)]
 mod shared_fifo;
 
 pub use held::{HeldReceiver, HeldSender, Pair, Passes};

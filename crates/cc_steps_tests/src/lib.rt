@@ -1,4 +1,4 @@
-//! Two passes driven by hand over the shared table, one atomic step after another, and openings that are refused.
+//! Passes driven by hand over the shared table, one atomic step after another.
 #![tactic(auto)]
 
 #[cfg(test)]

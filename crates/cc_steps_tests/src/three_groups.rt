@@ -7,6 +7,7 @@ ghost use Rattle.cc_runs.specs.declared.setting.Served.TheVariants as served;
 ghost use Rattle.cc_steps.specs.Walk.{fresh, fresh_from};
 ghost use Rattle.cc_steps_tests.specs.Lone.{IsIn, triple, sender, first_of};
 
+use crate::openings::checked;
 use cc_model::{Call, Config};
 use cc_runs::{Chain, ItemField, NodeField, Object};
 use cc_steps::seats::PassSeat;
@@ -119,7 +120,7 @@ fn read_group(rt: &impl Abort, words: &Words, group: u32, seats: &mut Vec<PassSe
 
 #[test]
 fn first_words_of_three_groups(rt: HostRuntime) {
-    let Ok(opened) = Words::open(rt.alloc(), &TRIPLE) else {
+    let Ok(opened) = Words::open(rt.alloc(), &checked(&rt, &TRIPLE)) else {
         panic!(rt; "no words")
     };
     let words = opened.words;

@@ -1,12 +1,12 @@
 //! Two seats by hand: a lone send, then a lone take that gets its item.
-use crate::openings::SMALL;
+use crate::openings::{SMALL, checked};
 use crate::{lone_send, lone_take};
 use cc_steps::looks::look;
 use cc_steps::words::Words;
 
 #[test]
 fn a_lone_send_and_a_lone_take(rt: HostRuntime) {
-    let Ok(mut opened) = Words::open(rt.alloc(), &SMALL) else {
+    let Ok(mut opened) = Words::open(rt.alloc(), &checked(&rt, &SMALL)) else {
         panic!(rt; "no words")
     };
     let Ok(words) = opened.words.share() else {
