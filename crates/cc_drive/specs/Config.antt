@@ -5,8 +5,6 @@ use Rattle.cc_model.specs.Config.{config_fault}
 use Rattle.cc_model.specs.declared.config.Config.{Config}
 use Rattle.cc_model.specs.declared.config.ConfigFault.{ConfigFault}
 use Rattle.cc_model.specs.declared.config.ConfigFault.TheVariants as fault
-use Rattle.cc_runs.specs.declared.fault.OpenFault.{OpenFault}
-use Rattle.cc_runs.specs.declared.fault.OpenFault.TheVariants as opening
 use Rattle.cc_drive.specs.declared.config.DriveConfig.{DriveConfig}
 use Rattle.cc_drive.specs.declared.config.DriveFault.{DriveFault}
 use Rattle.cc_drive.specs.declared.config.DriveFault.TheVariants as drive
@@ -34,8 +32,3 @@ IsDue (Err f) workers told = told ≡ drive.Config f
 IsDue (Ok _) workers (drive.Config f) = ⊥
 IsDue (Ok _) workers (drive.Limit n) = n ≤ workers
 IsDue (Ok _) workers _ = ⊤
-
--- how it is told that the queue wasn't opened
-abbrev pub told_of_open : OpenFault → DriveFault
-told_of_open (opening.Config f) = drive.Config f
-told_of_open opening.NoMemory = drive.NoMemory

@@ -1,12 +1,11 @@
 //! What a run is driven with, how it ends, and why it has no end to tell.
 ghost use Rattle.std.specs.Prelude.{◌≡◌, IfOk, OnOk, IfErr, Ok, Err};
 ghost use Rattle.cc_model.specs.Config.{config_fault};
-ghost use Rattle.cc_drive.specs.Config.{drive_fault, queue_of, told_of_open};
+ghost use Rattle.cc_drive.specs.Config.{drive_fault, queue_of};
 ghost use Rattle.cc_drive.specs.declared.config.DriveFault.TheVariants as drive;
 
 use cc_audit::Verdict;
-use cc_model::{Config, ConfigFault, is_within};
-use cc_runs::OpenFault;
+use cc_model::{CheckedConfig, Config, ConfigFault, is_within};
 use std::alloc::AllocError;
 use thiserror::Error;
 
@@ -57,17 +56,6 @@ pub enum DriveFault {
     Limit(u32),
 }
 
-impl From<OpenFault> for DriveFault {
-    ghost from_gives = { λ from told. told ≡ told_of_open from };
-
-    fn from(fault: OpenFault) -> DriveFault {
-        match fault {
-            OpenFault::Config(fault) => DriveFault::Config(fault),
-            OpenFault::NoMemory => DriveFault::NoMemory,
-        }
-    }
-}
-
 impl From<ConfigFault> for DriveFault {
     ghost from_gives = { λ from told. told ≡ drive.Config from };
 
@@ -86,7 +74,7 @@ impl From<AllocError> for DriveFault {
 
 impl DriveConfig {
     /// The configuration of the queue, with one sender more; or the first field out of its range.
-    pub(crate) fn queue(&self) -> Result<Config, ConfigFault>
+    pub(crate) fn queue(&self) -> Result<CheckedConfig, ConfigFault>
         ensures config { IfOk result (λ c. c ≡ queue_of self.now) }
         ensures lawful { OnOk result (config_fault (queue_of self.now) ≡ Ok tt) }
         ensures fine { OnOk result (drive_fault self.now ≡ Ok tt) }
@@ -104,7 +92,6 @@ impl DriveConfig {
             per_sender: u32::MAX,
             groups: 1,
         };
-        config.check()?;
-        Ok(config)
+        CheckedConfig::of(&config)
     }
 }

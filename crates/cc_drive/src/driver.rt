@@ -64,7 +64,7 @@ pub fn drive<G: Gate + Send, R: Threads + Wait + Sync>(
         queue,
         mut senders,
         receivers,
-    } = Queue::open(alloc, &of_queue)?;
+    } = Queue::open_checked(alloc, &of_queue)?;
     let Some(closer) = senders.pop() else {
         unreachable!()
     };
