@@ -27,7 +27,7 @@ mod told;
 
 use codes::{DONE, NO_MEMORY, NO_PASS};
 use handle::Handle;
-use opening::{Settings, open, refusal};
+use opening::{Settings, check, open};
 use std::alloc::Global;
 use told::{Taken, TakenItem, Told};
 
@@ -64,11 +64,10 @@ pub extern "C" fn vahepito_open_groups(
     ensures opened { result ≡ DONE → HaveOpened (config_of config.now groups) senders.new receivers.new }
     ensures same { result ≢ DONE → (senders.new ≡ senders.old) × (receivers.new ≡ receivers.old) }
 {
-    let config = config.config(groups);
-    let why = refusal(&config, senders, receivers);
-    if why != DONE {
-        return why;
-    }
+    let config = match check(&config.config(groups), senders, receivers) {
+        Ok(config) => config,
+        Err(code) => return code,
+    };
     match open(alloc, &config, senders, receivers) {
         Ok(()) => DONE,
         Err(_) => NO_MEMORY,

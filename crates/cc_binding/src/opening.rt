@@ -1,20 +1,21 @@
 //! The opening of a queue for C.
-ghost use Rattle.std.specs.Prelude.{◌≡◌, ◌*◌, length, map, IfOk, IfErr, Some};
+ghost use Rattle.std.specs.Prelude.{◌≡◌, ◌≢◌, ◌*◌, length, map, IfOk, IfErr, OnOk, Some};
 ghost use Rattle.cc_queue.specs.Opened.{HasOpened};
 ghost use Rattle.cc_steps.specs.Walk.{IsOf, fresh_from};
 ghost use Rattle.cc_binding.specs.Passes.{walk_of};
 ghost use Rattle.cc_binding.specs.declared.kept.Pass.TheVariants as pass;
+ghost use Rattle.cc_binding.specs.declared.codes.TheConstants.{DONE};
 ghost use Rattle.std.specs.List.{list_all};
 ghost use Rattle.cc_binding.specs.Handles.{pass_of, is_empty};
 ghost use Rattle.cc_binding.specs.Opened.{config_of, field_code, are_free, refusal, HoldFresh, HaveOpened};
 
 use crate::codes::{
     BAD_BOUND, BAD_CAPACITY, BAD_GROUPS, BAD_HANDLES, BAD_LIFE, BAD_PER_SENDER, BAD_RECEIVERS,
-    BAD_SENDERS, DONE,
+    BAD_SENDERS,
 };
 use crate::handle::Handle;
 use crate::kept::{Kept, Pass, let_go};
-use cc_model::{Config, ConfigFault};
+use cc_model::{CheckedConfig, Config, ConfigFault};
 use cc_queue::{Opened, Queue, Receiver, Sender};
 use std::alloc::{AllocError, Global};
 
@@ -50,7 +51,8 @@ impl Settings {
 
 /// The code of a field that is out of its range.
 fn field_code(fault: ConfigFault) -> u32
-    ensures { result ≡ field_code fault }
+    ensures code { result ≡ field_code fault }
+    ensures told { result ≢ DONE }
 {
     match fault {
         ConfigFault::Senders => BAD_SENDERS,
@@ -77,18 +79,27 @@ fn are_free(handles: &[Handle], count: u32) -> bool
     handles.len() == count as usize && are_empty(handles)
 }
 
-/// Why a queue isn't opened, memory apart, or DONE.
-pub fn refusal(config: &Config, senders: &[Handle], receivers: &[Handle]) -> u32
-    ensures { result ≡ refusal config.now senders.now receivers.now }
+/// The configuration, once it is checked and the handles are found empty and as many as its passes; or the code for which
+/// the queue isn't opened.
+pub fn check(
+    config: &Config,
+    senders: &[Handle],
+    receivers: &[Handle],
+) -> Result<CheckedConfig, u32>
+    ensures config { IfOk result (λ c. c ≡ config.now) }
+    ensures free { OnOk result (refusal config.now senders.now receivers.now ≡ DONE) }
+    ensures refused { IfErr result (λ code. code ≡ refusal config.now senders.now receivers.now) }
+    ensures told { IfErr result (λ code. code ≢ DONE) }
 {
-    if let Err(fault) = config.check() {
-        return field_code(fault);
-    }
+    let checked = match CheckedConfig::of(config) {
+        Ok(checked) => checked,
+        Err(fault) => return Err(field_code(fault)),
+    };
     let all_receivers = config.groups * config.receivers;
     if are_free(senders, config.senders) && are_free(receivers, all_receivers) {
-        DONE
+        Ok(checked)
     } else {
-        BAD_HANDLES
+        Err(BAD_HANDLES)
     }
 }
 
@@ -181,10 +192,10 @@ fn hand_out(
     Ok(())
 }
 
-/// Opens a queue of a configuration that was checked, over handles that are empty.
+/// Opens a queue over handles that are empty.
 pub fn open(
     alloc: Global,
-    config: &Config,
+    config: &CheckedConfig,
     senders: &mut [Handle],
     receivers: &mut [Handle],
 ) -> Result<(), AllocError>
@@ -193,8 +204,6 @@ pub fn open(
     ensures opened { IfOk result (λ _. HaveOpened config.now senders.new receivers.new) }
     ensures same { IfErr result (λ _. (senders.new ≡ senders.old) × (receivers.new ≡ receivers.old)) }
 {
-    match Queue::open(alloc, config) {
-        Ok(opened) => hand_out(alloc, config, opened, senders, receivers),
-        Err(_) => Err(AllocError),
-    }
+    let opened = Queue::open_checked(alloc, config)?;
+    hand_out(alloc, config.config(), opened, senders, receivers)
 }
