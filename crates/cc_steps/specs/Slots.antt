@@ -1,11 +1,13 @@
 -- Where the words of a topic lie in its table: those that different threads write stand on different lines.
-use Rattle.std.specs.Prelude.{◌≡◌, ℕ, ◌/◌, List, IsTrue}
+use Rattle.std.specs.Prelude.{◌≡◌, ℕ, ◌+◌, ◌*◌, ◌/◌, List, IsTrue}
 use Rattle.cc_runs.specs.declared.word.NodeField.TheVariants.{Next}
 use Rattle.cc_runs.specs.declared.word.ItemField.TheVariants.{Tag}
 use Rattle.cc_runs.specs.declared.word.Object.TheVariants as object
 use Rattle.cc_runs.specs.declared.word.Word.{Word}
 use Rattle.cc_runs.specs.declared.word.Word.TheVariants as word
+use Rattle.cc_runs.specs.Words as laid
 use Rattle.cc_runs.specs.Words.{Layout, Spacing, exists, lies, row_size, word_in_row}
+use Rattle.cc_steps.specs.declared.layout.Starts.{Starts}
 
 -- A slot holds one word of 64 bits, a line 8 slots. Processors fetch lines in pairs, so what many threads wait for stands 16
 -- slots apart: each tail, the words of each side, each node of a chain. List nodes stand 8 apart.
@@ -15,6 +17,13 @@ spread = record { tail = 16; objects = 32; ends = 48; end_step = 32; end_words =
 -- the slot of a word
 abbrev pub slot : Layout → Word → ℕ
 slot l w = lies spread l w
+
+-- these are the slots where words of each kind begin
+pub record HasStarts (l : Layout) (s : Starts) : Type 0 where
+  pub send_nodes : s.send_nodes ≡ laid.send_nodes spread l
+  pub take_nodes : s.take_nodes ≡ laid.take_nodes spread l 0
+  pub group_nodes : s.group_nodes ≡ l.receivers + 1
+  pub items : s.items ≡ laid.items spread l
 
 -- how many slots a table has
 abbrev pub slot_count : Layout → ℕ
