@@ -122,6 +122,7 @@ fn scan(words: &Words, seat: &mut PassSeat, config: &Config, job: Job, parcel: P
 }
 
 /// Resets a free node, writes the item into it, and appends it.
+#[inline(always)]
 fn prepare(words: &Words, seat: &mut PassSeat, config: &Config, job: Job, parcel: Parcel, node: u64)
     requires here { IsOf words.now seat.old }
     requires list { IsListWith seat.old config.now }
@@ -137,6 +138,7 @@ fn prepare(words: &Words, seat: &mut PassSeat, config: &Config, job: Job, parcel
 }
 
 /// Links the prepared node behind the last one: here the item is accepted.
+#[inline(always)]
 fn append(words: &Words, seat: &mut PassSeat, config: &Config, job: Job, count: u64, node: u64)
     requires here { IsOf words.now seat.old }
     requires list { IsListWith seat.old config.now }
