@@ -1,5 +1,5 @@
 -- Where the words of a topic lie in its table: those that different threads write stand on different lines.
-use Rattle.std.specs.Prelude.{◌≡◌, ℕ, ◌+◌, ◌*◌, ◌/◌, List, IsTrue}
+use Rattle.std.specs.Prelude.{◌≡◌, ℕ, ◌/◌, ◌<◌, List, length, slice_index_or, IsTrue}
 use Rattle.cc_runs.specs.declared.word.NodeField.TheVariants.{Next}
 use Rattle.cc_runs.specs.declared.word.ItemField.TheVariants.{Tag}
 use Rattle.cc_runs.specs.declared.word.Object.TheVariants as object
@@ -21,8 +21,8 @@ slot l w = lies spread l w
 -- these are the slots where words of each kind begin
 pub record HasStarts (l : Layout) (s : Starts) : Type 0 where
   pub send_nodes : s.send_nodes ≡ laid.send_nodes spread l
-  pub take_nodes : s.take_nodes ≡ laid.take_nodes spread l 0
-  pub group_nodes : s.group_nodes ≡ l.receivers + 1
+  pub eight : length s.take_nodes ≡ 8
+  pub take_nodes : (g : ℕ) → g < l.groups → slice_index_or s.take_nodes g 0 ≡ laid.take_nodes spread l g
   pub items : s.items ≡ laid.items spread l
 
 -- how many slots a table has
