@@ -16,6 +16,7 @@ use cc_steps::steps;
 use cc_steps::words::Words;
 
 /// Serves one request of this chain, up to its mark.
+#[inline(always)]
 fn serve(words: &Words, seat: &mut PassSeat, config: &Config, chain: Chain, job: Job)
     requires here { IsOf words.now seat.old }
     requires list { IsListWith seat.old config.now }
@@ -30,6 +31,7 @@ fn serve(words: &Words, seat: &mut PassSeat, config: &Config, chain: Chain, job:
 }
 
 /// Serves requests from the own node on, at most `bound` of them, and hands over where it stops. Gives how many.
+#[inline(always)]
 pub fn combine(words: &Words, seat: &mut PassSeat, config: &Config, chain: Chain, node: u64) -> u32
     requires here { IsOf words.now seat.old }
     requires list { IsListWith seat.old config.now }

@@ -19,6 +19,7 @@ use cc_steps::words::Words;
 
 /// Reads the state of the current node once. Where it is 1 the call waits; where it is 0 the pass combines; and then
 /// its answer may be read, and this is how many calls it served.
+#[inline(always)]
 pub fn await_answer(
     words: &Words,
     seat: &mut PassSeat,
