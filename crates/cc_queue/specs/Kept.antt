@@ -1,5 +1,6 @@
 -- What holds of every pass, idle or with a pending call.
-use Rattle.std.specs.Prelude.{◌≡◌, ℕ, ◌<◌, ◌≤◌, List, [], ◌∷◌, ◌++◌, Ok}
+use Rattle.std.specs.Arc.{arc_value}
+use Rattle.std.specs.Prelude.{◌≡◌, ◌<◌, ◌≤◌, List, [], ◌∷◌, ◌++◌, Ok}
 use Rattle.cc_model.specs.Config.{config_fault}
 use Rattle.cc_model.specs.declared.config.Config.{Config}
 use Rattle.cc_model.specs.declared.call.Call.{Call}
@@ -10,7 +11,9 @@ use Rattle.cc_runs.specs.declared.setting.Served.TheVariants as served
 use Rattle.cc_runs.specs.declared.word.Chain.TheVariants.{Send, Take}
 use Rattle.cc_runs.specs.declared.place.Place.{Place}
 use Rattle.cc_steps.specs.Topic.{Topic}
-use Rattle.cc_steps.specs.Walk.{Walk, IsOf}
+use Rattle.cc_steps.specs.Walk.{IsOf}
+use Rattle.cc_queue.specs.declared.passes.SenderSeat.{SenderSeat}
+use Rattle.cc_queue.specs.declared.passes.ReceiverSeat.{ReceiverSeat}
 use Rattle.cc_queue.specs.Work.{IsOn}
 use Rattle.cc_queue.specs.Headline.{name}
 
@@ -20,26 +23,26 @@ pub record KeepsQueue (z : Topic) (c : Config) : Type 0 where
   pub checked : config_fault c ≡ Ok tt
   pub bound : 0 < c.bound
 
--- The sender of this number stands here, with this node and so many sends begun. Its seat is one of its queue's words.
-pub record KeepsSender (z : Topic) (w : Walk) (number limit begun node : ℕ) (at : Place) : Type 0 where
-  pub here : IsOf z w
-  pub list : w.setting.served ≡ served.List
-  pub chain : IsOn w Send
-  pub stand : w.stand ≡ record { begun = begun; node = node; place = at }
-  pub limit_is : limit ≡ w.setting.config.per_sender
-  pub few : begun ≤ limit
-  pub named : name w ≡ pass.Sender number
-  pub low : 1 ≤ number
-  pub high : number ≤ 64
+-- The sender of this seat stands here. The seat is one of its queue's words.
+pub record KeepsSender (s : SenderSeat) (at : Place) : Type 0 where
+  pub here : IsOf (arc_value s.words) s.seat
+  pub list : s.seat.setting.served ≡ served.List
+  pub chain : IsOn s.seat Send
+  pub stand : s.seat.stand ≡ record { begun = s.begun; node = s.node; place = at }
+  pub limit_is : s.limit ≡ s.seat.setting.config.per_sender
+  pub few : s.begun ≤ s.limit
+  pub named : name s.seat ≡ pass.Sender s.number
+  pub low : 1 ≤ s.number
+  pub high : s.number ≤ 64
 
--- The receiver of this number, of this group, from 0, stands here, with this node.
-pub record KeepsReceiver (z : Topic) (w : Walk) (number group node : ℕ) (at : Place) : Type 0 where
-  pub here : IsOf z w
-  pub list : w.setting.served ≡ served.List
-  pub chain : IsOn w (Take group)
-  pub few : group < 8
-  pub stand : w.stand ≡ record { begun = 0; node = node; place = at }
-  pub named : name w ≡ pass.Receiver number
+-- The receiver of this seat stands here.
+pub record KeepsReceiver (r : ReceiverSeat) (at : Place) : Type 0 where
+  pub here : IsOf (arc_value r.words) r.seat
+  pub list : r.seat.setting.served ≡ served.List
+  pub chain : IsOn r.seat (Take r.group)
+  pub few : r.group < 8
+  pub stand : r.seat.stand ≡ record { begun = 0; node = r.node; place = at }
+  pub named : name r.seat ≡ pass.Receiver r.number
 
 -- which calls are sends, and which are closes
 abbrev pub IsSend : Call → Type 0

@@ -32,7 +32,7 @@ pub fn meet(one: &mut Sender, other: &mut Receiver)
     ensures seen { other.new.seen ≡ one.new.seen }
     ensures longest { one.new.seen ≡ longer one.old.seen other.old.seen }
 {
-    meet_seats(&one.words, &mut one.seat, &mut other.seat);
+    meet_seats(&one.at.words, &mut one.at.seat, &mut other.at.seat);
 }
 
 /// The same of two senders.
@@ -43,7 +43,7 @@ pub fn meet_senders(one: &mut Sender, other: &mut Sender)
     ensures seen { other.new.seen ≡ one.new.seen }
     ensures longest { one.new.seen ≡ longer one.old.seen other.old.seen }
 {
-    meet_seats(&one.words, &mut one.seat, &mut other.seat);
+    meet_seats(&one.at.words, &mut one.at.seat, &mut other.at.seat);
 }
 
 /// The same of two receivers.
@@ -54,7 +54,7 @@ pub fn meet_receivers(one: &mut Receiver, other: &mut Receiver)
     ensures seen { other.new.seen ≡ one.new.seen }
     ensures longest { one.new.seen ≡ longer one.old.seen other.old.seen }
 {
-    meet_seats(&one.words, &mut one.seat, &mut other.seat);
+    meet_seats(&one.at.words, &mut one.at.seat, &mut other.at.seat);
 }
 
 /// The sender meets each of the others in turn.

@@ -12,119 +12,113 @@ use std::alloc::Global;
 use std::marker::Model;
 use std::sync::Arc;
 
+/// The seat of a sender on its queue's words, with what its calls need to know: its number from 1, how many sends it may
+/// begin and how many it has begun, and its node of the chain.
+#[derive(Drop)]
+pub struct SenderSeat {
+    pub words: Arc<Words, Global>,
+    pub seat: PassSeat,
+    pub number: u32,
+    pub limit: u32,
+    pub begun: u32,
+    pub node: u64,
+}
+
+/// The seat of a receiver on its queue's words, with its number from 1, its group from 0, and its node of the group's chain.
+#[derive(Drop)]
+pub struct ReceiverSeat {
+    pub words: Arc<Words, Global>,
+    pub seat: PassSeat,
+    pub number: u32,
+    pub group: u32,
+    pub node: u64,
+}
+
 /// A sender of a queue that has no call, numbered from 1.
 #[derive(Drop)]
 pub struct Sender {
-    pub(crate) words: Arc<Words, Global>,
-    pub(crate) seat: PassSeat,
-    pub(crate) number: u32,
-    pub(crate) limit: u32,
-    pub(crate) begun: u32,
-    pub(crate) node: u64,
+    pub(crate) at: SenderSeat,
 }
 
 impl Model for Sender {
-    ghost use Rattle.std.specs.Arc.{arc_value};
     ghost use Rattle.cc_steps.specs.Walk.{Walk};
     ghost use Rattle.cc_runs.specs.declared.place.Place.TheVariants.{Idle};
     ghost use Rattle.cc_queue.specs.Kept.{KeepsSender};
 
     ghost Value = { Walk };
 
-    ghost view = { λ s. s.seat };
+    ghost view = { λ s. s.at.seat };
 
-    ghost invariant = { λ s. KeepsSender (arc_value s.words) s.seat s.number s.limit s.begun s.node Idle };
+    ghost invariant = { λ s. KeepsSender s.at Idle };
 }
 
 /// A sender whose send is pending. It must be spent, by a turn or by `abandon`.
 pub struct PendingSend {
-    pub(crate) words: Arc<Words, Global>,
-    pub(crate) seat: PassSeat,
-    pub(crate) number: u32,
-    pub(crate) limit: u32,
-    pub(crate) begun: u32,
-    pub(crate) node: u64,
+    pub(crate) at: SenderSeat,
 }
 
 impl Model for PendingSend {
-    ghost use Rattle.std.specs.Arc.{arc_value};
     ghost use Rattle.cc_steps.specs.Walk.{Walk};
     ghost use Rattle.cc_runs.specs.declared.place.Place.TheVariants.{ReadState};
     ghost use Rattle.cc_queue.specs.Kept.{KeepsSender, MadeLast, IsSend};
 
     ghost Value = { Walk };
 
-    ghost view = { λ s. s.seat };
+    ghost view = { λ s. s.at.seat };
 
-    ghost invariant = { λ s. KeepsSender (arc_value s.words) s.seat s.number s.limit s.begun s.node ReadState × MadeLast IsSend s.seat.made };
+    ghost invariant = { λ s. KeepsSender s.at ReadState × MadeLast IsSend s.at.seat.made };
 }
 
 /// A sender whose close is pending. It must be spent, by a turn or by `abandon`.
 pub struct PendingClose {
-    pub(crate) words: Arc<Words, Global>,
-    pub(crate) seat: PassSeat,
-    pub(crate) number: u32,
-    pub(crate) limit: u32,
-    pub(crate) begun: u32,
-    pub(crate) node: u64,
+    pub(crate) at: SenderSeat,
 }
 
 impl Model for PendingClose {
-    ghost use Rattle.std.specs.Arc.{arc_value};
     ghost use Rattle.cc_steps.specs.Walk.{Walk};
     ghost use Rattle.cc_runs.specs.declared.place.Place.TheVariants.{ReadState};
     ghost use Rattle.cc_queue.specs.Kept.{KeepsSender, MadeLast, IsClose};
 
     ghost Value = { Walk };
 
-    ghost view = { λ s. s.seat };
+    ghost view = { λ s. s.at.seat };
 
-    ghost invariant = { λ s. KeepsSender (arc_value s.words) s.seat s.number s.limit s.begun s.node ReadState × MadeLast IsClose s.seat.made };
+    ghost invariant = { λ s. KeepsSender s.at ReadState × MadeLast IsClose s.at.seat.made };
 }
 
 /// A receiver of a queue that has no call, numbered from 1.
 #[derive(Drop)]
 pub struct Receiver {
-    pub(crate) words: Arc<Words, Global>,
-    pub(crate) seat: PassSeat,
-    pub(crate) number: u32,
-    pub(crate) group: u32,
-    pub(crate) node: u64,
+    pub(crate) at: ReceiverSeat,
 }
 
 impl Model for Receiver {
-    ghost use Rattle.std.specs.Arc.{arc_value};
     ghost use Rattle.cc_steps.specs.Walk.{Walk};
     ghost use Rattle.cc_runs.specs.declared.place.Place.TheVariants.{Idle};
     ghost use Rattle.cc_queue.specs.Kept.{KeepsReceiver};
 
     ghost Value = { Walk };
 
-    ghost view = { λ r. r.seat };
+    ghost view = { λ r. r.at.seat };
 
-    ghost invariant = { λ r. KeepsReceiver (arc_value r.words) r.seat r.number r.group r.node Idle };
+    ghost invariant = { λ r. KeepsReceiver r.at Idle };
 }
 
 /// A receiver whose take is pending. It must be spent, by a turn or by `abandon`.
 pub struct PendingTake {
-    pub(crate) words: Arc<Words, Global>,
-    pub(crate) seat: PassSeat,
-    pub(crate) number: u32,
-    pub(crate) group: u32,
-    pub(crate) node: u64,
+    pub(crate) at: ReceiverSeat,
 }
 
 impl Model for PendingTake {
-    ghost use Rattle.std.specs.Arc.{arc_value};
     ghost use Rattle.cc_steps.specs.Walk.{Walk};
     ghost use Rattle.cc_runs.specs.declared.place.Place.TheVariants.{ReadState};
     ghost use Rattle.cc_queue.specs.Kept.{KeepsReceiver};
 
     ghost Value = { Walk };
 
-    ghost view = { λ r. r.seat };
+    ghost view = { λ r. r.at.seat };
 
-    ghost invariant = { λ r. KeepsReceiver (arc_value r.words) r.seat r.number r.group r.node ReadState };
+    ghost invariant = { λ r. KeepsReceiver r.at ReadState };
 }
 
 /// What a turn of a send answers. `served` is how many requests this turn served: 0 where another pass had served the
@@ -166,15 +160,15 @@ impl Sender {
     pub fn number(&self) -> u32
         ensures { name self.now ≡ pass.Sender result }
     {
-        self.number
+        self.at.number
     }
 
     /// How many sends the sender has begun, whatever their answers.
     pub fn begun(&self) -> u32
         ensures { HasBegunSends self.now result }
     {
-        self.seat.stands();
-        self.begun
+        self.at.seat.stands();
+        self.at.begun
     }
 
     /// All that the sender has seen stands in one history, in which each of its calls has its answer: a fact for proofs,
@@ -183,7 +177,7 @@ impl Sender {
         ensures met { HasMet self.now self.now }
         ensures rest { IsAtRest self.now }
     {
-        self.seat.stands();
+        self.at.seat.stands();
     }
 }
 
@@ -194,7 +188,7 @@ impl Receiver {
         ensures met { HasMet self.now self.now }
         ensures rest { IsAtRest self.now }
     {
-        self.seat.stands();
+        self.at.seat.stands();
     }
 }
 
@@ -203,7 +197,7 @@ impl PendingSend {
     pub(crate) fn stands(&self)
         ensures { StandsInOne self.now [] self.now }
     {
-        self.seat.stands();
+        self.at.seat.stands();
     }
 }
 
@@ -212,7 +206,7 @@ impl PendingClose {
     pub(crate) fn stands(&self)
         ensures { StandsInOne self.now [] self.now }
     {
-        self.seat.stands();
+        self.at.seat.stands();
     }
 }
 
@@ -221,6 +215,6 @@ impl PendingTake {
     pub(crate) fn stands(&self)
         ensures { StandsInOne self.now [] self.now }
     {
-        self.seat.stands();
+        self.at.seat.stands();
     }
 }

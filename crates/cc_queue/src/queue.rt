@@ -9,7 +9,7 @@ ghost use Rattle.cc_steps.specs.Opened as opened_words;
 ghost use Rattle.cc_steps.specs.Walk.{fresh, fresh_from};
 ghost use Rattle.cc_queue.specs.Opened.{HasOpened};
 
-use crate::passes::{Receiver, Sender};
+use crate::passes::{Receiver, ReceiverSeat, Sender, SenderSeat};
 use cc_model::{CheckedConfig, Config};
 use cc_runs::OpenFault;
 use cc_steps::seats::PassSeat;
@@ -55,12 +55,14 @@ fn sender_on(words: Arc<Words, Global>, seat: PassSeat, config: &Config, row: u3
     ensures { result ≡ seat }
 {
     Sender {
-        words,
-        seat,
-        number: row + 1,
-        limit: config.per_sender,
-        begun: 0,
-        node: row as u64 + 1,
+        at: SenderSeat {
+            words,
+            seat,
+            number: row + 1,
+            limit: config.per_sender,
+            begun: 0,
+            node: row as u64 + 1,
+        },
     }
 }
 
@@ -73,11 +75,13 @@ fn receiver_on(words: Arc<Words, Global>, seat: PassSeat, config: &Config, place
     ensures { result ≡ seat }
 {
     Receiver {
-        words,
-        seat,
-        number: place + 1,
-        group: place / config.receivers,
-        node: (place % config.receivers) as u64 + 1,
+        at: ReceiverSeat {
+            words,
+            seat,
+            number: place + 1,
+            group: place / config.receivers,
+            node: (place % config.receivers) as u64 + 1,
+        },
     }
 }
 

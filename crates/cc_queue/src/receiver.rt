@@ -16,22 +16,10 @@ pub fn begin_take(queue: &Queue, receiver: Receiver) -> PendingTake
     requires { IsOf queue.now receiver }
     ensures { Begun receiver call.Take result }
 {
-    let Receiver {
-        words,
-        mut seat,
-        number,
-        group,
-        node,
-    } = receiver;
-    let node = begins::begin_take(&queue.words, &mut seat, group, node);
-    seat.stands();
-    PendingTake {
-        words,
-        seat,
-        number,
-        group,
-        node,
-    }
+    let Receiver { mut at } = receiver;
+    at.node = begins::begin_take(&queue.words, &mut at.seat, at.group, at.node);
+    at.seat.stands();
+    PendingTake { at }
 }
 
 /// One turn of a take: reads the state once. Where it is 1 the call waits; where it is 0 this pass serves its own call
@@ -40,31 +28,13 @@ pub fn turn_take(queue: &Queue, pending: PendingTake) -> TakeTurn
     requires { IsOf queue.now pending }
     ensures { TurnedTake pending result }
 {
-    let PendingTake {
-        words,
-        mut seat,
-        number,
-        group,
-        node,
-    } = pending;
-    let turn = turns::turn_take(&queue.words, &mut seat, &queue.config, group, node);
-    seat.stands();
+    let PendingTake { mut at } = pending;
+    let turn = turns::turn_take(&queue.words, &mut at.seat, &queue.config, at.group, at.node);
+    at.seat.stands();
     match turn {
-        None => TakeTurn::Waiting(PendingTake {
-            words,
-            seat,
-            number,
-            group,
-            node,
-        }),
+        None => TakeTurn::Waiting(PendingTake { at }),
         Some((answer, served)) => TakeTurn::Done {
-            receiver: Receiver {
-                words,
-                seat,
-                number,
-                group,
-                node,
-            },
+            receiver: Receiver { at },
             answer,
             served,
         },
@@ -76,26 +46,20 @@ impl Receiver {
     pub fn number(&self) -> u32
         ensures { name self.now ≡ pass.Receiver result }
     {
-        self.number
+        self.at.number
     }
 
     /// The group whose chain its takes go to, from 1.
     pub fn group(&self) -> u32
         ensures { Ranked self.now result }
     {
-        self.group + 1
+        self.at.group + 1
     }
 }
 
 impl PendingTake {
     /// Gives the receiver up with its call, which may stay unanswered, and may stop its chain.
     pub fn abandon(self) {
-        let PendingTake {
-            words: _,
-            seat: _,
-            number: _,
-            group: _,
-            node: _,
-        } = self;
+        let PendingTake { at: _ } = self;
     }
 }

@@ -4,7 +4,7 @@ ghost use Rattle.cc_model.specs.declared.call.Call.TheVariants as call;
 ghost use Rattle.cc_steps.specs.Walk.{IsOf};
 ghost use Rattle.cc_queue.specs.Calls.{Begun, TurnedSend, TurnedClose};
 
-use crate::begins;
+use crate::begins::begin_request;
 use crate::codes::{close_answer, send_answer};
 use crate::passes::{CloseTurn, PendingClose, PendingSend, SendTurn, Sender};
 use crate::queue::Queue;
@@ -20,31 +20,24 @@ pub fn begin_send(queue: &Queue, sender: Sender, body: u64) -> Result<PendingSen
     ensures same { IfErr result (λ s. s ≡ sender) }
     ensures worn { OnErr result (sender.setting.config.per_sender ≤ sender.stand.begun) }
 {
-    if sender.begun >= sender.limit {
+    if sender.at.begun >= sender.at.limit {
         return Err(sender);
     }
-    let Sender {
-        words,
-        mut seat,
-        number,
-        limit,
-        begun,
-        node,
-    } = sender;
+    let Sender { mut at } = sender;
+    at.begun += 1;
     let request = Request {
-        tag: pack(number, begun + 1),
+        tag: pack(at.number, at.begun),
         body,
     };
-    let node = begins::begin_request(&queue.words, &mut seat, node, Call::Send(body), request);
-    seat.stands();
-    Ok(PendingSend {
-        words,
-        seat,
-        number,
-        limit,
-        begun: begun + 1,
-        node,
-    })
+    at.node = begin_request(
+        &queue.words,
+        &mut at.seat,
+        at.node,
+        Call::Send(body),
+        request,
+    );
+    at.seat.stands();
+    Ok(PendingSend { at })
 }
 
 /// Begins a close.
@@ -52,25 +45,11 @@ pub fn begin_close(queue: &Queue, sender: Sender) -> PendingClose
     requires { IsOf queue.now sender }
     ensures { Begun sender call.Close result }
 {
-    let Sender {
-        words,
-        mut seat,
-        number,
-        limit,
-        begun,
-        node,
-    } = sender;
+    let Sender { mut at } = sender;
     let request = Request { tag: 0, body: 0 };
-    let node = begins::begin_request(&queue.words, &mut seat, node, Call::Close, request);
-    seat.stands();
-    PendingClose {
-        words,
-        seat,
-        number,
-        limit,
-        begun,
-        node,
-    }
+    at.node = begin_request(&queue.words, &mut at.seat, at.node, Call::Close, request);
+    at.seat.stands();
+    PendingClose { at }
 }
 
 /// One turn of a send: reads the state once. Where it is 1 the call waits; where it is 0 this pass serves its own call
@@ -79,34 +58,13 @@ pub fn turn_send(queue: &Queue, pending: PendingSend) -> SendTurn
     requires { IsOf queue.now pending }
     ensures { TurnedSend pending result }
 {
-    let PendingSend {
-        words,
-        mut seat,
-        number,
-        limit,
-        begun,
-        node,
-    } = pending;
-    let turn = turn_request(&queue.words, &mut seat, &queue.config, node);
-    seat.stands();
+    let PendingSend { mut at } = pending;
+    let turn = turn_request(&queue.words, &mut at.seat, &queue.config, at.node);
+    at.seat.stands();
     match turn {
-        None => SendTurn::Waiting(PendingSend {
-            words,
-            seat,
-            number,
-            limit,
-            begun,
-            node,
-        }),
+        None => SendTurn::Waiting(PendingSend { at }),
         Some((ret, served)) => SendTurn::Done {
-            sender: Sender {
-                words,
-                seat,
-                number,
-                limit,
-                begun,
-                node,
-            },
+            sender: Sender { at },
             answer: send_answer(ret),
             served,
         },
@@ -118,34 +76,13 @@ pub fn turn_close(queue: &Queue, pending: PendingClose) -> CloseTurn
     requires { IsOf queue.now pending }
     ensures { TurnedClose pending result }
 {
-    let PendingClose {
-        words,
-        mut seat,
-        number,
-        limit,
-        begun,
-        node,
-    } = pending;
-    let turn = turn_request(&queue.words, &mut seat, &queue.config, node);
-    seat.stands();
+    let PendingClose { mut at } = pending;
+    let turn = turn_request(&queue.words, &mut at.seat, &queue.config, at.node);
+    at.seat.stands();
     match turn {
-        None => CloseTurn::Waiting(PendingClose {
-            words,
-            seat,
-            number,
-            limit,
-            begun,
-            node,
-        }),
+        None => CloseTurn::Waiting(PendingClose { at }),
         Some((ret, served)) => CloseTurn::Done {
-            sender: Sender {
-                words,
-                seat,
-                number,
-                limit,
-                begun,
-                node,
-            },
+            sender: Sender { at },
             answer: close_answer(ret),
             served,
         },
@@ -157,34 +94,20 @@ impl Sender {
     pub fn is_worn(&self) -> bool
         ensures { result ≡ nat_le self.now.setting.config.per_sender self.now.stand.begun }
     {
-        self.begun >= self.limit
+        self.at.begun >= self.at.limit
     }
 }
 
 impl PendingSend {
     /// Gives the sender up with its call, which may stay unanswered, and may stop its chain.
     pub fn abandon(self) {
-        let PendingSend {
-            words: _,
-            seat: _,
-            number: _,
-            limit: _,
-            begun: _,
-            node: _,
-        } = self;
+        let PendingSend { at: _ } = self;
     }
 }
 
 impl PendingClose {
     /// Gives the sender up with its call, which may stay unanswered, and may stop its chain.
     pub fn abandon(self) {
-        let PendingClose {
-            words: _,
-            seat: _,
-            number: _,
-            limit: _,
-            begun: _,
-            node: _,
-        } = self;
+        let PendingClose { at: _ } = self;
     }
 }

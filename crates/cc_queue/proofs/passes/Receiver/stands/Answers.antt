@@ -3,7 +3,7 @@ use Rattle.cc_queue.proofs.Headline.{at_rest_so}
 use Rattle.cc_queue.proofs.passes.Receiver.stands.Goals as goal
 
 pub returns-clause-met : goal.returns-clause-met
-returns-clause-met c = met_self _ c.self.inside.seat 0 c.self.inside.node c.self.view_is c.self.invariant.list c.self.invariant.stand c.stands.ensures
+returns-clause-met c = met_self _ c.self.inside.at.seat 0 c.self.inside.at.node c.self.view_is c.self.invariant.list c.self.invariant.stand c.stands.ensures
 
 pub returns-clause-rest : goal.returns-clause-rest
-returns-clause-rest c = at_rest_so _ c.self.inside.seat 0 c.self.inside.node c.self.view_is c.self.invariant.list c.self.invariant.stand c.stands.ensures
+returns-clause-rest c = at_rest_so _ c.self.inside.at.seat 0 c.self.inside.at.node c.self.view_is c.self.invariant.list c.self.invariant.stand c.stands.ensures
