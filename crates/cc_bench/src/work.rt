@@ -1,11 +1,10 @@
 //! Threads that send, and threads that take.
-ghost use Rattle.std.specs.Prelude.{◌≡◌, IfSome, IfOk, OnOk, All, Ok};
+ghost use Rattle.std.specs.Prelude.{◌≡◌, IfOk, OnOk, All, Ok};
 ghost use Rattle.cc_steps.specs.Walk.{IsOf};
 ghost use Rattle.cc_bench.specs.Work.{Belongs, CameFrom};
 
 use cc_model::{SendAnswer, TakeAnswer};
-use cc_queue::{Opened, Queue, Receiver, Sender, close, send, take_until};
-use crossbeam_utils::Backoff;
+use cc_queue::{Opened, Queue, Receiver, Sender, close, send_until, take_until};
 use std::alloc::{AllocError, Global};
 use std::sync::Wait;
 use std::sync::atomic::{AtomicU64, Ordering};
@@ -18,32 +17,14 @@ pub enum Worker {
     Takes(Receiver),
 }
 
-/// Sends this body, again where the queue is full. None where it is closed, or the sender has sent all that it may.
-fn send_one<R: Wait>(rt: &R, queue: &Queue, sender: Sender, body: u64) -> Option<Sender>
-    requires { IsOf queue.now sender }
-    ensures { IfSome result (λ s. IsOf queue.now s) }
-{
-    let backoff = Backoff::new();
-    let mut sender = sender;
-    for _ in rt.forever() {
-        let (after, answer) = send(queue, rt, sender, body).ok()?;
-        match answer {
-            SendAnswer::Accepted { place: _ } => return Some(after),
-            SendAnswer::Full => sender = after,
-            _ => return None,
-        }
-        backoff.snooze();
-    }
-    unreachable!()
-}
-
-/// Sends so many items; the last sender that ends closes the queue.
+/// Sends so many items, each again where the queue is full; the last sender that ends closes the queue.
 fn send_all<R: Wait>(rt: &R, queue: &Queue, sender: Sender, items: u64, left: &AtomicU64) -> u64
     requires { IsOf queue.now sender }
 {
     let mut sender = sender;
     for body in 0..items {
-        let Some(after) = send_one(rt, queue, sender, body) else {
+        let Ok((after, SendAnswer::Accepted { place: _ })) = send_until(queue, rt, sender, body)
+        else {
             return 0;
         };
         sender = after;

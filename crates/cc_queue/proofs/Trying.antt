@@ -1,26 +1,22 @@
 -- Calls that a pass makes again until one has another answer.
-use Rattle.std.proofs.Common.{◌≡◌, List, [], ◌∷◌, ◌++◌, refl, sym, ap, ◌∙◌, subst}
+use Rattle.std.proofs.Common.{◌≡◌, ◌≢◌, ℕ, ◌<◌, ◌≤◌, inl, inr, List, [], ◌∷◌, ◌++◌, refl, sym, ap, ◌∙◌, subst}
+use Rattle.std.proofs.lemmas.Bool.{cases_lt}
 use Rattle.cc_model.specs.declared.call.Call.{Call}
 use Rattle.cc_model.specs.declared.call.Call.TheVariants as call
 use Rattle.cc_model.specs.declared.call.Answer.{Answer}
 use Rattle.cc_model.specs.declared.call.Answer.TheVariants as answer
 use Rattle.cc_model.specs.declared.call.Entry.{Entry}
+use Rattle.cc_model.specs.declared.call.SendAnswer.{SendAnswer}
+use Rattle.cc_model.specs.declared.call.SendAnswer.TheVariants as send
 use Rattle.cc_model.specs.declared.call.TakeAnswer.{TakeAnswer}
 use Rattle.cc_model.specs.declared.call.TakeAnswer.TheVariants as take
 use Rattle.cc_steps.specs.Walk.{Walk}
 use Rattle.cc_queue.specs.Headline.{StandsInOne, entry_of}
-use Rattle.cc_queue.specs.Calls.{Completed, IsSettled, Repeated, last_of, entries_of, TakenUntil}
+use Rattle.cc_queue.specs.Calls.{Completed, IsSettled, IsFinal, Repeated, Tried, last_of, entries_of, TakenUntil, SentUntil}
 use Rattle.cc_queue.proofs.Headline.{stands_more}
 
--- the calls so far were all answered so
-pub record Trying (call : Call) (told : Answer) (v w : Walk) : Type 0 where
-  pub tried : List Walk
-  pub each : Repeated call told v tried
-  pub here : last_of v tried ≡ w
-  pub stands : StandsInOne v (entries_of call v tried) w
-
 -- before the first of them
-pub trying_none : (call : Call) (told : Answer) (v : Walk) → StandsInOne v [] v → Trying call told v v
+pub trying_none : (call : Call) (told : Answer) (v : Walk) → StandsInOne v [] v → Tried call told v v
 trying_none call told v s = record { tried = []; each = tt; here = refl; stands = s }
 
 each_more : (call : Call) (told : Answer) (v : Walk) (ws : List Walk) (x : Walk) → Repeated call told v ws → Completed (last_of v ws) call told x → Repeated call told v (ws ++ x ∷ [])
@@ -36,13 +32,13 @@ entries_more call v [] x = refl
 entries_more call v (w ∷ ws) x = ap (λ (l : List Entry). entry_of v call ∷ l) (entries_more call w ws x)
 
 -- one more call
-one_more : (call : Call) (told other : Answer) (v w x : Walk) → (t : Trying call told v w) → Completed w call other x → Completed (last_of v t.tried) call other x × StandsInOne v (entries_of call v t.tried ++ entry_of (last_of v t.tried) call ∷ []) x
+one_more : (call : Call) (told other : Answer) (v w x : Walk) → (t : Tried call told v w) → Completed w call other x → Completed (last_of v t.tried) call other x × StandsInOne v (entries_of call v t.tried ++ entry_of (last_of v t.tried) call ∷ []) x
 one_more call told other v w x t c =
     let here : Completed (last_of v t.tried) call other x = subst (λ (u : Walk). Completed u call other x) (sym t.here) c in
     (here, subst (λ (u : Walk). StandsInOne v (entries_of call v t.tried ++ entry_of u call ∷ []) x) (sym t.here) (stands_more v w x (entries_of call v t.tried) (entry_of w call ∷ []) t.stands c.stands))
 
 -- that was answered as the others were
-pub trying_more : (call : Call) (told : Answer) (v w x : Walk) → Trying call told v w → Completed w call told x → Trying call told v x
+pub trying_more : (call : Call) (told : Answer) (v w x : Walk) → Tried call told v w → Completed w call told x → Tried call told v x
 trying_more call told v w x t c =
     let one = one_more call told told v w x t c in
     record {
@@ -53,7 +49,27 @@ trying_more call told v w x t c =
     }
 
 -- the last take
-pub taken_so : (v w x : Walk) (told : TakeAnswer) → Trying call.Take (answer.Take take.Empty) v w → Completed w call.Take (answer.Take told) x → IsSettled told → TakenUntil v told x
+pub taken_so : (v w x : Walk) (told : TakeAnswer) → Tried call.Take (answer.Take take.Empty) v w → Completed w call.Take (answer.Take told) x → IsSettled told → TakenUntil v told x
 taken_so v w x told t c settled =
     let one = one_more call.Take (answer.Take take.Empty) (answer.Take told) v w x t c in
     record { tried = t.tried; none = t.each; taken = one.0; stands = one.1; settled = settled }
+
+-- the last send
+pub sent_so : (v w x : Walk) (body : ℕ) (told : SendAnswer) → Tried (call.Send body) (answer.Send send.Full) v w → Completed w (call.Send body) (answer.Send told) x → IsFinal told → SentUntil v body told x
+sent_so v w x body told t c final =
+    let one = one_more (call.Send body) (answer.Send send.Full) (answer.Send told) v w x t c in
+    record { tried = t.tried; full = t.each; sent = one.0; stands = one.1; final = final }
+
+-- an answer that isn't Full
+pub final_unless : (told : SendAnswer) → told ≢ send.Full → IsFinal told
+final_unless (send.Accepted place) ne = tt
+final_unless send.Full ne = absurd (ne refl)
+final_unless send.Closed ne = tt
+final_unless send.Spent ne = tt
+
+-- a pass that may send now might have sent before it tried, where one that was worn then is where it was
+pub might_before : (v w : Walk) → (v.setting.config.per_sender ≤ v.stand.begun → w ≡ v) → w.stand.begun < w.setting.config.per_sender → v.stand.begun < v.setting.config.per_sender
+might_before v w same may = elim (cases_lt v.stand.begun v.setting.config.per_sender) [
+  | inl less ↦ less
+  | inr worn ↦ subst (λ (x : Walk). x.stand.begun < x.setting.config.per_sender) (same worn) may
+]

@@ -3,6 +3,8 @@ use Rattle.std.specs.Prelude.{◌≡◌, ℕ, ◌+◌, ◌*◌, ◌≤◌, ◌==
 use Rattle.cc_model.specs.declared.call.Call.{Call}
 use Rattle.cc_model.specs.declared.call.Call.TheVariants as call
 use Rattle.cc_model.specs.declared.call.Entry.{Entry}
+use Rattle.cc_model.specs.declared.call.SendAnswer.{SendAnswer}
+use Rattle.cc_model.specs.declared.call.SendAnswer.TheVariants as send
 use Rattle.cc_model.specs.declared.call.TakeAnswer.{TakeAnswer}
 use Rattle.cc_model.specs.declared.call.TakeAnswer.TheVariants as take
 use Rattle.cc_model.specs.declared.call.Answer.{Answer}
@@ -78,6 +80,11 @@ abbrev pub IsSettled : TakeAnswer → Type 0
 IsSettled take.Empty = ⊥
 IsSettled _ = Unit {0}
 
+-- a send was accepted, or never will be: the queue is closed, or has had all its items
+abbrev pub IsFinal : SendAnswer → Type 0
+IsFinal send.Full = ⊥
+IsFinal _ = Unit {0}
+
 -- The same call, made again and again: the pass after each of them. Each was completed with this answer.
 abbrev pub Repeated : Call → Answer → Walk → List Walk → Type 0
 Repeated call told v [] = Unit {0}
@@ -93,6 +100,14 @@ abbrev pub entries_of : Call → Walk → List Walk → List Entry
 entries_of call v [] = []
 entries_of call v (w ∷ ws) = entry_of v call ∷ entries_of call w ws
 
+-- The same call was made again and again, and each time completed with this answer, until the pass came here. All of them
+-- stand in one history.
+pub record Tried (call : Call) (told : Answer) (v w : Walk) : Type 0 where
+  pub tried : List Walk
+  pub each : Repeated call told v tried
+  pub here : last_of v tried ≡ w
+  pub stands : StandsInOne v (entries_of call v tried) w
+
 -- Takes that were made until one of them gave an item or the end: each of the earlier ones was completed as a take that
 -- found nothing, and then the last one was completed so. All of them stand in one history.
 pub record TakenUntil (v : Walk) (told : TakeAnswer) (w : Walk) : Type 0 where
@@ -101,3 +116,12 @@ pub record TakenUntil (v : Walk) (told : TakeAnswer) (w : Walk) : Type 0 where
   pub taken : Completed (last_of v tried) call.Take (answer.Take told) w
   pub stands : StandsInOne v (entries_of call.Take v tried ++ entry_of (last_of v tried) call.Take ∷ []) w
   pub settled : IsSettled told
+
+-- Sends of this body that were made until one of them was accepted, or told that none will be: each of the earlier ones was
+-- completed as a send that found the queue full, and then the last one was completed so. All of them stand in one history.
+pub record SentUntil (v : Walk) (body : ℕ) (told : SendAnswer) (w : Walk) : Type 0 where
+  pub tried : List Walk
+  pub full : Repeated (call.Send body) (answer.Send send.Full) v tried
+  pub sent : Completed (last_of v tried) (call.Send body) (answer.Send told) w
+  pub stands : StandsInOne v (entries_of (call.Send body) v tried ++ entry_of (last_of v tried) (call.Send body) ∷ []) w
+  pub final : IsFinal told

@@ -4,7 +4,8 @@ ghost use Rattle.cc_model.specs.declared.call.Answer.TheVariants as answer;
 ghost use Rattle.cc_model.specs.declared.call.Call.TheVariants as call;
 ghost use Rattle.cc_steps.specs.Walk.{IsOf};
 ghost use Rattle.cc_queue.specs.Headline.{StandsInOne};
-ghost use Rattle.cc_queue.specs.Calls.{Completed, Ended, TakenUntil};
+ghost use Rattle.cc_model.specs.declared.call.SendAnswer.TheVariants as send_answer;
+ghost use Rattle.cc_queue.specs.Calls.{Completed, Ended, SentUntil, TakenUntil, Tried};
 
 use crate::passes::{
     CloseTurn, PendingClose, PendingSend, PendingTake, Receiver, SendTurn, Sender, TakeTurn,
@@ -131,6 +132,36 @@ pub fn take_until<R: Wait>(queue: &Queue, rt: &R, receiver: Receiver) -> (Receiv
         match answer {
             TakeAnswer::Empty => receiver = after,
             _ => return (after, answer),
+        }
+        backoff.snooze();
+    }
+    unreachable!()
+}
+
+/// Sends this body, again where the queue was full, until it is accepted, or told that none will be: the queue is closed, or
+/// has had all its items. Err hands the sender back where it has begun as many sends as one sender may, each of which since
+/// this call was told that the queue is full; and unchanged where it had begun so many before.
+pub fn send_until<R: Wait>(
+    queue: &Queue,
+    rt: &R,
+    sender: Sender,
+    body: u64,
+) -> Result<(Sender, SendAnswer), Sender>
+    requires { IsOf queue.now sender }
+    ensures sent { IfOk result (λ r. SentUntil sender body r.1 r.0) }
+    ensures may { OnOk result (sender.stand.begun < sender.setting.config.per_sender) }
+    ensures full { IfErr result (λ s. Tried (call.Send body) (answer.Send send_answer.Full) sender s) }
+    ensures worn { IfErr result (λ s. s.setting.config.per_sender ≤ s.stand.begun) }
+    ensures same { IfErr result (λ s. sender.setting.config.per_sender ≤ sender.stand.begun → s ≡ sender) }
+{
+    let backoff = Backoff::new();
+    let mut sender = sender;
+    sender.stands();
+    for _ in rt.forever() {
+        let (after, answer) = send(queue, rt, sender, body)?;
+        match answer {
+            SendAnswer::Full => sender = after,
+            _ => return Ok((after, answer)),
         }
         backoff.snooze();
     }

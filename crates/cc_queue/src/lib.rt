@@ -24,7 +24,7 @@ mod takes;
 mod tell;
 mod turns;
 
-pub use blocking::{close, send, take, take_until};
+pub use blocking::{close, send, send_until, take, take_until};
 pub use cc_model::{CloseAnswer, Config, ConfigFault, Item, SendAnswer, TakeAnswer};
 pub use cc_runs::OpenFault;
 pub use meets::{meet, meet_all, meet_receivers, meet_senders};

@@ -4,7 +4,7 @@ use crate::calls::{
     wait_send, wait_take,
 };
 use cc_model::{CloseAnswer, Config, Item, SendAnswer, TakeAnswer};
-use cc_queue::{begin_close, begin_take, meet};
+use cc_queue::{begin_close, begin_take, meet, send_until};
 
 /// The answer of a take that got this item.
 fn got(place: u64, sender: u32, number: u32, body: u64) -> TakeAnswer {
@@ -91,6 +91,42 @@ fn full_until_taken(rt: HostRuntime) {
     assert_eq!(rt; answer, got(0, 1, 1, 5));
     let (_, answer) = send(&rt, &queue, second, 7);
     assert_eq!(rt; answer, SendAnswer::Accepted { place: 1 });
+}
+
+/// A send that is made until it is accepted tries again where the queue is full, until its sender is worn. It ends where the
+/// queue is closed.
+#[test]
+fn sent_until_accepted(rt: HostRuntime) {
+    let narrow = Config {
+        capacity: 1,
+        per_sender: 3,
+        ..SMALL
+    };
+    let (queue, first, second, receiver) = opened(&rt, rt.alloc(), &narrow);
+    let Ok((first, answer)) = send_until(&queue, &rt, first, 5) else {
+        panic!(rt; "the first sender is worn")
+    };
+    assert_eq!(rt; answer, SendAnswer::Accepted { place: 0 });
+    let Err(first) = send_until(&queue, &rt, first, 6) else {
+        panic!(rt; "a send to a full queue was answered")
+    };
+    assert_eq!(rt; first.begun(), 3);
+    let (_, answer) = take(&rt, &queue, receiver);
+    assert_eq!(rt; answer, got(0, 1, 1, 5));
+    let Err(first) = send_until(&queue, &rt, first, 6) else {
+        panic!(rt; "a worn sender sent")
+    };
+    let Ok((second, answer)) = send_until(&queue, &rt, second, 7) else {
+        panic!(rt; "the second sender is worn")
+    };
+    assert_eq!(rt; answer, SendAnswer::Accepted { place: 1 });
+    let (_, answer) = close(&rt, &queue, first);
+    assert_eq!(rt; answer, CloseAnswer::Shut { total: 2 });
+    let Ok((second, answer)) = send_until(&queue, &rt, second, 8) else {
+        panic!(rt; "the second sender is worn")
+    };
+    assert_eq!(rt; answer, SendAnswer::Closed);
+    assert_eq!(rt; second.begun(), 2);
 }
 
 /// After a close sends and closes are told so, and the receiver takes what is left and then finds the end, each time.

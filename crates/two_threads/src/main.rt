@@ -9,40 +9,24 @@ ghost use Rattle.cc_steps.specs.Walk.{IsOf};
 mod in_turns;
 
 use cc_model::{Config, SendAnswer, TakeAnswer};
-use cc_queue::{Opened, Queue, Receiver, Sender, close, send, take_until};
-use crossbeam_utils::Backoff;
+use cc_queue::{Opened, Queue, Receiver, Sender, close, send_until, take_until};
 use in_turns::one_thread;
 use std::io;
 use std::process::ExitCode;
 use std::sync::Wait;
 use std::thread::{Threads, join};
 
-/// Sends this body, again where the queue is full. None where it is closed, or the sender has sent all that it may.
-fn send_one<R: Wait>(rt: &R, queue: &Queue, sender: Sender, body: u64) -> Option<Sender>
-    requires { IsOf queue.now sender }
-    ensures { IfSome result (λ s. IsOf queue.now s) }
-{
-    let backoff = Backoff::new();
-    let mut sender = sender;
-    for _ in rt.forever() {
-        let (after, answer) = send(queue, rt, sender, body).ok()?;
-        match answer {
-            SendAnswer::Accepted { place: _ } => return Some(after),
-            SendAnswer::Full => sender = after,
-            _ => return None,
-        }
-        backoff.snooze();
-    }
-    unreachable!()
-}
-
-/// Sends the bodies 1 to 100, and closes the queue.
+/// Sends the bodies 1 to 100, each again where the queue is full, and closes the queue. None where a send isn't accepted.
 fn send_all<R: Wait>(rt: &R, queue: &Queue, sender: Sender) -> Option<u64>
     requires { IsOf queue.now sender }
 {
     let mut sender = sender;
     for body in 1..101u64 {
-        sender = send_one(rt, queue, sender, body)?;
+        let (after, answer) = send_until(queue, rt, sender, body).ok()?;
+        let SendAnswer::Accepted { place: _ } = answer else {
+            return None;
+        };
+        sender = after;
     }
     close(queue, rt, sender);
     Some(100)
