@@ -1,5 +1,5 @@
 -- In a lawful history each answer is one of its call's own kind.
-use Rattle.std.proofs.Common.{suc, get_or, ◌≤◌, inl, inr, ◌≡◌, ℕ, ◌+◌, Bool, true, false, ◌||◌, List, [], ◌∷◌, ◌++◌, map, length, Option, Some, None, if◌then◌else◌, refl, sym, ap, ◌∙◌, subst, arith, length-append}
+use Rattle.std.proofs.Common.{suc, get_or, inl, inr, ◌≡◌, ℕ, ◌+◌, Bool, true, false, ◌||◌, List, [], ◌∷◌, ◌++◌, map, length, Option, Some, None, if◌then◌else◌, refl, sym, ap, ◌∙◌, subst, arith, length-append}
 use Rattle.std.specs.List.{flat_map, AllByRecursion, filter}
 use Rattle.cc_model.specs.Record.{Side, Record, silent, of_group}
 use Rattle.std.proofs.lemmas.Bool.{cases_lt}

@@ -1,5 +1,5 @@
 -- What a pass has seen stands in one history.
-use Rattle.std.proofs.Common.{◌/◌, arith, ◌≡◌, ◌≢◌, ℕ, ◌+◌, ◌*◌, ◌≤◌, ◌==◌, if◌then◌else◌, List, [], ◌∷◌, ◌++◌, map, refl, sym, ap, ◌∙◌, subst, append-nil, append_assoc, Bool, true, false, nat_lt, ◌-◌}
+use Rattle.std.proofs.Common.{◌/◌, arith, ◌≡◌, ◌≢◌, ℕ, ◌+◌, ◌*◌, ◌≤◌, if◌then◌else◌, List, [], ◌∷◌, ◌++◌, map, refl, sym, ap, ◌∙◌, subst, append-nil, append_assoc, Bool, true, false, nat_lt, ◌-◌}
 use Rattle.cc_model.specs.declared.config.Config.{Config}
 use Rattle.std.specs.List.{AllByRecursion}
 use Rattle.cc_model.specs.Items.{HasAnswer, Begins, calls_of}
@@ -12,7 +12,6 @@ use Rattle.cc_runs.specs.declared.run.Move.{Move}
 use Rattle.cc_runs.specs.declared.setting.Setting.{Setting}
 use Rattle.cc_runs.specs.declared.setting.Served.TheVariants as served
 use Rattle.cc_runs.specs.declared.place.Stand.{Stand}
-use Rattle.cc_runs.specs.declared.place.Kind.TheVariants as kind
 use Rattle.cc_runs.specs.declared.place.Place.{Place}
 use Rattle.cc_runs.specs.declared.place.Place.TheVariants as place
 use Rattle.cc_runs.specs.ChainLaws.{IsLastAnswer}
@@ -31,7 +30,7 @@ use Rattle.cc_steps.specs.Walk.{Walk, IsOf, IsSameSeat, IsSound, IsPendingIn}
 use Rattle.cc_runs.specs.Columns.{group_of}
 use Rattle.cc_queue.specs.Group.{IsGroupOf, Ranked}
 use Rattle.cc_queue.specs.Headline.{StandsInOne, IsAtRest, entry_of, name, history}
-use Rattle.cc_queue.specs.Work.{IsOn, worked_to, tally, reads, marks, hands, scans}
+use Rattle.cc_queue.specs.Work.{IsOn, Works, Waits, Enters, turned, worked_to, tally, scans}
 use Rattle.cc_queue.specs.Calls.{Begun, Waited, Answered, Ended, Completed, IsSettled}
 use Rattle.cc_queue.specs.Codes.{IsSendAnswer, IsCloseAnswer}
 use Rattle.cc_queue.specs.Kept.{MadeLast, IsSend, IsClose}
@@ -77,22 +76,21 @@ pub stands_on : (v w : Walk) (calls : List Entry) (begun node : ℕ) (at : Place
 stands_on v w calls begun node at stand out s list same on made_is = stands_in_one v w calls s (ap (λ (c : Setting). c.served) same.1 ∙ list) (ap (λ (x : Stand). to_exchange x.place) stand ∙ out) same on made_is
 
 -- a call that was begun; a caller knows the pass as u
-pub begun_so : (u v w : Walk) (call : Call) (node : ℕ) → v ≡ u → v.setting.served ≡ served.List → IsSound w → IsSameSeat v w → Onward v.seen w.seen → w.made ≡ v.made ++ entry_of v call ∷ []
-    → w.stand ≡ record { begun = begun_after call v.stand.begun; node = node; place = place.ReadState } → IsPendingIn w → tally reads w.did ≡ tally reads v.did → tally marks w.did ≡ tally marks v.did → Begun u call w
-begun_so u v w call node is list s same on made_is stand pending read marked = subst (λ (x : Walk). Begun x call w) is (record {
-  stands = stands_on v w (entry_of v call ∷ []) (begun_after call v.stand.begun) node place.ReadState stand refl s list same on made_is;
+pub begun_so : (u v w : Walk) (call : Call) (node : ℕ) → v ≡ u → v.setting.served ≡ served.List → IsSound w → Enters v call record { begun = begun_after call v.stand.begun; node = node; place = place.ReadState } w → IsPendingIn w → Begun u call w
+begun_so u v w call node is list s e pending = subst (λ (x : Walk). Begun x call w) is (record {
+  stands = stands_on v w (entry_of v call ∷ []) (begun_after call v.stand.begun) node place.ReadState e.stand refl s list e.same e.later e.made;
   pending = pending;
-  begun = ap (λ (x : Stand). x.begun) stand;
-  reads = read;
-  marks = marked;
+  begun = ap (λ (x : Stand). x.begun) e.stand;
+  reads = e.reads;
+  marks = e.marks;
 })
 
 -- a turn that waits
-pub waited_so : (u v w : Walk) → v ≡ u → v.setting.served ≡ served.List → v.stand.place ≡ place.ReadState → IsSound w → w ≡ worked_to v place.ReadState w → w.did ≡ kind.ReadState ∷ v.did → Onward v.seen w.seen → Waited u w
-waited_so u v w is list at s worked did on = subst (λ (x : Walk). Waited x w) is (record {
-  stands = stands_on v w [] v.stand.begun v.stand.node place.ReadState (ap (λ (x : Walk). x.stand) worked) refl s list (seat_of v w place.ReadState worked) on (made_of v w place.ReadState worked);
-  still = ap (λ (x : Walk). x.stand) worked ∙ (λ i. record { begun = v.stand.begun; node = v.stand.node; place = sym at i });
-  did = did;
+pub waited_so : (u v w : Walk) → v ≡ u → v.setting.served ≡ served.List → v.stand.place ≡ place.ReadState → IsSound w → Waits v w → Waited u w
+waited_so u v w is list at s e = subst (λ (x : Walk). Waited x w) is (record {
+  stands = stands_on v w [] v.stand.begun v.stand.node place.ReadState (ap (λ (x : Walk). x.stand) e.worked) refl s list (seat_of v w place.ReadState e.worked) e.later (made_of v w place.ReadState e.worked);
+  still = ap (λ (x : Walk). x.stand) e.worked ∙ (λ i. record { begun = v.stand.begun; node = v.stand.node; place = sym at i });
+  did = e.did;
 })
 
 -- the pass and its queue are of one list with this configuration
@@ -100,18 +98,16 @@ pub listed : (q z : Topic) (u v : Walk) (c : Config) → q ≡ z → q.setting �
 listed q z u v c same list here is = ap (λ (x : Walk). x.setting) is ∙ here.1 ∙ sym (ap (λ (x : Topic). x.setting) same) ∙ list
 
 -- a turn that is done
-pub answered_so : (u v w : Walk) (c : Config) (told : Answer) (n : ℕ) → v ≡ u → v.setting ≡ record { served = served.List; config = c } → IsSound w → w ≡ worked_to v place.Idle w → IsLastAnswer (name w) (history w) told
-    → tally reads w.did ≡ 1 + tally reads v.did → tally marks w.did ≡ n + tally marks v.did → tally hands w.did ≡ (if n == 0 then 0 else 1) + tally hands v.did → n ≤ c.bound → tally scans w.did ≤ n * (c.capacity + 1) + tally scans v.did → Onward v.seen w.seen
-    → Answered u told n w
-answered_so u v w c told n is list s worked last read marked handed few scanned on = subst (λ (x : Walk). Answered x told n w) is (record {
-  stands = stands_on v w [] v.stand.begun v.stand.node place.Idle (ap (λ (x : Walk). x.stand) worked) refl s (ap (λ (x : Setting). x.served) list) (seat_of v w place.Idle worked) on (made_of v w place.Idle worked);
+pub answered_so : (u v w : Walk) (c : Config) (told : Answer) (n : ℕ) → v ≡ u → v.setting ≡ record { served = served.List; config = c } → IsSound w → Works v place.Idle (turned c n) w → IsLastAnswer (name w) (history w) told → n ≤ c.bound → Answered u told n w
+answered_so u v w c told n is list s e last few = subst (λ (x : Walk). Answered x told n w) is (record {
+  stands = stands_on v w [] v.stand.begun v.stand.node place.Idle (ap (λ (x : Walk). x.stand) e.worked) refl s (ap (λ (x : Setting). x.served) list) (seat_of v w place.Idle e.worked) e.later (made_of v w place.Idle e.worked);
   last = last;
-  begun = ap (λ (x : Walk). x.stand.begun) worked;
-  reads = read;
-  marks = marked;
-  hands = handed;
+  begun = ap (λ (x : Walk). x.stand.begun) e.worked;
+  reads = e.reads;
+  marks = e.marks;
+  hands = e.hands;
   few = subst (λ (x : Setting). n ≤ x.config.bound) (sym list) few;
-  scans = subst (λ (x : Setting). tally scans w.did ≤ n * (x.config.capacity + 1) + tally scans v.did) (sym list) scanned;
+  scans = subst (λ (x : Setting). tally scans w.did ≤ n * (x.config.capacity + 1) + tally scans v.did) (sym list) e.scans;
 })
 
 -- a send that is told its answer is told one of a send

@@ -1,5 +1,5 @@
-pub mod Work
 pub mod Headline
+pub mod Work
 pub mod Codes
 pub mod Kept
 pub mod SendCount

@@ -1,15 +1,18 @@
 -- A part of a call, as its seat sees it: where its pass has come, and which steps it did.
-use Rattle.std.specs.Prelude.{◌≡◌, ℕ, ◌≤◌, ◌+◌, ◌==◌, if◌then◌else◌, List, [], ◌∷◌}
+use Rattle.std.specs.Prelude.{◌≡◌, ℕ, ◌≤◌, ◌+◌, ◌==◌, if◌then◌else◌, ◌*◌, List, [], ◌∷◌, ◌++◌}
+use Rattle.cc_model.specs.declared.call.Call.{Call}
 use Rattle.cc_model.specs.declared.config.Config.{Config}
 use Rattle.cc_runs.specs.declared.setting.Served.TheVariants as served
 use Rattle.cc_runs.specs.declared.word.Chain.{Chain}
 use Rattle.cc_runs.specs.declared.place.Place.{Place}
 use Rattle.cc_runs.specs.declared.place.Place.TheVariants as place
+use Rattle.cc_runs.specs.declared.place.Stand.{Stand}
 use Rattle.cc_runs.specs.declared.place.Kind.{Kind}
 use Rattle.cc_runs.specs.declared.place.Kind.TheVariants as kind
 use Rattle.cc_runs.specs.State.{chain_of}
 use Rattle.cc_steps.specs.Seen.{Onward}
-use Rattle.cc_steps.specs.Walk.{Walk}
+use Rattle.cc_steps.specs.Walk.{Walk, IsSameSeat}
+use Rattle.cc_queue.specs.Headline.{entry_of}
 
 -- the pass is on this chain
 abbrev pub IsOn : Walk → Chain → Type 0
@@ -52,12 +55,50 @@ worked_to v at w = record v { seen = w.seen; did = w.did; stand = record v.stand
 abbrev pub round_place : ℕ → ℕ → ℕ → Place
 round_place bound at served = if served == bound then place.HandOver at else place.ReadNext record { at = at; served = served }
 
--- Within the service of one request the pass has gone on to this place: it read no state, marked nothing, handed nothing over, and
--- looked whether a list node is free so many times at most.
-pub record Serves (v : Walk) (at : Place) (most : ℕ) (w : Walk) : Type 0 where
+-- Of the steps that are counted: how many states a pass read, requests it marked, hand-overs it made, and at most how often it
+-- looked whether a list node is free.
+pub record Tally : Type 0 where
+  pub reads : ℕ
+  pub marks : ℕ
+  pub hands : ℕ
+  pub scans : ℕ
+
+-- it looked so often at most, and did nothing else that is counted
+abbrev pub looked : ℕ → Tally
+looked most = record { reads = 0; marks = 0; hands = 0; scans = most }
+
+-- a combiner served so many requests: it marked each, looked at each list node once at most for each, and handed over so often
+abbrev pub combined : Config → (served hands : ℕ) → Tally
+combined c served hands = record { reads = 0; marks = served; hands = hands; scans = served * (c.capacity + 1) }
+
+-- a turn reads the state once, and hands over where it served any
+abbrev pub turned : Config → (served : ℕ) → Tally
+turned c served = record { reads = 1; marks = served; hands = if served == 0 then 0 else 1; scans = served * (c.capacity + 1) }
+
+-- Within its call the pass has gone on to this place, and did so much on the way.
+pub record Works (v : Walk) (at : Place) (done : Tally) (w : Walk) : Type 0 where
   pub worked : w ≡ worked_to v at w
+  pub reads : tally reads w.did ≡ done.reads + tally reads v.did
+  pub marks : tally marks w.did ≡ done.marks + tally marks v.did
+  pub hands : tally hands w.did ≡ done.hands + tally hands v.did
+  pub scans : tally scans w.did ≤ done.scans + tally scans v.did
+  pub later : Onward v.seen w.seen
+
+-- the same within the service of one request
+abbrev pub Serves : Walk → Place → (most : ℕ) → Walk → Type 0
+Serves v at most w = Works v at (looked most) w
+
+-- the pass read its state once, which says that its call waits
+pub record Waits (v w : Walk) : Type 0 where
+  pub worked : w ≡ worked_to v place.ReadState w
+  pub did : w.did ≡ kind.ReadState ∷ v.did
+  pub later : Onward v.seen w.seen
+
+-- the pass began this call, by which it came to stand here, and neither read a state nor marked a request
+pub record Enters (v : Walk) (call : Call) (at : Stand) (w : Walk) : Type 0 where
+  pub same : IsSameSeat v w
+  pub stand : w.stand ≡ at
+  pub made : w.made ≡ v.made ++ entry_of v call ∷ []
   pub reads : tally reads w.did ≡ tally reads v.did
   pub marks : tally marks w.did ≡ tally marks v.did
-  pub hands : tally hands w.did ≡ tally hands v.did
-  pub scans : tally scans w.did ≤ most + tally scans v.did
   pub later : Onward v.seen w.seen

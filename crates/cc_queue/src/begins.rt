@@ -6,11 +6,10 @@ ghost use Rattle.cc_runs.specs.declared.place.Place.TheVariants as place;
 ghost use Rattle.cc_runs.specs.Codes.{request_in};
 ghost use Rattle.cc_runs.specs.Columns.{after_exchange};
 ghost use Rattle.cc_runs.specs.Run.{begun_after};
-ghost use Rattle.cc_steps.specs.Seen.{Onward};
 ghost use Rattle.cc_steps.specs.Shown.{CanStart};
 ghost use Rattle.cc_runs.specs.declared.setting.Served.TheVariants as served;
-ghost use Rattle.cc_steps.specs.Walk.{IsOf, IsSameSeat, IsReadyToStep, IsPendingIn};
-ghost use Rattle.cc_queue.specs.Work.{IsOn, tally, reads, marks};
+ghost use Rattle.cc_steps.specs.Walk.{IsOf, IsReadyToStep, IsPendingIn};
+ghost use Rattle.cc_queue.specs.Work.{IsOn, Enters};
 ghost use Rattle.cc_queue.specs.Headline.{entry_of};
 
 use cc_model::Call;
@@ -26,13 +25,8 @@ fn exchange(words: &Words, seat: &mut PassSeat, chain: Chain, node: u64, call: C
     requires chain { IsOn seat.old chain }
     requires idle { seat.old.stand ≡ record { begun = seat.old.stand.begun; node = node; place = place.Idle } }
     requires may { CanStart seat.old.setting seat.old.number (Some call) seat.old.stand }
-    ensures same { IsSameSeat seat.old seat.new }
-    ensures stand { seat.new.stand ≡ record { begun = begun_after call seat.old.stand.begun; node = result; place = after_exchange chain node (entry_of seat.old call) } }
-    ensures made { seat.new.made ≡ seat.old.made ++ entry_of seat.old call ∷ [] }
-    ensures reads { tally reads seat.new.did ≡ tally reads seat.old.did }
-    ensures marks { tally marks seat.new.did ≡ tally marks seat.old.did }
+    ensures entered { Enters seat.old call record { begun = begun_after call seat.old.stand.begun; node = result; place = after_exchange chain node (entry_of seat.old call) } seat.new }
     ensures ready { IsReadyToStep seat.new }
-    ensures later { Onward seat.old.seen seat.new.seen }
 {
     steps::reset_next(words, seat, chain, node, call);
     steps::reset_state(words, seat, chain, node);
@@ -53,13 +47,8 @@ pub fn begin_request(
     requires idle { seat.old.stand ≡ record { begun = seat.old.stand.begun; node = node; place = place.Idle } }
     requires may { CanStart seat.old.setting seat.old.number (Some call) seat.old.stand }
     requires request { request ≡ request_in (entry_of seat.old call) }
-    ensures same { IsSameSeat seat.old seat.new }
-    ensures stand { seat.new.stand ≡ record { begun = begun_after call seat.old.stand.begun; node = result; place = place.ReadState } }
-    ensures made { seat.new.made ≡ seat.old.made ++ entry_of seat.old call ∷ [] }
-    ensures reads { tally reads seat.new.did ≡ tally reads seat.old.did }
-    ensures marks { tally marks seat.new.did ≡ tally marks seat.old.did }
+    ensures entered { Enters seat.old call record { begun = begun_after call seat.old.stand.begun; node = result; place = place.ReadState } seat.new }
     ensures pending { IsPendingIn seat.new }
-    ensures later { Onward seat.old.seen seat.new.seen }
 {
     let got = exchange(words, seat, Chain::Send, node, call);
     steps::write_request(words, seat, got, NodeField::Tag, request.tag);
@@ -75,13 +64,8 @@ pub fn begin_take(words: &Words, seat: &mut PassSeat, group: u32, node: u64) -> 
     requires chain { IsOn seat.old (Take group) }
     requires idle { seat.old.stand ≡ record { begun = seat.old.stand.begun; node = node; place = place.Idle } }
     requires few { seat.old.stand.begun ≤ seat.old.setting.config.per_sender }
-    ensures same { IsSameSeat seat.old seat.new }
-    ensures stand { seat.new.stand ≡ record { begun = seat.old.stand.begun; node = result; place = place.ReadState } }
-    ensures made { seat.new.made ≡ seat.old.made ++ entry_of seat.old call.Take ∷ [] }
-    ensures reads { tally reads seat.new.did ≡ tally reads seat.old.did }
-    ensures marks { tally marks seat.new.did ≡ tally marks seat.old.did }
+    ensures entered { Enters seat.old call.Take record { begun = seat.old.stand.begun; node = result; place = place.ReadState } seat.new }
     ensures pending { IsPendingIn seat.new }
-    ensures later { Onward seat.old.seen seat.new.seen }
 {
     let chain = Chain::Take(group);
     let got = exchange(words, seat, chain, node, Call::Take);

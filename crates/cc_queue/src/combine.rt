@@ -3,9 +3,8 @@ ghost use Rattle.std.specs.Prelude.{◌≡◌, ◌≢◌, ◌+◌, ◌*◌, ◌<
 ghost use Rattle.cc_runs.specs.declared.place.Place.TheVariants as place;
 ghost use Rattle.cc_runs.specs.declared.setting.Served.TheVariants as served;
 ghost use Rattle.cc_runs.specs.Columns.{serves};
-ghost use Rattle.cc_steps.specs.Seen.{Onward};
-ghost use Rattle.cc_steps.specs.Walk.{IsOf, IsReadyToStep};
-ghost use Rattle.cc_queue.specs.Work.{IsOn, IsListWith, Serves, worked_to, tally, reads, marks, hands, scans, round_place};
+ghost use Rattle.cc_steps.specs.Walk.{IsOf};
+ghost use Rattle.cc_queue.specs.Work.{IsOn, IsListWith, Serves, Works, combined};
 
 use crate::sends::serve_request;
 use crate::takes::serve_take;
@@ -38,14 +37,9 @@ pub fn combine(words: &Words, seat: &mut PassSeat, config: &Config, chain: Chain
     requires chain { IsOn seat.old chain }
     requires at { seat.old.stand.place ≡ place.ReadNext record { at = node; served = 0 } }
     requires bound { 0 < config.now.bound }
-    ensures worked { seat.new ≡ worked_to seat.old place.ReadAnswer seat.new }
-    ensures reads { tally reads seat.new.did ≡ tally reads seat.old.did }
-    ensures marks { tally marks seat.new.did ≡ result + tally marks seat.old.did }
-    ensures hands { tally hands seat.new.did ≡ 1 + tally hands seat.old.did }
-    ensures scans { tally scans seat.new.did ≤ result * (config.now.capacity + 1) + tally scans seat.old.did }
+    ensures worked { Works seat.old place.ReadAnswer (combined config.now result 1) seat.new }
     ensures some { 0 < result }
     ensures few { result ≤ config.now.bound }
-    ensures later { Onward seat.old.seen seat.new.seen }
 {
     let mut at = node;
     for served in 0..config.bound {

@@ -6,7 +6,6 @@ ghost use Rattle.cc_runs.specs.declared.setting.Served.TheVariants as served;
 ghost use Rattle.cc_runs.specs.declared.word.Chain.TheVariants.{Send};
 ghost use Rattle.cc_runs.specs.declared.place.Place.TheVariants as place;
 ghost use Rattle.cc_runs.specs.declared.place.Sending.TheVariants as sending;
-ghost use Rattle.cc_steps.specs.Seen.{Onward};
 ghost use Rattle.cc_steps.specs.Walk.{IsOf, IsReadyToStep};
 ghost use Rattle.cc_queue.specs.Work.{IsOn, IsListWith, Serves};
 

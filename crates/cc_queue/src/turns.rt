@@ -1,14 +1,12 @@
 //! A turn, over its seat.
 ghost use Rattle.std.specs.Prelude.{◌≡◌, ◌≢◌, ◌+◌, ◌*◌, ◌<◌, ◌≤◌, ◌^◌, ◌∷◌, ◌==◌, if◌then◌else◌, IfSome, OnSome, IfNone, Some, None};
 ghost use Rattle.cc_runs.specs.declared.word.Chain.TheVariants.{Send, Take};
-ghost use Rattle.cc_runs.specs.declared.place.Kind.TheVariants as kind;
 ghost use Rattle.cc_runs.specs.declared.place.Place.TheVariants as place;
 ghost use Rattle.cc_runs.specs.declared.setting.Served.TheVariants as served;
 ghost use Rattle.cc_model.specs.declared.call.Answer.TheVariants as answer;
 ghost use Rattle.cc_runs.specs.Codes.{list_reads};
-ghost use Rattle.cc_steps.specs.Seen.{Onward};
-ghost use Rattle.cc_steps.specs.Walk.{IsOf, IsReadyToStep, IsToldAt};
-ghost use Rattle.cc_queue.specs.Work.{IsOn, IsListWith, worked_to, tally, reads, marks, hands, scans};
+ghost use Rattle.cc_steps.specs.Walk.{IsOf, IsToldAt};
+ghost use Rattle.cc_queue.specs.Work.{IsOn, IsListWith, Works, Waits, looked, turned};
 
 use crate::combine::combine;
 use cc_model::{Config, Item, TakeAnswer, unpack};
@@ -32,14 +30,9 @@ pub fn await_answer(
     requires chain { IsOn seat.old chain }
     requires at { seat.old.stand ≡ record { begun = seat.old.stand.begun; node = node; place = place.ReadState } }
     requires bound { 0 < config.now.bound }
-    ensures waits { IfNone result ((seat.new ≡ worked_to seat.old place.ReadState seat.new) × (seat.new.did ≡ kind.ReadState ∷ seat.old.did)) }
-    ensures done { OnSome result (seat.new ≡ worked_to seat.old place.ReadAnswer seat.new) }
-    ensures reads { tally reads seat.new.did ≡ 1 + tally reads seat.old.did }
-    ensures marks { IfSome result (λ n. tally marks seat.new.did ≡ n + tally marks seat.old.did) }
-    ensures hands { IfSome result (λ n. tally hands seat.new.did ≡ (if n == 0 then 0 else 1) + tally hands seat.old.did) }
-    ensures scans { IfSome result (λ n. tally scans seat.new.did ≤ n * (config.now.capacity + 1) + tally scans seat.old.did) }
+    ensures waits { IfNone result (Waits seat.old seat.new) }
+    ensures done { IfSome result (λ n. Works seat.old place.ReadAnswer (turned config.now n) seat.new) }
     ensures few { IfSome result (λ n. n ≤ config.now.bound) }
-    ensures later { Onward seat.old.seen seat.new.seen }
 {
     match steps::read_state(words, seat, chain, node) {
         0 => Some(combine(words, seat, config, chain, node)),
@@ -54,13 +47,8 @@ pub fn read_request_answer(words: &Words, seat: &mut PassSeat, node: u64) -> u64
     requires list { seat.old.setting.served ≡ served.List }
     requires chain { IsOn seat.old Send }
     requires at { seat.old.stand ≡ record { begun = seat.old.stand.begun; node = node; place = place.ReadAnswer } }
-    ensures worked { seat.new ≡ worked_to seat.old place.Idle seat.new }
-    ensures reads { tally reads seat.new.did ≡ tally reads seat.old.did }
-    ensures marks { tally marks seat.new.did ≡ tally marks seat.old.did }
-    ensures hands { tally hands seat.new.did ≡ tally hands seat.old.did }
-    ensures scans { tally scans seat.new.did ≡ tally scans seat.old.did }
+    ensures worked { Works seat.old place.Idle (looked 0) seat.new }
     ensures told { IsToldAt seat.new (place.Finished (list_reads result)) }
-    ensures later { Onward seat.old.seen seat.new.seen }
 {
     steps::read_answer(words, seat, Chain::Send, node, NodeField::Ret)
 }
@@ -71,13 +59,8 @@ pub fn read_take_answer(words: &Words, seat: &mut PassSeat, group: u32, node: u6
     requires list { seat.old.setting.served ≡ served.List }
     requires chain { IsOn seat.old (Take group) }
     requires at { seat.old.stand ≡ record { begun = seat.old.stand.begun; node = node; place = place.ReadAnswer } }
-    ensures worked { seat.new ≡ worked_to seat.old place.Idle seat.new }
-    ensures reads { tally reads seat.new.did ≡ tally reads seat.old.did }
-    ensures marks { tally marks seat.new.did ≡ tally marks seat.old.did }
-    ensures hands { tally hands seat.new.did ≡ tally hands seat.old.did }
-    ensures scans { tally scans seat.new.did ≡ tally scans seat.old.did }
+    ensures worked { Works seat.old place.Idle (looked 0) seat.new }
     ensures told { IsToldAt seat.new (place.Finished (answer.Take result)) }
-    ensures later { Onward seat.old.seen seat.new.seen }
 {
     let chain = Chain::Take(group);
     let ret = steps::read_answer(words, seat, chain, node, NodeField::Ret);
@@ -110,15 +93,10 @@ pub fn turn_request(
     requires chain { IsOn seat.old Send }
     requires at { seat.old.stand ≡ record { begun = seat.old.stand.begun; node = node; place = place.ReadState } }
     requires bound { 0 < config.now.bound }
-    ensures waits { IfNone result ((seat.new ≡ worked_to seat.old place.ReadState seat.new) × (seat.new.did ≡ kind.ReadState ∷ seat.old.did)) }
-    ensures done { OnSome result (seat.new ≡ worked_to seat.old place.Idle seat.new) }
-    ensures reads { tally reads seat.new.did ≡ 1 + tally reads seat.old.did }
-    ensures marks { IfSome result (λ r. tally marks seat.new.did ≡ r.1 + tally marks seat.old.did) }
-    ensures hands { IfSome result (λ r. tally hands seat.new.did ≡ (if r.1 == 0 then 0 else 1) + tally hands seat.old.did) }
-    ensures scans { IfSome result (λ r. tally scans seat.new.did ≤ r.1 * (config.now.capacity + 1) + tally scans seat.old.did) }
+    ensures waits { IfNone result (Waits seat.old seat.new) }
+    ensures done { IfSome result (λ r. Works seat.old place.Idle (turned config.now r.1) seat.new) }
     ensures few { IfSome result (λ r. r.1 ≤ config.now.bound) }
     ensures told { IfSome result (λ r. IsToldAt seat.new (place.Finished (list_reads r.0))) }
-    ensures later { Onward seat.old.seen seat.new.seen }
 {
     let served = await_answer(words, seat, config, Chain::Send, node)?;
     Some((read_request_answer(words, seat, node), served))
@@ -137,15 +115,10 @@ pub fn turn_take(
     requires chain { IsOn seat.old (Take group) }
     requires at { seat.old.stand ≡ record { begun = seat.old.stand.begun; node = node; place = place.ReadState } }
     requires bound { 0 < config.now.bound }
-    ensures waits { IfNone result ((seat.new ≡ worked_to seat.old place.ReadState seat.new) × (seat.new.did ≡ kind.ReadState ∷ seat.old.did)) }
-    ensures done { OnSome result (seat.new ≡ worked_to seat.old place.Idle seat.new) }
-    ensures reads { tally reads seat.new.did ≡ 1 + tally reads seat.old.did }
-    ensures marks { IfSome result (λ r. tally marks seat.new.did ≡ r.1 + tally marks seat.old.did) }
-    ensures hands { IfSome result (λ r. tally hands seat.new.did ≡ (if r.1 == 0 then 0 else 1) + tally hands seat.old.did) }
-    ensures scans { IfSome result (λ r. tally scans seat.new.did ≤ r.1 * (config.now.capacity + 1) + tally scans seat.old.did) }
+    ensures waits { IfNone result (Waits seat.old seat.new) }
+    ensures done { IfSome result (λ r. Works seat.old place.Idle (turned config.now r.1) seat.new) }
     ensures few { IfSome result (λ r. r.1 ≤ config.now.bound) }
     ensures told { IfSome result (λ r. IsToldAt seat.new (place.Finished (answer.Take r.0))) }
-    ensures later { Onward seat.old.seen seat.new.seen }
 {
     let served = await_answer(words, seat, config, Chain::Take(group), node)?;
     Some((read_take_answer(words, seat, group, node), served))
