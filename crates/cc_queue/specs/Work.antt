@@ -11,7 +11,8 @@ use Rattle.cc_runs.specs.declared.place.Kind.{Kind}
 use Rattle.cc_runs.specs.declared.place.Kind.TheVariants as kind
 use Rattle.cc_runs.specs.State.{chain_of}
 use Rattle.cc_steps.specs.Seen.{Onward}
-use Rattle.cc_steps.specs.Walk.{Walk, IsSameSeat}
+use Rattle.cc_steps.specs.Topic.{Topic}
+use Rattle.cc_steps.specs.Walk.{Walk, IsOf, IsSameSeat}
 use Rattle.cc_queue.specs.Headline.{entry_of}
 
 -- the pass is on this chain
@@ -21,6 +22,12 @@ IsOn w x = chain_of w.setting.config w.number ≡ x
 -- its topic is a list with this configuration
 abbrev pub IsListWith : Walk → Config → Type 0
 IsListWith w c = w.setting ≡ record { served = served.List; config = c }
+
+-- the pass of this seat is on this chain of a list with this configuration, whose words these are
+pub record IsServing (z : Topic) (c : Config) (x : Chain) (w : Walk) : Type 0 where
+  pub here : IsOf z w
+  pub list : IsListWith w c
+  pub chain : IsOn w x
 
 -- how often it did such steps
 abbrev pub tally : (Kind → ℕ) → List Kind → ℕ

@@ -7,7 +7,7 @@ ghost use Rattle.cc_runs.specs.declared.word.Chain.TheVariants.{Send};
 ghost use Rattle.cc_runs.specs.declared.place.Place.TheVariants as place;
 ghost use Rattle.cc_runs.specs.declared.place.Sending.TheVariants as sending;
 ghost use Rattle.cc_steps.specs.Walk.{IsOf, IsReadyToStep};
-ghost use Rattle.cc_queue.specs.Work.{IsOn, IsListWith, Serves};
+ghost use Rattle.cc_queue.specs.Work.{IsOn, IsServing, Serves};
 
 use crate::tell::tell;
 use cc_model::{Answer, CloseAnswer, Config, SendAnswer};
@@ -18,9 +18,7 @@ use cc_steps::words::Words;
 
 /// Serves one request up to its mark: reads it, and closes the list, or looks for a free node, or tells why not.
 pub fn serve_request(words: &Words, seat: &mut PassSeat, config: &Config, job: Job)
-    requires here { IsOf words.now seat.old }
-    requires list { IsListWith seat.old config.now }
-    requires chain { IsOn seat.old Send }
+    requires serving { IsServing words.now config.now Send seat.old }
     requires at { seat.old.stand.place ≡ place.Sending job sending.ReadTag }
     ensures { Serves seat.old (place.MarkDone job) (config.now.capacity + 1) seat.new }
 {
@@ -73,9 +71,7 @@ fn refuse_after_close(words: &Words, seat: &mut PassSeat, job: Job, tag: u64)
 
 /// Closes: links the reserved node behind the last one, and sets `shut`.
 fn link_mark(words: &Words, seat: &mut PassSeat, config: &Config, job: Job, total: u64)
-    requires here { IsOf words.now seat.old }
-    requires list { IsListWith seat.old config.now }
-    requires chain { IsOn seat.old Send }
+    requires serving { IsServing words.now config.now Send seat.old }
     requires at { seat.old.stand.place ≡ place.Sending job (sending.ReadLastToClose total) }
     ensures { Serves seat.old (place.MarkDone job) 0 seat.new }
 {
@@ -90,9 +86,7 @@ fn link_mark(words: &Words, seat: &mut PassSeat, config: &Config, job: Job, tota
 
 /// Looks for a free node from the cursor on, once round, and appends the item there, or tells that the queue is full.
 fn scan(words: &Words, seat: &mut PassSeat, config: &Config, job: Job, parcel: Parcel)
-    requires here { IsOf words.now seat.old }
-    requires list { IsListWith seat.old config.now }
-    requires chain { IsOn seat.old Send }
+    requires serving { IsServing words.now config.now Send seat.old }
     requires at { seat.old.stand.place ≡ place.Sending job (sending.ReadCursor parcel) }
     ensures { Serves seat.old (place.MarkDone job) (config.now.capacity + 1) seat.new }
 {
@@ -123,9 +117,7 @@ fn scan(words: &Words, seat: &mut PassSeat, config: &Config, job: Job, parcel: P
 /// Resets a free node, writes the item into it, and appends it.
 #[inline(always)]
 fn prepare(words: &Words, seat: &mut PassSeat, config: &Config, job: Job, parcel: Parcel, node: u64)
-    requires here { IsOf words.now seat.old }
-    requires list { IsListWith seat.old config.now }
-    requires chain { IsOn seat.old Send }
+    requires serving { IsServing words.now config.now Send seat.old }
     requires at { seat.old.stand.place ≡ place.Sending job (sending.ResetPassed parcel node) }
     ensures { Serves seat.old (place.MarkDone job) 0 seat.new }
 {
@@ -139,9 +131,7 @@ fn prepare(words: &Words, seat: &mut PassSeat, config: &Config, job: Job, parcel
 /// Links the prepared node behind the last one: here the item is accepted.
 #[inline(always)]
 fn append(words: &Words, seat: &mut PassSeat, config: &Config, job: Job, count: u64, node: u64)
-    requires here { IsOf words.now seat.old }
-    requires list { IsListWith seat.old config.now }
-    requires chain { IsOn seat.old Send }
+    requires serving { IsServing words.now config.now Send seat.old }
     requires at { seat.old.stand.place ≡ place.Sending job (sending.ReadLast count node) }
     ensures { Serves seat.old (place.MarkDone job) 0 seat.new }
 {

@@ -6,7 +6,7 @@ ghost use Rattle.cc_runs.specs.declared.setting.Served.TheVariants as served;
 ghost use Rattle.cc_model.specs.declared.call.Answer.TheVariants as answer;
 ghost use Rattle.cc_runs.specs.Codes.{list_reads};
 ghost use Rattle.cc_steps.specs.Walk.{IsOf, IsToldAt};
-ghost use Rattle.cc_queue.specs.Work.{IsOn, IsListWith, Works, Waits, looked, turned};
+ghost use Rattle.cc_queue.specs.Work.{IsOn, IsServing, Works, Waits, looked, turned};
 
 use crate::combine::combine;
 use cc_model::{Config, Item, TakeAnswer, unpack};
@@ -25,9 +25,7 @@ pub fn await_answer(
     chain: Chain,
     node: u64,
 ) -> Option<u32>
-    requires here { IsOf words.now seat.old }
-    requires list { IsListWith seat.old config.now }
-    requires chain { IsOn seat.old chain }
+    requires serving { IsServing words.now config.now chain seat.old }
     requires at { seat.old.stand ≡ record { begun = seat.old.stand.begun; node = node; place = place.ReadState } }
     requires bound { 0 < config.now.bound }
     ensures waits { IfNone result (Waits seat.old seat.new) }
@@ -88,9 +86,7 @@ pub fn turn_request(
     config: &Config,
     node: u64,
 ) -> Option<(u64, u32)>
-    requires here { IsOf words.now seat.old }
-    requires list { IsListWith seat.old config.now }
-    requires chain { IsOn seat.old Send }
+    requires serving { IsServing words.now config.now Send seat.old }
     requires at { seat.old.stand ≡ record { begun = seat.old.stand.begun; node = node; place = place.ReadState } }
     requires bound { 0 < config.now.bound }
     ensures waits { IfNone result (Waits seat.old seat.new) }
@@ -110,9 +106,7 @@ pub fn turn_take(
     group: u32,
     node: u64,
 ) -> Option<(TakeAnswer, u32)>
-    requires here { IsOf words.now seat.old }
-    requires list { IsListWith seat.old config.now }
-    requires chain { IsOn seat.old (Take group) }
+    requires serving { IsServing words.now config.now (Take group) seat.old }
     requires at { seat.old.stand ≡ record { begun = seat.old.stand.begun; node = node; place = place.ReadState } }
     requires bound { 0 < config.now.bound }
     ensures waits { IfNone result (Waits seat.old seat.new) }
