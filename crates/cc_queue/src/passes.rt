@@ -12,26 +12,26 @@ use std::alloc::Global;
 use std::marker::Model;
 use std::sync::Arc;
 
-/// The seat of a sender on its queue's words, with what its calls need to know: its number from 1, how many sends it may
-/// begin and how many it has begun, and its node of the chain.
+/// The seat of a sender on its queue's words, with what its calls need to know: its node of the chain, its number from 1, how
+/// many sends it may begin, and how many it has begun.
 #[derive(Drop)]
 pub struct SenderSeat {
     pub words: Arc<Words, Global>,
     pub seat: PassSeat,
+    pub node: u64,
     pub number: u32,
     pub limit: u32,
     pub begun: u32,
-    pub node: u64,
 }
 
-/// The seat of a receiver on its queue's words, with its number from 1, its group from 0, and its node of the group's chain.
+/// The seat of a receiver on its queue's words, with its node of its group's chain, its number from 1, and its group from 0.
 #[derive(Drop)]
 pub struct ReceiverSeat {
     pub words: Arc<Words, Global>,
     pub seat: PassSeat,
+    pub node: u64,
     pub number: u32,
     pub group: u32,
-    pub node: u64,
 }
 
 /// A sender of a queue that has no call, numbered from 1.

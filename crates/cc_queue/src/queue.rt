@@ -58,10 +58,10 @@ fn sender_on(words: Arc<Words, Global>, seat: PassSeat, config: &Config, row: u3
         at: SenderSeat {
             words,
             seat,
+            node: row as u64 + 1,
             number: row + 1,
             limit: config.per_sender,
             begun: 0,
-            node: row as u64 + 1,
         },
     }
 }
@@ -78,9 +78,9 @@ fn receiver_on(words: Arc<Words, Global>, seat: PassSeat, config: &Config, place
         at: ReceiverSeat {
             words,
             seat,
+            node: (place % config.receivers) as u64 + 1,
             number: place + 1,
             group: place / config.receivers,
-            node: (place % config.receivers) as u64 + 1,
         },
     }
 }
