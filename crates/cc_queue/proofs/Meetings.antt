@@ -10,7 +10,7 @@ use Rattle.cc_steps.specs.Seen.{Later, Onward}
 use Rattle.cc_steps.specs.Shown.{longer}
 use Rattle.cc_steps.specs.Topic.{Topic}
 use Rattle.cc_steps.specs.Walk.{Walk, IsOf, IsSound}
-use Rattle.cc_queue.specs.Met.{IsOfOne, Sees, HasMet, EachHasMet, Swept, Gathered}
+use Rattle.cc_queue.specs.Met.{IsOfOne, IsIdle, Sees, HasMet, EachHasMet, Swept, Gathered}
 use Rattle.cc_queue.proofs.Headline.{stands_on, stands_more}
 
 -- an idle pass whose seat has seen more
@@ -21,9 +21,22 @@ met_so u v w begun node is list stand s = subst (λ (x : Walk). HasMet x w) is (
   same = s.same;
 })
 
+-- the pass of a seat, which is idle and stays so
+pub met_on : (v w : Walk) → IsIdle v → Sees v w → HasMet v w
+met_on v w idle s = met_so v v w v.stand.begun v.stand.node refl idle.list idle.stand s
+
+pub idle_still : (v w : Walk) → IsIdle v → w ≡ record v { seen = w.seen } → IsIdle w
+idle_still v w idle same = record {
+  list = ap (λ (x : Walk). x.setting.served) same ∙ idle.list;
+  stand = ap (λ (x : Walk). x.stand) same ∙ idle.stand ∙ (λ i. record { begun = (sym same i).stand.begun; node = (sym same i).stand.node; place = place.Idle });
+}
+
 -- one that has seen no more has met itself
 pub met_self : (u v : Walk) (begun node : ℕ) → v ≡ u → v.setting.served ≡ served.List → v.stand ≡ record { begun = begun; node = node; place = place.Idle } → IsSound v → HasMet u u
 met_self u v begun node is list stand s = subst (λ (x : Walk). HasMet x x) is (met_so v v v begun node refl list stand (record { same = refl; onward = λ first k. k; sound = s }))
+
+pub met_still : (v : Walk) → IsIdle v → IsSound v → HasMet v v
+met_still v idle s = met_self v v v.stand.begun v.stand.node refl idle.list idle.stand s
 
 pub met_more : (a b c : Walk) → HasMet a b → HasMet b c → HasMet a c
 met_more a b c f g = record { stands = stands_more a b c [] [] f.stands g.stands; same = g.same ∙ (λ i. record (f.same i) { seen = c.seen }) }
@@ -115,18 +128,6 @@ gathered v0 v1 v2 v3 v4 a0 a1 a2 b0 b1 b2 la lb one two three four =
       more_met = each_more b0 b1 b2 lb two.others four.others;
       others_one = λ k d less. third.1 k d less ∙ sym fourth.0;
       more_one = fourth.1;
-    }
-
--- and over one
-pub gathered_one : (v0 v1 v2 : Walk) (a0 a1 a2 : List Walk) → length a1 ≡ length a0 → Swept v0 v1 a0 a1 → Swept v1 v2 a1 a2 → Gathered v0 v2 a0 a2 [] []
-gathered_one v0 v1 v2 a0 a1 a2 la one two =
-    let second = two.still one.within in
-    record {
-      first = met_more v0 v1 v2 one.first two.first;
-      others_met = each_more a0 a1 a2 la one.others two.others;
-      more_met = λ k d less. absurd (omega arith);
-      others_one = second.1;
-      more_one = λ k d less. absurd (omega arith);
     }
 
 -- the first of a list of passes of one queue, and the others

@@ -3,7 +3,7 @@ ghost use Rattle.std.specs.Prelude.{◌≡◌, [], length};
 ghost use Rattle.std.specs.List.{All};
 ghost use Rattle.cc_steps.specs.Shown.{longer};
 ghost use Rattle.cc_steps.specs.Walk.{IsOf, IsSound};
-ghost use Rattle.cc_queue.specs.Met.{HasMet, EachHasMet, AreOfOne, IsOfOne, Sees, Swept, Gathered, HaveSeenOne};
+ghost use Rattle.cc_queue.specs.Met.{HasMet, EachHasMet, AreOfOne, IsOfOne, IsIdle, Sees, Swept, Gathered, HaveSeenOne};
 
 use crate::passes::{Receiver, Sender};
 use cc_steps::looks::look;
@@ -57,58 +57,44 @@ pub fn meet_receivers(one: &mut Receiver, other: &mut Receiver)
     meet_seats(&one.at.words, &mut one.at.seat, &mut other.at.seat);
 }
 
-/// The sender meets each of the others in turn.
-fn sweep_senders(first: &mut Sender, others: &mut [Sender])
-    requires { All (λ w. IsOfOne first.old w) others.old }
+/// The idle pass of this seat meets each of the senders in turn.
+fn sweep_senders(words: &Words, first: &mut PassSeat, others: &mut [Sender])
+    requires here { IsOf words.now first.old }
+    requires idle { IsIdle first.old }
+    requires others { All (λ w. IsOfOne first.old w) others.old }
     ensures { Swept first.old first.new others.old others.new }
 {
     first.stands();
     for other in others.iter_mut() {
-        meet_senders(first, other);
+        meet_seats(words, first, &mut other.at.seat);
     }
 }
 
 /// It meets each of the receivers in turn.
-fn sweep_receivers(first: &mut Sender, others: &mut [Receiver])
-    requires { All (λ w. IsOfOne first.old w) others.old }
-    ensures { Swept first.old first.new others.old others.new }
-{
-    first.stands();
-    for other in others.iter_mut() {
-        meet(first, other);
-    }
-}
-
-/// A receiver meets each of the others in turn.
-fn sweep_by_receiver(first: &mut Receiver, others: &mut [Receiver])
-    requires { All (λ w. IsOfOne first.old w) others.old }
-    ensures { Swept first.old first.new others.old others.new }
-{
-    first.stands();
-    for other in others.iter_mut() {
-        meet_receivers(first, other);
-    }
-}
-
-/// Afterwards the sender, the other senders and the receivers have seen one history.
-fn gather(first: &mut Sender, others: &mut [Sender], receivers: &mut [Receiver])
+fn sweep_receivers(words: &Words, first: &mut PassSeat, others: &mut [Receiver])
+    requires here { IsOf words.now first.old }
+    requires idle { IsIdle first.old }
     requires others { All (λ w. IsOfOne first.old w) others.old }
-    requires receivers { All (λ w. IsOfOne first.old w) receivers.old }
-    ensures { Gathered first.old first.new others.old others.new receivers.old receivers.new }
+    ensures { Swept first.old first.new others.old others.new }
 {
-    sweep_senders(first, others);
-    sweep_receivers(first, receivers);
-    sweep_senders(first, others);
-    sweep_receivers(first, receivers);
+    first.stands();
+    for other in others.iter_mut() {
+        meet_seats(words, first, &mut other.at.seat);
+    }
 }
 
-/// Afterwards the receiver and the other receivers have seen one history.
-fn gather_receivers(first: &mut Receiver, others: &mut [Receiver])
-    requires { All (λ w. IsOfOne first.old w) others.old }
-    ensures { Gathered first.old first.new others.old others.new [] [] }
+/// Afterwards the pass of this seat, these senders and these receivers have seen one history.
+fn gather(words: &Words, first: &mut PassSeat, senders: &mut [Sender], receivers: &mut [Receiver])
+    requires here { IsOf words.now first.old }
+    requires idle { IsIdle first.old }
+    requires senders { All (λ w. IsOfOne first.old w) senders.old }
+    requires receivers { All (λ w. IsOfOne first.old w) receivers.old }
+    ensures { Gathered first.old first.new senders.old senders.new receivers.old receivers.new }
 {
-    sweep_by_receiver(first, others);
-    sweep_by_receiver(first, others);
+    sweep_senders(words, first, senders);
+    sweep_receivers(words, first, receivers);
+    sweep_senders(words, first, senders);
+    sweep_receivers(words, first, receivers);
 }
 
 /// Afterwards all these passes, which are of one queue, have seen one history, which begins with what each had seen.
@@ -119,8 +105,8 @@ pub fn meet_all(senders: &mut [Sender], receivers: &mut [Receiver])
     ensures one { HaveSeenOne senders.new receivers.new }
 {
     if let Some((first, others)) = senders.split_first_mut() {
-        gather(first, others, receivers);
+        gather(&first.at.words, &mut first.at.seat, others, receivers);
     } else if let Some((first, others)) = receivers.split_first_mut() {
-        gather_receivers(first, others);
+        gather(&first.at.words, &mut first.at.seat, senders, others);
     }
 }
