@@ -23,7 +23,13 @@ IsOn w x = chain_of w.setting.config w.number ≡ x
 abbrev pub IsListWith : Walk → Config → Type 0
 IsListWith w c = w.setting ≡ record { served = served.List; config = c }
 
--- the pass of this seat is on this chain of a list with this configuration, whose words these are
+-- the pass of this seat is on this chain of a list, whose words these are
+pub record IsOnList (z : Topic) (x : Chain) (w : Walk) : Type 0 where
+  pub here : IsOf z w
+  pub list : w.setting.served ≡ served.List
+  pub chain : IsOn w x
+
+-- the same of a list with this configuration
 pub record IsServing (z : Topic) (c : Config) (x : Chain) (w : Walk) : Type 0 where
   pub here : IsOf z w
   pub list : IsListWith w c

@@ -7,9 +7,8 @@ ghost use Rattle.cc_runs.specs.Codes.{request_in};
 ghost use Rattle.cc_runs.specs.Columns.{after_exchange};
 ghost use Rattle.cc_runs.specs.Run.{begun_after};
 ghost use Rattle.cc_steps.specs.Shown.{CanStart};
-ghost use Rattle.cc_runs.specs.declared.setting.Served.TheVariants as served;
 ghost use Rattle.cc_steps.specs.Walk.{IsOf, IsReadyToStep, IsPendingIn};
-ghost use Rattle.cc_queue.specs.Work.{IsOn, Enters};
+ghost use Rattle.cc_queue.specs.Work.{IsOn, IsOnList, Enters};
 ghost use Rattle.cc_queue.specs.Headline.{entry_of};
 
 use cc_model::Call;
@@ -59,9 +58,7 @@ pub fn begin_request(
 
 /// Begins a take: links the node that the exchange left, which is given, to the own one.
 pub fn begin_take(words: &Words, seat: &mut PassSeat, group: u32, node: u64) -> u64
-    requires here { IsOf words.now seat.old }
-    requires list { seat.old.setting.served ≡ served.List }
-    requires chain { IsOn seat.old (Take group) }
+    requires here { IsOnList words.now (Take group) seat.old }
     requires idle { seat.old.stand ≡ record { begun = seat.old.stand.begun; node = node; place = place.Idle } }
     requires few { seat.old.stand.begun ≤ seat.old.setting.config.per_sender }
     ensures entered { Enters seat.old call.Take record { begun = seat.old.stand.begun; node = result; place = place.ReadState } seat.new }

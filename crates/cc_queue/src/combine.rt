@@ -16,7 +16,7 @@ use cc_steps::words::Words;
 /// Serves one request of this chain, up to its mark.
 #[inline(always)]
 fn serve(words: &Words, seat: &mut PassSeat, config: &Config, chain: Chain, job: Job)
-    requires serving { IsServing words.now config.now chain seat.old }
+    requires here { IsServing words.now config.now chain seat.old }
     requires at { seat.old.stand.place ≡ serves served.List chain job }
     ensures { Serves seat.old (place.MarkDone job) (config.now.capacity + 1) seat.new }
 {
@@ -29,7 +29,7 @@ fn serve(words: &Words, seat: &mut PassSeat, config: &Config, chain: Chain, job:
 /// Serves requests from the own node on, at most `bound` of them, and hands over where it stops. Gives how many.
 #[inline(always)]
 pub fn combine(words: &Words, seat: &mut PassSeat, config: &Config, chain: Chain, node: u64) -> u32
-    requires serving { IsServing words.now config.now chain seat.old }
+    requires here { IsServing words.now config.now chain seat.old }
     requires at { seat.old.stand.place ≡ place.ReadNext record { at = node; served = 0 } }
     requires bound { 0 < config.now.bound }
     ensures worked { Works seat.old place.ReadAnswer (combined config.now result 1) seat.new }

@@ -2,12 +2,11 @@
 ghost use Rattle.std.specs.Prelude.{◌≡◌, ◌+◌, ◌<◌, ◌≤◌, ◌^◌, ◌==◌, if◌then◌else◌, Some, None};
 ghost use Rattle.cc_model.specs.declared.call.Answer.TheVariants as answer;
 ghost use Rattle.cc_model.specs.declared.call.SendAnswer.TheVariants as send;
-ghost use Rattle.cc_runs.specs.declared.setting.Served.TheVariants as served;
 ghost use Rattle.cc_runs.specs.declared.word.Chain.TheVariants.{Send};
 ghost use Rattle.cc_runs.specs.declared.place.Place.TheVariants as place;
 ghost use Rattle.cc_runs.specs.declared.place.Sending.TheVariants as sending;
-ghost use Rattle.cc_steps.specs.Walk.{IsOf, IsReadyToStep};
-ghost use Rattle.cc_queue.specs.Work.{IsOn, IsServing, Serves};
+ghost use Rattle.cc_steps.specs.Walk.{IsReadyToStep};
+ghost use Rattle.cc_queue.specs.Work.{IsOnList, IsServing, Serves};
 
 use crate::tell::tell;
 use cc_model::{Answer, CloseAnswer, Config, SendAnswer};
@@ -18,7 +17,7 @@ use cc_steps::words::Words;
 
 /// Serves one request up to its mark: reads it, and closes the list, or looks for a free node, or tells why not.
 pub fn serve_request(words: &Words, seat: &mut PassSeat, config: &Config, job: Job)
-    requires serving { IsServing words.now config.now Send seat.old }
+    requires here { IsServing words.now config.now Send seat.old }
     requires at { seat.old.stand.place ≡ place.Sending job sending.ReadTag }
     ensures { Serves seat.old (place.MarkDone job) (config.now.capacity + 1) seat.new }
 {
@@ -53,9 +52,7 @@ pub fn serve_request(words: &Words, seat: &mut PassSeat, config: &Config, job: J
 
 /// Tells a send that the queue is closed, and a close that it was closed already and with how many items.
 fn refuse_after_close(words: &Words, seat: &mut PassSeat, job: Job, tag: u64)
-    requires here { IsOf words.now seat.old }
-    requires chain { IsOn seat.old Send }
-    requires list { seat.old.setting.served ≡ served.List }
+    requires here { IsOnList words.now Send seat.old }
     requires at { seat.old.stand.place ≡ (if tag == 0 then place.Sending job sending.ReadTotal else place.WriteAnswer job (answer.Send send.Closed)) }
     requires ready { IsReadyToStep seat.old }
     ensures { Serves seat.old (place.MarkDone job) 0 seat.new }
@@ -71,7 +68,7 @@ fn refuse_after_close(words: &Words, seat: &mut PassSeat, job: Job, tag: u64)
 
 /// Closes: links the reserved node behind the last one, and sets `shut`.
 fn link_mark(words: &Words, seat: &mut PassSeat, config: &Config, job: Job, total: u64)
-    requires serving { IsServing words.now config.now Send seat.old }
+    requires here { IsServing words.now config.now Send seat.old }
     requires at { seat.old.stand.place ≡ place.Sending job (sending.ReadLastToClose total) }
     ensures { Serves seat.old (place.MarkDone job) 0 seat.new }
 {
@@ -86,7 +83,7 @@ fn link_mark(words: &Words, seat: &mut PassSeat, config: &Config, job: Job, tota
 
 /// Looks for a free node from the cursor on, once round, and appends the item there, or tells that the queue is full.
 fn scan(words: &Words, seat: &mut PassSeat, config: &Config, job: Job, parcel: Parcel)
-    requires serving { IsServing words.now config.now Send seat.old }
+    requires here { IsServing words.now config.now Send seat.old }
     requires at { seat.old.stand.place ≡ place.Sending job (sending.ReadCursor parcel) }
     ensures { Serves seat.old (place.MarkDone job) (config.now.capacity + 1) seat.new }
 {
@@ -117,7 +114,7 @@ fn scan(words: &Words, seat: &mut PassSeat, config: &Config, job: Job, parcel: P
 /// Resets a free node, writes the item into it, and appends it.
 #[inline(always)]
 fn prepare(words: &Words, seat: &mut PassSeat, config: &Config, job: Job, parcel: Parcel, node: u64)
-    requires serving { IsServing words.now config.now Send seat.old }
+    requires here { IsServing words.now config.now Send seat.old }
     requires at { seat.old.stand.place ≡ place.Sending job (sending.ResetPassed parcel node) }
     ensures { Serves seat.old (place.MarkDone job) 0 seat.new }
 {
@@ -131,7 +128,7 @@ fn prepare(words: &Words, seat: &mut PassSeat, config: &Config, job: Job, parcel
 /// Links the prepared node behind the last one: here the item is accepted.
 #[inline(always)]
 fn append(words: &Words, seat: &mut PassSeat, config: &Config, job: Job, count: u64, node: u64)
-    requires serving { IsServing words.now config.now Send seat.old }
+    requires here { IsServing words.now config.now Send seat.old }
     requires at { seat.old.stand.place ≡ place.Sending job (sending.ReadLast count node) }
     ensures { Serves seat.old (place.MarkDone job) 0 seat.new }
 {

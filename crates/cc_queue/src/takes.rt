@@ -3,9 +3,8 @@ ghost use Rattle.std.specs.Prelude.{◌≡◌, ◌+◌, ◌<◌, ◌^◌, Some, 
 ghost use Rattle.cc_runs.specs.declared.word.Chain.TheVariants.{Take};
 ghost use Rattle.cc_runs.specs.declared.place.Place.TheVariants as place;
 ghost use Rattle.cc_runs.specs.declared.place.Taking.TheVariants as taking;
-ghost use Rattle.cc_runs.specs.declared.setting.Served.TheVariants as served;
-ghost use Rattle.cc_steps.specs.Walk.{IsOf, IsReadyToStep};
-ghost use Rattle.cc_queue.specs.Work.{IsOn, Serves};
+ghost use Rattle.cc_steps.specs.Walk.{IsReadyToStep};
+ghost use Rattle.cc_queue.specs.Work.{IsOnList, Serves};
 
 use crate::tell::tell;
 use cc_model::{Answer, TakeAnswer};
@@ -16,9 +15,7 @@ use cc_steps::words::Words;
 
 /// Serves one take up to its mark: reads the dummy's next and the item there, or tells that there is none.
 pub fn serve_take(words: &Words, seat: &mut PassSeat, group: u32, job: Job)
-    requires here { IsOf words.now seat.old }
-    requires list { seat.old.setting.served ≡ served.List }
-    requires chain { IsOn seat.old (Take group) }
+    requires here { IsOnList words.now (Take group) seat.old }
     requires at { seat.old.stand.place ≡ place.Taking job taking.ReadHead }
     ensures { Serves seat.old (place.MarkDone job) 0 seat.new }
 {
@@ -43,9 +40,7 @@ fn take_item(
     taken: u64,
     node: u64,
 )
-    requires here { IsOf words.now seat.old }
-    requires list { seat.old.setting.served ≡ served.List }
-    requires chain { IsOn seat.old (Take group) }
+    requires here { IsOnList words.now (Take group) seat.old }
     requires at { seat.old.stand.place ≡ place.Taking job (taking.ReadItemTag dummy taken node) }
     requires ready { IsReadyToStep seat.old }
     ensures { Serves seat.old (place.MarkDone job) 0 seat.new }
@@ -75,9 +70,7 @@ fn hand_out(
     node: u64,
     parcel: Parcel,
 )
-    requires here { IsOf words.now seat.old }
-    requires list { seat.old.setting.served ≡ served.List }
-    requires chain { IsOn seat.old (Take group) }
+    requires here { IsOnList words.now (Take group) seat.old }
     requires at { seat.old.stand.place ≡ place.Taking job (taking.WriteHead dummy node parcel) }
     requires ready { IsReadyToStep seat.old }
     ensures { Serves seat.old (place.MarkDone job) 0 seat.new }

@@ -3,8 +3,8 @@ ghost use Rattle.std.specs.Prelude.{◌≡◌};
 ghost use Rattle.cc_runs.specs.declared.place.Place.TheVariants as place;
 ghost use Rattle.cc_runs.specs.declared.setting.Served.TheVariants as served;
 ghost use Rattle.cc_runs.specs.Columns.{after_answer};
-ghost use Rattle.cc_steps.specs.Walk.{IsOf, IsReadyToStep};
-ghost use Rattle.cc_queue.specs.Work.{IsOn, Serves};
+ghost use Rattle.cc_steps.specs.Walk.{IsReadyToStep};
+ghost use Rattle.cc_queue.specs.Work.{IsOnList, Serves};
 
 use cc_model::Answer;
 use cc_runs::{Chain, Job, NodeField, Served, ret_of};
@@ -15,9 +15,7 @@ use cc_steps::words::Words;
 /// Tells an answer that is one word, which goes into the node that is served.
 #[inline(always)]
 pub fn tell(words: &Words, seat: &mut PassSeat, chain: Chain, job: Job, answer: Answer)
-    requires here { IsOf words.now seat.old }
-    requires list { seat.old.setting.served ≡ served.List }
-    requires chain { IsOn seat.old chain }
+    requires here { IsOnList words.now chain seat.old }
     requires at { seat.old.stand.place ≡ place.WriteAnswer job answer }
     requires alone { after_answer job answer ≡ place.MarkDone job }
     requires ready { IsReadyToStep seat.old }

@@ -5,8 +5,8 @@ ghost use Rattle.cc_runs.specs.declared.place.Place.TheVariants as place;
 ghost use Rattle.cc_runs.specs.declared.setting.Served.TheVariants as served;
 ghost use Rattle.cc_model.specs.declared.call.Answer.TheVariants as answer;
 ghost use Rattle.cc_runs.specs.Codes.{list_reads};
-ghost use Rattle.cc_steps.specs.Walk.{IsOf, IsToldAt};
-ghost use Rattle.cc_queue.specs.Work.{IsOn, IsServing, Works, Waits, looked, turned};
+ghost use Rattle.cc_steps.specs.Walk.{IsToldAt};
+ghost use Rattle.cc_queue.specs.Work.{IsOnList, IsServing, Works, Waits, looked, turned};
 
 use crate::combine::combine;
 use cc_model::{Config, Item, TakeAnswer, unpack};
@@ -25,7 +25,7 @@ pub fn await_answer(
     chain: Chain,
     node: u64,
 ) -> Option<u32>
-    requires serving { IsServing words.now config.now chain seat.old }
+    requires here { IsServing words.now config.now chain seat.old }
     requires at { seat.old.stand ≡ record { begun = seat.old.stand.begun; node = node; place = place.ReadState } }
     requires bound { 0 < config.now.bound }
     ensures waits { IfNone result (Waits seat.old seat.new) }
@@ -41,9 +41,7 @@ pub fn await_answer(
 
 /// Reads the answer word of a send or a close.
 pub fn read_request_answer(words: &Words, seat: &mut PassSeat, node: u64) -> u64
-    requires here { IsOf words.now seat.old }
-    requires list { seat.old.setting.served ≡ served.List }
-    requires chain { IsOn seat.old Send }
+    requires here { IsOnList words.now Send seat.old }
     requires at { seat.old.stand ≡ record { begun = seat.old.stand.begun; node = node; place = place.ReadAnswer } }
     ensures worked { Works seat.old place.Idle (looked 0) seat.new }
     ensures told { IsToldAt seat.new (place.Finished (list_reads result)) }
@@ -53,9 +51,7 @@ pub fn read_request_answer(words: &Words, seat: &mut PassSeat, node: u64) -> u64
 
 /// Reads the answer of a take, and of an item its tag and its body too.
 pub fn read_take_answer(words: &Words, seat: &mut PassSeat, group: u32, node: u64) -> TakeAnswer
-    requires here { IsOf words.now seat.old }
-    requires list { seat.old.setting.served ≡ served.List }
-    requires chain { IsOn seat.old (Take group) }
+    requires here { IsOnList words.now (Take group) seat.old }
     requires at { seat.old.stand ≡ record { begun = seat.old.stand.begun; node = node; place = place.ReadAnswer } }
     ensures worked { Works seat.old place.Idle (looked 0) seat.new }
     ensures told { IsToldAt seat.new (place.Finished (answer.Take result)) }
@@ -86,7 +82,7 @@ pub fn turn_request(
     config: &Config,
     node: u64,
 ) -> Option<(u64, u32)>
-    requires serving { IsServing words.now config.now Send seat.old }
+    requires here { IsServing words.now config.now Send seat.old }
     requires at { seat.old.stand ≡ record { begun = seat.old.stand.begun; node = node; place = place.ReadState } }
     requires bound { 0 < config.now.bound }
     ensures waits { IfNone result (Waits seat.old seat.new) }
@@ -106,7 +102,7 @@ pub fn turn_take(
     group: u32,
     node: u64,
 ) -> Option<(TakeAnswer, u32)>
-    requires serving { IsServing words.now config.now (Take group) seat.old }
+    requires here { IsServing words.now config.now (Take group) seat.old }
     requires at { seat.old.stand ≡ record { begun = seat.old.stand.begun; node = node; place = place.ReadState } }
     requires bound { 0 < config.now.bound }
     ensures waits { IfNone result (Waits seat.old seat.new) }
