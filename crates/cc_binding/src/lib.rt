@@ -8,6 +8,11 @@
 #![tactic(auto)]
 
 ghost use Rattle.std.specs.Prelude.{◌≡◌, ◌≢◌};
+ghost use Rattle.std.specs.Mem.{type_size};
+ghost use Rattle.cc_binding.specs.contracts.opening.Settings as settings_type;
+ghost use Rattle.cc_binding.specs.contracts.handle.Handle as handle_type;
+ghost use Rattle.cc_binding.specs.contracts.told.TakenItem as item_type;
+ghost use Rattle.cc_binding.specs.declared.version.TheConstants.{VERSION};
 ghost use Rattle.cc_binding.specs.declared.codes.TheConstants.{BAD_GROUPS};
 ghost use Rattle.cc_binding.specs.Opened.{config_of, refusal, HaveOpened};
 ghost use Rattle.cc_binding.specs.Handles.{pass_of, IsDropped};
@@ -24,12 +29,37 @@ mod refusals;
 mod sends;
 mod takes;
 mod told;
+mod version;
 
 use codes::{DONE, NO_MEMORY, NO_PASS};
 use handle::Handle;
 use opening::{Settings, check, open};
 use std::alloc::Global;
+use std::mem::size_of;
 use told::{Taken, TakenItem, Told};
+use version::VERSION;
+
+/// The version of the library, which a caller compares with the one that it was written for: a million times the first of
+/// its three numbers, a thousand times the second, and the third. This call is the same in every version.
+#[unsafe(no_mangle)]
+pub extern "C" fn vahepito_version() -> u32
+    ensures { result ≡ VERSION }
+{
+    VERSION
+}
+
+/// How many bytes a configuration has, a handle, and an item, as the other calls take them. This call is the same in every
+/// version.
+#[unsafe(no_mangle)]
+pub extern "C" fn vahepito_sizes(config: &mut usize, pass: &mut usize, item: &mut usize)
+    ensures config { config.new ≡ type_size settings_type.the_row }
+    ensures pass { pass.new ≡ type_size handle_type.the_row }
+    ensures item { item.new ≡ type_size item_type.the_row }
+{
+    *config = size_of::<Settings>();
+    *pass = size_of::<Handle>();
+    *item = size_of::<TakenItem>();
+}
 
 /// Opens a queue of one group of receivers, and fills a handle for each sender and each receiver. It never tells
 /// BAD_GROUPS, a code that its callers may not know.
