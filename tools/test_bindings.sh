@@ -45,13 +45,32 @@ build_c() {
 run_c() {
     prints '30000 items' "$room/$1/consume" && prints '1000 items in each of 2 groups' "$room/$1/groups_threads" &&
         prints '1000 items through room for one' "$room/$1/waits" && prints '' "$room/$1/headers" &&
-        prints 'all memory is free' "$room/$1/memory"
+        prints 'all memory is free' "$room/$1/memory" &&
+        prints "fits: library $version, header $version" "$room/$1/version"
 }
 # Whether the C compiler has these sanitizers, and they run here.
 has_sanitizers() {
     echo 'int main(void) { return 0; }' | cc -x c "-fsanitize=$1" -o "$room/probe" - 2>/dev/null && "$room/probe" 2>/dev/null
 }
-export -f build_c run_c
+# Makes an archive of another version: in which folder, which version it tells, and how many bytes of an item.
+stub() {
+    mkdir -p "$room/$1" && cc -c -O1 "-DVERSION=$2" "-DITEM_SIZE=$3" bindings/c/stub.c -o "$room/$1/stub.o" &&
+        ar rcs "$room/$1/libcc_binding.a" "$room/$1/stub.o"
+}
+# An archive of an older version, of a newer one, and of the same with larger items is told.
+other_libraries() {
+    local name
+    stub older 999 24 && stub newer 2003004 24 && stub larger "$version" 32 || return
+    for name in older newer larger; do
+        cc -std=c11 -Wall -Wextra -Werror bindings/c/version.c "$room/$name/libcc_binding.a" -o "$room/$name/version" || return
+    done
+    prints "refused: library 999, header $version" "$room/older/version" &&
+        prints "refused: library 2003004, header $version" "$room/newer/version" &&
+        prints "refused: library $version, header $version" "$room/larger/version"
+}
+version=$(sed -n 's/^#define VAHEPITO_VERSION //p' bindings/c/vahepito.h)
+export version
+export -f build_c run_c stub other_libraries
 
 # Compiles the headers by this compiler in each of these standards, without a warning, and runs their program; and in the
 # standards that have threads of their own again with these in place of POSIX's calls.
@@ -91,6 +110,7 @@ if ! has make || ! has cc; then
 else
     step 'C: build' bash -c 'build_c plain -O2'
     step 'C: run' bash -c 'run_c plain'
+    step 'C: an archive of another version is told' bash -c other_libraries
     if has valgrind; then
         step 'C: consume under valgrind' "${valgrind[@]}" "$room/plain/consume" 300
         step 'C: groups_threads under valgrind' "${valgrind[@]}" "$room/plain/groups_threads"
@@ -151,6 +171,16 @@ if ! cargo --version >/dev/null 2>&1; then
     skip 'the crate in Rust' 'cargo is not on this machine'
 else
     limit=600 step 'Rust: tests' cargo "${options[@]}" test
+    for name in older newer larger; do
+        if [ -f "$room/$name/libcc_binding.a" ]; then
+            case $name in older) linked=999 ;; newer) linked=2003004 ;; *) linked=$version ;; esac
+            step "Rust: an archive of another version is told ($name)" env "VAHEPITO_LINKED=$linked" \
+                "VAHEPITO_LIB=$room/$name/libcc_binding.a" "CARGO_TARGET_DIR=$room/others" \
+                cargo "${options[@]}" test --test other_library -- --ignored
+        else
+            skip "Rust: an archive of another version is told ($name)" 'it was not made'
+        fi
+    done
     step 'Rust: the thread pool' bash -c "prints '9592 primes below 100000' cargo ${options[*]} run --example thread_pool"
     step 'Rust: the pipeline' bash -c "prints '77031 takes 350 steps' cargo ${options[*]} run --example pipeline"
     step 'Rust: the log' bash -c "prints '40000 events in the archive, 4000 alarms' cargo ${options[*]} run --example log"

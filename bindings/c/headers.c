@@ -33,6 +33,7 @@ int main(void) {
     vahepito_backoff backoff = VAHEPITO_BACKOFF;
     int failed;
     while (backoff.microseconds < VAHEPITO_LONGEST_SLEEP) vahepito_between_tries(&backoff);
+    if (vahepito_check_version() != VAHEPITO_DONE) return 19;
     if (alone.live || several[0].live || several[2].live) return 20;
     if (vahepito_drop(&alone) != VAHEPITO_NO_PASS || vahepito_drop(&several[2]) != VAHEPITO_NO_PASS) return 21;
     if (vahepito_open(&config, &service.sender, 1, &service.receiver, 1) != VAHEPITO_DONE) return 22;

@@ -35,6 +35,8 @@
  * - malloc, realloc and free are one allocator's.
  *
  * An out-parameter is written by every call that has it: with 0 in each field where the code tells nothing of it.
+ *
+ * Header and library are of one version: vahepito_check_version tells whether they are, and is for a program's start.
  */
 #ifndef VAHEPITO_H
 #define VAHEPITO_H
@@ -46,6 +48,10 @@
 #ifdef __cplusplus
 extern "C" {
 #endif
+
+/* The version of this header, 0.1.0: a million times the first of its three numbers, a thousand times the second, and the
+ * third. */
+#define VAHEPITO_VERSION 1000
 
 /* What a queue is opened with. The bytes behind per_sender are not read. */
 typedef struct {
@@ -120,8 +126,30 @@ enum {
     VAHEPITO_ENDED = 25, /* the queue is closed and its group has taken all of the `total` items */
 
     /* vahepito_open_groups: the number of groups is not from 1 to 8 */
-    VAHEPITO_BAD_GROUPS = 26
+    VAHEPITO_BAD_GROUPS = 26,
+
+    /* vahepito_check_version: the library isn't of this header's version */
+    VAHEPITO_BAD_VERSION = 27
 };
+
+/* The version of the library, as VAHEPITO_VERSION is that of the header. This call and the next are the same in every
+ * version. Any thread may call. */
+uint32_t vahepito_version(void);
+
+/* How many bytes a vahepito_config, a vahepito_pass and a vahepito_item have for the library. Any thread may call. */
+void vahepito_sizes(size_t *config, size_t *pass, size_t *item);
+
+/* Whether the library that is linked is the one of this header, by its version and by these sizes. A program asks once,
+ * before its first opening; where it is told no, it makes no other call but these two above. Any thread may call.
+ * DONE, BAD_VERSION. */
+static inline uint32_t vahepito_check_version(void) {
+    size_t config = 0, pass = 0, item = 0;
+    if (vahepito_version() != VAHEPITO_VERSION) return VAHEPITO_BAD_VERSION;
+    vahepito_sizes(&config, &pass, &item);
+    return config == sizeof(vahepito_config) && pass == sizeof(vahepito_pass) && item == sizeof(vahepito_item)
+               ? VAHEPITO_DONE
+               : VAHEPITO_BAD_VERSION;
+}
 
 /* Opens a queue of one group and fills the handles: senders[k] becomes sender k + 1, receivers[k] receiver k + 1. The handles are the
  * caller's, all of them empty before; the queue behind them is theirs together, and the last one that is dropped frees

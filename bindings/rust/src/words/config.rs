@@ -100,8 +100,8 @@ fn told(code: u32) -> Result<(), OpenError> {
 ///
 /// # Errors
 ///
-/// The first field of the configuration that is out of its range; else want of memory for the
-/// queue. (Where std has no memory for the `Vec`s, it ends the process, as always.)
+/// The linked library is another one than this crate is for; the first field of the configuration
+/// that is out of its range; else want of memory for the queue. (Where std has no memory for the `Vec`s, it ends the process, as always.)
 pub fn open(config: Config) -> Result<(Vec<Sender>, Vec<Receiver>), OpenError> {
     let (senders, groups) = open_groups(config, 1)?;
     Ok((senders, groups.into_iter().flatten().collect()))
@@ -155,6 +155,7 @@ pub fn open_groups(
     config: Config,
     groups: u32,
 ) -> Result<(Vec<Sender>, Vec<Vec<Receiver>>), OpenError> {
+    handle::check_library()?;
     let mut senders = empty_handles(1, config.senders);
     let mut receivers = empty_handles(groups, config.receivers);
     told(handle::open(&config, groups, &mut senders, &mut receivers))?;

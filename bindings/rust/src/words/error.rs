@@ -23,6 +23,15 @@ pub enum OpenError {
     Groups,
     /// Memory was refused.
     NoMemory,
+    /// The linked library isn't the one that this crate is for: it is of another version, or of the
+    /// same with other sizes of what is passed to it. Nothing was asked of it but these.
+    OtherLibrary {
+        /// The library's version: a million times the first of its three numbers, a thousand times
+        /// the second, and the third.
+        linked: u32,
+        /// The one that this crate is for.
+        wanted: u32,
+    },
 }
 
 /// Why [`try_send`](crate::words::Sender::try_send) didn't send. Each but `Worn` is the queue's answer.
@@ -94,6 +103,17 @@ impl From<RecvError> for TryRecvError {
     }
 }
 
+/// A version as its three numbers.
+struct Version(u32);
+
+impl Display for Version {
+    fn fmt(&self, f: &mut Formatter<'_>) -> Result {
+        let Version(all) = self;
+        let (major, minor, patch) = (all / 1_000_000, all / 1_000 % 1_000, all % 1_000);
+        write!(f, "{major}.{minor}.{patch}")
+    }
+}
+
 const CLOSED: &str = "the queue is closed";
 const SPENT: &str = "the queue has accepted all the items of its life";
 const WORN: &str = "the sender has begun all the sends that it may";
@@ -101,7 +121,7 @@ const ENDED: &str = "the queue is closed and all its items were taken";
 
 impl Display for OpenError {
     fn fmt(&self, f: &mut Formatter<'_>) -> Result {
-        f.write_str(match self {
+        f.write_str(match *self {
             OpenError::Senders => "the number of senders isn't from 1 to 64",
             OpenError::Receivers => "the number of receivers isn't from 1 to 64",
             OpenError::Capacity => "the capacity isn't from 1 to 4096",
@@ -110,6 +130,17 @@ impl Display for OpenError {
             OpenError::PerSender => "the number of sends of a sender is 0",
             OpenError::Groups => "the number of groups isn't from 1 to 8",
             OpenError::NoMemory => "there is no memory for the queue",
+            OpenError::OtherLibrary { linked, wanted } => {
+                let (library, crate_for) = (Version(linked), Version(wanted));
+                write!(
+                    f,
+                    "the linked library is version {library}, and this crate is for {crate_for}"
+                )?;
+                return f.write_str(match linked == wanted {
+                    true => ", of other sizes: it was built from other sources",
+                    false => "",
+                });
+            }
         })
     }
 }

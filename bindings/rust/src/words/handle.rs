@@ -2,7 +2,7 @@
 //! keeps what they ask for. All unsafe code of this crate is here.
 #![allow(unsafe_code)]
 
-use crate::words::{Config, Item};
+use crate::words::{Config, Item, OpenError};
 use std::ffi::c_void;
 use std::mem::{offset_of, size_of};
 use std::ptr::null_mut;
@@ -60,7 +60,22 @@ const _: () = {
     assert!(offset_of!(Item, number) == 12 && offset_of!(Item, body) == 16);
 };
 
+/// The version that this crate is for, as the library tells its own: this crate's own version.
+const VERSION: u32 = number(env!("CARGO_PKG_VERSION_MAJOR")) * 1_000_000
+    + number(env!("CARGO_PKG_VERSION_MINOR")) * 1_000
+    + number(env!("CARGO_PKG_VERSION_PATCH"));
+
+/// The number of such digits.
+const fn number(digits: &str) -> u32 {
+    match u32::from_str_radix(digits, 10) {
+        Ok(number) => number,
+        Err(_) => panic!("cargo gives numbers"),
+    }
+}
+
 unsafe extern "C" {
+    safe fn vahepito_version() -> u32;
+    safe fn vahepito_sizes(config: &mut usize, pass: &mut usize, item: &mut usize);
     fn vahepito_open_groups(
         config: &Config,
         groups: u32,
@@ -238,6 +253,23 @@ impl Drop for Handle {
     }
 }
 
+/// Looks whether the linked library is the one that this crate is for. Of another one no other call
+/// is made.
+pub fn check_library() -> Result<(), OpenError> {
+    let (mut config, mut pass, mut item) = (0, 0, 0);
+    let linked = vahepito_version();
+    if linked == VERSION {
+        vahepito_sizes(&mut config, &mut pass, &mut item);
+    }
+    if (config, pass, item) == (size_of::<Config>(), size_of::<Pass>(), size_of::<Item>()) {
+        return Ok(());
+    }
+    Err(OpenError::OtherLibrary {
+        linked,
+        wanted: VERSION,
+    })
+}
+
 /// Fills the handles, all of which are empty.
 pub fn open(config: &Config, groups: u32, senders: &mut [Handle], receivers: &mut [Handle]) -> u32 {
     // SAFETY: the pointers and counts are those of two slices, and the handles of both are empty.
@@ -256,6 +288,7 @@ pub fn open(config: &Config, groups: u32, senders: &mut [Handle], receivers: &mu
 #[cfg(test)]
 mod tests {
     use super::code::*;
+    use super::{VERSION, check_library};
     use std::collections::BTreeMap;
 
     const HEADER: &str = include_str!("../../../c/vahepito.h");
@@ -274,7 +307,13 @@ mod tests {
     fn the_codes_are_those_of_the_header() {
         let mut header = codes();
         // Those that this crate doesn't name.
-        for never in ["BAD_HANDLES", "NO_PASS", "WRONG_SIDE", "NOT_BEGUN"] {
+        for never in [
+            "BAD_HANDLES",
+            "NO_PASS",
+            "WRONG_SIDE",
+            "NOT_BEGUN",
+            "BAD_VERSION",
+        ] {
             assert!(header.remove(never).is_some(), "{never}");
         }
         let here = [
@@ -306,20 +345,36 @@ mod tests {
     }
 
     #[test]
+    fn the_version_is_that_of_the_header() {
+        let mut lines = HEADER.lines();
+        let version = lines.find_map(|line| line.strip_prefix("#define VAHEPITO_VERSION "));
+        assert_eq!(version, Some(VERSION.to_string().as_str()));
+    }
+
+    #[test]
+    fn the_library_is_the_one() {
+        assert_eq!(check_library(), Ok(()));
+    }
+
+    #[test]
     fn the_exports_are_those_of_the_header() {
         let code = include_str!("handle.rs");
-        let names = |text: &'static str, before: &str| {
+        let names = |text: &'static str, before: [&str; 2]| {
             let mut names: Vec<_> = text
                 .lines()
-                .filter_map(|line| line.trim().strip_prefix(before)?.split('(').next())
+                .filter_map(|line| {
+                    let mut after = before.iter().filter_map(|it| line.strip_prefix(it));
+                    after.next()?.split('(').next()
+                })
                 .collect();
             names.sort();
             names
         };
-        let mut header = names(HEADER, "uint32_t vahepito_");
-        assert_eq!(header.len(), 13);
+        let mut header = names(HEADER, ["uint32_t vahepito_", "void vahepito_"]);
+        assert_eq!(header.len(), 15);
         // This crate opens each queue by `open_groups`.
         header.retain(|&name| name != "open");
-        assert_eq!(names(code, "fn vahepito_"), header);
+        let here = names(code, ["    fn vahepito_", "    safe fn vahepito_"]);
+        assert_eq!(here, header);
     }
 }

@@ -1,0 +1,40 @@
+//! A library of another version is told by each opening, before anything else is asked of it. These
+//! tests are for archives that `tools/test_bindings.sh` makes of `../c/stub.c`: any other call of
+//! theirs ends the process. `VAHEPITO_LINKED` is the version that such a one tells.
+use std::fmt::Debug;
+use vahepito::OpenError;
+use vahepito::words::{Config, open, open_groups};
+
+/// The version of this crate, as a library tells its own.
+fn wanted() -> u32 {
+    let numbers = env!("CARGO_PKG_VERSION").split('.');
+    numbers.fold(0, |sum, it| sum * 1000 + it.parse::<u32>().unwrap())
+}
+
+fn is_refused<T: Debug>(opened: Result<T, OpenError>) {
+    let linked = std::env::var("VAHEPITO_LINKED").unwrap().parse().unwrap();
+    let wanted = wanted();
+    let told = opened.unwrap_err();
+    assert_eq!(told, OpenError::OtherLibrary { linked, wanted });
+    let text = told.to_string();
+    let dotted = |it: u32| format!("{}.{}.{}", it / 1_000_000, it / 1000 % 1000, it % 1000);
+    assert!(
+        text.contains(&format!("is version {},", dotted(linked))),
+        "{text}"
+    );
+    assert!(
+        text.contains(&format!("is for {}", dotted(wanted))),
+        "{text}"
+    );
+    assert_eq!(text.contains("of other sizes"), linked == wanted, "{text}");
+}
+
+#[test]
+#[ignore = "it is for an archive of another version"]
+fn each_opening_tells() {
+    is_refused(open(Config::new(1, 1, 1)));
+    is_refused(open(Config::new(0, 1, 1)));
+    is_refused(open_groups(Config::new(2, 2, 16), 3));
+    is_refused(vahepito::channel::<String>(4));
+    is_refused(vahepito::groups::<String>(4, 2));
+}
