@@ -45,12 +45,24 @@ build_c() {
 run_c() {
     prints '30000 items' "$room/$1/consume" && prints '1000 items in each of 2 groups' "$room/$1/groups_threads" &&
         prints '1000 items through room for one' "$room/$1/waits" && prints '' "$room/$1/headers" &&
-        prints 'all memory is free' "$room/$1/memory" &&
+        prints 'all memory is free' "$room/$1/memory" && prints '4000 boxes' "$room/$1/hand_over" &&
         prints "fits: library $version, header $version" "$room/$1/version"
 }
-# Whether the C compiler has these sanitizers, and they run here.
+# Whether a C compiler has these sanitizers, and they run here.
 has_sanitizers() {
-    echo 'int main(void) { return 0; }' | cc -x c "-fsanitize=$1" -o "$room/probe" - 2>/dev/null && "$room/probe" 2>/dev/null
+    echo 'int main(void) { return 0; }' | "${2:-cc}" -x c "-fsanitize=$1" -o "$room/probe" - 2>/dev/null && "$room/probe" 2>/dev/null
+}
+# Boxes of malloc under a compiler's thread sanitizer: no race is reported; and where the header doesn't tell of the
+# hand-over, races of the boxes are, so that this looks for them.
+hands_over() {
+    local flags=(-std=c11 -O1 -g -fsanitize=thread -Wall -Wextra -Werror) rest=(bindings/c/hand_over.c "$VAHEPITO_LIB" "$VAHEPITO_HEAP" -pthread)
+    "$1" "${flags[@]}" "${rest[@]}" -o "$room/told" && "$1" "${flags[@]}" -DVAHEPITO_UNTOLD "${rest[@]}" -o "$room/untold" || return
+    prints '4000 boxes' "$room/told" || return
+    if "$room/untold" >"$room/untold.log" 2>&1; then
+        echo 'no race was seen where the sanitizer is told nothing'
+        return 1
+    fi
+    grep -E 'data race .* in (send|take)_boxes$' "$room/untold.log" || { cat "$room/untold.log"; return 1; }
 }
 # Makes an archive of another version: in which folder, which version it tells, and how many bytes of an item.
 stub() {
@@ -70,7 +82,7 @@ other_libraries() {
 }
 version=$(sed -n 's/^#define VAHEPITO_VERSION //p' bindings/c/vahepito.h)
 export version
-export -f build_c run_c stub other_libraries
+export -f build_c run_c hands_over stub other_libraries
 
 # Compiles the headers by this compiler in each of these standards, without a warning, and runs their program; and in the
 # standards that have threads of their own again with these in place of POSIX's calls.
@@ -116,6 +128,7 @@ else
         step 'C: groups_threads under valgrind' "${valgrind[@]}" "$room/plain/groups_threads"
         step 'C: waits under valgrind' "${valgrind[@]}" "$room/plain/waits"
         step 'C: memory under valgrind' "${valgrind[@]}" "$room/plain/memory"
+        step 'C: hand_over under valgrind' "${valgrind[@]}" "$room/plain/hand_over"
     else
         skip 'C: under valgrind' 'valgrind is not on this machine'
     fi
@@ -125,6 +138,13 @@ else
             step "C: run with sanitizer $sanitizers" bash -c "run_c '$sanitizers'"
         else
             skip "C: sanitizer $sanitizers" 'the C compiler has none that runs here'
+        fi
+    done
+    for compiler in gcc clang; do
+        if has_sanitizers thread "$compiler"; then
+            step "C: boxes under the thread sanitizer of $compiler" bash -c "hands_over $compiler"
+        else
+            skip "C: boxes under the thread sanitizer of $compiler" 'there is none that runs here'
         fi
     done
 fi

@@ -37,6 +37,10 @@
  * An out-parameter is written by every call that has it: with 0 in each field where the code tells nothing of it.
  *
  * Header and library are of one version: vahepito_check_version tells whether they are, and is for a program's start.
+ *
+ * Where the thread sanitizer is on, each call that begins a send tells it that the body is handed over, and each that
+ * gets an item that it was: the library isn't built for the sanitizer, which so sees none of its steps. Where
+ * VAHEPITO_UNTOLD is defined before this header, nothing is told.
  */
 #ifndef VAHEPITO_H
 #define VAHEPITO_H
@@ -212,6 +216,56 @@ uint32_t vahepito_try_take(vahepito_pass *receiver, vahepito_item *item, uint64_
  * calls.
  * DONE, NO_PASS. */
 uint32_t vahepito_drop(vahepito_pass *pass);
+
+/* What the thread sanitizer is told. A body is handed over under a place of this table, one for all bodies of one hash: so
+ * what was done before its send comes before what is done after its take, and hardly anything else does. */
+#if !defined(VAHEPITO_UNTOLD) && defined(__SANITIZE_THREAD__)
+#define VAHEPITO_TOLD 1
+#elif !defined(VAHEPITO_UNTOLD) && defined(__has_feature)
+#if __has_feature(thread_sanitizer)
+#define VAHEPITO_TOLD 1
+#endif
+#endif
+
+#if defined(VAHEPITO_TOLD)
+void __tsan_acquire(void *address);
+void __tsan_release(void *address);
+
+/* One table for all files of a program. */
+__attribute__((weak)) uint64_t vahepito_handed_over[4096];
+
+static inline void *vahepito_hand(uint64_t body) {
+    return &vahepito_handed_over[(body * UINT64_C(0x9e3779b97f4a7c15)) >> 52];
+}
+
+static inline uint32_t vahepito_got(uint32_t code, const vahepito_item *item) {
+    if (code == VAHEPITO_GOT) __tsan_acquire(vahepito_hand(item->body));
+    return code;
+}
+
+static inline uint32_t vahepito_begin_send_told(vahepito_pass *sender, uint64_t body) {
+    __tsan_release(vahepito_hand(body));
+    return vahepito_begin_send(sender, body);
+}
+
+static inline uint32_t vahepito_try_send_told(vahepito_pass *sender, uint64_t body, uint64_t *place, uint32_t *served) {
+    __tsan_release(vahepito_hand(body));
+    return vahepito_try_send(sender, body, place, served);
+}
+
+static inline uint32_t vahepito_turn_take_told(vahepito_pass *receiver, vahepito_item *item, uint64_t *total, uint32_t *served) {
+    return vahepito_got(vahepito_turn_take(receiver, item, total, served), item);
+}
+
+static inline uint32_t vahepito_try_take_told(vahepito_pass *receiver, vahepito_item *item, uint64_t *total, uint32_t *served) {
+    return vahepito_got(vahepito_try_take(receiver, item, total, served), item);
+}
+
+#define vahepito_begin_send vahepito_begin_send_told
+#define vahepito_try_send vahepito_try_send_told
+#define vahepito_turn_take vahepito_turn_take_told
+#define vahepito_try_take vahepito_try_take_told
+#endif
 
 #ifdef __cplusplus
 }
