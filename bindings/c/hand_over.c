@@ -25,7 +25,7 @@ static uint32_t sends(int thread, vahepito_pass *sender, uint64_t body) {
         code = thread == 2 ? vahepito_try_send(sender, body, &place, &served) : vahepito_begin_send(sender, body);
         if (code == VAHEPITO_BEGUN || code == VAHEPITO_WAITING) code = vahepito_finish_send(sender, NULL);
         if (code != VAHEPITO_FULL) return code;
-        vahepito_between_tries(&backoff);
+        vahepito_between_sends(&backoff);
     }
 }
 

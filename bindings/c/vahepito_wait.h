@@ -15,6 +15,10 @@
  * wait for it. Nobody is woken: who sleeps sees an item at most a millisecond late, and who waits for hours takes a
  * little processor time all the while.
  *
+ * A take may try in each of these rounds. A try of a send is a send that was begun, and uses up one of the `per_sender`
+ * that its sender may begin: so a send tries after 1, 2, 4, 8, .. of the rounds in which it yields, 17 times before it
+ * sleeps, and then after each sleep. It sees room at most about twice as late as if it had tried all the time.
+ *
  * Of each call the thread that holds the handle calls. An out-parameter may be NULL, and needs no value before; it is
  * written, with 0 where the code tells nothing of it. All else that vahepito.h says of handles holds here.
  *
@@ -116,6 +120,14 @@ static inline void vahepito_between_tries(vahepito_backoff *backoff) {
     }
 }
 
+/* The same for a sender, each of whose tries is used up: so many rounds of yields pass as have passed before. */
+static inline void vahepito_between_sends(vahepito_backoff *backoff) {
+    uint32_t rounds = 1;
+    if (backoff->round >= VAHEPITO_SPINS && backoff->round < VAHEPITO_SPINS + VAHEPITO_YIELDS - 1)
+        rounds += backoff->round - VAHEPITO_SPINS;
+    while (rounds-- > 0) vahepito_between_tries(backoff);
+}
+
 /* Turns a send that was begun until it is answered.
  * ACCEPTED with the place, FULL, CLOSED, SPENT. NO_PASS, WRONG_SIDE, NOT_BEGUN: nothing has changed. */
 static inline uint32_t vahepito_finish_send(vahepito_pass *sender, uint64_t *place) {
@@ -151,8 +163,9 @@ static inline uint32_t vahepito_finish_take(vahepito_pass *receiver, vahepito_it
     return code;
 }
 
-/* Sends this body, and waits for room. Each try counts as one of the sends that the sender may begin, so a sender that
- * waits again and again is WORN after hours (README.md).
+/* Sends this body, and waits for room. Each try counts as one of the sends that the sender may begin: 17 before it sleeps, and
+ * then at most a thousand in a second but for the first few. So a sender that waits again and again is WORN in the end
+ * (README.md says when, and how a program goes on).
  * ACCEPTED with the place; CLOSED, SPENT: not accepted, and nothing will be. NO_PASS, WRONG_SIDE, BUSY, WORN: not
  * accepted. */
 static inline uint32_t vahepito_send(vahepito_pass *sender, uint64_t body, uint64_t *place) {
@@ -162,7 +175,7 @@ static inline uint32_t vahepito_send(vahepito_pass *sender, uint64_t body, uint6
         if (place) *place = 0;
         if (code == VAHEPITO_BEGUN) code = vahepito_finish_send(sender, place);
         if (code != VAHEPITO_FULL) return code;
-        vahepito_between_tries(&backoff);
+        vahepito_between_sends(&backoff);
     }
 }
 

@@ -5,6 +5,7 @@
 #include "checks.h"
 
 #include <pthread.h>
+#include <time.h>
 
 enum { EACH = 4, ITEMS = 250 };
 
@@ -182,9 +183,38 @@ static void worn_while_it_waits(void) {
     drop_all();
 }
 
+static uint64_t milliseconds(void) {
+    struct timespec now;
+    check(timespec_get(&now, TIME_UTC) == TIME_UTC, "there is a clock");
+    return (uint64_t)now.tv_sec * 1000 + (uint64_t)now.tv_nsec / 1000000;
+}
+
+static void *sends_second(void *sender) {
+    check(vahepito_send(sender, 2, NULL) == VAHEPITO_ACCEPTED, "a send that waits is accepted");
+    return NULL;
+}
+
+/* A send that waits tries seldom, since each try is used up: 17 times before it sleeps, and then at most once in a
+ * millisecond but for the first few. */
+static void tries_are_few(void) {
+    vahepito_item item;
+    open_for(1, (uint64_t)1 << 48, UINT32_MAX);
+    check(vahepito_send(&senders[0], 1, NULL) == VAHEPITO_ACCEPTED, "there is room for one");
+    const uint64_t before = milliseconds();
+    start(&sending[1], sends_second, &senders[1]);
+    let_them_sleep();
+    check(vahepito_take(&receivers[0], &item, NULL) == VAHEPITO_GOT && item.body == 1, "the first is taken");
+    check(!pthread_join(sending[1], NULL), "a sender ends");
+    const uint64_t time = milliseconds() - before;
+    check(vahepito_take(&receivers[0], &item, NULL) == VAHEPITO_GOT && item.body == 2, "and the second");
+    check(item.number <= 24 + time, "few sends were begun for it");
+    drop_all();
+}
+
 int main(void) {
     refusals();
     worn_while_it_waits();
+    tries_are_few();
     behind_another();
     close_over_senders();
     close_over_receivers();
