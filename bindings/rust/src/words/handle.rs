@@ -227,6 +227,23 @@ impl Handle {
         })
     }
 
+    /// The same, and reads a GOT item where the library wrote it, field by field: to copy it as a whole
+    /// waits until all its fields are written.
+    #[inline]
+    pub fn try_take_as<R>(&mut self, read: impl FnOnce(&Item) -> R) -> Result<R, Taken> {
+        let (mut item, mut total, mut served) = (NO_ITEM, 0, 0);
+        let code = unsafe { vahepito_try_take(&mut self.0, &mut item, &mut total, &mut served) };
+        if code == code::GOT {
+            return Ok(read(&item));
+        }
+        Err(Taken {
+            code,
+            item,
+            total,
+            served,
+        })
+    }
+
     /// Whether no call is begun any more, after a turn of the one that was. An item that it got is
     /// lost.
     pub fn is_settled(&mut self) -> bool {

@@ -82,12 +82,32 @@ impl Receiver {
     /// # Errors
     ///
     /// See [`TryRecvError`].
+    #[inline]
     pub fn try_recv(&mut self) -> Result<Item, TryRecvError> {
+        self.try_recv_as(Item::clone)
+    }
+
+    /// The same, and gives what this reads of the item.
+    #[inline]
+    pub(crate) fn try_recv_as<R>(&mut self, read: impl Fn(&Item) -> R) -> Result<R, TryRecvError> {
+        if self.kept.is_some() {
+            return self.go_on_taking(None).map(|item| read(&item));
+        }
+        match self.handle.try_take_as(&read) {
+            Ok(got) => Ok(got),
+            Err(told) => self.go_on_taking(Some(told)).map(|item| read(&item)),
+        }
+    }
+
+    /// Goes on where the first turn didn't get an item, or there is one already.
+    #[inline(never)]
+    fn go_on_taking(&mut self, mut told: Option<Taken>) -> Result<Item, TryRecvError> {
         loop {
             if let Some(item) = self.kept.take() {
                 return Ok(item);
             }
-            let told = self.handle.try_take();
+            let first = told.take();
+            let told = first.unwrap_or_else(|| self.handle.try_take());
             match told.code {
                 code::WAITING => return turn_until(|| self.turn_take()).0,
                 code::BUSY => self.settle(),

@@ -102,15 +102,26 @@ impl Sender {
     ///
     /// See [`TrySendError`]. `Full` is told by what the sender knew: `capacity` items had been
     /// accepted beyond those of which it knew that they were taken.
+    #[inline]
     pub fn try_send(&mut self, body: u64) -> Result<u64, TrySendError> {
+        let told = self.handle.try_send(body);
+        match told.code {
+            code::ACCEPTED => Ok(told.number),
+            _ => self.go_on_sending(body, told),
+        }
+    }
+
+    /// Goes on where the first turn didn't tell that the item is accepted.
+    #[inline(never)]
+    fn go_on_sending(&mut self, body: u64, mut told: Told) -> Result<u64, TrySendError> {
         loop {
-            let told = self.handle.try_send(body);
             match told.code {
                 code::WAITING => return turn_until(|| self.turn_send()).0,
                 code::WORN => return Err(TrySendError::Worn),
                 code::BUSY => self.settle(),
                 _ => return sent(&told),
             }
+            told = self.handle.try_send(body);
         }
     }
 
