@@ -1,7 +1,7 @@
 //! Boxes that threads fill, hand over, read and free, for the thread sanitizer (`tools/test_bindings.sh`
-//! has it on). It sees this crate's own atomics, and neither the queue's nor what std does within its
-//! locks and its `Arc`. So nobody parks here: who waits tries again; and the handles are dropped by one
-//! thread, once the others are joined.
+//! has it on). It sees this crate's own atomics, the locks of shared handles among them, and neither the
+//! queue's nor what std does within its locks and its `Arc`. So nobody parks here: who waits tries again;
+//! and the handles are dropped by one thread, once the others are joined.
 use std::thread;
 use vahepito::{Receiver, Sender, TryRecvError, TrySendError, channel, groups};
 
@@ -11,7 +11,7 @@ const EACH: u64 = 2000;
 /// A box with a text of its own: a copy's memory is another's.
 type Item = Box<(u64, String)>;
 
-fn send_all(sender: Sender<Item>, number: u64) -> Sender<Item> {
+fn send_all(sender: &Sender<Item>, number: u64) {
     for k in 0..EACH {
         let mut item = Box::new((k, String::new()));
         item.1 = format!("{number}: {k}");
@@ -21,11 +21,10 @@ fn send_all(sender: Sender<Item>, number: u64) -> Sender<Item> {
             thread::yield_now();
         }
     }
-    sender
 }
 
 /// Takes until the end, and adds up; each item is written to before it is freed.
-fn take_all(receiver: Receiver<Item>) -> (u64, Receiver<Item>) {
+fn take_all(receiver: &Receiver<Item>) -> u64 {
     let mut sum = 0;
     loop {
         match receiver.try_recv() {
@@ -36,28 +35,30 @@ fn take_all(receiver: Receiver<Item>) -> (u64, Receiver<Item>) {
                 item.1.clear();
             }
             Err(TryRecvError::Empty) => thread::yield_now(),
-            Err(TryRecvError::Disconnected) => return (sum, receiver),
+            Err(TryRecvError::Disconnected) => return sum,
         }
     }
 }
 
-/// Sends from all senders to these receivers, and adds up what they took.
+/// Sends by these senders to these receivers, a thread for each, and adds up what was taken.
+fn pass(senders: &[&Sender<Item>], receivers: &[&Receiver<Item>]) -> u64 {
+    thread::scope(|scope| {
+        let taking = receivers.iter().map(|it| scope.spawn(|| take_all(it)));
+        let taking: Vec<_> = taking.collect();
+        let sending = (0..).zip(senders);
+        let sending = sending.map(|(number, it)| scope.spawn(move || send_all(it, number)));
+        let sending: Vec<_> = sending.collect();
+        sending.into_iter().for_each(|it| it.join().unwrap());
+        senders[0].close();
+        taking.into_iter().map(|it| it.join().unwrap()).sum()
+    })
+}
+
+/// The same with a clone of the sender for each thread.
 fn hand_over(sender: Sender<Item>, receivers: Vec<Receiver<Item>>) -> u64 {
-    let takers: Vec<_> = receivers
-        .into_iter()
-        .map(|receiver| thread::spawn(move || take_all(receiver)))
-        .collect();
-    let senders: Vec<_> = (0..SENDERS)
-        .map(|number| {
-            let sender = sender.clone();
-            thread::spawn(move || send_all(sender, number))
-        })
-        .collect();
-    let senders: Vec<_> = senders.into_iter().map(|it| it.join().unwrap()).collect();
-    sender.close();
-    let takers: Vec<_> = takers.into_iter().map(|it| it.join().unwrap()).collect();
-    drop(senders);
-    takers.into_iter().map(|(sum, _)| sum).sum()
+    let senders: Vec<_> = (0..SENDERS).map(|_| sender.clone()).collect();
+    let all: Vec<_> = senders.iter().collect();
+    pass(&all, &receivers.iter().collect::<Vec<_>>())
 }
 
 const SUM: u64 = SENDERS * EACH * (EACH - 1) / 2;
@@ -74,4 +75,13 @@ fn boxes_go_to_each_group() {
     let (sender, mut receivers) = groups(4, 2).unwrap();
     receivers.push(receivers[0].clone());
     assert_eq!(hand_over(sender, receivers), 2 * SUM);
+}
+
+#[test]
+fn boxes_go_by_shared_handles() {
+    let (sender, receiver) = channel(4).unwrap();
+    assert_eq!(pass(&[&sender; 3], &[&receiver; 3]), SUM);
+    let (sender, receivers) = groups(4, 2).unwrap();
+    let [one, other] = [&receivers[0], &receivers[1]];
+    assert_eq!(pass(&[&sender; 3], &[one, one, other, other]), 2 * SUM);
 }

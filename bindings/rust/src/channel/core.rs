@@ -6,25 +6,30 @@
 use super::PASSES;
 use super::event::{Event, lock};
 use super::line::{Extended, Line, Seated};
-use super::slots::{Free, Padded, Slots};
+use super::seat::SeatLock;
+use super::slots::{Hand, Held, Padded, Slots};
 use crate::words::{self, Config, OpenError};
 use std::any::Any;
 use std::panic::{AssertUnwindSafe, catch_unwind, resume_unwind};
-use std::sync::Mutex;
 use std::sync::atomic::{AtomicBool, AtomicU64, AtomicUsize, Ordering};
 
 /// What a sender's seat has.
 struct Sends {
     at: Seated<words::Sender>,
-    /// The slot for the next item, where it has one in hand.
-    free: Option<Free>,
     /// Whether it knows that every group has all items of the earlier queues.
     is_first: bool,
 }
 
-struct Seat<P> {
+/// What is under the lock of a seat.
+struct Locked<P> {
     /// None until it is used for the first time.
-    pass: Mutex<Option<P>>,
+    pass: Option<P>,
+    /// The slots for a sender's next items, or those that a receiver has emptied.
+    hand: Hand,
+}
+
+struct Seat<P> {
+    locked: SeatLock<Locked<P>>,
     /// How many items went through it. Written under the lock.
     count: AtomicU64,
 }
@@ -36,11 +41,17 @@ impl<P> Seat<P> {
     }
 }
 
+/// A seat for each pass, on the heap from the start.
+fn boxed<S>(seats: impl Iterator<Item = S>) -> Box<[S; PASSES]> {
+    let seats: Box<[S]> = seats.collect();
+    seats.try_into().ok().expect("there are so many")
+}
+
 /// The seats of one side, and which of them handles have.
 struct Seats<P> {
     /// A bit for each seat that a handle has.
     taken: AtomicU64,
-    seats: Box<[Padded<Seat<P>>]>,
+    seats: Box<[Padded<Seat<P>>; PASSES]>,
 }
 
 impl<P> Seats<P> {
@@ -48,18 +59,23 @@ impl<P> Seats<P> {
     fn new() -> Seats<P> {
         let seat = |_| {
             Padded(Seat {
-                pass: Mutex::new(None),
+                locked: SeatLock::new(Locked {
+                    pass: None,
+                    hand: Hand::empty(),
+                }),
                 count: AtomicU64::new(0),
             })
         };
         Seats {
             taken: AtomicU64::new(1),
-            seats: (0..PASSES).map(seat).collect(),
+            seats: boxed((0..PASSES).map(seat)),
         }
     }
 
+    #[inline]
     fn at(&self, seat: usize) -> &Seat<P> {
-        &self.seats[seat].0
+        // A handle's seat is one of these, so that the remainder is itself.
+        &self.seats[seat % PASSES].0
     }
 
     /// How many items went through all of them.
@@ -73,10 +89,8 @@ impl<P> Seats<P> {
 
     /// The same, with each whose call began before this.
     fn count_all_begun(&self) -> u64 {
-        let counts = self.seats.iter().map(|Padded(seat)| {
-            let _no_call = lock(&seat.pass);
-            seat.count.load(Ordering::Acquire)
-        });
+        let counts = (self.seats.iter())
+            .map(|Padded(seat)| seat.locked.with(|_| seat.count.load(Ordering::Acquire)));
         counts.sum()
     }
 
@@ -166,8 +180,10 @@ impl<T> Core<T> {
             letting_go: AtomicBool::new(false),
         };
         let groups: Box<[Group]> = (0..groups).map(group).collect();
-        // Those in the queues, one in the hand of each sender, and one that each receiver reads.
-        let count = config.capacity as usize + PASSES * (1 + groups.len());
+        // Those in the queues, and those in the hands of senders and of receivers; where there are
+        // several groups, one that a receiver copies in place of a hand.
+        let hands = PASSES * (1 + groups.len());
+        let count = config.capacity as usize + hands * Slots::<T>::IN_HAND;
         Ok(Core {
             slots: slots(count, PASSES),
             capacity: config.capacity.into(),
@@ -188,6 +204,7 @@ impl<T> Core<T> {
     }
 
     /// Of so many items of the channel, every group has each.
+    #[inline(never)]
     fn taken(&self) -> u64 {
         self.least(|group| group.seats.count())
     }
@@ -227,47 +244,89 @@ impl<T> Core<T> {
         sent
     }
 
+    #[inline]
     fn send_once(&self, seat: usize, item: T) -> Result<(), (Refusal, T)> {
-        {
-            let sends = self.senders.at(seat);
-            let mut pass = lock(&sends.pass);
-            let pass = pass.get_or_insert_with(|| Sends {
-                at: self.line.first_sender(seat),
-                free: None,
-                is_first: false,
-            });
-            // There is none where a shared receiver reads many items at once. It rings after it.
-            let Some(free) = pass.free.take().or_else(|| self.slots.free(seat)) else {
+        let sends = self.senders.at(seat);
+        sends.locked.with(|Locked { pass, hand }| {
+            let pass = pass.get_or_insert_with(|| self.first_sends(seat));
+            // There is none where receivers of several groups that threads share copy many items at
+            // once. They ring after it.
+            let Some(free) = self.slots.free(seat, hand) else {
                 return Err((Refusal::Full, item));
             };
             let held = self.slots.put(free, item);
-            if let Err(refusal) = self.send_word(seat, pass, held.word()) {
-                let (free, item) = self.slots.take_back(held);
-                pass.free = Some(free);
-                return Err((refusal, item));
+            if let Err(told) = self.send_here(pass, held.word()) {
+                self.go_on_sending(seat, pass, hand, held, told)?;
             }
             sends.count_one();
+            Ok(())
+        })?;
+        match &*self.groups {
+            [group] => group.items.ring(),
+            groups => groups.iter().for_each(|group| group.items.ring()),
         }
-        self.groups.iter().for_each(|group| group.items.ring());
         Ok(())
     }
 
-    /// Sends a word, and goes on to a further queue where this one is used up.
-    fn send_word(&self, seat: usize, sends: &mut Sends, word: u64) -> Result<(), Refusal> {
+    #[cold]
+    fn first_sends(&self, seat: usize) -> Sends {
+        Sends {
+            at: self.line.first_sender(seat),
+            is_first: false,
+        }
+    }
+
+    /// Sends a word to the queue where the seat is.
+    #[inline]
+    fn send_here(&self, sends: &mut Sends, word: u64) -> Result<u64, words::TrySendError> {
+        match sends.is_first {
+            true => sends.at.pass.try_send(word),
+            false => self.send_here_behind(sends, word),
+        }
+    }
+
+    /// The same where earlier queues may still have held items.
+    #[inline(never)]
+    fn send_here_behind(&self, sends: &mut Sends, word: u64) -> Result<u64, words::TrySendError> {
+        sends.is_first = self.taken() >= sends.at.queue.before;
+        match sends.is_first {
+            true => sends.at.pass.try_send(word),
+            false => self.send_behind(&mut sends.at, word),
+        }
+    }
+
+    /// Goes on where a queue didn't accept the word of this item: to a further queue, where this one is
+    /// used up, or closed with one behind it. Or else takes the item back.
+    #[inline(never)]
+    fn go_on_sending(
+        &self,
+        seat: usize,
+        sends: &mut Sends,
+        hand: &mut Hand,
+        held: Held,
+        told: words::TrySendError,
+    ) -> Result<(), (Refusal, T)> {
+        self.send_further(seat, sends, held.word(), told)
+            .map_err(|refusal| {
+                let (free, item) = self.slots.take_back(held);
+                self.slots.keep(free, hand);
+                (refusal, item)
+            })
+    }
+
+    fn send_further(
+        &self,
+        seat: usize,
+        sends: &mut Sends,
+        word: u64,
+        mut told: words::TrySendError,
+    ) -> Result<(), Refusal> {
         use words::TrySendError::{Closed, Full, Spent, Worn};
         loop {
-            if !sends.is_first {
-                sends.is_first = self.taken() >= sends.at.queue.before;
-            }
-            let told = match sends.is_first {
-                true => sends.at.pass.try_send(word),
-                false => self.send_behind(&mut sends.at, word),
-            };
             match told {
-                Ok(_) => return Ok(()),
-                Err(Full) => return Err(Refusal::Full),
-                Err(Closed) => {}
-                Err(Worn | Spent) => {
+                Full => return Err(Refusal::Full),
+                Closed => {}
+                Worn | Spent => {
                     if let Extended::NoMemory = self.line.extend(&mut sends.at, self.taken()) {
                         return Err(Refusal::NoMemory);
                     }
@@ -277,11 +336,16 @@ impl<T> Core<T> {
                 return Err(Refusal::Closed);
             }
             sends.is_first = false;
+            match self.send_here(sends, word) {
+                Ok(_) => return Ok(()),
+                Err(next) => told = next,
+            }
         }
     }
 
     /// Sends to a queue while an earlier one may still hold items, so that both together hold no more
     /// than the capacity: all that send to it then do so under one lock.
+    #[inline(never)]
     fn send_behind(
         &self,
         at: &mut Seated<words::Sender>,
@@ -327,29 +391,70 @@ impl<T> Core<T> {
     /// Takes an item for a group.
     #[inline]
     pub fn try_recv(&self, group: usize, seat: usize) -> Result<T, NoItem> {
-        let (owner, word) = self.take_word(group, seat)?;
+        if self.slots.has_one_group() {
+            let item = self.take_word(group, seat, |owner, word, hand| {
+                self.slots.take_alone(owner, word, hand)
+            })?;
+            self.room.ring();
+            return Ok(item);
+        }
+        self.try_recv_of_groups(group, seat)
+    }
+
+    /// The same where each group gets a copy, which is made once the seat is let go.
+    #[inline(never)]
+    fn try_recv_of_groups(&self, group: usize, seat: usize) -> Result<T, NoItem> {
+        let (owner, word) = self.take_word(group, seat, |owner, word, _| (owner, word))?;
         let _rings = Rings(&self.room);
         Ok(self.slots.take(group, owner, word))
     }
 
-    /// Takes a word. Gives its sender's seat, and the word.
+    /// Takes a word, and does this with its sender's seat, the word, and the hand of the receiver's
+    /// seat, while the seat is locked.
     #[inline]
-    fn take_word(&self, group: usize, seat: usize) -> Result<(usize, u64), NoItem> {
+    fn take_word<R>(
+        &self,
+        group: usize,
+        seat: usize,
+        got: impl FnOnce(usize, u64, &mut Hand) -> R,
+    ) -> Result<R, NoItem> {
         let takes = self.groups[group].seats.at(seat);
-        let mut pass = lock(&takes.pass);
-        let at = pass.get_or_insert_with(|| self.line.first_receiver(group, seat));
+        takes.locked.with(|Locked { pass, hand }| {
+            let at = pass.get_or_insert_with(|| self.first_takes(group, seat));
+            let taken = at.pass.try_recv_as(|item| (item.sender, item.body));
+            let (sender, word) = match taken {
+                Ok(item) => item,
+                Err(told) => self.go_on_taking((group, seat), at, told)?,
+            };
+            let got = got(sender as usize - 1, word, hand);
+            takes.count_one();
+            Ok(got)
+        })
+    }
+
+    #[cold]
+    fn first_takes(&self, group: usize, seat: usize) -> Seated<words::Receiver> {
+        self.line.first_receiver(group, seat)
+    }
+
+    /// Goes on where a queue gave no word: to a further one where this one has ended.
+    #[inline(never)]
+    fn go_on_taking(
+        &self,
+        seat: (usize, usize),
+        at: &mut Seated<words::Receiver>,
+        mut told: words::TryRecvError,
+    ) -> Result<(u32, u64), NoItem> {
         loop {
+            if told == words::TryRecvError::Empty {
+                return Err(NoItem::Empty);
+            }
+            if !self.line.receiver_goes_on(seat, at) {
+                return Err(NoItem::Ended);
+            }
             match at.pass.try_recv() {
-                Ok(item) => {
-                    takes.count_one();
-                    return Ok((item.sender as usize - 1, item.body));
-                }
-                Err(words::TryRecvError::Empty) => return Err(NoItem::Empty),
-                Err(words::TryRecvError::Ended { .. }) => {
-                    if !self.line.receiver_goes_on((group, seat), at) {
-                        return Err(NoItem::Ended);
-                    }
-                }
+                Ok(item) => return Ok((item.sender, item.body)),
+                Err(next) => told = next,
             }
         }
     }
@@ -358,16 +463,11 @@ impl<T> Core<T> {
     pub fn close(&self) -> bool {
         // Any seat does, and there is one at all times.
         const SEAT: usize = 0;
-        let closed = {
-            let mut pass = lock(&self.senders.at(SEAT).pass);
-            let sends = pass.get_or_insert_with(|| Sends {
-                at: self.line.first_sender(SEAT),
-                free: None,
-                is_first: false,
-            });
+        let closed = self.senders.at(SEAT).locked.with(|Locked { pass, .. }| {
+            let sends = pass.get_or_insert_with(|| self.first_sends(SEAT));
             sends.is_first = false;
             self.line.close(SEAT, &mut sends.at)
-        };
+        });
         if closed {
             self.groups
                 .iter()
@@ -420,7 +520,9 @@ impl<T> Core<T> {
             // Who finds another at it leaves it to that one, who looks once more when it is done. So a
             // drop of an item that sends again doesn't come here again.
             while left != 0 && !group.letting_go.swap(true, Ordering::SeqCst) {
-                while let Ok((owner, word)) = self.take_word(number, left - 1) {
+                while let Ok((owner, word)) =
+                    self.take_word(number, left - 1, |owner, word, _| (owner, word))
+                {
                     let drops = || drop(self.slots.pass_over(number, owner, word));
                     panic = panic.or(catch_unwind(AssertUnwindSafe(drops)).err());
                 }

@@ -7,6 +7,7 @@ mod line;
 #[cfg(test)]
 mod linear;
 mod receiver;
+mod seat;
 mod sender;
 mod slots;
 #[cfg(test)]

@@ -50,6 +50,7 @@ impl<T> Receiver<T> {
     /// assert_eq!(receiver.try_recv(), Err(TryRecvError::Disconnected));
     /// # Ok::<(), vahepito::OpenError>(())
     /// ```
+    #[inline]
     pub fn try_recv(&self) -> Result<T, TryRecvError> {
         let taken = self.core.try_recv(self.group, self.seat);
         taken.map_err(|none| match none {

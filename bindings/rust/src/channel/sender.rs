@@ -46,6 +46,7 @@ impl<T> Sender<T> {
     /// assert_eq!(sender.try_send('b'), Err(TrySendError::Disconnected('b')));
     /// # Ok::<(), vahepito::OpenError>(())
     /// ```
+    #[inline]
     pub fn try_send(&self, item: T) -> Result<(), TrySendError<T>> {
         let sent = self.core.try_send(self.seat, item);
         sent.map_err(|(refusal, item)| match refusal {

@@ -3,12 +3,15 @@
 //!
 //! A slot is in one of these states, by the bits of its `state`:
 //!
-//! - **0**: it holds no item. It is free, in one of the lists, or somebody has it in hand, as the one
-//!   [`Free`] of its number.
+//! - **0**: it holds no item. It is free, in one of the lists or in the [`Hand`] of a seat, or somebody
+//!   is about to use it, as the one [`Free`] of its number.
 //! - **A claim bit and a rest bit for each group**: it holds an item. A reader of group `g` first
 //!   clears the claim bit of `g`, and only who found it set goes on; and it clears the rest bit of
 //!   `g` once it has its copy. Who finds no other group's rest bit has the item itself, and nobody
 //!   else reads it any more: it moves the item out, stores 0, and then frees the slot.
+//!
+//! A list changes by a compare-and-swap, which costs as much as much else of a call. So a seat draws a
+//! few slots at a time, which it has in hand then, and gives a few back at a time.
 #![allow(unsafe_code)]
 
 use std::cell::UnsafeCell;
@@ -20,13 +23,33 @@ const REST: u32 = 8;
 
 struct Slot<T> {
     state: AtomicU32,
-    /// In a list of free slots: the number of the next, and 1; or 0 at its end.
+    /// In a list of free slots, or in a hand: the number of the next, and 1; or 0 at its end.
     next: AtomicU32,
     item: UnsafeCell<MaybeUninit<T>>,
 }
 
 /// A free slot in hand. There is one for each slot at most, and it isn't copied.
 pub struct Free(u32);
+
+/// Free slots in a chain, which one seat has for itself. It isn't copied, and is used with the slots
+/// that filled it.
+pub struct Hand {
+    /// The number of the first, and 1; or 0 where there is none.
+    first: u32,
+    /// The same of the last. Of no meaning where there is none.
+    last: u32,
+    count: u32,
+}
+
+impl Hand {
+    pub const fn empty() -> Hand {
+        Hand {
+            first: 0,
+            last: 0,
+            count: 0,
+        }
+    }
+}
 
 /// A slot in hand whose item was put, but not yet sent.
 pub struct Held(u32);
@@ -49,6 +72,8 @@ pub struct Slots<T> {
     /// through changes fails.
     free: Box<[Padded<AtomicU64>]>,
     groups: u32,
+    /// The state of a slot whose item nobody has taken.
+    untaken: u32,
     /// Called only where there are several groups.
     copy: fn(&T) -> T,
 }
@@ -83,51 +108,108 @@ impl<T: Send> Slots<T> {
             item: UnsafeCell::new(MaybeUninit::uninit()),
         };
         // All slots are the first owner's, until others take from there.
+        let claims = (1 << groups) - 1;
         let list = |owner| Padded(AtomicU64::new(u64::from(owner == 0)));
         Slots {
             slots: (1..=count).map(slot).collect(),
             free: (0..owners).map(list).collect(),
             groups,
+            untaken: claims << REST | claims,
             copy,
         }
     }
 }
 
 impl<T> Slots<T> {
-    /// The state of a slot whose item nobody has taken.
-    fn untaken(&self) -> u32 {
-        let groups = (1 << self.groups) - 1;
-        groups << REST | groups
+    /// So many free slots are in a hand at most. Of large items there are few: each hand of a channel
+    /// may have as many more than the channel holds.
+    pub const IN_HAND: usize = match size_of::<T>() {
+        0..=64 => 8,
+        _ => 2,
+    };
+
+    /// A free slot: one in hand, or else of this owner's list, or of another's.
+    #[inline]
+    pub fn free(&self, owner: usize, hand: &mut Hand) -> Option<Free> {
+        if hand.first == 0 {
+            self.draw(owner, hand);
+        }
+        let first = hand.first.checked_sub(1)?;
+        hand.first = self.slots[first as usize].next.load(Ordering::Relaxed);
+        hand.count -= 1;
+        Some(Free(first))
     }
 
-    /// Takes a free slot: of this owner's list, or else of another's.
-    pub fn free(&self, owner: usize) -> Option<Free> {
+    /// Puts a slot in hand.
+    #[inline]
+    pub fn keep(&self, free: Free, hand: &mut Hand) {
+        let next = &self.slots[free.0 as usize].next;
+        next.store(hand.first, Ordering::Relaxed);
+        if hand.first == 0 {
+            hand.last = free.0 + 1;
+        }
+        hand.first = free.0 + 1;
+        hand.count += 1;
+    }
+
+    /// The same, and gives all in hand to this owner's list where they are as many as may be.
+    #[inline]
+    fn keep_few(&self, owner: usize, free: Free, hand: &mut Hand) {
+        self.keep(free, hand);
+        if hand.count as usize >= Self::IN_HAND {
+            self.give_back(owner, hand);
+        }
+    }
+
+    /// Draws slots of a list into an empty hand, where there are some.
+    #[cold]
+    fn draw(&self, owner: usize, hand: &mut Hand) {
         let lists = self.free.len();
-        let mut others = (owner..lists).chain(0..owner);
-        others.find_map(|owner| self.pop(&self.free[owner].0))
+        let drawn = (owner..lists)
+            .chain(0..owner)
+            .find_map(|owner| self.pop(&self.free[owner].0));
+        if let Some(drawn) = drawn {
+            *hand = drawn;
+        }
     }
 
-    fn pop(&self, list: &AtomicU64) -> Option<Free> {
+    /// Takes the first slots of a list.
+    fn pop(&self, list: &AtomicU64) -> Option<Hand> {
         let mut head = list.load(Ordering::SeqCst);
         loop {
-            let first = (head & 0xffff).checked_sub(1)? as u32;
-            let next = self.slots[first as usize].next.load(Ordering::Relaxed);
+            let first = (head & 0xffff) as u32;
+            let (mut last, mut count) = (first.checked_sub(1)?, 1);
+            let mut next = self.slots[last as usize].next.load(Ordering::Relaxed);
+            // Where another took some meanwhile this goes astray, and the exchange below fails.
+            while next != 0 && count < Self::IN_HAND as u32 {
+                last = next - 1;
+                count += 1;
+                next = self.slots[last as usize].next.load(Ordering::Relaxed);
+            }
             let rest = ((head >> 16) + 1) << 16 | u64::from(next);
             match list.compare_exchange_weak(head, rest, Ordering::SeqCst, Ordering::SeqCst) {
-                Ok(_) => return Some(Free(first)),
+                Ok(_) => {
+                    self.slots[last as usize].next.store(0, Ordering::Relaxed);
+                    let last = last + 1;
+                    return Some(Hand { first, last, count });
+                }
                 Err(now) => head = now,
             }
         }
     }
 
-    /// Puts a slot into this owner's list.
-    pub fn give_back(&self, owner: usize, free: Free) {
+    /// Puts what is in hand into this owner's list.
+    fn give_back(&self, owner: usize, hand: &mut Hand) {
+        let Hand { first, last, .. } = std::mem::replace(hand, Hand::empty());
+        let Some(last) = last.checked_sub(1).filter(|_| first != 0) else {
+            return;
+        };
         let list = &self.free[owner].0;
         let mut head = list.load(Ordering::Relaxed);
         loop {
-            let next = &self.slots[free.0 as usize].next;
+            let next = &self.slots[last as usize].next;
             next.store((head & 0xffff) as u32, Ordering::Relaxed);
-            let all = head & !0xffff | u64::from(free.0 + 1);
+            let all = head & !0xffff | u64::from(first);
             match list.compare_exchange_weak(head, all, Ordering::SeqCst, Ordering::Relaxed) {
                 Ok(_) => return,
                 Err(now) => head = now,
@@ -141,7 +223,7 @@ impl<T> Slots<T> {
         let slot = &self.slots[free.0 as usize];
         // SAFETY: the slot's state is 0, and its one `Free` is here: nobody else reads or writes.
         unsafe { (*slot.item.get()).write(item) };
-        slot.state.store(self.untaken(), Ordering::Release);
+        slot.state.store(self.untaken, Ordering::Release);
         Held(free.0)
     }
 
@@ -150,10 +232,30 @@ impl<T> Slots<T> {
     pub fn take_back(&self, held: Held) -> (Free, T) {
         let slot = &self.slots[held.0 as usize];
         let before = slot.state.swap(0, Ordering::AcqRel);
-        assert_eq!(before, self.untaken(), "an item was taken that wasn't sent");
+        assert_eq!(before, self.untaken, "an item was taken that wasn't sent");
         // SAFETY: the item was put, and no claim of it was made, nor can be made any more.
         let item = unsafe { (*slot.item.get()).assume_init_read() };
         (Free(held.0), item)
+    }
+
+    /// Whether no item is ever copied, as there is one group.
+    #[inline]
+    pub fn has_one_group(&self) -> bool {
+        self.groups == 1
+    }
+
+    /// Takes the item of a slot where there is one group: no foreign code runs. The slot is then in
+    /// this hand, and goes to this owner with the others there, once they are many.
+    #[inline]
+    pub fn take_alone(&self, owner: usize, word: u64, hand: &mut Hand) -> T {
+        assert!(self.has_one_group());
+        let (at, _) = self.claimed(0, word);
+        let slot = &self.slots[at];
+        // SAFETY: the item was put; its one group's claim was made here, and no other can be made.
+        let item = unsafe { (*slot.item.get()).assume_init_read() };
+        slot.state.store(0, Ordering::Relaxed);
+        self.keep_few(owner, Free(at as u32), hand);
+        item
     }
 
     /// Takes the item of a slot for a group: a copy, or for the last group the item itself. The slot
@@ -180,17 +282,24 @@ impl<T> Slots<T> {
         reading.finish()
     }
 
+    /// Claims the item of a slot for a group. Gives the slot, and its state before.
     #[inline]
-    fn claim(&self, group: usize, owner: usize, word: u64) -> Reading<'_, T> {
+    fn claimed(&self, group: usize, word: u64) -> (usize, u32) {
         let slot = usize::try_from(word).ok().and_then(|at| self.slots.get(at));
         let before = slot.map_or(0, |it| it.state.fetch_and(!(1 << group), Ordering::AcqRel));
         assert!(
             before & 1 << group != 0,
             "an item was given to a group twice"
         );
+        (word as usize, before)
+    }
+
+    #[inline]
+    fn claim(&self, group: usize, owner: usize, word: u64) -> Reading<'_, T> {
+        let (at, before) = self.claimed(group, word);
         Reading {
             slots: self,
-            at: word as usize,
+            at,
             rest: 1 << group << REST,
             owner,
             is_last: before >> REST == 1 << group,
@@ -237,7 +346,9 @@ impl<T> Reading<'_, T> {
         // its rest bit, and no rest bit but this one's is left: nobody else reads it any more.
         let item = unsafe { (*slot.item.get()).assume_init_read() };
         slot.state.store(0, Ordering::Relaxed);
-        self.slots.give_back(self.owner, Free(self.at as u32));
+        let mut hand = Hand::empty();
+        self.slots.keep(Free(self.at as u32), &mut hand);
+        self.slots.give_back(self.owner, &mut hand);
         item
     }
 }
