@@ -62,10 +62,16 @@ typedef struct {
     uint32_t senders;    /* 1 to 64 */
     uint32_t receivers;  /* 1 to 64: how many there are in each group */
     uint32_t capacity;   /* 1 to 4096: how many items the queue holds at once */
-    uint32_t bound;      /* 1 to 1024: how many calls one turn serves at most */
+    uint32_t bound;      /* 1 to 1024: how many calls one turn serves at most: 64 does for all (below) */
     uint64_t life;       /* 1 to 2^48: how many items it accepts in all */
     uint32_t per_sender; /* 1 to 2^32 - 1: how many sends one sender begins at most */
 } vahepito_config;
+
+/* The bound: one thread serves the waiting calls of its side (the senders, or the receivers of its group) in one go, at
+ * most so many, and then hands over to the next in line. Below about a quarter of the side's passes, where there are more
+ * threads than processors, that is often a thread that doesn't run at the moment, and all others of the side wait until it
+ * does. 64 does for every queue, as no side has more passes. The higher it is, the more calls one call may serve before it
+ * comes back; with 1 a call serves none but its own. */
 
 /* A handle of one pass. It is empty, as VAHEPITO_PASS_EMPTY, or it holds a pass. */
 typedef struct {

@@ -22,7 +22,9 @@ pub struct Config {
     pub receivers: u32,
     /// How many items the queue holds at once, 1 to 4,096.
     pub capacity: u32,
-    /// How many calls one turn serves at most, 1 to 1,024: see [The bound](crate::words#the-bound).
+    /// How many calls one turn serves at most before it hands over to the next in line, 1 to 1,024.
+    /// Below about a quarter of the passes of a side it is often handed over to a thread that doesn't
+    /// run at the moment, and the side waits for it: see [The bound](crate::words#the-bound).
     pub bound: u32,
     /// How many items the queue accepts in all, 1 to 2^48.
     pub life: u64,
@@ -32,8 +34,8 @@ pub struct Config {
 }
 
 impl Config {
-    /// So many senders, receivers, and items at once; a bound of 64, and the longest life: 2^48
-    /// items, and 2^32 - 1 sends of each sender.
+    /// So many senders, receivers, and items at once; a bound of 64, which does for any number of
+    /// passes, and the longest life: 2^48 items, and 2^32 - 1 sends of each sender.
     pub const fn new(senders: u32, receivers: u32, capacity: u32) -> Config {
         Config {
             senders,
