@@ -9,6 +9,7 @@ int main(void) {
     vahepito_item item = {0, 0, 0, 0};
     uint64_t place = 0, total = 0;
     uint32_t served = 0;
+    if (vahepito_check_version() != VAHEPITO_DONE) return 5;
     if (vahepito_open(&config, &sender, 1, &receiver, 1) != VAHEPITO_DONE) return 1;
     if (vahepito_try_send(&sender, 42, &place, &served) != VAHEPITO_ACCEPTED) return 2;
     if (vahepito_try_take(&receiver, &item, &total, &served) != VAHEPITO_GOT) return 3;

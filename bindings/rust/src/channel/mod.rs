@@ -60,8 +60,8 @@ fn config(capacity: usize) -> Config {
 ///
 /// # Errors
 ///
-/// A capacity out of its range, or want of memory for the queue. (Where std has no memory for the
-/// slots, it ends the process, as always.)
+/// The linked library is another one than this crate is for; a capacity out of its range; or want of
+/// memory for the queue. (Where std has no memory for the slots, it ends the process, as always.)
 pub fn channel<T: Send>(capacity: usize) -> Result<(Sender<T>, Receiver<T>), OpenError> {
     let (sender, mut receivers) = open(config(capacity), 1, Slots::of_one_group)?;
     Ok((sender, receivers.remove(0)))
@@ -90,7 +90,7 @@ pub fn channel<T: Send>(capacity: usize) -> Result<(Sender<T>, Receiver<T>), Ope
 ///
 /// # Errors
 ///
-/// A capacity or a number of groups out of its range, or want of memory.
+/// As of [`channel`], and a number of groups out of its range.
 pub fn groups<T: Clone + Send + Sync>(
     capacity: usize,
     groups: usize,

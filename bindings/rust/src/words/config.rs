@@ -151,8 +151,8 @@ pub fn open(config: Config) -> Result<(Vec<Sender>, Vec<Receiver>), OpenError> {
 ///
 /// # Errors
 ///
-/// As of [`open`]: the first field of the configuration that is out of its range; then the number of
-/// groups, where it isn't from 1 to 8; else want of memory.
+/// As of [`open`]: another library; the first field of the configuration that is out of its range;
+/// then the number of groups, where it isn't from 1 to 8; else want of memory.
 pub fn open_groups(
     config: Config,
     groups: u32,

@@ -2,8 +2,8 @@
 use std::error::Error;
 use std::fmt::{Display, Formatter, Result};
 
-/// Why a queue wasn't opened: the first field of its configuration that is out of its range, its
-/// number of groups, or want of memory.
+/// Why a queue wasn't opened: another library, the first field of its configuration that is out of
+/// its range, its number of groups, or want of memory.
 #[derive(Clone, Copy, Debug, PartialEq, Eq, Hash)]
 #[non_exhaustive]
 pub enum OpenError {
