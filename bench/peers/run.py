@@ -1,0 +1,354 @@
+#!/usr/bin/env python3
+"""Times the proved queue beside its peers, in one run, and writes the tables and pictures of docs/BENCH.md.
+
+    bench/peers/run.py [--seconds N] [--print] [--again]
+
+One command, in some N seconds (420 where no number is given; 120 are a short form, and 20 a trial), after the build. It
+takes crossbeam's, flume's and smol's queues from Debian's packages: those that aren't there it installs, where it is root
+and there is apt-get, and goes on without those that it can't have. The proved queue is linked from
+crates/cc_binding/out, which tools/build_library.sh fills; where nothing is there, that is run first, in some ten minutes.
+
+A run is some rounds of bursts: each round runs each queue in each shape once, all of them in a random order, each in a
+process of its own. The medians of the rounds are told, and their quartiles. What others took of the processors
+meanwhile is measured and written beside them. --print writes nothing into docs, --again takes the figures of the last run.
+"""
+import argparse
+import glob
+import json
+import math
+import os
+import random
+import resource
+import shutil
+import statistics
+import subprocess
+import sys
+import time
+
+HERE = os.path.dirname(os.path.abspath(__file__))
+TOP = os.path.dirname(os.path.dirname(HERE))
+OUT = os.path.join(HERE, "out")
+ARCHIVE = os.path.join(TOP, "crates", "cc_binding", "out", "libcc_binding.a")
+BENCH = os.path.join(TOP, "docs", "BENCH.md")
+PICTURES = os.path.join(TOP, "docs", "pictures")
+BEGIN, END = "<!-- bench/peers/run.py writes from here -->\n", "<!-- to here -->\n"
+REGISTRY = "/usr/share/cargo/registry"
+LIBRARIES = ["crossbeam-channel", "crossbeam-queue", "flume", "async-channel", "concurrent-queue"]
+OURS, POLLED, OF_STD = ["words", "typed"], ["crossbeam-queue", "concurrent-queue"], ["sync_channel", "Mutex+Condvar"]
+SHOWN = {"words": "**words**", "typed": "**typed**", "crossbeam-queue": "crossbeam's ArrayQueue"}
+BOUND = 64
+
+
+# What is there, and the build.
+
+def version(library):
+    """Of a library that cargo finds among Debian's, or None."""
+    found = [os.path.basename(path)[len(library) + 1:] for path in glob.glob(f"{REGISTRY}/{library}-*")]
+    return next((text for text in found if text[0].isdigit()), None)
+
+
+def install():
+    missing = [f"librust-{library}-dev" for library in LIBRARIES if not version(library)]
+    if missing and os.geteuid() == 0 and shutil.which("apt-get"):
+        for package in missing:
+            command = ["apt-get", "install", "-y", "--no-install-recommends", "-o", "Acquire::Retries=0", package]
+            try:
+                subprocess.run(command, capture_output=True, timeout=300)
+            except subprocess.TimeoutExpired:
+                break
+    there = [library for library in LIBRARIES if version(library)]
+    for library in LIBRARIES:
+        if library not in there:
+            print(f"peers: goes on without {library}: apt-get install --no-install-recommends librust-{library}-dev")
+    return there
+
+
+def build(there):
+    """The program, of the libraries that are there; its package names no other ones."""
+    if not os.path.isfile(ARCHIVE) and "VAHEPITO_LIB" not in os.environ:
+        subprocess.run([os.path.join(TOP, "tools", "build_library.sh")], check=True)
+    os.makedirs(os.path.join(OUT, ".cargo"), exist_ok=True)
+    wanted, features = "", ""
+    for library in LIBRARIES:
+        if library in there:
+            wanted += f'{library} = {{ version = "*", optional = true, default-features = {"false" if library == "flume" else "true"} }}\n'
+        features += f'{library} = ["dep:{library}"]\n' if library in there else f"{library} = []\n"
+    with open(os.path.join(OUT, "Cargo.toml"), "w") as file:
+        file.write('[package]\nname = "peers"\nversion = "0.1.0"\nedition = "2024"\n\n[workspace]\n\n'
+                   '[[bin]]\nname = "peers"\npath = "../src/main.rs"\n\n'
+                   '[dependencies]\nvahepito = { path = "../../../bindings/rust" }\n' + wanted + "\n[features]\n" + features)
+    with open(os.path.join(OUT, ".cargo", "config.toml"), "w") as file:
+        file.write(f'[source.crates-io]\nreplace-with = "debian"\n\n[source.debian]\ndirectory = "{REGISTRY}"\n' if there else "")
+    lock = os.path.join(OUT, "Cargo.lock")
+    if os.path.exists(lock):
+        os.remove(lock)
+    subprocess.run(["cargo", "build", "-q", "--release", "--offline", "--features", ",".join(there)], cwd=OUT, check=True)
+    return os.path.join(OUT, "target", "release", "peers")
+
+
+# What the machine does meanwhile.
+
+def ticks():
+    """The seconds of all processors since the boot: in use, and stolen by the host."""
+    with open("/proc/stat") as file:
+        words = [int(word) / os.sysconf("SC_CLK_TCK") for word in file.readline().split()[1:]]
+    return sum(words[:3]) + words[5] + words[6], words[7]
+
+
+def own():
+    return sum(sum(resource.getrusage(who)[:2]) for who in (resource.RUSAGE_SELF, resource.RUSAGE_CHILDREN))
+
+
+def processes():
+    """The seconds of the processors that each other process has had, by its number and name."""
+    spent = {}
+    for path in glob.glob("/proc/[0-9]*/stat"):
+        try:
+            with open(path) as file:
+                text = file.read()
+        except OSError:
+            continue
+        number, name, words = int(text.split()[0]), text[text.index("(") + 1:text.rindex(")")], text[text.rindex(")") + 2:].split()
+        if number != os.getpid():
+            spent[number, name] = (int(words[11]) + int(words[12])) / os.sysconf("SC_CLK_TCK")
+    return spent
+
+
+class Watch:
+    """What others take of the processors, in the mean and in the worst round."""
+
+    def __init__(self):
+        self.load, self.processes, self.start, self.rounds = os.getloadavg(), processes(), time.time(), []
+        self.last = (*ticks(), own(), time.time())
+
+    def round(self):
+        now = (*ticks(), own(), time.time())
+        busy, stolen, mine, seconds = (after - before for before, after in zip(self.last, now))
+        self.rounds.append((max(0, busy - mine) / seconds, stolen / seconds))
+        self.last = now
+
+    def told(self):
+        seconds = time.time() - self.start
+        names = {}
+        for key, spent in processes().items():
+            names[key[1]] = names.get(key[1], 0) + (spent - self.processes.get(key, 0)) / seconds
+        busiest = sorted(names.items(), key=lambda it: -it[1])[:3]
+        mean, worst = (pick(others for others, _ in self.rounds) for pick in (lambda it: statistics.mean(list(it)), max))
+        model = next((line.split(":")[1].strip() for line in open("/proc/cpuinfo") if line.startswith("model name")), "unknown")
+        return {
+            "date": time.strftime("%Y-%m-%d %H:%M UTC", time.gmtime(self.start)), "seconds": round(seconds), "rounds": len(self.rounds),
+            "processors": os.cpu_count(), "usable": len(os.sched_getaffinity(0)), "model": model, "kernel": os.uname().release,
+            "load": [self.load, os.getloadavg()], "others": mean, "worst": worst,
+            "stolen": statistics.mean(stolen for _, stolen in self.rounds),
+            "busiest": [(name, share) for name, share in busiest if share >= 0.01],
+        }
+
+
+# The tables: what a cell runs, and which of the numbers of its bursts it shows.
+
+PAIRS = [(1, 1), (2, 2), (4, 4), (8, 8), (16, 16), (32, 32)]
+CAPACITIES = [1, 16, 64, 256, 1024, 4096]
+BOUNDS = [4, 8, 16, 64, 256, 1024]
+
+
+def shape(senders, receivers, capacity=64, bound=BOUND):
+    return (senders, receivers, capacity, bound)
+
+
+def cell(mode, queue, it, length=1.0):
+    """A burst: its mode, its queue, its shape, and how long it is beside the others."""
+    return (mode, queue, it, length)
+
+
+def tables(queues):
+    """Name, title, whether columns are joined in the picture, unit, what is told of it, and {row: {column: (cell, which number)}}."""
+    waiting = [queue for queue in queues if queue not in POLLED]
+    at = lambda n: f"{n[0]}/{n[1]}"
+    return [
+        ("clock", "An item's time, by the clock", True, "ns an item",
+         "Capacity 64, the blocking calls; *one thread* is a send and the take of its item, by the calls that don't wait. Columns are "
+         "senders/receivers, each on a thread of its own.",
+         {q: {"one thread": (cell("alone", q, shape(1, 1), 0.3), 0), **{at(n): (cell("pass", q, shape(*n)), 0) for n in PAIRS}} for q in queues}),
+        ("processors", "An item's time, of all processors together", True, "ns an item",
+         "The same bursts.",
+         {q: {at(n): (cell("pass", q, shape(*n)), 1) for n in PAIRS} for q in queues}),
+        ("calls", "One call's time", False, "ns",
+         "`try_send` that is accepted and `try_recv` that gets an item, with 0 to 10 us of other work before each call; capacity 64. The "
+         "clock's own time, some 20 to 50 ns, is in each. 4/4 are more threads than four processors.",
+         {q: {f"{at(n)} {name}": (cell("calls", q, shape(*n)), k) for n in ((2, 2), (4, 4))
+              for k, name in enumerate(("send p50", "send p99", "take p50", "take p99"))} for q in queues}),
+        ("paced", "A receiver that waits, an item a millisecond", False, "us",
+         "p50 and p99 from before the send to after the take, and the processors' time of both threads for an item. Queues that don't wait "
+         "aren't in it.",
+         {q: {name: (cell("paced", q, shape(1, 1), 5), k) for k, name in enumerate(("p50", "p99", "receiver's processor", "sender's processor"))}
+          for q in waiting}),
+        ("idle", "Receivers that wait for nothing", False, "thousandths of a processor, each",
+         "1 or 8 receivers of an empty queue, into which nothing is sent.",
+         {q: {f"{n} waiting": (cell("idle", q, shape(1, n), 2), 0) for n in (1, 8)} for q in waiting}),
+        ("full", "A send that finds the queue full, by capacity", True, "ns a call",
+         "`try_send` on one thread, again and again.",
+         {q: {str(c): (cell("full", q, shape(1, 1, c), 0.2), 0) for c in CAPACITIES} for q in queues}),
+        ("bounds", "The bound, by threads", True, "ns an item",
+         "Queues of words with capacity 64 and bounds of 4 to 1,024; the crate's own is 64.",
+         {f"bound {b}": {at(n): (cell("pass", "words", shape(*n, 64, b)), 0) for n in PAIRS[2:]} for b in BOUNDS}),
+    ]
+
+
+def measure(program, all_tables, seconds):
+    """The numbers of each cell's bursts, round by round, in some so many seconds."""
+    cells = list({one: None for *_, rows in all_tables for columns in rows.values() for one, _ in columns.values()})
+    rounds = 3 if seconds < 60 else 9 if seconds < 300 else 15
+    start, watch, numbers, took = time.time(), Watch(), {one: [] for one in cells}, 0.0
+    own_time = 0.015  # what a burst takes beside its length: a process's start, and its threads' ends
+    length = max(10, (seconds / rounds - own_time * len(cells)) / sum(one[3] for one in cells) * 1000)
+    print(f"peers: {len(cells)} bursts a round, {rounds} rounds, {length:.0f} ms the usual burst", flush=True)
+    for number in range(rounds):
+        if number > 0 and time.time() - start + took > seconds * 1.1:
+            break
+        began = time.time()
+        for one in random.sample(cells, len(cells)):
+            mode, queue, it, part = one
+            command = [program, mode, queue, *map(str, it), str(max(5, round(length * part)))]
+            try:
+                done = subprocess.run(command, capture_output=True, text=True, timeout=30 + length / 100)
+                numbers[one].append([float(word) for word in done.stdout.split()] if done.returncode == 0 else None)
+                fault = done.stderr.strip()
+            except subprocess.TimeoutExpired:
+                numbers[one].append(None)
+                fault = "no end in time"
+            if numbers[one][-1] is None:
+                print(f"peers: {' '.join(command[1:])} failed: {fault}", flush=True)
+        watch.round()
+        took = time.time() - began
+        print(f"peers: round {number + 1} of {rounds} in {took:.0f} s, others had {watch.rounds[-1][0]:.2f} processors", flush=True)
+    return {"machine": watch.told(), "length": length, "numbers": [[one, of] for one, of in numbers.items()]}
+
+
+def quartiles(numbers, one, which):
+    """Of a cell; None where no burst of it came to its end."""
+    values = [burst[which] for burst in numbers[one] if burst and math.isfinite(burst[which])]
+    if not values:
+        return None
+    low, _, high = statistics.quantiles(values, n=4, method="inclusive") if len(values) > 1 else values * 3
+    return low, statistics.median(values), high
+
+
+def short(value):
+    return f"{value:,.0f}" if value >= 99.5 else f"{value:.2g}" if value < 9.95 else f"{value:.0f}"
+
+
+def text_of(machine, length, versions, all_tables, numbers):
+    """The section of docs/BENCH.md."""
+    idle = machine["others"] < 0.1
+    busiest = ", ".join(f"`{name}` {share:.2f}" for name, share in machine["busiest"]) or "none with a hundredth of a processor"
+    loads = " and ".join(", ".join(f"{one:.2f}" for one in load) for load in machine["load"])
+    queues = ", ".join(f"{library} {number}" for library, number in versions.items())
+    queues += " (as Debian has them), " if queues else ""
+    lines = [
+        f"{machine['date']}, {machine['rounds']} rounds in {machine['seconds']} s, a burst of {length:.0f} ms in each: {machine['model']}, "
+        f"{machine['usable']} of {machine['processors']} processors, Linux {machine['kernel']}. "
+        f"The load was {loads} before and after (of 1, 5 and 15 minutes); "
+        + ("the machine was idle otherwise: " if idle else "**others ran meanwhile, so compare within a column alone**: ")
+        + f"other processes had {machine['others']:.2f} processors in the mean and {machine['worst']:.2f} in the worst round "
+        f"({busiest}), and the host took {machine['stolen']:.2f}.", "",
+        f"*words* are the proved queues of words and *typed* the channel of any type, both of `bindings/rust`, with a bound of {BOUND}; "
+        f"the peers are {queues}std's `sync_channel`, whose one receiver is shared under a lock, and std's `Mutex` with two "
+        "`Condvar`s round a `VecDeque`. ArrayQueue and concurrent-queue have no calls that wait: they are tried again, first with "
+        "spinning between two tries and then with yields. A cell has the median of the rounds, and in brackets the quartiles.", "",
+    ]
+    for name, title, _, unit, about, rows in all_tables:
+        columns = list(next(iter(rows.values())))
+        lines += [f"### {title}", "", f"{about} In {unit}.", "", f"![{title}](pictures/peers-{name}.svg)", "",
+                  f"| | {' | '.join(columns)} |", "|---" * (len(columns) + 1) + "|"]
+        for row, cells in rows.items():
+            shown = [quartiles(numbers, *cells[column]) for column in columns]
+            shown = [f"{short(it[1])} ({short(it[0])}–{short(it[2])})" if it else "failed" for it in shown]
+            lines.append(f"| {SHOWN.get(row, row)} | {' | '.join(shown)} |")
+        lines.append("")
+    return "\n".join(lines)
+
+
+# The pictures.
+
+COLOURS = ["#d62728", "#ff7f0e", "#1f77b4", "#17becf", "#2ca02c", "#9467bd", "#8c564b", "#7f7f7f", "#bcbd22"]
+
+
+def picture(title, joined, unit, rows, numbers):
+    """Medians as points over the columns, on a scale of powers of ten, with their quartiles; lines join them where they are in an order."""
+    columns = list(next(iter(rows.values())))
+    points = {row: [quartiles(numbers, *cells[column]) if column in cells else None for column in columns] for row, cells in rows.items()}
+    floor = 0.01
+    all_values = [max(floor, value) for of in points.values() for it in of if it for value in it]
+    low, high = (math.floor(math.log10(min(all_values))), math.ceil(math.log10(max(all_values)))) if all_values else (0, 1)
+    high = max(high, low + 1)
+    width, height, left, top, right, bottom = 880, 440, 70, 50, 200, 50
+    inner, step = height - top - bottom, (width - left - right) / len(columns)
+
+    def y(value):
+        return top + inner * (1 - (math.log10(max(floor, value)) - low) / (high - low))
+
+    out = [f'<svg xmlns="http://www.w3.org/2000/svg" viewBox="0 0 {width} {height}" font-family="sans-serif" font-size="12">',
+           f'<rect width="{width}" height="{height}" fill="white"/>',
+           f'<text x="{left}" y="22" font-size="15">{title}</text>', f'<text x="{left}" y="40" fill="#555">{unit}</text>']
+    for power in range(low, high + 1):
+        for part in (1, 2, 5) if power < high else (1,):
+            value = part * 10 ** power
+            out.append(f'<line x1="{left}" x2="{width - right}" y1="{y(value):.1f}" y2="{y(value):.1f}" stroke="{"#bbb" if part == 1 else "#eee"}"/>')
+            out.append(f'<text x="{left - 6}" y="{y(value) + 4:.1f}" text-anchor="end" fill="#555">{value:,g}</text>')
+    for place, column in enumerate(columns):
+        out.append(f'<text x="{left + step * (place + 0.5):.1f}" y="{height - bottom + 20}" text-anchor="middle" font-size="11">{column}</text>')
+    last = sorted(points, key=lambda row: -(points[row][-1] or (0, 0, 0))[1])
+    names = [*OURS, *LIBRARIES, *OF_STD]
+    for number, (row, of) in enumerate(points.items()):
+        colour, ours = COLOURS[names.index(row) if row in names else number % len(COLOURS)], row in OURS
+        at = [(left + step * (place + 0.5 + (number - (len(points) - 1) / 2) * (0.02 if joined else 0.08)), it) for place, it in enumerate(of) if it]
+        if joined:
+            line = " ".join(f"{x:.1f},{y(it[1]):.1f}" for x, it in at)
+            out.append(f'<polyline points="{line}" fill="none" stroke="{colour}" stroke-width="{3 if ours else 1.5}"/>')
+        for x, it in at:
+            out.append(f'<line x1="{x:.1f}" x2="{x:.1f}" y1="{y(it[0]):.1f}" y2="{y(it[2]):.1f}" stroke="{colour}"/>')
+            out.append(f'<circle cx="{x:.1f}" cy="{y(it[1]):.1f}" r="{4.5 if ours else 3}" fill="{colour}"/>')
+        place = top + 14 + 20 * last.index(row)
+        out.append(f'<circle cx="{width - right + 22}" cy="{place - 4}" r="{5 if ours else 4}" fill="{colour}"/>')
+        weight = "bold" if ours else "normal"
+        out.append(f'<text x="{width - right + 34}" y="{place}" font-weight="{weight}">{SHOWN.get(row, row).strip("*")}</text>')
+    return "\n".join(out) + "\n</svg>\n"
+
+
+def main():
+    parser = argparse.ArgumentParser(description=__doc__, formatter_class=argparse.RawDescriptionHelpFormatter)
+    parser.add_argument("--seconds", type=int, default=420)
+    parser.add_argument("--print", action="store_true")
+    parser.add_argument("--again", action="store_true")
+    options = parser.parse_args()
+    kept = os.path.join(OUT, "last.json")
+    if options.again:
+        with open(kept) as file:
+            told = json.load(file)
+    else:
+        there = install()
+        program = build(there)
+        order = [*OURS, *there, *OF_STD]
+        told = measure(program, tables(order), options.seconds)
+        told.update(queues=order, versions={library: version(library) for library in there})
+        with open(kept, "w") as file:
+            json.dump(told, file)
+    numbers = {(mode, queue, tuple(it), length): of for (mode, queue, it, length), of in told["numbers"]}
+    all_tables = tables(told["queues"])
+    text = text_of(told["machine"], told["length"], told["versions"], all_tables, numbers)
+    if options.print:
+        print(text)
+        return
+    with open(BENCH) as file:
+        before, rest = file.read().split(BEGIN)
+    with open(BENCH, "w") as file:
+        file.write(before + BEGIN + "\n" + text + END + rest.split(END)[1])
+    os.makedirs(PICTURES, exist_ok=True)
+    for name, title, joined, unit, _, rows in all_tables:
+        with open(os.path.join(PICTURES, f"peers-{name}.svg"), "w") as file:
+            file.write(picture(title, joined, unit, rows, numbers))
+    print(f"peers: wrote {os.path.relpath(BENCH)} and {len(all_tables)} pictures in {os.path.relpath(PICTURES)}")
+
+
+if __name__ == "__main__":
+    main()

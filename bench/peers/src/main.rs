@@ -1,0 +1,320 @@
+//! One burst of one queue: `peers MODE QUEUE SENDERS RECEIVERS CAPACITY BOUND MILLISECONDS`; `run.py` calls it, and
+//! has the words for what the numbers are that each mode prints.
+#[cfg(any(feature = "crossbeam-queue", feature = "concurrent-queue"))]
+mod polled;
+mod queues;
+
+use queues::*;
+use std::hint::black_box;
+use std::sync::Barrier;
+use std::sync::atomic::{AtomicBool, Ordering::Relaxed};
+use std::thread;
+use std::time::{Duration, Instant};
+
+#[repr(C)]
+struct Timespec {
+    seconds: i64,
+    nanoseconds: i64,
+}
+
+unsafe extern "C" {
+    fn clock_gettime(clock: i32, time: &mut Timespec) -> i32;
+}
+
+const PROCESS: i32 = 2;
+const THREAD: i32 = 3;
+
+/// The nanoseconds that all processors gave this process, or this thread.
+fn processors(clock: i32) -> f64 {
+    let mut time = Timespec {
+        seconds: 0,
+        nanoseconds: 0,
+    };
+    // SAFETY: the C library's declaration on a 64-bit Linux.
+    assert_eq!(
+        unsafe { clock_gettime(clock, &mut time) },
+        0,
+        "there is no such clock"
+    );
+    time.seconds as f64 * 1e9 + time.nanoseconds as f64
+}
+
+struct Burst {
+    senders: usize,
+    receivers: usize,
+    capacity: usize,
+    bound: u32,
+    time: Duration,
+}
+
+impl Burst {
+    fn open<Q: Queue>(&self) -> (Vec<Q::Sender>, Vec<Q::Receiver>) {
+        Q::open(self.senders, self.receivers, self.capacity, self.bound)
+    }
+}
+
+/// All senders and receivers at work: nanoseconds an item, of the clock and of the processors.
+fn pass<Q: Queue>(it: &Burst) -> Vec<f64> {
+    let (senders, receivers) = it.open::<Q>();
+    let (stop, start) = (
+        &AtomicBool::new(false),
+        &Barrier::new(it.senders + it.receivers + 1),
+    );
+    thread::scope(|scope| {
+        let receiving = receivers.into_iter().map(|mut receiver| {
+            scope.spawn(move || {
+                start.wait();
+                let mut got = 0u64;
+                while let Some(body) = Q::recv(&mut receiver) {
+                    black_box(body);
+                    got += 1;
+                }
+                got
+            })
+        });
+        let receiving: Vec<_> = receiving.collect();
+        let sending = senders.into_iter().map(|mut sender| {
+            scope.spawn(move || {
+                start.wait();
+                let mut sent = 0u64;
+                while !stop.load(Relaxed) {
+                    Q::send(&mut sender, sent);
+                    sent += 1;
+                }
+                sent
+            })
+        });
+        let sending: Vec<_> = sending.collect();
+        start.wait();
+        let (clock, spent) = (Instant::now(), processors(PROCESS));
+        thread::sleep(it.time);
+        stop.store(true, Relaxed);
+        let sent: u64 = sending
+            .into_iter()
+            .map(|thread| thread.join().unwrap())
+            .sum();
+        let got: u64 = receiving
+            .into_iter()
+            .map(|thread| thread.join().unwrap())
+            .sum();
+        let (clock, spent) = (
+            clock.elapsed().as_nanos() as f64,
+            processors(PROCESS) - spent,
+        );
+        assert_eq!(sent, got, "items were lost");
+        vec![clock / got as f64, spent / got as f64]
+    })
+}
+
+/// The nanoseconds of one call of this, done again and again for the burst's time.
+fn each(it: &Burst, mut call: impl FnMut(u64)) -> Vec<f64> {
+    let (start, mut calls) = (Instant::now(), 0);
+    while start.elapsed() < it.time {
+        for _ in 0..64 {
+            call(calls);
+            calls += 1;
+        }
+    }
+    vec![start.elapsed().as_nanos() as f64 / calls as f64]
+}
+
+/// One thread: nanoseconds of a send and the take of its item.
+fn alone<Q: Queue>(it: &Burst) -> Vec<f64> {
+    let (mut senders, mut receivers) = it.open::<Q>();
+    each(it, |body| {
+        assert!(Q::try_send(&mut senders[0], body));
+        assert_eq!(Q::try_recv(&mut receivers[0]), Some(body));
+    })
+}
+
+/// One thread: nanoseconds of a send that finds the queue full.
+fn full<Q: Queue>(it: &Burst) -> Vec<f64> {
+    let (mut senders, _receivers) = it.open::<Q>();
+    while Q::try_send(&mut senders[0], 1) {}
+    each(it, |body| assert!(!Q::try_send(&mut senders[0], body)))
+}
+
+/// The value below which this part of them lies.
+fn percentile(values: &mut [f64], part: f64) -> f64 {
+    values.sort_by(f64::total_cmp);
+    values
+        .get((values.len() as f64 * part) as usize)
+        .copied()
+        .unwrap_or(f64::NAN)
+}
+
+/// Does this call with 0 to 10 us of other work before each, until it says that it's over; the nanoseconds of each that
+/// passed an item.
+fn timed(seed: u64, mut call: impl FnMut() -> Option<bool>) -> Vec<f64> {
+    let (mut random, mut times) = (seed, Vec::new());
+    loop {
+        random = random
+            .wrapping_mul(6_364_136_223_846_793_005)
+            .wrapping_add(1_442_695_040_888_963_407);
+        let work = Duration::from_nanos((random >> 33) % 10_000);
+        let start = Instant::now();
+        while start.elapsed() < work {
+            std::hint::spin_loop();
+        }
+        let start = Instant::now();
+        let passed = call();
+        let time = start.elapsed();
+        match passed {
+            Some(true) => times.push(time.as_nanos() as f64),
+            Some(false) => thread::yield_now(),
+            None => return times,
+        }
+    }
+}
+
+/// Single calls that don't wait: the median and the 99th percentile of a send that is accepted, and of a take that gets
+/// an item, in nanoseconds.
+fn calls<Q: Queue>(it: &Burst) -> Vec<f64> {
+    let (senders, receivers) = it.open::<Q>();
+    let (stop, start) = (
+        &AtomicBool::new(false),
+        &Barrier::new(it.senders + it.receivers + 1),
+    );
+    let until_stop = move |passed: bool| (!stop.load(Relaxed)).then_some(passed);
+    thread::scope(|scope| {
+        let receiving = receivers.into_iter().zip(1..).map(|(mut receiver, seed)| {
+            scope.spawn(move || {
+                start.wait();
+                timed(seed, || {
+                    until_stop(black_box(Q::try_recv(&mut receiver)).is_some())
+                })
+            })
+        });
+        let receiving: Vec<_> = receiving.collect();
+        let sending = senders.into_iter().zip(1001..).map(|(mut sender, seed)| {
+            scope.spawn(move || {
+                start.wait();
+                timed(seed, || until_stop(Q::try_send(&mut sender, seed)))
+            })
+        });
+        let sending: Vec<_> = sending.collect();
+        start.wait();
+        thread::sleep(it.time);
+        stop.store(true, Relaxed);
+        [sending, receiving].map(|threads| {
+            threads
+                .into_iter()
+                .flat_map(|thread| thread.join().unwrap())
+                .collect()
+        })
+    })
+    .into_iter()
+    .flat_map(|mut times: Vec<f64>| [0.5, 0.99].map(|part| percentile(&mut times, part)))
+    .collect()
+}
+
+/// A receiver that waits, and an item each millisecond: the median and the 99th percentile of the microseconds from
+/// before its send to after its take, and those that the processors gave the receiver for an item, and the sender.
+fn paced<Q: Queue>(it: &Burst) -> Vec<f64> {
+    let (mut senders, mut receivers) = it.open::<Q>();
+    let (mut sender, mut receiver) = (senders.remove(0), receivers.remove(0));
+    let start = Instant::now();
+    let now = move || start.elapsed().as_nanos() as u64;
+    thread::scope(|scope| {
+        let receiving = scope.spawn(move || {
+            let (spent, mut times) = (processors(THREAD), Vec::new());
+            while let Some(sent) = Q::recv(&mut receiver) {
+                times.push((now() - sent) as f64 / 1e3);
+            }
+            (processors(THREAD) - spent, times)
+        });
+        let sending = scope.spawn(move || {
+            let spent = processors(THREAD);
+            while start.elapsed() < it.time {
+                thread::sleep(Duration::from_millis(1));
+                Q::send(&mut sender, now());
+            }
+            processors(THREAD) - spent
+        });
+        let sender = sending.join().unwrap();
+        let (receiver, mut times) = receiving.join().unwrap();
+        let items = times.len() as f64;
+        vec![
+            percentile(&mut times, 0.5),
+            percentile(&mut times, 0.99),
+            receiver / 1e3 / items,
+            sender / 1e3 / items,
+        ]
+    })
+}
+
+/// Receivers that wait, and nothing is sent: the processors' nanoseconds for each of them in a microsecond.
+fn idle<Q: Queue>(it: &Burst) -> Vec<f64> {
+    let (senders, receivers) = it.open::<Q>();
+    thread::scope(|scope| {
+        for mut receiver in receivers {
+            scope.spawn(move || Q::recv(&mut receiver));
+        }
+        thread::sleep(Duration::from_millis(50));
+        let (clock, spent) = (Instant::now(), processors(PROCESS));
+        thread::sleep(it.time);
+        let (clock, spent) = (
+            clock.elapsed().as_nanos() as f64,
+            processors(PROCESS) - spent,
+        );
+        drop(senders);
+        vec![spent / clock * 1e3 / it.receivers as f64]
+    })
+}
+
+fn burst<Q: Queue>(mode: &str, it: &Burst) -> Vec<f64> {
+    match mode {
+        "pass" => pass::<Q>(it),
+        "alone" => alone::<Q>(it),
+        "full" => full::<Q>(it),
+        "calls" => calls::<Q>(it),
+        "paced" => paced::<Q>(it),
+        "idle" => idle::<Q>(it),
+        _ => panic!("no mode {mode}"),
+    }
+}
+
+fn main() {
+    let words: Vec<String> = std::env::args().skip(1).collect();
+    let [mode, queue, numbers @ ..] = &words[..] else {
+        panic!("peers MODE QUEUE and five numbers")
+    };
+    let numbers: Vec<usize> = numbers
+        .iter()
+        .map(|word| word.parse().expect("a number"))
+        .collect();
+    let &[senders, receivers, capacity, bound, time] = &numbers[..] else {
+        panic!("five numbers")
+    };
+    let it = &Burst {
+        senders,
+        receivers,
+        capacity,
+        bound: bound as u32,
+        time: Duration::from_millis(time as u64),
+    };
+    let told = match queue.as_str() {
+        "words" => burst::<Words>(mode, it),
+        "typed" => burst::<Typed>(mode, it),
+        #[cfg(feature = "crossbeam-channel")]
+        "crossbeam-channel" => burst::<Crossbeam>(mode, it),
+        #[cfg(feature = "crossbeam-queue")]
+        "crossbeam-queue" => burst::<polled::Array>(mode, it),
+        #[cfg(feature = "flume")]
+        "flume" => burst::<Flume>(mode, it),
+        #[cfg(feature = "async-channel")]
+        "async-channel" => burst::<Async>(mode, it),
+        #[cfg(feature = "concurrent-queue")]
+        "concurrent-queue" => burst::<polled::Concurrent>(mode, it),
+        "sync_channel" => burst::<Std>(mode, it),
+        "Mutex+Condvar" => burst::<Locked>(mode, it),
+        _ => panic!("no queue {queue}"),
+    };
+    println!(
+        "{}",
+        told.iter()
+            .map(f64::to_string)
+            .collect::<Vec<_>>()
+            .join(" ")
+    );
+}
