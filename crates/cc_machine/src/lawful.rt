@@ -1,4 +1,5 @@
 ghost use Rattle.std.specs.Prelude.{◌≡◌, ◌≤◌, ◌<◌, ℕ, length, Some, Ok, OnOk, OnErr, IfOk, IfErr};
+ghost use Rattle.std.specs.Bool.{OnTrue};
 ghost use Rattle.cc_model.specs.Config.{config_fault};
 ghost use Rattle.cc_model.specs.Items.{known_at};
 ghost use Rattle.cc_runs.specs.Safe.{IsReady};
@@ -104,6 +105,19 @@ impl Board {
         count
     }
 
+    /// Whether this side has room for a call of every pass and one more, so that none need be counted.
+    fn has_ample_room(&self, chain: Chain) -> bool
+        requires laid { IsLaid self.now }
+        requires there { IsThere self.now.setting.config chain }
+        ensures { OnTrue result (HasRoomToCome self.now chain) }
+    {
+        let side = match chain {
+            Chain::Send => self.history.sends(),
+            Chain::Take(group) => self.history.takes(group as usize),
+        };
+        side.room().saturating_sub(side.calls().len()) > self.stands.len()
+    }
+
     /// Makes room in the history of this side, where it is missing, for the calls to come and one more, and for the answers
     /// of all calls.
     fn reserve(&mut self, chain: Chain) -> Result<(), AllocError>
@@ -114,6 +128,9 @@ impl Board {
         ensures room { OnOk result (HasRoomToCome self.new chain) }
         ensures refused { OnErr result (LacksRoom self.old chain) }
     {
+        if self.has_ample_room(chain) {
+            return Ok(());
+        }
         let further = self.calls_to_come(chain) + 1;
         match chain {
             Chain::Send => self.history.reserve_sends(further),
