@@ -65,7 +65,7 @@ impl Known {
 
     /// The same after further answers: that of the sender's call at the first place, and that of the group's take at the
     /// second, where they are there.
-    pub fn after(self, history: &History, sent: usize, group: usize, taken: usize) -> Known
+    fn after(self, history: &History, sent: usize, group: usize, taken: usize) -> Known
         requires group { group < length history.now.takes }
         requires groups { length history.now.takes ≤ 8 }
         requires entries { self.entries ≤ sent }
@@ -82,6 +82,19 @@ impl Known {
             entries: self.entries + adds_entry(self.shut, call, answer),
             shut: self.shut | shut,
             handed,
+        }
+    }
+
+    /// Counts the further answers of the history at these places, where there are some: most events decide none.
+    pub fn count(&mut self, history: &History, sent: usize, group: usize, taken: usize)
+        requires group { group < length history.now.takes }
+        requires groups { length history.now.takes ≤ 8 }
+        requires entries { self.old.entries ≤ sent }
+        requires handed { slice_index_or self.old.handed group 0 ≤ taken }
+        ensures counted { known.HasCounted self.old (lists history.now) sent group taken self.new }
+    {
+        if sent < history.sends().answers().len() || taken < history.takes(group).answers().len() {
+            *self = self.after(history, sent, group, taken);
         }
     }
 

@@ -96,7 +96,7 @@ impl Machine {
         let group = self.board.group(pass);
         let taken = self.board.history.takes(group).answers().len();
         let event = self.board.event_by(pass);
-        self.known = self.known.after(&self.board.history, sent, group, taken);
+        self.known.count(&self.board.history, sent, group, taken);
         event
     }
 

@@ -19,9 +19,9 @@ invariant_of-self c =
     let sent : c.answers-sent.result.now ≡ c.self.inside.board.history.sends.lists.answers = c.answers-sent.ensures ∙ ap (λ (s : KeptSide). s.lists.answers) c.sends.ensures in
     let taken : c.answers-taken.result.now ≡ (of_group (lists c.self.inside.board.history) c.group-group.result).answers =
     c.answers-taken.ensures ∙ ap (λ (s : KeptSide). s.lists.answers) c.takes.ensures ∙ ap (λ (s : Side). s.answers) (kept_is c.self.inside.board.history c.group-group.result) in
-    machine_stepped c.self.inside.board c.event_by-event.new.self c.self.inside.known c.after-self-inside.result (index_of c.self.inside.board.setting c.args.pass) c.group-group.result c.event_by-event.result
+    machine_stepped c.self.inside.board c.event_by-event.new.self c.self.inside.known c.count.new.self (index_of c.self.inside.board.setting c.args.pass) c.group-group.result c.event_by-event.result
     c.self.invariant (inside c.self.inside.board.setting c.args.pass)
     (λ p is. all_ready c.self.inside.board c.self.invariant.lawful (list_ready c.self.inside.board.setting c.self.invariant.served_is c.self.invariant.lawful.checked) p (inside c.self.inside.board.setting c.args.pass p is))
     c.event_by-event.ensures.lawful c.group-group.ensures.chain c.group-group.ensures.inside c.event_by-event.ensures.state
-    (subst (λ (e : List Answer). HasCounted c.self.inside.known (lists c.event_by-event.new.self.history) (length e) c.group-group.result (length (of_group (lists c.self.inside.board.history) c.group-group.result).answers) c.after-self-inside.result) sent
-    (subst (λ (d : List Answer). HasCounted c.self.inside.known (lists c.event_by-event.new.self.history) (length c.answers-sent.result.now) c.group-group.result (length d) c.after-self-inside.result) taken c.after-self-inside.ensures.counted))
+    (subst (λ (e : List Answer). HasCounted c.self.inside.known (lists c.event_by-event.new.self.history) (length e) c.group-group.result (length (of_group (lists c.self.inside.board.history) c.group-group.result).answers) c.count.new.self) sent
+    (subst (λ (d : List Answer). HasCounted c.self.inside.known (lists c.event_by-event.new.self.history) (length c.answers-sent.result.now) c.group-group.result (length d) c.count.new.self) taken c.count.ensures.counted))
