@@ -1,4 +1,4 @@
-ghost use Rattle.std.specs.Prelude.{◌≡◌, ◌<◌, ℕ, Some, length, IfSome, IfNone};
+ghost use Rattle.std.specs.Prelude.{◌≡◌, ◌<◌, ◌/◌, ℕ, Some, length, IfSome, IfNone};
 ghost use Rattle.cc_machine.specs.Shown.{state_of, IsLaid, CanStep, Stepped, seat_at, Moved};
 ghost use Rattle.cc_runs.specs.State.{chain_of};
 ghost use Rattle.cc_runs.specs.Columns.{event_at, group_of};
@@ -8,6 +8,14 @@ use crate::board::{Board, Seat};
 use crate::row::row;
 use cc_model::Pass;
 use cc_runs::{Chain, Event, Kind, NodeField, Place, Stand, Word};
+
+/// A quotient, without a division where it is 0, as is the group of every receiver where there is one group.
+fn quotient(number: usize, by: usize) -> usize
+    requires { 0 < by }
+    ensures { result ≡ number / by }
+{
+    if number < by { 0 } else { number / by }
+}
 
 impl Board {
     /// Where a pass stands.
@@ -28,7 +36,7 @@ impl Board {
             Chain::Send
         } else {
             let receiver = pass - self.setting.config.senders as usize;
-            Chain::Take((receiver / self.setting.config.receivers as usize) as u32)
+            Chain::Take(quotient(receiver, self.setting.config.receivers as usize) as u32)
         }
     }
 
