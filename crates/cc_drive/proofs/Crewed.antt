@@ -99,12 +99,16 @@ due_below false workers None None false whole told low low' e = (let is : fault.
 due_below false workers None None true false told low low' e = (let is : fault.NoMemory ≡ told = cc e in subst (IsDue (Ok tt) workers) is tt)
 due_below false workers None None true true told low low' e = absurd (cc e)
 
-pub told_due : (z : Topic) (c : DriveConfig) (told : DriveFault) → IsTold z c told → IsDue (Ok tt) (c.senders + c.receivers) told
+told_due : (z : Topic) (c : DriveConfig) (told : DriveFault) → IsTold z c told → IsDue (Ok tt) (c.senders + c.receivers) told
 told_due z c told (inl is) = subst (IsDue (Ok tt) (c.senders + c.receivers)) (sym is) tt
 told_due z c told (inr e) =
     due_below e.refused (c.senders + c.receivers) _ _ e.closed e.whole told
     (λ on n is. let below = least_below 0 n (map (λ d. d.pass) e.senders) is in let many = (e.all on).0 in omega (arith, below, many, length-map e.senders (λ d. d.pass)))
     (λ on n is. let below = least_below c.senders n (map (λ d. d.pass) e.receivers) is in let many = (e.all on).1 in omega (arith, below, many, length-map e.receivers (λ d. d.pass))) e.why
+
+pub all_due : {A : Type 0} (z : Topic) (c : DriveConfig) (r : Result A DriveFault) → IfErr r (IsTold z c) → IfErr r (IsDue (Ok tt) (c.senders + c.receivers))
+all_due z c (Ok a) told = tt
+all_due z c (Err f) told = told_due z c f told
 
 -- and so is missing memory, of a lawful configuration
 pub memory_due : {A : Type 0} (lawful : Result ⊤ ConfigFault) (workers : ℕ) (r : Result A DriveFault) → lawful ≡ Ok tt → IfErr r (λ f. f ≡ fault.NoMemory) → IfErr r (IsDue lawful workers)

@@ -18,7 +18,7 @@ use Rattle.cc_queue.specs.Receipts.{AreAll, AreInRow, in_group, receipts_by, see
 use Rattle.cc_queue.proofs.Held.{sends_held, takes_held, only_group, seen_is}
 use Rattle.cc_runs.specs.Words.{groups}
 use Rattle.cc_drive.specs.declared.config.DriveConfig.{DriveConfig}
-use Rattle.cc_drive.specs.declared.driver.Ran.{Ran}
+use Rattle.cc_drive.specs.declared.ending.Ran.{Ran}
 use Rattle.cc_drive.specs.Config.{queue_of}
 use Rattle.cc_drive.specs.Back.{IsBack, SenderIsBack, ReceiverIsBack}
 use Rattle.cc_drive.specs.Ran.{HasRun, total_in}

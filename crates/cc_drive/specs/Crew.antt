@@ -1,5 +1,9 @@
 -- What workers gave back, one after another.
-use Rattle.std.specs.Prelude.{ℕ, ◌+◌, List, [], ◌∷◌, ◌++◌, Option, Some, None}
+use Rattle.std.specs.Prelude.{ℕ, ◌≡◌, ◌+◌, true, List, [], ◌∷◌, ◌++◌, length, map, Option, Some, None}
+use Rattle.std.specs.List.{AllByRecursion}
+use Rattle.cc_drive.specs.declared.crew.Crew.{Crew}
+use Rattle.cc_drive.specs.declared.kept.Worked.{Worked}
+use Rattle.cc_drive.specs.Row.{InRow}
 
 -- those that are there
 abbrev pub present : {A : Type 0} → List (Option A) → List A
@@ -22,3 +26,15 @@ sooner None y = y
 abbrev pub in_turn : {A : Type 0} → List (List A) → List A
 in_turn [] = []
 in_turn (xs ∷ rest) = xs ++ in_turn rest
+
+-- So many workers are back, who stand in the row of all passes from this place on, and are told by their numbers from this one
+-- on. What they gave back is gathered here: their passes, the least number of one that is missing, and their receipts, where
+-- each of them was kept.
+pub record IsCrew {P X : Type 0} (Gave : ℕ → Worked P X → Type 0) (place number count : ℕ) (passes : List P) (crew : Crew P X) : Type 0 where
+  pub workers : List (Worked P X)
+  pub gave : InRow Gave place workers
+  pub many : length workers ≡ count
+  pub back : passes ≡ present (map (λ d. d.pass) workers)
+  pub missing : crew.limited ≡ least_missing number (map (λ d. d.pass) workers)
+  pub whole : crew.is_whole ≡ true → AllByRecursion (λ d. d.kept.is_whole ≡ true) workers
+  pub kept : crew.is_whole ≡ true → crew.receipts.items ≡ in_turn (map (λ d. d.kept.receipts.items) workers)

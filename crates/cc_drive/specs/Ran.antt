@@ -1,5 +1,5 @@
 -- A run whose threads have ended.
-use Rattle.std.specs.Prelude.{ℕ, ◌≡◌, ◌<◌, ◌+◌, ◌⊎◌, Bool, true, false, List, length, map, Option, Some, None}
+use Rattle.std.specs.Prelude.{ℕ, ◌≡◌, ◌<◌, ◌+◌, ◌⊎◌, Bool, true, false, List, length, map, Option, Some, None, IfSome, IfNone}
 use Rattle.std.specs.List.{All, AllByRecursion}
 use Rattle.cc_model.specs.declared.call.Answer.TheVariants as answer
 use Rattle.cc_model.specs.declared.call.Call.TheVariants as call
@@ -13,14 +13,16 @@ use Rattle.cc_queue.specs.Receipts.{receipts_by, sent, got}
 use Rattle.cc_drive.specs.declared.config.DriveConfig.{DriveConfig}
 use Rattle.cc_drive.specs.declared.config.DriveFault.{DriveFault}
 use Rattle.cc_drive.specs.declared.config.DriveFault.TheVariants as fault
-use Rattle.cc_drive.specs.declared.driver.Ran.{Ran}
+use Rattle.cc_drive.specs.declared.ending.Ran.{Ran}
+use Rattle.cc_drive.specs.declared.crew.Crew.{Crew}
 use Rattle.cc_drive.specs.declared.kept.Worked.{Worked}
+use Rattle.cc_drive.specs.declared.threads.Brief.{Brief}
 use Rattle.cc_drive.specs.declared.turns.Turns.{Turns}
 use Rattle.cc_audit.specs.declared.receipt.SendReceipt.{SendReceipt}
 use Rattle.cc_audit.specs.declared.receipt.TakeReceipt.{TakeReceipt}
 use Rattle.cc_drive.specs.Back.{SenderIsBack, ReceiverIsBack, SenderGave, ReceiverGave, IsNotClosed, calls}
-use Rattle.cc_drive.specs.Crew.{least_missing}
-use Rattle.cc_drive.specs.Row.{InRow}
+use Rattle.cc_drive.specs.Crew.{IsCrew, least_missing}
+use Rattle.cc_drive.specs.Row.{InRow, Pairs}
 
 -- the total that a close tells
 abbrev pub total_in : CloseAnswer → ℕ
@@ -33,6 +35,27 @@ pub record ClosedAfter (closer : Walk) (senders : List Walk) (told : CloseAnswer
   pub first : HasMet closer met
   pub after : All (λ s. s.seen ≡ met.seen) senders
   pub close : Completed met call.Close (answer.Close told) w
+
+-- So many senders are back, and have met the closer then, which closed behind that: it has its answer, or made as many turns
+-- as it may.
+pub record HasClosed (z : Topic) (b : Brief) (closer : Walk) (count : ℕ) (crew : Crew Walk SendReceipt) (closed : Option (Walk × CloseAnswer)) : Type 0 where
+  pub back : List Walk
+  pub senders : IsCrew (SenderGave z b.items b.limit) 0 0 count back crew
+  pub met : Pairs HasMet back crew.passes.items
+  pub after : IfSome closed (λ r. ClosedAfter closer crew.passes.items r.1 r.0)
+  pub turns : Turns
+  pub limit : turns.limit ≡ b.limit
+  pub limited : IfNone closed (turns.made ≡ turns.limit)
+
+-- All threads of a run that were started have ended, and its queue was closed between the senders' end and the receivers'.
+-- Where a thread was refused they are fewer than the run has workers.
+pub record HasEnded (z : Topic) (c : DriveConfig) (refused : Bool) (sent_by : Crew Walk SendReceipt) (closed : Option (Walk × CloseAnswer)) (got_by : Crew Walk TakeReceipt) : Type 0 where
+  pub sending : ℕ
+  pub taking : ℕ
+  pub senders : HasClosed z (record { items = c.items; limit = c.limit }) (fresh z c.senders) sending sent_by closed
+  pub receivers : IsCrew (ReceiverGave z c.limit) (c.senders + 1) c.senders taking got_by.passes.items got_by
+  pub all : refused ≡ false → (sending ≡ c.senders) × (taking ≡ c.receivers)
+  pub fewer : refused ≡ true → sending + taking < c.senders + c.receivers
 
 -- A run has come to its end. The senders are back, none of whose sends was told that the queue is closed, and then the closer
 -- closed; the receivers are back, each of which was told the end. The receipts are those of their calls.

@@ -5,38 +5,21 @@ ghost use Rattle.cc_runs.specs.declared.setting.Served.TheVariants as served;
 ghost use Rattle.cc_steps.specs.Walk.{fresh, fresh_from};
 ghost use Rattle.cc_drive.specs.Config.{drive_fault, queue_of, IsDue};
 ghost use Rattle.cc_drive.specs.Jobs.{IsSending, IsTaking};
-ghost use Rattle.cc_drive.specs.Ran.{HasRun, IsTold, due};
+ghost use Rattle.cc_drive.specs.Ran.{HasRun, IsTold};
 ghost use Rattle.cc_drive.specs.declared.config.DriveFault.TheVariants as drive;
 ghost use Rattle.cc_drive.specs.Row.{InRow};
 
-use crate::closing::{close_after, total_of};
+use crate::closing::total_of;
 use crate::config::{DriveConfig, DriveEnd, DriveFault};
-use crate::crew::gather;
+use crate::ending::{Ran, close_behind, join_receivers, ran_of, room_for};
 use crate::gate::Gate;
 use crate::jobs::{Job, deal};
 use crate::meeting::meet_everyone;
-use crate::threads::{Brief, Started, join_all, start_all};
-use crate::turns::Turns;
-use cc_audit::{SendReceipt, TakeReceipt};
-use cc_model::CloseAnswer;
+use crate::threads::{Brief, start_all};
 use cc_queue::{Opened, Queue, Receiver, Sender, audit_all};
-use std::alloc::{AllocError, Global};
+use std::alloc::Global;
 use std::sync::Wait;
 use std::thread::{Scope, Threads, scope, scope_env};
-
-/// What is left of a run when its threads have ended.
-#[derive(Drop)]
-pub struct Ran {
-    /// The senders that sent.
-    pub senders: Vec<Sender>,
-    /// The sender that closed.
-    pub closer: Sender,
-    /// What the close was answered.
-    pub closed: CloseAnswer,
-    pub receivers: Vec<Receiver>,
-    pub sends: Vec<SendReceipt>,
-    pub takes: Vec<TakeReceipt>,
-}
 
 /// Drives a queue by threads. Each receiver takes until the queue has ended, and each sender sends the bodies from 1 to
 /// `items`, each in a thread of its own; after Empty, and after Full, they try again with a back-off. When all senders are
@@ -110,7 +93,6 @@ fn run<G: Gate + Send, R: Threads + Wait>(
             requires setting { queue.now.setting.config ≡ queue_of config }
             ensures run { IfOk result (HasRun queue.entry.now config) }
             ensures told { IfErr result (IsTold queue.entry.now config) }
-            ensures due { IfErr result (IsDue (Ok tt) (config.senders + config.receivers)) }
         { run_in(scope, rt, alloc, queue, config, closer, senders, receivers) },
     )
 }
@@ -135,25 +117,15 @@ fn run_in<'s, E, G: Gate + Send + 's, R: Threads>(
     requires setting { queue.now.setting.config ≡ queue_of config }
     ensures run { IfOk result (HasRun queue.now config) }
     ensures told { IfErr result (IsTold queue.now config) }
-    ensures due { IfErr result (IsDue (Ok tt) (config.senders + config.receivers)) }
 {
     let count = config.senders;
-    let workers = count + config.receivers;
     let brief = Brief {
         items: config.items,
         limit: config.limit,
     };
-    let taking = Vec::with_capacity(alloc, receivers.len())?;
-    let taken = Vec::with_capacity(alloc, receivers.len())?;
-    let receiver_room = Vec::with_capacity(alloc, receivers.len())?;
-    let sending = Vec::with_capacity(alloc, senders.len())?;
-    let sent = Vec::with_capacity(alloc, senders.len())?;
-    let sender_room = Vec::with_capacity(alloc, senders.len() + 1)?;
-
-    let Started {
-        handles: taking,
-        refused,
-    } = start_all(
+    let (taking, to_take) = room_for(alloc, receivers.len())?;
+    let (sending, to_send) = room_for(alloc, senders.len())?;
+    let taking = start_all(
         scope,
         alloc,
         queue,
@@ -163,70 +135,12 @@ fn run_in<'s, E, G: Gate + Send + 's, R: Threads>(
         taking,
         false,
     );
-    let Started {
-        handles: sending,
-        refused,
-    } = start_all(scope, alloc, queue, brief, 0, senders, sending, refused);
-
-    let sent = join_all(rt, queue, brief, 0, sending, sent);
-    let mut sent = gather(sent, 0, sender_room, Vec::new(alloc));
-    let mut turns = Turns::new(config.limit);
-    let closed = close_after(alloc, queue, &mut turns, closer, &mut sent.passes);
-    let taken = join_all(rt, queue, brief, count + 1, taking, taken);
-    let taken = gather(taken, count, receiver_room, Vec::new(alloc));
-
-    let is_whole = sent.is_whole & taken.is_whole;
-    if let Some(fault) = fault_of(
-        refused,
-        workers,
-        sent.limited,
-        taken.limited,
-        closed.is_some(),
-        is_whole,
-    ) {
-        return Err(fault);
-    }
-    let Some((closer, closed)) = closed else {
-        unreachable!()
-    };
-    Ok(Ran {
-        senders: sent.passes,
-        closer,
-        closed,
-        receivers: taken.passes,
-        sends: sent.receipts,
-        takes: taken.receipts,
-    })
-}
-
-/// Why a run has no end, if it has none: the first of a refused thread, the least worker that reached its limit or else the
-/// closer, and a receipt that wasn't kept.
-fn fault_of(
-    refused: bool,
-    workers: u32,
-    sender: Option<u32>,
-    receiver: Option<u32>,
-    is_closed: bool,
-    is_whole: bool,
-) -> Option<DriveFault>
-    ensures { result ≡ due refused workers sender receiver is_closed is_whole }
-{
-    if refused {
-        return Some(DriveFault::Thread);
-    }
-    if let Some(number) = sender {
-        return Some(DriveFault::Limit(number));
-    }
-    if let Some(number) = receiver {
-        return Some(DriveFault::Limit(number));
-    }
-    if !is_closed {
-        return Some(DriveFault::Limit(workers));
-    }
-    if !is_whole {
-        return Some(DriveFault::NoMemory);
-    }
-    None
+    let refused = taking.refused;
+    let sending = start_all(scope, alloc, queue, brief, 0, senders, sending, refused);
+    let refused = sending.refused;
+    let (sent, closed) = close_behind(rt, alloc, queue, brief, closer, sending, to_send);
+    let taken = join_receivers(rt, alloc, queue, brief, count, taking, to_take);
+    ran_of(queue, config, refused, sent, closed, taken)
 }
 
 /// Lets all passes meet, and audits their receipts with the close's total.

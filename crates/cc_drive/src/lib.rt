@@ -5,6 +5,7 @@ mod closing;
 mod config;
 mod crew;
 mod driver;
+mod ending;
 mod gate;
 mod jobs;
 mod kept;
