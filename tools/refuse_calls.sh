@@ -1,18 +1,20 @@
 #!/bin/bash
 # Refuses each allocation of `cc_memory_rows` in turn, from outside, on the program that the gate left, as each compiler
-# built it. The program opens three topics and two machines, plays calls and audits receipts, and tells each answer.
-# Wherever memory is refused, one of these must come of it, and nothing else:
+# built it. The program opens two queues, says so, and then calls them; it opens three topics and two machines, plays calls
+# and audits receipts; and it tells each answer. Wherever memory is refused, one of these must come of it, and nothing else:
 # - an opening or the audit says so by its own fault, with status 3, and the answers before it are those with memory: of a
-#   topic's opening its number, of the broker's own lists NoMemory, and never another fault;
+#   topic's opening its number, of the broker's own lists NoMemory, and never another fault; where a queue isn't opened,
+#   nothing was written. The calls of the queues have no such fault;
 # - a begin was refused, was made again, and the answers are those of the run with memory;
 # - the program did without that memory, and the answers are those too. So no topic is ever lost.
-# Each of these faults must have come about. 20 runs more refuse what would be asked for after the last allocation.
+# Each of these faults must have come about. 100 runs more refuse what would be asked for after the last allocation.
 # Exit status 0 where all runs did so. It proves and builds nothing: `rt ci` does, or `rt run` in crates/cc_memory_rows.
 set -u
 cd "$(dirname "$0")/.." || exit 1
 . tools/refusing.sh
 whole=crates/cc_memory_rows/stdout
-faults='broker: NoMemory
+faults='queue: NoMemory
+broker: NoMemory
 broker: Topic(0, NoMemory)
 broker: Topic(1, NoMemory)
 broker: Topic(2, NoMemory)
@@ -20,10 +22,12 @@ machine: NoMemory
 audit: AllocError'
 again='begin: 1 refused, and made again'
 
-# Whether what was written is a beginning of what is written with memory, and not all of it.
+# Whether what was written is a beginning of what is written with memory, and not all of it; nothing, where a queue isn't
+# opened.
 is_beginning() {
     local length
     length=$(wc -c <"$room/out")
+    [ "$told" = 'queue: NoMemory' ] && [ "$length" != 0 ] && return 1
     [ "$length" -lt "$(wc -c <$whole)" ] && head -c "$length" $whole | cmp -s - "$room/out"
 }
 
@@ -33,7 +37,7 @@ for program in "${builds[@]}"; do
     : >"$room/seen"
     run_with 0 /dev/null "$program"
     all=$met
-    for ((n = 0; n <= all + 20; n++)); do
+    for ((n = 0; n <= all + 100; n++)); do
         run_with "$n" /dev/null "$program"
         told=$(cat "$room/err")
         if [ "$status" = 3 ] && is_beginning && grep -qxF -- "$told" <<<"$faults"; then
@@ -52,5 +56,5 @@ for program in "${builds[@]}"; do
         sort -u "$room/seen"
         exit 1
     fi
-    echo "$program: each of $all allocations refused in turn, and 20 more: $refused runs were told so by the call that met it, $repeated begins were made again, and the others gave the same answers"
+    echo "$program: each of $all allocations refused in turn, and 100 more: $refused runs were told so by the call that met it, $repeated begins were made again, and the others gave the same answers"
 done

@@ -1,7 +1,5 @@
 //! Worked calls of two queues, and their answers. Both queues are opened first, and the calls that follow take no memory:
 //! wherever memory is refused, either nothing was opened, or the answers are the same.
-#![tactic(auto)]
-
 ghost use Rattle.std.specs.Prelude.{◌≡◌, ◌+◌, IfSome, IfOk};
 ghost use Rattle.cc_steps.specs.Walk.{IsOf, fresh, fresh_from};
 ghost use Rattle.cc_queue.specs.Calls.{TurnedSend, TurnedTake};
@@ -13,7 +11,6 @@ use cc_queue::{
 };
 use std::alloc::Global;
 use std::io;
-use std::process::ExitCode;
 
 /// A queue for two items, with two senders and a receiver; one sender may begin so many sends.
 fn config(per_sender: u32) -> Config {
@@ -192,21 +189,22 @@ fn worn(queue: &Queue, sender: Sender) -> Option<CloseAnswer>
     }
 }
 
-/// Opens both queues, and only then makes the calls: the status is 3 where memory is refused, and 1 where a call waits
-/// that is to be answered, or the other way round.
-fn main(rt: HostRuntime) -> Result<ExitCode, io::Error> {
-    let Some((queue, first, second, receiver)) = opened(rt.alloc(), 10) else {
-        return Ok(ExitCode::from(3));
-    };
-    let Some((once, sender, _, _)) = opened(rt.alloc(), 1) else {
-        return Ok(ExitCode::from(3));
+/// Opens both queues, and only then makes the calls. The answer is the exit status: 3 where memory is refused, and 1 where a
+/// call waits that is to be answered, or the other way round.
+pub fn call_queues(rt: &HostRuntime) -> Result<u8, io::Error> {
+    let (Some((queue, first, second, receiver)), Some((once, sender, _, _))) = (
+        opened(rt.alloc(), 10),
+        opened(rt.alloc(), 1),
+    ) else {
+        eprintln!(rt; "queue: NoMemory")?;
+        return Ok(3);
     };
     println!(rt; "opened")?;
     let Some(told) = two_combined(&queue, first, second, receiver) else {
-        return Ok(ExitCode::from(1));
+        return Ok(1);
     };
     let Some(close) = worn(&once, sender) else {
-        return Ok(ExitCode::from(1));
+        return Ok(1);
     };
     let Combined {
         first: (first, first_served),
@@ -217,5 +215,5 @@ fn main(rt: HostRuntime) -> Result<ExitCode, io::Error> {
     println!(rt; "{second:?}, served {second_served}")?;
     println!(rt; "{taken:?}, served {taken_served}")?;
     println!(rt; "worn, {close:?}")?;
-    Ok(ExitCode::from(0))
+    Ok(0)
 }
