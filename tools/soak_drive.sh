@@ -1,7 +1,8 @@
 #!/bin/bash
 # Drives a queue by threads with `ccq drive`, in one shape after another, for so many seconds (600 where nothing is said).
 # The shapes (senders, receivers, items, capacity, bound) come from a row of numbers that the seed begins (1 where nothing
-# is said), small ones as often as large ones, so that the same seed gives the same shapes. Each run must end with status 0
+# is said), small ones as often as large ones, so that the same seed gives the same shapes. Of each sixteen runs two have
+# eight threads on each side that pass 16000 items on, through a narrow queue and a wide one. Each run must end with status 0
 # within two minutes, say that the audit is clean, and have sent and taken all items of all senders. The first that doesn't
 # is shown, and ends the soak with status 1.
 # The last line tells how many runs there were and how many of them had items, how many items those passed on, how many runs
@@ -53,8 +54,8 @@ now() {
     milliseconds=$((time / 1000))
 }
 
-runs=0 with_items=0 passed=0 widest=0 slowest=0 slowest_line=
-while ((SECONDS < seconds)); do
+# The next shape of the row.
+pick_shape() {
     pick_any_size 63 6
     senders=$picked
     pick_any_size 64 6
@@ -66,6 +67,15 @@ while ((SECONDS < seconds)); do
     bound_items
     pick 0 $((most / senders))
     items=$picked
+}
+
+runs=0 with_items=0 passed=0 widest=0 slowest=0 slowest_line=
+while ((SECONDS < seconds)); do
+    case $((runs % 16)) in
+    0) senders=8 receivers=8 items=2000 capacity=4 bound=2 ;;
+    1) senders=8 receivers=8 items=2000 capacity=64 bound=8 ;;
+    *) pick_shape ;;
+    esac
     all=$((senders * items))
 
     line=(drive --senders "$senders" --receivers "$receivers" --items "$items" --capacity "$capacity" --bound "$bound")

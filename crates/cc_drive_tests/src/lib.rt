@@ -1,4 +1,5 @@
-//! Tests of `cc_drive`: runs with gates that go on, that wait for each other, and that never let a worker go on.
+//! Tests of `cc_drive`: runs with gates that go on, that wait for each other, and that never let a worker go on; and rounds of
+//! threads by the calls that wait.
 #![tactic(auto)]
 
 #[cfg(test)]
@@ -7,3 +8,5 @@ mod gates;
 mod runs;
 #[cfg(test)]
 mod two_at_once;
+#[cfg(test)]
+mod waiting_calls;
