@@ -11,25 +11,20 @@ use Rattle.cc_runs.specs.declared.setting.Served.{Served}
 use Rattle.cc_runs.specs.declared.setting.Served.TheVariants as served
 use Rattle.cc_runs.specs.declared.word.Chain.{Chain}
 use Rattle.cc_runs.specs.declared.word.Chain.TheVariants.{Send, Take}
-use Rattle.cc_runs.specs.declared.place.Request.{Request}
-use Rattle.cc_runs.specs.declared.place.Parcel.{Parcel}
 use Rattle.cc_runs.specs.declared.place.Round.{Round}
 use Rattle.cc_runs.specs.declared.place.Job.{Job}
 use Rattle.cc_runs.specs.declared.place.Place.{Place}
 use Rattle.cc_runs.specs.declared.place.Place.TheVariants as place
 use Rattle.cc_runs.specs.declared.place.Counting.{Counting}
-use Rattle.cc_runs.specs.declared.place.Counting.TheVariants as counting
 use Rattle.cc_runs.specs.declared.place.Sending.{Sending}
-use Rattle.cc_runs.specs.declared.place.Sending.TheVariants as sending
 use Rattle.cc_runs.specs.declared.place.Taking.{Taking}
-use Rattle.cc_runs.specs.declared.place.Taking.TheVariants as taking
-use Rattle.cc_runs.specs.Words.{groups}
 use Rattle.cc_runs.specs.Codes.{code_of}
 use Rattle.cc_runs.specs.State.{appended}
-use Rattle.cc_runs.specs.Columns.{after_exchange, after_state, serves, after_next, after_answer, after_done, after_ret, goes, enters}
-use Rattle.cc_runs.specs.CountColumns as count_side
-use Rattle.cc_runs.specs.SendColumns as send_side
-use Rattle.cc_runs.specs.TakeColumns as take_side
+use Rattle.cc_runs.specs.Lines.{after_exchange, after_state, serves, after_next, after_answer, after_done, after_ret, goes, enters}
+use Rattle.cc_runs.specs.CountLines as count_side
+use Rattle.cc_runs.specs.SendLines as send_side
+use Rattle.cc_runs.specs.TakeLines as take_side
+use Rattle.cc_runs.proofs.Leads.{leads}
 use Rattle.cc_runs.specs.CallsMade.{before_exchange}
 
 -- a place of a call that has exchanged, or of none
@@ -70,37 +65,13 @@ past_ret what Send ret = refl
 past_ret what (Take g) ret = either (code_of ret == 1) _ _ refl (either (code_of ret == 2) _ _ refl refl)
 
 past_count : (job : Job) (service : Counting) (found : ℕ) → Past (count_side.goes job service found)
-past_count job counting.ReadTag found = refl
-past_count job _ found = refl
-
-past_shut : (job : Job) (request : Request) (found : ℕ) → Past (send_side.after_shut job request found)
-past_shut job request zero = refl
-past_shut job request (suc n) = either (request.tag == 0) _ _ refl refl
-
-past_total : (c : Config) (job : Job) (request : Request) (count : ℕ) → Past (send_side.after_count c job request count)
-past_total c job request count = either (request.tag == 0) _ _ refl (either (count == c.life) _ _ refl refl)
-
-past_passed : (c : Config) (job : Job) (parcel : Parcel) (at reads passed : ℕ) → Past (send_side.after_passed c job parcel at reads passed)
-past_passed c job parcel at reads passed = either (passed == groups c) _ _ refl (either (reads == c.capacity + 1) _ _ refl refl)
+past_count job service found = leads Past count_side.in_service job (λ s. refl) (λ told. refl) (count_side.line 0 service found).next
 
 past_send : (c : Config) (job : Job) (service : Sending) (found : ℕ) → Past (send_side.goes c job service found)
-past_send c job (sending.ReadShut request) found = past_shut job request found
-past_send c job (sending.ReadCount request) found = past_total c job request found
-past_send c job (sending.ReadPassed parcel at reads) found = past_passed c job parcel at reads found
-past_send c job _ found = refl
-
-past_dummy : (job : Job) (dummy taken found : ℕ) → Past (take_side.after_next job dummy taken found)
-past_dummy job dummy taken zero = refl
-past_dummy job dummy taken (suc at) = refl
-
-past_tag : (job : Job) (dummy taken at found : ℕ) → Past (take_side.after_tag job dummy taken at found)
-past_tag job dummy taken at zero = refl
-past_tag job dummy taken at (suc tag) = refl
+past_send c job service found = leads Past send_side.in_service job (λ s. refl) (λ told. refl) (send_side.line c 0 service found).next
 
 past_take : (job : Job) (service : Taking) (found : ℕ) → Past (take_side.goes job service found)
-past_take job (taking.ReadDummyNext dummy taken) found = past_dummy job dummy taken found
-past_take job (taking.ReadItemTag dummy taken at) found = past_tag job dummy taken at found
-past_take job _ found = refl
+past_take job service found = leads Past take_side.in_service job (λ s. refl) (λ told. refl) (take_side.line 0 service found).next
 
 same : (calls : List Entry) (there : Place) (n : ℕ) → Past there → length calls + before_exchange there ≤ length calls + n
 same calls there n past = omega (arith, past)

@@ -22,7 +22,7 @@ use Rattle.cc_runs.specs.declared.word.Chain.{Chain}
 use Rattle.cc_runs.specs.declared.word.Chain.TheVariants.{Send, Take}
 use Rattle.cc_runs.specs.State.{side, appended, noted}
 use Rattle.cc_runs.specs.Words.{groups}
-use Rattle.cc_runs.specs.Columns.{group_of}
+use Rattle.cc_runs.specs.Lines.{group_of}
 use Rattle.cc_model.specs.declared.config.Config.{Config}
 use Rattle.std.proofs.lemmas.Bool.{cases_eq}
 use Rattle.cc_runs.proofs.Chains.Registers.{HasSide}

@@ -26,7 +26,7 @@ use Rattle.cc_runs.proofs.Chains.Others.{IsOther, side_other, group_in}
 use Rattle.cc_runs.proofs.Chains.Serving.{chain_is}
 use Rattle.cc_runs.proofs.ChainRuns.{sides_are}
 use Rattle.cc_runs.specs.State.{State, side, appended, chain_of, first_node, hold, noted, word_of}
-use Rattle.cc_runs.specs.Columns.{event_at, operation, goes, enters, decides}
+use Rattle.cc_runs.specs.Lines.{event_at, operation, goes, enters, decides}
 use Rattle.cc_runs.specs.Step.{advanced, stepped}
 use Rattle.cc_runs.specs.declared.place.Event.{Event}
 use Rattle.cc_runs.specs.declared.place.Event.TheVariants.{Did, Idle}

@@ -16,7 +16,7 @@ use Rattle.cc_runs.specs.declared.place.Place.{Place}
 use Rattle.cc_runs.specs.declared.place.Place.TheVariants as place
 use Rattle.cc_runs.specs.declared.place.Sending.TheVariants as sending
 use Rattle.cc_runs.specs.State.{State, chain_of, word_of}
-use Rattle.cc_runs.specs.Columns.{operation, enters, decides}
+use Rattle.cc_runs.specs.Lines.{operation, enters, decides}
 use Rattle.cc_runs.specs.Step.{stepped}
 use Rattle.cc_runs.specs.Run.{opening}
 use Rattle.cc_runs.specs.Safe.{WhileUndecided, HasOpenCall, IsReady}
@@ -24,7 +24,7 @@ use Rattle.cc_machine.specs.View.{View}
 use Rattle.cc_machine.specs.Shown.{view_of, state_of}
 use Rattle.cc_machine.specs.Machine.{HasBegun, HasStepped, HasTaken}
 use Rattle.cc_runs.specs.Words.{groups}
-use Rattle.cc_runs.specs.Columns.{group_of}
+use Rattle.cc_runs.specs.Lines.{group_of}
 use Rattle.cc_machine.specs.Shown.{IsLaid}
 use Rattle.cc_runs.specs.Run.{passes}
 use Rattle.cc_runs.proofs.Chains.Registers.{HasSide}

@@ -11,7 +11,7 @@ use Rattle.cc_runs.specs.declared.place.Stand.{Stand}
 use Rattle.cc_runs.specs.declared.word.Chain.{Chain}
 use Rattle.cc_runs.proofs.Chains.Facts.{noted_none}
 use Rattle.cc_runs.specs.State.{State, chain_of, hold}
-use Rattle.cc_runs.specs.Columns.{after_state}
+use Rattle.cc_runs.specs.Lines.{after_state}
 use Rattle.cc_runs.specs.Step.{stepped, stepped_from}
 use Rattle.cc_machine.specs.View.{View, state_in}
 use Rattle.cc_machine.specs.Machine.{waits_at, waits_in, StandsStill}

@@ -23,7 +23,7 @@ use Rattle.cc_runs.specs.declared.word.NodeField.TheVariants as node
 use Rattle.cc_runs.specs.declared.word.Word.TheVariants.{Node}
 use Rattle.cc_runs.specs.State.{State, chain_of}
 use Rattle.cc_machine.specs.View.{View, state_in}
-use Rattle.cc_runs.specs.Columns.{event_at}
+use Rattle.cc_runs.specs.Lines.{event_at}
 use Rattle.cc_runs.specs.Step.{stepped}
 use Rattle.cc_runs.specs.declared.run.Move.{Move}
 use Rattle.cc_runs.specs.declared.run.Move.TheVariants.{Begin, Step, Take}

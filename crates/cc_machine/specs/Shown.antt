@@ -14,7 +14,7 @@ use Rattle.cc_machine.specs.declared.board.Board.{Board}
 use Rattle.cc_machine.specs.declared.board.Seat.{Seat}
 use Rattle.cc_runs.specs.Words.{IsSmall, layout_of, size, groups}
 use Rattle.cc_runs.specs.State.{State, first_node, chain_of}
-use Rattle.cc_runs.specs.Columns.{event_at}
+use Rattle.cc_runs.specs.Lines.{event_at}
 use Rattle.cc_runs.specs.Safe.{IsSafe, WhileUndecided}
 use Rattle.cc_runs.specs.Step.{stepped_from, stepped}
 use Rattle.cc_runs.specs.Run.{passes, nowhere}

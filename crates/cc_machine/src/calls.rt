@@ -1,6 +1,6 @@
 ghost use Rattle.cc_machine.specs.Shown.{CanStep, Stepped};
 ghost use Rattle.std.specs.Prelude.{◌≡◌};
-ghost use Rattle.cc_runs.specs.Columns.{serves};
+ghost use Rattle.cc_runs.specs.Lines.{serves};
 
 use crate::board::{Board, Seat};
 use cc_model::{Answer, Entry, Item, TakeAnswer, pack};

@@ -21,7 +21,7 @@ use Rattle.cc_runs.specs.declared.place.Event.TheVariants as event
 use Rattle.cc_runs.specs.declared.place.Place.{Place}
 use Rattle.cc_runs.specs.declared.place.Place.TheVariants as place
 use Rattle.cc_runs.specs.declared.place.Stand.{Stand}
-use Rattle.cc_runs.specs.Columns.{event_at}
+use Rattle.cc_runs.specs.Lines.{event_at}
 use Rattle.cc_runs.specs.State.{State, chain_of, hold}
 use Rattle.cc_runs.specs.declared.run.Move.TheVariants.{Begin}
 use Rattle.cc_runs.specs.Run.{begun_after, nowhere, passes}

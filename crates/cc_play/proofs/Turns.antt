@@ -12,7 +12,7 @@ use Rattle.cc_runs.specs.declared.place.Event.TheVariants as event
 use Rattle.cc_runs.specs.declared.place.Kind.{Kind}
 use Rattle.cc_runs.specs.declared.place.Place.{Place}
 use Rattle.cc_runs.specs.declared.place.Place.TheVariants as place
-use Rattle.cc_runs.specs.Columns.{event_at}
+use Rattle.cc_runs.specs.Lines.{event_at}
 use Rattle.cc_runs.specs.Step.{stepped as machine_stepped}
 use Rattle.cc_runs.specs.declared.place.Kind.TheVariants as kind
 use Rattle.cc_runs.specs.State.{State}

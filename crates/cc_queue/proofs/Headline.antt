@@ -27,7 +27,7 @@ use Rattle.cc_runs.proofs.ListRuns.Laws.{history_is_legal, history_is_fifo}
 use Rattle.cc_steps.specs.Seen.{Onward, GoesOn, stand_in, made_in}
 use Rattle.cc_steps.specs.Topic.{Topic}
 use Rattle.cc_steps.specs.Walk.{Walk, IsOf, IsSameSeat, IsSound, IsPendingIn}
-use Rattle.cc_runs.specs.Columns.{group_of}
+use Rattle.cc_runs.specs.Lines.{group_of}
 use Rattle.cc_queue.specs.Group.{IsGroupOf, Ranked}
 use Rattle.cc_queue.specs.Headline.{StandsInOne, IsAtRest, entry_of, name, history}
 use Rattle.cc_queue.specs.Work.{IsOn, Works, Waits, Enters, turned, worked_to, tally, scans}

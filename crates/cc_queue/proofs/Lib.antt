@@ -6,3 +6,4 @@ pub mod OnItsSide
 pub mod Trying
 pub mod Seated
 pub mod Held
+pub mod Rounds

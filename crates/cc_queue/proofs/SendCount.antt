@@ -9,7 +9,7 @@ use Rattle.cc_runs.specs.declared.run.Move.{Move}
 use Rattle.cc_runs.specs.declared.place.Stand.{Stand}
 use Rattle.cc_runs.specs.declared.place.Place.TheVariants as place
 use Rattle.cc_runs.specs.State.{State, chain_of, pass_at, first_node, word_of}
-use Rattle.cc_runs.specs.Columns.{operation}
+use Rattle.cc_runs.specs.Lines.{operation}
 use Rattle.cc_runs.specs.Step.{advanced}
 use Rattle.cc_runs.specs.CallsMade.{made}
 use Rattle.cc_runs.specs.declared.run.Move.TheVariants.{Begin, Step, Take}

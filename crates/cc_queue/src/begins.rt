@@ -4,7 +4,7 @@ ghost use Rattle.cc_model.specs.declared.call.Call.TheVariants as call;
 ghost use Rattle.cc_runs.specs.declared.word.Chain.TheVariants.{Send, Take};
 ghost use Rattle.cc_runs.specs.declared.place.Place.TheVariants as place;
 ghost use Rattle.cc_runs.specs.Codes.{request_in};
-ghost use Rattle.cc_runs.specs.Columns.{after_exchange};
+ghost use Rattle.cc_runs.specs.Lines.{after_exchange};
 ghost use Rattle.cc_runs.specs.Run.{begun_after};
 ghost use Rattle.cc_steps.specs.Shown.{CanStart};
 ghost use Rattle.cc_steps.specs.Walk.{IsOf, IsReadyToStep, IsPendingIn};

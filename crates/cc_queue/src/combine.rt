@@ -2,7 +2,7 @@
 ghost use Rattle.std.specs.Prelude.{◌≡◌, ◌≢◌, ◌+◌, ◌*◌, ◌<◌, ◌≤◌, ◌^◌, ◌==◌, if◌then◌else◌, Some, None};
 ghost use Rattle.cc_runs.specs.declared.place.Place.TheVariants as place;
 ghost use Rattle.cc_runs.specs.declared.setting.Served.TheVariants as served;
-ghost use Rattle.cc_runs.specs.Columns.{serves};
+ghost use Rattle.cc_runs.specs.Lines.{serves};
 ghost use Rattle.cc_queue.specs.Work.{IsServing, Serves, Works, combined};
 
 use crate::sends::serve_request;

@@ -2,7 +2,7 @@
 ghost use Rattle.std.specs.Prelude.{◌≡◌};
 ghost use Rattle.cc_runs.specs.declared.place.Place.TheVariants as place;
 ghost use Rattle.cc_runs.specs.declared.setting.Served.TheVariants as served;
-ghost use Rattle.cc_runs.specs.Columns.{after_answer};
+ghost use Rattle.cc_runs.specs.Lines.{after_answer};
 ghost use Rattle.cc_steps.specs.Walk.{IsReadyToStep};
 ghost use Rattle.cc_queue.specs.Work.{IsOnList, Serves};
 

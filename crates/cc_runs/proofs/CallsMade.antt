@@ -12,7 +12,6 @@ use Rattle.cc_model.specs.declared.call.Call.{Call}
 use Rattle.cc_model.specs.declared.call.Entry.{Entry}
 use Rattle.cc_model.specs.declared.call.Answer.{Answer}
 use Rattle.cc_model.specs.declared.call.Answer.TheVariants as answer
-use Rattle.cc_model.specs.declared.call.SendAnswer.TheVariants as send
 use Rattle.cc_model.specs.declared.call.TakeAnswer.TheVariants as take
 use Rattle.cc_runs.specs.declared.setting.Setting.{Setting}
 use Rattle.cc_runs.specs.declared.setting.Served.{Served}
@@ -21,23 +20,19 @@ use Rattle.cc_runs.specs.declared.word.Chain.{Chain}
 use Rattle.cc_runs.specs.declared.word.Chain.TheVariants.{Send, Take}
 use Rattle.cc_runs.specs.declared.place.Round.{Round}
 use Rattle.cc_runs.specs.declared.place.Job.{Job}
-use Rattle.cc_runs.specs.declared.place.Request.{Request}
 use Rattle.cc_runs.specs.declared.place.Stand.{Stand}
 use Rattle.cc_runs.specs.declared.place.Counting.{Counting}
-use Rattle.cc_runs.specs.declared.place.Counting.TheVariants as counting
 use Rattle.cc_runs.specs.declared.place.Sending.{Sending}
-use Rattle.cc_runs.specs.declared.place.Sending.TheVariants as sending
 use Rattle.cc_runs.specs.declared.place.Taking.{Taking}
-use Rattle.cc_runs.specs.declared.place.Taking.TheVariants as taking
 use Rattle.cc_runs.specs.declared.place.Place.{Place}
 use Rattle.cc_runs.specs.declared.place.Place.TheVariants as place
 use Rattle.cc_runs.specs.Words.{groups}
 use Rattle.cc_runs.specs.Codes.{code_of, value_of}
 use Rattle.cc_runs.specs.State.{State, chain_of, pass_at, first_node, hold, noted, appended, word_of}
-use Rattle.cc_runs.specs.CountColumns as count_side
-use Rattle.cc_runs.specs.SendColumns as send_side
-use Rattle.cc_runs.specs.TakeColumns as take_side
-use Rattle.cc_runs.specs.Columns.{operation, goes, enters, decides, after_exchange, after_state, after_next, after_answer, after_ret, serves}
+use Rattle.cc_runs.specs.CountLines as count_side
+use Rattle.cc_runs.specs.SendLines as send_side
+use Rattle.cc_runs.specs.TakeLines as take_side
+use Rattle.cc_runs.specs.Lines.{operation, goes, enters, decides, after_exchange, after_state, after_next, after_answer, after_ret, serves}
 use Rattle.cc_runs.specs.Step.{stepped, advanced}
 use Rattle.cc_runs.specs.Run.{Move, Begin, Step, Take as Taken, IsRun, IsIdle, IsFinished, begins, rests, number_of, moved, opening, nowhere, reached, passes}
 use Rattle.cc_runs.specs.Sides.{calls_on, answers_on}
@@ -53,6 +48,7 @@ use Rattle.cc_runs.proofs.Chains.Serving.{Chains, chains_hold, chain_is, on_chai
 use Rattle.cc_runs.proofs.Chains.Last.{chosen}
 use Rattle.cc_runs.proofs.Chains.Told.{named, name_is, other_name, NotOther, calls_one}
 use Rattle.cc_runs.specs.CallsMade.{made, to_exchange, CallsOfRuns}
+use Rattle.cc_runs.proofs.Leads.{leads}
 
 -- ---- no step but a begin gives a pass a call to exchange
 
@@ -92,40 +88,18 @@ none_ret what (Take g) ret =
     either (code_of ret == 1) (place.ReadAnswerTag (value_of ret)) (cond (code_of ret == 2) (place.Finished (answer.Take take.Empty)) (place.Finished (answer.Take (take.Ended (value_of ret))))) refl
     (either (code_of ret == 2) (place.Finished (answer.Take take.Empty)) (place.Finished (answer.Take (take.Ended (value_of ret)))) refl refl)
 
-none_count : (job : Job) (service : Counting) (found : ℕ) → to_exchange (count_side.goes job service found) ≡ []
-none_count job counting.ReadTag found = refl
-none_count job counting.ReadBody found = refl
-none_count job counting.ReadCount found = refl
-none_count job (counting.WriteCount count) found = refl
+-- where a service leads there is none
+abbrev None' : Place → Type 0
+None' at = to_exchange at ≡ []
 
-none_shut : (c : Setting) (job : Job) (request : Request) (found : ℕ) → to_exchange (send_side.after_shut job request found) ≡ []
-none_shut c job request zero = refl
-none_shut c job request (suc found) = either (request.tag == 0) (place.Sending job sending.ReadTotal) (place.WriteAnswer job (answer.Send send.Closed)) refl refl
+none_count : (job : Job) (service : Counting) (found : ℕ) → to_exchange (count_side.goes job service found) ≡ []
+none_count job service found = leads None' count_side.in_service job (λ s. refl) (λ told. refl) (count_side.line 0 service found).next
 
 none_send : (c : Setting) (job : Job) (service : Sending) (found : ℕ) → to_exchange (send_side.goes c.config job service found) ≡ []
-none_send c job (sending.ReadShut request) found = none_shut c job request found
-none_send c job (sending.ReadCount request) found =
-    either (request.tag == 0) (place.Sending job (sending.ReadLastToClose found))
-    (cond (found == c.config.life) (place.WriteAnswer job (answer.Send send.Spent)) (place.Sending job (sending.ReadCursor record { place = found; tag = request.tag; body = request.body }))) refl
-    (either (found == c.config.life) (place.WriteAnswer job (answer.Send send.Spent)) (place.Sending job (sending.ReadCursor record { place = found; tag = request.tag; body = request.body })) refl refl)
-none_send c job (sending.ReadPassed parcel at reads) found =
-    either (found == groups c.config) (place.Sending job (sending.ResetPassed parcel at))
-    (cond (reads == c.config.capacity + 1) (place.WriteAnswer job (answer.Send send.Full)) (place.Sending job (sending.ReadPassed parcel (send_side.after c.config at) (reads + 1)))) refl
-    (either (reads == c.config.capacity + 1) (place.WriteAnswer job (answer.Send send.Full)) (place.Sending job (sending.ReadPassed parcel (send_side.after c.config at) (reads + 1))) refl refl)
-none_send c job sending.ReadTag found = refl
-none_send c job service found = refl
+none_send c job service found = leads None' send_side.in_service job (λ s. refl) (λ told. refl) (send_side.line c.config 0 service found).next
 
 none_take : (job : Job) (service : Taking) (found : ℕ) → to_exchange (take_side.goes job service found) ≡ []
-none_take job (taking.ReadDummyNext dummy taken) zero = refl
-none_take job (taking.ReadDummyNext dummy taken) (suc found) = refl
-none_take job (taking.ReadItemTag dummy taken at) zero = refl
-none_take job (taking.ReadItemTag dummy taken at) (suc found) = refl
-none_take job taking.ReadHead found = refl
-none_take job (taking.ReadTaken dummy) found = refl
-none_take job (taking.ReadItemBody dummy taken at tag) found = refl
-none_take job (taking.WriteHead dummy at parcel) found = refl
-none_take job (taking.WriteTaken dummy parcel) found = refl
-none_take job (taking.AddPassed dummy parcel) found = refl
+none_take job service found = leads None' take_side.in_service job (λ s. refl) (λ told. refl) (take_side.line 0 service found).next
 
 -- ---- one step
 

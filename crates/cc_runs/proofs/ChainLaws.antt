@@ -26,7 +26,7 @@ use Rattle.cc_runs.specs.declared.place.Place.{Place}
 use Rattle.cc_runs.specs.declared.place.Place.TheVariants as place
 use Rattle.cc_runs.specs.Codes.{ret_of, code_of}
 use Rattle.cc_runs.specs.State.{side, State, chain_of, pass_at, word_of}
-use Rattle.cc_runs.specs.Columns.{operation}
+use Rattle.cc_runs.specs.Lines.{operation}
 use Rattle.cc_model.specs.Record.{Side, silent}
 use Rattle.cc_runs.specs.Words.{groups}
 use Rattle.std.proofs.lemmas.List.{get_or_past}

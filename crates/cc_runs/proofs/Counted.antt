@@ -23,7 +23,7 @@ use Rattle.cc_runs.specs.declared.place.Counting.TheVariants as counting
 use Rattle.cc_runs.specs.declared.place.Place.{Place}
 use Rattle.cc_runs.specs.declared.place.Place.TheVariants as place
 use Rattle.cc_runs.specs.State.{State, hold, appended, word_of}
-use Rattle.cc_runs.specs.Columns.{operation, goes, event_at, enters, decides, after_state, after_next, after_answer}
+use Rattle.cc_runs.specs.Lines.{operation, goes, event_at, enters, decides, after_state, after_next, after_answer}
 use Rattle.cc_runs.specs.Step.{stepped_from, advanced}
 use Rattle.cc_runs.specs.Run.{passes, passes_of}
 use Rattle.cc_runs.specs.CallsMade.{before_exchange}

@@ -23,7 +23,7 @@ use Rattle.cc_runs.specs.declared.place.Place.{Place}
 use Rattle.cc_runs.specs.declared.place.Place.TheVariants as place
 use Rattle.cc_runs.specs.Codes.{ret_of}
 use Rattle.cc_runs.specs.State.{State, chain_of, first_node}
-use Rattle.cc_runs.specs.Columns.{event_at}
+use Rattle.cc_runs.specs.Lines.{event_at}
 use Rattle.cc_runs.specs.Step.{stepped_from, stepped}
 use Rattle.cc_runs.specs.Run.{Move, Begin, Step, Take, May, IsRun, IsOn, IsIdle, IsFinished, reached, moved, passes, begun_after, begins, rests, opening, nowhere}
 use Rattle.cc_runs.specs.Safe.{IsSafe, IsReady, IsOpenAt}

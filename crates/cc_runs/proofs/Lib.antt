@@ -1,6 +1,7 @@
 pub mod Words
 pub mod Opening
 pub mod Ranges
+pub mod Leads
 pub mod Combining
 pub mod Chains
 pub mod Counted

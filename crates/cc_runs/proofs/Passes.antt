@@ -3,7 +3,7 @@ use Rattle.std.proofs.Common.{◌≡◌, ◌≢◌, ℕ, Bool, true, false, ◌=
 use Rattle.std.proofs.lemmas.Bool.{eqb-false}
 use Rattle.cc_runs.specs.declared.setting.Setting.{Setting}
 use Rattle.cc_runs.specs.State.{State, pass_at}
-use Rattle.cc_runs.specs.Columns.{event_at}
+use Rattle.cc_runs.specs.Lines.{event_at}
 use Rattle.cc_runs.specs.CallsMade.{made}
 use Rattle.cc_runs.specs.Passes.{pass_of, by, then_did, kinds, OthersLeaveAPass}
 use Rattle.cc_runs.specs.Run.{Move, Begin, Step, Take, number_of, reached, moved, begins, rests}

@@ -1,5 +1,5 @@
 -- No call has a greater number than there are sends of one sender.
-use Rattle.std.proofs.Common.{◌≡◌, ℕ, zero, suc, ◌≤◌, Bool, true, false, ◌==◌, cond, refl, sym, ap, subst, arith, nat_lt, Option, Some, None, List, [], ◌∷◌, ◌++◌, get_or, slice_set}
+use Rattle.std.proofs.Common.{◌≡◌, ℕ, zero, suc, ◌≤◌, Bool, true, false, ◌==◌, cond, refl, sym, subst, arith, nat_lt, Option, Some, None, List, [], ◌∷◌, ◌++◌, get_or, slice_set}
 use Rattle.std.specs.List.{AllByRecursion, filter}
 use Rattle.cc_model.specs.Record.{Side, Record, silent}
 use Rattle.cc_model.proofs.Grows.{all-append}
@@ -15,7 +15,7 @@ use Rattle.cc_runs.specs.declared.place.Place.{Place}
 use Rattle.cc_runs.specs.declared.place.Place.TheVariants as place
 use Rattle.cc_runs.specs.Words.{groups}
 use Rattle.cc_runs.specs.State.{State, chain_of, first_node, noted, appended, word_of}
-use Rattle.cc_runs.specs.Columns.{operation, goes, enters, decides}
+use Rattle.cc_runs.specs.Lines.{operation, goes, enters, decides}
 use Rattle.cc_runs.specs.Step.{stepped, advanced}
 use Rattle.cc_runs.specs.Run.{Move, Begin, Step, Take as Taken, IsRun, begins, rests, begun_after, number_of, opening, nowhere, reached, passes}
 use Rattle.cc_runs.specs.Sides.{calls_on}

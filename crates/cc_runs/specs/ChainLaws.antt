@@ -24,7 +24,7 @@ use Rattle.cc_runs.specs.declared.place.Place.{Place}
 use Rattle.cc_runs.specs.declared.place.Place.TheVariants as place
 use Rattle.cc_runs.specs.Codes.{pack, request_in, ret_of}
 use Rattle.cc_runs.specs.State.{State, chain_of, pass_at, word_of}
-use Rattle.cc_runs.specs.Columns.{operation}
+use Rattle.cc_runs.specs.Lines.{operation}
 use Rattle.cc_runs.specs.Run.{Move, IsRun, reached, passes, history_of}
 use Rattle.cc_runs.specs.Safe.{WhileUndecided, IsReady}
 use Rattle.cc_runs.specs.Sides.{passes_on, calls_on, answers_on, FitsIn}

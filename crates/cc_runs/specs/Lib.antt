@@ -1,9 +1,10 @@
 pub mod Words
 pub mod State
-pub mod Columns
-pub mod CountColumns
-pub mod SendColumns
-pub mod TakeColumns
+pub mod ServiceLine
+pub mod Lines
+pub mod CountLines
+pub mod SendLines
+pub mod TakeLines
 pub mod Codes
 pub mod Step
 pub mod Run

@@ -26,7 +26,7 @@ use Rattle.cc_runs.specs.declared.place.Taking.{Taking}
 use Rattle.cc_runs.specs.declared.place.Taking.TheVariants as taking
 use Rattle.cc_runs.specs.Words.{groups}
 use Rattle.cc_runs.specs.State.{State, chain_of, pass_at}
-use Rattle.cc_runs.specs.Columns.{group_of}
+use Rattle.cc_runs.specs.Lines.{group_of}
 use Rattle.cc_runs.specs.Sides.{answers_on}
 use Rattle.cc_runs.specs.declared.word.Chain.{Chain}
 use Rattle.cc_runs.specs.Safe.{IsReady}

@@ -7,7 +7,7 @@ use Rattle.cc_runs.specs.declared.place.Kind.{Kind}
 use Rattle.cc_runs.specs.declared.place.Event.{Event}
 use Rattle.cc_runs.specs.declared.place.Event.TheVariants.{Did, Idle}
 use Rattle.cc_runs.specs.State.{pass_at}
-use Rattle.cc_runs.specs.Columns.{event_at}
+use Rattle.cc_runs.specs.Lines.{event_at}
 use Rattle.cc_runs.specs.CallsMade.{made}
 use Rattle.cc_runs.specs.Run.{Move, Begin, Step, Take, IsRun, reached, history_of}
 

@@ -22,7 +22,7 @@ pub use Rattle.cc_runs.specs.declared.run.Move.{Move}
 pub use Rattle.cc_runs.specs.declared.run.Move.TheVariants.{Begin, Step, Take}
 use Rattle.cc_runs.specs.Words.{groups}
 use Rattle.cc_runs.specs.State.{State, chain_of, pass_at, first_node, hold}
-use Rattle.cc_runs.specs.Columns.{event_at}
+use Rattle.cc_runs.specs.Lines.{event_at}
 use Rattle.cc_runs.specs.Step.{stepped}
 
 -- how many passes there are: the counter has senders alone

@@ -14,7 +14,7 @@ use Rattle.cc_runs.specs.declared.place.Taking.TheVariants as taking
 use Rattle.cc_runs.specs.Words.{layout_of, exists}
 use Rattle.cc_runs.specs.State.{State, side, word_of, chain_of}
 use Rattle.cc_runs.specs.Codes.{ret_of}
-use Rattle.cc_runs.specs.Columns.{operation}
+use Rattle.cc_runs.specs.Lines.{operation}
 
 -- a count stays in a word
 abbrev pub IsCountSafe : Counting → Type 0

@@ -4,7 +4,7 @@ use Rattle.cc_runs.specs.declared.setting.Setting.{Setting}
 use Rattle.cc_runs.specs.declared.word.Chain.{Chain}
 use Rattle.cc_runs.specs.declared.place.Stand.{Stand}
 use Rattle.cc_runs.specs.State.{State, chain_of, hold, noted, word_of, stored}
-use Rattle.cc_runs.specs.Columns.{operation, node_after, goes, enters, decides}
+use Rattle.cc_runs.specs.Lines.{operation, node_after, goes, enters, decides}
 
 -- where a pass of chain x stands after a step that found this
 abbrev pub advanced : Setting → Chain → Stand → ℕ → Stand

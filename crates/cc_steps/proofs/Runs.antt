@@ -13,7 +13,7 @@ use Rattle.cc_runs.specs.declared.place.Place.TheVariants as place
 use Rattle.cc_runs.specs.declared.place.Event.TheVariants.{Idle}
 use Rattle.cc_runs.specs.Words.{layout_of, exists}
 use Rattle.cc_runs.specs.State.{chain_of, pass_at, word_of, stored}
-use Rattle.cc_runs.specs.Columns.{event_at}
+use Rattle.cc_runs.specs.Lines.{event_at}
 use Rattle.cc_runs.specs.Step.{advanced}
 use Rattle.cc_runs.specs.Safe.{IsSafe, IsPlaceSafe}
 use Rattle.cc_runs.specs.CallsMade.{made}

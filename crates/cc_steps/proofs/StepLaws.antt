@@ -21,7 +21,7 @@ use Rattle.cc_runs.specs.declared.place.Taking.TheVariants as taking
 use Rattle.cc_runs.specs.declared.place.Stand.{Stand}
 use Rattle.cc_runs.proofs.Chains.Facts.{noted_none}
 use Rattle.cc_runs.specs.State.{Operation, Store, chain_of, pass_at, word_of, noted}
-use Rattle.cc_runs.specs.Columns.{operation, event_at, goes, enters, decides}
+use Rattle.cc_runs.specs.Lines.{operation, event_at, goes, enters, decides}
 use Rattle.cc_runs.specs.Run.{history_of}
 use Rattle.cc_runs.specs.ChainLaws.{IsEntering, IsLastPending}
 use Rattle.cc_runs.specs.MachineLaws.{Resets, Prepares}

@@ -12,7 +12,7 @@ use Rattle.cc_runs.specs.declared.place.Kind.{Kind}
 use Rattle.cc_runs.specs.declared.place.Event.TheVariants.{Did, Idle}
 use Rattle.cc_runs.specs.Words.{layout_of, exists}
 use Rattle.cc_runs.specs.State.{Operation, chain_of, pass_at, first_node, word_of}
-use Rattle.cc_runs.specs.Columns.{event_at, goes}
+use Rattle.cc_runs.specs.Lines.{event_at, goes}
 use Rattle.cc_runs.specs.ChainLaws.{IsLastAnswer}
 use Rattle.cc_runs.specs.ChainLaws.{IsLastPending}
 use Rattle.cc_runs.specs.declared.place.Place.{Place}

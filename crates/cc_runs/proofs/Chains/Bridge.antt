@@ -17,7 +17,7 @@ use Rattle.cc_runs.specs.declared.place.Place.{Place}
 use Rattle.cc_runs.specs.declared.place.Place.TheVariants as place
 use Rattle.cc_runs.specs.Codes.{ret_of}
 use Rattle.cc_runs.specs.State.{State, word_of}
-use Rattle.cc_runs.specs.Columns.{operation, after_state, after_next}
+use Rattle.cc_runs.specs.Lines.{operation, after_state, after_next}
 use Rattle.cc_runs.specs.Step.{stepped_from, advanced}
 use Rattle.cc_runs.proofs.Chains.View.{view, pass_on, post_at, post_of, cell_of, request_words, answer_words, request_long, asked_words, entering, serving, resting, answer_long, told_next}
 use Rattle.cc_runs.proofs.Chains.Frame.{put_here, cell_apart, hold_here, hold_apart, pass_apart, request_same, answer_same, answer_first, answer_later, exchanged_post, serves_post, after_answer_post}

@@ -18,7 +18,7 @@ use Rattle.cc_runs.specs.declared.place.Place.{Place}
 use Rattle.cc_runs.specs.declared.place.Place.TheVariants as place
 use Rattle.cc_runs.specs.Codes.{item_of, ret_of, code_of, value_of}
 use Rattle.cc_runs.specs.State.{side, with_side, noted}
-use Rattle.cc_runs.specs.Columns.{serves, after_exchange, after_answer, after_ret}
+use Rattle.cc_runs.specs.Lines.{serves, after_exchange, after_answer, after_ret}
 use Rattle.cc_runs.specs.Run.{IsFinished}
 use Rattle.cc_runs.proofs.Chains.View.{post_of, out, answer_long}
 use Rattle.cc_runs.proofs.Chains.Registers.{IsChainOf, HasSide, HasCall, IsAnswer, HasService, coded_words, HasRead, reads, tag_word, body_word}

@@ -20,7 +20,7 @@ use Rattle.cc_model.specs.declared.call.TakeAnswer.TheVariants as take
 use Rattle.cc_runs.specs.declared.setting.Served.{Served}
 use Rattle.cc_runs.specs.declared.setting.Served.TheVariants.{Counter, List}
 use Rattle.cc_runs.specs.declared.place.Job.{Job}
-use Rattle.cc_runs.specs.Columns.{after_exchange, serves, after_answer}
+use Rattle.cc_runs.specs.Lines.{after_exchange, serves, after_answer}
 use Rattle.cc_runs.proofs.Chains.View.{pass_on, cell_of, request_words, answer_words, asked_words, post_of, entering, serving, told_next}
 
 pub put_here : (mem : Word → ℕ) (w : Word) (value : ℕ) → put mem w value w ≡ value

@@ -24,7 +24,7 @@ use Rattle.cc_runs.specs.declared.place.Place.TheVariants as place
 use Rattle.cc_runs.specs.Words.{groups, put, same, same_chain, node_field}
 use Rattle.cc_runs.specs.Codes.{pack, ret_of}
 use Rattle.cc_runs.specs.State.{State, chain_of, side, with_side, hold, stored, word_of}
-use Rattle.cc_runs.specs.Columns.{operation, group_of}
+use Rattle.cc_runs.specs.Lines.{operation, group_of}
 use Rattle.cc_runs.specs.Step.{stepped_from, advanced}
 use Rattle.cc_runs.specs.Run.{passes_of, passes}
 use Rattle.cc_runs.proofs.Combining.Stay.{Stays}

@@ -16,10 +16,10 @@ use Rattle.cc_runs.specs.declared.place.Taking.{Taking}
 use Rattle.cc_runs.specs.declared.place.Place.{Place}
 use Rattle.cc_runs.specs.declared.place.Place.TheVariants as place
 use Rattle.cc_runs.specs.State.{State, word_of}
-use Rattle.cc_runs.specs.CountColumns as count_side
-use Rattle.cc_runs.specs.SendColumns as send_side
-use Rattle.cc_runs.specs.TakeColumns as take_side
-use Rattle.cc_runs.specs.Columns.{event_at, group_of}
+use Rattle.cc_runs.specs.CountLines as count_side
+use Rattle.cc_runs.specs.SendLines as send_side
+use Rattle.cc_runs.specs.TakeLines as take_side
+use Rattle.cc_runs.specs.Lines.{event_at, group_of}
 use Rattle.cc_runs.proofs.Chains.View.{members}
 use Rattle.cc_runs.proofs.Chains.Registers.{IsChain, Counts, Sends, Takes, HasSend}
 use Rattle.cc_runs.proofs.Chains.Service.{Outcome, FindsRequest, sends, takes, counts, send_tail, send_words, take_tail, take_words, count_tail, count_words}

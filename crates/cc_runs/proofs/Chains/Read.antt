@@ -17,7 +17,7 @@ use Rattle.cc_runs.specs.declared.place.Place.{Place}
 use Rattle.cc_runs.specs.declared.place.Place.TheVariants as place
 use Rattle.cc_runs.specs.Codes.{pack, item_of, ret_of, code_of, value_of, sender_reads}
 use Rattle.cc_runs.specs.State.{State}
-use Rattle.cc_runs.specs.Columns.{goes, node_after, enters, decides, after_ret}
+use Rattle.cc_runs.specs.Lines.{goes, node_after, enters, decides, after_ret}
 use Rattle.cc_runs.specs.Run.{IsFinished}
 use Rattle.cc_runs.proofs.Combining.Stay as by_stay
 use Rattle.cc_runs.proofs.Combining.WriteRequest as by_writerequest

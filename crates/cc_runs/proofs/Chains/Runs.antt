@@ -9,7 +9,7 @@ use Rattle.cc_runs.specs.declared.place.Place.{Place}
 use Rattle.cc_runs.specs.declared.place.Place.TheVariants as place
 use Rattle.cc_runs.specs.declared.place.Event.TheVariants.{Idle}
 use Rattle.cc_runs.specs.State.{State, chain_of}
-use Rattle.cc_runs.specs.Columns.{event_at}
+use Rattle.cc_runs.specs.Lines.{event_at}
 use Rattle.cc_runs.specs.Step.{stepped_from, stepped}
 use Rattle.cc_runs.specs.Run.{Move, Begin, Step, Take, May, IsRun, IsOn as CanBeOn, IsIdle, IsFinished, begins, rests, begun_after, number_of, reached, moved}
 use Rattle.cc_runs.proofs.Chains.View.{pass_on, post_of, out}

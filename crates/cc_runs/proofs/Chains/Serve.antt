@@ -13,7 +13,7 @@ use Rattle.cc_runs.specs.declared.place.Place.{Place}
 use Rattle.cc_runs.specs.declared.place.Place.TheVariants as place
 use Rattle.cc_runs.specs.Codes.{ret_of}
 use Rattle.cc_runs.specs.State.{State, noted}
-use Rattle.cc_runs.specs.Columns.{goes, node_after, enters, decides, after_answer, after_done}
+use Rattle.cc_runs.specs.Lines.{goes, node_after, enters, decides, after_answer, after_done}
 use Rattle.cc_runs.specs.Step.{advanced}
 use Rattle.cc_runs.proofs.Combining.WriteAnswer.{Tells}
 use Rattle.cc_runs.proofs.Combining.Stay as by_stay

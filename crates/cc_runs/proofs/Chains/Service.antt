@@ -28,10 +28,11 @@ use Rattle.cc_runs.specs.declared.place.Place.TheVariants as place
 use Rattle.cc_runs.specs.Codes.{request_in}
 use Rattle.cc_runs.specs.Words.{groups}
 use Rattle.cc_runs.specs.State.{stored}
-use Rattle.cc_runs.specs.CountColumns as count_side
-use Rattle.cc_runs.specs.SendColumns as send_side
-use Rattle.cc_runs.specs.TakeColumns as take_side
-use Rattle.cc_runs.specs.SendColumns.{after}
+use Rattle.cc_runs.specs.CountLines as count_side
+use Rattle.cc_runs.specs.SendLines as send_side
+use Rattle.cc_runs.specs.TakeLines as take_side
+use Rattle.cc_runs.specs.SendLines.{after}
+use Rattle.cc_runs.specs.ServiceLine.{Next, On, Decides, place_of, answer_of}
 use Rattle.cc_runs.proofs.Chains.View.{post_of, serving}
 use Rattle.cc_runs.proofs.Chains.Registers.{HasService, IsAnswer}
 
@@ -47,46 +48,30 @@ FindsRequest e (sending.ReadBody tag) found = found ≡ (request_in e).body
 FindsRequest e _ found = Unit {0}
 
 module _ (c : Setting) (job : Job) (e : Entry) where
-  abbrev Sends : Sending → Place → Option Answer → Type 0
-  Sends service there decided = Outcome served.List Send job e (place.Sending job service) there decided
+  abbrev Sends : Sending → Next Sending → Type 0
+  Sends service next = Outcome served.List Send job e (place.Sending job service) (place_of send_side.in_service job next) (answer_of next)
 
-  shut_open : (request : Request) → Sends (sending.ReadShut request) (place.Sending job (sending.ReadCount request)) None
-  shut_open request = quiet refl (λ own. refl) (λ a r. r)
-
-  shut_closed : (request : Request) (b : Bool) →
-      Sends (sending.ReadShut request) (cond b (place.Sending job sending.ReadTotal) (place.WriteAnswer job (answer.Send send.Closed))) (cond b None (Some (answer.Send send.Closed)))
+  shut_closed : (request : Request) (b : Bool) → Sends (sending.ReadShut request) (cond b (On sending.ReadTotal) (Decides (answer.Send send.Closed)))
   shut_closed request true = quiet refl (λ own. refl) (λ a r. tt)
   shut_closed request false = decides (answer.Send send.Closed) refl (λ own. refl) (λ own. refl) tt refl
 
-  count_life : (request : Request) (count : ℕ) (b : Bool) →
-      Sends (sending.ReadCount request) (cond b (place.WriteAnswer job (answer.Send send.Spent)) (place.Sending job (sending.ReadCursor record { place = count; tag = request.tag; body = request.body }))) (cond b (Some (answer.Send send.Spent)) None)
-  count_life request count true = decides (answer.Send send.Spent) refl (λ own. refl) (λ own. refl) tt refl
-  count_life request count false = quiet refl (λ own. refl) (λ a r. (ap (λ (z : Request). z.tag) r, ap (λ (z : Request). z.body) r))
-
-  count_read : (request : Request) (count : ℕ) (life b : Bool) →
-      Sends (sending.ReadCount request)
-      (cond b (place.Sending job (sending.ReadLastToClose count)) (cond life (place.WriteAnswer job (answer.Send send.Spent)) (place.Sending job (sending.ReadCursor record { place = count; tag = request.tag; body = request.body }))))
-      (cond b None (cond life (Some (answer.Send send.Spent)) None))
-  count_read request count life true = quiet refl (λ own. refl) (λ a r. tt)
-  count_read request count life false = count_life request count life
-
-  passed_full : (parcel : Parcel) (at reads : ℕ) (b : Bool) →
-      Sends (sending.ReadPassed parcel at reads) (cond b (place.WriteAnswer job (answer.Send send.Full)) (place.Sending job (sending.ReadPassed parcel (after c.config at) (reads + 1)))) (cond b (Some (answer.Send send.Full)) None)
-  passed_full parcel at reads true = decides (answer.Send send.Full) refl (λ own. refl) (λ own. refl) tt refl
-  passed_full parcel at reads false = quiet refl (λ own. refl) (λ a r. r)
-
-  passed_read : (parcel : Parcel) (at reads : ℕ) (last b : Bool) →
-      Sends (sending.ReadPassed parcel at reads)
-      (cond b (place.Sending job (sending.ResetPassed parcel at)) (cond last (place.WriteAnswer job (answer.Send send.Full)) (place.Sending job (sending.ReadPassed parcel (after c.config at) (reads + 1)))))
-      (cond b None (cond last (Some (answer.Send send.Full)) None))
-  passed_read parcel at reads last true = quiet refl (λ own. refl) (λ a r. r)
-  passed_read parcel at reads last false = passed_full parcel at reads last
-
-  shut_read : (request : Request) (found : ℕ) → Sends (sending.ReadShut request) (send_side.goes c.config job (sending.ReadShut request) found) (send_side.decides c.config (sending.ReadShut request) found)
-  shut_read request zero = shut_open request
+  shut_read : (request : Request) (found : ℕ) → Sends (sending.ReadShut request) (send_side.by_shut request found)
+  shut_read request zero = quiet refl (λ own. refl) (λ a r. r)
   shut_read request (suc found) = shut_closed request (request.tag == 0)
 
-  pub sends : (service : Sending) (found : ℕ) → FindsRequest e service found → Sends service (send_side.goes c.config job service found) (send_side.decides c.config service found)
+  count_read : (request : Request) (count : ℕ) (life b : Bool) →
+      Sends (sending.ReadCount request) (cond b (On (sending.ReadLastToClose count)) (cond life (Decides (answer.Send send.Spent)) (On (sending.ReadCursor record { place = count; tag = request.tag; body = request.body }))))
+  count_read request count life true = quiet refl (λ own. refl) (λ a r. tt)
+  count_read request count true false = decides (answer.Send send.Spent) refl (λ own. refl) (λ own. refl) tt refl
+  count_read request count false false = quiet refl (λ own. refl) (λ a r. (ap (λ (z : Request). z.tag) r, ap (λ (z : Request). z.body) r))
+
+  passed_read : (parcel : Parcel) (at reads : ℕ) (last b : Bool) →
+      Sends (sending.ReadPassed parcel at reads) (cond b (On (sending.ResetPassed parcel at)) (cond last (Decides (answer.Send send.Full)) (On (sending.ReadPassed parcel (after c.config at) (reads + 1)))))
+  passed_read parcel at reads last true = quiet refl (λ own. refl) (λ a r. r)
+  passed_read parcel at reads true false = decides (answer.Send send.Full) refl (λ own. refl) (λ own. refl) tt refl
+  passed_read parcel at reads false false = quiet refl (λ own. refl) (λ a r. r)
+
+  pub sends : (service : Sending) (found : ℕ) → FindsRequest e service found → Sends service (send_side.line c.config 0 service found).next
   sends sending.ReadTag found f = quiet refl (λ own. refl) (λ a r. f)
   sends (sending.ReadBody tag) found f = quiet refl (λ own. refl) (λ a r. λ i. record { tag = r i; body = f i })
   sends (sending.ReadShut request) found f = shut_read request found

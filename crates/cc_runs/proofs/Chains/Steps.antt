@@ -13,7 +13,7 @@ use Rattle.cc_runs.specs.declared.place.Round.{Round}
 use Rattle.cc_runs.specs.declared.place.Place.{Place}
 use Rattle.cc_runs.specs.declared.place.Place.TheVariants as place
 use Rattle.cc_runs.specs.State.{State, side, noted}
-use Rattle.cc_runs.specs.Columns.{goes, enters, decides, after_exchange, after_state, after_next, serves}
+use Rattle.cc_runs.specs.Lines.{goes, enters, decides, after_exchange, after_state, after_next, serves}
 use Rattle.cc_runs.specs.Step.{advanced}
 use Rattle.cc_runs.specs.Run.{IsFinished}
 use Rattle.cc_runs.proofs.Combining.Chain.{Ghost}

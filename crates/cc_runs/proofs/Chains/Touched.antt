@@ -15,10 +15,10 @@ use Rattle.cc_runs.specs.declared.place.Taking.TheVariants as taking
 use Rattle.cc_runs.specs.declared.place.Place.{Place}
 use Rattle.cc_runs.specs.declared.place.Place.TheVariants as place
 use Rattle.cc_runs.specs.State.{word_of}
-use Rattle.cc_runs.specs.CountColumns as count_side
-use Rattle.cc_runs.specs.SendColumns as send_side
-use Rattle.cc_runs.specs.TakeColumns as take_side
-use Rattle.cc_runs.specs.Columns.{operation, group_of}
+use Rattle.cc_runs.specs.CountLines as count_side
+use Rattle.cc_runs.specs.SendLines as send_side
+use Rattle.cc_runs.specs.TakeLines as take_side
+use Rattle.cc_runs.specs.Lines.{operation, group_of}
 use Rattle.cc_runs.proofs.Chains.View.{post_of}
 
 -- node i of chain y is touched from chain x: the pass's own node, or the one that it serves

@@ -15,7 +15,7 @@ use Rattle.cc_runs.specs.declared.word.Chain.TheVariants.{Take}
 use Rattle.cc_runs.specs.declared.word.Object.TheVariants as object
 use Rattle.cc_runs.specs.declared.word.Word.TheVariants.{Object}
 use Rattle.cc_runs.specs.Words.{groups}
-use Rattle.cc_runs.specs.Columns.{group_of}
+use Rattle.cc_runs.specs.Lines.{group_of}
 use Rattle.cc_runs.specs.Run.{IsIdle, passes}
 use Rattle.cc_runs.proofs.LinkedList.Queue.{Enq, Queue}
 use Rattle.cc_runs.proofs.LinkedList.DReads as d_reads

@@ -18,25 +18,23 @@ use Rattle.cc_runs.specs.declared.word.Chain.{Chain}
 use Rattle.cc_runs.specs.declared.word.Chain.TheVariants.{Send, Take}
 use Rattle.cc_runs.specs.declared.word.Word.{Word}
 use Rattle.cc_runs.specs.declared.place.Job.{Job}
-use Rattle.cc_runs.specs.declared.place.Request.{Request}
 use Rattle.cc_runs.specs.declared.place.Round.{Round}
 use Rattle.cc_runs.specs.declared.place.Place.{Place}
 use Rattle.cc_runs.specs.declared.place.Place.TheVariants as place
 use Rattle.cc_runs.specs.declared.place.Sending.{Sending}
-use Rattle.cc_runs.specs.declared.place.Sending.TheVariants as sending
 use Rattle.cc_runs.specs.declared.place.Taking.{Taking}
-use Rattle.cc_runs.specs.declared.place.Taking.TheVariants as taking
 use Rattle.cc_runs.specs.declared.place.Stand.{Stand}
 use Rattle.cc_runs.specs.Words.{groups}
 use Rattle.cc_runs.specs.State.{State, chain_of, pass_at, hold}
-use Rattle.cc_runs.specs.Columns.{goes, after_next, after_exchange}
-use Rattle.cc_runs.specs.SendColumns as send_side
-use Rattle.cc_runs.specs.TakeColumns as take_side
+use Rattle.cc_runs.specs.Lines.{goes, after_next, after_exchange}
+use Rattle.cc_runs.specs.SendLines as send_side
+use Rattle.cc_runs.specs.TakeLines as take_side
 use Rattle.cc_runs.specs.Run.{passes, IsOn, IsIdle}
 use Rattle.cc_runs.proofs.ListRuns.View.{hold_all}
 use Rattle.cc_runs.proofs.ListRuns.Facts.{lists}
 use Rattle.cc_runs.proofs.ListRuns.Posts.{Begun, IsTakes, Well, Posts, Calls, HasNumber, waits, is_send, well_grows, all_map}
 use Rattle.cc_runs.proofs.ListRuns.Still.{plain_goes}
+use Rattle.cc_runs.proofs.Leads.{leads}
 
 -- ---- where a service's steps lead
 
@@ -44,10 +42,6 @@ use Rattle.cc_runs.proofs.ListRuns.Still.{plain_goes}
 record Kept (x : Chain) (at : Place) : Type 0 where
   well : (h : Record) (pass : Pass) (begun : ℕ) → Well h x pass begun at
   waits_none : waits at ≡ 0
-
-if_kept : (x : Chain) (b : Bool) (first second : Place) → Kept x first → Kept x second → Kept x (if b then first else second)
-if_kept x true first second y n = y
-if_kept x false first second y n = n
 
 sends : (x : Chain) (job : Job) (service : Sending) → x ≡ Send → Kept x (place.Sending job service)
 sends x job service e = record { well = λ h pass begun. e; waits_none = refl }
@@ -58,26 +52,11 @@ takes x job service e = record { well = λ h pass begun. e; waits_none = refl }
 over : (x : Chain) (job : Job) (told : _) → Kept x (place.WriteAnswer job told)
 over x job told = record { well = λ h pass begun. tt; waits_none = refl }
 
-shut_kept : (x : Chain) (job : Job) (q : Request) (found : ℕ) → x ≡ Send → Kept x (send_side.after_shut job q found)
-shut_kept x job q zero e = sends x job (sending.ReadCount q) e
-shut_kept x job q (suc n) e = if_kept x (q.tag == 0) _ _ (sends x job sending.ReadTotal e) (over x job _)
-
 send_kept : (c : Config) (x : Chain) (job : Job) (service : Sending) (found : ℕ) → x ≡ Send → Kept x (send_side.goes c job service found)
-send_kept c x job (sending.ReadShut q) found e = shut_kept x job q found e
-send_kept c x job (sending.ReadCount q) found e = if_kept x (q.tag == 0) _ _ (sends x job _ e) (if_kept x (found == c.life) _ _ (over x job _) (sends x job _ e))
-send_kept c x job (sending.ReadPassed parcel at reads) found e = if_kept x (found == groups c) _ _ (sends x job _ e) (if_kept x (reads == c.capacity + 1) _ _ (over x job _) (sends x job _ e))
-send_kept c x job sending.ReadTotal found e = over x job _
-send_kept c x job (sending.WriteShut total) found e = over x job _
-send_kept c x job (sending.WriteCursor count at) found e = over x job _
-send_kept c x job _ found e = sends x job _ e
+send_kept c x job service found e = leads (Kept x) send_side.in_service job (λ s. sends x job s e) (over x job) (send_side.line c 0 service found).next
 
 take_kept : (x : Chain) (job : Job) (service : Taking) (found : ℕ) → IsTakes x → Kept x (take_side.goes job service found)
-take_kept x job (taking.ReadDummyNext dummy taken) zero e = over x job _
-take_kept x job (taking.ReadDummyNext dummy taken) (suc n) e = takes x job _ e
-take_kept x job (taking.ReadItemTag dummy taken at) zero e = over x job _
-take_kept x job (taking.ReadItemTag dummy taken at) (suc n) e = takes x job _ e
-take_kept x job (taking.AddPassed dummy parcel) found e = over x job _
-take_kept x job _ found e = takes x job _ e
+take_kept x job service found e = leads (Kept x) take_side.in_service job (λ s. takes x job s e) (over x job) (take_side.line 0 service found).next
 
 next_kept : (x : Chain) (round : Round) (found : ℕ) → Kept x (after_next served.List x round found)
 next_kept x round zero = record { well = λ h pass begun. tt; waits_none = refl }

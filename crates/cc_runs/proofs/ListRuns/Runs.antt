@@ -17,7 +17,7 @@ use Rattle.cc_runs.specs.declared.place.Place.{Place}
 use Rattle.cc_runs.specs.declared.place.Place.TheVariants as place
 use Rattle.cc_runs.specs.declared.place.Stand.{Stand}
 use Rattle.cc_runs.specs.State.{State, appended, chain_of, pass_at, first_node, word_of}
-use Rattle.cc_runs.specs.Columns.{operation, goes, enters, decides}
+use Rattle.cc_runs.specs.Lines.{operation, goes, enters, decides}
 use Rattle.cc_runs.specs.Step.{stepped_from}
 use Rattle.cc_runs.specs.Words.{groups}
 use Rattle.cc_runs.specs.Run as run

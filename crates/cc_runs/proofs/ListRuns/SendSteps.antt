@@ -13,7 +13,7 @@ use Rattle.cc_runs.specs.declared.place.Sending.TheVariants as sending
 use Rattle.cc_runs.specs.declared.word.Object.{Object as Obj}
 use Rattle.cc_runs.specs.Words.{put, object_number}
 use Rattle.cc_runs.specs.Codes.{request_in}
-use Rattle.cc_runs.specs.SendColumns.{mark, after}
+use Rattle.cc_runs.specs.SendLines.{mark, after}
 use Rattle.cc_runs.proofs.LinkedList.Queue.{Enq, Queue, SameCall, SameSides}
 use Rattle.cc_runs.proofs.LinkedList.EReads as reads
 use Rattle.cc_runs.proofs.LinkedList.EWrites as writes

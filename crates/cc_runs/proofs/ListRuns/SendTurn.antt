@@ -29,7 +29,8 @@ use Rattle.cc_runs.specs.declared.place.Sending.TheVariants as sending
 use Rattle.cc_runs.specs.Words.{groups, put}
 use Rattle.cc_runs.specs.State.{noted, word_of, stored}
 use Rattle.cc_runs.specs.Codes.{item_of, request_in}
-use Rattle.cc_runs.specs.SendColumns.{operation, goes, decides, after, mark, after_shut, after_count, after_passed}
+use Rattle.cc_runs.specs.SendLines.{operation, goes, decides, after, mark, by_shut, by_count, by_passed, in_service}
+use Rattle.cc_runs.specs.ServiceLine as line
 use Rattle.cc_runs.specs.MachineLaws.{links}
 use Rattle.cc_runs.proofs.LinkedList.Queue.{Queue, Told}
 use Rattle.cc_runs.proofs.LinkedList.ResetPassed.{Prepares}
@@ -163,13 +164,17 @@ module _ (c : Config) (mem : Word → ℕ) (d : Duty) (r : ℕ → Regs) (h : Re
   fits_open : (told : Answer) → g.shut ≡ 0 → EAnswer c (length (accepted h)) false d.e_call.known d.e_call.call told → EAnswer c (length (accepted h)) (is_shut h) d.e_call.known d.e_call.call told
   fits_open told none fits = subst (λ (b : Bool). EAnswer c (length (accepted h)) b d.e_call.known d.e_call.call told) (sym (shut_false (is_shut h) (sym ties.shut_is ∙ none))) fits
 
+  -- what a load of the service leads to
+  abbrev Leads : line.Next Sending → Type 0
+  Leads next = Turn c mem d r (noted Send h None (line.answer_of next)) g (line.place_of in_service job next)
+
   abbrev tag_asked : ℕ
   tag_asked = (request_in d.e_call).tag
 
   -- ---- the load of shut
 
   shut_branch : (q : Request) (b : Bool) → (q.tag == 0) ≡ b → Has (AtStep mem (sending.ReadShut q)) g → Asked d.e_call q.tag q.body → IsNextSend h d.e_call → mem (Object object.Shut) ≢ 0
-      → Turn c mem d r (noted Send h None (cond b None (Some (answer.Send send.Closed)))) g (cond b (place.Sending job sending.ReadTotal) (place.WriteAnswer job (answer.Send send.Closed)))
+      → Leads (cond b (line.On sending.ReadTotal) (line.Decides (answer.Send send.Closed)))
   shut_branch q true e has asked next ne =
       let z : tag_asked ≡ 0 = sym asked.tag_is ∙ eqb-true q.tag 0 e in
       on mem (sending.ReadShut q) sending.ReadTotal has (Next.e_shut (steps.read_shut_close mem d r q ne z)) tt (λ u. next)
@@ -179,7 +184,7 @@ module _ (c : Config) (mem : Word → ℕ) (d : Duty) (r : ℕ → Regs) (h : Re
       (fits_shut (answer.Send send.Closed) (decide.read_shut c.capacity c.life (further c + 1) (AtStep mem (sending.ReadShut q)) g has.inv refl ne) (closed_fits c (length (accepted h)) d.e_call.known d.e_call.pass d.e_call.call d.e_call.number caller.senders nz))
 
   read_shut : (q : Request) (found : ℕ) → mem (Object object.Shut) ≡ found → Has (AtStep mem (sending.ReadShut q)) g → Asked d.e_call q.tag q.body → IsNextSend h d.e_call
-      → Turn c mem d r (noted Send h None (decides c (sending.ReadShut q) found)) g (after_shut job q found)
+      → Leads (by_shut q found)
   read_shut q zero e has asked next = on mem (sending.ReadShut q) (sending.ReadCount q) has (Next.e_shut (steps.read_shut_open mem d r q e)) asked (λ u. next)
   read_shut q (suc n) e has asked next = shut_branch q (q.tag == 0) refl has asked next (λ z. omega (arith, z, e))
 
@@ -193,7 +198,7 @@ module _ (c : Config) (mem : Word → ℕ) (d : Duty) (r : ℕ → Regs) (h : Re
       (fits_shut (answer.Close (close.Already (mem (Object object.Count)))) known.1 (already_fits c (length (accepted h)) d.e_call.known d.e_call.pass d.e_call.call d.e_call.number (mem (Object object.Count)) caller.senders known.2 (known.0 ∙ ties.accepted_is)))
 
   life_branch : (q : Request) (b : Bool) → (mem (Object object.Count) == c.life) ≡ b → tag_asked ≢ 0 → Has (AtStep mem (sending.ReadCount q)) g → Asked d.e_call q.tag q.body → IsNextSend h d.e_call
-      → Turn c mem d r (noted Send h None (cond b (Some (answer.Send send.Spent)) None)) g (cond b (place.WriteAnswer job (answer.Send send.Spent)) (place.Sending job (sending.ReadCursor record { place = mem (Object object.Count); tag = q.tag; body = q.body })))
+      → Leads (cond b (line.Decides (answer.Send send.Spent)) (line.On (sending.ReadCursor record { place = mem (Object object.Count); tag = q.tag; body = q.body })))
   life_branch q true e nz has asked next =
       let full : mem (Object object.Count) ≡ c.life = eqb-true (mem (Object object.Count)) c.life e in
       let known : (g.accepted ≡ c.life) × (g.shut ≡ 0) = decide.spent c.capacity c.life (further c + 1) (AtStep mem (sending.ReadCount q)) g has.inv refl full in
@@ -204,8 +209,7 @@ module _ (c : Config) (mem : Word → ℕ) (d : Duty) (r : ℕ → Regs) (h : Re
       (Next.e_count (steps.read_count_on mem d r c.life q q.tag q.body nz (eqb-false (mem (Object object.Count)) c.life e))) (record { tag_is = asked.tag_is; body_is = asked.body_is }) (λ u. next)
 
   close_branch : (q : Request) (b : Bool) → (q.tag == 0) ≡ b → Has (AtStep mem (sending.ReadCount q)) g → Asked d.e_call q.tag q.body → IsNextSend h d.e_call
-      → Turn c mem d r (noted Send h None (cond b None (if mem (Object object.Count) == c.life then Some (answer.Send send.Spent) else None))) g
-      (cond b (place.Sending job (sending.ReadLastToClose (mem (Object object.Count)))) (if mem (Object object.Count) == c.life then place.WriteAnswer job (answer.Send send.Spent) else place.Sending job (sending.ReadCursor record { place = mem (Object object.Count); tag = q.tag; body = q.body })))
+      → Leads (cond b (line.On (sending.ReadLastToClose (mem (Object object.Count)))) (if mem (Object object.Count) == c.life then line.Decides (answer.Send send.Spent) else line.On (sending.ReadCursor record { place = mem (Object object.Count); tag = q.tag; body = q.body })))
   close_branch q true e has asked next =
       let z : tag_asked ≡ 0 = sym asked.tag_is ∙ eqb-true q.tag 0 e in
       on mem (sending.ReadCount q) (sending.ReadLastToClose (mem (Object object.Count))) has (Next.e_count (steps.read_count_close mem d r c.life q z)) tt (λ u. next)
@@ -214,7 +218,7 @@ module _ (c : Config) (mem : Word → ℕ) (d : Duty) (r : ℕ → Regs) (h : Re
   -- ---- the scan
 
   free_branch : (parcel : Parcel) (at reads : ℕ) (b : Bool) → (reads == c.capacity + 1) ≡ b → mem (ItemWord at item.Passed) ≢ further c + 1 → Has (AtStep mem (sending.ReadPassed parcel at reads)) g → Reads c d.e_call d.from (sending.ReadPassed parcel at reads) → IsNextSend h d.e_call
-      → Turn c mem d r (noted Send h None (cond b (Some (answer.Send send.Full)) None)) g (cond b (place.WriteAnswer job (answer.Send send.Full)) (place.Sending job (sending.ReadPassed parcel (after c at) (reads + 1))))
+      → Leads (cond b (line.Decides (answer.Send send.Full)) (line.On (sending.ReadPassed parcel (after c at) (reads + 1))))
   free_branch parcel at reads true e ne has read next =
       let all : reads ≡ c.capacity + 1 = eqb-true reads (c.capacity + 1) e in
       let s : Scanned c d.from at reads = read.1 in
@@ -232,8 +236,7 @@ module _ (c : Config) (mem : Word → ℕ) (d : Duty) (r : ℕ → Regs) (h : Re
       (Next.e_busy at (s.within, s.past, s.round) (steps.look_busy mem d r c.capacity (further c + 1) parcel at (after c at) reads ne s.some (omega (arith, s.most, more)))) (read.0, on_scan) (λ u. next)
 
   passed_branch : (parcel : Parcel) (at reads : ℕ) (b : Bool) → (mem (ItemWord at item.Passed) == groups c) ≡ b → Has (AtStep mem (sending.ReadPassed parcel at reads)) g → Reads c d.e_call d.from (sending.ReadPassed parcel at reads) → IsNextSend h d.e_call
-      → Turn c mem d r (noted Send h None (cond b None (if reads == c.capacity + 1 then Some (answer.Send send.Full) else None))) g
-      (cond b (place.Sending job (sending.ResetPassed parcel at)) (if reads == c.capacity + 1 then place.WriteAnswer job (answer.Send send.Full) else place.Sending job (sending.ReadPassed parcel (after c at) (reads + 1))))
+      → Leads (cond b (line.On (sending.ResetPassed parcel at)) (if reads == c.capacity + 1 then line.Decides (answer.Send send.Full) else line.On (sending.ReadPassed parcel (after c at) (reads + 1))))
   passed_branch parcel at reads true e has read next =
       let s : Scanned c d.from at reads = read.1 in
       let free : mem (ItemWord at item.Passed) ≡ further c + 1 = omega (arith, ties.some, eqb-true (mem (ItemWord at item.Passed)) (groups c) e) in
@@ -431,7 +434,7 @@ module _ (c : Config) (mem : Word → ℕ) (d : Duty) (r : ℕ → Regs) (h : Re
   send_turn (sending.ReadShut q) found low e n = read_shut q found e n.0 n.1 (n.2 tt)
   send_turn sending.ReadTotal found low e n = subst (λ (k : ℕ). Turn c mem d r (told_send h (answer.Close (close.Already k))) g (place.WriteAnswer job (answer.Close (close.Already k)))) e (read_total n.0 (n.2 tt))
   send_turn (sending.ReadCount q) found low e n =
-      subst (λ (k : ℕ). Turn c mem d r (noted Send h None (decides c (sending.ReadCount q) k)) g (after_count c job q k)) e (close_branch q (q.tag == 0) refl n.0 n.1 (n.2 tt))
+      subst (λ (k : ℕ). Leads (by_count c q k)) e (close_branch q (q.tag == 0) refl n.0 n.1 (n.2 tt))
   send_turn (sending.ReadLastToClose total) found low e n =
       let link : (0 < mem (Object object.Last)) × (mem (Object object.Last) ≤ c.capacity + 1) = limits.lastc_link c.capacity c.life (further c + 1) (AtStep mem (sending.ReadLastToClose total)) g n.0.inv refl in
       subst (λ (k : ℕ). Turn c mem d r h g (place.Sending job (sending.LinkMark total (k - 1)))) e (on mem (sending.ReadLastToClose total) (sending.LinkMark total (mem (Object object.Last) - 1)) n.0 (Next.e_last_c (steps.read_last_to_close mem d r total link.0)) tt (λ u. n.2 tt))
@@ -440,7 +443,7 @@ module _ (c : Config) (mem : Word → ℕ) (d : Duty) (r : ℕ → Regs) (h : Re
   send_turn (sending.WriteShut total) found low e n = over _ (sending.WriteShut total) (answer.Close (close.Shut total)) n.0 (Next.e_shut_m (steps.write_shut mem d r total))
   send_turn (sending.ReadCursor parcel) found low e n = read_cursor parcel found e n.0 n.1 (n.2 tt)
   send_turn (sending.ReadPassed parcel at reads) found low e n =
-      subst (λ (k : ℕ). Turn c mem d r (noted Send h None (decides c (sending.ReadPassed parcel at reads) k)) g (after_passed c job parcel at reads k)) e (passed_branch parcel at reads (mem (ItemWord at item.Passed) == groups c) refl n.0 n.1 (n.2 tt))
+      subst (λ (k : ℕ). Leads (by_passed c parcel at reads k)) e (passed_branch parcel at reads (mem (ItemWord at item.Passed) == groups c) refl n.0 n.1 (n.2 tt))
   send_turn (sending.ResetPassed parcel at) found low e n = reset_passed parcel at n.0 n.1 (n.2 tt)
   send_turn (sending.ResetItemNext parcel at) found low e n = on _ (sending.ResetItemNext parcel at) (sending.WriteItemTag parcel at) n.0 (Next.e_next (steps.reset_next mem d r parcel at)) n.1 (λ u. n.2 tt)
   send_turn (sending.WriteItemTag parcel at) found low e n = on _ (sending.WriteItemTag parcel at) (sending.WriteItemBody parcel.place parcel.body at) n.0 (Next.e_item (steps.write_tag mem d r parcel at n.1.tag_is)) n.1.body_is (λ u. n.2 tt)

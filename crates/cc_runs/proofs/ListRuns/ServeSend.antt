@@ -9,7 +9,7 @@ use Rattle.cc_runs.specs.declared.place.Place.TheVariants as place
 use Rattle.cc_runs.specs.declared.place.Sending.{Sending}
 use Rattle.cc_runs.specs.declared.place.Stand.{Stand}
 use Rattle.cc_runs.specs.State.{State, chain_of, word_of, stored, noted}
-use Rattle.cc_runs.specs.SendColumns as send_side
+use Rattle.cc_runs.specs.SendLines as send_side
 use Rattle.cc_runs.specs.Step.{stepped_from}
 use Rattle.cc_runs.specs.MachineLaws.{links}
 use Rattle.cc_runs.proofs.LinkedList.Queue.{Queue}

@@ -12,8 +12,8 @@ use Rattle.cc_runs.specs.declared.place.Taking.{Taking}
 use Rattle.cc_runs.specs.declared.place.Stand.{Stand}
 use Rattle.cc_runs.specs.State.{State, chain_of, word_of, stored, noted}
 use Rattle.cc_runs.specs.Words.{groups}
-use Rattle.cc_runs.specs.Columns.{group_of}
-use Rattle.cc_runs.specs.TakeColumns as take_side
+use Rattle.cc_runs.specs.Lines.{group_of}
+use Rattle.cc_runs.specs.TakeLines as take_side
 use Rattle.cc_runs.specs.Step.{stepped_from}
 use Rattle.cc_runs.proofs.LinkedList.Queue.{Enq, Queue}
 use Rattle.cc_runs.proofs.LinkedList.Runs.{Held}

@@ -24,7 +24,7 @@ use Rattle.cc_runs.specs.declared.place.Place.TheVariants as place
 use Rattle.cc_runs.specs.declared.place.Sending.TheVariants as sending
 use Rattle.cc_runs.specs.declared.place.Stand.{Stand}
 use Rattle.cc_runs.specs.State.{State, chain_of, pass_at, hold, noted, word_of}
-use Rattle.cc_runs.specs.Columns.{operation, after_next}
+use Rattle.cc_runs.specs.Lines.{operation, after_next}
 use Rattle.cc_runs.specs.Step.{stepped_from}
 use Rattle.cc_runs.specs.Run.{passes}
 use Rattle.cc_runs.specs.MachineLaws.{links_at}

@@ -11,22 +11,19 @@ use Rattle.cc_runs.specs.declared.setting.Served.TheVariants as served
 use Rattle.cc_runs.specs.declared.word.Chain.{Chain}
 use Rattle.cc_runs.specs.declared.word.Chain.TheVariants.{Send, Take}
 use Rattle.cc_runs.specs.declared.place.Job.{Job}
-use Rattle.cc_runs.specs.declared.place.Request.{Request}
 use Rattle.cc_runs.specs.declared.place.Place.{Place}
 use Rattle.cc_runs.specs.declared.place.Place.TheVariants as place
 use Rattle.cc_runs.specs.declared.place.Sending.{Sending}
-use Rattle.cc_runs.specs.declared.place.Sending.TheVariants as sending
 use Rattle.cc_runs.specs.declared.place.Taking.{Taking}
-use Rattle.cc_runs.specs.declared.place.Taking.TheVariants as taking
-use Rattle.cc_runs.specs.Words.{groups}
 use Rattle.cc_runs.specs.Codes.{code_of}
-use Rattle.cc_runs.specs.Columns.{goes, after_state, after_answer, after_done, after_ret}
-use Rattle.cc_runs.specs.SendColumns as send_side
-use Rattle.cc_runs.specs.TakeColumns as take_side
+use Rattle.cc_runs.specs.Lines.{goes, after_state, after_answer, after_done, after_ret}
+use Rattle.cc_runs.specs.SendLines as send_side
+use Rattle.cc_runs.specs.TakeLines as take_side
 use Rattle.cc_runs.proofs.ListRuns.View.{none, resting, enq_at, regs_at}
 use Rattle.cc_runs.proofs.ListRuns.Ties.{ReadsAt, IsServing, IsUndecidedAt, IsTaking}
 use Rattle.cc_runs.proofs.ListRuns.Facts.{lists}
 use Rattle.cc_runs.proofs.ListRuns.Posts.{Well, waits}
+use Rattle.cc_runs.proofs.Leads.{leads}
 
 -- no service of a send or a close is under way
 pub record StillSend (at : Place) : Type 0 where
@@ -50,10 +47,6 @@ pub record Plain (at : Place) : Type 0 where
 if_plain : (b : Bool) (first second : Place) → Plain first → Plain second → Plain (if b then first else second)
 if_plain true first second y n = y
 if_plain false first second y n = n
-
-if_take : (b : Bool) (first second : Place) → StillTake first → StillTake second → StillTake (if b then first else second)
-if_take true first second y n = y
-if_take false first second y n = n
 
 -- ---- each place of the chain's own
 
@@ -159,25 +152,8 @@ over_send job told = still_take (place.WriteAnswer job told) tt
 over_take : (job : Job) (told : Answer) → StillSend (place.WriteAnswer job told)
 over_take job told = still_send (place.WriteAnswer job told) tt
 
-shut_still : (job : Job) (q : Request) (found : ℕ) → StillTake (send_side.after_shut job q found)
-shut_still job q zero = in_send job (sending.ReadCount q)
-shut_still job q (suc n) = if_take (q.tag == 0) _ _ (in_send job sending.ReadTotal) (over_send job _)
-
 pub send_still : (c : Config) (job : Job) (service : Sending) (found : ℕ) → StillTake (send_side.goes c job service found)
-send_still c job sending.ReadTag found = in_send job _
-send_still c job (sending.ReadShut q) found = shut_still job q found
-send_still c job (sending.ReadCount q) found = if_take (q.tag == 0) _ _ (in_send job _) (if_take (found == c.life) _ _ (over_send job _) (in_send job _))
-send_still c job (sending.ReadPassed parcel at reads) found = if_take (found == groups c) _ _ (in_send job _) (if_take (reads == c.capacity + 1) _ _ (over_send job _) (in_send job _))
-send_still c job sending.ReadTotal found = over_send job _
-send_still c job (sending.WriteShut total) found = over_send job _
-send_still c job (sending.WriteCursor count at) found = over_send job _
-send_still c job _ found = in_send job _
+send_still c job service found = leads StillTake send_side.in_service job (in_send job) (over_send job) (send_side.line c 0 service found).next
 
 pub take_still : (job : Job) (service : Taking) (found : ℕ) → StillSend (take_side.goes job service found)
-take_still job taking.ReadHead found = in_take job _
-take_still job (taking.ReadDummyNext dummy taken) zero = over_take job _
-take_still job (taking.ReadDummyNext dummy taken) (suc n) = in_take job _
-take_still job (taking.ReadItemTag dummy taken at) zero = over_take job _
-take_still job (taking.ReadItemTag dummy taken at) (suc n) = in_take job _
-take_still job (taking.AddPassed dummy parcel) found = over_take job _
-take_still job _ found = in_take job _
+take_still job service found = leads StillSend take_side.in_service job (in_take job) (over_take job) (take_side.line 0 service found).next

@@ -24,7 +24,7 @@ use Rattle.cc_runs.specs.declared.place.Taking.TheVariants as taking
 use Rattle.cc_runs.specs.Words.{groups, put}
 use Rattle.cc_runs.specs.State.{noted, word_of, stored}
 use Rattle.cc_runs.specs.Codes.{item_of, item_in}
-use Rattle.cc_runs.specs.TakeColumns.{operation, goes, decides, after_next, after_tag}
+use Rattle.cc_runs.specs.TakeLines.{operation, goes, decides}
 use Rattle.cc_runs.proofs.Chains.Facts.{noted_none}
 use Rattle.cc_runs.proofs.LinkedList.Queue.{Enq, Queue, Told}
 use Rattle.cc_runs.proofs.LinkedList.AddPassed.{Gives}
@@ -118,16 +118,16 @@ module _ (c : Config) (mem : Word → ℕ) (d : Duty) (e : Enq) (h : Record) (g 
       let link : (0 < mem (Object (object.Head y))) × (mem (Object (object.Head y)) ≤ c.capacity + 1) = limits.head_link c.capacity c.life (further c + 1) Before g has.inv y below (stage_is taking.ReadHead a) in
       on mem (taking.ReadTaken (mem (Object (object.Head y)) - 1)) (Next.d_head y below (steps.read_head mem d e y r r' same a b link.0))
 
-  read_next : (dummy taken found : ℕ) → mem (ItemWord dummy item.Next) ≡ found → From (taking.ReadDummyNext dummy taken) → r' y ≡ regs_at (after_next job dummy taken found)
-      → Turn c mem d e y r' (noted (Take y) h None (decides (taking.ReadDummyNext dummy taken) found)) g (after_next job dummy taken found)
+  read_next : (dummy taken found : ℕ) → mem (ItemWord dummy item.Next) ≡ found → From (taking.ReadDummyNext dummy taken) → r' y ≡ regs_at (goes job (taking.ReadDummyNext dummy taken) found)
+      → Turn c mem d e y r' (noted (Take y) h None (decides (taking.ReadDummyNext dummy taken) found)) g (goes job (taking.ReadDummyNext dummy taken) found)
   read_next dummy taken zero is a b =
       let null : mem (ItemWord (r y).dummy item.Next) ≡ 0 = ap (λ (z : Regs). mem (ItemWord z.dummy item.Next)) a ∙ is in
       let known : (d.d_call y).known ≤ g.handed y = decide.empty c.capacity c.life (further c + 1) Before g has.inv y below (stage_is (taking.ReadDummyNext dummy taken) a) null in
       answered (answer.Take take.Empty) (Next.d_null y below (steps.read_null mem d e y r r' same dummy taken a b is)) refl (omega (arith, known, ties.handed_is y))
   read_next dummy taken (suc at) is a b = on mem (taking.ReadItemTag dummy taken at) (Next.d_next y below (steps.read_link mem d e y r r' same dummy taken at a b is))
 
-  read_tag : (dummy taken at found : ℕ) → mem (ItemWord at item.Tag) ≡ found → From (taking.ReadItemTag dummy taken at) → r' y ≡ regs_at (after_tag job dummy taken at found)
-      → Turn c mem d e y r' (noted (Take y) h None (decides (taking.ReadItemTag dummy taken at) found)) g (after_tag job dummy taken at found)
+  read_tag : (dummy taken at found : ℕ) → mem (ItemWord at item.Tag) ≡ found → From (taking.ReadItemTag dummy taken at) → r' y ≡ regs_at (goes job (taking.ReadItemTag dummy taken at) found)
+      → Turn c mem d e y r' (noted (Take y) h None (decides (taking.ReadItemTag dummy taken at) found)) g (goes job (taking.ReadItemTag dummy taken at) found)
   read_tag dummy taken at zero is a b =
       let zero_is : (x : ℕ) → x + 1 ≡ (r y).after → mem (ItemWord x item.Tag) ≡ 0 = λ x same. let here = ap (λ (z : Regs). z.after) a in ap (λ (k : ℕ). mem (ItemWord k item.Tag)) (omega (arith, same, here)) ∙ is in
       let seen : (r y).seen ≡ taken = ap (λ (z : Regs). z.seen) a in
