@@ -34,7 +34,6 @@ use Rattle.cc_runs.specs.Run.{Move, IsRun, reached, passes}
 use Rattle.cc_runs.specs.Safe.{WhileUndecided}
 use Rattle.cc_runs.specs.Sides.{passes_on, calls_on, answers_on}
 use Rattle.cc_runs.specs.ChainLaws.{IsCombining, served_by, AreNodes, served_node, HoldsRequest, ServesNext, IsWithinBound, WasTold, IsReading, ReadsWord, IsToldBy, IsOut, ChainLaws, ChainLawsOfRuns, CounterLawsOfRuns}
-use Rattle.cc_runs.proofs.ListRuns.SideSteps.{read_link, read_head, read_taken}
 use Rattle.cc_runs.proofs.Ranges.{InRange, in_range}
 use Rattle.cc_runs.proofs.Chains.View.{view, pass_on, post_of, post_at, serving, request_words, request_long, asked_words, answer_words, answer_long}
 use Rattle.cc_runs.proofs.Chains.Frame.{answer_first}
@@ -352,7 +351,7 @@ module _ (c : Setting) (checked : config_fault c.config ≡ Ok tt) (moves : List
   }
 
 pub chain_laws : ChainLawsOfRuns
-chain_laws c checked moves run = let u = read_head in let v = read_taken in let w = read_link in laws c checked moves run
+chain_laws c checked moves run = laws c checked moves run
 
 pub counter_laws : CounterLawsOfRuns
 counter_laws c counter checked moves run =

@@ -2,7 +2,6 @@
 pub mod View
 pub mod SendSteps
 pub mod TakeSteps
-pub mod SideSteps
 pub mod Fits
 pub mod Decided
 pub mod Ties
