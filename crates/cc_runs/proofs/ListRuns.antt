@@ -1,5 +1,7 @@
 -- The list in the runs of the machine.
 pub mod View
+pub mod SendKeeps
+pub mod TakeKeeps
 pub mod SendSteps
 pub mod TakeSteps
 pub mod Fits

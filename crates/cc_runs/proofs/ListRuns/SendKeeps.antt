@@ -1,0 +1,178 @@
+-- Each line of the service of a send or a close keeps the list's invariant.
+use Rattle.std.proofs.Common.{◌≡◌, ◌≢◌, ℕ, ◌+◌, ◌<◌, ◌≤◌, arith, refl, ap}
+use Rattle.std.proofs.lemmas.Bool.{cases_eq}
+use Rattle.cc_model.specs.declared.config.Config.{Config}
+use Rattle.cc_runs.specs.declared.word.ItemField.TheVariants as item
+use Rattle.cc_runs.specs.declared.word.Object.TheVariants as object
+use Rattle.cc_runs.specs.declared.word.Word.{Word}
+use Rattle.cc_runs.specs.declared.word.Word.TheVariants.{Object, Item}
+use Rattle.cc_runs.specs.declared.place.Parcel.{Parcel}
+use Rattle.cc_runs.specs.declared.place.Request.{Request}
+use Rattle.cc_runs.specs.declared.place.Sending.{Sending}
+use Rattle.cc_runs.specs.declared.place.Sending.TheVariants as sending
+use Rattle.cc_runs.specs.State.{word_of, stored}
+use Rattle.cc_runs.specs.Codes.{request_in}
+use Rattle.cc_runs.specs.ServiceLine.{Next, On, Decides, DecidesAndOn, Tells}
+use Rattle.cc_runs.specs.SendLines.{line, operation}
+use Rattle.cc_runs.proofs.LinkedList.Queue.{Enq, Queue, Told}
+use Rattle.cc_runs.proofs.LinkedList.Invariant.{LInv}
+use Rattle.cc_runs.proofs.LinkedList.ReadPassed.{looked, looked_role, looked_known}
+use Rattle.cc_runs.proofs.LinkedList.ResetPassed.{Prepares}
+use Rattle.cc_runs.proofs.LinkedList.LinkItem.{Accepts}
+use Rattle.cc_runs.proofs.LinkedList.LinkMark.{Shuts}
+use Rattle.cc_runs.proofs.ListRuns.View.{Duty, Regs, asks_of, enq_in, resting, queue_from}
+
+module _ (mem : Word → ℕ) (d : Duty) (r : ℕ → Regs) (c : Config) (n : ℕ) (g : Told) where
+  -- the invariant at a step of the service, and where nobody serves
+  abbrev Keeps : (Word → ℕ) → Sending → Type 0
+  Keeps m service = LInv c.capacity c.life n (queue_from m d (enq_in d.e_call d.from service) r) g
+
+  abbrev Rests : (Word → ℕ) → Type 0
+  Rests m = LInv c.capacity c.life n (queue_from m d (resting d.e_call d.from) r) g
+
+  abbrev After : (Word → ℕ) → Next Sending → Type 0
+  After m (On service) = Keeps m service
+  After m (Decides told) = Rests m
+  After m (DecidesAndOn told service) = Keeps m service
+  After m (Tells told) = Rests m
+
+  -- the line of this step keeps it
+  abbrev LineKeeps : Sending → Type 0
+  LineKeeps service = Keeps mem service → After (stored mem (operation c 0 service)) (line c 0 service (mem (word_of (operation c 0 service)))).next
+
+  pub write_last : (place at : ℕ) → LineKeeps (sending.WriteLast place at)
+  write_last place at i = grind arith
+
+  pub write_count : (place at : ℕ) → LineKeeps (sending.WriteCount place at)
+  write_count place at i = grind arith
+
+  pub write_cursor : (place at : ℕ) → LineKeeps (sending.WriteCursor place at)
+  write_cursor place at i = grind arith
+
+  pub write_last_mark : (total : ℕ) → LineKeeps (sending.WriteLastMark total)
+  write_last_mark total i = grind arith
+
+  pub write_shut : (total : ℕ) → LineKeeps (sending.WriteShut total)
+  write_shut total i = grind arith
+
+  pub read_total : LineKeeps sending.ReadTotal
+  read_total i = grind arith
+
+  pub read_last : (place at : ℕ) → 0 < mem (Object object.Last) → LineKeeps (sending.ReadLast place at)
+  read_last place at some i = grind arith
+
+  pub read_last_to_close : (total : ℕ) → 0 < mem (Object object.Last) → LineKeeps (sending.ReadLastToClose total)
+  read_last_to_close total some i = grind arith
+
+  -- the node that is prepared is at no place
+  apart : (v : Queue) → LInv c.capacity c.life n v g → 7 ≤ v.enq.stage → v.enq.stage ≤ 10 → (k : ℕ) → g.least ≤ k → k ≤ g.accepted → g.node k ≢ v.enq.found
+  apart v i low high k a b = grind (arith, i.live.live_role k, i.found.found_role)
+
+  pub reset_next : (parcel : Parcel) (at : ℕ) → LineKeeps (sending.ResetItemNext parcel at)
+  reset_next parcel at i = grind (arith, cases_eq, apart _ i (omega arith) (omega arith))
+
+  pub write_tag : (parcel : Parcel) (at : ℕ) → parcel.tag ≡ (request_in d.e_call).tag → LineKeeps (sending.WriteItemTag parcel at)
+  write_tag parcel at same i = grind (arith, cases_eq, apart _ i (omega arith) (omega arith))
+
+  pub write_body : (place body at : ℕ) → body ≡ (request_in d.e_call).body → LineKeeps (sending.WriteItemBody place body at)
+  write_body place body at same i = grind (arith, cases_eq, apart _ i (omega arith) (omega arith))
+
+  -- ---- the loads that branch
+
+  pub read_shut_open : (q : Request) → mem (Object object.Shut) ≡ 0 → Keeps mem (sending.ReadShut q) → Keeps mem (sending.ReadCount q)
+  read_shut_open q e i = grind arith
+
+  pub read_shut_close : (q : Request) → mem (Object object.Shut) ≢ 0 → asks_of d.e_call 0 ≡ 0 → Keeps mem (sending.ReadShut q) → Keeps mem sending.ReadTotal
+  read_shut_close q ne z i = grind arith
+
+  pub read_shut_send : (q : Request) → mem (Object object.Shut) ≢ 0 → asks_of d.e_call 0 ≢ 0 → Keeps mem (sending.ReadShut q) → Rests mem
+  read_shut_send q ne nz i = grind arith
+
+  pub read_count_close : (q : Request) → asks_of d.e_call 0 ≡ 0 → Keeps mem (sending.ReadCount q) → Keeps mem (sending.ReadLastToClose (mem (Object object.Count)))
+  read_count_close q z i = grind arith
+
+  pub read_count_spent : (q : Request) → Keeps mem (sending.ReadCount q) → Rests mem
+  read_count_spent q i = grind arith
+
+  pub read_count_on : (q : Request) (parcel : Parcel) → parcel.place ≡ mem (Object object.Count) → asks_of d.e_call 0 ≢ 0 → mem (Object object.Count) ≢ c.life → Keeps mem (sending.ReadCount q) → Keeps mem (sending.ReadCursor parcel)
+  read_count_on q parcel same nz more i = grind arith
+
+  -- ---- the scan
+
+  -- the node that is looked at: the scan's first and those that were tried, round the end
+  abbrev Looked : ℕ → ℕ → Type 0
+  Looked at reads = looked c.capacity (queue_from mem d (enq_in d.e_call d.from (sending.ReadPassed record { place = 0; tag = 0; body = 0 } at reads)) r) at
+
+  pub read_passed_free : (parcel : Parcel) (at reads : ℕ) → Looked at reads → mem (Item at item.Passed) ≡ n → Keeps mem (sending.ReadPassed parcel at reads) → Keeps mem (sending.ResetPassed parcel at)
+  read_passed_free parcel at reads here free i = grind (arith, here)
+
+  pub read_passed_full : (parcel : Parcel) (at reads : ℕ) → Keeps mem (sending.ReadPassed parcel at reads) → Rests mem
+  read_passed_full parcel at reads i = grind arith
+
+  pub read_passed_busy : (parcel : Parcel) (at to reads : ℕ) → Looked at reads → mem (Item at item.Passed) ≢ n → 1 ≤ reads → reads ≤ c.capacity → Keeps mem (sending.ReadPassed parcel at reads) → Keeps mem (sending.ReadPassed parcel to (reads + 1))
+  read_passed_busy parcel at to reads here busy low high i =
+      let role = looked_role c.capacity c.life n at _ g i refl here busy in
+      let known = looked_known c.capacity c.life n at _ g i refl here busy in
+      grind (arith, cases_eq at, role, known, here)
+
+-- the cursor is where the scan begins
+pub read_cursor : (mem : Word → ℕ) (d : Duty) (r : ℕ → Regs) (c : Config) (n : ℕ) (g : Told) (parcel : Parcel) (from : ℕ) → mem (Object object.Cursor) ≡ from
+    → LInv c.capacity c.life n (queue_from mem d (enq_in d.e_call d.from (sending.ReadCursor parcel)) r) g
+    → LInv c.capacity c.life n (queue_from mem d (enq_in d.e_call from (sending.ReadPassed parcel from 1)) r) g
+read_cursor mem d r c n g parcel from e i = grind arith
+
+-- ---- the stores that move the ghosts
+
+module _ (mem : Word → ℕ) (d : Duty) (r : ℕ → Regs) (c : Config) (n : ℕ) (g g' : Told) where
+  abbrev Moves : Sending → Sending → Type 0
+  Moves service there = LInv c.capacity c.life n (queue_from mem d (enq_in d.e_call d.from service) r) g → LInv c.capacity c.life n (queue_from (stored mem (operation c 0 service)) d (enq_in d.e_call d.from there) r) g'
+
+  abbrev Step : Sending → Queue
+  Step service = queue_from mem d (enq_in d.e_call d.from service) r
+
+  pub reset_passed : (parcel : Parcel) (at : ℕ) → Prepares (Step (sending.ResetPassed parcel at)) g g' → Moves (sending.ResetPassed parcel at) (sending.ResetItemNext parcel at)
+  reset_passed parcel at u i = grind (arith, cases_eq, free, found_in, apart_free)
+    where
+      free : mem (Item at item.Passed) ≡ n
+      free = grind arith
+
+      found_in : at ≤ c.capacity
+      found_in = grind arith
+
+      apart_free : (k : ℕ) → g.least ≤ k → k ≤ g.accepted → g.node k ≢ at
+      apart_free k a b = grind (arith, free, i.live.live_role k, i.live.live_in k, i.live.live_pos k, i.nodes.passed_is (g.node k), i.hands.by_some k)
+
+  pub link_mark : (total last : ℕ) → Shuts g g' → Moves (sending.LinkMark total last) (sending.WriteLastMark total)
+  link_mark total last u i = grind (arith, cases_eq, is_last, unshut, next_same)
+    where
+      is_last : last ≡ g.node g.accepted
+      is_last = let e = i.prepared.last_mark refl in omega (arith, e)
+
+      unshut : g.shut ≡ 0
+      unshut = grind arith
+
+      next_same : (k : ℕ) → g.least ≤ k → k < g.accepted → g.node k ≢ last
+      next_same k a b = grind (arith, is_last, i.live.live_pos k, i.live.live_pos g.accepted)
+
+  pub link_item : (place at last : ℕ) → Accepts (Step (sending.LinkItem place at last)) g g' → Moves (sending.LinkItem place at last) (sending.WriteLast place at)
+  link_item place at last u i = grind (arith, cases_eq, apart_item, is_last, unshut, node_same, next_same)
+    where
+      is_last : last ≡ g.node g.accepted
+      is_last = let e = i.prepared.last_item refl in omega (arith, e)
+
+      apart_item : (k : ℕ) → g.least ≤ k → k ≤ g.accepted → g.node k ≢ at
+      apart_item = apart mem d r c n g _ i (omega arith) (omega arith)
+
+      unshut : g.shut ≡ 0
+      unshut = grind arith
+
+      next_same : (k : ℕ) → g.least ≤ k → k < g.accepted → g.node k ≢ last
+      next_same k a b = grind (arith, is_last, i.live.live_pos k, i.live.live_pos g.accepted)
+
+      node_same : (k : ℕ) → k ≤ g.accepted → g'.node k ≡ g.node k
+      node_same k a = u.node k (λ e. omega arith)
+
+-- a call enters the service
+pub enters : (mem : Word → ℕ) (d d' : Duty) (old : Enq) (r : ℕ → Regs) (c : Config) (n : ℕ) (g : Told) (q : Request) → old.stage ≡ 0 → g.tells ≡ (λ (k : ℕ). 2) → d'.e_call.known ≤ g.least → d'.d_call ≡ d.d_call
+    → LInv c.capacity c.life n (queue_from mem d old r) g → LInv c.capacity c.life n (queue_from mem d' (enq_in d'.e_call d'.from (sending.ReadShut q)) r) g
+enters mem d d' old r c n g q from tells known same i = let long = ap (λ (f : ℕ → ℕ). f (request_in d'.e_call).tag) tells in grind (arith, from, long, known, same)
