@@ -1,15 +1,7 @@
--- The list between the chains, in the abstract: its invariant, and that each step keeps it.
+-- The list between the chains, in the abstract: its invariant, and what follows from it.
 pub mod Queue
 pub mod Invariant
-pub mod LinkItem
-pub mod AddPassed
-pub mod ResetPassed
-pub mod LinkMark
-pub mod ReadPassed
-pub mod DReads
-pub mod DWrites
-pub mod EReads
-pub mod EWrites
+pub mod Scan
 pub mod Count
 pub mod Decide
 pub mod Sides
@@ -17,4 +9,3 @@ pub mod Busy
 pub mod Limits
 pub mod Open
 pub mod Grow
-pub mod Runs

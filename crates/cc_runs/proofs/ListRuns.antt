@@ -2,8 +2,6 @@
 pub mod View
 pub mod SendKeeps
 pub mod TakeKeeps
-pub mod SendSteps
-pub mod TakeSteps
 pub mod Fits
 pub mod Decided
 pub mod Ties

@@ -3,7 +3,7 @@ use Rattle.std.proofs.Common.{◌≡◌, ℕ, ◌+◌, ◌-◌, ◌<◌, ◌≤�
 use Rattle.std.proofs.lemmas.Bool.{cases_eq, cases_lt}
 use Rattle.cc_runs.proofs.LinkedList.Queue.{Queue, Told}
 use Rattle.cc_runs.proofs.LinkedList.Invariant.{LInv}
-use Rattle.cc_runs.proofs.LinkedList.ReadPassed.{looked, looked_role, looked_known}
+use Rattle.cc_runs.proofs.LinkedList.Scan.{looked, looked_role, looked_known}
 use Rattle.cc_runs.proofs.LinkedList.Count.{covered}
 
 module _ (c life n : ℕ) (v : Queue) (g : Told) (i : LInv c life n v g) where

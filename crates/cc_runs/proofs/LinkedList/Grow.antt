@@ -1,14 +1,61 @@
--- The ghosts after each step that moves them.
+-- The ghosts after each step that moves them: what each of these steps changes of them, and that they can be so.
 use Rattle.std.proofs.Common.{◌≡◌, ℕ, ◌+◌, ◌<◌, ◌≤◌, ◌≢◌, arith, refl, inl, inr}
 use Rattle.std.proofs.lemmas.Bool.{cases_eq}
-use Rattle.cc_runs.proofs.LinkedList.Queue.{Queue, Told}
+use Rattle.cc_runs.proofs.LinkedList.Queue.{Queue, Told, SameLog, SameHands, SameRoles}
+use Rattle.cc_runs.proofs.LinkedList.Invariant.{LInv}
 use Rattle.cc_runs.proofs.LinkedList.Count.{upd, upd_here, upd_others}
 use Rattle.cc_runs.proofs.LinkedList.Sides.{smallest, smallest_least, smallest_is, above, above_all, above_some, above_none, above_now, above_others}
 use Rattle.cc_runs.proofs.LinkedList.Open.{opening, zeros}
-use Rattle.cc_runs.proofs.LinkedList.LinkItem.{Accepts}
-use Rattle.cc_runs.proofs.LinkedList.LinkMark.{Shuts}
-use Rattle.cc_runs.proofs.LinkedList.ResetPassed.{Prepares}
-use Rattle.cc_runs.proofs.LinkedList.AddPassed.{Gives}
+
+-- a free node is in preparation
+pub record Prepares (v : Queue) (g g' : Told) : Type 0 where
+  pub log : SameLog g g'
+  pub hands : SameHands g g'
+  pub role_now : g'.role v.enq.found ≡ 1
+  pub role : (x : ℕ) → x ≢ v.enq.found → g'.role x ≡ g.role x
+  pub pos : (x : ℕ) → g'.pos x ≡ g.pos x
+
+-- one item more is accepted
+pub record Accepts (v : Queue) (g g' : Told) : Type 0 where
+  pub hands : SameHands g g'
+  pub shut : g'.shut ≡ g.shut
+  pub accepted : g'.accepted ≡ g.accepted + 1
+  pub items_now : (j : ℕ) → g'.items g.accepted j ≡ v.enq.asks j
+  pub items : (k j : ℕ) → k ≢ g.accepted → g'.items k j ≡ g.items k j
+  pub long_now : g'.long g.accepted ≡ v.enq.asks_long
+  pub long : (k : ℕ) → k ≢ g.accepted → g'.long k ≡ g.long k
+  pub tells : (a : ℕ) → g'.tells a ≡ g.tells a
+  pub node_now : g'.node (g.accepted + 1) ≡ v.enq.found
+  pub node : (k : ℕ) → k ≢ g.accepted + 1 → g'.node k ≡ g.node k
+  pub role_now : g'.role v.enq.found ≡ 2
+  pub role : (x : ℕ) → x ≢ v.enq.found → g'.role x ≡ g.role x
+  pub pos_now : g'.pos v.enq.found ≡ g.accepted + 1
+  pub pos : (x : ℕ) → x ≢ v.enq.found → g'.pos x ≡ g.pos x
+
+-- the list is shut
+pub record Shuts (g g' : Told) : Type 0 where
+  pub hands : SameHands g g'
+  pub roles : SameRoles g g'
+  pub shut : g'.shut ≡ 1
+  pub accepted : g'.accepted ≡ g.accepted
+  pub items : (k j : ℕ) → g'.items k j ≡ g.items k j
+  pub long : (k : ℕ) → g'.long k ≡ g.long k
+  pub tells : (a : ℕ) → g'.tells a ≡ g.tells a
+  pub node : (k : ℕ) → g'.node k ≡ g.node k
+
+-- one item more is handed out on side s
+pub record Gives (n : ℕ) (g g' : Told) (s : ℕ) : Type 0 where
+  pub log : SameLog g g'
+  pub roles : SameRoles g g'
+  pub handed_now : g'.handed s ≡ g.handed s + 1
+  pub handed : (q : ℕ) → q ≢ s → g'.handed q ≡ g.handed q
+  pub by_now : g'.by (g.handed s) ≡ g.by (g.handed s) + 1
+  pub by : (k : ℕ) → k ≢ g.handed s → g'.by k ≡ g.by k
+  -- of the counts: `least` is the smallest, and the places below it are those that all sides have passed
+  pub least_most : (q : ℕ) → q < n → g'.least ≤ g'.handed q
+  pub least_grows : g.least ≤ g'.least
+  pub by_all : (k : ℕ) → k < g'.least → g'.by k ≡ n
+  pub by_some : (k : ℕ) → g'.least ≤ k → g'.by k < n
 
 upd2 : (ℕ → ℕ → ℕ) → ℕ → (ℕ → ℕ) → ℕ → ℕ → ℕ
 upd2 f k a x = elim (cases_eq x k) [ inl _ ↦ a | inr _ ↦ f x ]
@@ -83,6 +130,11 @@ prepares v g = record {
 pub record Counted (m : ℕ) (g : Told) : Type 0 where
   pub least : g.least ≡ smallest m g.handed
   pub by : (k : ℕ) → g.by k ≡ above (m + 1) g.handed k
+
+-- what every run keeps of a list with m + 1 sides and of its ghosts
+pub record Held (c life m : ℕ) (v : Queue) (g : Told) : Type 0 where
+  pub inv : LInv c life (m + 1) v g
+  pub counted : Counted m g
 
 pub giving : ℕ → Told → ℕ → Told
 giving m g s = record g {

@@ -1,5 +1,5 @@
 -- The list between the chains in the abstract: its words, its nodes, and the registers of the two services.
-use Rattle.std.proofs.Common.{◌≡◌, ◌≢◌, ℕ}
+use Rattle.std.proofs.Common.{◌≡◌, ℕ}
 
 -- The service of the send side. stage: 0 none, 1 rdShut, 2 rdCountA, 3 rdCount, 4 rdCursor, 5 rdPassed, 6 rsPassed, 7 rsNext, 8 wrItem, 9 rdLast, 10 linkItem,
 -- 11 wrLastI, 12 wrCount, 13 wrCursor, 14 rdLastC, 15 linkMark, 16 wrLastC, 17 wrShut
@@ -65,20 +65,6 @@ pub record SameCells (v v' : Queue) : Type 0 where
   pub next : (x : ℕ) → v'.next x ≡ v.next x
   pub passed : (x : ℕ) → v'.passed x ≡ v.passed x
   pub word : (x j : ℕ) → v'.word x j ≡ v.word x j
-
-pub record SameSides (v v' : Queue) : Type 0 where
-  pub side : (s : ℕ) → v'.side s ≡ v.side s
-
--- the request that is served stays
-pub record SameCall (e e' : Enq) : Type 0 where
-  pub asks : (j : ℕ) → e'.asks j ≡ e.asks j
-  pub asks_long : e'.asks_long ≡ e.asks_long
-  pub known : e'.known ≡ e.known
-
--- a step of side s leaves the send side, the words and the other sides
-pub record OtherSides (v v' : Queue) (s : ℕ) : Type 0 where
-  pub enq : v'.enq ≡ v.enq
-  pub others : (q : ℕ) → q ≢ s → v'.side q ≡ v.side q
 
 pub record SameLog (g g' : Told) : Type 0 where
   pub accepted : g'.accepted ≡ g.accepted

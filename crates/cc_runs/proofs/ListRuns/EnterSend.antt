@@ -1,5 +1,5 @@
 -- A service begins: the last word of a sender's request is loaded.
-use Rattle.std.proofs.Common.{◌≡◌, ◌≢◌, ℕ, ◌<◌, ◌≤◌, inl, inr, refl, sym, ap, ◌∙◌, subst, arith}
+use Rattle.std.proofs.Common.{◌≡◌, ◌≢◌, ℕ, ◌+◌, ◌<◌, ◌≤◌, inl, inr, refl, sym, ap, ◌∙◌, subst, arith}
 use Rattle.std.proofs.lemmas.Bool.{cases_eq, cases_lt}
 use Rattle.cc_model.specs.Items.{handed_to_all}
 use Rattle.cc_model.specs.declared.config.Config.{Config}
@@ -17,9 +17,9 @@ use Rattle.cc_runs.specs.State.{State, chain_of, hold}
 use Rattle.cc_runs.specs.Codes.{request_in}
 use Rattle.cc_runs.specs.Run.{IsIdle, passes}
 use Rattle.cc_runs.proofs.LinkedList.Queue.{Queue}
-use Rattle.cc_runs.proofs.LinkedList.EReads as e_reads
-use Rattle.cc_runs.proofs.LinkedList.Runs as runs
-use Rattle.cc_runs.proofs.LinkedList.Runs.{Held, Next}
+use Rattle.cc_runs.proofs.LinkedList.Invariant.{LInv}
+use Rattle.cc_runs.proofs.LinkedList.Grow.{Held}
+use Rattle.cc_runs.proofs.ListRuns.SendKeeps as keeps
 use Rattle.cc_runs.proofs.ListRuns.View.{Duty, Regs, enq_in, enq_at, regs_at, regs_of, queue_from, queue_of, hold_here, hold_same, hold_all}
 use Rattle.cc_runs.proofs.ListRuns.Ties.{further, ReadsAt, IsBegun, IsServing, IsTaking, IsNextSend, IsNextTake}
 use Rattle.cc_runs.proofs.ListRuns.SendTurn.{Caller}
@@ -95,19 +95,8 @@ module _ (c : Config) (s : State) (p begun own : ℕ) (job : Job) (tag : ℕ) (s
   known : read.0.known ≤ k.told.least
   known = omega (arith, (callers read.0 read.1).1, least_is k.told s.history (further c) k.list.counted (omega (arith, k.ties.many, k.ties.some)) k.ties.handed_is)
 
-  enters : e_reads.Enters k.told before after
-  enters = record {
-    loads = record {
-      words = record { last = refl; shut = refl; count = refl; cursor = refl };
-      cells = record { next = λ x. refl; passed = λ x. refl; word = λ x j. refl };
-      sides = record { side = λ s. refl };
-    };
-    from = stage_none d.e_call d.from (s.stand d.e_pass).place rests;
-    to = refl;
-    long = omega arith;
-    long_told = ap (λ (f : ℕ → ℕ). f (request_in read.0).tag) (sym k.ties.tells_is);
-    known = known;
-  }
+  enters : LInv c.capacity c.life (further c + 1) after k.told
+  enters = keeps.enters s.mem d to _ regs c (further c + 1) k.told record { tag = tag; body = body } (stage_none d.e_call d.from (s.stand d.e_pass).place rests) k.ties.tells_is known refl k.list.inv
 
   here : (t.stand p).place ≡ there
   here = ap (λ (z : Stand). z.place) (hold_here s.stand p now)
@@ -121,7 +110,7 @@ module _ (c : Config) (s : State) (p begun own : ℕ) (job : Job) (tag : ℕ) (s
       ∙ ap (λ (r : ℕ → Regs). queue_from t.mem to (enq_at to.e_call to.from there) r) same_regs
 
   list : Held c.capacity c.life (further c) (queue_of t to) k.told
-  list = subst (λ (v : Queue). Held c.capacity c.life (further c) v k.told) (sym same_queue) (runs.next_keeps c.capacity c.life (further c) before k.told after k.list (Next.e_enters enters))
+  list = subst (λ (v : Queue). Held c.capacity c.life (further c) v k.told) (sym same_queue) (record { inv = enters; counted = k.list.counted })
 
   pub send_enters : Onward c s k t
   send_enters = record {

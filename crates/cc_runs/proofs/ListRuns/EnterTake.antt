@@ -12,16 +12,14 @@ use Rattle.cc_runs.specs.declared.place.Taking.TheVariants as taking
 use Rattle.cc_runs.specs.declared.place.Stand.{Stand}
 use Rattle.cc_runs.specs.State.{State, chain_of, hold}
 use Rattle.cc_runs.specs.declared.word.Chain.TheVariants.{Take}
-use Rattle.cc_runs.specs.declared.word.Object.TheVariants as object
-use Rattle.cc_runs.specs.declared.word.Word.TheVariants.{Object}
 use Rattle.cc_runs.specs.Words.{groups}
 use Rattle.cc_runs.specs.Lines.{group_of}
 use Rattle.cc_runs.specs.Run.{IsIdle, passes}
 use Rattle.cc_runs.proofs.LinkedList.Queue.{Enq, Queue}
-use Rattle.cc_runs.proofs.LinkedList.DReads as d_reads
-use Rattle.cc_runs.proofs.LinkedList.Runs as runs
-use Rattle.cc_runs.proofs.LinkedList.Runs.{Held, Next}
-use Rattle.cc_runs.proofs.ListRuns.View.{Duty, with_group, group_here, group_away, group_all, enq_at, regs_at, regs_of, side_from, queue_from, queue_of, hold_here, hold_other, hold_same, hold_all}
+use Rattle.cc_runs.proofs.LinkedList.Invariant.{LInv}
+use Rattle.cc_runs.proofs.LinkedList.Grow.{Held}
+use Rattle.cc_runs.proofs.ListRuns.TakeKeeps as keeps
+use Rattle.cc_runs.proofs.ListRuns.View.{Duty, with_group, group_here, group_away, group_all, enq_at, regs_at, regs_of, queue_from, queue_of, hold_here, hold_other, hold_same, hold_all}
 use Rattle.cc_runs.proofs.ListRuns.Ties.{further, ReadsAt, IsServing, IsUndecidedAt, IsTaking, IsNextSend, IsNextTake}
 use Rattle.cc_runs.proofs.ListRuns.Facts.{lists, ChainFacts}
 use Rattle.cc_runs.proofs.ListRuns.Whole.{Parts, Onward}
@@ -99,25 +97,12 @@ module _ (c : Config) (s : State) (p begun own y : ℕ) (chain : chain_of c p �
     stand_mine : (t.stand (with_group d.d_pass y p y)).place ≡ there
     stand_mine = ap (λ (z : ℕ). (t.stand z).place) mine ∙ here
 
-    others : (q : ℕ) → q ≢ y → after.side q ≡ before.side q
-    others q ne = λ i. side_from (s.mem (Object (object.Head q))) (s.mem (Object (object.Taken q))) (group_away d.d_call y read.0 q ne i) (regs_at (stand_away q ne i).place)
-
     call_is : with_group d.d_call y read.0 y ≡ read.0
     call_is = group_here d.d_call y read.0
 
-    enters : d_reads.Enters k.told before after y
-    enters = record {
-      loads = record {
-        words = record { last = refl; shut = refl; count = refl; cursor = refl };
-        cells = record { next = λ x. refl; passed = λ x. refl; word = λ x j. refl };
-        rest = record { enq = refl; others = others };
-        head = refl;
-        taken = refl;
-      };
-      from = take_regs_none (s.stand (d.d_pass y)).place rests;
-      to = ap (λ (z : Place). (regs_at z).stage) stand_mine;
-      known = let same : (with_group d.d_call y read.0 y).known ≡ read.0.known = ap (λ (z : Entry). z.known) call_is in omega (arith, same, callers read.0 read.1, k.ties.accepted_is, k.ties.shut_is);
-    }
+    enters : LInv c.capacity c.life (further c + 1) after k.told
+    enters = keeps.enters s.mem d to enq (regs_of s.stand d) (regs_of t.stand to) c (further c + 1) k.told y (λ q ne. (ap (λ (z : Stand). regs_at z.place) (stand_away q ne), group_away d.d_call y read.0 q ne))
+        (take_regs_none (s.stand (d.d_pass y)).place rests) (ap regs_at stand_mine) (let same : (with_group d.d_call y read.0 y).known ≡ read.0.known = ap (λ (z : Entry). z.known) call_is in omega (arith, same, callers read.0 read.1, k.ties.accepted_is, k.ties.shut_is)) k.list.inv
 
     same_enq : enq_at d.e_call d.from (t.stand d.e_pass).place ≡ enq
     same_enq = hold_same (λ (z : Stand). enq_at d.e_call d.from z.place) s.stand p now (ap (λ (z : Place). enq_at d.e_call d.from z) (sym stands)) d.e_pass
@@ -144,7 +129,7 @@ module _ (c : Config) (s : State) (p begun own y : ℕ) (chain : chain_of c p �
       parts = record {
         duty = to;
         told = k.told;
-        list = subst (λ (v : Queue). Held c.capacity c.life (further c) v k.told) (sym same_queue) (runs.next_keeps c.capacity c.life (further c) before k.told after k.list (Next.d_enters y below enters));
+        list = subst (λ (v : Queue). Held c.capacity c.life (further c) v k.told) (sym same_queue) (record { inv = enters; counted = k.list.counted });
         serving = record {
           e_only = hold_all (λ (q : ℕ) (z : Stand). q ≢ d.e_pass → IsServing z.place → ⊥) s.stand p now (λ ne u. u) (λ q ne n u. k.serving.e_only q n u);
           d_mine = group_all (λ (x : ℕ) (q : ℕ). chain_of c q ≡ Take x) d.d_pass y p chain (λ x ne. k.serving.d_mine x);

@@ -33,7 +33,7 @@ use Rattle.cc_runs.proofs.LinkedList.Queue.{Queue, Told}
 use Rattle.cc_runs.proofs.LinkedList.Open as open_list
 use Rattle.cc_runs.proofs.LinkedList.Grow as grow
 use Rattle.cc_runs.proofs.LinkedList.Busy as busy
-use Rattle.cc_runs.proofs.LinkedList.Runs.{Held}
+use Rattle.cc_runs.proofs.LinkedList.Grow.{Held}
 use Rattle.cc_runs.proofs.ListRuns.View.{Duty, Regs, none, resting, enq_at, regs_at, regs_of, queue_from, queue_of}
 use Rattle.cc_runs.proofs.ListRuns.Ties.{further, ReadsAt, IsServing, IsUndecidedAt, IsTaking, Linked}
 use Rattle.cc_runs.proofs.ListRuns.Facts.{lists, ChainFacts}

@@ -1,5 +1,5 @@
 -- Each line of the service of a send or a close keeps the list's invariant.
-use Rattle.std.proofs.Common.{◌≡◌, ◌≢◌, ℕ, ◌+◌, ◌<◌, ◌≤◌, arith, refl, ap}
+use Rattle.std.proofs.Common.{◌≡◌, ◌≢◌, ℕ, zero, ◌+◌, ◌<◌, ◌≤◌, arith, refl, ap}
 use Rattle.std.proofs.lemmas.Bool.{cases_eq}
 use Rattle.cc_model.specs.declared.config.Config.{Config}
 use Rattle.cc_runs.specs.declared.word.ItemField.TheVariants as item
@@ -13,13 +13,11 @@ use Rattle.cc_runs.specs.declared.place.Sending.TheVariants as sending
 use Rattle.cc_runs.specs.State.{word_of, stored}
 use Rattle.cc_runs.specs.Codes.{request_in}
 use Rattle.cc_runs.specs.ServiceLine.{Next, On, Decides, DecidesAndOn, Tells}
-use Rattle.cc_runs.specs.SendLines.{line, operation}
+use Rattle.cc_runs.specs.SendLines.{line, by_shut, operation}
 use Rattle.cc_runs.proofs.LinkedList.Queue.{Enq, Queue, Told}
 use Rattle.cc_runs.proofs.LinkedList.Invariant.{LInv}
-use Rattle.cc_runs.proofs.LinkedList.ReadPassed.{looked, looked_role, looked_known}
-use Rattle.cc_runs.proofs.LinkedList.ResetPassed.{Prepares}
-use Rattle.cc_runs.proofs.LinkedList.LinkItem.{Accepts}
-use Rattle.cc_runs.proofs.LinkedList.LinkMark.{Shuts}
+use Rattle.cc_runs.proofs.LinkedList.Scan.{looked, looked_role, looked_known}
+use Rattle.cc_runs.proofs.LinkedList.Grow.{Prepares, Accepts, Shuts}
 use Rattle.cc_runs.proofs.ListRuns.View.{Duty, Regs, asks_of, enq_in, resting, queue_from}
 
 module _ (mem : Word → ℕ) (d : Duty) (r : ℕ → Regs) (c : Config) (n : ℕ) (g : Told) where
@@ -79,7 +77,7 @@ module _ (mem : Word → ℕ) (d : Duty) (r : ℕ → Regs) (c : Config) (n : �
 
   -- ---- the loads that branch
 
-  pub read_shut_open : (q : Request) → mem (Object object.Shut) ≡ 0 → Keeps mem (sending.ReadShut q) → Keeps mem (sending.ReadCount q)
+  pub read_shut_open : (q : Request) → mem (Object object.Shut) ≡ 0 → Keeps mem (sending.ReadShut q) → After mem (by_shut q zero)
   read_shut_open q e i = grind arith
 
   pub read_shut_close : (q : Request) → mem (Object object.Shut) ≢ 0 → asks_of d.e_call 0 ≡ 0 → Keeps mem (sending.ReadShut q) → Keeps mem sending.ReadTotal
@@ -124,13 +122,14 @@ read_cursor mem d r c n g parcel from e i = grind arith
 -- ---- the stores that move the ghosts
 
 module _ (mem : Word → ℕ) (d : Duty) (r : ℕ → Regs) (c : Config) (n : ℕ) (g g' : Told) where
-  abbrev Moves : Sending → Sending → Type 0
-  Moves service there = LInv c.capacity c.life n (queue_from mem d (enq_in d.e_call d.from service) r) g → LInv c.capacity c.life n (queue_from (stored mem (operation c 0 service)) d (enq_in d.e_call d.from there) r) g'
+  -- the line of this step keeps it, with these ghosts then
+  abbrev Moves : Sending → Type 0
+  Moves service = Keeps mem d r c n g mem service → After mem d r c n g' (stored mem (operation c 0 service)) (line c 0 service (mem (word_of (operation c 0 service)))).next
 
   abbrev Step : Sending → Queue
   Step service = queue_from mem d (enq_in d.e_call d.from service) r
 
-  pub reset_passed : (parcel : Parcel) (at : ℕ) → Prepares (Step (sending.ResetPassed parcel at)) g g' → Moves (sending.ResetPassed parcel at) (sending.ResetItemNext parcel at)
+  pub reset_passed : (parcel : Parcel) (at : ℕ) → Prepares (Step (sending.ResetPassed parcel at)) g g' → Moves (sending.ResetPassed parcel at)
   reset_passed parcel at u i = grind (arith, cases_eq, free, found_in, apart_free)
     where
       free : mem (Item at item.Passed) ≡ n
@@ -142,7 +141,7 @@ module _ (mem : Word → ℕ) (d : Duty) (r : ℕ → Regs) (c : Config) (n : �
       apart_free : (k : ℕ) → g.least ≤ k → k ≤ g.accepted → g.node k ≢ at
       apart_free k a b = grind (arith, free, i.live.live_role k, i.live.live_in k, i.live.live_pos k, i.nodes.passed_is (g.node k), i.hands.by_some k)
 
-  pub link_mark : (total last : ℕ) → Shuts g g' → Moves (sending.LinkMark total last) (sending.WriteLastMark total)
+  pub link_mark : (total last : ℕ) → Shuts g g' → Moves (sending.LinkMark total last)
   link_mark total last u i = grind (arith, cases_eq, is_last, unshut, next_same)
     where
       is_last : last ≡ g.node g.accepted
@@ -154,7 +153,7 @@ module _ (mem : Word → ℕ) (d : Duty) (r : ℕ → Regs) (c : Config) (n : �
       next_same : (k : ℕ) → g.least ≤ k → k < g.accepted → g.node k ≢ last
       next_same k a b = grind (arith, is_last, i.live.live_pos k, i.live.live_pos g.accepted)
 
-  pub link_item : (place at last : ℕ) → Accepts (Step (sending.LinkItem place at last)) g g' → Moves (sending.LinkItem place at last) (sending.WriteLast place at)
+  pub link_item : (place at last : ℕ) → Accepts (Step (sending.LinkItem place at last)) g g' → Moves (sending.LinkItem place at last)
   link_item place at last u i = grind (arith, cases_eq, apart_item, is_last, unshut, node_same, next_same)
     where
       is_last : last ≡ g.node g.accepted

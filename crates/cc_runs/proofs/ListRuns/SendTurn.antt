@@ -33,16 +33,13 @@ use Rattle.cc_runs.specs.SendLines.{operation, goes, decides, after, mark, by_sh
 use Rattle.cc_runs.specs.ServiceLine as line
 use Rattle.cc_runs.specs.MachineLaws.{links}
 use Rattle.cc_runs.proofs.LinkedList.Queue.{Queue, Told}
-use Rattle.cc_runs.proofs.LinkedList.ResetPassed.{Prepares}
-use Rattle.cc_runs.proofs.LinkedList.LinkItem.{Accepts}
-use Rattle.cc_runs.proofs.LinkedList.LinkMark.{Shuts}
+use Rattle.cc_runs.proofs.LinkedList.Invariant.{LInv}
 use Rattle.cc_runs.proofs.LinkedList.Grow as grow
-use Rattle.cc_runs.proofs.LinkedList.Runs as runs
-use Rattle.cc_runs.proofs.LinkedList.Runs.{Next, Held}
+use Rattle.cc_runs.proofs.LinkedList.Grow.{Held, Prepares, Accepts, Shuts}
 use Rattle.cc_runs.proofs.LinkedList.Decide as decide
 use Rattle.cc_runs.proofs.LinkedList.Limits as limits
 use Rattle.cc_runs.proofs.ListRuns.View.{Duty, Regs, enq_in, enq_at, queue_from}
-use Rattle.cc_runs.proofs.ListRuns.SendSteps as steps
+use Rattle.cc_runs.proofs.ListRuns.SendKeeps as keeps
 use Rattle.cc_runs.proofs.ListRuns.Fits.{closed_fits, already_fits, shut_fits, spent_fits, full_fits, accepted_fits, item_sent}
 use Rattle.cc_runs.proofs.ListRuns.Decided.{told_send, e_accepted, e_shut, e_decided}
 use Rattle.cc_runs.proofs.ListRuns.Ties.{Ties, further, Asked, Scanned, Reads, ReadsAt, IsUndecided, IsUndecidedAt, IsBegun, IsNextSend, Linked, ties_same, shut_number, shut_true, shut_false}
@@ -111,11 +108,11 @@ module _ (c : Config) (mem : Word → ℕ) (d : Duty) (r : ℕ → Regs) (h : Re
   Has v told = Held c.capacity c.life (further c) v told
 
   -- on in the service, with no ghost moved
-  on : (m : Word → ℕ) (service there : Sending) → Has (AtStep mem service) g → Next c.capacity c.life (further c) (AtStep mem service) g (AtStep m there) g → Reads c d.e_call d.from there → (IsUndecided there → IsNextSend h d.e_call) → Turn c m d r h g (place.Sending job there)
-  on m service there has next reads asked = record {
+  on : (m : Word → ℕ) (there : Sending) → grow.Counted (further c) g → LInv c.capacity c.life (further c + 1) (AtStep m there) g → Reads c d.e_call d.from there → (IsUndecided there → IsNextSend h d.e_call) → Turn c m d r h g (place.Sending job there)
+  on m there counted inv reads asked = record {
     from = d.from;
     told = g;
-    list = runs.next_keeps c.capacity c.life (further c) _ _ _ has next;
+    list = record { inv = inv; counted = counted };
     least_up = omega arith;
     entries_up = omega arith;
     reads = reads;
@@ -125,11 +122,11 @@ module _ (c : Config) (mem : Word → ℕ) (d : Duty) (r : ℕ → Regs) (h : Re
   }
 
   -- to the end of the service, with no ghost moved
-  over : (m : Word → ℕ) (service : Sending) (told : Answer) → Has (AtStep mem service) g → Next c.capacity c.life (further c) (AtStep mem service) g (AtRest m) g → Turn c m d r h g (place.WriteAnswer job told)
-  over m service told has next = record {
+  over : (m : Word → ℕ) (told : Answer) → grow.Counted (further c) g → LInv c.capacity c.life (further c + 1) (AtRest m) g → Turn c m d r h g (place.WriteAnswer job told)
+  over m told counted inv = record {
     from = d.from;
     told = g;
-    list = runs.next_keeps c.capacity c.life (further c) _ _ _ has next;
+    list = record { inv = inv; counted = counted };
     least_up = omega arith;
     entries_up = omega arith;
     reads = tt;
@@ -139,12 +136,12 @@ module _ (c : Config) (mem : Word → ℕ) (d : Duty) (r : ℕ → Regs) (h : Re
   }
 
   -- an answer that accepts nothing and doesn't shut
-  answered : (m : Word → ℕ) (service : Sending) (told : Answer) → Has (AtStep mem service) g → Next c.capacity c.life (further c) (AtStep mem service) g (AtRest m) g
+  answered : (m : Word → ℕ) (told : Answer) → grow.Counted (further c) g → LInv c.capacity c.life (further c + 1) (AtRest m) g
       → IsNextSend h d.e_call → accepted_item d.e_call told ≡ [] → shuts told ≡ false → EAnswer c (length (accepted h)) (is_shut h) d.e_call.known d.e_call.call told → Turn c m d r (told_send h told) g (place.WriteAnswer job told)
-  answered m service told has next asked none open_ fits = record {
+  answered m told counted inv asked none open_ fits = record {
     from = d.from;
     told = g;
-    list = runs.next_keeps c.capacity c.life (further c) _ _ _ has next;
+    list = record { inv = inv; counted = counted };
     least_up = omega arith;
     entries_up = omega arith;
     reads = tt;
@@ -177,15 +174,15 @@ module _ (c : Config) (mem : Word → ℕ) (d : Duty) (r : ℕ → Regs) (h : Re
       → Leads (cond b (line.On sending.ReadTotal) (line.Decides (answer.Send send.Closed)))
   shut_branch q true e has asked next ne =
       let z : tag_asked ≡ 0 = sym asked.tag_is ∙ eqb-true q.tag 0 e in
-      on mem (sending.ReadShut q) sending.ReadTotal has (Next.e_shut (steps.read_shut_close mem d r q ne z)) tt (λ u. next)
+      on mem sending.ReadTotal has.counted (keeps.read_shut_close mem d r c (further c + 1) g q ne z has.inv) tt (λ u. next)
   shut_branch q false e has asked next ne =
       let nz : tag_asked ≢ 0 = λ z. eqb-false q.tag 0 e (asked.tag_is ∙ z) in
-      answered mem (sending.ReadShut q) (answer.Send send.Closed) has (Next.e_shut (steps.read_shut_send mem d r q ne nz)) next refl refl
+      answered mem (answer.Send send.Closed) has.counted (keeps.read_shut_send mem d r c (further c + 1) g q ne nz has.inv) next refl refl
       (fits_shut (answer.Send send.Closed) (decide.read_shut c.capacity c.life (further c + 1) (AtStep mem (sending.ReadShut q)) g has.inv refl ne) (closed_fits c (length (accepted h)) d.e_call.known d.e_call.pass d.e_call.call d.e_call.number caller.senders nz))
 
   read_shut : (q : Request) (found : ℕ) → mem (Object object.Shut) ≡ found → Has (AtStep mem (sending.ReadShut q)) g → Asked d.e_call q.tag q.body → IsNextSend h d.e_call
       → Leads (by_shut q found)
-  read_shut q zero e has asked next = on mem (sending.ReadShut q) (sending.ReadCount q) has (Next.e_shut (steps.read_shut_open mem d r q e)) asked (λ u. next)
+  read_shut q zero e has asked next = on mem (sending.ReadCount q) has.counted (keeps.read_shut_open mem d r c (further c + 1) g q e has.inv) asked (λ u. next)
   read_shut q (suc n) e has asked next = shut_branch q (q.tag == 0) refl has asked next (λ z. omega (arith, z, e))
 
   -- ---- the loads of count
@@ -194,7 +191,7 @@ module _ (c : Config) (mem : Word → ℕ) (d : Duty) (r : ℕ → Regs) (h : Re
       → Turn c mem d r (told_send h (answer.Close (close.Already (mem (Object object.Count))))) g (place.WriteAnswer job (answer.Close (close.Already (mem (Object object.Count)))))
   read_total has next =
       let known : (mem (Object object.Count) ≡ g.accepted) × (g.shut ≡ 1) × (tag_asked ≡ 0) = decide.already c.capacity c.life (further c + 1) (AtStep mem sending.ReadTotal) g has.inv refl in
-      answered mem sending.ReadTotal (answer.Close (close.Already (mem (Object object.Count)))) has (Next.e_count_a (steps.read_total mem d r)) next refl refl
+      answered mem (answer.Close (close.Already (mem (Object object.Count)))) has.counted (keeps.read_total mem d r c (further c + 1) g has.inv) next refl refl
       (fits_shut (answer.Close (close.Already (mem (Object object.Count)))) known.1 (already_fits c (length (accepted h)) d.e_call.known d.e_call.pass d.e_call.call d.e_call.number (mem (Object object.Count)) caller.senders known.2 (known.0 ∙ ties.accepted_is)))
 
   life_branch : (q : Request) (b : Bool) → (mem (Object object.Count) == c.life) ≡ b → tag_asked ≢ 0 → Has (AtStep mem (sending.ReadCount q)) g → Asked d.e_call q.tag q.body → IsNextSend h d.e_call
@@ -202,17 +199,17 @@ module _ (c : Config) (mem : Word → ℕ) (d : Duty) (r : ℕ → Regs) (h : Re
   life_branch q true e nz has asked next =
       let full : mem (Object object.Count) ≡ c.life = eqb-true (mem (Object object.Count)) c.life e in
       let known : (g.accepted ≡ c.life) × (g.shut ≡ 0) = decide.spent c.capacity c.life (further c + 1) (AtStep mem (sending.ReadCount q)) g has.inv refl full in
-      answered mem (sending.ReadCount q) (answer.Send send.Spent) has (Next.e_count (steps.read_count_spent mem d r c.life q nz full)) next refl refl
+      answered mem (answer.Send send.Spent) has.counted (keeps.read_count_spent mem d r c (further c + 1) g q has.inv) next refl refl
       (fits_open (answer.Send send.Spent) known.1 (spent_fits c (length (accepted h)) d.e_call.known d.e_call.pass d.e_call.call d.e_call.number caller.senders nz (sym ties.accepted_is ∙ known.0)))
   life_branch q false e nz has asked next =
-      on mem (sending.ReadCount q) (sending.ReadCursor record { place = mem (Object object.Count); tag = q.tag; body = q.body }) has
-      (Next.e_count (steps.read_count_on mem d r c.life q q.tag q.body nz (eqb-false (mem (Object object.Count)) c.life e))) (record { tag_is = asked.tag_is; body_is = asked.body_is }) (λ u. next)
+      on mem (sending.ReadCursor record { place = mem (Object object.Count); tag = q.tag; body = q.body }) has.counted
+      (keeps.read_count_on mem d r c (further c + 1) g q record { place = mem (Object object.Count); tag = q.tag; body = q.body } refl nz (eqb-false (mem (Object object.Count)) c.life e) has.inv) (record { tag_is = asked.tag_is; body_is = asked.body_is }) (λ u. next)
 
   close_branch : (q : Request) (b : Bool) → (q.tag == 0) ≡ b → Has (AtStep mem (sending.ReadCount q)) g → Asked d.e_call q.tag q.body → IsNextSend h d.e_call
       → Leads (cond b (line.On (sending.ReadLastToClose (mem (Object object.Count)))) (if mem (Object object.Count) == c.life then line.Decides (answer.Send send.Spent) else line.On (sending.ReadCursor record { place = mem (Object object.Count); tag = q.tag; body = q.body })))
   close_branch q true e has asked next =
       let z : tag_asked ≡ 0 = sym asked.tag_is ∙ eqb-true q.tag 0 e in
-      on mem (sending.ReadCount q) (sending.ReadLastToClose (mem (Object object.Count))) has (Next.e_count (steps.read_count_close mem d r c.life q z)) tt (λ u. next)
+      on mem (sending.ReadLastToClose (mem (Object object.Count))) has.counted (keeps.read_count_close mem d r c (further c + 1) g q z has.inv) tt (λ u. next)
   close_branch q false e has asked next = life_branch q (mem (Object object.Count) == c.life) refl (λ z. eqb-false q.tag 0 e (asked.tag_is ∙ z)) has asked next
 
   -- ---- the scan
@@ -225,22 +222,22 @@ module _ (c : Config) (mem : Word → ℕ) (d : Duty) (r : ℕ → Regs) (h : Re
       let v : Queue = AtStep mem (sending.ReadPassed parcel at reads) in
       let known : (d.e_call.known + c.capacity ≤ g.accepted) × (g.shut ≡ 0) × (g.accepted < c.life) = decide.full c.capacity c.life (further c + 1) v g has.inv at (s.within, s.past, s.round) refl (omega (arith, all)) ne in
       let nz : tag_asked ≢ 0 = has.inv.request.sends (omega arith) (omega arith) in
-      answered mem (sending.ReadPassed parcel at reads) (answer.Send send.Full) has (Next.e_full at (s.within, s.past, s.round) (steps.look_last mem d r c.capacity (further c + 1) parcel at reads ne all)) next refl refl
+      answered mem (answer.Send send.Full) has.counted (keeps.read_passed_full mem d r c (further c + 1) g parcel at reads has.inv) next refl refl
       (fits_open (answer.Send send.Full) known.1 (full_fits c (length (accepted h)) d.e_call.known d.e_call.pass d.e_call.call d.e_call.number caller.senders nz (λ z. omega (arith, z, known, ties.accepted_is)) (omega (arith, known, ties.accepted_is))))
   free_branch parcel at reads false e ne has read next =
       let s : Scanned c d.from at reads = read.1 in
       let more : reads ≢ c.capacity + 1 = eqb-false reads (c.capacity + 1) e in
       let from_in : d.from ≤ c.capacity = has.inv.scan.from_in refl in
       let on_scan : Scanned c d.from (after c at) (reads + 1) = scan_on c d.from at reads s more from_in in
-      on mem (sending.ReadPassed parcel at reads) (sending.ReadPassed parcel (after c at) (reads + 1)) has
-      (Next.e_busy at (s.within, s.past, s.round) (steps.look_busy mem d r c.capacity (further c + 1) parcel at (after c at) reads ne s.some (omega (arith, s.most, more)))) (read.0, on_scan) (λ u. next)
+      on mem (sending.ReadPassed parcel (after c at) (reads + 1)) has.counted
+      (keeps.read_passed_busy mem d r c (further c + 1) g parcel at (after c at) reads (s.within, s.past, s.round) ne s.some (omega (arith, s.most, more)) has.inv) (read.0, on_scan) (λ u. next)
 
   passed_branch : (parcel : Parcel) (at reads : ℕ) (b : Bool) → (mem (ItemWord at item.Passed) == groups c) ≡ b → Has (AtStep mem (sending.ReadPassed parcel at reads)) g → Reads c d.e_call d.from (sending.ReadPassed parcel at reads) → IsNextSend h d.e_call
       → Leads (cond b (line.On (sending.ResetPassed parcel at)) (if reads == c.capacity + 1 then line.Decides (answer.Send send.Full) else line.On (sending.ReadPassed parcel (after c at) (reads + 1))))
   passed_branch parcel at reads true e has read next =
       let s : Scanned c d.from at reads = read.1 in
       let free : mem (ItemWord at item.Passed) ≡ further c + 1 = omega (arith, ties.some, eqb-true (mem (ItemWord at item.Passed)) (groups c) e) in
-      on mem (sending.ReadPassed parcel at reads) (sending.ResetPassed parcel at) has (Next.e_free at (s.within, s.past, s.round) (steps.look_free mem d r c.capacity (further c + 1) parcel at reads free)) read.0 (λ u. next)
+      on mem (sending.ResetPassed parcel at) has.counted (keeps.read_passed_free mem d r c (further c + 1) g parcel at reads (s.within, s.past, s.round) free has.inv) read.0 (λ u. next)
   passed_branch parcel at reads false e has read next = free_branch parcel at reads (reads == c.capacity + 1) refl (λ z. eqb-false (mem (ItemWord at item.Passed)) (groups c) e (omega (arith, ties.some, z))) has read next
 
   -- ---- what the ghosts of the node in preparation change of the ties
@@ -263,14 +260,12 @@ module _ (c : Config) (mem : Word → ℕ) (d : Duty) (r : ℕ → Regs) (h : Re
       let v : Queue = AtStep mem (sending.ResetPassed parcel at) in
       let told : Told = grow.preparing v g in
       let u : Prepares v g told = grow.prepares v g in
-      let to : Next c.capacity c.life (further c) v g (AtStep (put mem (ItemWord at item.Passed) 0) (sending.ResetItemNext parcel at)) told = Next.e_passed (steps.reset_passed mem d r parcel at) in
-      let up : (g.least ≤ told.least) × (g.accepted + g.shut ≤ told.accepted + told.shut) = runs.next_grows c.capacity c.life (further c) _ _ _ has to in
       record {
         from = d.from;
         told = told;
-        list = runs.next_keeps c.capacity c.life (further c) _ _ _ has to;
-        least_up = up.0;
-        entries_up = up.1;
+        list = record { inv = keeps.reset_passed mem d r c (further c + 1) g told parcel at u has.inv; counted = grow.preparing_counted (further c) v g has.counted };
+        least_up = omega (arith, u.hands.least);
+        entries_up = omega (arith, u.log.accepted, u.log.shut);
         reads = asked;
         next_call = λ u. next;
         ties = ties_told told u.log.accepted u.hands.handed u.log.shut (grow.preparing_tells v g) u.log.items;
@@ -324,19 +319,13 @@ module _ (c : Config) (mem : Word → ℕ) (d : Duty) (r : ℕ → Regs) (h : Re
         let same2 : told.items k 1 ≡ g.items k 1 = u.items k 1 ne in
         rw (now, same, same2) (get_front (accepted h) (it ∷ []) k (item_of k (g.items k 0) (g.items k 1)) (ties.items_are k l))
 
-    step : Next c.capacity c.life (further c) before g (AtStep (put mem (ItemWord last item.Next) (at + 1)) (sending.WriteLast count at)) told
-    step = Next.e_link (steps.link_item mem d r count at last)
-
-    up : (g.least ≤ told.least) × (g.accepted + g.shut ≤ told.accepted + told.shut)
-    up = runs.next_grows c.capacity c.life (further c) _ _ _ has step
-
     link_item : TurnBy c (put mem (ItemWord last item.Next) (at + 1)) d r (told_send h a) g (place.Sending job (sending.WriteLast count at)) (at ∷ [])
     link_item = record {
       from = d.from;
       told = told;
-      list = runs.next_keeps c.capacity c.life (further c) _ _ _ has step;
-      least_up = up.0;
-      entries_up = up.1;
+      list = record { inv = keeps.link_item mem d r c (further c + 1) g told count at last u has.inv; counted = grow.accepting_counted (further c) before g has.counted };
+      least_up = omega (arith, u.hands.least);
+      entries_up = omega (arith, u.accepted, u.shut);
       reads = tt;
       next_call = λ no. absurd no;
       ties = record {
@@ -376,19 +365,13 @@ module _ (c : Config) (mem : Word → ℕ) (d : Duty) (r : ℕ → Regs) (h : Re
     now_mark : accepted (told_send h shut_told) ≡ accepted h
     now_mark = e_accepted c h ties.lawful d.e_call shut_told next ∙ append-nil (accepted h)
 
-    step_mark : Next c.capacity c.life (further c) before_mark g (AtStep (put mem (ItemWord last item.Next) (mark c + 1)) (sending.WriteLastMark total)) told_mark
-    step_mark = Next.e_mark (steps.link_mark mem d r c total last)
-
-    up_mark : (g.least ≤ told_mark.least) × (g.accepted + g.shut ≤ told_mark.accepted + told_mark.shut)
-    up_mark = runs.next_grows c.capacity c.life (further c) _ _ _ has step_mark
-
     link_mark : Turn c (put mem (ItemWord last item.Next) (mark c + 1)) d r (told_send h shut_told) g (place.Sending job (sending.WriteLastMark total))
     link_mark = record {
       from = d.from;
       told = told_mark;
-      list = runs.next_keeps c.capacity c.life (further c) _ _ _ has step_mark;
-      least_up = up_mark.0;
-      entries_up = up_mark.1;
+      list = record { inv = keeps.link_mark mem d r c (further c + 1) g told_mark total last shuts_it has.inv; counted = grow.shutting_counted (further c) g has.counted };
+      least_up = omega (arith, shuts_it.hands.least);
+      entries_up = omega (arith, shuts_it.accepted, shuts_it.shut, known_mark.1);
       reads = tt;
       next_call = λ no. absurd no;
       ties = record {
@@ -413,7 +396,7 @@ module _ (c : Config) (mem : Word → ℕ) (d : Duty) (r : ℕ → Regs) (h : Re
       record {
         from = found;
         told = g;
-        list = runs.next_keeps c.capacity c.life (further c) _ _ _ has (Next.e_cursor (steps.read_cursor mem d r parcel found e));
+        list = record { inv = keeps.read_cursor mem d r c (further c + 1) g parcel found e has.inv; counted = has.counted };
         least_up = omega arith;
         entries_up = omega arith;
         reads = (record { tag_is = asked.tag_is; body_is = asked.body_is }, record { some = omega arith; most = omega arith; within = omega (arith, e, within); past = λ l. omega arith; round = λ l. absurd (omega (arith, l, e, within)) });
@@ -437,21 +420,21 @@ module _ (c : Config) (mem : Word → ℕ) (d : Duty) (r : ℕ → Regs) (h : Re
       subst (λ (k : ℕ). Leads (by_count c q k)) e (close_branch q (q.tag == 0) refl n.0 n.1 (n.2 tt))
   send_turn (sending.ReadLastToClose total) found low e n =
       let link : (0 < mem (Object object.Last)) × (mem (Object object.Last) ≤ c.capacity + 1) = limits.lastc_link c.capacity c.life (further c + 1) (AtStep mem (sending.ReadLastToClose total)) g n.0.inv refl in
-      subst (λ (k : ℕ). Turn c mem d r h g (place.Sending job (sending.LinkMark total (k - 1)))) e (on mem (sending.ReadLastToClose total) (sending.LinkMark total (mem (Object object.Last) - 1)) n.0 (Next.e_last_c (steps.read_last_to_close mem d r total link.0)) tt (λ u. n.2 tt))
+      subst (λ (k : ℕ). Turn c mem d r h g (place.Sending job (sending.LinkMark total (k - 1)))) e (on mem (sending.LinkMark total (mem (Object object.Last) - 1)) n.0.counted (keeps.read_last_to_close mem d r c (further c + 1) g total link.0 n.0.inv) tt (λ u. n.2 tt))
   send_turn (sending.LinkMark total last) found low e n = link_mark total last n.0 (n.2 tt)
-  send_turn (sending.WriteLastMark total) found low e n = on _ (sending.WriteLastMark total) (sending.WriteShut total) n.0 (Next.e_last_m (steps.write_last_mark mem d r c total)) tt (λ no. absurd no)
-  send_turn (sending.WriteShut total) found low e n = over _ (sending.WriteShut total) (answer.Close (close.Shut total)) n.0 (Next.e_shut_m (steps.write_shut mem d r total))
+  send_turn (sending.WriteLastMark total) found low e n = on _ (sending.WriteShut total) n.0.counted (keeps.write_last_mark mem d r c (further c + 1) g total n.0.inv) tt (λ no. absurd no)
+  send_turn (sending.WriteShut total) found low e n = over _ (answer.Close (close.Shut total)) n.0.counted (keeps.write_shut mem d r c (further c + 1) g total n.0.inv)
   send_turn (sending.ReadCursor parcel) found low e n = read_cursor parcel found e n.0 n.1 (n.2 tt)
   send_turn (sending.ReadPassed parcel at reads) found low e n =
       subst (λ (k : ℕ). Leads (by_passed c parcel at reads k)) e (passed_branch parcel at reads (mem (ItemWord at item.Passed) == groups c) refl n.0 n.1 (n.2 tt))
   send_turn (sending.ResetPassed parcel at) found low e n = reset_passed parcel at n.0 n.1 (n.2 tt)
-  send_turn (sending.ResetItemNext parcel at) found low e n = on _ (sending.ResetItemNext parcel at) (sending.WriteItemTag parcel at) n.0 (Next.e_next (steps.reset_next mem d r parcel at)) n.1 (λ u. n.2 tt)
-  send_turn (sending.WriteItemTag parcel at) found low e n = on _ (sending.WriteItemTag parcel at) (sending.WriteItemBody parcel.place parcel.body at) n.0 (Next.e_item (steps.write_tag mem d r parcel at n.1.tag_is)) n.1.body_is (λ u. n.2 tt)
-  send_turn (sending.WriteItemBody count body at) found low e n = on _ (sending.WriteItemBody count body at) (sending.ReadLast count at) n.0 (Next.e_item (steps.write_body mem d r count body at n.1)) tt (λ u. n.2 tt)
+  send_turn (sending.ResetItemNext parcel at) found low e n = on _ (sending.WriteItemTag parcel at) n.0.counted (keeps.reset_next mem d r c (further c + 1) g parcel at n.0.inv) n.1 (λ u. n.2 tt)
+  send_turn (sending.WriteItemTag parcel at) found low e n = on _ (sending.WriteItemBody parcel.place parcel.body at) n.0.counted (keeps.write_tag mem d r c (further c + 1) g parcel at n.1.tag_is n.0.inv) n.1.body_is (λ u. n.2 tt)
+  send_turn (sending.WriteItemBody count body at) found low e n = on _ (sending.ReadLast count at) n.0.counted (keeps.write_body mem d r c (further c + 1) g count body at n.1 n.0.inv) tt (λ u. n.2 tt)
   send_turn (sending.ReadLast count at) found low e n =
       let link : (0 < mem (Object object.Last)) × (mem (Object object.Last) ≤ c.capacity + 1) = limits.last_link c.capacity c.life (further c + 1) (AtStep mem (sending.ReadLast count at)) g n.0.inv refl in
-      subst (λ (k : ℕ). Turn c mem d r h g (place.Sending job (sending.LinkItem count at (k - 1)))) e (on mem (sending.ReadLast count at) (sending.LinkItem count at (mem (Object object.Last) - 1)) n.0 (Next.e_last (steps.read_last mem d r count at link.0)) tt (λ u. n.2 tt))
+      subst (λ (k : ℕ). Turn c mem d r h g (place.Sending job (sending.LinkItem count at (k - 1)))) e (on mem (sending.LinkItem count at (mem (Object object.Last) - 1)) n.0.counted (keeps.read_last mem d r c (further c + 1) g count at link.0 n.0.inv) tt (λ u. n.2 tt))
   send_turn (sending.LinkItem count at last) found low e n = link_item count at last n.0 (n.2 tt)
-  send_turn (sending.WriteLast count at) found low e n = on _ (sending.WriteLast count at) (sending.WriteCount count at) n.0 (Next.e_last_i (steps.write_last mem d r count at)) tt (λ no. absurd no)
-  send_turn (sending.WriteCount count at) found low e n = on _ (sending.WriteCount count at) (sending.WriteCursor count at) n.0 (Next.e_count_i (steps.write_count mem d r count at)) tt (λ no. absurd no)
-  send_turn (sending.WriteCursor count at) found low e n = over _ (sending.WriteCursor count at) (answer.Send (send.Accepted count)) n.0 (Next.e_cursor_i (steps.write_cursor mem d r c count at))
+  send_turn (sending.WriteLast count at) found low e n = on _ (sending.WriteCount count at) n.0.counted (keeps.write_last mem d r c (further c + 1) g count at n.0.inv) tt (λ no. absurd no)
+  send_turn (sending.WriteCount count at) found low e n = on _ (sending.WriteCursor count at) n.0.counted (keeps.write_count mem d r c (further c + 1) g count at n.0.inv) tt (λ no. absurd no)
+  send_turn (sending.WriteCursor count at) found low e n = over _ (answer.Send (send.Accepted count)) n.0.counted (keeps.write_cursor mem d r c (further c + 1) g count at n.0.inv)

@@ -13,7 +13,7 @@ use Rattle.cc_runs.specs.SendLines as send_side
 use Rattle.cc_runs.specs.Step.{stepped_from}
 use Rattle.cc_runs.specs.MachineLaws.{links}
 use Rattle.cc_runs.proofs.LinkedList.Queue.{Queue}
-use Rattle.cc_runs.proofs.LinkedList.Runs.{Held}
+use Rattle.cc_runs.proofs.LinkedList.Grow.{Held}
 use Rattle.cc_runs.proofs.ListRuns.View.{Duty, Regs, enq_at, regs_at, regs_of, queue_from, queue_of, hold_here, hold_same, hold_all}
 use Rattle.cc_runs.proofs.ListRuns.Ties.{further, ReadsAt, IsBegun, IsServing, IsUndecidedAt, IsTaking, IsNextSend, IsNextTake}
 use Rattle.cc_runs.proofs.ListRuns.SendTurn as send_turn

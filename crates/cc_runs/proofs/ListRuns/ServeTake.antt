@@ -16,7 +16,7 @@ use Rattle.cc_runs.specs.Lines.{group_of}
 use Rattle.cc_runs.specs.TakeLines as take_side
 use Rattle.cc_runs.specs.Step.{stepped_from}
 use Rattle.cc_runs.proofs.LinkedList.Queue.{Enq, Queue}
-use Rattle.cc_runs.proofs.LinkedList.Runs.{Held}
+use Rattle.cc_runs.proofs.LinkedList.Grow.{Held}
 use Rattle.cc_runs.proofs.ListRuns.View.{Duty, enq_at, regs_at, regs_of, queue_from, hold_here, hold_other, hold_same, hold_all}
 use Rattle.cc_runs.proofs.ListRuns.Ties.{further, ReadsAt, IsServing, IsUndecidedAt, IsTaking, IsNextSend, IsNextTake}
 use Rattle.cc_runs.proofs.ListRuns.Decided.{group_other}

@@ -17,7 +17,7 @@ use Rattle.cc_runs.specs.ServiceLine.{Next, On, Decides, DecidesAndOn, Tells}
 use Rattle.cc_runs.specs.TakeLines.{line, by_next, by_tag, operation}
 use Rattle.cc_runs.proofs.LinkedList.Queue.{Enq, Queue, Told, SameWords, SameCells}
 use Rattle.cc_runs.proofs.LinkedList.Invariant.{LInv, Heads, Takes}
-use Rattle.cc_runs.proofs.LinkedList.AddPassed.{Gives}
+use Rattle.cc_runs.proofs.LinkedList.Grow.{Gives}
 use Rattle.cc_runs.proofs.ListRuns.View.{Duty, Regs, none, regs_in, queue_from, object_here, object_other}
 
 -- what names no side of the takes stays where they alone change

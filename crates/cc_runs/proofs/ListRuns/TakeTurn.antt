@@ -27,15 +27,13 @@ use Rattle.cc_runs.specs.Codes.{item_of, item_in}
 use Rattle.cc_runs.specs.TakeLines.{operation, goes, decides}
 use Rattle.cc_runs.proofs.Chains.Facts.{noted_none}
 use Rattle.cc_runs.proofs.LinkedList.Queue.{Enq, Queue, Told}
-use Rattle.cc_runs.proofs.LinkedList.AddPassed.{Gives}
-use Rattle.cc_runs.proofs.LinkedList.DReads.{ReadsItem}
+use Rattle.cc_runs.proofs.LinkedList.Invariant.{LInv}
 use Rattle.cc_runs.proofs.LinkedList.Grow as grow
-use Rattle.cc_runs.proofs.LinkedList.Runs as runs
-use Rattle.cc_runs.proofs.LinkedList.Runs.{Next, Held}
+use Rattle.cc_runs.proofs.LinkedList.Grow.{Held, Gives}
 use Rattle.cc_runs.proofs.LinkedList.Decide as decide
 use Rattle.cc_runs.proofs.LinkedList.Limits as limits
 use Rattle.cc_runs.proofs.ListRuns.View.{Duty, Regs, none, regs_in, regs_at, queue_from}
-use Rattle.cc_runs.proofs.ListRuns.TakeSteps as steps
+use Rattle.cc_runs.proofs.ListRuns.TakeKeeps as keeps
 use Rattle.cc_runs.proofs.ListRuns.Decided.{told_take, d_handed, d_others, d_decided}
 use Rattle.cc_runs.proofs.ListRuns.Ties.{Ties, further, IsTaking, IsNextTake, Linked, ties_same, shut_true}
 
@@ -77,10 +75,10 @@ module _ (c : Config) (mem : Word → ℕ) (d : Duty) (e : Enq) (h : Record) (g 
   stage_is service a = ap (λ (z : Regs). z.stage) a
 
   -- on in the service, with no ghost moved
-  on : (m : Word → ℕ) (there : Taking) → Next c.capacity c.life (further c) Before g (After m) g → Turn c m d e y r' (noted (Take y) h None None) g (place.Taking job there)
-  on m there to = subst (λ (z : Record). Turn c m d e y r' z g (place.Taking job there)) (sym (noted_none (Take y) h)) (record {
+  on : (m : Word → ℕ) (there : Taking) → LInv c.capacity c.life (further c + 1) (After m) g → Turn c m d e y r' (noted (Take y) h None None) g (place.Taking job there)
+  on m there inv = subst (λ (z : Record). Turn c m d e y r' z g (place.Taking job there)) (sym (noted_none (Take y) h)) (record {
     told = g;
-    list = runs.next_keeps c.capacity c.life (further c) _ _ _ has to;
+    list = record { inv = inv; counted = has.counted };
     least_up = omega arith;
     entries_up = omega arith;
     next_call = λ u. next;
@@ -89,11 +87,11 @@ module _ (c : Config) (mem : Word → ℕ) (d : Duty) (e : Enq) (h : Record) (g 
   })
 
   -- an answer that hands nothing out
-  answered : (told : Answer) → Next c.capacity c.life (further c) Before g (After mem) g
+  answered : (told : Answer) → LInv c.capacity c.life (further c + 1) (After mem) g
       → handed_item told ≡ [] → DAnswer (accepted h) (is_shut h) (length (handed h y)) (d.d_call y).known told → Turn c mem d e y r' (told_take h y told) g (place.WriteAnswer job told)
-  answered told to none_handed fits = record {
+  answered told inv none_handed fits = record {
     told = g;
-    list = runs.next_keeps c.capacity c.life (further c) _ _ _ has to;
+    list = record { inv = inv; counted = has.counted };
     least_up = omega arith;
     entries_up = omega arith;
     next_call = λ no. absurd no;
@@ -116,15 +114,15 @@ module _ (c : Config) (mem : Word → ℕ) (d : Duty) (e : Enq) (h : Record) (g 
   read_head : From taking.ReadHead → To (taking.ReadTaken (mem (Object (object.Head y)) - 1)) → Turn c mem d e y r' (noted (Take y) h None None) g (place.Taking job (taking.ReadTaken (mem (Object (object.Head y)) - 1)))
   read_head a b =
       let link : (0 < mem (Object (object.Head y))) × (mem (Object (object.Head y)) ≤ c.capacity + 1) = limits.head_link c.capacity c.life (further c + 1) Before g has.inv y below (stage_is taking.ReadHead a) in
-      on mem (taking.ReadTaken (mem (Object (object.Head y)) - 1)) (Next.d_head y below (steps.read_head mem d e y r r' same a b link.0))
+      on mem (taking.ReadTaken (mem (Object (object.Head y)) - 1)) (keeps.read_head mem d e c (further c + 1) g y below r r' same link.0 a has.inv b)
 
   read_next : (dummy taken found : ℕ) → mem (ItemWord dummy item.Next) ≡ found → From (taking.ReadDummyNext dummy taken) → r' y ≡ regs_at (goes job (taking.ReadDummyNext dummy taken) found)
       → Turn c mem d e y r' (noted (Take y) h None (decides (taking.ReadDummyNext dummy taken) found)) g (goes job (taking.ReadDummyNext dummy taken) found)
   read_next dummy taken zero is a b =
       let null : mem (ItemWord (r y).dummy item.Next) ≡ 0 = ap (λ (z : Regs). mem (ItemWord z.dummy item.Next)) a ∙ is in
       let known : (d.d_call y).known ≤ g.handed y = decide.empty c.capacity c.life (further c + 1) Before g has.inv y below (stage_is (taking.ReadDummyNext dummy taken) a) null in
-      answered (answer.Take take.Empty) (Next.d_null y below (steps.read_null mem d e y r r' same dummy taken a b is)) refl (omega (arith, known, ties.handed_is y))
-  read_next dummy taken (suc at) is a b = on mem (taking.ReadItemTag dummy taken at) (Next.d_next y below (steps.read_link mem d e y r r' same dummy taken at a b is))
+      answered (answer.Take take.Empty) (keeps.read_null mem d e c (further c + 1) g y below r r' same dummy taken a has.inv b) refl (omega (arith, known, ties.handed_is y))
+  read_next dummy taken (suc at) is a b = on mem (taking.ReadItemTag dummy taken at) (keeps.read_link mem d e c (further c + 1) g y below r r' same dummy taken at is a has.inv b)
 
   read_tag : (dummy taken at found : ℕ) → mem (ItemWord at item.Tag) ≡ found → From (taking.ReadItemTag dummy taken at) → r' y ≡ regs_at (goes job (taking.ReadItemTag dummy taken at) found)
       → Turn c mem d e y r' (noted (Take y) h None (decides (taking.ReadItemTag dummy taken at) found)) g (goes job (taking.ReadItemTag dummy taken at) found)
@@ -132,17 +130,17 @@ module _ (c : Config) (mem : Word → ℕ) (d : Duty) (e : Enq) (h : Record) (g 
       let zero_is : (x : ℕ) → x + 1 ≡ (r y).after → mem (ItemWord x item.Tag) ≡ 0 = λ x same. let here = ap (λ (z : Regs). z.after) a in ap (λ (k : ℕ). mem (ItemWord k item.Tag)) (omega (arith, same, here)) ∙ is in
       let seen : (r y).seen ≡ taken = ap (λ (z : Regs). z.seen) a in
       let known : ((r y).seen ≡ g.accepted) × (g.handed y ≡ g.accepted) × (g.shut ≡ 1) = decide.ended c.capacity c.life (further c + 1) Before g has.inv y below (stage_is (taking.ReadItemTag dummy taken at) a) zero_is in
-      answered (answer.Take (take.Ended taken)) (Next.d_mark y below (steps.read_mark mem d e y r r' same dummy taken at a b is)) refl
+      answered (answer.Take (take.Ended taken)) (keeps.read_mark mem d e c (further c + 1) g y below r r' same dummy taken at a has.inv b) refl
       (shut_true (is_shut h) (sym ties.shut_is ∙ known.2), sym seen ∙ known.0 ∙ sym known.1 ∙ ties.handed_is y, sym (ties.handed_is y) ∙ known.1 ∙ ties.accepted_is)
   read_tag dummy taken at (suc tag) is a b =
       on mem (taking.ReadItemBody dummy taken at (suc tag))
-      (Next.d_item y below (subst (λ (t : ℕ → ℕ). ReadsItem t Before (After mem) y) (sym ties.tells_is) (steps.read_tag mem d e y r r' same dummy taken at tag a b is)))
+      (keeps.read_tag mem d e c (further c + 1) g y below r r' same dummy taken at tag ties.tells_is is a has.inv b)
 
   read_body : (dummy taken at tag : ℕ) → From (taking.ReadItemBody dummy taken at tag) → To (taking.WriteHead dummy at record { place = taken; tag = tag; body = mem (ItemWord at item.Body) })
       → Turn c mem d e y r' (noted (Take y) h None None) g (place.Taking job (taking.WriteHead dummy at record { place = taken; tag = tag; body = mem (ItemWord at item.Body) }))
   read_body dummy taken at tag a b =
       on mem (taking.WriteHead dummy at record { place = taken; tag = tag; body = mem (ItemWord at item.Body) })
-      (Next.d_item y below (subst (λ (t : ℕ → ℕ). ReadsItem t Before (After mem) y) (sym ties.tells_is) (steps.read_body mem d e y r r' same dummy taken at tag a b)))
+      (keeps.read_body mem d e c (further c + 1) g y below r r' same dummy taken at tag ties.tells_is a has.inv b)
 
   -- ---- the add to passed of the old dummy
 
@@ -182,12 +180,6 @@ module _ (c : Config) (mem : Word → ℕ) (d : Duty) (e : Enq) (h : Record) (g 
         ∙ ap (λ (w : ℕ). Some (item_of parcel.place w (g.items (g.handed y) 1))) (sym tag_is)
         ∙ ap (λ (w : ℕ). Some (item_of parcel.place parcel.tag w)) (sym body_is)
 
-    step : Next c.capacity c.life (further c) Before g (After (put mem (ItemWord dummy item.Passed) (mem (ItemWord dummy item.Passed) + 1))) told
-    step = Next.d_passed y below (steps.add_passed mem d e y r r' same dummy parcel from to)
-
-    up : (g.least ≤ told.least) × (g.accepted + g.shut ≤ told.accepted + told.shut)
-    up = runs.next_grows c.capacity c.life (further c) _ _ _ has step
-
     mine : told.handed y ≡ length (handed (told_take h y a) y)
     mine = omega (arith, u.handed_now, ties.handed_is y, ap length (d_handed c h ties.lawful y side_in (d.d_call y) a next), length-append (handed h y) (item_in parcel ∷ []))
 
@@ -200,9 +192,9 @@ module _ (c : Config) (mem : Word → ℕ) (d : Duty) (e : Enq) (h : Record) (g 
     add_passed : Turn c (put mem (ItemWord dummy item.Passed) (mem (ItemWord dummy item.Passed) + 1)) d e y r' (told_take h y a) g (place.WriteAnswer job a)
     add_passed = record {
       told = told;
-      list = runs.next_keeps c.capacity c.life (further c) _ _ _ has step;
-      least_up = up.0;
-      entries_up = up.1;
+      list = record { inv = keeps.add_passed mem d e c (further c + 1) g y below r r' same told dummy parcel u from has.inv to; counted = grow.gives_counted (further c) g y below has.counted };
+      least_up = u.least_grows;
+      entries_up = omega (arith, u.log.accepted, u.log.shut);
       next_call = λ no. absurd no;
       ties = record {
         some = ties.some;
@@ -225,12 +217,12 @@ module _ (c : Config) (mem : Word → ℕ) (d : Duty) (e : Enq) (h : Record) (g 
       subst (λ (k : ℕ). Turn c mem d e y r' (noted (Take y) h None None) g (place.Taking job (taking.ReadTaken (k - 1)))) is (read_head a (b ∙ sym (ap (λ (k : ℕ). regs_in (taking.ReadTaken (k - 1))) is)))
   take_turn (taking.ReadTaken dummy) found is a b =
       subst (λ (k : ℕ). Turn c mem d e y r' (noted (Take y) h None None) g (place.Taking job (taking.ReadDummyNext dummy k))) is
-      (on mem (taking.ReadDummyNext dummy (mem (Object (object.Taken y)))) (Next.d_taken y below (steps.read_taken mem d e y r r' same dummy a (b ∙ sym (ap (λ (k : ℕ). regs_in (taking.ReadDummyNext dummy k)) is)))))
+      (on mem (taking.ReadDummyNext dummy (mem (Object (object.Taken y)))) (keeps.read_taken mem d e c (further c + 1) g y below r r' same dummy a has.inv (b ∙ sym (ap (λ (k : ℕ). regs_in (taking.ReadDummyNext dummy k)) is))))
   take_turn (taking.ReadDummyNext dummy taken) found is a b = read_next dummy taken found is a b
   take_turn (taking.ReadItemTag dummy taken at) found is a b = read_tag dummy taken at found is a b
   take_turn (taking.ReadItemBody dummy taken at tag) found is a b =
       subst (λ (k : ℕ). Turn c mem d e y r' (noted (Take y) h None None) g (place.Taking job (taking.WriteHead dummy at record { place = taken; tag = tag; body = k }))) is
       (read_body dummy taken at tag a (b ∙ sym (ap (λ (k : ℕ). regs_in (taking.WriteHead dummy at record { place = taken; tag = tag; body = k })) is)))
-  take_turn (taking.WriteHead dummy at parcel) found is a b = on _ (taking.WriteTaken dummy parcel) (Next.d_head_w y below (steps.write_head mem d e y r r' same dummy at parcel a b))
-  take_turn (taking.WriteTaken dummy parcel) found is a b = on _ (taking.AddPassed dummy parcel) (Next.d_taken_w y below (steps.write_taken mem d e y r r' same dummy parcel a b))
+  take_turn (taking.WriteHead dummy at parcel) found is a b = on _ (taking.WriteTaken dummy parcel) (keeps.write_head mem d e c (further c + 1) g y below r r' same dummy at parcel a has.inv b)
+  take_turn (taking.WriteTaken dummy parcel) found is a b = on _ (taking.AddPassed dummy parcel) (keeps.write_taken mem d e c (further c + 1) g y below r r' same dummy parcel a has.inv b)
   take_turn (taking.AddPassed dummy parcel) found is a b = add_passed dummy parcel a b

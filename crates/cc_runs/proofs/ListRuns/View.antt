@@ -2,7 +2,6 @@
 use Rattle.std.proofs.Common.{◌≡◌, ◌≢◌, ℕ, zero, suc, ◌+◌, ◌-◌, ◌==◌, Bool, true, false, cond, refl, sym, ap, ◌∙◌, subst}
 use Rattle.std.proofs.lemmas.Bool.{eq-eqb, ne_eqb, eqb-true, eqb-false}
 use Rattle.cc_model.specs.declared.call.Entry.{Entry}
-use Rattle.cc_runs.specs.declared.word.ItemField.{ItemField}
 use Rattle.cc_runs.specs.declared.word.ItemField.TheVariants as item
 use Rattle.cc_runs.specs.declared.word.Object.{Object as Obj}
 use Rattle.cc_runs.specs.declared.word.Object.TheVariants as object
@@ -153,7 +152,7 @@ group_all {X} P f y now here others x = by_case (x == y) refl
     by_case true same = subst (λ (k : ℕ). P k now) (sym (eqb-true x y same)) here
     by_case false other = others x (eqb-false x y other)
 
--- ---- a store to a word of a list node
+-- ---- a store to a word of the object
 
 same_number : (x : ℕ) → (x == x) ≡ true
 same_number x = eq-eqb x x refl
@@ -164,20 +163,6 @@ other_number x y ne = by_case (x == y) refl
     by_case : (b : Bool) → (x == y) ≡ b → b ≡ false
     by_case true e = absurd (ne (eqb-true x y e))
     by_case false e = refl
-
-pub item_here : (mem : Word → ℕ) (x : ℕ) (f : ItemField) (value : ℕ) → put mem (Item x f) value (Item x f) ≡ value
-item_here mem x item.Tag value = ap (λ (b : Bool). cond b value (mem (Item x item.Tag))) (same_number x)
-item_here mem x item.Body value = ap (λ (b : Bool). cond b value (mem (Item x item.Body))) (same_number x)
-item_here mem x item.Next value = ap (λ (b : Bool). cond b value (mem (Item x item.Next))) (same_number x)
-item_here mem x item.Passed value = ap (λ (b : Bool). cond b value (mem (Item x item.Passed))) (same_number x)
-
-pub item_other : (mem : Word → ℕ) (x y : ℕ) (f : ItemField) (value : ℕ) → x ≢ y → put mem (Item x f) value (Item y f) ≡ mem (Item y f)
-item_other mem x y item.Tag value ne = ap (λ (b : Bool). cond b value (mem (Item y item.Tag))) (other_number x y ne)
-item_other mem x y item.Body value ne = ap (λ (b : Bool). cond b value (mem (Item y item.Body))) (other_number x y ne)
-item_other mem x y item.Next value ne = ap (λ (b : Bool). cond b value (mem (Item y item.Next))) (other_number x y ne)
-item_other mem x y item.Passed value ne = ap (λ (b : Bool). cond b value (mem (Item y item.Passed))) (other_number x y ne)
-
--- ---- a store to a word of the object
 
 pub object_here : (mem : Word → ℕ) (o : Obj) (value : ℕ) → put mem (Object o) value (Object o) ≡ value
 object_here mem o value = ap (λ (b : Bool). cond b value (mem (Object o))) (same_number (object_number o))

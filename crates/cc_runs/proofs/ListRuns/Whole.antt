@@ -8,7 +8,7 @@ use Rattle.cc_runs.specs.declared.place.Stand.{Stand}
 use Rattle.cc_runs.specs.declared.word.Chain.TheVariants.{Take}
 use Rattle.cc_runs.specs.State.{State, chain_of, hold}
 use Rattle.cc_runs.proofs.LinkedList.Queue.{Enq, Queue, Told}
-use Rattle.cc_runs.proofs.LinkedList.Runs.{Held}
+use Rattle.cc_runs.proofs.LinkedList.Grow.{Held}
 use Rattle.cc_runs.proofs.ListRuns.View.{Duty, Regs, enq_at, regs_at, regs_of, queue_from, queue_of, hold_same, hold_all}
 use Rattle.cc_runs.proofs.ListRuns.Ties.{Ties, further, ReadsAt, IsServing, IsUndecidedAt, IsTaking, IsNextSend, IsNextTake, Linked}
 use Rattle.cc_runs.proofs.ListRuns.SendTurn.{Caller}
