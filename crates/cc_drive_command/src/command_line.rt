@@ -126,6 +126,10 @@ What is measured: what the threads were told, each item that was sent and each t
 whether these receipts fit together. What isn't: times, and the order of the threads' steps, which
 is another in each run.
 
+A combiner serves at most as many calls as the bound says, and hands over to the next in line. With
+more threads than processors, a bound below a quarter of a side's threads is slow: the next in line
+is often a thread that doesn't run, and the side waits for it.
+
 Each thread has a stack as large as the limit on stacks says (`ulimit -s`); 128 KiB are enough. At
 8 MiB the stacks of 127 threads are 1 GB of address space, of which little is used, and with what
 the C library sets aside such a run wants up to 3.5 GB of it on four processors. Under a limit on
