@@ -3,9 +3,10 @@
 
     bench/run.py [--rounds N] [--items N] [--beside TREE]
 
-`cc_bench` is the proved queue (build it by `rt run` in crates/cc_bench), `plain` the same atomic steps by hand, std's
-Mutex with Condvar, and std's sync_channel (build it by `cargo build --release` in bench/plain). A line a shape: senders,
-receivers, capacity, and the nanoseconds of the clock an item of each program; in brackets those of the processors.
+`cc_bench` is the proved queue (build it by `rt run` in crates/cc_bench), `plain` the same atomic steps by hand, as they
+are and `released` (with the stores `Release` that need no locked instruction of their own), std's Mutex with Condvar, and
+std's sync_channel (build it by `cargo build --release` in bench/plain). A line a shape: senders, receivers, capacity, and
+the nanoseconds of the clock an item of each program; in brackets those of the processors.
 With --beside the queue runs beside that of another tree alone, which is told as `before`, and their ratios are told too.
 """
 import argparse
@@ -71,13 +72,15 @@ def main():
     if options.beside:
         beside(os.path.join(options.beside, os.path.relpath(QUEUE, TOP)), items, options.rounds)
         return
-    alone = {"queue": [QUEUE, "0", "1", "64", str(items)], "steps": [PLAIN, "alone", "1", "1", "64", str(items)]}
+    room = ["1", "64", str(items)]
+    alone = {"queue": [QUEUE, "0", *room]}
+    alone.update({name: [PLAIN, mode, "1", *room] for name, mode in (("steps", "alone"), ("released", "alone_released"))})
     show("one thread, a send and a take", compare(alone, items, options.rounds))
     for senders, receivers in SHAPES:
         for capacity in CAPACITIES:
             shape = [str(n) for n in (senders, receivers, capacity, items)]
             commands = {"queue": [QUEUE, *shape]}
-            commands.update({mode: [PLAIN, mode, *shape] for mode in ("steps", "mutex", "sync_channel")})
+            commands.update({mode: [PLAIN, mode, *shape] for mode in ("steps", "released", "mutex", "sync_channel")})
             show(f"{senders} and {receivers} threads, capacity {capacity}", compare(commands, items, options.rounds))
 
 
