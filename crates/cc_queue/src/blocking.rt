@@ -119,6 +119,13 @@ pub fn take<R: Wait>(queue: &Queue, rt: &R, receiver: Receiver) -> (Receiver, Ta
     await_take(queue, rt, pending)
 }
 
+/// Lets time pass between two tries of a call that found nothing to take, or no room.
+fn rest(backoff: &Backoff) {
+    for _ in 0..5u32 {
+        backoff.snooze();
+    }
+}
+
 /// Takes until there is an item, or the queue has ended.
 pub fn take_until<R: Wait>(queue: &Queue, rt: &R, receiver: Receiver) -> (Receiver, TakeAnswer)
     requires { IsOf queue.now receiver }
@@ -133,7 +140,7 @@ pub fn take_until<R: Wait>(queue: &Queue, rt: &R, receiver: Receiver) -> (Receiv
             TakeAnswer::Empty => receiver = after,
             _ => return (after, answer),
         }
-        backoff.snooze();
+        rest(&backoff);
     }
     unreachable!()
 }
@@ -163,7 +170,7 @@ pub fn send_until<R: Wait>(
             SendAnswer::Full => sender = after,
             _ => return Ok((after, answer)),
         }
-        backoff.snooze();
+        rest(&backoff);
     }
     unreachable!()
 }
