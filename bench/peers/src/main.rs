@@ -1,9 +1,12 @@
 //! One burst of one queue: `peers MODE QUEUE SENDERS RECEIVERS CAPACITY BOUND MILLISECONDS`; `run.py` calls it, and
 //! has the words for what the numbers are that each mode prints.
+#[path = "../../clock.rs"]
+mod clock;
 #[cfg(any(feature = "crossbeam-queue", feature = "concurrent-queue"))]
 mod polled;
 mod queues;
 
+use clock::processors;
 use queues::*;
 use std::hint::black_box;
 use std::sync::Barrier;
@@ -11,33 +14,8 @@ use std::sync::atomic::{AtomicBool, Ordering::Relaxed};
 use std::thread;
 use std::time::{Duration, Instant};
 
-#[repr(C)]
-struct Timespec {
-    seconds: i64,
-    nanoseconds: i64,
-}
-
-unsafe extern "C" {
-    fn clock_gettime(clock: i32, time: &mut Timespec) -> i32;
-}
-
 const PROCESS: i32 = 2;
 const THREAD: i32 = 3;
-
-/// The nanoseconds that all processors gave this process, or this thread.
-fn processors(clock: i32) -> f64 {
-    let mut time = Timespec {
-        seconds: 0,
-        nanoseconds: 0,
-    };
-    // SAFETY: the C library's declaration on a 64-bit Linux.
-    assert_eq!(
-        unsafe { clock_gettime(clock, &mut time) },
-        0,
-        "there is no such clock"
-    );
-    time.seconds as f64 * 1e9 + time.nanoseconds as f64
-}
 
 struct Burst {
     senders: usize,

@@ -10,9 +10,12 @@
 //! under a lock: all three are those of `bench/plain`. A second table has groups of receivers: one
 //! queue with so many groups of one receiver beside as many queues with one receiver each, to all of
 //! which the same senders send each item.
+#[path = "../../../bench/clock.rs"]
+mod clock;
 #[path = "../../../bench/plain/src/queues.rs"]
 mod plain;
 
+use clock::processors;
 use std::sync::atomic::{AtomicU64, Ordering};
 use std::thread;
 use std::time::Instant;
@@ -180,41 +183,13 @@ fn typed_shared(it: Shape) -> u64 {
     passed.into_inner()
 }
 
-#[repr(C)]
-struct Timespec {
-    seconds: i64,
-    nanoseconds: i64,
-}
-
-unsafe extern "C" {
-    fn clock_gettime(clock: i32, time: &mut Timespec) -> i32;
-}
-
-/// The nanoseconds that all processors gave this process.
-fn processors() -> u64 {
-    const PROCESS: i32 = 2;
-    let mut time = Timespec {
-        seconds: 0,
-        nanoseconds: 0,
-    };
-    // SAFETY: the C library's declaration on a 64-bit Linux.
-    assert_eq!(
-        unsafe { clock_gettime(PROCESS, &mut time) },
-        0,
-        "there is no clock of the process"
-    );
-    time.seconds as u64 * 1_000_000_000 + time.nanoseconds as u64
-}
-
 /// The nanoseconds an item, of the clock and of all processors.
 fn timed((name, queue): Queue, it: Shape) -> (f64, f64) {
-    let (start, before) = (Instant::now(), processors());
+    const PROCESS: i32 = 2;
+    let (start, before) = (Instant::now(), processors(PROCESS));
     assert_eq!(queue(it), it.items, "{name} lost items");
-    let (clock, processors) = (start.elapsed().as_nanos(), processors() - before);
-    (
-        clock as f64 / it.items as f64,
-        processors as f64 / it.items as f64,
-    )
+    let (clock, processors) = (start.elapsed().as_nanos(), processors(PROCESS) - before);
+    (clock as f64 / it.items as f64, processors / it.items as f64)
 }
 
 fn median(times: impl Iterator<Item = f64>) -> f64 {
