@@ -45,7 +45,12 @@ pub fn take_all(mut next: impl FnMut() -> Option<u64>) -> u64 {
 }
 
 /// The steps by hand; where `RELEASED`, their covered stores are `Release`.
-pub fn steps<const RELEASED: bool>(senders: usize, receivers: usize, capacity: usize, items: u64) -> u64 {
+pub fn steps<const RELEASED: bool>(
+    senders: usize,
+    receivers: usize,
+    capacity: usize,
+    items: u64,
+) -> u64 {
     let (queue, all, takers) = Queue::<RELEASED>::open(senders, receivers, capacity as u64, BOUND);
     let left = AtomicUsize::new(senders);
     let passed = AtomicU64::new(0);
