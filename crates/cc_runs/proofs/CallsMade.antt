@@ -1,5 +1,5 @@
 -- The history has of each pass just those of its calls that have exchanged.
-use Rattle.std.proofs.Common.{◌≡◌, ◌≢◌, ◌⊎◌, ℕ, zero, suc, ◌+◌, ◌<◌, Bool, true, false, ◌==◌, cond, refl, ap, sym, ◌∙◌, subst, inl, inr, Option, Some, None, List, [], ◌∷◌, ◌++◌, map}
+use Rattle.std.proofs.Common.{◌≡◌, ◌≢◌, ◌⊎◌, ℕ, zero, suc, ◌+◌, ◌<◌, Bool, true, false, ◌==◌, nat_lt, cond, refl, ap, sym, ◌∙◌, subst, inl, inr, Option, Some, None, List, [], ◌∷◌, ◌++◌, map}
 use Rattle.std.specs.List.{filter}
 use Rattle.std.proofs.lemmas.Bool.{cases_eq, eq-eqb, ne_eqb, lt-ltb}
 use Rattle.std.proofs.lemmas.List.{append-nil}
@@ -27,7 +27,7 @@ use Rattle.cc_runs.specs.declared.place.Taking.{Taking}
 use Rattle.cc_runs.specs.declared.place.Place.{Place}
 use Rattle.cc_runs.specs.declared.place.Place.TheVariants as place
 use Rattle.cc_runs.specs.Words.{groups}
-use Rattle.cc_runs.specs.Codes.{code_of, value_of}
+use Rattle.cc_runs.specs.Codes.{code_of, value_of, tag_of, further_words, item_in, with_read}
 use Rattle.cc_runs.specs.State.{State, chain_of, pass_at, first_node, hold, noted, appended, word_of}
 use Rattle.cc_runs.specs.CountLines as count_side
 use Rattle.cc_runs.specs.SendLines as send_side
@@ -114,7 +114,7 @@ own_step c x own found f calls began (place.Exchange call) e its =
     let more : filter f (calls ++ call ∷ []) ≡ filter f calls ++ call ∷ [] = filter-append f calls (call ∷ []) ∙ ap (λ (l : List Entry). filter f calls ++ l) one in
     e ∙ sym more ∙ sym (append-nil (filter f (calls ++ call ∷ []))) ∙ ap (λ (l : List Entry). filter f (calls ++ call ∷ []) ++ l) (sym (none_exchanged x own call))
 own_step c x own found f calls began (place.WriteTag put request) e its = e
-own_step c x own found f calls began (place.WriteBody put body) e its = e
+own_step c x own found f calls began (place.WriteBody put request i) e its = e ∙ ap (λ (l : List Entry). filter f calls ++ l) (sym (either (nat_lt i (further_words request.tag)) (place.WriteBody put request (i + 1)) (place.Link put) refl refl))
 own_step c x own found f calls began (place.Link put) e its = e
 own_step c x own found f calls began place.ReadState e its = e ∙ ap (λ (l : List Entry). filter f calls ++ l) (sym (none_state own found))
 own_step c x own found f calls began (place.ReadNext round) e its = e ∙ ap (λ (l : List Entry). filter f calls ++ l) (sym (none_next c.served x round found))
@@ -123,13 +123,13 @@ own_step c x own found f calls began (place.Sending job service) e its = e ∙ a
 own_step c x own found f calls began (place.Taking job service) e its = e ∙ ap (λ (l : List Entry). filter f calls ++ l) (sym (none_take job service found))
 own_step c x own found f calls began (place.WriteAnswer job told) e its = e ∙ ap (λ (l : List Entry). filter f calls ++ l) (sym (none_answer job told))
 own_step c x own found f calls began (place.WriteAnswerTag job item) e its = e
-own_step c x own found f calls began (place.WriteAnswerBody job body) e its = e
+own_step c x own found f calls began (place.WriteAnswerBody job item i) e its = e ∙ ap (λ (l : List Entry). filter f calls ++ l) (sym (either (nat_lt i (further_words (tag_of item))) (place.WriteAnswerBody job item (i + 1)) (place.MarkDone job) refl refl))
 own_step c x own found f calls began (place.MarkDone job) e its =
     e ∙ ap (λ (l : List Entry). filter f calls ++ l) (sym (either (job.round.served + 1 == c.config.bound) (place.HandOver job.next) (place.ReadNext record { at = job.next; served = job.round.served + 1 }) refl refl))
 own_step c x own found f calls began (place.HandOver at) e its = e
 own_step c x own found f calls began place.ReadAnswer e its = e ∙ ap (λ (l : List Entry). filter f calls ++ l) (sym (none_ret c.served x found))
 own_step c x own found f calls began (place.ReadAnswerTag at) e its = e
-own_step c x own found f calls began (place.ReadAnswerBody at tag) e its = e
+own_step c x own found f calls began (place.ReadAnswerBody at i) e its = e ∙ ap (λ (l : List Entry). filter f calls ++ l) (sym (either (nat_lt i (further_words at.tag)) (place.ReadAnswerBody (with_read at i found) (i + 1)) (place.Finished (answer.Take (take.Got (item_in (with_read at i found))))) refl refl))
 own_step c x own found f calls began (place.Finished told) e its = e
 
 -- a step of another pass

@@ -1,5 +1,5 @@
 -- The laws of the chains, from their invariant.
-use Rattle.std.proofs.Common.{◌≡◌, ◌≢◌, ◌⊎◌, ℕ, ◌+◌, ◌<◌, ◌≤◌, refl, ap, sym, ◌∙◌, subst, arith, inl, inr, Some, List, length, Ok, ◌*◌}
+use Rattle.std.proofs.Common.{◌≡◌, ◌≢◌, ◌⊎◌, ℕ, suc, ◌+◌, ◌<◌, ◌≤◌, refl, ap, sym, ◌∙◌, subst, arith, inl, inr, Some, List, length, Ok, ◌*◌}
 use Rattle.std.proofs.lemmas.Bool.{cases_lt, cases_eq}
 use Rattle.std.proofs.lemmas.Option.{slice_get-get_or, get_or_from_slice_get, slice_get_within}
 use Rattle.cc_model.specs.Config.{config_fault}
@@ -24,7 +24,9 @@ use Rattle.cc_runs.specs.declared.place.Sending.TheVariants as sending
 use Rattle.cc_runs.specs.declared.place.Stand.{Stand}
 use Rattle.cc_runs.specs.declared.place.Place.{Place}
 use Rattle.cc_runs.specs.declared.place.Place.TheVariants as place
-use Rattle.cc_runs.specs.Codes.{ret_of, code_of}
+use Rattle.cc_runs.specs.Codes.{ret_of, code_of, request_in, further_words, word, tag_of}
+use Rattle.cc_runs.proofs.ReadWords.{few_further}
+use Rattle.cc_runs.proofs.Chains.Sides.{asks_word}
 use Rattle.cc_runs.specs.State.{side, State, chain_of, pass_at, word_of}
 use Rattle.cc_runs.specs.Lines.{operation}
 use Rattle.cc_model.specs.Record.{Side, silent}
@@ -37,7 +39,7 @@ use Rattle.cc_runs.specs.ChainLaws.{IsCombining, served_by, AreNodes, served_nod
 use Rattle.cc_runs.proofs.Ranges.{InRange, in_range}
 use Rattle.cc_runs.proofs.Chains.View.{view, pass_on, post_of, post_at, serving, request_words, request_long, asked_words, answer_words, answer_long}
 use Rattle.cc_runs.proofs.Chains.Frame.{answer_first}
-use Rattle.cc_runs.proofs.Chains.Registers.{IsChainOf, IsChain, call_at, answer_at, no_call, no_answer, OnTake, IsAnswer, HasRead, coded_words, tag_word, body_word}
+use Rattle.cc_runs.proofs.Chains.Registers.{IsChainOf, IsChain, call_at, answer_at, no_call, no_answer, OnTake, IsAnswer, HasRead, coded_words, tag_word, words_told}
 use Rattle.cc_runs.proofs.Chains.Facts.{own_node, some_words, coded_first, got_item}
 use Rattle.cc_runs.proofs.Chains.Ties.{Holds}
 use Rattle.cc_runs.proofs.Chains.Others.{IsOn}
@@ -59,21 +61,21 @@ combining_rank x own (place.Sending job service) a = refl
 combining_rank x own (place.Taking job service) a = refl
 combining_rank x own (place.WriteAnswer job told) a = refl
 combining_rank x own (place.WriteAnswerTag job item) a = refl
-combining_rank x own (place.WriteAnswerBody job body) a = refl
+combining_rank x own (place.WriteAnswerBody job item i) a = refl
 combining_rank x own (place.MarkDone job) a = refl
 combining_rank x own (place.HandOver at) a = refl
 combining_rank x own _ a = absurd a
 
 -- the request's words, on either side
-holds_request : (s : State) (x : Chain) (at : ℕ) (e : Entry) → ((j : ℕ) → j < request_long x → request_words x (λ (f : NodeField). s.mem (Node x at f)) j ≡ asked_words x e j) → HoldsRequest s x at e
-holds_request s Send at e words = (words 0 (omega arith), words 1 (omega arith))
+holds_request : (s : State) (x : Chain) (at : ℕ) (e : Entry) → ((j : ℕ) → j < request_long x e → request_words x (λ (f : NodeField). s.mem (Node x at f)) j ≡ asked_words x e j) → HoldsRequest s x at e
+holds_request s Send at e words = (words 0 (omega arith), λ i most. words (suc i) (omega (arith, most)) ∙ asks_word (request_in e) i (omega (arith, most, few_further (request_in e).tag)))
 holds_request s (Take g) at e words = tt
 
 -- a pass that reads its answer
 reading_post : (x : Chain) (own : ℕ) (at : Place) → IsReading at → post_of x own at ≡ post_of x own place.ReadAnswer
 reading_post x own place.ReadAnswer a = refl
 reading_post x own (place.ReadAnswerTag at) a = refl
-reading_post x own (place.ReadAnswerBody at tag) a = refl
+reading_post x own (place.ReadAnswerBody at i) a = refl
 reading_post x own _ a = absurd a
 
 -- after the first word of an answer there are further ones for an item alone
@@ -85,9 +87,9 @@ tag_read : (what : Served) (x : Chain) (a : Answer) (words : NodeField → ℕ) 
 tag_read what Send a words A had same = absurd had
 tag_read what (Take g) a words A had same = same
 
-body_read : (what : Served) (x : Chain) (a : Answer) (words : NodeField → ℕ) (A : Type 0) → OnTake x A → answer_words x words 2 ≡ coded_words what x a 2 → words node.Body ≡ body_word a
-body_read what Send a words A had same = absurd had
-body_read what (Take g) a words A had same = same
+body_read : (what : Served) (x : Chain) (a : Answer) (words : NodeField → ℕ) (i : ℕ) (A : Type 0) → OnTake x A → answer_words x words (suc (suc i)) ≡ coded_words what x a (suc (suc i)) → words (node.Body i) ≡ word (words_told a) i
+body_read what Send a words i A had same = absurd had
+body_read what (Take g) a words i A had same = same
 
 -- a pass out of its chain has none of its words
 pub out_rank : (x : Chain) (own : ℕ) (at : Place) → IsOut at → (post_of x own at).rank ≤ 2
@@ -129,13 +131,13 @@ module _ (c : Setting) (r : InRange c.config) (s : State) (k : Chains c s) (x : 
   bounded_at (place.Taking job service) e = served_at (place.Taking job service) e refl (omega arith)
   bounded_at (place.WriteAnswer job told) e = served_at (place.WriteAnswer job told) e refl (omega arith)
   bounded_at (place.WriteAnswerTag job item) e = served_at (place.WriteAnswerTag job item) e refl (omega arith)
-  bounded_at (place.WriteAnswerBody job body) e = served_at (place.WriteAnswerBody job body) e refl (omega arith)
+  bounded_at (place.WriteAnswerBody job item i) e = served_at (place.WriteAnswerBody job item i) e refl (omega arith)
   bounded_at (place.MarkDone job) e = served_at (place.MarkDone job) e refl (omega arith)
   bounded_at _ e = r.bound.0
 
   nodes_at : (at : Place) → Here at → AreNodes (passes_on c x) at
   nodes_at (place.WriteTag put request) e = safe.put_in c x ok r s on.number own (s.stand p).begun on.inside (k.holds x ok) (place.WriteTag put request) (there (place.WriteTag put request) e) refl
-  nodes_at (place.WriteBody put body) e = safe.put_in c x ok r s on.number own (s.stand p).begun on.inside (k.holds x ok) (place.WriteBody put body) (there (place.WriteBody put body) e) refl
+  nodes_at (place.WriteBody put request i) e = safe.put_in c x ok r s on.number own (s.stand p).begun on.inside (k.holds x ok) (place.WriteBody put request i) (there (place.WriteBody put request i) e) refl
   nodes_at (place.Link put) e = safe.put_in c x ok r s on.number own (s.stand p).begun on.inside (k.holds x ok) (place.Link put) (there (place.Link put) e) refl
   nodes_at (place.ReadNext round) e = target_at (place.ReadNext round) e refl
   nodes_at (place.Counting job service) e = (target_at (place.Counting job service) e refl, next_at (place.Counting job service) job e refl (omega arith) (omega arith) refl)
@@ -143,7 +145,7 @@ module _ (c : Setting) (r : InRange c.config) (s : State) (k : Chains c s) (x : 
   nodes_at (place.Taking job service) e = (target_at (place.Taking job service) e refl, next_at (place.Taking job service) job e refl (omega arith) (omega arith) refl)
   nodes_at (place.WriteAnswer job told) e = (target_at (place.WriteAnswer job told) e refl, next_at (place.WriteAnswer job told) job e refl (omega arith) (omega arith) refl)
   nodes_at (place.WriteAnswerTag job item) e = (target_at (place.WriteAnswerTag job item) e refl, next_at (place.WriteAnswerTag job item) job e refl (omega arith) (omega arith) refl)
-  nodes_at (place.WriteAnswerBody job body) e = (target_at (place.WriteAnswerBody job body) e refl, next_at (place.WriteAnswerBody job body) job e refl (omega arith) (omega arith) refl)
+  nodes_at (place.WriteAnswerBody job item i) e = (target_at (place.WriteAnswerBody job item i) e refl, next_at (place.WriteAnswerBody job item i) job e refl (omega arith) (omega arith) refl)
   nodes_at (place.MarkDone job) e = (target_at (place.MarkDone job) e refl, next_at (place.MarkDone job) job e refl (omega arith) (omega arith) refl)
   nodes_at (place.HandOver at) e = target_at (place.HandOver at) e refl
   nodes_at _ e = tt
@@ -203,19 +205,21 @@ module _ (c : Setting) (r : InRange c.config) (s : State) (k : Chains c s) (x : 
       ∙ coded_first c.served x (answer_at (answers_on x s.history) ((k.holds x ok).ghost.at on.number))
   reads_word (place.ReadAnswerTag at) e reading sided =
       let item = item_read c.served x (answer_at (answers_on x s.history) ((k.holds x ok).ghost.at on.number)) _ sided (its_read (place.ReadAnswerTag at) e) (λ h. h.0) in
-      let long : answer_long (answer_at (answers_on x s.history) ((k.holds x ok).ghost.at on.number)) ≡ 3 = ap answer_long item.1 in (
+      let long : answer_long (answer_at (answers_on x s.history) ((k.holds x ok).ghost.at on.number)) ≡ further_words (tag_of item.0) + 3 = ap answer_long item.1 in (
         item.0,
         item.1,
         tag_read c.served x (answer_at (answers_on x s.history) ((k.holds x ok).ghost.at on.number)) (λ (f : NodeField). s.mem (Node x own f)) _ (its_read (place.ReadAnswerTag at) e) (word_of_it (place.ReadAnswerTag at) 1 e tt (omega (arith, long)))
             ∙ ap tag_word item.1,
       )
-  reads_word (place.ReadAnswerBody at tag) e reading sided =
-      let item = item_read c.served x (answer_at (answers_on x s.history) ((k.holds x ok).ghost.at on.number)) _ sided (its_read (place.ReadAnswerBody at tag) e) (λ h. h.0) in
-      let long : answer_long (answer_at (answers_on x s.history) ((k.holds x ok).ghost.at on.number)) ≡ 3 = ap answer_long item.1 in (
+  reads_word (place.ReadAnswerBody at i) e reading sided =
+      let item = item_read c.served x (answer_at (answers_on x s.history) ((k.holds x ok).ghost.at on.number)) _ sided (its_read (place.ReadAnswerBody at i) e) (λ h. h.0) in
+      let had = safe.on_take x _ (its_read (place.ReadAnswerBody at i) e) in
+      let long : answer_long (answer_at (answers_on x s.history) ((k.holds x ok).ghost.at on.number)) ≡ further_words (tag_of item.0) + 3 = ap answer_long item.1 in
+      let low : i ≤ further_words (tag_of item.0) = omega (arith, had.3, ap further_words (had.2 ∙ ap tag_word item.1)) in (
         item.0,
         item.1,
-        body_read c.served x (answer_at (answers_on x s.history) ((k.holds x ok).ghost.at on.number)) (λ (f : NodeField). s.mem (Node x own f)) _ (its_read (place.ReadAnswerBody at tag) e) (word_of_it (place.ReadAnswerBody at tag) 2 e tt (omega (arith, long)))
-            ∙ ap body_word item.1,
+        body_read c.served x (answer_at (answers_on x s.history) ((k.holds x ok).ghost.at on.number)) (λ (f : NodeField). s.mem (Node x own f)) i _ (its_read (place.ReadAnswerBody at i) e) (word_of_it (place.ReadAnswerBody at i) (suc (suc i)) e tt (omega (arith, long, low)))
+            ∙ ap (λ (z : Answer). word (words_told z) i) item.1,
       )
   reads_word _ e reading sided = absurd reading
 

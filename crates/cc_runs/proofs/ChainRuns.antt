@@ -92,7 +92,7 @@ has_told c some moves run p less told e =
 
 entering_rank : (x : Chain) (own : ℕ) (at : Place) → IsEntering at → (post_of x own at).rank ≡ 3
 entering_rank x own (place.WriteTag put request) a = refl
-entering_rank x own (place.WriteBody put body) a = refl
+entering_rank x own (place.WriteBody put request i) a = refl
 entering_rank x own (place.Link put) a = refl
 entering_rank x own _ a = absurd a
 

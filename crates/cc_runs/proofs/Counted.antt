@@ -1,5 +1,5 @@
 -- The counter over every run: its word, the answers, and how many there can be.
-use Rattle.std.proofs.Common.{◌≡◌, ◌≢◌, ℕ, zero, suc, ◌+◌, ◌*◌, ◌-◌, ◌^◌, ◌<◌, ◌≤◌, Bool, true, false, ◌==◌, cond, refl, ap, sym, ◌∙◌, subst, arith, inl, inr, Option, None, List, [], ◌∷◌, ◌++◌, length}
+use Rattle.std.proofs.Common.{◌≡◌, ◌≢◌, ℕ, zero, suc, ◌+◌, ◌*◌, ◌-◌, ◌^◌, ◌<◌, ◌≤◌, Bool, true, false, ◌==◌, nat_lt, cond, refl, ap, sym, ◌∙◌, subst, arith, inl, inr, Option, None, List, [], ◌∷◌, ◌++◌, length}
 use Rattle.std.proofs.lemmas.Bool.{cases_eq}
 use Rattle.std.proofs.lemmas.List.{length_push, get_or_push, get_or_append_left}
 use Rattle.cc_model.specs.declared.config.Config.{Config}
@@ -22,6 +22,7 @@ use Rattle.cc_runs.specs.declared.place.Counting.{Counting}
 use Rattle.cc_runs.specs.declared.place.Counting.TheVariants as counting
 use Rattle.cc_runs.specs.declared.place.Place.{Place}
 use Rattle.cc_runs.specs.declared.place.Place.TheVariants as place
+use Rattle.cc_runs.specs.Codes.{tag_of, further_words}
 use Rattle.cc_runs.specs.State.{State, hold, appended, word_of}
 use Rattle.cc_runs.specs.Lines.{operation, goes, event_at, enters, decides, after_state, after_next, after_answer}
 use Rattle.cc_runs.specs.Step.{stepped_from, advanced}
@@ -63,6 +64,14 @@ calm_answer job (answer.Close told) = record { waits_not = refl; counts_not = λ
 calm_done : (job : Job) (b : Bool) → IsCalm (cond b (place.HandOver job.next) (place.ReadNext record { at = job.next; served = job.round.served + 1 }))
 calm_done job true = record { waits_not = refl; counts_not = λ n. tt }
 calm_done job false = record { waits_not = refl; counts_not = λ n. tt }
+
+calm_words : (job : Job) (tag i : ℕ) (b : Bool) → IsCalm (place.Counting job (cond b (counting.ReadBody tag (i + 1)) counting.ReadCount))
+calm_words job tag i true = record { waits_not = refl; counts_not = λ n. tt }
+calm_words job tag i false = record { waits_not = refl; counts_not = λ n. tt }
+
+calm_either : (b : Bool) (next on : Place) → IsCalm next → IsCalm on → IsCalm (cond b next on)
+calm_either true next on a z = a
+calm_either false next on a z = z
 
 -- the calls of a pass that have exchanged, and those of the first n passes
 abbrev pub gone : Stand → ℕ
@@ -223,8 +232,8 @@ module _ (c : Setting) (counter : c.served ≡ served.Counter) (s : State) (k : 
   serves_at at e five = subst (λ (z : Stand). HasService c.served Send (call_at s.history.sends.calls w.ghost.marked) (answer_at s.history.sends.answers w.ghost.marked) z.place) e (w.ties.served p (me at e five))
 
   counting_step : (job : Job) (service : Counting) → Here (place.Counting job service) → Counts c (next (place.Counting job service))
-  counting_step job counting.ReadTag e = quiet (place.Counting job counting.ReadTag) (place.Counting job counting.ReadBody) e refl refl tt refl refl refl
-  counting_step job counting.ReadBody e = quiet (place.Counting job counting.ReadBody) (place.Counting job counting.ReadCount) e refl refl tt refl refl refl
+  counting_step job counting.ReadTag e = quiet (place.Counting job counting.ReadTag) _ e refl refl tt refl refl refl
+  counting_step job (counting.ReadBody tag i) e = calm (place.Counting job (counting.ReadBody tag i)) _ e refl refl (calm_words job tag i (nat_lt i (further_words tag))) refl refl refl
   counting_step job counting.ReadCount e = quiet (place.Counting job counting.ReadCount) (place.Counting job (counting.WriteCount (s.mem (Object object.Count)))) e refl refl k.count refl refl refl
   counting_step job (counting.WriteCount count) e = write_count job count e
 
@@ -233,8 +242,8 @@ module _ (c : Setting) (counter : c.served ≡ served.Counter) (s : State) (k : 
   counts_step (place.ResetNext call) e busy = quiet (place.ResetNext call) (place.ResetState call) e refl refl tt refl refl refl
   counts_step (place.ResetState call) e busy = quiet (place.ResetState call) (place.Exchange call) e refl refl tt refl refl refl
   counts_step (place.Exchange call) e busy = exchange call e
-  counts_step (place.WriteTag put request) e busy = quiet (place.WriteTag put request) (place.WriteBody put request.body) e refl refl tt refl refl refl
-  counts_step (place.WriteBody put body) e busy = quiet (place.WriteBody put body) (place.Link put) e refl refl tt refl refl refl
+  counts_step (place.WriteTag put request) e busy = quiet (place.WriteTag put request) (place.WriteBody put request 0) e refl refl tt refl refl refl
+  counts_step (place.WriteBody put request i) e busy = calm (place.WriteBody put request i) _ e refl refl (calm_either (nat_lt i (further_words request.tag)) (place.WriteBody put request (i + 1)) (place.Link put) record { waits_not = refl; counts_not = λ n. tt } record { waits_not = refl; counts_not = λ n. tt }) refl refl refl
   counts_step (place.Link put) e busy = quiet (place.Link put) place.ReadState e refl refl tt refl refl refl
   counts_step place.ReadState e busy = calm place.ReadState _ e refl refl (calm_state own (found place.ReadState)) refl refl refl
   counts_step (place.ReadNext round) e busy = calm (place.ReadNext round) _ e refl refl (calm_next c.served counter round (found (place.ReadNext round))) refl refl refl
@@ -243,11 +252,11 @@ module _ (c : Setting) (counter : c.served ≡ served.Counter) (s : State) (k : 
       let no : c.served ≡ served.List = (sends_where c.served Send _ (serves_at (place.Sending job service) e refl)).0 in absurd (not_both (sym counter ∙ no))
   counts_step (place.Taking job service) e busy = let no : c.served ≡ served.List = (takes_where c.served Send (serves_at (place.Taking job service) e refl)).0 in absurd (not_both (sym counter ∙ no))
   counts_step (place.WriteAnswer job told) e busy = calm (place.WriteAnswer job told) _ e refl refl (calm_answer job told) refl refl refl
-  counts_step (place.WriteAnswerTag job item) e busy = quiet (place.WriteAnswerTag job item) (place.WriteAnswerBody job item.body) e refl refl tt refl refl refl
-  counts_step (place.WriteAnswerBody job body) e busy = quiet (place.WriteAnswerBody job body) (place.MarkDone job) e refl refl tt refl refl refl
+  counts_step (place.WriteAnswerTag job item) e busy = quiet (place.WriteAnswerTag job item) (place.WriteAnswerBody job item 0) e refl refl tt refl refl refl
+  counts_step (place.WriteAnswerBody job item i) e busy = calm (place.WriteAnswerBody job item i) _ e refl refl (calm_either (nat_lt i (further_words (tag_of item))) (place.WriteAnswerBody job item (i + 1)) (place.MarkDone job) record { waits_not = refl; counts_not = λ n. tt } record { waits_not = refl; counts_not = λ n. tt }) refl refl refl
   counts_step (place.MarkDone job) e busy = calm (place.MarkDone job) _ e refl refl (calm_done job (job.round.served + 1 == c.config.bound)) refl refl refl
   counts_step (place.HandOver at) e busy = quiet (place.HandOver at) place.ReadAnswer e refl refl tt refl refl refl
   counts_step place.ReadAnswer e busy = quiet place.ReadAnswer _ e refl refl tt refl refl refl
   counts_step (place.ReadAnswerTag at) e busy = quiet (place.ReadAnswerTag at) _ e refl refl tt refl refl refl
-  counts_step (place.ReadAnswerBody at tag) e busy = quiet (place.ReadAnswerBody at tag) _ e refl refl tt refl refl refl
+  counts_step (place.ReadAnswerBody at i) e busy = calm (place.ReadAnswerBody at i) _ e refl refl (calm_either (nat_lt i (further_words at.tag)) _ _ record { waits_not = refl; counts_not = λ n. tt } record { waits_not = refl; counts_not = λ n. tt }) refl refl refl
   counts_step (place.Finished told) e busy = absurd (busy refl)

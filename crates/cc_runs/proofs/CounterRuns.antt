@@ -36,7 +36,7 @@ use Rattle.cc_runs.proofs.Chains.Ties.{Holds}
 use Rattle.cc_runs.proofs.Chains.Own.{sends_where, takes_where}
 use Rattle.cc_runs.proofs.Chains.Others.{sender_chain}
 use Rattle.cc_runs.proofs.Chains.Safe as safe
-use Rattle.cc_runs.proofs.Chains.Safe.{IsService, node_exists}
+use Rattle.cc_runs.proofs.Chains.Safe.{IsService, node_exists, four_words}
 use Rattle.cc_runs.proofs.Chains.Runs.{chain_holds}
 
 opened_stand : (c : Setting) (p : ℕ) → p < passes c → (opening c).stand p ≡ record { begun = 0; node = first_node c.config p; place = place.Idle }
@@ -126,8 +126,8 @@ module _ (c : Setting) (counter : c.served ≡ served.Counter) (r : InRange c.co
     job_in job service e = safe.target_in c Send tt r s p own begun member w (place.Counting job service) e refl
 
     count_safe : (job : Job) (service : Counting) → Here (place.Counting job service) → IsSafe c s Send own (place.Counting job service)
-    count_safe job counting.ReadTag e = record { word = node_exists c Send tt job.round.at node.Tag (job_in job counting.ReadTag e); numbers = tt }
-    count_safe job counting.ReadBody e = record { word = node_exists c Send tt job.round.at node.Body (job_in job counting.ReadBody e); numbers = tt }
+    count_safe job counting.ReadTag e = record { word = node_exists c Send tt job.round.at node.Tag refl (job_in job counting.ReadTag e); numbers = tt }
+    count_safe job (counting.ReadBody tag i) e = record { word = node_exists c Send tt job.round.at (node.Body i) (four_words i tag (served_as (place.Counting job (counting.ReadBody tag i)) e refl).1) (job_in job (counting.ReadBody tag i) e); numbers = tt }
     count_safe job counting.ReadCount e = record { word = refl; numbers = tt }
     count_safe job (counting.WriteCount count) e =
         let is : count ≡ length s.history.sends.answers = subst (λ (z : Stand). HasCount (length s.history.sends.answers) z.place) e (k.counted p inside) in record { word = refl; numbers = omega (arith, few_answers) }

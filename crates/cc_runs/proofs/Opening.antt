@@ -74,7 +74,7 @@ groups_all c = λ i w. at w i
     at : (w : Word) → opened c (groups c) w ≡ freed c 1 w
     at (word.Item i item.Passed) = grind arith
     at (word.Item i item.Tag) = refl
-    at (word.Item i item.Body) = refl
+    at (word.Item i (item.Body j)) = refl
     at (word.Item i item.Next) = refl
     at (word.Tail Send) = refl
     at (word.Tail (Take g)) = refl

@@ -1,5 +1,5 @@
 -- Two words that there are lie in two places of a row, so a store changes the word of its name alone.
-use Rattle.std.proofs.Common.{◌≡◌, ◌≢◌, ◌⊎◌, ℕ, zero, suc, ◌+◌, ◌*◌, ◌<◌, ◌≤◌, Bool, true, false, ◌&&◌, ◌==◌, List, length, slice_index_or, slice_set, IsTrue, cond, refl, ap, sym, ◌∙◌, subst, arith, ⊎_elim, inl, inr, if◌then◌else◌}
+use Rattle.std.proofs.Common.{◌≡◌, ◌≢◌, ◌⊎◌, ℕ, zero, suc, ◌+◌, ◌*◌, ◌<◌, ◌≤◌, Bool, true, false, ◌&&◌, ◌==◌, nat_lt, List, length, slice_index_or, slice_set, IsTrue, cond, refl, ap, sym, ◌∙◌, subst, arith, ⊎_elim, inl, inr, if◌then◌else◌}
 use Rattle.std.proofs.Math.Nat.{mul-le-mul_left}
 use Rattle.std.proofs.lemmas.Bool.{cases_lt, eqb-true, eq-eqb, cases_Bool, false≢true}
 use Rattle.std.proofs.lemmas.List.{get_or-set_same, get_or-set_other}
@@ -13,76 +13,67 @@ use Rattle.cc_runs.specs.declared.word.Object.{Object}
 use Rattle.cc_runs.specs.declared.word.Object.TheVariants as object
 use Rattle.cc_runs.specs.declared.word.Word.{Word}
 use Rattle.cc_runs.specs.declared.word.Word.TheVariants as word
-use Rattle.cc_runs.specs.Words.{Layout, Spacing, IsRoomy, dense, node_field, item_field, lies, exists, same, same_chain, object_number, word_in_row, put, OneToOne}
+use Rattle.cc_runs.specs.Words.{Layout, Spacing, IsRoomy, dense, node_field, item_field, is_node_field, is_item_field, same_field, same_part, lies, exists, same, same_chain, object_number, word_in_row, put, OneToOne}
 
--- the field of a number, and its node's
-field_at : Chain → ℕ → NodeField
-field_at x zero = node.Next
-field_at x (suc zero) = node.State
-field_at Send (suc (suc zero)) = node.Tag
-field_at Send (suc (suc (suc zero))) = node.Body
-field_at Send (suc (suc (suc (suc n)))) = node.Ret
-field_at (Take g) (suc (suc zero)) = node.Ret
-field_at (Take g) (suc (suc (suc zero))) = node.Tag
-field_at (Take g) (suc (suc (suc (suc n)))) = node.Body
+and_both : (a b : Bool) → a && b ≡ true → (a ≡ true) × (b ≡ true)
+and_both true b e = (refl, e)
+and_both false b e = absurd (cc)
 
-field_back : (x : Chain) (f : NodeField) → field_at x (node_field x f) ≡ f
-unfolding field_at
-field_back Send node.Next = refl
-field_back Send node.State = refl
-field_back Send node.Tag = refl
-field_back Send node.Body = refl
-field_back Send node.Ret = refl
-field_back (Take g) node.Next = refl
-field_back (Take g) node.State = refl
-field_back (Take g) node.Tag = refl
-field_back (Take g) node.Body = refl
-field_back (Take g) node.Ret = refl
+-- a body has four words
+pub body_word : (i : ℕ) → IsTrue (nat_lt i 4) → i < 4
+body_word i a = grind arith
 
-field_same : (x : Chain) (f g : NodeField) → node_field x f ≡ node_field x g → f ≡ g
-field_same x f g e = sym (field_back x f) ∙ ap (λ (n : ℕ). field_at x n) e ∙ field_back x g
+-- two fields that there are have two places
+field_same : (x : Chain) (f g : NodeField) → IsTrue (is_node_field f) → IsTrue (is_node_field g) → node_field x f ≡ node_field x g → f ≡ g
+field_same x node.Next node.Next a b e = refl
+field_same x node.State node.State a b e = refl
+field_same x node.Tag node.Tag a b e = refl
+field_same x node.Ret node.Ret a b e = refl
+field_same Send (node.Body i) (node.Body j) a b e = ap (λ (k : ℕ). node.Body k) (omega (arith, e))
+field_same (Take g) (node.Body i) (node.Body j) a b e = ap (λ (k : ℕ). node.Body k) (omega (arith, e))
+field_same Send (node.Body i) node.Ret a b e = absurd (omega (arith, e, body_word i a))
+field_same Send node.Ret (node.Body i) a b e = absurd (omega (arith, e, body_word i b))
+field_same Send _ _ a b e = absurd (omega (arith, e))
+field_same (Take g) _ _ a b e = absurd (omega (arith, e))
 
-pub field_small : (x : Chain) (f : NodeField) → node_field x f < 5
-field_small Send node.Next = omega arith
-field_small Send node.State = omega arith
-field_small Send node.Tag = omega arith
-field_small Send node.Body = omega arith
-field_small Send node.Ret = omega arith
-field_small (Take g) node.Next = omega arith
-field_small (Take g) node.State = omega arith
-field_small (Take g) node.Tag = omega arith
-field_small (Take g) node.Body = omega arith
-field_small (Take g) node.Ret = omega arith
+pub field_small : (x : Chain) (f : NodeField) → IsTrue (is_node_field f) → node_field x f < 8
+field_small Send node.Next a = omega arith
+field_small Send node.State a = omega arith
+field_small Send node.Tag a = omega arith
+field_small Send (node.Body i) a = omega (arith, body_word i a)
+field_small Send node.Ret a = omega arith
+field_small (Take g) node.Next a = omega arith
+field_small (Take g) node.State a = omega arith
+field_small (Take g) node.Tag a = omega arith
+field_small (Take g) (node.Body i) a = omega (arith, body_word i a)
+field_small (Take g) node.Ret a = omega arith
 
 -- the order of the fields is one for all groups
 field_fixed : (g h : ℕ) (f : NodeField) → node_field (Take g) f ≡ node_field (Take h) f
 field_fixed g h node.Next = refl
 field_fixed g h node.State = refl
 field_fixed g h node.Tag = refl
-field_fixed g h node.Body = refl
+field_fixed g h (node.Body i) = refl
 field_fixed g h node.Ret = refl
 
-part_at : ℕ → ItemField
-part_at zero = item.Tag
-part_at (suc zero) = item.Body
-part_at (suc (suc zero)) = item.Next
-part_at (suc (suc (suc n))) = item.Passed
+part_same : (f g : ItemField) → IsTrue (is_item_field f) → IsTrue (is_item_field g) → item_field f ≡ item_field g → f ≡ g
+part_same item.Tag item.Tag a b e = refl
+part_same item.Next item.Next a b e = refl
+part_same item.Passed item.Passed a b e = refl
+part_same (item.Body i) (item.Body j) a b e = ap (λ (k : ℕ). item.Body k) (omega (arith, e))
+part_same (item.Body i) item.Tag a b e = absurd (omega (arith, e))
+part_same (item.Body i) item.Next a b e = absurd (omega (arith, e, body_word i a))
+part_same (item.Body i) item.Passed a b e = absurd (omega (arith, e, body_word i a))
+part_same item.Tag (item.Body i) a b e = absurd (omega (arith, e))
+part_same item.Next (item.Body i) a b e = absurd (omega (arith, e, body_word i b))
+part_same item.Passed (item.Body i) a b e = absurd (omega (arith, e, body_word i b))
+part_same _ _ a b e = absurd (omega (arith, e))
 
-part_back : (f : ItemField) → part_at (item_field f) ≡ f
-unfolding part_at
-part_back item.Tag = refl
-part_back item.Body = refl
-part_back item.Next = refl
-part_back item.Passed = refl
-
-part_same : (f g : ItemField) → item_field f ≡ item_field g → f ≡ g
-part_same f g e = sym (part_back f) ∙ ap (λ (n : ℕ). part_at n) e ∙ part_back g
-
-pub part_small : (f : ItemField) → item_field f < 4
-part_small item.Tag = omega arith
-part_small item.Body = omega arith
-part_small item.Next = omega arith
-part_small item.Passed = omega arith
+pub part_small : (f : ItemField) → IsTrue (is_item_field f) → item_field f < 7
+part_small item.Tag a = omega arith
+part_small (item.Body i) a = omega (arith, body_word i a)
+part_small item.Next a = omega arith
+part_small item.Passed a = omega arith
 
 -- a later one of a kind begins after an earlier one's end
 steps_apart : (n i count : ℕ) → i < count → n * i + n ≤ n * count
@@ -108,9 +99,9 @@ Within k l (word.Tail (Take g)) = k.end_step * g + k.end_step ≤ k.end_step * l
 Within k l (word.Object (object.Head g)) = k.end_step * g + k.end_step ≤ k.end_step * l.groups
 Within k l (word.Object (object.Taken g)) = k.end_step * g + k.end_step ≤ k.end_step * l.groups
 Within k l (word.Object _) = 0 < 1
-Within k l (word.Node Send i f) = (k.node_step * i + k.node_step ≤ k.node_step * (l.senders + 1)) × (node_field Send f < 5)
-Within k l (word.Node (Take g) i f) = (k.node_step * i + k.node_step ≤ k.node_step * (l.receivers + 1)) × (node_field (Take g) f < 5) × (k.node_step * (g * (l.receivers + 1)) + k.node_step * (l.receivers + 1) ≤ k.node_step * (l.groups * (l.receivers + 1)))
-Within k l (word.Item i f) = (k.item_step * i + k.item_step ≤ k.item_step * (l.capacity + 2)) × (item_field f < 4)
+Within k l (word.Node Send i f) = (k.node_step * i + k.node_step ≤ k.node_step * (l.senders + 1)) × (node_field Send f < 8)
+Within k l (word.Node (Take g) i f) = (k.node_step * i + k.node_step ≤ k.node_step * (l.receivers + 1)) × (node_field (Take g) f < 8) × (k.node_step * (g * (l.receivers + 1)) + k.node_step * (l.receivers + 1) ≤ k.node_step * (l.groups * (l.receivers + 1)))
+Within k l (word.Item i f) = (k.item_step * i + k.item_step ≤ k.item_step * (l.capacity + 2)) × (item_field f < 7)
 
 within : (k : Spacing) (l : Layout) (w : Word) → IsTrue (exists l w) → Within k l w
 within k l (word.Tail Send) a = omega arith
@@ -121,9 +112,16 @@ within k l (word.Object object.Count) a = omega arith
 within k l (word.Object object.Cursor) a = omega arith
 within k l (word.Object (object.Head g)) a = steps_apart k.end_step g l.groups (grind arith)
 within k l (word.Object (object.Taken g)) a = steps_apart k.end_step g l.groups (grind arith)
-within k l (word.Node Send i f) a = (steps_apart k.node_step i (l.senders + 1) (grind arith), field_small Send f)
-within k l (word.Node (Take g) i f) a = (steps_apart k.node_step i (l.receivers + 1) (grind arith), field_small (Take g) f, groups_apart k.node_step (l.receivers + 1) g l.groups (grind arith))
-within k l (word.Item i f) a = (steps_apart k.item_step i (l.capacity + 2) (grind arith), part_small f)
+within k l (word.Node Send i f) a =
+    let t = and_both (nat_lt i (l.senders + 1)) (is_node_field f) a in
+    (steps_apart k.node_step i (l.senders + 1) (grind (arith, t.0)), field_small Send f t.1)
+within k l (word.Node (Take g) i f) a =
+    let t = and_both (nat_lt g l.groups && nat_lt i (l.receivers + 1)) (is_node_field f) a in
+    let u = and_both (nat_lt g l.groups) (nat_lt i (l.receivers + 1)) t.0 in
+    (steps_apart k.node_step i (l.receivers + 1) (grind (arith, u.1)), field_small (Take g) f t.1, groups_apart k.node_step (l.receivers + 1) g l.groups (grind (arith, u.0)))
+within k l (word.Item i f) a =
+    let t = and_both (nat_lt i (l.capacity + 2)) (is_item_field f) a in
+    (steps_apart k.item_step i (l.capacity + 2) (grind (arith, t.0)), part_small f t.1)
 
 -- the group whose word it is
 abbrev group_of : Object → ℕ
@@ -167,7 +165,7 @@ one_to_one k r l (word.Node Send i f) (word.Node Send j g) a b e =
     let index : i ≡ j = omega (arith, m, n, e, r, steps_order k.node_step i j) in
     let start : k.node_step * i ≡ k.node_step * j = ap (λ (z : ℕ). k.node_step * z) index in
     let field : node_field Send f ≡ node_field Send g = omega (arith, e, start) in
-    λ q. word.Node Send (index q) (field_same Send f g field q)
+    λ q. word.Node Send (index q) (field_same Send f g (and_both (nat_lt i (l.senders + 1)) (is_node_field f) a).1 (and_both (nat_lt j (l.senders + 1)) (is_node_field g) b).1 field q)
 one_to_one k r l (word.Node (Take c) i f) (word.Node (Take d) j g) a b e =
     let m = within k l (word.Node (Take c) i f) a in
     let n = within k l (word.Node (Take d) j g) b in
@@ -176,14 +174,14 @@ one_to_one k r l (word.Node (Take c) i f) (word.Node (Take d) j g) a b e =
     let index : i ≡ j = omega (arith, m, n, e, r, before, steps_order k.node_step i j) in
     let start : k.node_step * i ≡ k.node_step * j = ap (λ (z : ℕ). k.node_step * z) index in
     let field : node_field (Take c) f ≡ node_field (Take c) g = omega (arith, e, before, start, field_fixed c d g) in
-    λ q. word.Node (Take (group q)) (index q) (field_same (Take c) f g field q)
+    λ q. word.Node (Take (group q)) (index q) (field_same (Take c) f g (and_both (nat_lt c l.groups && nat_lt i (l.receivers + 1)) (is_node_field f) a).1 (and_both (nat_lt d l.groups && nat_lt j (l.receivers + 1)) (is_node_field g) b).1 field q)
 one_to_one k r l (word.Item i f) (word.Item j g) a b e =
     let m = within k l (word.Item i f) a in
     let n = within k l (word.Item j g) b in
     let index : i ≡ j = omega (arith, m, n, e, r, steps_order k.item_step i j) in
     let start : k.item_step * i ≡ k.item_step * j = ap (λ (z : ℕ). k.item_step * z) index in
     let field : item_field f ≡ item_field g = omega (arith, e, start) in
-    λ q. word.Item (index q) (part_same f g field q)
+    λ q. word.Item (index q) (part_same f g (and_both (nat_lt i (l.capacity + 2)) (is_item_field f) a).1 (and_both (nat_lt j (l.capacity + 2)) (is_item_field g) b).1 field q)
 one_to_one k r l (word.Tail Send) (word.Tail (Take h)) a b e = absurd (omega (arith, within k l (word.Tail Send) a, within k l (word.Tail (Take h)) b, e, r))
 one_to_one k r l (word.Tail Send) (word.Object d) a b e = absurd (omega (arith, within k l (word.Tail Send) a, object_low k r l d b, e, r))
 one_to_one k r l (word.Tail Send) (word.Node Send j q) a b e = absurd (omega (arith, within k l (word.Tail Send) a, within k l (word.Node Send j q) b, e, r))
@@ -216,10 +214,6 @@ one_to_one k r l (word.Item i f) (word.Node Send j q) a b e = absurd (omega (ari
 one_to_one k r l (word.Item i f) (word.Node (Take h) j q) a b e = absurd (omega (arith, within k l (word.Item i f) a, within k l (word.Node (Take h) j q) b, e, r))
 one_to_one k r l (word.Object c) (word.Object d) a b e = absurd (omega (arith, steps_order k.end_step (group_of c) (group_of d), e, r))
 
-and_both : (a b : Bool) → a && b ≡ true → (a ≡ true) × (b ≡ true)
-and_both true b e = (refl, e)
-and_both false b e = absurd (cc)
-
 chain_is : (x y : Chain) → same_chain x y ≡ true → x ≡ y
 chain_is Send Send e = refl
 chain_is (Take g) (Take h) e = ap (λ (k : ℕ). Take k) (eqb-true g h e)
@@ -234,19 +228,34 @@ object_is (object.Head g) (object.Head h) e = ap (λ (k : ℕ). object.Head k) (
 object_is (object.Taken g) (object.Taken h) e = ap (λ (k : ℕ). object.Taken k) (omega arith)
 object_is _ _ e = absurd (omega (arith, e))
 
+field_is : (f g : NodeField) → same_field f g ≡ true → f ≡ g
+field_is node.Next node.Next e = refl
+field_is node.State node.State e = refl
+field_is node.Tag node.Tag e = refl
+field_is node.Ret node.Ret e = refl
+field_is (node.Body i) (node.Body j) e = ap (λ (k : ℕ). node.Body k) (eqb-true i j e)
+field_is _ _ e = absurd (cc)
+
+part_is : (f g : ItemField) → same_part f g ≡ true → f ≡ g
+part_is item.Tag item.Tag e = refl
+part_is item.Next item.Next e = refl
+part_is item.Passed item.Passed e = refl
+part_is (item.Body i) (item.Body j) e = ap (λ (k : ℕ). item.Body k) (eqb-true i j e)
+part_is _ _ e = absurd (cc)
+
 pub same_is : (v w : Word) → same v w ≡ true → v ≡ w
 same_is (word.Tail x) (word.Tail y) e = ap (λ (z : Chain). word.Tail z) (chain_is x y e)
 same_is (word.Object a) (word.Object b) e = ap (λ (z : Object). word.Object z) (object_is a b (eqb-true (object_number a) (object_number b) e))
 same_is (word.Node x i f) (word.Node y j g) e =
-    let t = and_both (node_field Send f == node_field Send g && same_chain x y) (i == j) e in
-    let u = and_both (node_field Send f == node_field Send g) (same_chain x y) t.0 in
-    let field = field_same Send f g (eqb-true (node_field Send f) (node_field Send g) u.0) in
+    let t = and_both (same_field f g && same_chain x y) (i == j) e in
+    let u = and_both (same_field f g) (same_chain x y) t.0 in
+    let field = field_is f g u.0 in
     let chain = chain_is x y u.1 in
     let index = eqb-true i j t.1 in
     λ k. word.Node (chain k) (index k) (field k)
 same_is (word.Item i f) (word.Item j g) e =
-    let t = and_both (item_field f == item_field g) (i == j) e in
-    let field = part_same f g (eqb-true (item_field f) (item_field g) t.0) in
+    let t = and_both (same_part f g) (i == j) e in
+    let field = part_is f g t.0 in
     let index = eqb-true i j t.1 in
     λ k. word.Item (index k) (field k)
 same_is _ _ e = absurd (cc)
@@ -255,6 +264,19 @@ chain_self : (x : Chain) → same_chain x x ≡ true
 chain_self Send = refl
 chain_self (Take g) = eq-eqb g g refl
 
+field_self : (f : NodeField) → same_field f f ≡ true
+field_self node.Next = refl
+field_self node.State = refl
+field_self node.Tag = refl
+field_self node.Ret = refl
+field_self (node.Body i) = eq-eqb i i refl
+
+part_self : (f : ItemField) → same_part f f ≡ true
+part_self item.Tag = refl
+part_self item.Next = refl
+part_self item.Passed = refl
+part_self (item.Body i) = eq-eqb i i refl
+
 both_and : (a b : Bool) → a ≡ true → b ≡ true → a && b ≡ true
 both_and true b e f = f
 both_and false b e f = absurd (cc)
@@ -262,8 +284,8 @@ both_and false b e f = absurd (cc)
 pub same_self : (w : Word) → same w w ≡ true
 same_self (word.Tail x) = chain_self x
 same_self (word.Object a) = eq-eqb (object_number a) (object_number a) refl
-same_self (word.Node x i f) = both_and (node_field Send f == node_field Send f && same_chain x x) (i == i) (both_and (node_field Send f == node_field Send f) (same_chain x x) (eq-eqb (node_field Send f) (node_field Send f) refl) (chain_self x)) (eq-eqb i i refl)
-same_self (word.Item i f) = both_and (item_field f == item_field f) (i == i) (eq-eqb (item_field f) (item_field f) refl) (eq-eqb i i refl)
+same_self (word.Node x i f) = both_and (same_field f f && same_chain x x) (i == i) (both_and (same_field f f) (same_chain x x) (field_self f) (chain_self x)) (eq-eqb i i refl)
+same_self (word.Item i f) = both_and (same_part f f) (i == i) (part_self f) (eq-eqb i i refl)
 
 pub stored_words : (k : Spacing) → IsRoomy k → (l : Layout) (words : List ℕ) (w : Word) (value : ℕ) → IsTrue (exists l w) → lies k l w < length words → word_in_row k l (slice_set words (lies k l w) value) ≡ put (word_in_row k l words) w value
 stored_words k r l words w value a below = λ i v. at v i

@@ -22,7 +22,7 @@ use Rattle.cc_runs.specs.declared.word.Object.TheVariants as object
 use Rattle.cc_runs.specs.declared.word.Word.TheVariants.{Tail, Node, Object}
 use Rattle.cc_runs.specs.declared.place.Place.{Place}
 use Rattle.cc_runs.specs.declared.place.Place.TheVariants as place
-use Rattle.cc_runs.specs.Codes.{pack, request_in, ret_of}
+use Rattle.cc_runs.specs.Codes.{tag_of, body_words, further_words, word, request_in, ret_of}
 use Rattle.cc_runs.specs.State.{State, chain_of, pass_at, word_of}
 use Rattle.cc_runs.specs.Lines.{operation}
 use Rattle.cc_runs.specs.Run.{Move, IsRun, reached, passes, history_of}
@@ -37,7 +37,7 @@ IsCombining (place.Sending job service) = Unit {0}
 IsCombining (place.Taking job service) = Unit {0}
 IsCombining (place.WriteAnswer job told) = Unit {0}
 IsCombining (place.WriteAnswerTag job item) = Unit {0}
-IsCombining (place.WriteAnswerBody job body) = Unit {0}
+IsCombining (place.WriteAnswerBody job item i) = Unit {0}
 IsCombining (place.MarkDone job) = Unit {0}
 IsCombining (place.HandOver at) = Unit {0}
 IsCombining _ = ⊥
@@ -50,14 +50,14 @@ served_by (place.Sending job service) = job.round.served
 served_by (place.Taking job service) = job.round.served
 served_by (place.WriteAnswer job told) = job.round.served
 served_by (place.WriteAnswerTag job item) = job.round.served
-served_by (place.WriteAnswerBody job body) = job.round.served
+served_by (place.WriteAnswerBody job item i) = job.round.served
 served_by (place.MarkDone job) = job.round.served
 served_by _ = 0
 
 -- the nodes that it will touch, beside the pass's own, are among the chain's
 abbrev pub AreNodes : ℕ → Place → Type 0
 AreNodes n (place.WriteTag put request) = put ≤ n
-AreNodes n (place.WriteBody put body) = put ≤ n
+AreNodes n (place.WriteBody put request i) = put ≤ n
 AreNodes n (place.Link put) = put ≤ n
 AreNodes n (place.ReadNext round) = round.at ≤ n
 AreNodes n (place.Counting job service) = (job.round.at ≤ n) × (job.next ≤ n)
@@ -65,7 +65,7 @@ AreNodes n (place.Sending job service) = (job.round.at ≤ n) × (job.next ≤ n
 AreNodes n (place.Taking job service) = (job.round.at ≤ n) × (job.next ≤ n)
 AreNodes n (place.WriteAnswer job told) = (job.round.at ≤ n) × (job.next ≤ n)
 AreNodes n (place.WriteAnswerTag job item) = (job.round.at ≤ n) × (job.next ≤ n)
-AreNodes n (place.WriteAnswerBody job body) = (job.round.at ≤ n) × (job.next ≤ n)
+AreNodes n (place.WriteAnswerBody job item i) = (job.round.at ≤ n) × (job.next ≤ n)
 AreNodes n (place.MarkDone job) = (job.round.at ≤ n) × (job.next ≤ n)
 AreNodes n (place.HandOver at) = at ≤ n
 AreNodes n _ = Unit {0}
@@ -79,7 +79,7 @@ served_node _ = 0
 
 -- a node of the chain holds the request of this call: a take has no request words
 abbrev pub HoldsRequest : State → Chain → ℕ → Entry → Type 0
-HoldsRequest s Send at e = (s.mem (Node Send at node.Tag) ≡ (request_in e).tag) × (s.mem (Node Send at node.Body) ≡ (request_in e).body)
+HoldsRequest s Send at e = (s.mem (Node Send at node.Tag) ≡ (request_in e).tag) × ((i : ℕ) → i ≤ further_words (request_in e).tag → s.mem (Node Send at (node.Body i)) ≡ word (request_in e).body i)
 HoldsRequest s (Take g) at e = Unit {0}
 
 -- the request in this node is that of the first call without an answer
@@ -114,14 +114,14 @@ pub record WasTold (what : Served) (h : Record) (who : Pass) (told : Answer) : T
 abbrev pub IsReading : Place → Type 0
 IsReading place.ReadAnswer = Unit {0}
 IsReading (place.ReadAnswerTag at) = Unit {0}
-IsReading (place.ReadAnswerBody at tag) = Unit {0}
+IsReading (place.ReadAnswerBody p i) = Unit {0}
 IsReading _ = ⊥
 
 -- the word of this answer that it reads next, in its node own
 abbrev pub ReadsWord : Served → State → Chain → ℕ → Answer → Place → Type 0
 ReadsWord what s x own a place.ReadAnswer = s.mem (Node x own node.Ret) ≡ ret_of what a
-ReadsWord what s x own a (place.ReadAnswerTag at) = (item : Item) × (a ≡ answer.Take (take.Got item)) × (s.mem (Node x own node.Tag) ≡ pack item.sender item.number)
-ReadsWord what s x own a (place.ReadAnswerBody at tag) = (item : Item) × (a ≡ answer.Take (take.Got item)) × (s.mem (Node x own node.Body) ≡ item.body)
+ReadsWord what s x own a (place.ReadAnswerTag at) = (item : Item) × (a ≡ answer.Take (take.Got item)) × (s.mem (Node x own node.Tag) ≡ tag_of item)
+ReadsWord what s x own a (place.ReadAnswerBody p i) = (item : Item) × (a ≡ answer.Take (take.Got item)) × (s.mem (Node x own (node.Body i)) ≡ word (body_words item) i)
 ReadsWord what s x own a _ = Unit {0}
 
 -- the last call of this pass is answered in the history, and the word that it reads next is one of that answer
@@ -176,7 +176,7 @@ ChainLawsOfRuns = (c : Setting) → config_fault c.config ≡ Ok tt → (moves :
 -- its call has exchanged, and isn't linked to the next node yet
 abbrev pub IsEntering : Place → Type 0
 IsEntering (place.WriteTag put request) = Unit {0}
-IsEntering (place.WriteBody put body) = Unit {0}
+IsEntering (place.WriteBody put request i) = Unit {0}
 IsEntering (place.Link put) = Unit {0}
 IsEntering _ = ⊥
 

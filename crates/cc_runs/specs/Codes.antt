@@ -1,5 +1,5 @@
 -- Tags, requests and answers as words.
-use Rattle.std.specs.Prelude.{ℕ, ◌+◌, ◌*◌, ◌^◌, ◌/◌, ◌%◌, ◌==◌, if◌then◌else◌}
+use Rattle.std.specs.Prelude.{ℕ, zero, suc, ◌+◌, ◌*◌, ◌^◌, ◌/◌, ◌%◌, ◌==◌, nat_lt, if◌then◌else◌}
 use Rattle.cc_model.specs.declared.call.Entry.{Entry}
 use Rattle.cc_model.specs.declared.call.Item.{Item}
 use Rattle.cc_model.specs.declared.call.Call.{Call}
@@ -11,6 +11,7 @@ use Rattle.cc_model.specs.declared.call.Answer.TheVariants as answer
 use Rattle.cc_model.specs.declared.call.SendAnswer.TheVariants as send
 use Rattle.cc_model.specs.declared.call.CloseAnswer.TheVariants as close
 use Rattle.cc_model.specs.declared.call.TakeAnswer.TheVariants as take
+use Rattle.cc_runs.specs.declared.place.BodyWords.{BodyWords}
 use Rattle.cc_runs.specs.declared.place.Request.{Request}
 use Rattle.cc_runs.specs.declared.place.Parcel.{Parcel}
 use Rattle.cc_runs.specs.declared.setting.Served.{Served}
@@ -20,18 +21,67 @@ use Rattle.cc_runs.specs.declared.setting.Served.TheVariants.{Counter, List}
 abbrev pub pack : ℕ → ℕ → ℕ
 pack sender number = sender * 2 ^ 32 + number
 
--- the item at a place, of its words
-abbrev pub item_of : ℕ → ℕ → ℕ → Item
-item_of place tag body = record { place = place; sender = tag / 2 ^ 32; number = tag % 2 ^ 32; body = body }
+-- how many words of its body a tag tells of beside the first: three at most
+abbrev pub further_words : ℕ → ℕ
+further_words tag = tag / 2 ^ 48 % 4
 
--- the item on its way
+-- a word of a body, by its number from 0 on
+abbrev pub word : BodyWords → ℕ → ℕ
+word body zero = body.first
+word body (suc zero) = body.second
+word body (suc (suc zero)) = body.third
+word body (suc (suc (suc zero))) = body.fourth
+word body (suc (suc (suc (suc _)))) = 0
+
+-- the body with this word at that number
+abbrev pub with_word : BodyWords → ℕ → ℕ → BodyWords
+with_word body zero value = record body { first = value }
+with_word body (suc zero) value = record body { second = value }
+with_word body (suc (suc zero)) value = record body { third = value }
+with_word body (suc (suc (suc zero))) value = record body { fourth = value }
+with_word body (suc (suc (suc (suc _)))) value = body
+
+-- one word, and none behind it
+abbrev pub one_word : ℕ → BodyWords
+one_word value = record { first = value; second = 0; third = 0; fourth = 0 }
+
+abbrev pub no_words : BodyWords
+no_words = one_word 0
+
+-- where the step at a word leads: to the next one, while there is one of this many behind the first, or on
+abbrev pub behind : {A : Type 0} → ℕ → ℕ → A → A → A
+behind further index next on = if nat_lt index further then next else on
+
+-- the item at a place, of its words
+abbrev pub item_of : ℕ → ℕ → BodyWords → Item
+item_of place tag body = record { place = place; sender = tag / 2 ^ 32; number = tag % 2 ^ 32; body = body.first }
+
+-- the tag of an item, and its body's words
+abbrev pub tag_of : Item → ℕ
+tag_of item = pack item.sender item.number
+
+abbrev pub body_words : Item → BodyWords
+body_words item = one_word item.body
+
+-- an item on its way
+abbrev pub parcel : ℕ → ℕ → BodyWords → Parcel
+parcel place tag body = record { place = place; tag = tag; body = body }
+
+-- of which one word more was read
+abbrev pub with_read : Parcel → ℕ → ℕ → Parcel
+with_read p index value = record p { body = with_word p.body index value }
+
 abbrev pub item_in : Parcel → Item
 item_in p = item_of p.place p.tag p.body
 
+-- a request of which one word more was read
+abbrev pub with_asked : Request → ℕ → ℕ → Request
+with_asked request index value = record request { body = with_word request.body index value }
+
 -- what a call of a sender asks for: the tag of a close is 0
 abbrev pub request_of : Pass → Call → ℕ → Request
-request_of (pass.Sender s) (call.Send body) number = record { tag = pack s number; body = body }
-request_of _ _ number = record { tag = 0; body = 0 }
+request_of (pass.Sender s) (call.Send body) number = record { tag = pack s number; body = one_word body }
+request_of _ _ number = record { tag = 0; body = no_words }
 
 -- the request of a call in the history
 abbrev pub request_in : Entry → Request

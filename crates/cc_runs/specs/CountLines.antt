@@ -15,13 +15,14 @@ use Rattle.cc_runs.specs.declared.place.Place.{Place}
 use Rattle.cc_runs.specs.declared.place.Place.TheVariants.{Counting}
 use Rattle.cc_runs.specs.declared.place.Counting.{Counting as Service}
 use Rattle.cc_runs.specs.declared.place.Counting.TheVariants.{ReadTag, ReadBody, ReadCount, WriteCount}
+use Rattle.cc_runs.specs.Codes.{further_words, behind}
 use Rattle.cc_runs.specs.State.{Operation}
 use Rattle.cc_runs.specs.ServiceLine.{ServiceLine, On, Decides, load, store, place_of, answer_of}
 
 -- served is the node with the request
 abbrev pub line : ℕ → Service → ℕ → ServiceLine Service
-line served ReadTag _ = load kind.ReadRequest (Node Send served node.Tag) (On ReadBody)
-line served ReadBody _ = load kind.ReadRequest (Node Send served node.Body) (On ReadCount)
+line served ReadTag tag = load kind.ReadRequest (Node Send served node.Tag) (On (ReadBody tag 0))
+line served (ReadBody tag i) _ = load kind.ReadRequest (Node Send served (node.Body i)) (On (behind (further_words tag) i (ReadBody tag (i + 1)) ReadCount))
 line served ReadCount count = load kind.ReadObject (Object object.Count) (On (WriteCount count))
 line served (WriteCount count) _ = store kind.WriteObject (Object object.Count) (count + 1) (Decides (answer.Send (send.Accepted count)))
 

@@ -25,7 +25,7 @@ use Rattle.cc_runs.specs.declared.place.Place.TheVariants as place
 use Rattle.cc_runs.specs.declared.place.Counting.TheVariants as counting
 use Rattle.cc_runs.specs.declared.place.Sending.TheVariants as sending
 use Rattle.cc_runs.specs.declared.place.Taking.TheVariants as taking
-use Rattle.cc_runs.specs.Codes.{pack, item_of, request_in, ret_of, code_of, value_of, sender_reads}
+use Rattle.cc_runs.specs.Codes.{item_in, tag_of, body_words, request_in, ret_of, code_of, value_of, sender_reads, further_words, word, no_words, parcel, with_read, behind}
 use Rattle.cc_runs.specs.State.{Operation, Load, Store, Swap}
 use Rattle.cc_runs.specs.CountLines as count_side
 use Rattle.cc_runs.specs.SendLines as send_side
@@ -58,7 +58,7 @@ abbrev pub after_next : Served → Chain → Round → ℕ → Place
 after_next served x round zero = place.HandOver round.at
 after_next served x round (suc next) = serves served x record { round = round; next = next }
 
--- a take that is handed an item is told its tag and body too
+-- a take that is handed an item is told its tag and its body too
 abbrev pub after_answer : Job → Answer → Place
 after_answer job (answer.Take (take.Got item)) = place.WriteAnswerTag job item
 after_answer job _ = place.MarkDone job
@@ -69,7 +69,7 @@ after_done bound job =
     if job.round.served + 1 == bound then place.HandOver job.next
     else place.ReadNext record { at = job.next; served = job.round.served + 1 }
 
--- a take that got an item reads its tag and body too
+-- a take that got an item reads its tag and its body too
 abbrev pub after_ret : Served → Chain → ℕ → Place
 after_ret served Send ret = place.Finished (sender_reads served ret)
 after_ret served (Take g) ret =
@@ -112,8 +112,8 @@ module _ (c : Setting) (x : Chain) (own : ℕ) where
   line (place.ResetNext call) _ = store kind.ResetNext (Node x own node.Next) 0 (place.ResetState call)
   line (place.ResetState call) _ = store kind.ResetState (Node x own node.State) 1 (place.Exchange call)
   line (place.Exchange call) found = swap kind.Exchange (Tail x) (own + 1) call (found - 1) (after_exchange x own call)
-  line (place.WriteTag put request) _ = store kind.WriteRequest (Node x own node.Tag) request.tag (place.WriteBody put request.body)
-  line (place.WriteBody put body) _ = store kind.WriteRequest (Node x own node.Body) body (place.Link put)
+  line (place.WriteTag put request) _ = store kind.WriteRequest (Node x own node.Tag) request.tag (place.WriteBody put request 0)
+  line (place.WriteBody put request i) _ = store kind.WriteRequest (Node x own (node.Body i)) (word request.body i) (behind (further_words request.tag) i (place.WriteBody put request (i + 1)) (place.Link put))
   line (place.Link put) _ = store kind.Link (Node x own node.Next) (put + 1) place.ReadState
   line place.ReadState state = load kind.ReadState (Node x own node.State) (after_state own state)
   -- it combines
@@ -122,14 +122,14 @@ module _ (c : Setting) (x : Chain) (own : ℕ) where
   line (place.Sending job service) found = record (step (send_side.kind_of service) (send_side.operation c.config job.round.at service) (send_side.goes c.config job service found)) { decides = send_side.decides c.config service found }
   line (place.Taking job service) found = record (step (take_side.kind_of service) (take_side.operation (group_of x) service) (take_side.goes job service found)) { decides = take_side.decides service found }
   line (place.WriteAnswer job told) _ = store kind.WriteAnswer (Node x job.round.at node.Ret) (ret_of c.served told) (after_answer job told)
-  line (place.WriteAnswerTag job item) _ = store kind.WriteAnswer (Node x job.round.at node.Tag) (pack item.sender item.number) (place.WriteAnswerBody job item.body)
-  line (place.WriteAnswerBody job body) _ = store kind.WriteAnswer (Node x job.round.at node.Body) body (place.MarkDone job)
+  line (place.WriteAnswerTag job item) _ = store kind.WriteAnswer (Node x job.round.at node.Tag) (tag_of item) (place.WriteAnswerBody job item 0)
+  line (place.WriteAnswerBody job item i) _ = store kind.WriteAnswer (Node x job.round.at (node.Body i)) (word (body_words item) i) (behind (further_words (tag_of item)) i (place.WriteAnswerBody job item (i + 1)) (place.MarkDone job))
   line (place.MarkDone job) _ = store kind.MarkDone (Node x job.round.at node.State) 2 (after_done c.config.bound job)
   line (place.HandOver at) _ = store kind.HandOver (Node x at node.State) 0 place.ReadAnswer
   -- it reads its answer
   line place.ReadAnswer ret = load kind.ReadAnswer (Node x own node.Ret) (after_ret c.served x ret)
-  line (place.ReadAnswerTag at) tag = load kind.ReadAnswer (Node x own node.Tag) (place.ReadAnswerBody at tag)
-  line (place.ReadAnswerBody at tag) body = load kind.ReadAnswer (Node x own node.Body) (place.Finished (answer.Take (take.Got (item_of at tag body))))
+  line (place.ReadAnswerTag at) tag = load kind.ReadAnswer (Node x own node.Tag) (place.ReadAnswerBody (parcel at tag no_words) 0)
+  line (place.ReadAnswerBody p i) found = load kind.ReadAnswer (Node x own (node.Body i)) (behind (further_words p.tag) i (place.ReadAnswerBody (with_read p i found) (i + 1)) (place.Finished (answer.Take (take.Got (item_in (with_read p i found))))))
   line (place.Finished told) _ = none (place.Finished told)
 
 -- ---- what follows from the lines

@@ -20,6 +20,7 @@ use Rattle.cc_runs.specs.declared.place.Place.TheVariants.{Sending}
 use Rattle.cc_runs.specs.declared.place.Sending.{Sending as Service}
 use Rattle.cc_runs.specs.declared.place.Sending.TheVariants.{ReadTag, ReadBody, ReadShut, ReadTotal, ReadCount, ReadLastToClose, LinkMark, WriteLastMark, WriteShut, ReadCursor, ReadPassed, ResetPassed, ResetItemNext, WriteItemTag, WriteItemBody, ReadLast, LinkItem, WriteLast, WriteCount, WriteCursor}
 use Rattle.cc_runs.specs.Words.{groups}
+use Rattle.cc_runs.specs.Codes.{further_words, word, no_words, with_asked, behind}
 use Rattle.cc_runs.specs.State.{Operation}
 use Rattle.cc_runs.specs.ServiceLine.{ServiceLine, Next, On, Decides, DecidesAndOn, Tells, load, store, place_of, answer_of}
 
@@ -52,8 +53,8 @@ by_passed c parcel at reads passed =
 
 -- served is the node with the request
 abbrev pub line : Config → ℕ → Service → ℕ → ServiceLine Service
-line c served ReadTag tag = load kind.ReadRequest (Node Send served node.Tag) (On (ReadBody tag))
-line c served (ReadBody tag) body = load kind.ReadRequest (Node Send served node.Body) (On (ReadShut record { tag = tag; body = body }))
+line c served ReadTag tag = load kind.ReadRequest (Node Send served node.Tag) (On (ReadBody record { tag = tag; body = no_words } 0))
+line c served (ReadBody request i) found = load kind.ReadRequest (Node Send served (node.Body i)) (On (behind (further_words request.tag) i (ReadBody (with_asked request i found) (i + 1)) (ReadShut (with_asked request i found))))
 line c served (ReadShut request) shut = load kind.ReadObject (Object object.Shut) (by_shut request shut)
 line c served ReadTotal count = load kind.ReadObject (Object object.Count) (Decides (answer.Close (close.Already count)))
 line c served (ReadCount request) count = load kind.ReadObject (Object object.Count) (by_count c request count)
@@ -68,8 +69,8 @@ line c served (ReadPassed parcel at reads) passed = load kind.ReadPassed (Item a
 -- the node is prepared, and linked behind the last one
 line c served (ResetPassed parcel at) _ = store kind.ResetListNode (Item at item.Passed) 0 (On (ResetItemNext parcel at))
 line c served (ResetItemNext parcel at) _ = store kind.ResetListNode (Item at item.Next) 0 (On (WriteItemTag parcel at))
-line c served (WriteItemTag parcel at) _ = store kind.WriteItem (Item at item.Tag) parcel.tag (On (WriteItemBody parcel.place parcel.body at))
-line c served (WriteItemBody place body at) _ = store kind.WriteItem (Item at item.Body) body (On (ReadLast place at))
+line c served (WriteItemTag parcel at) _ = store kind.WriteItem (Item at item.Tag) parcel.tag (On (WriteItemBody parcel at 0))
+line c served (WriteItemBody parcel at i) _ = store kind.WriteItem (Item at (item.Body i)) (word parcel.body i) (On (behind (further_words parcel.tag) i (WriteItemBody parcel at (i + 1)) (ReadLast parcel.place at)))
 line c served (ReadLast place at) last = load kind.ReadObject (Object object.Last) (On (LinkItem place at (last - 1)))
 line c served (LinkItem place at last) _ = store kind.LinkLast (Item last item.Next) (at + 1) (DecidesAndOn (answer.Send (send.Accepted place)) (WriteLast place at))
 line c served (WriteLast place at) _ = store kind.WriteObject (Object object.Last) (at + 1) (On (WriteCount place at))

@@ -13,7 +13,7 @@ use Rattle.cc_runs.specs.declared.place.Place.{Place}
 use Rattle.cc_runs.specs.declared.place.Place.TheVariants.{Taking}
 use Rattle.cc_runs.specs.declared.place.Taking.{Taking as Service}
 use Rattle.cc_runs.specs.declared.place.Taking.TheVariants.{ReadHead, ReadTaken, ReadDummyNext, ReadItemTag, ReadItemBody, WriteHead, WriteTaken, AddPassed}
-use Rattle.cc_runs.specs.Codes.{item_in}
+use Rattle.cc_runs.specs.Codes.{item_in, further_words, no_words, parcel, with_read, behind}
 use Rattle.cc_runs.specs.State.{Operation}
 use Rattle.cc_runs.specs.ServiceLine.{ServiceLine, Next, On, Decides, load, store, add, place_of, answer_of}
 
@@ -25,14 +25,14 @@ by_next dummy taken (suc at) = On (ReadItemTag dummy taken at)
 -- the closing mark's tag is 0
 abbrev pub by_tag : ℕ → ℕ → ℕ → ℕ → Next Service
 by_tag dummy taken at zero = Decides (answer.Take (take.Ended taken))
-by_tag dummy taken at (suc tag) = On (ReadItemBody dummy taken at (suc tag))
+by_tag dummy taken at (suc tag) = On (ReadItemBody dummy at (parcel taken (suc tag) no_words) 0)
 
 abbrev pub line : ℕ → Service → ℕ → ServiceLine Service
 line g ReadHead head = load kind.ReadObject (Object (object.Head g)) (On (ReadTaken (head - 1)))
 line g (ReadTaken dummy) taken = load kind.ReadObject (Object (object.Taken g)) (On (ReadDummyNext dummy taken))
 line g (ReadDummyNext dummy taken) next = load kind.ReadDummyNext (Item dummy item.Next) (by_next dummy taken next)
 line g (ReadItemTag dummy taken at) tag = load kind.ReadItem (Item at item.Tag) (by_tag dummy taken at tag)
-line g (ReadItemBody dummy taken at tag) body = load kind.ReadItem (Item at item.Body) (On (WriteHead dummy at record { place = taken; tag = tag; body = body }))
+line g (ReadItemBody dummy at p i) found = load kind.ReadItem (Item at (item.Body i)) (On (behind (further_words p.tag) i (ReadItemBody dummy at (with_read p i found) (i + 1)) (WriteHead dummy at (with_read p i found))))
 line g (WriteHead dummy at parcel) _ = store kind.WriteObject (Object (object.Head g)) (at + 1) (On (WriteTaken dummy parcel))
 line g (WriteTaken dummy parcel) _ = store kind.WriteObject (Object (object.Taken g)) (parcel.place + 1) (On (AddPassed dummy parcel))
 line g (AddPassed dummy parcel) _ = add kind.AddPassed (Item dummy item.Passed) 1 (Decides (answer.Take (take.Got (item_in parcel))))

@@ -40,18 +40,27 @@ abbrev pub node_field : Chain → NodeField → ℕ
 node_field x node.Next = 0
 node_field x node.State = 1
 node_field Send node.Tag = 2
-node_field Send node.Body = 3
-node_field Send node.Ret = 4
+node_field Send (node.Body i) = 3 + i
+node_field Send node.Ret = 7
 node_field (Take g) node.Ret = 2
 node_field (Take g) node.Tag = 3
-node_field (Take g) node.Body = 4
+node_field (Take g) (node.Body i) = 4 + i
 
 -- and those of a list node
 abbrev pub item_field : ItemField → ℕ
 item_field item.Tag = 0
-item_field item.Body = 1
-item_field item.Next = 2
-item_field item.Passed = 3
+item_field (item.Body i) = 1 + i
+item_field item.Next = 5
+item_field item.Passed = 6
+
+-- a body has four words
+abbrev pub is_node_field : NodeField → Bool
+is_node_field (node.Body i) = nat_lt i 4
+is_node_field _ = true
+
+abbrev pub is_item_field : ItemField → Bool
+is_item_field (item.Body i) = nat_lt i 4
+is_item_field _ = true
 
 -- Where words lie in one row. Words 0 to 7 are kept for the configuration: the machine of one thread leaves them 0, and a
 -- table that threads share has it there. Then come the senders' tail, the words of the object, the ends of the groups
@@ -68,11 +77,11 @@ pub record Spacing : Type 0 where
 
 -- each word is behind the one before it
 abbrev pub dense : Spacing
-dense = record { tail = 8; objects = 9; ends = 13; end_step = 3; end_words = 1; node_step = 5; item_step = 4 }
+dense = record { tail = 8; objects = 9; ends = 13; end_step = 3; end_words = 1; node_step = 8; item_step = 7 }
 
 -- there is room for the words of each kind
 abbrev pub IsRoomy : Spacing → Type 0
-IsRoomy k = (8 ≤ k.tail) × (k.tail < k.objects) × (k.objects + 4 ≤ k.ends) × (0 < k.end_words) × (k.end_words + 2 ≤ k.end_step) × (5 ≤ k.node_step) × (4 ≤ k.item_step)
+IsRoomy k = (8 ≤ k.tail) × (k.tail < k.objects) × (k.objects + 4 ≤ k.ends) × (0 < k.end_words) × (k.end_words + 2 ≤ k.end_step) × (8 ≤ k.node_step) × (7 ≤ k.item_step)
 
 -- where the senders' nodes begin
 abbrev pub send_nodes : Spacing → Layout → ℕ
@@ -119,9 +128,9 @@ exists l (word.Tail (Take g)) = nat_lt g l.groups
 exists l (word.Object (object.Head g)) = nat_lt g l.groups
 exists l (word.Object (object.Taken g)) = nat_lt g l.groups
 exists l (word.Object _) = true
-exists l (word.Node Send i f) = nat_lt i (l.senders + 1)
-exists l (word.Node (Take g) i f) = nat_lt g l.groups && nat_lt i (l.receivers + 1)
-exists l (word.Item i f) = nat_lt i (l.capacity + 2)
+exists l (word.Node Send i f) = nat_lt i (l.senders + 1) && is_node_field f
+exists l (word.Node (Take g) i f) = nat_lt g l.groups && nat_lt i (l.receivers + 1) && is_node_field f
+exists l (word.Item i f) = nat_lt i (l.capacity + 2) && is_item_field f
 
 -- whether two names are one
 abbrev pub same_chain : Chain → Chain → Bool
@@ -138,12 +147,27 @@ object_number object.Cursor = 3
 object_number (object.Head g) = 4 + 2 * g
 object_number (object.Taken g) = 5 + 2 * g
 
+abbrev pub same_field : NodeField → NodeField → Bool
+same_field node.Next node.Next = true
+same_field node.State node.State = true
+same_field node.Tag node.Tag = true
+same_field node.Ret node.Ret = true
+same_field (node.Body i) (node.Body j) = i == j
+same_field _ _ = false
+
+abbrev pub same_part : ItemField → ItemField → Bool
+same_part item.Tag item.Tag = true
+same_part item.Next item.Next = true
+same_part item.Passed item.Passed = true
+same_part (item.Body i) (item.Body j) = i == j
+same_part _ _ = false
+
 -- whether two names of words are one
 abbrev pub same : Word → Word → Bool
 same (word.Tail x) (word.Tail y) = same_chain x y
 same (word.Object a) (word.Object b) = object_number a == object_number b
-same (word.Node x i f) (word.Node y j g) = (node_field Send f == node_field Send g) && same_chain x y && (i == j)
-same (word.Item i f) (word.Item j g) = (item_field f == item_field g) && (i == j)
+same (word.Node x i f) (word.Node y j g) = same_field f g && same_chain x y && (i == j)
+same (word.Item i f) (word.Item j g) = same_part f g && (i == j)
 same _ _ = false
 
 -- the word of this name in a row of words; there are no others

@@ -1,7 +1,7 @@
 ghost use Rattle.std.specs.Prelude.{◌≡◌, ◌<◌, ◌^◌};
 ghost use Rattle.cc_runs.specs.Codes as codes;
 
-use crate::place::Request;
+use crate::place::{BodyWords, Request};
 use crate::setting::Served;
 use cc_model::{
     Answer, Call, CloseAnswer, Entry, Item, Pass, SendAnswer, TakeAnswer, pack, unpack,
@@ -10,8 +10,72 @@ use cc_model::{
 /// An answer word of the list is this times the code of the answer, and its number.
 pub const CODE: u64 = 1 << 56;
 
+/// How many words of its body a tag tells of beside the first: three at most.
+#[inline(always)]
+pub fn further_words(tag: u64) -> u32
+    ensures words { result ≡ codes.further_words tag }
+    ensures few { result < 4 }
+{
+    (tag / (1 << 48) % 4) as u32
+}
+
+impl BodyWords {
+    /// A word of a body, by its number from 0 on; there are four.
+    #[inline(always)]
+    pub fn word(self, index: u32) -> u64
+        ensures { result ≡ codes.word self index }
+    {
+        match index {
+            0 => self.first,
+            1 => self.second,
+            2 => self.third,
+            3 => self.fourth,
+            _ => 0,
+        }
+    }
+
+    /// The body with this word at that number.
+    #[inline(always)]
+    pub fn with_word(self, index: u32, value: u64) -> BodyWords
+        ensures { result ≡ codes.with_word self index value }
+    {
+        match index {
+            0 => BodyWords {
+                first: value,
+                ..self
+            },
+            1 => BodyWords {
+                second: value,
+                ..self
+            },
+            2 => BodyWords {
+                third: value,
+                ..self
+            },
+            3 => BodyWords {
+                fourth: value,
+                ..self
+            },
+            _ => self,
+        }
+    }
+
+    /// One word, and none behind it.
+    #[inline(always)]
+    pub fn one(value: u64) -> BodyWords
+        ensures { result ≡ codes.one_word value }
+    {
+        BodyWords {
+            first: value,
+            second: 0,
+            third: 0,
+            fourth: 0,
+        }
+    }
+}
+
 /// The item of a list node's words.
-pub fn item_of(place: u64, tag: u64, body: u64) -> Item
+pub fn item_of(place: u64, tag: u64, body: BodyWords) -> Item
     ensures { result ≡ codes.item_of place tag body }
 {
     let (sender, number) = unpack(tag);
@@ -19,8 +83,22 @@ pub fn item_of(place: u64, tag: u64, body: u64) -> Item
         place,
         sender,
         number,
-        body,
+        body: body.first,
     }
+}
+
+/// The tag of an item: its sender and the number of its send.
+pub fn tag_of(item: Item) -> u64
+    ensures { result ≡ codes.tag_of item }
+{
+    pack(item.sender, item.number)
+}
+
+/// The words of an item's body.
+pub fn body_words(item: Item) -> BodyWords
+    ensures { result ≡ codes.body_words item }
+{
+    BodyWords::one(item.body)
 }
 
 /// The request words of a sender's call.
@@ -30,9 +108,12 @@ pub fn request_in(entry: Entry) -> Request
     match (entry.pass, entry.call) {
         (Pass::Sender(sender), Call::Send(body)) => Request {
             tag: pack(sender, entry.number),
-            body,
+            body: BodyWords::one(body),
         },
-        _ => Request { tag: 0, body: 0 },
+        _ => Request {
+            tag: 0,
+            body: BodyWords::one(0),
+        },
     }
 }
 

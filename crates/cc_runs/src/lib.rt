@@ -21,7 +21,10 @@ pub use chain_laws::{
     calls_end_answered, calls_wait_for_their_link, laws_of_calls, laws_of_chains, laws_of_counters,
     numbers_of_sends,
 };
-pub use codes::{CODE, count_word, item_of, list_reads, request_in, ret_of, sender_reads};
+pub use codes::{
+    CODE, body_words, count_word, further_words, item_of, list_reads, request_in, ret_of,
+    sender_reads, tag_of,
+};
 pub use fault::OpenFault;
 pub use list_laws::{
     answers_are_told, busy_nodes_are_items, fronts_of_runs_begin, histories_are_fifo,
@@ -30,7 +33,7 @@ pub use list_laws::{
     steps_are_ready,
 };
 pub use place::{
-    Counting, Event, Job, Kind, Parcel, Place, Request, Round, Sending, Stand, Taking,
+    BodyWords, Counting, Event, Job, Kind, Parcel, Place, Request, Round, Sending, Stand, Taking,
 };
 pub use run::Move;
 pub use run_laws::{fronts_know_no_more, others_leave_a_pass};

@@ -35,13 +35,13 @@ pub enum Kind {
     ReadPassed,
     /// The senders' combiner stores 0 into that count, or null into the next link, of a list node found free.
     ResetListNode,
-    /// The senders' combiner stores the tag or the body of an item into that node.
+    /// The senders' combiner stores the tag or a word of the body of an item into that node.
     WriteItem,
     /// The senders' combiner links a list node from the last one.
     LinkLast,
     /// A receivers' combiner loads the next link of the dummy.
     ReadDummyNext,
-    /// A receivers' combiner loads the tag or the body of the node after the dummy.
+    /// A receivers' combiner loads the tag or a word of the body of the node after the dummy.
     ReadItem,
     /// A receivers' combiner adds 1 to the count of groups that have passed the old dummy.
     AddPassed,
@@ -54,11 +54,20 @@ pub enum Event {
     Idle,
 }
 
+/// The words of a body: as many of the four are used as the tag beside them tells.
+#[derive(Clone, Copy)]
+pub struct BodyWords {
+    pub first: u64,
+    pub second: u64,
+    pub third: u64,
+    pub fourth: u64,
+}
+
 /// What a sender asks for: the tag of a close is 0.
 #[derive(Clone, Copy)]
 pub struct Request {
     pub tag: u64,
-    pub body: u64,
+    pub body: BodyWords,
 }
 
 /// An item on its way into or out of the list.
@@ -66,7 +75,7 @@ pub struct Request {
 pub struct Parcel {
     pub place: u64,
     pub tag: u64,
-    pub body: u64,
+    pub body: BodyWords,
 }
 
 /// What a combiner keeps: the node to be served next, and how many it served.
@@ -88,7 +97,7 @@ pub struct Job {
 #[derive(Clone, Copy)]
 pub enum Counting {
     ReadTag,
-    ReadBody,
+    ReadBody { tag: u64, index: u32 },
     ReadCount,
     WriteCount { count: u64 },
 }
@@ -98,7 +107,8 @@ pub enum Counting {
 pub enum Sending {
     ReadTag,
     ReadBody {
-        tag: u64,
+        request: Request,
+        index: u32,
     },
     ReadShut {
         request: Request,
@@ -141,9 +151,9 @@ pub enum Sending {
         node: u64,
     },
     WriteItemBody {
-        place: u64,
-        body: u64,
+        parcel: Parcel,
         node: u64,
+        index: u32,
     },
     ReadLast {
         place: u64,
@@ -186,9 +196,9 @@ pub enum Taking {
     },
     ReadItemBody {
         dummy: u64,
-        taken: u64,
         node: u64,
-        tag: u64,
+        parcel: Parcel,
+        index: u32,
     },
     WriteHead {
         dummy: u64,
@@ -209,26 +219,73 @@ pub enum Taking {
 #[derive(Clone, Copy)]
 pub enum Place {
     Idle,
-    ResetNext { call: Entry },
-    ResetState { call: Entry },
-    Exchange { call: Entry },
-    WriteTag { put: u64, request: Request },
-    WriteBody { put: u64, body: u64 },
-    Link { put: u64 },
+    ResetNext {
+        call: Entry,
+    },
+    ResetState {
+        call: Entry,
+    },
+    Exchange {
+        call: Entry,
+    },
+    WriteTag {
+        put: u64,
+        request: Request,
+    },
+    WriteBody {
+        put: u64,
+        request: Request,
+        index: u32,
+    },
+    Link {
+        put: u64,
+    },
     ReadState,
-    ReadNext { round: Round },
-    Counting { job: Job, service: Counting },
-    Sending { job: Job, service: Sending },
-    Taking { job: Job, service: Taking },
-    WriteAnswer { job: Job, answer: Answer },
-    WriteAnswerTag { job: Job, item: Item },
-    WriteAnswerBody { job: Job, body: u64 },
-    MarkDone { job: Job },
-    HandOver { at: u64 },
+    ReadNext {
+        round: Round,
+    },
+    Counting {
+        job: Job,
+        service: Counting,
+    },
+    Sending {
+        job: Job,
+        service: Sending,
+    },
+    Taking {
+        job: Job,
+        service: Taking,
+    },
+    WriteAnswer {
+        job: Job,
+        answer: Answer,
+    },
+    WriteAnswerTag {
+        job: Job,
+        item: Item,
+    },
+    WriteAnswerBody {
+        job: Job,
+        item: Item,
+        index: u32,
+    },
+    MarkDone {
+        job: Job,
+    },
+    HandOver {
+        at: u64,
+    },
     ReadAnswer,
-    ReadAnswerTag { place: u64 },
-    ReadAnswerBody { place: u64, tag: u64 },
-    Finished { answer: Answer },
+    ReadAnswerTag {
+        place: u64,
+    },
+    ReadAnswerBody {
+        parcel: Parcel,
+        index: u32,
+    },
+    Finished {
+        answer: Answer,
+    },
 }
 
 /// A pass: the sends that it began, its node (its own one before the exchange, and from then on the one that it got), and its place.

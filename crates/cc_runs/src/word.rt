@@ -1,6 +1,6 @@
 ghost use Rattle.std.specs.Prelude.{◌+◌, ◌%◌, ◌^◌, ◌≡◌, ◌<◌, IsTrue};
 ghost use Rattle.cc_runs.specs.Words as laid;
-ghost use Rattle.cc_runs.specs.Words.{IsSmall, layout_of, exists, size, node_field, item_field};
+ghost use Rattle.cc_runs.specs.Words.{IsSmall, layout_of, exists, size, node_field, item_field, is_node_field, is_item_field};
 
 use cc_model::Config;
 
@@ -17,7 +17,8 @@ pub enum NodeField {
     Next,
     State,
     Tag,
-    Body,
+    /// A word of the body, from 0 to 3.
+    Body(u32),
     Ret,
 }
 
@@ -25,7 +26,8 @@ pub enum NodeField {
 #[derive(Clone, Copy)]
 pub enum ItemField {
     Tag,
-    Body,
+    /// A word of the body, from 0 to 3.
+    Body(u32),
     Next,
     Passed,
 }
@@ -51,37 +53,39 @@ pub enum Word {
 }
 
 impl NodeField {
-    /// The place of this word among the five of a node of this chain, from 0 on.
+    /// The place of this word among the eight of a node of this chain, from 0 on.
     #[inline(always)]
     pub fn offset(self, chain: Chain) -> usize
+        requires field { IsTrue (is_node_field self) }
         ensures place { result ≡ node_field chain self }
-        ensures few { result < 5 }
+        ensures few { result < 8 }
     {
         match (chain, self) {
             (_, NodeField::Next) => 0,
             (_, NodeField::State) => 1,
             (Chain::Send, NodeField::Tag) => 2,
-            (Chain::Send, NodeField::Body) => 3,
-            (Chain::Send, NodeField::Ret) => 4,
+            (Chain::Send, NodeField::Body(index)) => 3 + index as usize,
+            (Chain::Send, NodeField::Ret) => 7,
             (Chain::Take(_), NodeField::Ret) => 2,
             (Chain::Take(_), NodeField::Tag) => 3,
-            (Chain::Take(_), NodeField::Body) => 4,
+            (Chain::Take(_), NodeField::Body(index)) => 4 + index as usize,
         }
     }
 }
 
 impl ItemField {
-    /// The place of this word among the four of a list node, from 0 on.
+    /// The place of this word among the seven of a list node, from 0 on.
     #[inline(always)]
     pub fn offset(self) -> usize
+        requires field { IsTrue (is_item_field self) }
         ensures place { result ≡ item_field self }
-        ensures few { result < 4 }
+        ensures few { result < 7 }
     {
         match self {
             ItemField::Tag => 0,
-            ItemField::Body => 1,
-            ItemField::Next => 2,
-            ItemField::Passed => 3,
+            ItemField::Body(index) => 1 + index as usize,
+            ItemField::Next => 5,
+            ItemField::Passed => 6,
         }
     }
 }
@@ -110,8 +114,8 @@ pub fn address(config: &Config, word: Word) -> usize
 {
     let groups = config.groups as usize;
     let send_nodes = 13 + 3 * groups;
-    let take_nodes = send_nodes + 5 * (config.senders as usize + 1);
-    let items = take_nodes + 5 * (groups * (config.receivers as usize + 1));
+    let take_nodes = send_nodes + 8 * (config.senders as usize + 1);
+    let items = take_nodes + 8 * (groups * (config.receivers as usize + 1));
     match word {
         Word::Tail(Chain::Send) => 8,
         Word::Object(Object::Last) => 9,
@@ -122,14 +126,14 @@ pub fn address(config: &Config, word: Word) -> usize
         Word::Object(Object::Head(group)) => 14 + 3 * group as usize,
         Word::Object(Object::Taken(group)) => 15 + 3 * group as usize,
         Word::Node(Chain::Send, index, field) => {
-            send_nodes + 5 * index as usize + field.offset(Chain::Send)
+            send_nodes + 8 * index as usize + field.offset(Chain::Send)
         }
         Word::Node(Chain::Take(group), index, field) => {
             take_nodes
-                + 5 * (group as usize * (config.receivers as usize + 1))
-                + 5 * index as usize
+                + 8 * (group as usize * (config.receivers as usize + 1))
+                + 8 * index as usize
                 + field.offset(Chain::Take(group))
         }
-        Word::Item(index, field) => items + 4 * index as usize + field.offset(),
+        Word::Item(index, field) => items + 7 * index as usize + field.offset(),
     }
 }

@@ -19,7 +19,7 @@ use Rattle.cc_runs.specs.Codes.{ret_of}
 use Rattle.cc_runs.specs.State.{State, word_of}
 use Rattle.cc_runs.specs.Lines.{operation, after_state, after_next}
 use Rattle.cc_runs.specs.Step.{stepped_from, advanced}
-use Rattle.cc_runs.proofs.Chains.View.{view, pass_on, post_at, post_of, cell_of, request_words, answer_words, request_long, asked_words, entering, serving, resting, answer_long, told_next}
+use Rattle.cc_runs.proofs.Chains.View.{view, pass_on, post_at, post_of, cell_of, request_words, answer_words, all_told, all_wrote, asked_words, entering, serving, resting, answer_long, told_next}
 use Rattle.cc_runs.proofs.Chains.Frame.{put_here, cell_apart, hold_here, hold_apart, pass_apart, request_same, answer_same, answer_first, answer_later, exchanged_post, serves_post, after_answer_post}
 use Rattle.cc_runs.proofs.Combining.Chain.{Post}
 use Rattle.cc_runs.proofs.Combining.Stay.{Stays}
@@ -104,12 +104,12 @@ module _ (c : Setting) (x : Chain) (s : State) (p begun own : ℕ) where
   pub asks : (call : Entry) → (j : ℕ) → asked_words x call j ≡ (post_at x ((after (place.Exchange call)).stand (pass_on c x p))).asks j
   asks call j = sym (ap (λ (z : Post). z.asks j) (is_at (place.Exchange call) ∙ exchanged_post x (s.mem (Tail x) - 1) own call))
 
-  pub link : (put : ℕ) → s.stand (pass_on c x p) ≡ standing (place.Link put) → Links (request_long x) (view c x s) (view c x (after (place.Link put))) p
-  link put e =
+  pub link : (long put : ℕ) → long ≤ all_wrote x → s.stand (pass_on c x p) ≡ standing (place.Link put) → Links long (view c x s) (view c x (after (place.Link put))) p
+  link long put most e =
       let was = was_at (place.Link put) e in
       let is : post_at x ((after (place.Link put)).stand (pass_on c x p)) ≡ post_of x own place.ReadState = is_at (place.Link put) in
       let cell : (after (place.Link put)).mem (Node x own node.Next) ≡ put + 1 = put_here s.mem (Node x own node.Next) (put + 1) in
-      let words : (j : ℕ) → request_words x (words_at (place.Link put) own) j ≡ request_words x (before_at own) j = λ j. request_same x _ _ j refl refl in
+      let words : (j : ℕ) → request_words x (words_at (place.Link put) own) j ≡ request_words x (before_at own) j = λ j. request_same x _ _ j refl (λ i. refl) in
       let cells : (i : ℕ) → i ≢ own → cell_of x (words_at (place.Link put) i) ≡ cell_of x (before_at i) = λ i ne. cell_apart s.mem x own i node.Next (put + 1) ne in
       grind (arith, others (place.Link put))
 
@@ -167,38 +167,38 @@ module _ (c : Setting) (x : Chain) (s : State) (p begun own : ℕ) where
       let is : post_at x ((after (place.WriteAnswer job told)).stand (pass_on c x p)) ≡ serving own job 2 (told_next told) = is_at (place.WriteAnswer job told) ∙ after_answer_post x own job told in
       let cell : answer_words x (words_at (place.WriteAnswer job told) job.round.at) 0 ≡ ret_of c.served told =
       answer_first x (words_at (place.WriteAnswer job told) job.round.at) ∙ put_here s.mem (Node x job.round.at node.Ret) (ret_of c.served told) in
-      let later : (j : ℕ) → j ≢ 0 → answer_words x (words_at (place.WriteAnswer job told) job.round.at) j ≡ answer_words x (before_at job.round.at) j = λ j ne. answer_later x _ _ j ne refl refl in
-      let words : (j : ℕ) → request_words x (words_at (place.WriteAnswer job told) job.round.at) j ≡ request_words x (before_at job.round.at) j = λ j. request_same x _ _ j refl refl in
+      let later : (j : ℕ) → j ≢ 0 → answer_words x (words_at (place.WriteAnswer job told) job.round.at) j ≡ answer_words x (before_at job.round.at) j = λ j ne. answer_later x _ _ j ne refl (λ i. refl) in
+      let words : (j : ℕ) → request_words x (words_at (place.WriteAnswer job told) job.round.at) j ≡ request_words x (before_at job.round.at) j = λ j. request_same x _ _ j refl (λ i. refl) in
       let cells : (i : ℕ) → i ≢ job.round.at → cell_of x (words_at (place.WriteAnswer job told) i) ≡ cell_of x (before_at i) = λ i ne. cell_apart s.mem x job.round.at i node.Ret (ret_of c.served told) ne in
       grind (arith, others (place.WriteAnswer job told), told_in told)
 
   full : (job : Job) → job.round.served + 1 ≡ c.config.bound → s.stand (pass_on c x p) ≡ standing (place.MarkDone job) → post_at x ((after (place.MarkDone job)).stand (pass_on c x p)) ≡ resting own job.next 0 3 →
-      (w : ℕ) → w ≤ 3 → Marks c.config.bound w (view c x s) (view c x (after (place.MarkDone job))) p
+      (w : ℕ) → w ≤ all_told → Marks c.config.bound w (view c x s) (view c x (after (place.MarkDone job))) p
   full job bound e is w few =
       let was = was_at (place.MarkDone job) e in
       let cell : (after (place.MarkDone job)).mem (Node x job.round.at node.State) ≡ 2 = put_here s.mem (Node x job.round.at node.State) 2 in
-      let words : (j : ℕ) → request_words x (words_at (place.MarkDone job) job.round.at) j ≡ request_words x (before_at job.round.at) j = λ j. request_same x _ _ j refl refl in
-      let told : (j : ℕ) → answer_words x (words_at (place.MarkDone job) job.round.at) j ≡ answer_words x (before_at job.round.at) j = λ j. answer_same x _ _ j refl refl refl in
+      let words : (j : ℕ) → request_words x (words_at (place.MarkDone job) job.round.at) j ≡ request_words x (before_at job.round.at) j = λ j. request_same x _ _ j refl (λ i. refl) in
+      let told : (j : ℕ) → answer_words x (words_at (place.MarkDone job) job.round.at) j ≡ answer_words x (before_at job.round.at) j = λ j. answer_same x _ _ j refl refl (λ i. refl) in
       let cells : (i : ℕ) → i ≢ job.round.at → cell_of x (words_at (place.MarkDone job) i) ≡ cell_of x (before_at i) = λ i ne. cell_apart s.mem x job.round.at i node.State 2 ne in
       grind (arith, others (place.MarkDone job))
 
   again : (job : Job) → job.round.served + 1 ≢ c.config.bound → s.stand (pass_on c x p) ≡ standing (place.MarkDone job) → post_at x ((after (place.MarkDone job)).stand (pass_on c x p)) ≡ resting own job.next (job.round.served + 1) 0 →
-      (w : ℕ) → w ≤ 3 → Marks c.config.bound w (view c x s) (view c x (after (place.MarkDone job))) p
+      (w : ℕ) → w ≤ all_told → Marks c.config.bound w (view c x s) (view c x (after (place.MarkDone job))) p
   again job bound e is w few =
       let was = was_at (place.MarkDone job) e in
       let cell : (after (place.MarkDone job)).mem (Node x job.round.at node.State) ≡ 2 = put_here s.mem (Node x job.round.at node.State) 2 in
-      let words : (j : ℕ) → request_words x (words_at (place.MarkDone job) job.round.at) j ≡ request_words x (before_at job.round.at) j = λ j. request_same x _ _ j refl refl in
-      let told : (j : ℕ) → answer_words x (words_at (place.MarkDone job) job.round.at) j ≡ answer_words x (before_at job.round.at) j = λ j. answer_same x _ _ j refl refl refl in
+      let words : (j : ℕ) → request_words x (words_at (place.MarkDone job) job.round.at) j ≡ request_words x (before_at job.round.at) j = λ j. request_same x _ _ j refl (λ i. refl) in
+      let told : (j : ℕ) → answer_words x (words_at (place.MarkDone job) job.round.at) j ≡ answer_words x (before_at job.round.at) j = λ j. answer_same x _ _ j refl refl (λ i. refl) in
       let cells : (i : ℕ) → i ≢ job.round.at → cell_of x (words_at (place.MarkDone job) i) ≡ cell_of x (before_at i) = λ i ne. cell_apart s.mem x job.round.at i node.State 2 ne in
       grind (arith, others (place.MarkDone job))
 
-  mark_by : (job : Job) (b : Bool) → (job.round.served + 1 == c.config.bound) ≡ b → s.stand (pass_on c x p) ≡ standing (place.MarkDone job) → (w : ℕ) → w ≤ 3 → Marks c.config.bound w (view c x s) (view c x (after (place.MarkDone job))) p
+  mark_by : (job : Job) (b : Bool) → (job.round.served + 1 == c.config.bound) ≡ b → s.stand (pass_on c x p) ≡ standing (place.MarkDone job) → (w : ℕ) → w ≤ all_told → Marks c.config.bound w (view c x s) (view c x (after (place.MarkDone job))) p
   mark_by job true is e w few =
       full job (eqb-true (job.round.served + 1) c.config.bound is) e (is_at (place.MarkDone job) ∙ ap (λ (b : Bool). post_of x own (cond b (place.HandOver job.next) (place.ReadNext record { at = job.next; served = job.round.served + 1 }))) is) w few
   mark_by job false is e w few =
       again job (eqb-false (job.round.served + 1) c.config.bound is) e (is_at (place.MarkDone job) ∙ ap (λ (b : Bool). post_of x own (cond b (place.HandOver job.next) (place.ReadNext record { at = job.next; served = job.round.served + 1 }))) is) w few
 
-  pub mark : (job : Job) → s.stand (pass_on c x p) ≡ standing (place.MarkDone job) → (w : ℕ) → w ≤ 3 → Marks c.config.bound w (view c x s) (view c x (after (place.MarkDone job))) p
+  pub mark : (job : Job) → s.stand (pass_on c x p) ≡ standing (place.MarkDone job) → (w : ℕ) → w ≤ all_told → Marks c.config.bound w (view c x s) (view c x (after (place.MarkDone job))) p
   mark job e w few = mark_by job (job.round.served + 1 == c.config.bound) refl e w few
 
   pub hand_over : (at : ℕ) → s.stand (pass_on c x p) ≡ standing (place.HandOver at) → Hands (view c x s) (view c x (after (place.HandOver at))) p
@@ -206,8 +206,8 @@ module _ (c : Setting) (x : Chain) (s : State) (p begun own : ℕ) where
       let was = was_at (place.HandOver at) e in
       let is : post_at x ((after (place.HandOver at)).stand (pass_on c x p)) ≡ post_of x own place.ReadAnswer = is_at (place.HandOver at) in
       let cell : (after (place.HandOver at)).mem (Node x at node.State) ≡ 0 = put_here s.mem (Node x at node.State) 0 in
-      let words : (j : ℕ) → request_words x (words_at (place.HandOver at) at) j ≡ request_words x (before_at at) j = λ j. request_same x _ _ j refl refl in
-      let told : (j : ℕ) → answer_words x (words_at (place.HandOver at) at) j ≡ answer_words x (before_at at) j = λ j. answer_same x _ _ j refl refl refl in
+      let words : (j : ℕ) → request_words x (words_at (place.HandOver at) at) j ≡ request_words x (before_at at) j = λ j. request_same x _ _ j refl (λ i. refl) in
+      let told : (j : ℕ) → answer_words x (words_at (place.HandOver at) at) j ≡ answer_words x (before_at at) j = λ j. answer_same x _ _ j refl refl (λ i. refl) in
       let cells : (i : ℕ) → i ≢ at → cell_of x (words_at (place.HandOver at) i) ≡ cell_of x (before_at i) = λ i ne. cell_apart s.mem x at i node.State 0 ne in
       grind (arith, others (place.HandOver at))
 

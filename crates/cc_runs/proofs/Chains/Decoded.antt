@@ -10,7 +10,8 @@ use Rattle.cc_runs.specs.declared.setting.Served.{Served}
 use Rattle.cc_runs.specs.declared.setting.Served.TheVariants as served
 use Rattle.cc_runs.specs.declared.word.Chain.{Chain}
 use Rattle.cc_runs.specs.declared.word.Chain.TheVariants.{Send, Take}
-use Rattle.cc_runs.specs.Codes.{pack, item_of, coded, code_of, value_of, list_word, list_reads}
+use Rattle.cc_runs.specs.declared.place.BodyWords.{BodyWords}
+use Rattle.cc_runs.specs.Codes.{pack, item_of, tag_of, body_words, no_words, coded, code_of, value_of, list_word, list_reads}
 pub use Rattle.cc_runs.specs.Sides.{Fits, FitsIn}
 use Rattle.cc_runs.proofs.Chains.Registers.{IsAnswer, reads, take_reads}
 
@@ -26,7 +27,7 @@ sender_back sender number less = omega arith
 number_back : (sender number : ℕ) → number < 2 ^ 32 → pack sender number % 2 ^ 32 ≡ number
 number_back sender number less = omega arith
 
-item_back : (item : Item) (value : ℕ) → value ≡ item.place → item.number < 2 ^ 32 → item_of value (pack item.sender item.number) item.body ≡ item
+item_back : (item : Item) (value : ℕ) → value ≡ item.place → item.number < 2 ^ 32 → item_of value (tag_of item) (body_words item) ≡ item
 item_back item value is less = λ i. record { place = is i; sender = sender_back item.sender item.number less i; number = number_back item.sender item.number less i; body = item.body }
 
 -- an answer by its code and its number
@@ -39,7 +40,7 @@ send_by code value =
     else if code == 5 then answer.Close (close.Shut value)
     else answer.Close (close.Already value)
 
-abbrev take_by : ℕ → ℕ → ℕ → ℕ → Answer
+abbrev take_by : ℕ → ℕ → ℕ → BodyWords → Answer
 take_by code value tag body =
     if code == 1 then answer.Take (take.Got (item_of value tag body))
     else if code == 2 then answer.Take take.Empty
@@ -48,7 +49,7 @@ take_by code value tag body =
 send_back : (code value : ℕ) → value < 2 ^ 56 → list_reads (coded code value) ≡ send_by code value
 send_back code value less = λ i. send_by (code_back code value less i) (value_back code value less i)
 
-take_back : (code value tag body : ℕ) → value < 2 ^ 56 → take_reads (coded code value) tag body ≡ take_by code value tag body
+take_back : (code value tag : ℕ) (body : BodyWords) → value < 2 ^ 56 → take_reads (coded code value) tag body ≡ take_by code value tag body
 take_back code value tag body less = λ i. take_by (code_back code value less i) (value_back code value less i) tag body
 
 reads_list : (x : Chain) (a : Answer) → IsAnswer served.List x a → Fits a → reads served.List x a ≡ a
@@ -60,9 +61,9 @@ reads_list Send (answer.Close (close.Shut total)) is fits = send_back 5 total fi
 reads_list Send (answer.Close (close.Already total)) is fits = send_back 6 total fits
 reads_list Send (answer.Take told) is fits = absurd is
 reads_list (Take g) (answer.Take (take.Got item)) is fits =
-    take_back 1 item.place (pack item.sender item.number) item.body fits.0 ∙ ap (λ (z : Item). answer.Take (take.Got z)) (item_back item item.place refl fits.1)
-reads_list (Take g) (answer.Take take.Empty) is fits = take_back 2 0 0 0 (omega arith)
-reads_list (Take g) (answer.Take (take.Ended total)) is fits = take_back 3 total 0 0 fits
+    take_back 1 item.place (tag_of item) (body_words item) fits.0 ∙ ap (λ (z : Item). answer.Take (take.Got z)) (item_back item item.place refl fits.1)
+reads_list (Take g) (answer.Take take.Empty) is fits = take_back 2 0 0 no_words (omega arith)
+reads_list (Take g) (answer.Take (take.Ended total)) is fits = take_back 3 total 0 no_words fits
 reads_list (Take g) (answer.Send told) is fits = absurd is
 reads_list (Take g) (answer.Close told) is fits = absurd is
 

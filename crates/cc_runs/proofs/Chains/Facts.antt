@@ -16,12 +16,13 @@ use Rattle.cc_runs.specs.declared.word.Chain.TheVariants.{Send, Take}
 use Rattle.cc_runs.specs.declared.place.Job.{Job}
 use Rattle.cc_runs.specs.declared.place.Place.{Place}
 use Rattle.cc_runs.specs.declared.place.Place.TheVariants as place
-use Rattle.cc_runs.specs.Codes.{item_of, ret_of, code_of, value_of}
+use Rattle.cc_runs.specs.Codes.{item_of, tag_of, further_words, request_in, ret_of, code_of, value_of}
 use Rattle.cc_runs.specs.State.{side, with_side, noted}
 use Rattle.cc_runs.specs.Lines.{serves, after_exchange, after_answer, after_ret}
 use Rattle.cc_runs.specs.Run.{IsFinished}
-use Rattle.cc_runs.proofs.Chains.View.{post_of, out, answer_long}
-use Rattle.cc_runs.proofs.Chains.Registers.{IsChainOf, HasSide, HasCall, IsAnswer, HasService, coded_words, HasRead, reads, tag_word, body_word}
+use Rattle.cc_runs.proofs.ReadWords.{few_further}
+use Rattle.cc_runs.proofs.Chains.View.{post_of, out, request_long, answer_long, all_told, all_wrote}
+use Rattle.cc_runs.proofs.Chains.Registers.{IsChainOf, HasSide, HasCall, IsAnswer, HasService, coded_words, HasRead, reads, tag_word, words_told}
 
 pub noted_none : (x : Chain) (h : Record) → noted x h None None ≡ h
 noted_none Send h = refl
@@ -49,7 +50,7 @@ free_at c x p own (place.Sending job service) e = record { call = tt; read = λ 
 free_at c x p own (place.Taking job service) e = record { call = tt; read = λ a. tt; unfinished = λ f. f }
 free_at c x p own (place.WriteAnswer job told) e = record { call = tt; read = λ a. tt; unfinished = λ f. f }
 free_at c x p own (place.WriteAnswerTag job item) e = record { call = tt; read = λ a. tt; unfinished = λ f. f }
-free_at c x p own (place.WriteAnswerBody job body) e = record { call = tt; read = λ a. tt; unfinished = λ f. f }
+free_at c x p own (place.WriteAnswerBody job item i) e = record { call = tt; read = λ a. tt; unfinished = λ f. f }
 free_at c x p own (place.MarkDone job) e = record { call = tt; read = λ a. tt; unfinished = λ f. f }
 free_at c x p own (place.HandOver at) e = record { call = tt; read = λ a. tt; unfinished = λ f. f }
 free_at c x p own _ e = absurd (omega arith)
@@ -61,7 +62,7 @@ exchanged_free c (Take g) p own call = record { call = tt; read = λ a. tt; unfi
 
 -- a service begins
 pub serves_it : (s : Served) (n : ℕ) (x : Chain) (e : Entry) (a : Answer) (job : Job) → IsChainOf s n x → HasService s x e a (serves s x job)
-serves_it served.Counter n Send e a job ok = tt
+serves_it served.Counter n Send e a job ok = (tt, tt)
 serves_it served.Counter n (Take g) e a job ok = absurd ok
 serves_it served.List n Send e a job ok = tt
 serves_it served.List n (Take g) e a job ok = tt
@@ -86,19 +87,24 @@ pub done_rank : (x : Chain) (own : ℕ) (job : Job) (b : Bool) → (post_of x ow
 done_rank x own job true = refl
 done_rank x own job false = refl
 
-pub some_words : (a : Answer) → (1 ≤ answer_long a) × (answer_long a ≤ 3)
-some_words (answer.Take (take.Got item)) = omega arith
+pub some_words : (a : Answer) → (1 ≤ answer_long a) × (answer_long a ≤ all_told)
+some_words (answer.Take (take.Got item)) = omega (arith, few_further (tag_of item))
 some_words (answer.Take take.Empty) = omega arith
 some_words (answer.Take (take.Ended total)) = omega arith
 some_words (answer.Send told) = omega arith
 some_words (answer.Close told) = omega arith
+
+-- nor has a request more words than all
+pub few_asked : (x : Chain) (e : Entry) → request_long x e ≤ all_wrote x
+few_asked Send e = omega (arith, few_further (request_in e).tag)
+few_asked (Take g) e = omega arith
 
 pub coded_first : (s : Served) (x : Chain) (a : Answer) → coded_words s x a 0 ≡ ret_of s a
 coded_first s Send a = refl
 coded_first s (Take g) a = refl
 
 -- an answer word of code 1 on a receivers' chain is that of an item
-pub got_long : (s : Served) (g : ℕ) (a : Answer) → IsAnswer s (Take g) a → code_of (ret_of s a) ≡ 1 → answer_long a ≡ 3
+pub got_long : (s : Served) (g : ℕ) (a : Answer) → IsAnswer s (Take g) a → code_of (ret_of s a) ≡ 1 → answer_long a ≡ further_words (tag_word a) + 3
 got_long served.List g (answer.Take (take.Got item)) is code = refl
 got_long served.List g (answer.Take take.Empty) is code = absurd (omega (arith, code))
 got_long served.List g (answer.Take (take.Ended total)) is code = absurd (omega (arith, code))
@@ -130,14 +136,14 @@ reads_by : (c : Setting) (s : Served) (g p own : ℕ) (a : Answer) (one two : Bo
     ReadsOn c s g p own a (cond one (place.ReadAnswerTag (value_of (ret_of s a))) (cond two (place.Finished (answer.Take take.Empty)) (place.Finished (answer.Take (take.Ended (value_of (ret_of s a)))))))
     ⊎ ReadsAll c s g p own a (cond one (place.ReadAnswerTag (value_of (ret_of s a))) (cond two (place.Finished (answer.Take take.Empty)) (place.Finished (answer.Take (take.Ended (value_of (ret_of s a)))))))
 reads_by c s g p own a true two is_one is_two = inl record { call = tt; post = refl; read = (eqb-true (code_of (ret_of s a)) 1 is_one, refl); unfinished = λ f. f }
-reads_by c s g p own a false true is_one is_two = inr record { call = tt; post = refl; read = sym (λ i. cond (is_one i) (answer.Take (take.Got (item_of (value_of (ret_of s a)) (tag_word a) (body_word a)))) (cond (is_two i) (answer.Take take.Empty) (answer.Take (take.Ended (value_of (ret_of s a)))))) }
-reads_by c s g p own a false false is_one is_two = inr record { call = tt; post = refl; read = sym (λ i. cond (is_one i) (answer.Take (take.Got (item_of (value_of (ret_of s a)) (tag_word a) (body_word a)))) (cond (is_two i) (answer.Take take.Empty) (answer.Take (take.Ended (value_of (ret_of s a)))))) }
+reads_by c s g p own a false true is_one is_two = inr record { call = tt; post = refl; read = sym (λ i. cond (is_one i) (answer.Take (take.Got (item_of (value_of (ret_of s a)) (tag_word a) (words_told a)))) (cond (is_two i) (answer.Take take.Empty) (answer.Take (take.Ended (value_of (ret_of s a)))))) }
+reads_by c s g p own a false false is_one is_two = inr record { call = tt; post = refl; read = sym (λ i. cond (is_one i) (answer.Take (take.Got (item_of (value_of (ret_of s a)) (tag_word a) (words_told a)))) (cond (is_two i) (answer.Take take.Empty) (answer.Take (take.Ended (value_of (ret_of s a)))))) }
 
 pub reads_first : (c : Setting) (s : Served) (g p own : ℕ) (a : Answer) → ReadsOn c s g p own a (after_ret s (Take g) (ret_of s a)) ⊎ ReadsAll c s g p own a (after_ret s (Take g) (ret_of s a))
 reads_first c s g p own a = reads_by c s g p own a (code_of (ret_of s a) == 1) (code_of (ret_of s a) == 2) refl refl
 
-pub reads_item : (s : Served) (g : ℕ) (a : Answer) → code_of (ret_of s a) ≡ 1 → reads s (Take g) a ≡ answer.Take (take.Got (item_of (value_of (ret_of s a)) (tag_word a) (body_word a)))
-reads_item s g a code = ap (λ (b : Bool). cond b (answer.Take (take.Got (item_of (value_of (ret_of s a)) (tag_word a) (body_word a)))) (cond (code_of (ret_of s a) == 2) (answer.Take take.Empty) (answer.Take (take.Ended (value_of (ret_of s a)))))) (eq-eqb (code_of (ret_of s a)) 1 code)
+pub reads_item : (s : Served) (g : ℕ) (a : Answer) → code_of (ret_of s a) ≡ 1 → reads s (Take g) a ≡ answer.Take (take.Got (item_of (value_of (ret_of s a)) (tag_word a) (words_told a)))
+reads_item s g a code = ap (λ (b : Bool). cond b (answer.Take (take.Got (item_of (value_of (ret_of s a)) (tag_word a) (words_told a)))) (cond (code_of (ret_of s a) == 2) (answer.Take take.Empty) (answer.Take (take.Ended (value_of (ret_of s a)))))) (eq-eqb (code_of (ret_of s a)) 1 code)
 
 -- each pass has one node
 pub own_node : (x : Chain) (own : ℕ) (at : Place) → (post_of x own at).node ≡ own

@@ -1,5 +1,5 @@
 -- What the list has from its two chains: one service of a side at most, of the first call without an answer.
-use Rattle.std.proofs.Common.{◌≡◌, ℕ, ◌<◌, refl, subst, arith, Some, length}
+use Rattle.std.proofs.Common.{◌≡◌, ℕ, suc, ◌<◌, ◌≤◌, refl, ap, ◌∙◌, subst, arith, Some, length}
 use Rattle.std.specs.List.{slice_get}
 use Rattle.cc_model.specs.declared.call.Entry.{Entry}
 use Rattle.cc_runs.specs.declared.setting.Setting.{Setting}
@@ -13,10 +13,13 @@ use Rattle.cc_runs.specs.declared.place.Job.{Job}
 use Rattle.cc_runs.specs.declared.place.Sending.TheVariants as sending
 use Rattle.cc_runs.specs.declared.place.Taking.{Taking}
 use Rattle.cc_runs.specs.declared.place.Place.TheVariants as place
-use Rattle.cc_runs.specs.Codes.{request_in}
+use Rattle.cc_runs.specs.declared.place.Request.{Request}
+use Rattle.cc_runs.specs.Codes.{request_in, further_words, word}
 use Rattle.cc_runs.specs.State.{State, chain_of}
 use Rattle.cc_runs.specs.Run.{passes}
-use Rattle.cc_runs.proofs.Chains.Registers.{Sends, calls_on, answers_on, call_at}
+use Rattle.cc_runs.proofs.Chains.Registers.{Sends, HasAsked, calls_on, answers_on, call_at}
+use Rattle.cc_runs.proofs.ReadWords.{few_further}
+use Rattle.cc_runs.proofs.Chains.Sides.{asks_word}
 use Rattle.cc_runs.proofs.Chains.Others.{IsOn}
 use Rattle.cc_runs.proofs.Chains.Serving.{Chains, chain_is, on_chain, sending_where, next_call, next_service, next_words}
 
@@ -27,15 +30,21 @@ sends_it served.Counter Send A a = absurd a
 sends_it served.Counter (Take g) A a = absurd a
 
 module _ (c : Setting) (s : State) (k : Chains c s) (p : ℕ) (job : Job) (less : p < passes c) where
-  -- the request's tag is read, and its body is about to be
-  pub read_body : (tag : ℕ) → (s.stand p).place ≡ place.Sending job (sending.ReadBody tag) →
-      (e : Entry) × (slice_get s.history.sends.calls (length s.history.sends.answers) ≡ Some e) × (tag ≡ (request_in e).tag) × (s.mem (Node Send job.round.at node.Body) ≡ (request_in e).body)
-  read_body tag is =
-      let on : IsOn c Send p = subst (λ (y : Chain). IsOn c y p) (sending_where c s k p job (sending.ReadBody tag) less is).1 (on_chain c p less) in
-      let tag_is : tag ≡ (request_in (call_at s.history.sends.calls (length s.history.sends.answers))).tag =
-      sends_it c.served Send (tag ≡ (request_in (call_at s.history.sends.calls (length s.history.sends.answers))).tag)
-      (next_service c s k Send tt p on (place.Sending job (sending.ReadBody tag)) job is (λ own. refl) (call_at s.history.sends.calls (length s.history.sends.answers)) refl) in
-      (call_at s.history.sends.calls (length s.history.sends.answers), next_call c s k Send tt p on (place.Sending job (sending.ReadBody tag)) job is (λ own. refl), tag_is, next_words c s k Send tt p on (place.Sending job (sending.ReadBody tag)) job is (λ own. refl) 1 (omega arith))
+  -- the request's tag is read, and words of its body, and another one is about to be
+  pub read_body : (request : Request) (i : ℕ) → (s.stand p).place ≡ place.Sending job (sending.ReadBody request i) →
+      (e : Entry) × (slice_get s.history.sends.calls (length s.history.sends.answers) ≡ Some e) × HasAsked e request.tag request.body i × (i ≤ further_words request.tag) × (s.mem (Node Send job.round.at (node.Body i)) ≡ word (request_in e).body i)
+  read_body request i is =
+      let on : IsOn c Send p = subst (λ (y : Chain). IsOn c y p) (sending_where c s k p job (sending.ReadBody request i) less is).1 (on_chain c p less) in
+      let e : Entry = call_at s.history.sends.calls (length s.history.sends.answers) in
+      let has : HasAsked e request.tag request.body i × (i ≤ further_words request.tag) =
+      sends_it c.served Send (HasAsked e request.tag request.body i × (i ≤ further_words request.tag)) (next_service c s k Send tt p on (place.Sending job (sending.ReadBody request i)) job is (λ own. refl) e refl) in
+      let low : i ≤ further_words (request_in e).tag = omega (arith, has.1, ap further_words has.0.0) in (
+        e,
+        next_call c s k Send tt p on (place.Sending job (sending.ReadBody request i)) job is (λ own. refl),
+        has.0,
+        has.1,
+        next_words c s k Send tt p on (place.Sending job (sending.ReadBody request i)) job is (λ own. refl) (suc i) (omega (arith, low)) ∙ asks_word (request_in e) i (omega (arith, low, few_further (request_in e).tag)),
+      )
 
   -- a take is in service
   pub serves_take : (service : Taking) → (s.stand p).place ≡ place.Taking job service → (e : Entry) × (slice_get (calls_on (chain_of c.config p) s.history) (length (answers_on (chain_of c.config p) s.history)) ≡ Some e)

@@ -12,7 +12,7 @@ use Rattle.cc_runs.specs.Run.{IsFinished}
 use Rattle.cc_runs.proofs.Combining.Chain.{Ghost}
 use Rattle.cc_runs.proofs.Combining.Exchange.{Extends}
 use Rattle.cc_runs.proofs.Combining.Decide.{Answers}
-use Rattle.cc_runs.proofs.Chains.View.{members, post_at, asked_words, answer_long}
+use Rattle.cc_runs.proofs.Chains.View.{members, post_at, asked_words, answer_long, request_long}
 use Rattle.cc_runs.proofs.Chains.Registers.{call_at, answer_at, no_call, no_answer, IsCall, HasCall, IsAnswer, HasService, coded_words, HasRead}
 use Rattle.cc_runs.proofs.Chains.Ties.{Ties, upd, upd-same, upd-other, service_call, reader_answer}
 
@@ -38,7 +38,7 @@ extended x g p e own = record {
   pass_of = upd g.pass_of g.calls p;
   asked = upd g.asked g.calls (asked_words x e);
   told = g.told;
-  asks_long = g.asks_long;
+  asks_long = upd g.asks_long g.calls (request_long x e);
   told_long = g.told_long;
   chain = upd g.chain (g.calls + 1) own;
   at = upd g.at p g.calls;
@@ -60,7 +60,7 @@ module _ (c : Setting) (x : Chain) (calls : List Entry) (answers : List Answer) 
     asked_now = λ j. ap (λ (f : ℕ → ℕ). f j) (upd-same g.asked g.calls (asked_words x e)) ∙ same j;
     asked_before = λ k j l. ap (λ (f : ℕ → ℕ). f j) (upd-other g.asked g.calls (asked_words x e) k (omega arith));
     told = λ k j. refl;
-    asks_long = λ k l. refl;
+    asks_long = λ k l. upd-other _ _ _ _ (omega arith);
     told_long = λ k. refl;
     chain_now = upd-same _ _ _;
     chain_before = λ k l. upd-other _ _ _ _ (omega arith);
@@ -92,6 +92,16 @@ module _ (c : Setting) (x : Chain) (calls : List Entry) (answers : List Answer) 
         ∙ ap (λ (z : Entry). asked_words x z j) (sym (call_old calls e g.calls k ties.calls_are (omega arith)))
   ]
 
+  long_now : (e : Entry) (own k : ℕ) → k < g.calls + 1 → (extended x g p e own).asks_long k ≡ request_long x (call_at (more_calls e) k)
+  long_now e own k l = elim (cases_eq k g.calls) [
+    | inl same ↦
+        ap (λ (z : ℕ). upd g.asks_long g.calls (request_long x e) z) same ∙ upd-same g.asks_long g.calls (request_long x e)
+        ∙ ap (λ (z : Entry). request_long x z) (sym (call_new calls e g.calls ties.calls_are)) ∙ ap (λ (z : ℕ). request_long x (call_at (more_calls e) z)) (sym same)
+    | inr ne ↦
+        upd-other g.asks_long g.calls (request_long x e) k ne ∙ ties.asks_long k (omega arith)
+        ∙ ap (λ (z : Entry). request_long x z) (sym (call_old calls e g.calls k ties.calls_are (omega arith)))
+  ]
+
   -- nobody but p changes, and p has nothing to tell yet
   pub ties_entered : (e : Entry) (own : ℕ) (there : Stand) → IsCall c x p e → stand' p ≡ there → ((q : ℕ) → q ≢ p → stand' q ≡ stand q) → g.server ≢ p + 1 → ((q : ℕ) → g.server ≡ q + 1 → q < members c x) →
       g.marked ≤ g.answers → g.answers ≤ g.calls → ((q : ℕ) → q < members c x → IsFinished (stand q).place → g.at q < g.calls) →
@@ -106,7 +116,7 @@ module _ (c : Setting) (x : Chain) (calls : List Entry) (answers : List Answer) 
     ];
     entered = entered_now e own is;
     asked = asked_now e own;
-    asks_long = ties.asks_long;
+    asks_long = long_now e own;
     answered = ties.answered;
     told = ties.told;
     told_long = ties.told_long;

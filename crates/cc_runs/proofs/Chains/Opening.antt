@@ -19,7 +19,7 @@ use Rattle.cc_runs.specs.State.{side, first_node}
 use Rattle.cc_runs.specs.Run.{first_word, opening, passes, passes_of, nowhere, IsFinished}
 use Rattle.cc_runs.proofs.Combining.Chain.{Ghost}
 use Rattle.cc_runs.proofs.Combining.Invariant.{Inv}
-use Rattle.cc_runs.proofs.Chains.View.{view, members, pass_on, post_at, out, request_long}
+use Rattle.cc_runs.proofs.Chains.View.{view, members, pass_on, post_at, out}
 use Rattle.cc_runs.proofs.Chains.Registers.{IsChainOf, IsChain, HasSide, answer_at, HasCall, HasRead}
 use Rattle.cc_runs.proofs.Chains.Ties.{Ties, Holds, stands_on}
 use Rattle.cc_runs.proofs.Chains.Others.{group_in}
@@ -62,7 +62,7 @@ first_tail c Send ok = refl
 first_tail c (Take g) ok = ap (λ (b : Bool). cond b 1 0) (lt-ltb g (groups c.config) (group_in c.served (groups c.config) g ok))
 
 abbrev first : Chain → Ghost
-first x = record { calls = 0; answers = 0; marked = 0; server = 0; pass_of = λ k. 0; asked = λ k j. 0; told = λ k j. 0; asks_long = λ k. request_long x; told_long = λ k. 1; chain = λ k. 0; at = λ p. 0 }
+first x = record { calls = 0; answers = 0; marked = 0; server = 0; pass_of = λ k. 0; asked = λ k j. 0; told = λ k j. 0; asks_long = λ k. 0; told_long = λ k. 1; chain = λ k. 0; at = λ p. 0 }
 
 module _ (c : Setting) (x : Chain) (ok : IsChain c x) where
   stands : (p : ℕ) → p < members c x → (opening c).stand (pass_on c x p) ≡ placed c p (p + 1)
@@ -86,7 +86,7 @@ module _ (c : Setting) (x : Chain) (ok : IsChain c x) where
     calls = record { in_order = omega arith; in_order2 = omega arith; open_pass = λ k a b. absurd (omega arith); open_at = λ k a b. absurd (omega arith); open_low = λ k a b. absurd (omega arith); open_high = λ k a b. absurd (omega arith); open_node = λ k a b. absurd (omega arith) };
     passes = record { at_in = λ p pn a. grind (arith, post p pn); at_is = λ p pn a. grind (arith, post p pn); at_last = λ p k a b same. absurd (omega arith); early = λ p pn a. grind (arith, post p pn); late = λ p pn a. grind (arith, post p pn) };
     links = record { ready_next = λ p pn a b. grind (arith, post p pn); put_is = λ p pn a. grind (arith, post p pn); asks_is = λ p j pn a b. grind (arith, post p pn); linked = λ p pn a b. grind (arith, post p pn); last_next = refl };
-    words = record { written = λ p j pn a b. grind (arith, post p pn); linked_written = λ p j pn a b d. grind (arith, post p pn); serving_told = λ p j a b d e. absurd (omega arith); done_told = λ p j pn a b d. absurd (omega arith) };
+    words = record { written = λ p j pn a b d. grind (arith, post p pn); linked_written = λ p j pn a b d. grind (arith, post p pn); serving_told = λ p j a b d e. absurd (omega arith); done_told = λ p j pn a b d. absurd (omega arith) };
     states = record { ready_state = λ p pn a. grind (arith, post p pn); waiting = λ k a b. absurd (omega arith); free_state = λ a. refl; busy_state = λ p a b. absurd (omega arith); done_state = λ p pn a b. absurd (omega arith) };
     server = record {
       server_is = λ p pn a. grind (arith, post p pn);
@@ -109,7 +109,7 @@ module _ (c : Setting) (x : Chain) (ok : IsChain c x) where
     pass_in = λ k l. absurd (omega arith);
     entered = λ k l. absurd (omega arith);
     asked = λ k j l. absurd (omega arith);
-    asks_long = λ k. refl;
+    asks_long = λ k l. absurd (omega arith);
     answered = λ k l. absurd (omega arith);
     told = λ k j l. absurd (omega arith);
     told_long = λ k l. absurd (omega arith);

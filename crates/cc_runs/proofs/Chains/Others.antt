@@ -21,8 +21,8 @@ use Rattle.cc_runs.specs.declared.word.Word.TheVariants.{Tail, Node}
 use Rattle.cc_runs.specs.declared.place.Stand.{Stand}
 use Rattle.cc_runs.specs.declared.place.Place.{Place}
 use Rattle.cc_runs.specs.declared.place.Place.TheVariants as place
-use Rattle.cc_runs.specs.Words.{groups, put, same, same_chain, node_field}
-use Rattle.cc_runs.specs.Codes.{pack, ret_of}
+use Rattle.cc_runs.specs.Words.{groups, put, same, same_chain, same_field}
+use Rattle.cc_runs.specs.Codes.{tag_of, body_words, word, ret_of}
 use Rattle.cc_runs.specs.State.{State, chain_of, side, with_side, hold, stored, word_of}
 use Rattle.cc_runs.specs.Lines.{operation, group_of}
 use Rattle.cc_runs.specs.Step.{stepped_from, advanced}
@@ -53,7 +53,7 @@ other_off (Take g) (Take h) o = ne_eqb h g (λ e. o (sym e))
 put_other : (mem : Word → ℕ) (x y : Chain) (k i : ℕ) (f g : NodeField) (value : ℕ) → IsOther x y → put mem (Node y k f) value (Node x i g) ≡ mem (Node x i g)
 put_other mem x y k i f g value o =
     let off : same (Node y k f) (Node x i g) ≡ false =
-    ap (λ (b : Bool). (node_field Send f == node_field Send g && b) && (k == i)) (other_off x y o) ∙ ap (λ (b : Bool). b && (k == i)) (and-false (node_field Send f == node_field Send g)) in
+    ap (λ (b : Bool). (same_field f g && b) && (k == i)) (other_off x y o) ∙ ap (λ (b : Bool). b && (k == i)) (and-false (same_field f g)) in
     ap (λ (b : Bool). cond b value (mem (Node x i g))) off
 
 put_tail : (mem : Word → ℕ) (x y : Chain) (value : ℕ) → IsOther x y → put mem (Tail y) value (Tail x) ≡ mem (Tail x)
@@ -71,14 +71,14 @@ module _ (c : Setting) (mem : Word → ℕ) (x y : Chain) (o : IsOther x y) (own
   other_words i f (place.ResetNext call) = put_other mem x y own i node.Next f 0 o
   other_words i f (place.ResetState call) = put_other mem x y own i node.State f 1 o
   other_words i f (place.WriteTag put request) = put_other mem x y own i node.Tag f request.tag o
-  other_words i f (place.WriteBody put body) = put_other mem x y own i node.Body f body o
+  other_words i f (place.WriteBody put request j) = put_other mem x y own i (node.Body j) f (word request.body j) o
   other_words i f (place.Link put) = put_other mem x y own i node.Next f (put + 1) o
   other_words i f (place.Counting job service) = count_words c mem x job.round.at i f service
   other_words i f (place.Sending job service) = send_words c mem x job.round.at i f service
   other_words i f (place.Taking job service) = take_words c mem x (group_of y) i f service
   other_words i f (place.WriteAnswer job told) = put_other mem x y job.round.at i node.Ret f (ret_of c.served told) o
-  other_words i f (place.WriteAnswerTag job item) = put_other mem x y job.round.at i node.Tag f (pack item.sender item.number) o
-  other_words i f (place.WriteAnswerBody job body) = put_other mem x y job.round.at i node.Body f body o
+  other_words i f (place.WriteAnswerTag job item) = put_other mem x y job.round.at i node.Tag f (tag_of item) o
+  other_words i f (place.WriteAnswerBody job item j) = put_other mem x y job.round.at i (node.Body j) f (word (body_words item) j) o
   other_words i f (place.MarkDone job) = put_other mem x y job.round.at i node.State f 2 o
   other_words i f (place.HandOver at) = put_other mem x y at i node.State f 0 o
   other_words i f _ = refl

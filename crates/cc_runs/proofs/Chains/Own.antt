@@ -1,5 +1,5 @@
 -- Each step of a pass of the chain keeps what holds of the chain.
-use Rattle.std.proofs.Common.{◌≡◌, ◌≢◌, ℕ, ◌<◌, refl, sym, subst, arith}
+use Rattle.std.proofs.Common.{◌≡◌, ◌≢◌, ℕ, suc, ◌<◌, ◌≤◌, refl, ap, sym, ◌∙◌, subst, arith}
 use Rattle.cc_model.specs.declared.call.Entry.{Entry}
 use Rattle.cc_model.specs.declared.call.Answer.{Answer}
 use Rattle.cc_runs.specs.declared.setting.Setting.{Setting}
@@ -15,12 +15,15 @@ use Rattle.cc_runs.specs.declared.place.Sending.TheVariants as sending
 use Rattle.cc_runs.specs.declared.place.Taking.{Taking}
 use Rattle.cc_runs.specs.declared.place.Place.{Place}
 use Rattle.cc_runs.specs.declared.place.Place.TheVariants as place
+use Rattle.cc_runs.specs.Codes.{request_in, further_words}
 use Rattle.cc_runs.specs.State.{State, word_of}
 use Rattle.cc_runs.specs.CountLines as count_side
 use Rattle.cc_runs.specs.SendLines as send_side
 use Rattle.cc_runs.specs.TakeLines as take_side
 use Rattle.cc_runs.specs.Lines.{event_at, group_of}
+use Rattle.cc_runs.proofs.ReadWords.{few_further}
 use Rattle.cc_runs.proofs.Chains.View.{members}
+use Rattle.cc_runs.proofs.Chains.Sides.{asks_word}
 use Rattle.cc_runs.proofs.Chains.Registers.{IsChain, Counts, Sends, Takes, HasSend}
 use Rattle.cc_runs.proofs.Chains.Service.{Outcome, FindsRequest, sends, takes, counts, send_tail, send_words, take_tail, take_words, count_tail, count_words}
 use Rattle.cc_runs.proofs.Chains.Ties.{Holds}
@@ -41,6 +44,12 @@ sends_where served.List (Take g) A a = absurd a
 sends_where served.Counter Send A a = absurd a
 sends_where served.Counter (Take g) A a = absurd a
 
+pub sends_has : (s : Served) (x : Chain) (A : Type 0) → Sends s x A → A
+sends_has served.List Send A a = a
+sends_has served.List (Take g) A a = absurd a
+sends_has served.Counter Send A a = absurd a
+sends_has served.Counter (Take g) A a = absurd a
+
 pub takes_where : (s : Served) (x : Chain) → Takes s x → (s ≡ served.List) × (x ≡ Take (group_of x))
 takes_where served.List (Take g) a = (refl, refl)
 takes_where served.List Send a = absurd a
@@ -51,7 +60,7 @@ module _ (c : Setting) (some : 0 < c.config.bound) (s : State) (p begun own : �
   count_step : (x : Chain) (ok : IsChain c x) (inside : p < members c x) (w : Holds c x s) (job : Job) (at : Counting) → At c x ok some s p begun own inside w (place.Counting job at) →
       Holds c x (then c x ok some s p begun own inside w (place.Counting job at))
   count_step x ok inside w job at e =
-      let here = counts_where c.served x (serves_at c x ok some s p begun own inside w (place.Counting job at) e refl) in
+      let here = counts_where c.served x (serves_at c x ok some s p begun own inside w (place.Counting job at) e refl).0 in
       let call : Entry = the_call c x ok some s p begun own inside w in
       let found : ℕ = finds c x ok some s p begun own inside w (place.Counting job at) in
       let out : Outcome c.served x job call (place.Counting job at) (count_side.goes job at found) (count_side.decides at found) =
@@ -62,7 +71,11 @@ module _ (c : Setting) (some : 0 < c.config.bound) (s : State) (p begun own : �
   finds_request : (ok : IsChain c Send) (inside : p < members c Send) (w : Holds c Send s) (job : Job) (at : Sending) → At c Send ok some s p begun own inside w (place.Sending job at) →
       FindsRequest (the_call c Send ok some s p begun own inside w) at (s.mem (word_of (send_side.operation c.config job.round.at at)))
   finds_request ok inside w job sending.ReadTag e = request_at c Send ok some s p begun own inside w (place.Sending job sending.ReadTag) job 0 e refl (omega arith)
-  finds_request ok inside w job (sending.ReadBody tag) e = request_at c Send ok some s p begun own inside w (place.Sending job (sending.ReadBody tag)) job 1 e refl (omega arith)
+  finds_request ok inside w job (sending.ReadBody request i) e =
+      let call : Entry = the_call c Send ok some s p begun own inside w in
+      let has : HasSend call (the_answer c Send ok some s p begun own inside w) (sending.ReadBody request i) = sends_has c.served Send (HasSend call (the_answer c Send ok some s p begun own inside w) (sending.ReadBody request i)) (serves_at c Send ok some s p begun own inside w (place.Sending job (sending.ReadBody request i)) e refl) in
+      let low : i ≤ further_words (request_in call).tag = omega (arith, has.1, ap further_words has.0.0) in
+      request_at c Send ok some s p begun own inside w (place.Sending job (sending.ReadBody request i)) job (suc i) e refl (omega (arith, low)) ∙ asks_word (request_in call) i (omega (arith, low, few_further (request_in call).tag))
   finds_request ok inside w job at e = tt
 
   send_step : (x : Chain) (ok : IsChain c x) (inside : p < members c x) (w : Holds c x s) (job : Job) (at : Sending) → At c x ok some s p begun own inside w (place.Sending job at) →
@@ -95,7 +108,7 @@ module _ (c : Setting) (some : 0 < c.config.bound) (s : State) (p begun own : �
   step x ok inside w (place.ResetState call) e busy = steps.reset_state c x ok some s p begun own inside w call e
   step x ok inside w (place.Exchange call) e busy = steps.exchange c x ok some s p begun own inside w call e
   step x ok inside w (place.WriteTag put request) e busy = by_side.write_tag c some s p begun own x ok inside w put request e
-  step x ok inside w (place.WriteBody put body) e busy = by_side.write_body c some s p begun own x ok inside w put body e
+  step x ok inside w (place.WriteBody put request i) e busy = by_side.write_body c some s p begun own x ok inside w put request i e
   step x ok inside w (place.Link put) e busy = steps.link c x ok some s p begun own inside w put e
   step x ok inside w place.ReadState e busy = steps.read_state c x ok some s p begun own inside w e
   step x ok inside w (place.ReadNext round) e busy = steps.read_next c x ok some s p begun own inside w round e
@@ -104,10 +117,10 @@ module _ (c : Setting) (some : 0 < c.config.bound) (s : State) (p begun own : �
   step x ok inside w (place.Taking job at) e busy = take_step x ok inside w job at e
   step x ok inside w (place.WriteAnswer job told) e busy = write_answer c x ok some s p begun own inside w job told e
   step x ok inside w (place.WriteAnswerTag job item) e busy = by_side.write_answer_tag c some s p begun own x ok inside w job item e
-  step x ok inside w (place.WriteAnswerBody job body) e busy = by_side.write_answer_body c some s p begun own x ok inside w job body e
+  step x ok inside w (place.WriteAnswerBody job item i) e busy = by_side.write_answer_body c some s p begun own x ok inside w job item i e
   step x ok inside w (place.MarkDone job) e busy = mark c x ok some s p begun own inside w job e
   step x ok inside w (place.HandOver at) e busy = hand_over c x ok some s p begun own inside w at e
   step x ok inside w place.ReadAnswer e busy = by_side.read_answer c some s p begun own x ok inside w e
   step x ok inside w (place.ReadAnswerTag at) e busy = by_side.read_tag c some s p begun own x ok inside w at e
-  step x ok inside w (place.ReadAnswerBody at tag) e busy = by_side.read_body c some s p begun own x ok inside w at tag e
+  step x ok inside w (place.ReadAnswerBody parcel i) e busy = by_side.read_body c some s p begun own x ok inside w parcel i e
   step x ok inside w (place.Finished told) e busy = absurd (busy refl)

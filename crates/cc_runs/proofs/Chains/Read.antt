@@ -1,5 +1,7 @@
 -- The steps that one side alone has, and the reading of an answer, keep what holds of the chain.
-use Rattle.std.proofs.Common.{◌≡◌, ◌≢◌, ◌⊎◌, ℕ, ◌+◌, ◌<◌, refl, ap, sym, ◌∙◌, subst, arith, inl, inr, None}
+use Rattle.std.proofs.lemmas.Bool.{ltb-true, ltb-false}
+use Rattle.std.proofs.Common.{◌≡◌, ◌≢◌, ◌⊎◌, ℕ, suc, ◌+◌, ◌<◌, ◌≤◌, Bool, true, false, nat_lt, cond, refl, ap, sym, ◌∙◌, subst, arith, inl, inr, None}
+use Rattle.cc_model.specs.declared.call.Entry.{Entry}
 use Rattle.cc_model.specs.declared.call.Item.{Item}
 use Rattle.cc_model.specs.declared.call.Answer.{Answer}
 use Rattle.cc_model.specs.declared.call.Answer.TheVariants as answer
@@ -13,37 +15,63 @@ use Rattle.cc_runs.specs.declared.word.Word.TheVariants.{Tail, Node}
 use Rattle.cc_runs.specs.declared.place.Stand.{Stand}
 use Rattle.cc_runs.specs.declared.place.Job.{Job}
 use Rattle.cc_runs.specs.declared.place.Request.{Request}
+use Rattle.cc_runs.specs.declared.place.Parcel.{Parcel}
 use Rattle.cc_runs.specs.declared.place.Place.{Place}
 use Rattle.cc_runs.specs.declared.place.Place.TheVariants as place
-use Rattle.cc_runs.specs.Codes.{pack, item_of, ret_of, code_of, value_of, sender_reads}
+use Rattle.cc_runs.specs.Codes.{item_of, item_in, tag_of, body_words, parcel, no_words, with_read, further_words, word, request_in, ret_of, code_of, value_of, sender_reads}
 use Rattle.cc_runs.specs.State.{State}
 use Rattle.cc_runs.specs.Lines.{goes, node_after, enters, decides, after_ret}
 use Rattle.cc_runs.specs.Run.{IsFinished}
 use Rattle.cc_runs.proofs.Combining.Stay as by_stay
 use Rattle.cc_runs.proofs.Combining.WriteRequest as by_writerequest
 use Rattle.cc_runs.proofs.Combining.End as by_end
-use Rattle.cc_runs.proofs.Chains.View.{view, members, pass_on, post_of, post_at, answer_words, answer_long}
+use Rattle.cc_runs.proofs.ReadWords.{few_further, next_word, one_item}
+use Rattle.cc_runs.proofs.Chains.View.{view, members, pass_on, post_of, post_at, request_long, asked_words, answer_words, answer_long}
 use Rattle.cc_runs.proofs.Chains.Bridge as bridge
 use Rattle.cc_runs.proofs.Chains.Sides as sides
-use Rattle.cc_runs.proofs.Chains.Registers.{IsChain, answers_on, answer_at, HasCall, IsAnswer, HasRead, coded_words, tag_word, body_word}
+use Rattle.cc_runs.proofs.Chains.Registers.{IsChain, calls_on, answers_on, call_at, answer_at, OnSend, HasCall, IsAnswer, HasService, HasRead, coded_words, tag_word, words_told}
 use Rattle.cc_runs.proofs.Chains.Ties.{Holds}
 use Rattle.cc_runs.proofs.Chains.Facts.{some_words, got_long, ReadsOn, ReadsAll, reads_first, reads_item}
-use Rattle.cc_runs.proofs.Chains.Steps.{goes_on}
-use Rattle.cc_runs.proofs.Chains.Serve.{At, then, finds, seen, the_answer, serves_at, tells}
+use Rattle.cc_runs.proofs.Chains.Steps.{Moves, goes_on}
+use Rattle.cc_runs.proofs.Chains.Serve.{At, then, finds, seen, the_call, the_answer, serves_at, tells}
 
 -- a sender writes its request
 module _ (c : Setting) (some : 0 < c.config.bound) (s : State) (p begun own : ℕ) (inside : p < members c Send) (w : Holds c Send s) where
+  -- the call that it asks for
+  abbrev its_call : Entry
+  its_call = call_at (calls_on Send s.history) (w.ghost.at p)
+
+  long_is : (at : Place) → At c Send tt some s p begun own inside w at → (post_of Send own at).rank ≡ 3 → w.ghost.asks_long (w.ghost.at p) ≡ request_long Send its_call
+  long_is at e three = w.ties.asks_long (w.ghost.at p) (w.inv.passes.at_in p inside (omega (arith, ap (λ z. z.rank) (seen c Send tt some s p begun own inside w at e) ∙ three)))
+
+  -- a word that it hasn't written yet, or how many there are
+  asks_is : (at : Place) (j : ℕ) → At c Send tt some s p begun own inside w at → (post_of Send own at).rank ≡ 3 → (post_of Send own at).wrote ≤ j → (post_of Send own at).asks j ≡ asked_words Send its_call j
+  asks_is at j e three low =
+      let is : post_at Send (s.stand (pass_on c Send p)) ≡ post_of Send own at = seen c Send tt some s p begun own inside w at e in
+      let rank : (post_at Send (s.stand (pass_on c Send p))).rank ≡ 3 = ap (λ z. z.rank) is ∙ three in
+      sym (ap (λ z. z.asks j) is) ∙ w.inv.links.asks_is p j inside rank (omega (arith, ap (λ z. z.wrote) is)) ∙ w.ties.asked (w.ghost.at p) j (w.inv.passes.at_in p inside (omega (arith, rank)))
+
   write_tag_send : (put : ℕ) (request : Request) → At c Send tt some s p begun own inside w (place.WriteTag put request) → Holds c Send (then c Send tt some s p begun own inside w (place.WriteTag put request))
   write_tag_send put request e =
-      goes_on c Send tt some s p begun own inside w (place.WriteTag put request) (place.WriteBody put request.body) w.ghost.marked w.ghost.server refl refl refl
-      (by_writerequest.keeps (members c Send) c.config.bound (view c Send s) (view c Send (then c Send tt some s p begun own inside w (place.WriteTag put request))) w.ghost p inside w.inv (sides.write_tag c s p begun own put request e))
-      record { onward = omega arith; call = tt; read = tt; ended = λ f. absurd f; serves = λ a. tt; keep = λ q ne a. (a, refl) }
+      goes_on c Send tt some s p begun own inside w (place.WriteTag put request) (place.WriteBody put request 0) w.ghost.marked w.ghost.server refl refl refl
+      (by_writerequest.keeps (members c Send) c.config.bound (view c Send s) (view c Send (then c Send tt some s p begun own inside w (place.WriteTag put request))) w.ghost p inside w.inv
+      (sides.write_tag c s p begun own (w.ghost.asks_long (w.ghost.at p)) put request e))
+      record { onward = omega arith; call = (tt, omega arith); read = tt; ended = λ f. absurd f; serves = λ a. tt; keep = λ q ne a. (a, refl) }
 
-  write_body_send : (put body : ℕ) → At c Send tt some s p begun own inside w (place.WriteBody put body) → Holds c Send (then c Send tt some s p begun own inside w (place.WriteBody put body))
-  write_body_send put body e =
-      goes_on c Send tt some s p begun own inside w (place.WriteBody put body) (place.Link put) w.ghost.marked w.ghost.server refl refl refl
-      (by_writerequest.keeps (members c Send) c.config.bound (view c Send s) (view c Send (then c Send tt some s p begun own inside w (place.WriteBody put body))) w.ghost p inside w.inv (sides.write_body c s p begun own put body e))
-      record { onward = omega arith; call = tt; read = tt; ended = λ f. absurd f; serves = λ a. tt; keep = λ q ne a. (a, refl) }
+  write_body_by : (put : ℕ) (request : Request) (i : ℕ) (b : Bool) → nat_lt i (further_words request.tag) ≡ b → At c Send tt some s p begun own inside w (place.WriteBody put request i) →
+      Holds c Send (then c Send tt some s p begun own inside w (place.WriteBody put request i))
+  write_body_by put request i b is e =
+      let has : OnSend Send × (i ≤ further_words request.tag) = subst (λ (z : Stand). HasCall c Send p z.place) e (w.ties.begun p inside) in
+      let many : further_words request.tag ≡ further_words (request_in its_call).tag = asks_is (place.WriteBody put request i) 5 e refl (omega (arith, has.1, few_further request.tag)) in
+      goes_on c Send tt some s p begun own inside w (place.WriteBody put request i) (cond b (place.WriteBody put request (i + 1)) (place.Link put)) w.ghost.marked w.ghost.server
+      (ap (λ (z : Bool). cond z (place.WriteBody put request (i + 1)) (place.Link put)) is) refl refl
+      (by_writerequest.keeps (members c Send) c.config.bound (view c Send s) (view c Send (then c Send tt some s p begun own inside w (place.WriteBody put request i))) w.ghost p inside w.inv
+      (sides.write_body c s p begun own (w.ghost.asks_long (w.ghost.at p)) put request i (long_is (place.WriteBody put request i) e refl ∙ ap (λ (z : ℕ). z + 2) (sym many)) has.1 e))
+      (moves b is)
+    where
+      moves : (b : Bool) → nat_lt i (further_words request.tag) ≡ b → Moves c Send s w.ghost p w.ghost.marked w.ghost.server (cond b (place.WriteBody put request (i + 1)) (place.Link put))
+      moves true is = record { onward = omega arith; call = (tt, omega (arith, ltb-true i (further_words request.tag) is)); read = tt; ended = λ f. absurd f; serves = λ a. tt; keep = λ q ne a. (a, refl) }
+      moves false is = record { onward = omega arith; call = tt; read = tt; ended = λ f. absurd f; serves = λ a. tt; keep = λ q ne a. (a, refl) }
 
 -- what a call reads of its answer
 module _ (c : Setting) (x : Chain) (ok : IsChain c x) (some : 0 < c.config.bound) (s : State) (p begun own : ℕ) (inside : p < members c x) (w : Holds c x s) where
@@ -106,14 +134,25 @@ module _ (c : Setting) (g : ℕ) (ok : IsChain c (Take g)) (some : 0 < c.config.
   write_answer_tag_take : (job : Job) (item : Item) → At c (Take g) ok some s p begun own inside w (place.WriteAnswerTag job item) → Holds c (Take g) (then c (Take g) ok some s p begun own inside w (place.WriteAnswerTag job item))
   write_answer_tag_take job item e =
       let is : the_answer c (Take g) ok some s p begun own inside w ≡ answer.Take (take.Got item) = serves_at c (Take g) ok some s p begun own inside w (place.WriteAnswerTag job item) e refl in
-      tells c (Take g) ok some s p begun own inside w (place.WriteAnswerTag job item) (place.WriteAnswerBody job item.body) 3 (pack item.sender item.number) 1 e refl refl refl refl refl refl refl
-      (sides.write_answer_tag c g s p begun own job item e) (sym (ap answer_long is)) (sym (ap (λ (z : Answer). coded_words c.served (Take g) z 1) is)) (item, is, refl)
+      tells c (Take g) ok some s p begun own inside w (place.WriteAnswerTag job item) (place.WriteAnswerBody job item 0) (further_words (tag_of item) + 3) (tag_of item) 1 e refl refl refl refl refl refl refl
+      (sides.write_answer_tag c g s p begun own job item e) (sym (ap answer_long is)) (sym (ap (λ (z : Answer). coded_words c.served (Take g) z 1) is)) (is, omega arith)
 
-  write_answer_body_take : (job : Job) (body : ℕ) → At c (Take g) ok some s p begun own inside w (place.WriteAnswerBody job body) → Holds c (Take g) (then c (Take g) ok some s p begun own inside w (place.WriteAnswerBody job body))
-  write_answer_body_take job body e =
-      let is = serves_at c (Take g) ok some s p begun own inside w (place.WriteAnswerBody job body) e refl in
-      tells c (Take g) ok some s p begun own inside w (place.WriteAnswerBody job body) (place.MarkDone job) 3 body 2 e refl refl refl refl refl refl refl
-      (sides.write_answer_body c g s p begun own job body e) (sym (ap answer_long is.1)) (sym is.2 ∙ sym (ap (λ (z : Answer). coded_words c.served (Take g) z 2) is.1)) tt
+  write_answer_by : (job : Job) (item : Item) (i : ℕ) (b : Bool) → nat_lt i (further_words (tag_of item)) ≡ b → At c (Take g) ok some s p begun own inside w (place.WriteAnswerBody job item i) →
+      Holds c (Take g) (then c (Take g) ok some s p begun own inside w (place.WriteAnswerBody job item i))
+  write_answer_by job item i b is e =
+      let has = serves_at c (Take g) ok some s p begun own inside w (place.WriteAnswerBody job item i) e refl in
+      tells c (Take g) ok some s p begun own inside w (place.WriteAnswerBody job item i) (cond b (place.WriteAnswerBody job item (i + 1)) (place.MarkDone job)) (further_words (tag_of item) + 3) (word (body_words item) i) (suc (suc i)) e refl refl refl
+      (ap (λ (z : Bool). cond z (place.WriteAnswerBody job item (i + 1)) (place.MarkDone job)) is) refl refl (rank b)
+      (sides.write_answer_body c g s p begun own job item i e) (sym (ap answer_long has.0)) (sym (ap (λ (z : Answer). coded_words c.served (Take g) z (suc (suc i))) has.0)) (serves b is has.0)
+    where
+      rank : (b : Bool) → (post_of (Take g) own (cond b (place.WriteAnswerBody job item (i + 1)) (place.MarkDone job))).rank ≡ 5
+      rank true = refl
+      rank false = refl
+
+      serves : (b : Bool) → nat_lt i (further_words (tag_of item)) ≡ b → the_answer c (Take g) ok some s p begun own inside w ≡ answer.Take (take.Got item) →
+          HasService c.served (Take g) (the_call c (Take g) ok some s p begun own inside w) (the_answer c (Take g) ok some s p begun own inside w) (cond b (place.WriteAnswerBody job item (i + 1)) (place.MarkDone job))
+      serves true is same = (same, omega (arith, ltb-true i (further_words (tag_of item)) is))
+      serves false is same = tt
 
   abbrev item_answer : Answer
   item_answer = answer_at (answers_on (Take g) s.history) (w.ghost.at p)
@@ -137,18 +176,39 @@ module _ (c : Setting) (g : ℕ) (ok : IsChain c (Take g)) (some : 0 < c.config.
   read_tag_take : (at : ℕ) → At c (Take g) ok some s p begun own inside w (place.ReadAnswerTag at) → Holds c (Take g) (then c (Take g) ok some s p begun own inside w (place.ReadAnswerTag at))
   read_tag_take at e =
       let had : (code_of (ret_of c.served item_answer) ≡ 1) × (at ≡ value_of (ret_of c.served item_answer)) = subst (λ (z : Stand). HasRead c.served (Take g) item_answer z.place) e (w.ties.read p inside) in
-      let long : answer_long item_answer ≡ 3 = got_long c.served g item_answer (answer_is c (Take g) ok some s p begun own inside w (place.ReadAnswerTag at) e refl) had.0 in
+      let long : answer_long item_answer ≡ further_words (tag_word item_answer) + 3 = got_long c.served g item_answer (answer_is c (Take g) ok some s p begun own inside w (place.ReadAnswerTag at) e refl) had.0 in
       let tag : s.mem (Node (Take g) own node.Tag) ≡ tag_word item_answer = word_at c (Take g) ok some s p begun own inside w (place.ReadAnswerTag at) 1 e refl (omega (arith, long)) in
-      reads_more c (Take g) ok some s p begun own inside w (place.ReadAnswerTag at) (place.ReadAnswerBody at (s.mem (Node (Take g) own node.Tag))) e refl refl refl refl refl refl refl (λ i f. refl) tt (had.0, had.1, tag) (λ f. f)
+      reads_more c (Take g) ok some s p begun own inside w (place.ReadAnswerTag at) (place.ReadAnswerBody (parcel at (s.mem (Node (Take g) own node.Tag)) no_words) 0) e refl refl refl refl refl refl refl (λ i f. refl) tt
+      (had.0, had.1, tag, omega arith, (λ j low. absurd (omega arith))) (λ f. f)
 
-  read_body_take : (at tag : ℕ) → At c (Take g) ok some s p begun own inside w (place.ReadAnswerBody at tag) → Holds c (Take g) (then c (Take g) ok some s p begun own inside w (place.ReadAnswerBody at tag))
-  read_body_take at tag e =
-      let had : (code_of (ret_of c.served item_answer) ≡ 1) × (at ≡ value_of (ret_of c.served item_answer)) × (tag ≡ tag_word item_answer) =
-      subst (λ (z : Stand). HasRead c.served (Take g) item_answer z.place) e (w.ties.read p inside) in
-      let long : answer_long item_answer ≡ 3 = got_long c.served g item_answer (answer_is c (Take g) ok some s p begun own inside w (place.ReadAnswerBody at tag) e refl) had.0 in
-      let body : s.mem (Node (Take g) own node.Body) ≡ body_word item_answer = word_at c (Take g) ok some s p begun own inside w (place.ReadAnswerBody at tag) 2 e refl (omega (arith, long)) in
-      reads_end c (Take g) ok some s p begun own inside w (place.ReadAnswerBody at tag) (place.Finished (answer.Take (take.Got (item_of at tag (s.mem (Node (Take g) own node.Body)))))) e refl refl refl refl refl refl refl (λ i f. refl) tt
-      ((λ i. answer.Take (take.Got (item_of (had.1 i) (had.2 i) (body i)))) ∙ sym (reads_item c.served g item_answer had.0))
+  -- the words of the item so far, and one more
+  abbrev Had : Parcel → ℕ → Type 0
+  Had at i = (code_of (ret_of c.served item_answer) ≡ 1) × (at.place ≡ value_of (ret_of c.served item_answer)) × (at.tag ≡ tag_word item_answer) × (i ≤ further_words at.tag) × ((j : ℕ) → j < i → word at.body j ≡ word (words_told item_answer) j)
+
+  read_word : (at : Parcel) (i : ℕ) → At c (Take g) ok some s p begun own inside w (place.ReadAnswerBody at i) → Had at i → s.mem (Node (Take g) own (node.Body i)) ≡ word (words_told item_answer) i
+  read_word at i e had =
+      word_at c (Take g) ok some s p begun own inside w (place.ReadAnswerBody at i) (suc (suc i)) e refl
+      (omega (arith, had.3, ap further_words had.2, got_long c.served g item_answer (answer_is c (Take g) ok some s p begun own inside w (place.ReadAnswerBody at i) e refl) had.0))
+
+  words_more : (at : Parcel) (i found : ℕ) → found ≡ word (words_told item_answer) i → Had at i → (j : ℕ) → j ≤ i → word (with_read at i found).body j ≡ word (words_told item_answer) j
+  words_more at i found is had = next_word at.body (word (words_told item_answer)) i found (omega (arith, had.3, few_further at.tag)) is had.4
+
+  read_body_by : (at : Parcel) (i : ℕ) (b : Bool) → nat_lt i (further_words at.tag) ≡ b → At c (Take g) ok some s p begun own inside w (place.ReadAnswerBody at i) → Holds c (Take g) (then c (Take g) ok some s p begun own inside w (place.ReadAnswerBody at i))
+  read_body_by at i true is e =
+      let had : Had at i = subst (λ (z : Stand). HasRead c.served (Take g) item_answer z.place) e (w.ties.read p inside) in
+      let found : ℕ = s.mem (Node (Take g) own (node.Body i)) in
+      let more = words_more at i found (read_word at i e had) had in
+      reads_more c (Take g) ok some s p begun own inside w (place.ReadAnswerBody at i) (place.ReadAnswerBody (with_read at i found) (i + 1)) e refl refl
+      (ap (λ (z : Bool). cond z (place.ReadAnswerBody (with_read at i found) (i + 1)) (place.Finished (answer.Take (take.Got (item_in (with_read at i found)))))) is) refl refl refl refl (λ i f. refl) tt
+      (had.0, had.1, had.2, omega (arith, ltb-true i (further_words at.tag) is), (λ j low. more j (omega arith))) (λ f. f)
+  read_body_by at i false is e =
+      let had : Had at i = subst (λ (z : Stand). HasRead c.served (Take g) item_answer z.place) e (w.ties.read p inside) in
+      let found : ℕ = s.mem (Node (Take g) own (node.Body i)) in
+      let more = words_more at i found (read_word at i e had) had in
+      let same : item_in (with_read at i found) ≡ item_of (value_of (ret_of c.served item_answer)) (tag_word item_answer) (words_told item_answer) = one_item (with_read at i found) (words_told item_answer) had.1 had.2 (λ j low. more j (omega (arith, ltb-false i (further_words at.tag) is))) in
+      reads_end c (Take g) ok some s p begun own inside w (place.ReadAnswerBody at i) (place.Finished (answer.Take (take.Got (item_in (with_read at i found))))) e refl refl
+      (ap (λ (z : Bool). cond z (place.ReadAnswerBody (with_read at i found) (i + 1)) (place.Finished (answer.Take (take.Got (item_in (with_read at i found)))))) is) refl refl refl refl (λ i f. refl) tt
+      (ap (λ (z : Item). answer.Take (take.Got z)) same ∙ sym (reads_item c.served g item_answer had.0))
 
 -- each of these on any chain
 module _ (c : Setting) (some : 0 < c.config.bound) (s : State) (p begun own : ℕ) where
@@ -157,20 +217,20 @@ module _ (c : Setting) (some : 0 < c.config.bound) (s : State) (p begun own : �
   write_tag Send ok inside w put request e = write_tag_send c some s p begun own inside w put request e
   write_tag (Take g) ok inside w put request e = absurd (subst (λ (z : Stand). HasCall c (Take g) p z.place) e (w.ties.begun p inside))
 
-  pub write_body : (x : Chain) (ok : IsChain c x) (inside : p < members c x) (w : Holds c x s) (put body : ℕ) → At c x ok some s p begun own inside w (place.WriteBody put body) →
-      Holds c x (then c x ok some s p begun own inside w (place.WriteBody put body))
-  write_body Send ok inside w put body e = write_body_send c some s p begun own inside w put body e
-  write_body (Take g) ok inside w put body e = absurd (subst (λ (z : Stand). HasCall c (Take g) p z.place) e (w.ties.begun p inside))
+  pub write_body : (x : Chain) (ok : IsChain c x) (inside : p < members c x) (w : Holds c x s) (put : ℕ) (request : Request) (i : ℕ) → At c x ok some s p begun own inside w (place.WriteBody put request i) →
+      Holds c x (then c x ok some s p begun own inside w (place.WriteBody put request i))
+  write_body Send ok inside w put request i e = write_body_by c some s p begun own inside w put request i (nat_lt i (further_words request.tag)) refl e
+  write_body (Take g) ok inside w put request i e = absurd (subst (λ (z : Stand). HasCall c (Take g) p z.place) e (w.ties.begun p inside)).0
 
   pub write_answer_tag : (x : Chain) (ok : IsChain c x) (inside : p < members c x) (w : Holds c x s) (job : Job) (item : Item) → At c x ok some s p begun own inside w (place.WriteAnswerTag job item) →
       Holds c x (then c x ok some s p begun own inside w (place.WriteAnswerTag job item))
   write_answer_tag Send ok inside w job item e = absurd (serves_at c Send ok some s p begun own inside w (place.WriteAnswerTag job item) e refl)
   write_answer_tag (Take g) ok inside w job item e = write_answer_tag_take c g ok some s p begun own inside w job item e
 
-  pub write_answer_body : (x : Chain) (ok : IsChain c x) (inside : p < members c x) (w : Holds c x s) (job : Job) (body : ℕ) → At c x ok some s p begun own inside w (place.WriteAnswerBody job body) →
-      Holds c x (then c x ok some s p begun own inside w (place.WriteAnswerBody job body))
-  write_answer_body Send ok inside w job body e = absurd (serves_at c Send ok some s p begun own inside w (place.WriteAnswerBody job body) e refl)
-  write_answer_body (Take g) ok inside w job body e = write_answer_body_take c g ok some s p begun own inside w job body e
+  pub write_answer_body : (x : Chain) (ok : IsChain c x) (inside : p < members c x) (w : Holds c x s) (job : Job) (item : Item) (i : ℕ) → At c x ok some s p begun own inside w (place.WriteAnswerBody job item i) →
+      Holds c x (then c x ok some s p begun own inside w (place.WriteAnswerBody job item i))
+  write_answer_body Send ok inside w job item i e = absurd (serves_at c Send ok some s p begun own inside w (place.WriteAnswerBody job item i) e refl)
+  write_answer_body (Take g) ok inside w job item i e = write_answer_by c g ok some s p begun own inside w job item i (nat_lt i (further_words (tag_of item))) refl e
 
   pub read_answer : (x : Chain) (ok : IsChain c x) (inside : p < members c x) (w : Holds c x s) → At c x ok some s p begun own inside w place.ReadAnswer → Holds c x (then c x ok some s p begun own inside w place.ReadAnswer)
   read_answer Send ok inside w e =
@@ -184,7 +244,7 @@ module _ (c : Setting) (some : 0 < c.config.bound) (s : State) (p begun own : �
   read_tag Send ok inside w at e = absurd (subst (λ (z : Stand). HasRead c.served Send (its_answer c Send ok some s p begun own inside w) z.place) e (w.ties.read p inside))
   read_tag (Take g) ok inside w at e = read_tag_take c g ok some s p begun own inside w at e
 
-  pub read_body : (x : Chain) (ok : IsChain c x) (inside : p < members c x) (w : Holds c x s) (at tag : ℕ) → At c x ok some s p begun own inside w (place.ReadAnswerBody at tag) →
-      Holds c x (then c x ok some s p begun own inside w (place.ReadAnswerBody at tag))
-  read_body Send ok inside w at tag e = absurd (subst (λ (z : Stand). HasRead c.served Send (its_answer c Send ok some s p begun own inside w) z.place) e (w.ties.read p inside))
-  read_body (Take g) ok inside w at tag e = read_body_take c g ok some s p begun own inside w at tag e
+  pub read_body : (x : Chain) (ok : IsChain c x) (inside : p < members c x) (w : Holds c x s) (at : Parcel) (i : ℕ) → At c x ok some s p begun own inside w (place.ReadAnswerBody at i) →
+      Holds c x (then c x ok some s p begun own inside w (place.ReadAnswerBody at i))
+  read_body Send ok inside w at i e = absurd (subst (λ (z : Stand). HasRead c.served Send (its_answer c Send ok some s p begun own inside w) z.place) e (w.ties.read p inside))
+  read_body (Take g) ok inside w at i e = read_body_by c g ok some s p begun own inside w at i (nat_lt i (further_words at.tag)) refl e

@@ -1,5 +1,5 @@
 -- What the places of a chain's passes keep, and what it has to do with the history.
-use Rattle.std.proofs.Common.{◌≡◌, ◌≤◌, ◌<◌, ℕ, length, ◌==◌, if◌then◌else◌, List, get_or}
+use Rattle.std.proofs.Common.{◌≡◌, ◌≤◌, ◌<◌, ◌+◌, ℕ, length, ◌==◌, if◌then◌else◌, List, get_or}
 use Rattle.cc_model.specs.declared.call.Entry.{Entry}
 use Rattle.cc_model.specs.declared.call.Item.{Item}
 use Rattle.cc_model.specs.declared.call.Pass.TheVariants as pass
@@ -14,17 +14,20 @@ use Rattle.cc_runs.specs.declared.setting.Served.{Served}
 use Rattle.cc_runs.specs.declared.setting.Served.TheVariants as served
 use Rattle.cc_runs.specs.declared.word.Chain.{Chain}
 use Rattle.cc_runs.specs.declared.word.Chain.TheVariants.{Send, Take}
+use Rattle.cc_runs.specs.declared.place.BodyWords.{BodyWords}
+use Rattle.cc_runs.specs.declared.place.Counting.{Counting}
+use Rattle.cc_runs.specs.declared.place.Counting.TheVariants as counting
 use Rattle.cc_runs.specs.declared.place.Sending.{Sending}
 use Rattle.cc_runs.specs.declared.place.Sending.TheVariants as sending
 use Rattle.cc_runs.specs.declared.place.Place.{Place}
 use Rattle.cc_runs.specs.declared.place.Place.TheVariants as place
-use Rattle.cc_runs.specs.Codes.{pack, item_of, request_in, ret_of, code_of, value_of, sender_reads}
+use Rattle.cc_runs.specs.Codes.{item_of, tag_of, body_words, no_words, further_words, word, request_in, ret_of, code_of, value_of, sender_reads}
 use Rattle.cc_model.specs.Record.{Record}
 use Rattle.cc_runs.specs.Words.{groups}
 use Rattle.cc_runs.specs.State.{pass_at}
 use Rattle.cc_runs.specs.Run.{IsOn}
 pub use Rattle.cc_runs.specs.Sides.{calls_on, answers_on}
-use Rattle.cc_runs.proofs.Chains.View.{pass_on, told_words}
+use Rattle.cc_runs.proofs.Chains.View.{pass_on, told_words, no_word}
 
 -- the chains that there are: the counter has the senders' alone
 abbrev pub IsChainOf : Served → (groups : ℕ) → Chain → Type 0
@@ -85,7 +88,7 @@ HasCall c x p (place.ResetNext call) = IsCall c x p call
 HasCall c x p (place.ResetState call) = IsCall c x p call
 HasCall c x p (place.Exchange call) = IsCall c x p call
 HasCall c x p (place.WriteTag put request) = OnSend x
-HasCall c x p (place.WriteBody put body) = OnSend x
+HasCall c x p (place.WriteBody put request i) = OnSend x × (i ≤ further_words request.tag)
 HasCall c x p _ = Unit {0}
 
 -- what a call of this chain can be answered
@@ -96,17 +99,25 @@ IsAnswer served.List Send (answer.Close told) = Unit {0}
 IsAnswer served.List (Take g) (answer.Take told) = Unit {0}
 IsAnswer _ _ _ = ⊥
 
+-- a tag, and the first words of a body: those that were read of the request of a call
+abbrev pub HasAsked : Entry → ℕ → BodyWords → ℕ → Type 0
+HasAsked e tag body n = (tag ≡ (request_in e).tag) × ((j : ℕ) → j < n → word body j ≡ word (request_in e).body j)
+
+-- and the words of all of it
+abbrev pub HasRequest : Entry → ℕ → BodyWords → Type 0
+HasRequest e tag body = HasAsked e tag body (further_words tag + 1)
+
 -- the senders' combiner keeps words of the request that it serves, and then the answer that it has decided
 abbrev pub HasSend : Entry → Answer → Sending → Type 0
-HasSend e a (sending.ReadBody tag) = tag ≡ (request_in e).tag
-HasSend e a (sending.ReadShut request) = request ≡ request_in e
-HasSend e a (sending.ReadCount request) = request ≡ request_in e
-HasSend e a (sending.ReadCursor parcel) = (parcel.tag ≡ (request_in e).tag) × (parcel.body ≡ (request_in e).body)
-HasSend e a (sending.ReadPassed parcel at reads) = (parcel.tag ≡ (request_in e).tag) × (parcel.body ≡ (request_in e).body)
-HasSend e a (sending.ResetPassed parcel at) = (parcel.tag ≡ (request_in e).tag) × (parcel.body ≡ (request_in e).body)
-HasSend e a (sending.ResetItemNext parcel at) = (parcel.tag ≡ (request_in e).tag) × (parcel.body ≡ (request_in e).body)
-HasSend e a (sending.WriteItemTag parcel at) = (parcel.tag ≡ (request_in e).tag) × (parcel.body ≡ (request_in e).body)
-HasSend e a (sending.WriteItemBody place body at) = body ≡ (request_in e).body
+HasSend e a (sending.ReadBody request i) = HasAsked e request.tag request.body i × (i ≤ further_words request.tag)
+HasSend e a (sending.ReadShut request) = HasRequest e request.tag request.body
+HasSend e a (sending.ReadCount request) = HasRequest e request.tag request.body
+HasSend e a (sending.ReadCursor parcel) = HasRequest e parcel.tag parcel.body
+HasSend e a (sending.ReadPassed parcel at reads) = HasRequest e parcel.tag parcel.body
+HasSend e a (sending.ResetPassed parcel at) = HasRequest e parcel.tag parcel.body
+HasSend e a (sending.ResetItemNext parcel at) = HasRequest e parcel.tag parcel.body
+HasSend e a (sending.WriteItemTag parcel at) = HasRequest e parcel.tag parcel.body
+HasSend e a (sending.WriteItemBody parcel at i) = HasRequest e parcel.tag parcel.body × (i ≤ further_words parcel.tag)
 HasSend e a (sending.WriteLastMark total) = a ≡ answer.Close (close.Shut total)
 HasSend e a (sending.WriteShut total) = a ≡ answer.Close (close.Shut total)
 HasSend e a (sending.WriteLast place at) = a ≡ answer.Send (send.Accepted place)
@@ -114,31 +125,36 @@ HasSend e a (sending.WriteCount place at) = a ≡ answer.Send (send.Accepted pla
 HasSend e a (sending.WriteCursor place at) = a ≡ answer.Send (send.Accepted place)
 HasSend e a _ = Unit {0}
 
+-- that of the counter reads the words of a body that there are
+abbrev pub HasCount : Counting → Type 0
+HasCount (counting.ReadBody tag i) = i ≤ further_words tag
+HasCount _ = Unit {0}
+
 -- a combiner serves what its chain serves, here the call e, which is answered a
 abbrev pub HasService : Served → Chain → Entry → Answer → Place → Type 0
-HasService served x e a (place.Counting job service) = Counts served x
+HasService served x e a (place.Counting job service) = Counts served x × HasCount service
 HasService served x e a (place.Sending job service) = Sends served x (HasSend e a service)
 HasService served x e a (place.Taking job service) = Takes served x
 HasService served x e a (place.WriteAnswer job told) = a ≡ told
 HasService served x e a (place.WriteAnswerTag job item) = OnTake x (a ≡ answer.Take (take.Got item))
-HasService served x e a (place.WriteAnswerBody job body) = OnTake x ((item : Item) × (a ≡ answer.Take (take.Got item)) × (item.body ≡ body))
+HasService served x e a (place.WriteAnswerBody job item i) = OnTake x ((a ≡ answer.Take (take.Got item)) × (i ≤ further_words (tag_of item)))
 HasService served x e a _ = Unit {0}
 
 -- the words of an answer
 abbrev pub tag_word : Answer → ℕ
-tag_word (answer.Take (take.Got item)) = pack item.sender item.number
+tag_word (answer.Take (take.Got item)) = tag_of item
 tag_word _ = 0
 
-abbrev pub body_word : Answer → ℕ
-body_word (answer.Take (take.Got item)) = item.body
-body_word _ = 0
+abbrev pub words_told : Answer → BodyWords
+words_told (answer.Take (take.Got item)) = body_words item
+words_told _ = no_words
 
 abbrev pub coded_words : Served → Chain → Answer → ℕ → ℕ
-coded_words served Send a j = told_words (ret_of served a) 0 0 j
-coded_words served (Take g) a j = told_words (ret_of served a) (tag_word a) (body_word a) j
+coded_words served Send a j = told_words (ret_of served a) 0 no_word j
+coded_words served (Take g) a j = told_words (ret_of served a) (tag_word a) (word (words_told a)) j
 
 -- what a call makes of them
-abbrev pub take_reads : ℕ → ℕ → ℕ → Answer
+abbrev pub take_reads : ℕ → ℕ → BodyWords → Answer
 take_reads ret tag body =
     if code_of ret == 1 then answer.Take (take.Got (item_of (value_of ret) tag body))
     else if code_of ret == 2 then answer.Take take.Empty
@@ -146,11 +162,12 @@ take_reads ret tag body =
 
 abbrev pub reads : Served → Chain → Answer → Answer
 reads served Send a = sender_reads served (ret_of served a)
-reads served (Take g) a = take_reads (ret_of served a) (tag_word a) (body_word a)
+reads served (Take g) a = take_reads (ret_of served a) (tag_word a) (words_told a)
 
 -- a call that is answered a has read so much of it
 abbrev pub HasRead : Served → Chain → Answer → Place → Type 0
 HasRead served x a (place.ReadAnswerTag at) = OnTake x ((code_of (ret_of served a) ≡ 1) × (at ≡ value_of (ret_of served a)))
-HasRead served x a (place.ReadAnswerBody at tag) = OnTake x ((code_of (ret_of served a) ≡ 1) × (at ≡ value_of (ret_of served a)) × (tag ≡ tag_word a))
+HasRead served x a (place.ReadAnswerBody p i) =
+    OnTake x ((code_of (ret_of served a) ≡ 1) × (p.place ≡ value_of (ret_of served a)) × (p.tag ≡ tag_word a) × (i ≤ further_words p.tag) × ((j : ℕ) → j < i → word p.body j ≡ word (words_told a) j))
 HasRead served x a (place.Finished told) = told ≡ reads served x a
 HasRead served x a _ = Unit {0}

@@ -16,23 +16,32 @@ use Rattle.cc_runs.specs.declared.place.Sending.{Sending}
 use Rattle.cc_runs.specs.declared.place.Sending.TheVariants as sending
 use Rattle.cc_runs.specs.declared.place.Place.{Place}
 use Rattle.cc_runs.specs.declared.place.Place.TheVariants as place
-use Rattle.cc_runs.specs.Codes.{ret_of}
-use Rattle.cc_runs.specs.Words.{groups, layout_of, exists}
+use Rattle.cc_runs.specs.Codes.{tag_of, further_words, ret_of}
+use Rattle.cc_runs.specs.Words.{groups, layout_of, is_node_field, exists}
 use Rattle.cc_runs.specs.State.{State}
 use Rattle.cc_runs.specs.Safe.{IsSafe, HasOpenCall, WhileUndecided, IsOpenAt}
 use Rattle.cc_runs.proofs.Ranges.{InRange}
+use Rattle.cc_runs.proofs.ReadWords.{few_further}
 use Rattle.cc_runs.proofs.Chains.View.{members, pass_on, post_of, post_at, send_stage}
-use Rattle.cc_runs.proofs.Chains.Registers.{IsChain, calls_on, answers_on, call_at, answer_at, HasService}
+use Rattle.cc_runs.proofs.Chains.Registers.{IsChain, calls_on, answers_on, call_at, answer_at, OnSend, OnTake, HasCall, HasService, HasRead}
 use Rattle.cc_runs.proofs.Chains.Ties.{Holds, send_in}
 use Rattle.cc_runs.proofs.Chains.Facts.{own_node}
 use Rattle.cc_runs.proofs.Chains.Others.{group_in}
 
 -- the words of a chain that there are
-pub node_exists : (c : Setting) (x : Chain) → IsChain c x → (i : ℕ) (f : NodeField) → i ≤ members c x → IsTrue (exists (layout_of c.config) (Node x i f))
-node_exists c Send ok i f low = lt-ltb i (c.config.senders + 1) (omega arith)
-node_exists c (Take g) ok i f low =
+pub node_exists : (c : Setting) (x : Chain) → IsChain c x → (i : ℕ) (f : NodeField) → IsTrue (is_node_field f) → i ≤ members c x → IsTrue (exists (layout_of c.config) (Node x i f))
+node_exists c Send ok i f field low = ap (λ (b : Bool). b && is_node_field f) (lt-ltb i (c.config.senders + 1) (omega arith)) ∙ field
+node_exists c (Take g) ok i f field low =
     let group : nat_lt g (groups c.config) ≡ true = lt-ltb g (groups c.config) (group_in c.served (groups c.config) g ok) in
-    ap (λ (b : Bool). b && nat_lt i (c.config.receivers + 1)) group ∙ lt-ltb i (c.config.receivers + 1) (omega arith)
+    ap (λ (b : Bool). (b && nat_lt i (c.config.receivers + 1)) && is_node_field f) group ∙ ap (λ (b : Bool). b && is_node_field f) (lt-ltb i (c.config.receivers + 1) (omega arith)) ∙ field
+
+-- a word of a body that its tag tells of
+pub four_words : (i tag : ℕ) → i ≤ further_words tag → IsTrue (nat_lt i 4)
+four_words i tag most = lt-ltb i 4 (omega (arith, few_further tag))
+
+pub on_take : (x : Chain) (A : Type 0) → OnTake x A → A
+on_take Send A a = absurd a
+on_take (Take g) A a = a
 
 pub tail_exists : (c : Setting) (x : Chain) → IsChain c x → IsTrue (exists (layout_of c.config) (Tail x))
 tail_exists c Send ok = refl
@@ -153,25 +162,31 @@ module _ (c : Setting) (x : Chain) (ok : IsChain c x) (r : InRange c.config) (s 
 
   pub safe_at : (at : Place) → At at → Fit → (IsService at → IsSafe c s x own at) → IsSafe c s x own at
   safe_at place.Idle e fit served = record { word = tail_exists c x ok; numbers = tt }
-  safe_at (place.ResetNext call) e fit served = record { word = node_exists c x ok own node.Next (own_in (place.ResetNext call) e); numbers = tt }
-  safe_at (place.ResetState call) e fit served = record { word = node_exists c x ok own node.State (own_in (place.ResetState call) e); numbers = tt }
+  safe_at (place.ResetNext call) e fit served = record { word = node_exists c x ok own node.Next refl (own_in (place.ResetNext call) e); numbers = tt }
+  safe_at (place.ResetState call) e fit served = record { word = node_exists c x ok own node.State refl (own_in (place.ResetState call) e); numbers = tt }
   safe_at (place.Exchange call) e fit served = record { word = tail_exists c x ok; numbers = (omega (arith, w.inv.nodes.tail_is), omega (arith, own_in (place.Exchange call) e, few_members c x r)) }
-  safe_at (place.WriteTag put request) e fit served = record { word = node_exists c x ok own node.Tag (own_in (place.WriteTag put request) e); numbers = tt }
-  safe_at (place.WriteBody put body) e fit served = record { word = node_exists c x ok own node.Body (own_in (place.WriteBody put body) e); numbers = tt }
-  safe_at (place.Link put) e fit served = record { word = node_exists c x ok own node.Next (own_in (place.Link put) e); numbers = omega (arith, put_in (place.Link put) e refl, few_members c x r) }
-  safe_at place.ReadState e fit served = record { word = node_exists c x ok own node.State (own_in place.ReadState e); numbers = tt }
-  safe_at (place.ReadNext round) e fit served = record { word = node_exists c x ok round.at node.Next (target_in (place.ReadNext round) e refl); numbers = tt }
+  safe_at (place.WriteTag put request) e fit served = record { word = node_exists c x ok own node.Tag refl (own_in (place.WriteTag put request) e); numbers = tt }
+  safe_at (place.WriteBody put request i) e fit served =
+      let has : OnSend x × (i ≤ further_words request.tag) = subst (λ (z : Stand). HasCall c x p z.place) e (w.ties.begun p inside) in
+      record { word = node_exists c x ok own (node.Body i) (four_words i request.tag has.1) (own_in (place.WriteBody put request i) e); numbers = tt }
+  safe_at (place.Link put) e fit served = record { word = node_exists c x ok own node.Next refl (own_in (place.Link put) e); numbers = omega (arith, put_in (place.Link put) e refl, few_members c x r) }
+  safe_at place.ReadState e fit served = record { word = node_exists c x ok own node.State refl (own_in place.ReadState e); numbers = tt }
+  safe_at (place.ReadNext round) e fit served = record { word = node_exists c x ok round.at node.Next refl (target_in (place.ReadNext round) e refl); numbers = tt }
   safe_at (place.Counting job service) e fit served = served tt
   safe_at (place.Sending job service) e fit served = served tt
   safe_at (place.Taking job service) e fit served = served tt
-  safe_at (place.WriteAnswer job told) e fit served = record { word = node_exists c x ok job.round.at node.Ret (target_in (place.WriteAnswer job told) e refl); numbers = told_fits job told e fit }
-  safe_at (place.WriteAnswerTag job item) e fit served = record { word = node_exists c x ok job.round.at node.Tag (target_in (place.WriteAnswerTag job item) e refl); numbers = tt }
-  safe_at (place.WriteAnswerBody job body) e fit served = record { word = node_exists c x ok job.round.at node.Body (target_in (place.WriteAnswerBody job body) e refl); numbers = tt }
-  safe_at (place.MarkDone job) e fit served = record { word = node_exists c x ok job.round.at node.State (target_in (place.MarkDone job) e refl); numbers = omega (arith, served_in (place.MarkDone job) e refl (omega arith), r.bound) }
-  safe_at (place.HandOver at) e fit served = record { word = node_exists c x ok at node.State (target_in (place.HandOver at) e refl); numbers = tt }
-  safe_at place.ReadAnswer e fit served = record { word = node_exists c x ok own node.Ret (own_in place.ReadAnswer e); numbers = tt }
-  safe_at (place.ReadAnswerTag at) e fit served = record { word = node_exists c x ok own node.Tag (own_in (place.ReadAnswerTag at) e); numbers = tt }
-  safe_at (place.ReadAnswerBody at tag) e fit served = record { word = node_exists c x ok own node.Body (own_in (place.ReadAnswerBody at tag) e); numbers = tt }
+  safe_at (place.WriteAnswer job told) e fit served = record { word = node_exists c x ok job.round.at node.Ret refl (target_in (place.WriteAnswer job told) e refl); numbers = told_fits job told e fit }
+  safe_at (place.WriteAnswerTag job item) e fit served = record { word = node_exists c x ok job.round.at node.Tag refl (target_in (place.WriteAnswerTag job item) e refl); numbers = tt }
+  safe_at (place.WriteAnswerBody job item i) e fit served =
+      let has = on_take x _ (subst (λ (z : Stand). HasService c.served x (call_at (calls_on x s.history) w.ghost.marked) (answer_at (answers_on x s.history) w.ghost.marked) z.place) e (w.ties.served p (me (place.WriteAnswerBody job item i) e refl))) in
+      record { word = node_exists c x ok job.round.at (node.Body i) (four_words i (tag_of item) has.1) (target_in (place.WriteAnswerBody job item i) e refl); numbers = tt }
+  safe_at (place.MarkDone job) e fit served = record { word = node_exists c x ok job.round.at node.State refl (target_in (place.MarkDone job) e refl); numbers = omega (arith, served_in (place.MarkDone job) e refl (omega arith), r.bound) }
+  safe_at (place.HandOver at) e fit served = record { word = node_exists c x ok at node.State refl (target_in (place.HandOver at) e refl); numbers = tt }
+  safe_at place.ReadAnswer e fit served = record { word = node_exists c x ok own node.Ret refl (own_in place.ReadAnswer e); numbers = tt }
+  safe_at (place.ReadAnswerTag at) e fit served = record { word = node_exists c x ok own node.Tag refl (own_in (place.ReadAnswerTag at) e); numbers = tt }
+  safe_at (place.ReadAnswerBody at i) e fit served =
+      let has = on_take x _ (subst (λ (z : Stand). HasRead c.served x (answer_at (answers_on x s.history) (w.ghost.at p)) z.place) e (w.ties.read p inside)) in
+      record { word = node_exists c x ok own (node.Body i) (four_words i at.tag has.3) (own_in (place.ReadAnswerBody at i) e); numbers = tt }
   safe_at (place.Finished told) e fit served = record { word = tail_exists c x ok; numbers = tt }
 
   send_open : (job : Job) (service : Sending) → At (place.Sending job service) → WhileUndecided (place.Sending job service) (HasOpenCall s.history x)

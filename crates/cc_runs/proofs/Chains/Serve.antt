@@ -21,7 +21,7 @@ use Rattle.cc_runs.proofs.Combining.Decide as by_decide
 use Rattle.cc_runs.proofs.Combining.WriteAnswer as by_writeanswer
 use Rattle.cc_runs.proofs.Combining.Mark as by_mark
 use Rattle.cc_runs.proofs.Combining.HandOver as by_handover
-use Rattle.cc_runs.proofs.Chains.View.{view, members, pass_on, post_of, post_at, serving, request_words, request_long, asked_words, answer_long}
+use Rattle.cc_runs.proofs.Chains.View.{view, members, pass_on, post_of, post_at, serving, request_words, request_long, asked_words, answer_long, all_told}
 use Rattle.cc_runs.proofs.Chains.Frame.{after_answer_post}
 use Rattle.cc_runs.proofs.Chains.Bridge as bridge
 use Rattle.cc_runs.proofs.Chains.Registers.{IsChain, calls_on, answers_on, call_at, answer_at, IsAnswer, HasService, coded_words}
@@ -61,7 +61,7 @@ module _ (c : Setting) (x : Chain) (ok : IsChain c x) (some : 0 < c.config.bound
   serves_at at e five = subst (λ (z : Stand). HasService c.served x the_call the_answer z.place) e (w.ties.served p (me at e five))
 
   -- the words of the request that is served
-  pub request_at : (at : Place) (job : Job) (j : ℕ) → At at → post_of x own at ≡ serving own job 1 0 → j < request_long x →
+  pub request_at : (at : Place) (job : Job) (j : ℕ) → At at → post_of x own at ≡ serving own job 1 0 → j < request_long x the_call →
       request_words x (λ (f : NodeField). s.mem (Node x job.round.at f)) j ≡ asked_words x the_call j
   request_at at job j e is less =
       let now : post_at x (s.stand (pass_on c x p)) ≡ serving own job 1 0 = seen at e ∙ is in
@@ -73,7 +73,7 @@ module _ (c : Setting) (x : Chain) (ok : IsChain c x) (some : 0 < c.config.bound
       let target : job.round.at ≡ w.ghost.chain w.ghost.marked = sym (ap (λ z. z.target) now) ∙ w.inv.server.server_target p mine in
       let written : request_words x (λ (f : NodeField). s.mem (Node x (post_at x (s.stand (pass_on c x (w.ghost.pass_of w.ghost.marked)))).node f)) j ≡ w.ghost.asked (w.ghost.at (w.ghost.pass_of w.ghost.marked)) j =
       w.inv.words.linked_written (w.ghost.pass_of w.ghost.marked) j (w.inv.calls.open_pass w.ghost.marked (omega arith) busy) linked (omega arith)
-      (omega (arith, w.ties.asks_long (w.ghost.at (w.ghost.pass_of w.ghost.marked)))) in
+      (omega (arith, less, ap (λ (z : ℕ). w.ghost.asks_long z) at_is, w.ties.asks_long w.ghost.marked busy)) in
       ap (λ (z : ℕ). request_words x (λ (f : NodeField). s.mem (Node x z f)) j) (target ∙ sym node_is) ∙ written ∙ ap (λ (z : ℕ). w.ghost.asked z j) at_is ∙ w.ties.asked w.ghost.marked j busy
 
   -- a step of a service
@@ -145,7 +145,7 @@ module _ (c : Setting) (x : Chain) (ok : IsChain c x) (some : 0 < c.config.bound
   pub mark : (job : Job) → At (place.MarkDone job) → Holds c x (then (place.MarkDone job))
   mark job e =
       let k = told_of (place.MarkDone job) e refl refl in
-      let few : w.ghost.told_long w.ghost.marked ≤ 3 = omega (arith, k.1, some_words the_answer) in
+      let few : w.ghost.told_long w.ghost.marked ≤ all_told = omega (arith, k.1, some_words the_answer) in
       let rank : (post_of x own (after_done c.config.bound job)).rank ≡ 5 = done_rank x own job (job.round.served + 1 == c.config.bound) in
       let free : IsFree c x p (after_done c.config.bound job) = free_at c x p own (after_done c.config.bound job) rank in
       let mine_is : w.ghost.server ≡ p + 1 = me (place.MarkDone job) e refl in

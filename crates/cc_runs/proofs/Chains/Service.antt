@@ -1,5 +1,6 @@
 -- A step of a service: it goes on, or decides the answer.
-use Rattle.std.proofs.Common.{◌≡◌, ℕ, zero, suc, ◌+◌, Bool, true, false, ◌==◌, cond, refl, ap, Option, Some, None}
+use Rattle.std.proofs.Common.{◌≡◌, ℕ, zero, suc, ◌+◌, ◌≤◌, ◌<◌, Bool, true, false, ◌==◌, nat_lt, cond, refl, ap, arith, Option, Some, None}
+use Rattle.std.proofs.lemmas.Bool.{ltb-true, ltb-false}
 use Rattle.cc_model.specs.declared.call.Entry.{Entry}
 use Rattle.cc_model.specs.declared.call.Answer.{Answer}
 use Rattle.cc_model.specs.declared.call.Answer.TheVariants as answer
@@ -25,7 +26,7 @@ use Rattle.cc_runs.specs.declared.place.Taking.{Taking}
 use Rattle.cc_runs.specs.declared.place.Taking.TheVariants as taking
 use Rattle.cc_runs.specs.declared.place.Place.{Place}
 use Rattle.cc_runs.specs.declared.place.Place.TheVariants as place
-use Rattle.cc_runs.specs.Codes.{request_in}
+use Rattle.cc_runs.specs.Codes.{request_in, further_words, word, with_asked, with_read}
 use Rattle.cc_runs.specs.Words.{groups}
 use Rattle.cc_runs.specs.State.{stored}
 use Rattle.cc_runs.specs.CountLines as count_side
@@ -34,7 +35,8 @@ use Rattle.cc_runs.specs.TakeLines as take_side
 use Rattle.cc_runs.specs.SendLines.{after}
 use Rattle.cc_runs.specs.ServiceLine.{Next, On, Decides, place_of, answer_of}
 use Rattle.cc_runs.proofs.Chains.View.{post_of, serving}
-use Rattle.cc_runs.proofs.Chains.Registers.{HasService, IsAnswer}
+use Rattle.cc_runs.proofs.ReadWords.{few_further, next_word}
+use Rattle.cc_runs.proofs.Chains.Registers.{HasService, HasAsked, IsAnswer}
 
 -- the step from here to there, of the service of call e, whose answer, once decided, is a
 pub data Outcome (served : Served) (x : Chain) (job : Job) (e : Entry) (here there : Place) (decided : Option Answer) : Type 0 where
@@ -44,7 +46,7 @@ pub data Outcome (served : Served) (x : Chain) (job : Job) (e : Entry) (here the
 -- the word of a request that a service reads
 abbrev pub FindsRequest : Entry → Sending → ℕ → Type 0
 FindsRequest e sending.ReadTag found = found ≡ (request_in e).tag
-FindsRequest e (sending.ReadBody tag) found = found ≡ (request_in e).body
+FindsRequest e (sending.ReadBody request i) found = found ≡ word (request_in e).body i
 FindsRequest e _ found = Unit {0}
 
 module _ (c : Setting) (job : Job) (e : Entry) where
@@ -63,7 +65,7 @@ module _ (c : Setting) (job : Job) (e : Entry) where
       Sends (sending.ReadCount request) (cond b (On (sending.ReadLastToClose count)) (cond life (Decides (answer.Send send.Spent)) (On (sending.ReadCursor record { place = count; tag = request.tag; body = request.body }))))
   count_read request count life true = quiet refl (λ own. refl) (λ a r. tt)
   count_read request count true false = decides (answer.Send send.Spent) refl (λ own. refl) (λ own. refl) tt refl
-  count_read request count false false = quiet refl (λ own. refl) (λ a r. (ap (λ (z : Request). z.tag) r, ap (λ (z : Request). z.body) r))
+  count_read request count false false = quiet refl (λ own. refl) (λ a r. r)
 
   passed_read : (parcel : Parcel) (at reads : ℕ) (last b : Bool) →
       Sends (sending.ReadPassed parcel at reads) (cond b (On (sending.ResetPassed parcel at)) (cond last (Decides (answer.Send send.Full)) (On (sending.ReadPassed parcel (after c.config at) (reads + 1)))))
@@ -71,9 +73,23 @@ module _ (c : Setting) (job : Job) (e : Entry) where
   passed_read parcel at reads true false = decides (answer.Send send.Full) refl (λ own. refl) (λ own. refl) tt refl
   passed_read parcel at reads false false = quiet refl (λ own. refl) (λ a r. r)
 
+  -- the first words of a request, and one more
+  asked_more : (request : Request) (i found : ℕ) → found ≡ word (request_in e).body i → HasAsked e request.tag request.body i × (i ≤ further_words request.tag) → HasAsked e request.tag (with_asked request i found).body (i + 1)
+  asked_more request i found f r = (r.0.0, λ j low. next_word request.body (word (request_in e).body) i found (omega (arith, r.1, few_further request.tag)) f r.0.1 j (omega arith))
+
+  body_read : (request : Request) (i found : ℕ) → found ≡ word (request_in e).body i → (b : Bool) → nat_lt i (further_words request.tag) ≡ b →
+      Sends (sending.ReadBody request i) (On (cond b (sending.ReadBody (with_asked request i found) (i + 1)) (sending.ReadShut (with_asked request i found))))
+  body_read request i found f true is = quiet refl (λ own. refl) (λ a r. (asked_more request i found f r, omega (arith, ltb-true i (further_words request.tag) is)))
+  body_read request i found f false is = quiet refl (λ own. refl) (λ a r. (r.0.0, λ j low. (asked_more request i found f r).1 j (omega (arith, ltb-false i (further_words request.tag) is))))
+
+  body_written : (parcel : Parcel) (at i : ℕ) (b : Bool) → nat_lt i (further_words parcel.tag) ≡ b →
+      Sends (sending.WriteItemBody parcel at i) (On (cond b (sending.WriteItemBody parcel at (i + 1)) (sending.ReadLast parcel.place at)))
+  body_written parcel at i true is = quiet refl (λ own. refl) (λ a r. (r.0, omega (arith, ltb-true i (further_words parcel.tag) is)))
+  body_written parcel at i false is = quiet refl (λ own. refl) (λ a r. tt)
+
   pub sends : (service : Sending) (found : ℕ) → FindsRequest e service found → Sends service (send_side.line c.config 0 service found).next
-  sends sending.ReadTag found f = quiet refl (λ own. refl) (λ a r. f)
-  sends (sending.ReadBody tag) found f = quiet refl (λ own. refl) (λ a r. λ i. record { tag = r i; body = f i })
+  sends sending.ReadTag found f = quiet refl (λ own. refl) (λ a r. ((f, λ j low. absurd (omega arith)), omega arith))
+  sends (sending.ReadBody request i) found f = body_read request i found f (nat_lt i (further_words request.tag)) refl
   sends (sending.ReadShut request) found f = shut_read request found
   sends sending.ReadTotal found f = decides (answer.Close (close.Already found)) refl (λ own. refl) (λ own. refl) tt refl
   sends (sending.ReadCount request) found f = count_read request found (found == c.config.life) (request.tag == 0)
@@ -85,8 +101,8 @@ module _ (c : Setting) (job : Job) (e : Entry) where
   sends (sending.ReadPassed parcel at reads) found f = passed_read parcel at reads (reads == c.config.capacity + 1) (found == groups c.config)
   sends (sending.ResetPassed parcel at) found f = quiet refl (λ own. refl) (λ a r. r)
   sends (sending.ResetItemNext parcel at) found f = quiet refl (λ own. refl) (λ a r. r)
-  sends (sending.WriteItemTag parcel at) found f = quiet refl (λ own. refl) (λ a r. r.1)
-  sends (sending.WriteItemBody place body at) found f = quiet refl (λ own. refl) (λ a r. tt)
+  sends (sending.WriteItemTag parcel at) found f = quiet refl (λ own. refl) (λ a r. (r, omega arith))
+  sends (sending.WriteItemBody parcel at i) found f = body_written parcel at i (nat_lt i (further_words parcel.tag)) refl
   sends (sending.ReadLast place at) found f = quiet refl (λ own. refl) (λ a r. tt)
   sends (sending.LinkItem place at last) found f = decides (answer.Send (send.Accepted place)) refl (λ own. refl) (λ own. refl) tt refl
   sends (sending.WriteLast place at) found f = quiet refl (λ own. refl) (λ a r. r)
@@ -96,6 +112,11 @@ module _ (c : Setting) (job : Job) (e : Entry) where
   abbrev Takes : ℕ → Taking → ℕ → Type 0
   Takes g service found = Outcome served.List (Take g) job e (place.Taking job service) (take_side.goes job service found) (take_side.decides service found)
 
+  item_read : (g dummy at : ℕ) (p : Parcel) (i found : ℕ) (b : Bool) →
+      Outcome served.List (Take g) job e (place.Taking job (taking.ReadItemBody dummy at p i)) (place.Taking job (cond b (taking.ReadItemBody dummy at (with_read p i found) (i + 1)) (taking.WriteHead dummy at (with_read p i found)))) None
+  item_read g dummy at p i found true = quiet refl (λ own. refl) (λ a r. tt)
+  item_read g dummy at p i found false = quiet refl (λ own. refl) (λ a r. tt)
+
   pub takes : (g : ℕ) (service : Taking) (found : ℕ) → Takes g service found
   takes g taking.ReadHead found = quiet refl (λ own. refl) (λ a r. tt)
   takes g (taking.ReadTaken dummy) found = quiet refl (λ own. refl) (λ a r. tt)
@@ -103,15 +124,20 @@ module _ (c : Setting) (job : Job) (e : Entry) where
   takes g (taking.ReadDummyNext dummy taken) (suc found) = quiet refl (λ own. refl) (λ a r. tt)
   takes g (taking.ReadItemTag dummy taken at) zero = decides (answer.Take (take.Ended taken)) refl (λ own. refl) (λ own. refl) tt refl
   takes g (taking.ReadItemTag dummy taken at) (suc found) = quiet refl (λ own. refl) (λ a r. tt)
-  takes g (taking.ReadItemBody dummy taken at tag) found = quiet refl (λ own. refl) (λ a r. tt)
+  takes g (taking.ReadItemBody dummy at p i) found = item_read g dummy at p i found (nat_lt i (further_words p.tag))
   takes g (taking.WriteHead dummy at parcel) found = quiet refl (λ own. refl) (λ a r. tt)
   takes g (taking.WriteTaken dummy parcel) found = quiet refl (λ own. refl) (λ a r. tt)
   takes g (taking.AddPassed dummy parcel) found = decides _ refl (λ own. refl) (λ own. refl) tt refl
 
+  words_read : (tag i : ℕ) (b : Bool) → nat_lt i (further_words tag) ≡ b →
+      Outcome served.Counter Send job e (place.Counting job (counting.ReadBody tag i)) (place.Counting job (cond b (counting.ReadBody tag (i + 1)) counting.ReadCount)) None
+  words_read tag i true is = quiet refl (λ own. refl) (λ a r. (tt, omega (arith, ltb-true i (further_words tag) is)))
+  words_read tag i false is = quiet refl (λ own. refl) (λ a r. (tt, tt))
+
   pub counts : (service : Counting) (found : ℕ) → Outcome served.Counter Send job e (place.Counting job service) (count_side.goes job service found) (count_side.decides service found)
-  counts counting.ReadTag found = quiet refl (λ own. refl) (λ a r. tt)
-  counts counting.ReadBody found = quiet refl (λ own. refl) (λ a r. tt)
-  counts counting.ReadCount found = quiet refl (λ own. refl) (λ a r. tt)
+  counts counting.ReadTag found = quiet refl (λ own. refl) (λ a r. (tt, omega arith))
+  counts (counting.ReadBody tag i) found = words_read tag i (nat_lt i (further_words tag)) refl
+  counts counting.ReadCount found = quiet refl (λ own. refl) (λ a r. (tt, tt))
   counts (counting.WriteCount count) found = decides (answer.Send (send.Accepted count)) refl (λ own. refl) (λ own. refl) tt refl
 
 -- a service changes no word of a chain

@@ -112,7 +112,7 @@ module _ (c : Setting) (s : State) (k : Chains c s) where
   counting_where p job service less e =
       counts_where c.served (chain_of c.config p)
       (subst (λ (z : Place). HasService c.served (chain_of c.config p) (call_at (calls_on (chain_of c.config p) s.history) (the_holds p less).ghost.marked) (answer_at (answers_on (chain_of c.config p) s.history) (the_holds p less).ghost.marked) z) e
-      (serves_what p less (ap (λ (z : Place). (post_of Send (s.stand p).node z).rank) e)))
+      (serves_what p less (ap (λ (z : Place). (post_of Send (s.stand p).node z).rank) e))).0
 
   pub taking_where : (p : ℕ) (job : Job) (service : Taking) → p < passes c → (s.stand p).place ≡ place.Taking job service → (c.served ≡ served.List) × (c.config.senders ≤ p)
   taking_where p job service less e =
@@ -167,7 +167,7 @@ module _ (c : Setting) (s : State) (k : Chains c s) where
         (subst (λ (n : ℕ). HasService c.served x (call_at (calls_on x s.history) n) (answer_at (answers_on x s.history) n) at) (sym even)
         (subst (λ (z : Stand). HasService c.served x (call_at (calls_on x s.history) (k.holds x ok).ghost.marked) (answer_at (answers_on x s.history) (k.holds x ok).ghost.marked) z.place) here ((k.holds x ok).ties.served on.number mine)))
 
-    pub next_words : (j : ℕ) → j < request_long x → request_words x (λ (f : NodeField). s.mem (Node x job.round.at f)) j ≡ asked_words x (call_at (calls_on x s.history) (length (answers_on x s.history))) j
+    pub next_words : (j : ℕ) → j < request_long x (call_at (calls_on x s.history) (length (answers_on x s.history))) → request_words x (λ (f : NodeField). s.mem (Node x job.round.at f)) j ≡ asked_words x (call_at (calls_on x s.history) (length (answers_on x s.history))) j
     next_words j less =
-        serve.request_at c x ok k.some s on.number (s.stand (pass_on c x on.number)).begun (s.stand (pass_on c x on.number)).node on.inside (k.holds x ok) at job j here (undecided (s.stand (pass_on c x on.number)).node) less
+        serve.request_at c x ok k.some s on.number (s.stand (pass_on c x on.number)).begun (s.stand (pass_on c x on.number)).node on.inside (k.holds x ok) at job j here (undecided (s.stand (pass_on c x on.number)).node) (omega (arith, less, ap (λ (n : ℕ). request_long x (call_at (calls_on x s.history) n)) even))
         ∙ ap (λ (n : ℕ). asked_words x (call_at (calls_on x s.history) n) j) (sym even)

@@ -1,6 +1,7 @@
 -- The steps that one side alone has: a sender writes its request, and a receiver is told an item.
-use Rattle.std.proofs.Common.{◌≡◌, ◌≢◌, ℕ, zero, suc, ◌≤◌, refl, sym, arith}
+use Rattle.std.proofs.Common.{◌≡◌, ◌≢◌, ℕ, zero, suc, ◌+◌, ◌≤◌, ◌<◌, Bool, true, false, nat_lt, cond, refl, ap, sym, ◌∙◌, arith}
 use Rattle.cc_model.specs.declared.call.Item.{Item}
+use Rattle.std.proofs.lemmas.Bool.{ltb-false}
 use Rattle.cc_runs.specs.declared.setting.Setting.{Setting}
 use Rattle.cc_runs.specs.declared.word.Chain.TheVariants.{Send, Take}
 use Rattle.cc_runs.specs.declared.word.NodeField.TheVariants as node
@@ -8,79 +9,118 @@ use Rattle.cc_runs.specs.declared.word.Word.TheVariants.{Node}
 use Rattle.cc_runs.specs.declared.place.Job.{Job}
 use Rattle.cc_runs.specs.declared.place.Request.{Request}
 use Rattle.cc_runs.specs.declared.place.Place.TheVariants as place
-use Rattle.cc_runs.specs.Codes.{pack}
+use Rattle.cc_runs.specs.Codes.{tag_of, body_words, further_words, word}
 use Rattle.cc_runs.specs.State.{State}
-use Rattle.cc_runs.proofs.Chains.View.{view, pass_on, post_at, post_of, cell_of, words_of, request_words, answer_words, told_words}
-use Rattle.cc_runs.proofs.Chains.Frame.{put_here, cell_apart}
+use Rattle.cc_runs.proofs.ReadWords.{few_further}
+use Rattle.cc_runs.proofs.Chains.View.{asks_in, view, pass_on, post_at, post_of, cell_of, words_of, request_words, answer_words, told_words, all_wrote, all_told, no_word, entering, serving}
+use Rattle.cc_runs.proofs.Chains.Frame.{put_here, word_apart, cell_apart}
 use Rattle.cc_runs.proofs.Chains.Bridge.{standing, after, is_at, was_at, others, before_at, words_at}
 use Rattle.cc_runs.proofs.Combining.WriteRequest.{Writes}
 use Rattle.cc_runs.proofs.Combining.WriteAnswer.{Tells}
 
--- words from the second on don't ask for the first, and the third not for the second
-pub words_later : (a b body : ℕ) (j : ℕ) → j ≢ 0 → words_of a body j ≡ words_of b body j
+-- words from the second on don't ask for the first, nor the others for one word of the body
+pub words_later : (a b : ℕ) (body : ℕ → ℕ) (j : ℕ) → j ≢ 0 → words_of a body j ≡ words_of b body j
 words_later a b body zero ne = absurd (ne refl)
-words_later a b body (suc zero) ne = refl
-words_later a b body (suc (suc j)) ne = refl
+words_later a b body (suc i) ne = refl
 
-pub words_but : (tag a b : ℕ) (j : ℕ) → j ≢ 1 → words_of tag a j ≡ words_of tag b j
-words_but tag a b zero ne = refl
-words_but tag a b (suc zero) ne = absurd (ne refl)
-words_but tag a b (suc (suc j)) ne = refl
+pub words_but : (tag : ℕ) (a b : ℕ → ℕ) (i j : ℕ) → ((k : ℕ) → k ≢ i → a k ≡ b k) → j ≢ suc i → words_of tag a j ≡ words_of tag b j
+words_but tag a b i zero same ne = refl
+words_but tag a b i (suc k) same ne = same k (λ e. ne (ap suc e))
 
-pub words_last : (a b : ℕ) (j : ℕ) → 2 ≤ j → words_of a b j ≡ 0
-words_last a b zero far = absurd (omega arith)
-words_last a b (suc zero) far = absurd (omega arith)
-words_last a b (suc (suc j)) far = refl
+-- what a request asks for is its body's words
+pub asks_word : (r : Request) (i : ℕ) → i ≤ 3 → asks_in r (suc i) ≡ word r.body i
+asks_word r zero most = refl
+asks_word r (suc zero) most = refl
+asks_word r (suc (suc zero)) most = refl
+asks_word r (suc (suc (suc zero))) most = refl
+asks_word r (suc (suc (suc (suc i)))) most = absurd (omega arith)
+
+-- and behind all of them nothing
+asks_late : (r : Request) (j : ℕ) → all_wrote Send ≤ j → asks_in r j ≡ 0
+asks_late r zero far = absurd (omega arith)
+asks_late r (suc zero) far = absurd (omega arith)
+asks_late r (suc (suc zero)) far = absurd (omega arith)
+asks_late r (suc (suc (suc zero))) far = absurd (omega arith)
+asks_late r (suc (suc (suc (suc zero)))) far = absurd (omega arith)
+asks_late r (suc (suc (suc (suc (suc zero))))) far = absurd (omega arith)
+asks_late r (suc (suc (suc (suc (suc (suc j)))))) far = refl
 
 module _ (c : Setting) (s : State) (p begun own : ℕ) where
-  pub write_tag : (put : ℕ) (request : Request) → s.stand (pass_on c Send p) ≡ standing c Send s p begun own (place.WriteTag put request) →
-      Writes (view c Send s) (view c Send (after c Send s p begun own (place.WriteTag put request))) p
-  write_tag put request e =
+  pub write_tag : (long put : ℕ) (request : Request) → s.stand (pass_on c Send p) ≡ standing c Send s p begun own (place.WriteTag put request) →
+      Writes long (view c Send s) (view c Send (after c Send s p begun own (place.WriteTag put request))) p
+  write_tag long put request e =
       let was = was_at c Send s p begun own (place.WriteTag put request) e in
-      let is : post_at Send ((after c Send s p begun own (place.WriteTag put request)).stand (pass_on c Send p)) ≡ post_of Send own (place.WriteBody put request.body) = is_at c Send s p begun own (place.WriteTag put request) in
+      let is : post_at Send ((after c Send s p begun own (place.WriteTag put request)).stand (pass_on c Send p)) ≡ post_of Send own (place.WriteBody put request 0) = is_at c Send s p begun own (place.WriteTag put request) in
       let cell : (after c Send s p begun own (place.WriteTag put request)).mem (Node Send own node.Tag) ≡ request.tag = put_here s.mem (Node Send own node.Tag) request.tag in
-      let later : (j : ℕ) → j ≢ 0 → request_words Send (words_at c Send s p begun own (place.WriteTag put request) own) j ≡ request_words Send (before_at c Send s p begun own own) j = λ j ne. words_later _ _ (s.mem (Node Send own node.Body)) j ne in
-      let asks : (j : ℕ) → 1 ≤ j → words_of 0 request.body j ≡ words_of request.tag request.body j = λ j some. words_later 0 request.tag request.body j (λ none. omega arith) in
+      let later : (j : ℕ) → j ≢ 0 → request_words Send (words_at c Send s p begun own (place.WriteTag put request) own) j ≡ request_words Send (before_at c Send s p begun own own) j = λ j ne. words_later _ _ (λ i. s.mem (Node Send own (node.Body i))) j ne in
       let cells : (i : ℕ) → i ≢ own → cell_of Send (words_at c Send s p begun own (place.WriteTag put request) i) ≡ cell_of Send (before_at c Send s p begun own i) = λ i ne. cell_apart s.mem Send own i node.Tag request.tag ne in
       grind (arith, others c Send s p begun own (place.WriteTag put request))
 
-  pub write_body : (put body : ℕ) → s.stand (pass_on c Send p) ≡ standing c Send s p begun own (place.WriteBody put body) →
-      Writes (view c Send s) (view c Send (after c Send s p begun own (place.WriteBody put body))) p
-  write_body put body e =
-      let was = was_at c Send s p begun own (place.WriteBody put body) e in
-      let is : post_at Send ((after c Send s p begun own (place.WriteBody put body)).stand (pass_on c Send p)) ≡ post_of Send own (place.Link put) = is_at c Send s p begun own (place.WriteBody put body) in
-      let cell : (after c Send s p begun own (place.WriteBody put body)).mem (Node Send own node.Body) ≡ body = put_here s.mem (Node Send own node.Body) body in
-      let later : (j : ℕ) → j ≢ 1 → request_words Send (words_at c Send s p begun own (place.WriteBody put body) own) j ≡ request_words Send (before_at c Send s p begun own own) j = λ j ne. words_but (s.mem (Node Send own node.Tag)) _ _ j ne in
-      let asks : (j : ℕ) → 2 ≤ j → 0 ≡ words_of 0 body j = λ j far. sym (words_last 0 body j far) in
-      let cells : (i : ℕ) → i ≢ own → cell_of Send (words_at c Send s p begun own (place.WriteBody put body) i) ≡ cell_of Send (before_at c Send s p begun own i) = λ i ne. cell_apart s.mem Send own i node.Body body ne in
-      grind (arith, others c Send s p begun own (place.WriteBody put body))
+  -- a word of the body, and the next step is there
+  write_word : (long put : ℕ) (request : Request) (i wrote : ℕ) (asked : ℕ → ℕ) → s.stand (pass_on c Send p) ≡ standing c Send s p begun own (place.WriteBody put request i) →
+      post_at Send ((after c Send s p begun own (place.WriteBody put request i)).stand (pass_on c Send p)) ≡ entering own put asked wrote →
+      suc i < wrote → ((j : ℕ) → j < wrote → j < long → j ≤ suc i) → ((j : ℕ) → wrote ≤ j → asked j ≡ asks_in request j) → i ≤ 3 →
+      Writes long (view c Send s) (view c Send (after c Send s p begun own (place.WriteBody put request i))) p
+  write_word long put request i wrote asked e is more told asks few =
+      let word_is : asks_in request (suc i) ≡ word request.body i = asks_word request i few in
+      let was = was_at c Send s p begun own (place.WriteBody put request i) e in
+      let cell : (after c Send s p begun own (place.WriteBody put request i)).mem (Node Send own (node.Body i)) ≡ word request.body i = put_here s.mem (Node Send own (node.Body i)) (word request.body i) in
+      let later : (j : ℕ) → j ≢ suc i → request_words Send (words_at c Send s p begun own (place.WriteBody put request i) own) j ≡ request_words Send (before_at c Send s p begun own own) j =
+      λ j ne. words_but (s.mem (Node Send own node.Tag)) _ _ i j (λ k other. word_apart s.mem Send own i k (word request.body i) other) ne in
+      let cells : (k : ℕ) → k ≢ own → cell_of Send (words_at c Send s p begun own (place.WriteBody put request i) k) ≡ cell_of Send (before_at c Send s p begun own k) = λ k ne. cell_apart s.mem Send own k (node.Body i) (word request.body i) ne in
+      grind (arith, others c Send s p begun own (place.WriteBody put request i))
 
--- an item's tag and body
-told_but_one : (ret tag a b : ℕ) (j : ℕ) → j ≢ 1 → told_words ret a b j ≡ told_words ret tag b j
-told_but_one ret tag a b zero ne = refl
-told_but_one ret tag a b (suc j) ne = words_later a tag b j (λ none. ne (omega arith))
+  pub write_body : (long put : ℕ) (request : Request) (i : ℕ) → long ≡ further_words request.tag + 2 → i ≤ further_words request.tag → s.stand (pass_on c Send p) ≡ standing c Send s p begun own (place.WriteBody put request i) →
+      Writes long (view c Send s) (view c Send (after c Send s p begun own (place.WriteBody put request i))) p
+  write_body long put request i long_is most e = by_case (nat_lt i (further_words request.tag)) refl
+    where
+      there : (b : Bool) → nat_lt i (further_words request.tag) ≡ b → post_at Send ((after c Send s p begun own (place.WriteBody put request i)).stand (pass_on c Send p)) ≡ post_of Send own (cond b (place.WriteBody put request (i + 1)) (place.Link put))
+      there b is = is_at c Send s p begun own (place.WriteBody put request i) ∙ ap (λ (z : Bool). post_of Send own (cond z (place.WriteBody put request (i + 1)) (place.Link put))) is
 
-told_but_two : (ret tag a b : ℕ) (j : ℕ) → j ≢ 2 → told_words ret tag a j ≡ told_words ret tag b j
-told_but_two ret tag a b zero ne = refl
-told_but_two ret tag a b (suc j) ne = words_but tag a b j (λ one. ne (omega arith))
+      by_case : (b : Bool) → nat_lt i (further_words request.tag) ≡ b → Writes long (view c Send s) (view c Send (after c Send s p begun own (place.WriteBody put request i))) p
+      by_case true is = write_word long put request i (suc (i + 1)) (asks_in request) e (there true is) (omega arith) (λ j a b. omega (arith, a)) (λ j far. refl) (omega (arith, most, few_further request.tag))
+      by_case false is = write_word long put request i (all_wrote Send) no_word e (there false is) (omega (arith, most, few_further request.tag)) (λ j a b. omega (arith, b, long_is, ltb-false i (further_words request.tag) is)) (λ j far. sym (asks_late request j far)) (omega (arith, most, few_further request.tag))
+
+-- an item's tag, and a word of its body
+told_but_one : (ret tag a : ℕ) (body : ℕ → ℕ) (j : ℕ) → j ≢ 1 → told_words ret a body j ≡ told_words ret tag body j
+told_but_one ret tag a body zero ne = refl
+told_but_one ret tag a body (suc j) ne = words_later a tag body j (λ none. ne (omega arith))
+
+told_but : (ret tag : ℕ) (a b : ℕ → ℕ) (i j : ℕ) → ((k : ℕ) → k ≢ i → a k ≡ b k) → j ≢ suc (suc i) → told_words ret tag a j ≡ told_words ret tag b j
+told_but ret tag a b i zero same ne = refl
+told_but ret tag a b i (suc j) same ne = words_but tag a b i j same (λ one. ne (ap suc one))
 
 module _ (c : Setting) (g : ℕ) (s : State) (p begun own : ℕ) where
   pub write_answer_tag : (job : Job) (item : Item) → s.stand (pass_on c (Take g) p) ≡ standing c (Take g) s p begun own (place.WriteAnswerTag job item) →
-      Tells 3 (view c (Take g) s) (view c (Take g) (after c (Take g) s p begun own (place.WriteAnswerTag job item))) p (pack item.sender item.number)
+      Tells (further_words (tag_of item) + 3) (view c (Take g) s) (view c (Take g) (after c (Take g) s p begun own (place.WriteAnswerTag job item))) p (tag_of item)
   write_answer_tag job item e =
       let was = was_at c (Take g) s p begun own (place.WriteAnswerTag job item) e in
-      let is : post_at (Take g) ((after c (Take g) s p begun own (place.WriteAnswerTag job item)).stand (pass_on c (Take g) p)) ≡ post_of (Take g) own (place.WriteAnswerBody job item.body) = is_at c (Take g) s p begun own (place.WriteAnswerTag job item) in
-      let cell : (after c (Take g) s p begun own (place.WriteAnswerTag job item)).mem (Node (Take g) job.round.at node.Tag) ≡ pack item.sender item.number = put_here s.mem (Node (Take g) job.round.at node.Tag) (pack item.sender item.number) in
-      let later : (j : ℕ) → j ≢ 1 → answer_words (Take g) (words_at c (Take g) s p begun own (place.WriteAnswerTag job item) job.round.at) j ≡ answer_words (Take g) (before_at c (Take g) s p begun own job.round.at) j = λ j ne. told_but_one (s.mem (Node (Take g) job.round.at node.Ret)) _ _ (s.mem (Node (Take g) job.round.at node.Body)) j ne in
-      let cells : (i : ℕ) → i ≢ job.round.at → cell_of (Take g) (words_at c (Take g) s p begun own (place.WriteAnswerTag job item) i) ≡ cell_of (Take g) (before_at c (Take g) s p begun own i) = λ i ne. cell_apart s.mem (Take g) job.round.at i node.Tag (pack item.sender item.number) ne in
+      let is : post_at (Take g) ((after c (Take g) s p begun own (place.WriteAnswerTag job item)).stand (pass_on c (Take g) p)) ≡ post_of (Take g) own (place.WriteAnswerBody job item 0) = is_at c (Take g) s p begun own (place.WriteAnswerTag job item) in
+      let cell : (after c (Take g) s p begun own (place.WriteAnswerTag job item)).mem (Node (Take g) job.round.at node.Tag) ≡ tag_of item = put_here s.mem (Node (Take g) job.round.at node.Tag) (tag_of item) in
+      let later : (j : ℕ) → j ≢ 1 → answer_words (Take g) (words_at c (Take g) s p begun own (place.WriteAnswerTag job item) job.round.at) j ≡ answer_words (Take g) (before_at c (Take g) s p begun own job.round.at) j = λ j ne. told_but_one (s.mem (Node (Take g) job.round.at node.Ret)) _ _ (λ i. s.mem (Node (Take g) job.round.at (node.Body i))) j ne in
+      let cells : (i : ℕ) → i ≢ job.round.at → cell_of (Take g) (words_at c (Take g) s p begun own (place.WriteAnswerTag job item) i) ≡ cell_of (Take g) (before_at c (Take g) s p begun own i) = λ i ne. cell_apart s.mem (Take g) job.round.at i node.Tag (tag_of item) ne in
       grind (arith, others c (Take g) s p begun own (place.WriteAnswerTag job item))
 
-  pub write_answer_body : (job : Job) (body : ℕ) → s.stand (pass_on c (Take g) p) ≡ standing c (Take g) s p begun own (place.WriteAnswerBody job body) →
-      Tells 3 (view c (Take g) s) (view c (Take g) (after c (Take g) s p begun own (place.WriteAnswerBody job body))) p body
-  write_answer_body job body e =
-      let was = was_at c (Take g) s p begun own (place.WriteAnswerBody job body) e in
-      let is : post_at (Take g) ((after c (Take g) s p begun own (place.WriteAnswerBody job body)).stand (pass_on c (Take g) p)) ≡ post_of (Take g) own (place.MarkDone job) = is_at c (Take g) s p begun own (place.WriteAnswerBody job body) in
-      let cell : (after c (Take g) s p begun own (place.WriteAnswerBody job body)).mem (Node (Take g) job.round.at node.Body) ≡ body = put_here s.mem (Node (Take g) job.round.at node.Body) body in
-      let later : (j : ℕ) → j ≢ 2 → answer_words (Take g) (words_at c (Take g) s p begun own (place.WriteAnswerBody job body) job.round.at) j ≡ answer_words (Take g) (before_at c (Take g) s p begun own job.round.at) j = λ j ne. told_but_two (s.mem (Node (Take g) job.round.at node.Ret)) (s.mem (Node (Take g) job.round.at node.Tag)) _ _ j ne in
-      let cells : (i : ℕ) → i ≢ job.round.at → cell_of (Take g) (words_at c (Take g) s p begun own (place.WriteAnswerBody job body) i) ≡ cell_of (Take g) (before_at c (Take g) s p begun own i) = λ i ne. cell_apart s.mem (Take g) job.round.at i node.Body body ne in
-      grind (arith, others c (Take g) s p begun own (place.WriteAnswerBody job body))
+  -- a word of the body, and the next step is there
+  write_answer_word : (long : ℕ) (job : Job) (item : Item) (i told : ℕ) → s.stand (pass_on c (Take g) p) ≡ standing c (Take g) s p begun own (place.WriteAnswerBody job item i) →
+      post_at (Take g) ((after c (Take g) s p begun own (place.WriteAnswerBody job item i)).stand (pass_on c (Take g) p)) ≡ serving own job 2 told →
+      ((j : ℕ) → j < told → j < long → j ≤ suc (suc i)) →
+      Tells long (view c (Take g) s) (view c (Take g) (after c (Take g) s p begun own (place.WriteAnswerBody job item i))) p (word (body_words item) i)
+  write_answer_word long job item i told e is most =
+      let was = was_at c (Take g) s p begun own (place.WriteAnswerBody job item i) e in
+      let cell : (after c (Take g) s p begun own (place.WriteAnswerBody job item i)).mem (Node (Take g) job.round.at (node.Body i)) ≡ word (body_words item) i = put_here s.mem (Node (Take g) job.round.at (node.Body i)) (word (body_words item) i) in
+      let later : (j : ℕ) → j ≢ suc (suc i) → answer_words (Take g) (words_at c (Take g) s p begun own (place.WriteAnswerBody job item i) job.round.at) j ≡ answer_words (Take g) (before_at c (Take g) s p begun own job.round.at) j =
+      λ j ne. told_but (s.mem (Node (Take g) job.round.at node.Ret)) (s.mem (Node (Take g) job.round.at node.Tag)) _ _ i j (λ k other. word_apart s.mem (Take g) job.round.at i k (word (body_words item) i) other) ne in
+      let cells : (k : ℕ) → k ≢ job.round.at → cell_of (Take g) (words_at c (Take g) s p begun own (place.WriteAnswerBody job item i) k) ≡ cell_of (Take g) (before_at c (Take g) s p begun own k) = λ k ne. cell_apart s.mem (Take g) job.round.at k (node.Body i) (word (body_words item) i) ne in
+      grind (arith, others c (Take g) s p begun own (place.WriteAnswerBody job item i))
+
+  pub write_answer_body : (job : Job) (item : Item) (i : ℕ) → s.stand (pass_on c (Take g) p) ≡ standing c (Take g) s p begun own (place.WriteAnswerBody job item i) →
+      Tells (further_words (tag_of item) + 3) (view c (Take g) s) (view c (Take g) (after c (Take g) s p begun own (place.WriteAnswerBody job item i))) p (word (body_words item) i)
+  write_answer_body job item i e = by_case (nat_lt i (further_words (tag_of item))) refl
+    where
+      there : (b : Bool) → nat_lt i (further_words (tag_of item)) ≡ b → post_at (Take g) ((after c (Take g) s p begun own (place.WriteAnswerBody job item i)).stand (pass_on c (Take g) p)) ≡ post_of (Take g) own (cond b (place.WriteAnswerBody job item (i + 1)) (place.MarkDone job))
+      there b is = is_at c (Take g) s p begun own (place.WriteAnswerBody job item i) ∙ ap (λ (z : Bool). post_of (Take g) own (cond z (place.WriteAnswerBody job item (i + 1)) (place.MarkDone job))) is
+
+      by_case : (b : Bool) → nat_lt i (further_words (tag_of item)) ≡ b → Tells (further_words (tag_of item) + 3) (view c (Take g) s) (view c (Take g) (after c (Take g) s p begun own (place.WriteAnswerBody job item i))) p (word (body_words item) i)
+      by_case true is = write_answer_word (further_words (tag_of item) + 3) job item i (suc (suc (i + 1))) e (there true is) (λ j a b. omega (arith, a))
+      by_case false is = write_answer_word (further_words (tag_of item) + 3) job item i all_told e (there false is) (λ j a b. omega (arith, b, ltb-false i (further_words (tag_of item)) is))

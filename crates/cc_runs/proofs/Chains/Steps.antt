@@ -18,7 +18,6 @@ use Rattle.cc_runs.specs.Step.{advanced}
 use Rattle.cc_runs.specs.Run.{IsFinished}
 use Rattle.cc_runs.proofs.Combining.Chain.{Ghost}
 use Rattle.cc_runs.proofs.Combining.Invariant.{Inv}
-use Rattle.cc_runs.proofs.Combining.Link.{Links}
 use Rattle.cc_runs.proofs.Combining.Stay as by_stay
 use Rattle.cc_runs.proofs.Combining.Reset as by_reset
 use Rattle.cc_runs.proofs.Combining.Exchange as by_exchange
@@ -34,7 +33,7 @@ use Rattle.cc_runs.proofs.Chains.Bridge.{standing, after, found}
 use Rattle.cc_runs.proofs.Chains.Registers.{IsChain, HasSide, calls_on, answers_on, call_at, answer_at, HasCall, HasService, HasRead}
 use Rattle.cc_runs.proofs.Chains.Ties.{Ties, Holds, stands_on, ties_moved}
 use Rattle.cc_runs.proofs.Chains.Grown as grown
-use Rattle.cc_runs.proofs.Chains.Facts.{noted_none, side_same, keeps_side, IsFree, free_at, exchanged_free, serves_it}
+use Rattle.cc_runs.proofs.Chains.Facts.{noted_none, side_same, keeps_side, IsFree, free_at, exchanged_free, serves_it, few_asked}
 
 -- an exchange puts its call at the end of its chain's
 entered : (x : Chain) (h : Record) (e : Entry) → HasSide x h → side x (noted x h (Some e) None) ≡ with_call (side x h) e
@@ -109,9 +108,11 @@ module _ (c : Setting) (x : Chain) (ok : IsChain c x) (some : 0 < c.config.bound
 
   pub link : (put : ℕ) → Here (place.Link put) → Holds c x (next (place.Link put))
   link put e =
+      let rank : (post_at x (s.stand (pass_on c x p))).rank ≡ 3 = ap (λ (z : Stand). (post_at x z).rank) e in
+      let called : w.ghost.at p < w.ghost.calls = w.inv.passes.at_in p inside (omega (arith, rank)) in
       goes_on (place.Link put) place.ReadState w.ghost.marked w.ghost.server refl refl refl
       (by_link.keeps (members c x) c.config.bound (view c x s) (view c x (next (place.Link put))) w.ghost p inside w.inv
-      (subst (λ (m : ℕ). Links m (view c x s) (view c x (next (place.Link put))) p) (sym (w.ties.asks_long (w.ghost.at p))) (bridge.link c x s p begun own put e)))
+      (bridge.link c x s p begun own (w.ghost.asks_long (w.ghost.at p)) put (omega (arith, w.ties.asks_long (w.ghost.at p) called, few_asked x (call_at (calls_on x s.history) (w.ghost.at p)))) e))
       record { onward = omega arith; call = tt; read = tt; ended = λ f. absurd f; serves = λ a. tt; keep = λ q ne a. (a, refl) }
 
   wait : Here place.ReadState → s.mem (Node x own node.State) ≡ 1 → Holds c x (next place.ReadState)

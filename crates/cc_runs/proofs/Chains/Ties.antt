@@ -37,7 +37,7 @@ pub record Ties (c : Setting) (x : Chain) (calls : List Entry) (answers : List A
   pub pass_in : (k : ℕ) → k < g.calls → g.pass_of k < members c x
   pub entered : (k : ℕ) → k < g.calls → IsCall c x (g.pass_of k) (call_at calls k)
   pub asked : (k j : ℕ) → k < g.calls → g.asked k j ≡ asked_words x (call_at calls k) j
-  pub asks_long : (k : ℕ) → g.asks_long k ≡ request_long x
+  pub asks_long : (k : ℕ) → k < g.calls → g.asks_long k ≡ request_long x (call_at calls k)
   pub answered : (k : ℕ) → k < g.answers → IsAnswer c.served x (answer_at answers k)
   pub told : (k j : ℕ) → k < g.answers → g.told k j ≡ coded_words c.served x (answer_at answers k) j
   pub told_long : (k : ℕ) → k < g.answers → g.told_long k ≡ answer_long (answer_at answers k)
@@ -74,7 +74,7 @@ service_call served x own e e' a at same h = h
 -- only a reader asks for its answer
 pub reader_answer : (served : Served) (x : Chain) (own : ℕ) (a a' : Answer) (at : Place) → ((post_of x own at).rank ≡ 6 → a ≡ a') → (IsFinished at → a ≡ a') → HasRead served x a at → HasRead served x a' at
 reader_answer served x own a a' (place.ReadAnswerTag at) same ended h = subst (λ (z : Answer). HasRead served x z (place.ReadAnswerTag at)) (same refl) h
-reader_answer served x own a a' (place.ReadAnswerBody at tag) same ended h = subst (λ (z : Answer). HasRead served x z (place.ReadAnswerBody at tag)) (same refl) h
+reader_answer served x own a a' (place.ReadAnswerBody p i) same ended h = subst (λ (z : Answer). HasRead served x z (place.ReadAnswerBody p i)) (same refl) h
 reader_answer served x own a a' (place.Finished told) same ended h = subst (λ (z : Answer). HasRead served x z (place.Finished told)) (ended tt) h
 reader_answer served x own a a' at same ended h = h
 

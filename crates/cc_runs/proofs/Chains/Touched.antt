@@ -39,12 +39,12 @@ module _ (c : Setting) (x y : Chain) (own i : ℕ) (f : NodeField) where
 
   count_touches : (job : Job) (service : Counting) → x ≡ Send → word_of (count_side.operation job.round.at service) ≡ Node y i f → Touches x y own i (place.Counting job service)
   count_touches job counting.ReadTag sends e = sent_node (place.Counting job counting.ReadTag) job.round.at _ sends refl refl e
-  count_touches job counting.ReadBody sends e = sent_node (place.Counting job counting.ReadBody) job.round.at _ sends refl refl e
+  count_touches job (counting.ReadBody tag i) sends e = sent_node (place.Counting job (counting.ReadBody tag i)) job.round.at _ sends refl refl e
   count_touches job service sends e = absurd (cc)
 
   send_touches : (job : Job) (service : Sending) → x ≡ Send → word_of (send_side.operation c.config job.round.at service) ≡ Node y i f → Touches x y own i (place.Sending job service)
   send_touches job sending.ReadTag sends e = sent_node (place.Sending job sending.ReadTag) job.round.at _ sends refl refl e
-  send_touches job (sending.ReadBody tag) sends e = sent_node (place.Sending job (sending.ReadBody tag)) job.round.at _ sends refl refl e
+  send_touches job (sending.ReadBody request i) sends e = sent_node (place.Sending job (sending.ReadBody request i)) job.round.at _ sends refl refl e
   send_touches job service sends e = absurd (cc)
 
   take_touches : (g : ℕ) (service : Taking) → word_of (take_side.operation g service) ≡ Node y i f → ⊥
@@ -58,7 +58,7 @@ module _ (c : Setting) (x y : Chain) (own i : ℕ) (f : NodeField) where
   touches (place.ResetState call) counts sends e = own_node (place.ResetState call) _ e
   touches (place.Exchange call) counts sends e = absurd (cc)
   touches (place.WriteTag put request) counts sends e = own_node (place.WriteTag put request) _ e
-  touches (place.WriteBody put body) counts sends e = own_node (place.WriteBody put body) _ e
+  touches (place.WriteBody put request i) counts sends e = own_node (place.WriteBody put request i) _ e
   touches (place.Link put) counts sends e = own_node (place.Link put) _ e
   touches place.ReadState counts sends e = own_node place.ReadState _ e
   touches (place.ReadNext round) counts sends e = its_node (place.ReadNext round) round.at _ refl refl e
@@ -67,10 +67,10 @@ module _ (c : Setting) (x y : Chain) (own i : ℕ) (f : NodeField) where
   touches (place.Taking job service) counts sends e = absurd (take_touches (group_of x) service e)
   touches (place.WriteAnswer job told) counts sends e = its_node (place.WriteAnswer job told) job.round.at _ refl refl e
   touches (place.WriteAnswerTag job item) counts sends e = its_node (place.WriteAnswerTag job item) job.round.at _ refl refl e
-  touches (place.WriteAnswerBody job body) counts sends e = its_node (place.WriteAnswerBody job body) job.round.at _ refl refl e
+  touches (place.WriteAnswerBody job item i) counts sends e = its_node (place.WriteAnswerBody job item i) job.round.at _ refl refl e
   touches (place.MarkDone job) counts sends e = its_node (place.MarkDone job) job.round.at _ refl refl e
   touches (place.HandOver at) counts sends e = its_node (place.HandOver at) at _ refl refl e
   touches place.ReadAnswer counts sends e = own_node place.ReadAnswer _ e
   touches (place.ReadAnswerTag at) counts sends e = own_node (place.ReadAnswerTag at) _ e
-  touches (place.ReadAnswerBody at tag) counts sends e = own_node (place.ReadAnswerBody at tag) _ e
+  touches (place.ReadAnswerBody p i) counts sends e = own_node (place.ReadAnswerBody p i) _ e
   touches (place.Finished told) counts sends e = absurd (cc)

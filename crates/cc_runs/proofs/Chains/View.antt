@@ -7,6 +7,7 @@ use Rattle.cc_runs.specs.declared.word.NodeField.{NodeField}
 use Rattle.cc_runs.specs.declared.word.NodeField.TheVariants as node
 use Rattle.cc_runs.specs.declared.word.Word.TheVariants.{Tail, Node}
 use Rattle.cc_runs.specs.declared.place.Job.{Job}
+use Rattle.cc_runs.specs.declared.place.Request.{Request}
 use Rattle.cc_runs.specs.declared.place.Stand.{Stand}
 use Rattle.cc_runs.specs.declared.place.Sending.{Sending}
 use Rattle.cc_runs.specs.declared.place.Sending.TheVariants as sending
@@ -16,7 +17,7 @@ use Rattle.cc_model.specs.declared.call.Entry.{Entry}
 use Rattle.cc_model.specs.declared.call.Answer.{Answer}
 use Rattle.cc_model.specs.declared.call.Answer.TheVariants as answer
 use Rattle.cc_model.specs.declared.call.TakeAnswer.TheVariants as take
-use Rattle.cc_runs.specs.Codes.{request_in}
+use Rattle.cc_runs.specs.Codes.{request_in, further_words, tag_of}
 use Rattle.cc_runs.specs.State.{State}
 pub use Rattle.cc_runs.specs.Sides.{passes_on as members}
 use Rattle.cc_runs.proofs.Combining.Chain.{Post, Cell, Chain as Seen}
@@ -26,42 +27,63 @@ abbrev pub pass_on : Setting → Chain → ℕ → ℕ
 pass_on c Send p = p
 pass_on c (Take g) p = c.config.senders + (g * c.config.receivers + p)
 
--- the words of a request: its tag and its body; a take has none
-abbrev pub words_of : ℕ → ℕ → ℕ → ℕ
+-- the words of a request: its tag, and those of its body; a take has none
+abbrev pub words_of : ℕ → (ℕ → ℕ) → ℕ → ℕ
 words_of tag body zero = tag
-words_of tag body (suc zero) = body
-words_of tag body (suc (suc _)) = 0
+words_of tag body (suc i) = body i
 
 abbrev pub request_words : Chain → (NodeField → ℕ) → ℕ → ℕ
-request_words Send w j = words_of (w node.Tag) (w node.Body) j
+request_words Send w j = words_of (w node.Tag) (λ i. w (node.Body i)) j
 request_words (Take g) w j = 0
 
-abbrev pub request_long : Chain → ℕ
-request_long Send = 2
-request_long (Take g) = 0
+-- the words of a request as its sender has them, and behind all of them how many of the body's there are
+abbrev pub asks_in : Request → ℕ → ℕ
+asks_in r zero = r.tag
+asks_in r (suc zero) = r.body.first
+asks_in r (suc (suc zero)) = r.body.second
+asks_in r (suc (suc (suc zero))) = r.body.third
+asks_in r (suc (suc (suc (suc zero)))) = r.body.fourth
+asks_in r (suc (suc (suc (suc (suc zero))))) = further_words r.tag
+asks_in r (suc (suc (suc (suc (suc (suc _)))))) = 0
 
--- the words of an answer: a take is told an item's tag and body too
-abbrev pub told_words : ℕ → ℕ → ℕ → ℕ → ℕ
+-- what a call asks for, and in how many words
+abbrev pub asked_words : Chain → Entry → ℕ → ℕ
+asked_words Send e j = asks_in (request_in e) j
+asked_words (Take g) e j = 0
+
+abbrev pub request_long : Chain → Entry → ℕ
+request_long Send e = further_words (request_in e).tag + 2
+request_long (Take g) e = 0
+
+-- the words of an answer: a take is told an item's tag and its body too
+abbrev pub told_words : ℕ → ℕ → (ℕ → ℕ) → ℕ → ℕ
 told_words ret tag body zero = ret
 told_words ret tag body (suc j) = words_of tag body j
 
+abbrev pub no_word : ℕ → ℕ
+no_word i = 0
+
 abbrev pub answer_words : Chain → (NodeField → ℕ) → ℕ → ℕ
-answer_words Send w j = told_words (w node.Ret) 0 0 j
-answer_words (Take g) w j = told_words (w node.Ret) (w node.Tag) (w node.Body) j
+answer_words Send w j = told_words (w node.Ret) 0 no_word j
+answer_words (Take g) w j = told_words (w node.Ret) (w node.Tag) (λ i. w (node.Body i)) j
 
--- the words that a call asks for
-abbrev pub asked_words : Chain → Entry → ℕ → ℕ
-asked_words Send e j = words_of (request_in e).tag (request_in e).body j
-asked_words (Take g) e j = 0
-
--- how many words an answer has, and how many are told once its first is written: 3 for all
+-- how many words an answer has
 abbrev pub answer_long : Answer → ℕ
-answer_long (answer.Take (take.Got item)) = 3
+answer_long (answer.Take (take.Got item)) = further_words (tag_of item) + 3
 answer_long _ = 1
 
+-- as many words as no answer and no request has more
+abbrev pub all_told : ℕ
+all_told = 6
+
+abbrev pub all_wrote : Chain → ℕ
+all_wrote Send = 6
+all_wrote (Take g) = 0
+
+-- how many words of an answer are told once its first is written
 abbrev pub told_next : Answer → ℕ
 told_next (answer.Take (take.Got item)) = 1
-told_next _ = 3
+told_next _ = all_told
 
 abbrev pub cell_of : Chain → (NodeField → ℕ) → Cell
 cell_of x w = record { next = w node.Next; state = w node.State; request = request_words x w; answer = answer_words x w }
@@ -96,9 +118,9 @@ post_of x own place.Idle = out 0 own
 post_of x own (place.ResetNext call) = out 0 own
 post_of x own (place.ResetState call) = out 1 own
 post_of x own (place.Exchange call) = out 2 own
-post_of x own (place.WriteTag put request) = entering own put (words_of request.tag request.body) 0
-post_of x own (place.WriteBody put body) = entering own put (words_of 0 body) 1
-post_of x own (place.Link put) = entering own put (λ j. 0) (request_long x)
+post_of x own (place.WriteTag put request) = entering own put (asks_in request) 0
+post_of x own (place.WriteBody put request i) = entering own put (asks_in request) (suc i)
+post_of x own (place.Link put) = entering own put no_word (all_wrote x)
 post_of x own place.ReadState = out 4 own
 post_of x own (place.ReadNext round) = resting own round.at round.served 0
 post_of x own (place.Counting job service) = serving own job 1 0
@@ -106,12 +128,12 @@ post_of x own (place.Sending job service) = serving own job (send_stage service)
 post_of x own (place.Taking job service) = serving own job 1 0
 post_of x own (place.WriteAnswer job told) = serving own job 2 0
 post_of x own (place.WriteAnswerTag job item) = serving own job 2 1
-post_of x own (place.WriteAnswerBody job body) = serving own job 2 2
-post_of x own (place.MarkDone job) = serving own job 2 3
+post_of x own (place.WriteAnswerBody job item i) = serving own job 2 (suc (suc i))
+post_of x own (place.MarkDone job) = serving own job 2 all_told
 post_of x own (place.HandOver at) = resting own at 0 3
 post_of x own place.ReadAnswer = out 6 own
 post_of x own (place.ReadAnswerTag at) = out 6 own
-post_of x own (place.ReadAnswerBody at tag) = out 6 own
+post_of x own (place.ReadAnswerBody p i) = out 6 own
 post_of x own (place.Finished told) = out 0 own
 
 abbrev pub post_at : Chain → Stand → Post

@@ -38,7 +38,7 @@ pub record Links (n h : ℕ) (v : Chain) (g : Ghost) : Type 0 where
 
 -- the request words and the answer words
 pub record Words (n h : ℕ) (v : Chain) (g : Ghost) : Type 0 where
-  pub written : (p j : ℕ) → p < n → (v.post p).rank ≡ 3 → j < (v.post p).wrote → (v.node (v.post p).node).request j ≡ g.asked (g.at p) j
+  pub written : (p j : ℕ) → p < n → (v.post p).rank ≡ 3 → j < (v.post p).wrote → j < g.asks_long (g.at p) → (v.node (v.post p).node).request j ≡ g.asked (g.at p) j
   pub linked_written : (p j : ℕ) → p < n → 4 ≤ (v.post p).rank → g.marked ≤ g.at p → j < g.asks_long (g.at p) → (v.node (v.post p).node).request j ≡ g.asked (g.at p) j
   pub serving_told : (p j : ℕ) → g.server ≡ p + 1 → (v.post p).stage ≡ 2 → j < (v.post p).told → j < g.told_long g.marked → (v.node (g.chain g.marked)).answer j ≡ g.told g.marked j
   pub done_told : (p j : ℕ) → p < n → 4 ≤ (v.post p).rank → g.at p < g.marked → j < g.told_long (g.at p) → (v.node (v.post p).node).answer j ≡ g.told (g.at p) j

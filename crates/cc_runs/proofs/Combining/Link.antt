@@ -5,9 +5,10 @@ use Rattle.cc_runs.proofs.Combining.Chain.{Chain, Ghost}
 use Rattle.cc_runs.proofs.Combining.Invariant.{Inv}
 use Rattle.cc_runs.proofs.Combining.Apart.{node_chain, chain_apart}
 
-pub record Links (r : ℕ) (v v' : Chain) (p : ℕ) : Type 0 where
+-- of a request of so many words, which are all written
+pub record Links (long : ℕ) (v v' : Chain) (p : ℕ) : Type 0 where
   pub before : (v.post p).rank ≡ 3
-  pub wrote : (v.post p).wrote ≡ r
+  pub wrote : long ≤ (v.post p).wrote
   pub rank : (v'.post p).rank ≡ 4
   pub node : (v'.post p).node ≡ (v.post p).node
   pub next : (v'.node (v.post p).node).next ≡ (v.post p).put + 1

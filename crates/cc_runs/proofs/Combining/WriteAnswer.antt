@@ -56,7 +56,12 @@ module _ (n h : ℕ) (v v' : Chain) (g : Ghost) (p : ℕ) (inside : p < n) (i : 
     calls = grind (arith, cases_eq, me, only, target, next_same, state_same, request_same, more, cell);
     passes = grind (arith, cases_eq, me, only, target, next_same, state_same, request_same, more, cell);
     links = grind (arith, cases_eq, me, only, target, next_same, state_same, request_same, more, cell);
-    words = grind (arith, cases_eq, me, only, target, next_same, state_same, request_same, more, cell);
+    words = record {
+      written = λ q j qn a b d. grind (arith, cases_eq q p, t.others q, i.words.written q j, request_same (v.post q).node j);
+      linked_written = λ q j qn a b d. grind (arith, cases_eq q p, t.others q, i.words.linked_written q j, t.node, t.before, request_same (v.post q).node j);
+      serving_told = λ q j a b d e. grind (arith, cases_eq q p, only q, me, target, cases_eq j (v.post p).told, t.told j, t.answer, t.answers j, i.words.serving_told p j, t.start);
+      done_told = λ q j qn a b d. grind (arith, cases_eq q p, t.others q, t.node, t.before, i.words.done_told q j, cell q);
+    };
     states = grind (arith, cases_eq, me, only, target, next_same, state_same, request_same, more, cell);
     server = grind (arith, cases_eq, me, only, target, next_same, state_same, request_same, more, cell);
     serving = grind (arith, cases_eq, me, only, target, next_same, state_same, request_same, more, cell);

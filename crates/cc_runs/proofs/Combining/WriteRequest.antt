@@ -5,13 +5,15 @@ use Rattle.cc_runs.proofs.Combining.Chain.{Chain, Ghost}
 use Rattle.cc_runs.proofs.Combining.Invariant.{Inv}
 use Rattle.cc_runs.proofs.Combining.Apart.{node_chain, chain_apart}
 
-pub record Writes (v v' : Chain) (p : ℕ) : Type 0 where
+-- the next word of a request of so many words; after the last one all are written
+pub record Writes (long : ℕ) (v v' : Chain) (p : ℕ) : Type 0 where
   pub before : (v.post p).rank ≡ 3
   pub rank : (v'.post p).rank ≡ 3
   pub node : (v'.post p).node ≡ (v.post p).node
   pub put : (v'.post p).put ≡ (v.post p).put
   pub asks : (j : ℕ) → (v'.post p).wrote ≤ j → (v'.post p).asks j ≡ (v.post p).asks j
-  pub wrote : (v'.post p).wrote ≡ (v.post p).wrote + 1
+  pub onward : (v.post p).wrote < (v'.post p).wrote
+  pub wrote : (j : ℕ) → j < (v'.post p).wrote → j < long → j ≤ (v.post p).wrote
   pub next : (v'.node (v.post p).node).next ≡ (v.node (v.post p).node).next
   pub state : (v'.node (v.post p).node).state ≡ (v.node (v.post p).node).state
   pub word : (v'.node (v.post p).node).request (v.post p).wrote ≡ (v.post p).asks (v.post p).wrote
@@ -20,7 +22,7 @@ pub record Writes (v v' : Chain) (p : ℕ) : Type 0 where
   pub others : (q : ℕ) → q ≢ p → v'.post q ≡ v.post q
   pub nodes : (i : ℕ) → i ≢ (v.post p).node → v'.node i ≡ v.node i
 
-module _ (n h : ℕ) (v v' : Chain) (g : Ghost) (p : ℕ) (inside : p < n) (i : Inv n h v g) (t : Writes v v' p) where
+module _ (n h : ℕ) (v v' : Chain) (g : Ghost) (p : ℕ) (inside : p < n) (i : Inv n h v g) (t : Writes (g.asks_long (g.at p)) v v' p) where
   cell : (q : ℕ) → q < n → q ≢ p → v'.node (v.post q).node ≡ v.node (v.post q).node
   cell q qn ne = grind (arith, t.nodes (v.post q).node, i.nodes.apart q p)
 

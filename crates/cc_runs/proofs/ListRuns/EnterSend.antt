@@ -14,7 +14,10 @@ use Rattle.cc_runs.specs.declared.place.Sending.{Sending}
 use Rattle.cc_runs.specs.declared.place.Sending.TheVariants as sending
 use Rattle.cc_runs.specs.declared.place.Stand.{Stand}
 use Rattle.cc_runs.specs.State.{State, chain_of, hold}
-use Rattle.cc_runs.specs.Codes.{request_in}
+use Rattle.cc_runs.specs.declared.place.Request.{Request}
+use Rattle.cc_runs.specs.Codes.{request_in, further_words, word, with_asked}
+use Rattle.cc_runs.proofs.ReadWords.{few_further, next_word}
+use Rattle.cc_runs.proofs.Chains.Registers.{HasAsked, HasRequest}
 use Rattle.cc_runs.specs.Run.{IsIdle, passes}
 use Rattle.cc_runs.proofs.LinkedList.Queue.{Queue}
 use Rattle.cc_runs.proofs.LinkedList.Invariant.{LInv}
@@ -30,7 +33,7 @@ use Rattle.cc_runs.proofs.ListRuns.Least.{least_is}
 -- where nothing is served the stage is 0
 begun_or_none : (e : Entry) (from : ℕ) (service : Sending) → (IsBegun service → ⊥) → (enq_in e from service).stage ≡ 0
 begun_or_none e from sending.ReadTag not = refl
-begun_or_none e from (sending.ReadBody tag) not = refl
+begun_or_none e from (sending.ReadBody request i) not = refl
 begun_or_none e from _ not = absurd (not tt)
 
 stage_none : (e : Entry) (from : ℕ) (at : Place) → (IsServing at → ⊥) → (enq_at e from at).stage ≡ 0
@@ -47,16 +50,19 @@ idle_serves : (at : Place) → IsIdle at → IsServing at → ⊥
 idle_serves place.Idle idle u = u
 idle_serves _ idle u = idle
 
-module _ (c : Config) (s : State) (p begun own : ℕ) (job : Job) (tag : ℕ) (stands : (s.stand p).place ≡ place.Sending job (sending.ReadBody tag)) (within : p < passes (lists c)) (facts : ChainFacts (lists c) s)
+module _ (c : Config) (s : State) (p begun own : ℕ) (job : Job) (request : Request) (i : ℕ) (last : further_words request.tag ≤ i) (stands : (s.stand p).place ≡ place.Sending job (sending.ReadBody request i)) (within : p < passes (lists c)) (facts : ChainFacts (lists c) s)
     (outside : (q : ℕ) → passes (lists c) ≤ q → IsIdle (s.stand q).place) (callers : (e : Entry) → IsNextSend s.history e → Caller c e × (e.known ≤ handed_to_all s.history)) (k : Parts c s) where
   abbrev d : Duty
   d = k.duty
 
-  abbrev body : ℕ
-  body = s.mem (Node Send job.round.at node.Body)
+  abbrev found : ℕ
+  found = s.mem (Node Send job.round.at (node.Body i))
+
+  abbrev whole : Request
+  whole = with_asked request i found
 
   abbrev there : Place
-  there = place.Sending job (sending.ReadShut (record { tag = tag; body = body }))
+  there = place.Sending job (sending.ReadShut whole)
 
   abbrev now : Stand
   now = record { begun = begun; node = own; place = there }
@@ -64,8 +70,11 @@ module _ (c : Config) (s : State) (p begun own : ℕ) (job : Job) (tag : ℕ) (s
   abbrev t : State
   t = record { mem = s.mem; stand = hold s.stand p now; history = s.history }
 
-  read : (e : Entry) × IsNextSend s.history e × (tag ≡ (request_in e).tag) × (body ≡ (request_in e).body)
-  read = facts.read_body p job tag within stands
+  read : (e : Entry) × IsNextSend s.history e × HasAsked e request.tag request.body i × (i ≤ further_words request.tag) × (found ≡ word (request_in e).body i)
+  read = facts.read_body p job request i within stands
+
+  asked : HasRequest read.0 whole.tag whole.body
+  asked = (read.2.0, λ j low. next_word request.body (word (request_in read.0).body) i found (omega (arith, read.3, few_further request.tag)) read.4 read.2.1 j (omega arith))
 
   abbrev to : Duty
   to = record { e_pass = p; e_call = read.0; from = d.from; d_pass = d.d_pass; d_call = d.d_call }
@@ -96,7 +105,7 @@ module _ (c : Config) (s : State) (p begun own : ℕ) (job : Job) (tag : ℕ) (s
   known = omega (arith, (callers read.0 read.1).1, least_is k.told s.history (further c) k.list.counted (omega (arith, k.ties.many, k.ties.some)) k.ties.handed_is)
 
   enters : LInv c.capacity c.life (further c + 1) after k.told
-  enters = keeps.enters s.mem d to _ regs c (further c + 1) k.told record { tag = tag; body = body } (stage_none d.e_call d.from (s.stand d.e_pass).place rests) k.ties.tells_is known refl k.list.inv
+  enters = keeps.enters s.mem d to _ regs c (further c + 1) k.told whole (stage_none d.e_call d.from (s.stand d.e_pass).place rests) k.ties.tells_is known refl k.list.inv
 
   here : (t.stand p).place ≡ there
   here = ap (λ (z : Stand). z.place) (hold_here s.stand p now)
@@ -123,7 +132,7 @@ module _ (c : Config) (s : State) (p begun own : ℕ) (job : Job) (tag : ℕ) (s
         d_mine = k.serving.d_mine;
         d_only = λ y. hold_all (λ (q : ℕ) (z : Stand). chain_of c q ≡ Take y → q ≢ d.d_pass y → IsTaking z.place → ⊥) s.stand p now (λ e ne u. u) (λ q ne e n u. k.serving.d_only y q e n u);
         caller = (callers read.0 read.1).0;
-        reads = subst (λ (z : Place). ReadsAt c to.e_call to.from z) (sym here) (record { tag_is = read.2; body_is = read.3 });
+        reads = subst (λ (z : Place). ReadsAt c to.e_call to.from z) (sym here) asked;
         next_send = λ u. read.1;
         next_take = λ y. hold_all (λ (q : ℕ) (z : Stand). q ≡ d.d_pass y → IsTaking z.place → IsNextTake s.history y (d.d_call y)) s.stand p now (λ e u. absurd u)
             (λ q ne e u. k.serving.next_take y (subst (λ (j : ℕ). IsTaking (s.stand j).place) e u)) (d.d_pass y) refl;

@@ -1,5 +1,5 @@
 -- What the list's invariant needs to know of the two chains.
-use Rattle.std.proofs.Common.{◌≡◌, ℕ, ◌<◌}
+use Rattle.std.proofs.Common.{◌≡◌, ℕ, ◌<◌, ◌≤◌}
 use Rattle.cc_model.specs.declared.config.Config.{Config}
 use Rattle.cc_model.specs.declared.call.Entry.{Entry}
 use Rattle.cc_runs.specs.declared.setting.Setting.{Setting}
@@ -14,7 +14,9 @@ use Rattle.cc_runs.specs.declared.place.Sending.TheVariants as sending
 use Rattle.cc_runs.specs.declared.place.Taking.TheVariants as taking
 use Rattle.cc_runs.specs.State.{State, chain_of}
 use Rattle.cc_runs.specs.Run.{passes}
-use Rattle.cc_runs.specs.Codes.{request_in}
+use Rattle.cc_runs.specs.declared.place.Request.{Request}
+use Rattle.cc_runs.specs.Codes.{request_in, further_words, word}
+use Rattle.cc_runs.proofs.Chains.Registers.{HasAsked}
 use Rattle.cc_runs.proofs.ListRuns.Ties.{IsTaking, IsNextSend, IsNextTake}
 
 -- a machine whose chains serve the list
@@ -31,6 +33,6 @@ IsSending _ = ⊥
 pub record ChainFacts (c : Setting) (s : State) : Type 0 where
   pub one_sending : (p q : ℕ) → p < passes c → q < passes c → IsSending (s.stand p).place → IsSending (s.stand q).place → p ≡ q
   pub one_taking : (p q : ℕ) → p < passes c → q < passes c → chain_of c.config p ≡ chain_of c.config q → IsTaking (s.stand p).place → IsTaking (s.stand q).place → p ≡ q
-  pub read_body : (p : ℕ) (job : Job) (tag : ℕ) → p < passes c → (s.stand p).place ≡ place.Sending job (sending.ReadBody tag)
-      → (e : Entry) × IsNextSend s.history e × (tag ≡ (request_in e).tag) × (s.mem (Node Send job.round.at node.Body) ≡ (request_in e).body)
+  pub read_body : (p : ℕ) (job : Job) (request : Request) (i : ℕ) → p < passes c → (s.stand p).place ≡ place.Sending job (sending.ReadBody request i)
+      → (e : Entry) × IsNextSend s.history e × HasAsked e request.tag request.body i × (i ≤ further_words request.tag) × (s.mem (Node Send job.round.at (node.Body i)) ≡ word (request_in e).body i)
   pub read_head : (p : ℕ) (job : Job) (y : ℕ) → p < passes c → chain_of c.config p ≡ Take y → (s.stand p).place ≡ place.Taking job taking.ReadHead → (e : Entry) × IsNextTake s.history y e

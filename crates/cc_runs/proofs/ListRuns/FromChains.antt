@@ -45,7 +45,7 @@ chain_facts c fits moves run =
           let x : (job : Job) × (service : Taking) × (((reached (lists c) moves).stand p).place ≡ place.Taking job service) = taking_is ((reached (lists c) moves).stand p).place u in
           let y : (job : Job) × (service : Taking) × (((reached (lists c) moves).stand q).place ≡ place.Taking job service) = taking_is ((reached (lists c) moves).stand q).place v in
           serving.one_taking (lists c) (reached (lists c) moves) k p q x.0 y.0 x.1 y.1 a b same x.2 y.2;
-      read_body = λ p job tag less is. for_list.read_body (lists c) (reached (lists c) moves) k p job less tag is;
+      read_body = λ p job request i less is. for_list.read_body (lists c) (reached (lists c) moves) k p job less request i is;
       read_head = λ p job y less chain is.
           subst (λ (z : Chain). (e : Entry) × (slice_get (calls_on z (reached (lists c) moves).history) (length (answers_on z (reached (lists c) moves).history)) ≡ Some e)) chain
           (for_list.serves_take (lists c) (reached (lists c) moves) k p job less taking.ReadHead is);

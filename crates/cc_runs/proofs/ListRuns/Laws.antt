@@ -77,7 +77,7 @@ record Preparing (e : Entry) (from : ℕ) (service : Sending) (x : ℕ) : Type 0
 preparing_is : (e : Entry) (from : ℕ) (service : Sending) (x : ℕ) → IsPreparing service x → Preparing e from service x
 preparing_is e from (sending.ResetItemNext parcel at) x h = record { begun = tt; low = omega arith; high = omega arith; found_is = h }
 preparing_is e from (sending.WriteItemTag parcel at) x h = record { begun = tt; low = omega arith; high = omega arith; found_is = h }
-preparing_is e from (sending.WriteItemBody count body at) x h = record { begun = tt; low = omega arith; high = omega arith; found_is = h }
+preparing_is e from (sending.WriteItemBody parcel at i) x h = record { begun = tt; low = omega arith; high = omega arith; found_is = h }
 preparing_is e from (sending.ReadLast count at) x h = record { begun = tt; low = omega arith; high = omega arith; found_is = h }
 preparing_is e from (sending.LinkItem count at last) x h = record { begun = tt; low = omega arith; high = omega arith; found_is = h }
 preparing_is e from _ x h = absurd h
@@ -85,7 +85,7 @@ preparing_is e from _ x h = absurd h
 preparing_in : (e : Entry) (from : ℕ) (service : Sending) → 7 ≤ (enq_in e from service).stage → (enq_in e from service).stage ≤ 10 → IsPreparing service (enq_in e from service).found
 preparing_in e from (sending.ResetItemNext parcel at) low high = refl
 preparing_in e from (sending.WriteItemTag parcel at) low high = refl
-preparing_in e from (sending.WriteItemBody count body at) low high = refl
+preparing_in e from (sending.WriteItemBody parcel at i) low high = refl
 preparing_in e from (sending.ReadLast count at) low high = refl
 preparing_in e from (sending.LinkItem count at last) low high = refl
 preparing_in e from _ low high = absurd (omega (arith, low, high))
@@ -245,8 +245,8 @@ module _ (c : Config) (moves : List Move) (a : AfterRun c moves) where
   held_linked (taking.ReadDummyNext dummy taken) p job x stands within h = ap g.role (sym h) ∙ dummy_linked p job (taking.ReadDummyNext dummy taken) stands (omega arith)
   held_linked (taking.ReadItemTag dummy taken at) p job x stands within (inl h) = ap g.role (sym h) ∙ dummy_linked p job (taking.ReadItemTag dummy taken at) stands (omega arith)
   held_linked (taking.ReadItemTag dummy taken at) p job x stands within (inr h) = after_linked p job (taking.ReadItemTag dummy taken at) stands x (omega arith) (omega arith) (omega (arith, h)) within
-  held_linked (taking.ReadItemBody dummy taken at tag) p job x stands within (inl h) = ap g.role (sym h) ∙ dummy_linked p job (taking.ReadItemBody dummy taken at tag) stands (omega arith)
-  held_linked (taking.ReadItemBody dummy taken at tag) p job x stands within (inr h) = after_linked p job (taking.ReadItemBody dummy taken at tag) stands x (omega arith) (omega arith) (omega (arith, h)) within
+  held_linked (taking.ReadItemBody dummy at parcel i) p job x stands within (inl h) = ap g.role (sym h) ∙ dummy_linked p job (taking.ReadItemBody dummy at parcel i) stands (omega arith)
+  held_linked (taking.ReadItemBody dummy at parcel i) p job x stands within (inr h) = after_linked p job (taking.ReadItemBody dummy at parcel i) stands x (omega arith) (omega arith) (omega (arith, h)) within
   held_linked (taking.WriteHead dummy at parcel) p job x stands within (inl h) = ap g.role (sym h) ∙ dummy_linked p job (taking.WriteHead dummy at parcel) stands (omega arith)
   held_linked (taking.WriteHead dummy at parcel) p job x stands within (inr h) = after_linked p job (taking.WriteHead dummy at parcel) stands x (omega arith) (omega arith) (omega (arith, h)) within
   held_linked (taking.WriteTaken dummy parcel) p job x stands within h = ap g.role (sym h) ∙ dummy_linked p job (taking.WriteTaken dummy parcel) stands (omega arith)
@@ -276,7 +276,7 @@ module _ (c : Config) (moves : List Move) (a : AfterRun c moves) where
   finds (place.Sending job (sending.ResetPassed parcel at)) p stands = (send_holds c s p job (sending.ResetPassed parcel at) stands tt k).found.found_in (omega arith) (omega arith)
   finds (place.Sending job (sending.ResetItemNext parcel at)) p stands = (send_holds c s p job (sending.ResetItemNext parcel at) stands tt k).found.found_in (omega arith) (omega arith)
   finds (place.Sending job (sending.WriteItemTag parcel at)) p stands = (send_holds c s p job (sending.WriteItemTag parcel at) stands tt k).found.found_in (omega arith) (omega arith)
-  finds (place.Sending job (sending.WriteItemBody count body at)) p stands = (send_holds c s p job (sending.WriteItemBody count body at) stands tt k).found.found_in (omega arith) (omega arith)
+  finds (place.Sending job (sending.WriteItemBody parcel at i)) p stands = (send_holds c s p job (sending.WriteItemBody parcel at i) stands tt k).found.found_in (omega arith) (omega arith)
   finds (place.Sending job (sending.LinkItem count at last)) p stands = (send_holds c s p job (sending.LinkItem count at last) stands tt k).found.found_in (omega arith) (omega arith)
   finds (place.Sending job (sending.WriteLast count at)) p stands = (send_holds c s p job (sending.WriteLast count at) stands tt k).found.found_in (omega arith) (omega arith)
   finds (place.Sending job (sending.WriteCount count at)) p stands = (send_holds c s p job (sending.WriteCount count at) stands tt k).found.found_in (omega arith) (omega arith)

@@ -39,7 +39,7 @@ use Rattle.cc_runs.proofs.ListRuns.Runs.{AfterRun}
 use Rattle.cc_runs.proofs.ListRuns.Safe.{send_safe, take_safe}
 use Rattle.cc_runs.proofs.ListRuns.Within.{within}
 use Rattle.cc_runs.proofs.ListRuns.Laws.{taker}
-use Rattle.cc_runs.proofs.ListRuns.FromChains.{after_runs, of_setting}
+use Rattle.cc_runs.proofs.ListRuns.FromChains.{after_runs, chain_facts, of_setting}
 
 answer_fits : (most : ℕ) (a : Answer) → most < 2 ^ 56 → AnswerWithin most a → Fits a
 answer_fits most (answer.Send (send.Accepted at)) l w = omega (arith, l, w)
@@ -84,10 +84,11 @@ module _ (c : Config) (fits : InRange c) (moves : List Move) (run : IsRun (lists
   service_safe : (at : Place) → (s.stand p).place ≡ at → IsService at → IsSafe (lists c) s x (s.stand p).node at
   service_safe (place.Sending job sending.ReadTag) stands u =
       subst (λ (y : Chain). IsSafe (lists c) s y (s.stand p).node (place.Sending job sending.ReadTag)) (sym (well_at (place.Sending job sending.ReadTag) stands))
-      (record { word = safe.node_exists (lists c) Send tt job.round.at node.Tag (subst (λ (y : Chain). job.round.at ≤ members (lists c) y) (well_at (place.Sending job sending.ReadTag) stands) (served_node job sending.ReadTag stands)); numbers = tt })
-  service_safe (place.Sending job (sending.ReadBody tag)) stands u =
-      subst (λ (y : Chain). IsSafe (lists c) s y (s.stand p).node (place.Sending job (sending.ReadBody tag))) (sym (well_at (place.Sending job (sending.ReadBody tag)) stands))
-      (record { word = safe.node_exists (lists c) Send tt job.round.at node.Body (subst (λ (y : Chain). job.round.at ≤ members (lists c) y) (well_at (place.Sending job (sending.ReadBody tag)) stands) (served_node job (sending.ReadBody tag) stands)); numbers = tt })
+      (record { word = safe.node_exists (lists c) Send tt job.round.at node.Tag refl (subst (λ (y : Chain). job.round.at ≤ members (lists c) y) (well_at (place.Sending job sending.ReadTag) stands) (served_node job sending.ReadTag stands)); numbers = tt })
+  service_safe (place.Sending job (sending.ReadBody request i)) stands u =
+      let low = ((chain_facts c fits moves run).read_body p job request i less stands).3 in
+      subst (λ (y : Chain). IsSafe (lists c) s y (s.stand p).node (place.Sending job (sending.ReadBody request i))) (sym (well_at (place.Sending job (sending.ReadBody request i)) stands))
+      (record { word = safe.node_exists (lists c) Send tt job.round.at (node.Body i) (safe.four_words i request.tag low) (subst (λ (y : Chain). job.round.at ≤ members (lists c) y) (well_at (place.Sending job (sending.ReadBody request i)) stands) (served_node job (sending.ReadBody request i) stands)); numbers = tt })
   service_safe (place.Sending job service) stands u =
       subst (λ (y : Chain). IsSafe (lists c) s y (s.stand p).node (place.Sending job service)) (sym (well_at (place.Sending job service) stands)) (send_safe c fits s p a.whole.parts (s.stand p).node job service stands tt)
   service_safe (place.Taking job service) stands u =

@@ -34,7 +34,7 @@ use Rattle.cc_runs.proofs.LinkedList.Open as open_list
 use Rattle.cc_runs.proofs.LinkedList.Grow as grow
 use Rattle.cc_runs.proofs.LinkedList.Busy as busy
 use Rattle.cc_runs.proofs.LinkedList.Grow.{Held}
-use Rattle.cc_runs.proofs.ListRuns.View.{Duty, Regs, none, resting, enq_at, regs_at, regs_of, queue_from, queue_of}
+use Rattle.cc_runs.proofs.ListRuns.View.{Duty, Regs, none, resting, enq_at, regs_at, regs_of, queue_from, queue_of, long_of}
 use Rattle.cc_runs.proofs.ListRuns.Ties.{further, ReadsAt, IsServing, IsUndecidedAt, IsTaking, Linked}
 use Rattle.cc_runs.proofs.ListRuns.Facts.{lists, ChainFacts}
 use Rattle.cc_runs.proofs.ListRuns.Posts.{Begun, Well, Posts, Calls, HasNumber, waits, is_send, OfSend, OfTake, of_side, group_in, known_grows}
@@ -288,7 +288,7 @@ module _ (c : Config) (fits : InRange c) where
   duty0 = record { e_pass = 0; e_call = record { pass = Sender 1; call = call.Close; number = 0; known = 0 }; from = 0; d_pass = λ y. c.senders + (y * c.receivers + 0); d_call = λ y. record { pass = Sender 1; call = call.Close; number = 0; known = 0 } }
 
   abbrev told0 : Told
-  told0 = open_list.opening (λ (a : ℕ). 2)
+  told0 = open_list.opening long_of
 
   idle0 : (p : ℕ) → (s0.stand p).place ≡ place.Idle
   idle0 p = by_case (nat_lt p (passes (lists c)))
@@ -345,7 +345,7 @@ module _ (c : Config) (fits : InRange c) where
   }
 
   list0 : Held c.capacity c.life (further c) queue0 told0
-  list0 = record { inv = open_list.opens c.capacity c.life (further c + 1) queue0 (λ (a : ℕ). 2) opens0; counted = grow.opening_counted (further c) (λ (a : ℕ). 2) }
+  list0 = record { inv = open_list.opens c.capacity c.life (further c + 1) queue0 long_of opens0; counted = grow.opening_counted (further c) long_of }
 
   same_queue0 : queue_of s0 duty0 ≡ queue0
   same_queue0 =
@@ -357,7 +357,7 @@ module _ (c : Config) (fits : InRange c) where
   silent0 y = no_calls (groups c) (Take y)
 
   zero0 : open_list.Zero told0
-  zero0 = open_list.zeros (λ (a : ℕ). 2)
+  zero0 = open_list.zeros long_of
 
   parts0 : Parts c s0
   parts0 = record {
@@ -379,7 +379,7 @@ module _ (c : Config) (fits : InRange c) where
       accepted_is = zero0.accepted;
       handed_is = λ y. zero0.handed y ∙ sym (ap (λ (z : Side). length (handed_by z.answers)) (silent0 y));
       shut_is = zero0.shut;
-      tells_is = open_list.opening_tells (λ (a : ℕ). 2);
+      tells_is = open_list.opening_tells long_of;
       items_are = λ k l. absurd (omega (arith, l, zero0.accepted));
       lawful = record { sends = tt; takes = λ y. subst (λ (z : Side). DAnswers (accepted s0.history) (is_shut s0.history) 0 z.calls z.answers) (sym (silent0 y)) tt };
     };

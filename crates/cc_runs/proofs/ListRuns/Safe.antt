@@ -1,5 +1,5 @@
 -- A step of a service finds its words, and no number of the list leaves its range.
-use Rattle.std.proofs.Common.{◌≡◌, ℕ, ◌+◌, ◌<◌, ◌≤◌, nat_lt, inl, inr, IsTrue, refl, sym, ap, ◌∙◌, subst, arith}
+use Rattle.std.proofs.Common.{◌≡◌, ℕ, suc, ◌+◌, ◌<◌, ◌≤◌, ◌&&◌, Bool, nat_lt, inl, inr, IsTrue, refl, sym, ap, ◌∙◌, subst, arith}
 use Rattle.std.proofs.lemmas.Bool.{cases_eq, cases_lt, lt-ltb}
 use Rattle.cc_model.specs.declared.config.Config.{Config}
 use Rattle.cc_runs.specs.declared.word.Chain.TheVariants.{Send, Take}
@@ -8,13 +8,16 @@ use Rattle.cc_runs.specs.declared.word.ItemField.TheVariants as item
 use Rattle.cc_runs.specs.declared.word.Word.{Word}
 use Rattle.cc_runs.specs.declared.word.Word.TheVariants.{Item}
 use Rattle.cc_runs.specs.declared.place.Job.{Job}
+use Rattle.cc_runs.specs.declared.place.Parcel.{Parcel}
 use Rattle.cc_runs.specs.declared.place.Place.{Place}
 use Rattle.cc_runs.specs.declared.place.Place.TheVariants as place
 use Rattle.cc_runs.specs.declared.place.Sending.{Sending}
 use Rattle.cc_runs.specs.declared.place.Sending.TheVariants as sending
 use Rattle.cc_runs.specs.declared.place.Taking.{Taking}
 use Rattle.cc_runs.specs.declared.place.Taking.TheVariants as taking
-use Rattle.cc_runs.specs.Words.{groups, layout_of, exists}
+use Rattle.cc_runs.specs.Words.{groups, layout_of, is_item_field, exists}
+use Rattle.cc_runs.proofs.ReadWords.{few_further}
+use Rattle.cc_runs.proofs.Chains.Safe.{four_words}
 use Rattle.cc_runs.specs.State.{State, chain_of}
 use Rattle.cc_runs.specs.Safe.{IsSafe}
 use Rattle.cc_runs.proofs.Ranges.{InRange}
@@ -26,8 +29,8 @@ use Rattle.cc_runs.proofs.ListRuns.Ties.{further, Reads, ReadsAt, IsBegun, IsSer
 use Rattle.cc_runs.proofs.ListRuns.Facts.{lists}
 use Rattle.cc_runs.proofs.ListRuns.Whole.{Parts}
 
-pub item_exists : (c : Config) (i : ℕ) (f : ItemField) → i ≤ c.capacity + 1 → IsTrue (exists (layout_of c) (Item i f))
-item_exists c i f l = lt-ltb i (c.capacity + 2) (omega (arith, l))
+pub item_exists : (c : Config) (i : ℕ) (f : ItemField) → IsTrue (is_item_field f) → i ≤ c.capacity + 1 → IsTrue (exists (layout_of c) (Item i f))
+item_exists c i f part l = ap (λ (b : Bool). b && is_item_field f) (lt-ltb i (c.capacity + 2) (omega (arith, l))) ∙ part
 
 -- ---- the list's invariant, where pass p serves a send or a close
 
@@ -80,30 +83,30 @@ module _ (c : Config) (mem : Word → ℕ) (d : Duty) (e : Enq) (r : ℕ → Reg
 module _ (c : Config) (r : InRange c) (s : State) (p : ℕ) (k : Parts c s) where
   pub send_safe : (own : ℕ) (job : Job) (service : Sending) → (s.stand p).place ≡ place.Sending job service → IsBegun service → IsSafe (lists c) s Send own (place.Sending job service)
   send_safe own job sending.ReadTag e on = absurd on
-  send_safe own job (sending.ReadBody tag) e on = absurd on
+  send_safe own job (sending.ReadBody request i) e on = absurd on
   send_safe own job (sending.ReadLastToClose total) e on = record { word = refl; numbers = (limits.lastc_link c.capacity c.life (further c + 1) _ k.told (send_holds c s p job (sending.ReadLastToClose total) e tt k) refl).0 }
   send_safe own job (sending.ReadLast count at) e on = record { word = refl; numbers = (limits.last_link c.capacity c.life (further c + 1) _ k.told (send_holds c s p job (sending.ReadLast count at) e tt k) refl).0 }
   send_safe own job (sending.LinkMark total last) e on =
       let i : LInv c.capacity c.life (further c + 1) (send_queue c s p job (sending.LinkMark total last) e tt k) k.told = send_holds c s p job (sending.LinkMark total last) e tt k in
-      record { word = item_exists c last item.Next (omega (arith, i.prepared.last_mark refl, least_last c s.mem k.duty _ _ k.told i)); numbers = tt }
+      record { word = item_exists c last item.Next refl (omega (arith, i.prepared.last_mark refl, least_last c s.mem k.duty _ _ k.told i)); numbers = tt }
   send_safe own job (sending.ReadPassed parcel at reads) e on =
       let scanned : Scanned c k.duty.from at reads = (send_reads c s p job (sending.ReadPassed parcel at reads) e tt k).1 in
-      record { word = item_exists c at item.Passed (omega (arith, scanned.within)); numbers = omega (arith, scanned.most, r.capacity) }
+      record { word = item_exists c at item.Passed refl (omega (arith, scanned.within)); numbers = omega (arith, scanned.most, r.capacity) }
   send_safe own job (sending.ResetPassed parcel at) e on =
       let i : LInv c.capacity c.life (further c + 1) (send_queue c s p job (sending.ResetPassed parcel at) e tt k) k.told = send_holds c s p job (sending.ResetPassed parcel at) e tt k in
-      record { word = item_exists c at item.Passed (omega (arith, i.found.found_in (omega arith) (omega arith))); numbers = tt }
+      record { word = item_exists c at item.Passed refl (omega (arith, i.found.found_in (omega arith) (omega arith))); numbers = tt }
   send_safe own job (sending.ResetItemNext parcel at) e on =
       let i : LInv c.capacity c.life (further c + 1) (send_queue c s p job (sending.ResetItemNext parcel at) e tt k) k.told = send_holds c s p job (sending.ResetItemNext parcel at) e tt k in
-      record { word = item_exists c at item.Next (omega (arith, i.found.found_in (omega arith) (omega arith))); numbers = tt }
+      record { word = item_exists c at item.Next refl (omega (arith, i.found.found_in (omega arith) (omega arith))); numbers = tt }
   send_safe own job (sending.WriteItemTag parcel at) e on =
       let i : LInv c.capacity c.life (further c + 1) (send_queue c s p job (sending.WriteItemTag parcel at) e tt k) k.told = send_holds c s p job (sending.WriteItemTag parcel at) e tt k in
-      record { word = item_exists c at item.Tag (omega (arith, i.found.found_in (omega arith) (omega arith))); numbers = tt }
-  send_safe own job (sending.WriteItemBody count body at) e on =
-      let i : LInv c.capacity c.life (further c + 1) (send_queue c s p job (sending.WriteItemBody count body at) e tt k) k.told = send_holds c s p job (sending.WriteItemBody count body at) e tt k in
-      record { word = item_exists c at item.Body (omega (arith, i.found.found_in (omega arith) (omega arith))); numbers = tt }
+      record { word = item_exists c at item.Tag refl (omega (arith, i.found.found_in (omega arith) (omega arith))); numbers = tt }
+  send_safe own job (sending.WriteItemBody parcel at i) e on =
+      let v : LInv c.capacity c.life (further c + 1) (send_queue c s p job (sending.WriteItemBody parcel at i) e tt k) k.told = send_holds c s p job (sending.WriteItemBody parcel at i) e tt k in
+      record { word = item_exists c at (item.Body i) (four_words i parcel.tag (send_reads c s p job (sending.WriteItemBody parcel at i) e tt k).1) (omega (arith, v.found.found_in (omega arith) (omega arith))); numbers = tt }
   send_safe own job (sending.LinkItem count at last) e on =
       let i : LInv c.capacity c.life (further c + 1) (send_queue c s p job (sending.LinkItem count at last) e tt k) k.told = send_holds c s p job (sending.LinkItem count at last) e tt k in
-      record { word = item_exists c last item.Next (omega (arith, i.prepared.last_item refl, least_last c s.mem k.duty _ _ k.told i)); numbers = omega (arith, i.found.found_in (omega arith) (omega arith), r.capacity) }
+      record { word = item_exists c last item.Next refl (omega (arith, i.prepared.last_item refl, least_last c s.mem k.duty _ _ k.told i)); numbers = omega (arith, i.found.found_in (omega arith) (omega arith), r.capacity) }
   send_safe own job (sending.WriteLast count at) e on =
       let i : LInv c.capacity c.life (further c + 1) (send_queue c s p job (sending.WriteLast count at) e tt k) k.told = send_holds c s p job (sending.WriteLast count at) e tt k in
       record { word = refl; numbers = omega (arith, i.found.found_in (omega arith) (omega arith), r.capacity) }
@@ -136,12 +139,25 @@ module _ (c : Config) (r : InRange c) (s : State) (p : ℕ) (k : Parts c s) wher
     stage_at : (job : Job) (service : Taking) → (s.stand p).place ≡ place.Taking job service → (regs_of s.stand k.duty y).stage ≡ (regs_in service).stage
     stage_at job service e = ap (λ (z : Regs). z.stage) (take_regs c s p y chain job service e k)
 
+    -- a word of an item's body that its tag tells of
+    word_at : (job : Job) (dummy at : ℕ) (parcel : Parcel) (i : ℕ) → (s.stand p).place ≡ place.Taking job (taking.ReadItemBody dummy at parcel i) → i < 4
+    word_at job dummy at parcel i e =
+        let is : regs_of s.stand k.duty y ≡ regs_in (taking.ReadItemBody dummy at parcel i) = take_regs c s p y chain job (taking.ReadItemBody dummy at parcel i) e k in
+        let stage : (regs_of s.stand k.duty y).stage ≡ 4 = ap (λ (z : Regs). z.stage) is in
+        let got : (regs_of s.stand k.duty y).got ≡ suc i = ap (λ (z : Regs). z.got) is in
+        elim (cases_lt (k.told.handed y) k.told.accepted) [
+          | inl more ↦
+              omega (arith, got, k.list.inv.takes.read_more y below stage more, k.list.inv.links.long_is (k.told.handed y) more, ap (λ (f : ℕ → ℕ). f (k.told.items (k.told.handed y) 0)) k.ties.tells_is, few_further (k.told.items (k.told.handed y) 0))
+          | inr less ↦ absurd (omega (arith, got, k.list.inv.takes.read_none y below stage (omega (arith, less, k.list.inv.hands.order y below))))
+        ]
+
     pub take_safe : (own : ℕ) (job : Job) (service : Taking) → (s.stand p).place ≡ place.Taking job service → IsSafe (lists c) s (Take y) own (place.Taking job service)
     take_safe own job taking.ReadHead e = record { word = word_in; numbers = (limits.head_link c.capacity c.life (further c + 1) _ k.told k.list.inv y below (stage_at job taking.ReadHead e)).0 }
     take_safe own job (taking.ReadTaken dummy) e = record { word = word_in; numbers = tt }
-    take_safe own job (taking.ReadDummyNext dummy taken) e = record { word = item_exists c dummy item.Next (omega (arith, dummy_at job (taking.ReadDummyNext dummy taken) e (omega arith))); numbers = tt }
-    take_safe own job (taking.ReadItemTag dummy taken at) e = record { word = item_exists c at item.Tag (omega (arith, after_at job (taking.ReadItemTag dummy taken at) e (omega arith) (omega arith))); numbers = tt }
-    take_safe own job (taking.ReadItemBody dummy taken at tag) e = record { word = item_exists c at item.Body (omega (arith, after_at job (taking.ReadItemBody dummy taken at tag) e (omega arith) (omega arith))); numbers = tt }
+    take_safe own job (taking.ReadDummyNext dummy taken) e = record { word = item_exists c dummy item.Next refl (omega (arith, dummy_at job (taking.ReadDummyNext dummy taken) e (omega arith))); numbers = tt }
+    take_safe own job (taking.ReadItemTag dummy taken at) e = record { word = item_exists c at item.Tag refl (omega (arith, after_at job (taking.ReadItemTag dummy taken at) e (omega arith) (omega arith))); numbers = tt }
+    take_safe own job (taking.ReadItemBody dummy at parcel i) e =
+        record { word = item_exists c at (item.Body i) (lt-ltb i 4 (word_at job dummy at parcel i e)) (omega (arith, after_at job (taking.ReadItemBody dummy at parcel i) e (omega arith) (omega arith))); numbers = tt }
     take_safe own job (taking.WriteHead dummy at parcel) e = record { word = word_in; numbers = omega (arith, after_at job (taking.WriteHead dummy at parcel) e (omega arith) (omega arith), r.capacity) }
     take_safe own job (taking.WriteTaken dummy parcel) e =
         let seen : (regs_of s.stand k.duty y).seen ≡ parcel.place = ap (λ (z : Regs). z.seen) (take_regs c s p y chain job (taking.WriteTaken dummy parcel) e k) in
@@ -149,4 +165,4 @@ module _ (c : Config) (r : InRange c) (s : State) (p : ℕ) (k : Parts c s) wher
     take_safe own job (taking.AddPassed dummy parcel) e =
         let at : (regs_of s.stand k.duty y).dummy ≡ dummy = ap (λ (z : Regs). z.dummy) (take_regs c s p y chain job (taking.AddPassed dummy parcel) e k) in
         let few = limits.passed_fits c.capacity c.life (further c + 1) _ k.told k.list.inv y below (stage_at job (taking.AddPassed dummy parcel) e) in
-        record { word = item_exists c dummy item.Passed (omega (arith, dummy_at job (taking.AddPassed dummy parcel) e (omega arith))); numbers = omega (arith, subst (λ (z : ℕ). s.mem (Item z item.Passed) + 1 ≤ further c + 1) at few, r.groups) }
+        record { word = item_exists c dummy item.Passed refl (omega (arith, dummy_at job (taking.AddPassed dummy parcel) e (omega arith))); numbers = omega (arith, subst (λ (z : ℕ). s.mem (Item z item.Passed) + 1 ≤ further c + 1) at few, r.groups) }

@@ -1,6 +1,6 @@
 -- Each line of the service of a send or a close keeps the list's invariant.
-use Rattle.std.proofs.Common.{◌≡◌, ◌≢◌, ℕ, zero, ◌+◌, ◌<◌, ◌≤◌, arith, refl, ap}
-use Rattle.std.proofs.lemmas.Bool.{cases_eq}
+use Rattle.std.proofs.Common.{◌≡◌, ◌≢◌, ◌⊎◌, ℕ, zero, suc, ◌+◌, ◌<◌, ◌≤◌, Bool, true, false, nat_lt, cond, arith, refl, sym, ap, ◌∙◌, subst, inl, inr}
+use Rattle.std.proofs.lemmas.Bool.{cases_eq, ltb-true, ltb-false}
 use Rattle.cc_model.specs.declared.config.Config.{Config}
 use Rattle.cc_runs.specs.declared.word.ItemField.TheVariants as item
 use Rattle.cc_runs.specs.declared.word.Object.TheVariants as object
@@ -11,14 +11,16 @@ use Rattle.cc_runs.specs.declared.place.Request.{Request}
 use Rattle.cc_runs.specs.declared.place.Sending.{Sending}
 use Rattle.cc_runs.specs.declared.place.Sending.TheVariants as sending
 use Rattle.cc_runs.specs.State.{word_of, stored}
-use Rattle.cc_runs.specs.Codes.{request_in}
+use Rattle.cc_runs.specs.Words.{put}
+use Rattle.cc_runs.specs.Codes.{request_in, further_words, word, no_words, parcel as parcel_of}
+use Rattle.cc_runs.proofs.Chains.Registers.{HasRequest}
 use Rattle.cc_runs.specs.ServiceLine.{Next, On, Decides, DecidesAndOn, Tells}
 use Rattle.cc_runs.specs.SendLines.{line, by_shut, operation}
 use Rattle.cc_runs.proofs.LinkedList.Queue.{Enq, Queue, Told}
 use Rattle.cc_runs.proofs.LinkedList.Invariant.{LInv}
 use Rattle.cc_runs.proofs.LinkedList.Scan.{looked, looked_role, looked_known}
 use Rattle.cc_runs.proofs.LinkedList.Grow.{Prepares, Accepts, Shuts}
-use Rattle.cc_runs.proofs.ListRuns.View.{Duty, Regs, asks_of, enq_in, resting, queue_from}
+use Rattle.cc_runs.proofs.ListRuns.View.{Duty, Regs, long_of, asks_of, enq_in, resting, item_word, part_here, part_other, queue_from}
 
 module _ (mem : Word → ℕ) (d : Duty) (r : ℕ → Regs) (c : Config) (n : ℕ) (g : Told) where
   -- the invariant at a step of the service, and where nobody serves
@@ -72,8 +74,40 @@ module _ (mem : Word → ℕ) (d : Duty) (r : ℕ → Regs) (c : Config) (n : �
   pub write_tag : (parcel : Parcel) (at : ℕ) → parcel.tag ≡ (request_in d.e_call).tag → LineKeeps (sending.WriteItemTag parcel at)
   write_tag parcel at same i = grind (arith, cases_eq, apart _ i (omega arith) (omega arith))
 
-  pub write_body : (place body at : ℕ) → body ≡ (request_in d.e_call).body → LineKeeps (sending.WriteItemBody place body at)
-  write_body place body at same i = grind (arith, cases_eq, apart _ i (omega arith) (omega arith))
+  -- a word of a body, and what the next step is then
+  write_word : (parcel : Parcel) (at i : ℕ) (there : Sending) → HasRequest d.e_call parcel.tag parcel.body → i ≤ further_words parcel.tag
+      → (there ≡ sending.WriteItemBody parcel at (i + 1)) × (i < further_words parcel.tag) ⊎ (there ≡ sending.ReadLast parcel.place at) × (further_words parcel.tag ≤ i)
+      → Keeps mem (sending.WriteItemBody parcel at i) → Keeps (put mem (Item at (item.Body i)) (word parcel.body i)) there
+  write_word parcel at i there asked low (inl on) v = subst (Keeps (put mem (Item at (item.Body i)) (word parcel.body i))) (sym on.0) (grind (arith, cases_eq, apart _ v (omega arith) (omega arith), here, others, is))
+    where
+      is : word parcel.body i ≡ asks_of d.e_call (suc i)
+      is = asked.1 i (omega arith)
+
+      here : item_word (put mem (Item at (item.Body i)) (word parcel.body i)) at (suc i) ≡ word parcel.body i
+      here = part_here mem at i (word parcel.body i)
+
+      others : (x j : ℕ) → (at ≡ x → j ≢ suc i) → item_word (put mem (Item at (item.Body i)) (word parcel.body i)) x j ≡ item_word mem x j
+      others x j ne = part_other mem at i (word parcel.body i) x j ne
+  write_word parcel at i there asked low (inr over) v = subst (Keeps (put mem (Item at (item.Body i)) (word parcel.body i))) (sym over.0) (grind (arith, cases_eq, apart _ v (omega arith) (omega arith), here, others, is, last))
+    where
+      is : word parcel.body i ≡ asks_of d.e_call (suc i)
+      is = asked.1 i (omega arith)
+
+      last : long_of (request_in d.e_call).tag ≡ i + 2
+      last = omega (arith, ap further_words asked.0, over.1, low)
+
+      here : item_word (put mem (Item at (item.Body i)) (word parcel.body i)) at (suc i) ≡ word parcel.body i
+      here = part_here mem at i (word parcel.body i)
+
+      others : (x j : ℕ) → (at ≡ x → j ≢ suc i) → item_word (put mem (Item at (item.Body i)) (word parcel.body i)) x j ≡ item_word mem x j
+      others x j ne = part_other mem at i (word parcel.body i) x j ne
+
+  pub write_body : (parcel : Parcel) (at i : ℕ) → HasRequest d.e_call parcel.tag parcel.body → i ≤ further_words parcel.tag → LineKeeps (sending.WriteItemBody parcel at i)
+  write_body parcel at i asked low v = write_word parcel at i _ asked low (by_case (nat_lt i (further_words parcel.tag)) refl) v
+    where
+      by_case : (b : Bool) → nat_lt i (further_words parcel.tag) ≡ b → (cond b (sending.WriteItemBody parcel at (i + 1)) (sending.ReadLast parcel.place at) ≡ sending.WriteItemBody parcel at (i + 1)) × (i < further_words parcel.tag) ⊎ (cond b (sending.WriteItemBody parcel at (i + 1)) (sending.ReadLast parcel.place at) ≡ sending.ReadLast parcel.place at) × (further_words parcel.tag ≤ i)
+      by_case true is = inl (refl, ltb-true i (further_words parcel.tag) is)
+      by_case false is = inr (refl, ltb-false i (further_words parcel.tag) is)
 
   -- ---- the loads that branch
 
@@ -99,7 +133,7 @@ module _ (mem : Word → ℕ) (d : Duty) (r : ℕ → Regs) (c : Config) (n : �
 
   -- the node that is looked at: the scan's first and those that were tried, round the end
   abbrev Looked : ℕ → ℕ → Type 0
-  Looked at reads = looked c.capacity (queue_from mem d (enq_in d.e_call d.from (sending.ReadPassed record { place = 0; tag = 0; body = 0 } at reads)) r) at
+  Looked at reads = looked c.capacity (queue_from mem d (enq_in d.e_call d.from (sending.ReadPassed (parcel_of 0 0 no_words) at reads)) r) at
 
   pub read_passed_free : (parcel : Parcel) (at reads : ℕ) → Looked at reads → mem (Item at item.Passed) ≡ n → Keeps mem (sending.ReadPassed parcel at reads) → Keeps mem (sending.ResetPassed parcel at)
   read_passed_free parcel at reads here free i = grind (arith, here)
@@ -154,8 +188,17 @@ module _ (mem : Word → ℕ) (d : Duty) (r : ℕ → Regs) (c : Config) (n : �
       next_same k a b = grind (arith, is_last, i.live.live_pos k, i.live.live_pos g.accepted)
 
   pub link_item : (place at last : ℕ) → Accepts (Step (sending.LinkItem place at last)) g g' → Moves (sending.LinkItem place at last)
-  link_item place at last u i = grind (arith, cases_eq, apart_item, is_last, unshut, node_same, next_same)
+  link_item place at last u i = grind (arith, cases_eq, apart_item, is_last, unshut, node_same, next_same, item_now, tag_now, long_now)
     where
+      item_now : (j : ℕ) → j < g'.long g.accepted → item_word mem at j ≡ g'.items g.accepted j
+      item_now j l = i.prepared.written j (omega arith) (omega arith) (omega (arith, l, u.long_now)) ∙ sym (u.items_now j)
+
+      tag_now : g'.items g.accepted 0 ≡ (request_in d.e_call).tag
+      tag_now = u.items_now 0
+
+      long_now : (g'.long g.accepted ≡ long_of (request_in d.e_call).tag) × (g'.long g.accepted ≡ g'.tells (g'.items g.accepted 0))
+      long_now = (u.long_now, grind (arith, tag_now, u.long_now, i.request.long_told))
+
       is_last : last ≡ g.node g.accepted
       is_last = let e = i.prepared.last_item refl in omega (arith, e)
 
@@ -172,6 +215,6 @@ module _ (mem : Word → ℕ) (d : Duty) (r : ℕ → Regs) (c : Config) (n : �
       node_same k a = u.node k (λ e. omega arith)
 
 -- a call enters the service
-pub enters : (mem : Word → ℕ) (d d' : Duty) (old : Enq) (r : ℕ → Regs) (c : Config) (n : ℕ) (g : Told) (q : Request) → old.stage ≡ 0 → g.tells ≡ (λ (k : ℕ). 2) → d'.e_call.known ≤ g.least → d'.d_call ≡ d.d_call
+pub enters : (mem : Word → ℕ) (d d' : Duty) (old : Enq) (r : ℕ → Regs) (c : Config) (n : ℕ) (g : Told) (q : Request) → old.stage ≡ 0 → g.tells ≡ long_of → d'.e_call.known ≤ g.least → d'.d_call ≡ d.d_call
     → LInv c.capacity c.life n (queue_from mem d old r) g → LInv c.capacity c.life n (queue_from mem d' (enq_in d'.e_call d'.from (sending.ReadShut q)) r) g
 enters mem d d' old r c n g q from tells known same i = let long = ap (λ (f : ℕ → ℕ). f (request_in d'.e_call).tag) tells in grind (arith, from, long, known, same)

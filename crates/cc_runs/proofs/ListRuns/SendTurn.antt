@@ -1,6 +1,6 @@
 -- A step of the service of a send or a close keeps the list's invariant, and decides a lawful answer.
-use Rattle.std.proofs.Common.{◌≡◌, ◌≢◌, ℕ, zero, suc, ◌+◌, ◌-◌, ◌%◌, ◌<◌, ◌≤◌, ◌^◌, ◌==◌, List, [], ◌∷◌, ◌++◌, length, Bool, true, false, ◌||◌, cond, if◌then◌else◌, Some, None, refl, sym, ap, ◌∙◌, subst, arith, inl, inr, append-nil, length-append}
-use Rattle.std.proofs.lemmas.Bool.{cases_eq, cases_lt, eqb-true, eqb-false}
+use Rattle.std.proofs.Common.{◌≡◌, ◌≢◌, ℕ, zero, suc, ◌+◌, ◌-◌, ◌%◌, ◌<◌, ◌≤◌, ◌^◌, ◌==◌, nat_lt, List, [], ◌∷◌, ◌++◌, length, Bool, true, false, ◌||◌, cond, if◌then◌else◌, Some, None, refl, sym, ap, ◌∙◌, subst, arith, inl, inr, append-nil, length-append}
+use Rattle.std.proofs.lemmas.Bool.{cases_eq, cases_lt, eqb-true, eqb-false, ltb-true, ltb-false}
 use Rattle.std.proofs.Math.Nat.{mod-eq_of_lt, mod_self}
 use Rattle.std.specs.List.{slice_get}
 use Rattle.cc_model.specs.Record.{Record}
@@ -28,7 +28,9 @@ use Rattle.cc_runs.specs.declared.place.Sending.{Sending}
 use Rattle.cc_runs.specs.declared.place.Sending.TheVariants as sending
 use Rattle.cc_runs.specs.Words.{groups, put}
 use Rattle.cc_runs.specs.State.{noted, word_of, stored}
-use Rattle.cc_runs.specs.Codes.{item_of, request_in}
+use Rattle.cc_runs.specs.declared.place.BodyWords.{BodyWords}
+use Rattle.cc_runs.specs.Codes.{item_of, request_in, further_words}
+use Rattle.cc_runs.proofs.Chains.Registers.{HasRequest}
 use Rattle.cc_runs.specs.SendLines.{operation, goes, decides, after, mark, by_shut, by_count, by_passed, in_service}
 use Rattle.cc_runs.specs.ServiceLine as line
 use Rattle.cc_runs.specs.MachineLaws.{links}
@@ -42,7 +44,7 @@ use Rattle.cc_runs.proofs.ListRuns.View.{Duty, Regs, enq_in, enq_at, queue_from}
 use Rattle.cc_runs.proofs.ListRuns.SendKeeps as keeps
 use Rattle.cc_runs.proofs.ListRuns.Fits.{closed_fits, already_fits, shut_fits, spent_fits, full_fits, accepted_fits, item_sent}
 use Rattle.cc_runs.proofs.ListRuns.Decided.{told_send, e_accepted, e_shut, e_decided}
-use Rattle.cc_runs.proofs.ListRuns.Ties.{Ties, further, Asked, Scanned, Reads, ReadsAt, IsUndecided, IsUndecidedAt, IsBegun, IsNextSend, Linked, ties_same, shut_number, shut_true, shut_false}
+use Rattle.cc_runs.proofs.ListRuns.Ties.{Ties, further, body_at, item_same, Scanned, Reads, ReadsAt, IsUndecided, IsUndecidedAt, IsBegun, IsNextSend, Linked, ties_same, shut_number, shut_true, shut_false}
 
 -- what such a step leads to
 pub record TurnBy (c : Config) (mem : Word → ℕ) (d : Duty) (r : ℕ → Regs) (h : Record) (g : Told) (at : Place) (new : List ℕ) : Type 0 where
@@ -170,17 +172,17 @@ module _ (c : Config) (mem : Word → ℕ) (d : Duty) (r : ℕ → Regs) (h : Re
 
   -- ---- the load of shut
 
-  shut_branch : (q : Request) (b : Bool) → (q.tag == 0) ≡ b → Has (AtStep mem (sending.ReadShut q)) g → Asked d.e_call q.tag q.body → IsNextSend h d.e_call → mem (Object object.Shut) ≢ 0
+  shut_branch : (q : Request) (b : Bool) → (q.tag == 0) ≡ b → Has (AtStep mem (sending.ReadShut q)) g → HasRequest d.e_call q.tag q.body → IsNextSend h d.e_call → mem (Object object.Shut) ≢ 0
       → Leads (cond b (line.On sending.ReadTotal) (line.Decides (answer.Send send.Closed)))
   shut_branch q true e has asked next ne =
-      let z : tag_asked ≡ 0 = sym asked.tag_is ∙ eqb-true q.tag 0 e in
+      let z : tag_asked ≡ 0 = sym asked.0 ∙ eqb-true q.tag 0 e in
       on mem sending.ReadTotal has.counted (keeps.read_shut_close mem d r c (further c + 1) g q ne z has.inv) tt (λ u. next)
   shut_branch q false e has asked next ne =
-      let nz : tag_asked ≢ 0 = λ z. eqb-false q.tag 0 e (asked.tag_is ∙ z) in
+      let nz : tag_asked ≢ 0 = λ z. eqb-false q.tag 0 e (asked.0 ∙ z) in
       answered mem (answer.Send send.Closed) has.counted (keeps.read_shut_send mem d r c (further c + 1) g q ne nz has.inv) next refl refl
       (fits_shut (answer.Send send.Closed) (decide.read_shut c.capacity c.life (further c + 1) (AtStep mem (sending.ReadShut q)) g has.inv refl ne) (closed_fits c (length (accepted h)) d.e_call.known d.e_call.pass d.e_call.call d.e_call.number caller.senders nz))
 
-  read_shut : (q : Request) (found : ℕ) → mem (Object object.Shut) ≡ found → Has (AtStep mem (sending.ReadShut q)) g → Asked d.e_call q.tag q.body → IsNextSend h d.e_call
+  read_shut : (q : Request) (found : ℕ) → mem (Object object.Shut) ≡ found → Has (AtStep mem (sending.ReadShut q)) g → HasRequest d.e_call q.tag q.body → IsNextSend h d.e_call
       → Leads (by_shut q found)
   read_shut q zero e has asked next = on mem (sending.ReadCount q) has.counted (keeps.read_shut_open mem d r c (further c + 1) g q e has.inv) asked (λ u. next)
   read_shut q (suc n) e has asked next = shut_branch q (q.tag == 0) refl has asked next (λ z. omega (arith, z, e))
@@ -194,7 +196,7 @@ module _ (c : Config) (mem : Word → ℕ) (d : Duty) (r : ℕ → Regs) (h : Re
       answered mem (answer.Close (close.Already (mem (Object object.Count)))) has.counted (keeps.read_total mem d r c (further c + 1) g has.inv) next refl refl
       (fits_shut (answer.Close (close.Already (mem (Object object.Count)))) known.1 (already_fits c (length (accepted h)) d.e_call.known d.e_call.pass d.e_call.call d.e_call.number (mem (Object object.Count)) caller.senders known.2 (known.0 ∙ ties.accepted_is)))
 
-  life_branch : (q : Request) (b : Bool) → (mem (Object object.Count) == c.life) ≡ b → tag_asked ≢ 0 → Has (AtStep mem (sending.ReadCount q)) g → Asked d.e_call q.tag q.body → IsNextSend h d.e_call
+  life_branch : (q : Request) (b : Bool) → (mem (Object object.Count) == c.life) ≡ b → tag_asked ≢ 0 → Has (AtStep mem (sending.ReadCount q)) g → HasRequest d.e_call q.tag q.body → IsNextSend h d.e_call
       → Leads (cond b (line.Decides (answer.Send send.Spent)) (line.On (sending.ReadCursor record { place = mem (Object object.Count); tag = q.tag; body = q.body })))
   life_branch q true e nz has asked next =
       let full : mem (Object object.Count) ≡ c.life = eqb-true (mem (Object object.Count)) c.life e in
@@ -203,14 +205,14 @@ module _ (c : Config) (mem : Word → ℕ) (d : Duty) (r : ℕ → Regs) (h : Re
       (fits_open (answer.Send send.Spent) known.1 (spent_fits c (length (accepted h)) d.e_call.known d.e_call.pass d.e_call.call d.e_call.number caller.senders nz (sym ties.accepted_is ∙ known.0)))
   life_branch q false e nz has asked next =
       on mem (sending.ReadCursor record { place = mem (Object object.Count); tag = q.tag; body = q.body }) has.counted
-      (keeps.read_count_on mem d r c (further c + 1) g q record { place = mem (Object object.Count); tag = q.tag; body = q.body } refl nz (eqb-false (mem (Object object.Count)) c.life e) has.inv) (record { tag_is = asked.tag_is; body_is = asked.body_is }) (λ u. next)
+      (keeps.read_count_on mem d r c (further c + 1) g q record { place = mem (Object object.Count); tag = q.tag; body = q.body } refl nz (eqb-false (mem (Object object.Count)) c.life e) has.inv) asked (λ u. next)
 
-  close_branch : (q : Request) (b : Bool) → (q.tag == 0) ≡ b → Has (AtStep mem (sending.ReadCount q)) g → Asked d.e_call q.tag q.body → IsNextSend h d.e_call
+  close_branch : (q : Request) (b : Bool) → (q.tag == 0) ≡ b → Has (AtStep mem (sending.ReadCount q)) g → HasRequest d.e_call q.tag q.body → IsNextSend h d.e_call
       → Leads (cond b (line.On (sending.ReadLastToClose (mem (Object object.Count)))) (if mem (Object object.Count) == c.life then line.Decides (answer.Send send.Spent) else line.On (sending.ReadCursor record { place = mem (Object object.Count); tag = q.tag; body = q.body })))
   close_branch q true e has asked next =
-      let z : tag_asked ≡ 0 = sym asked.tag_is ∙ eqb-true q.tag 0 e in
+      let z : tag_asked ≡ 0 = sym asked.0 ∙ eqb-true q.tag 0 e in
       on mem (sending.ReadLastToClose (mem (Object object.Count))) has.counted (keeps.read_count_close mem d r c (further c + 1) g q z has.inv) tt (λ u. next)
-  close_branch q false e has asked next = life_branch q (mem (Object object.Count) == c.life) refl (λ z. eqb-false q.tag 0 e (asked.tag_is ∙ z)) has asked next
+  close_branch q false e has asked next = life_branch q (mem (Object object.Count) == c.life) refl (λ z. eqb-false q.tag 0 e (asked.0 ∙ z)) has asked next
 
   -- ---- the scan
 
@@ -250,11 +252,11 @@ module _ (c : Config) (mem : Word → ℕ) (d : Duty) (r : ℕ → Regs) (h : Re
     handed_is = λ y. b y ∙ ties.handed_is y;
     shut_is = s ∙ ties.shut_is;
     tells_is = t ∙ ties.tells_is;
-    items_are = λ k l. rw (i k 0, i k 1) (ties.items_are k (omega (arith, l, a)));
+    items_are = λ k l. ties.items_are k (omega (arith, l, a)) ∙ sym (ap Some (item_same k (told.items k) (g.items k) (i k)));
     lawful = ties.lawful;
   }
 
-  reset_passed : (parcel : Parcel) (at : ℕ) → Has (AtStep mem (sending.ResetPassed parcel at)) g → Asked d.e_call parcel.tag parcel.body → IsNextSend h d.e_call
+  reset_passed : (parcel : Parcel) (at : ℕ) → Has (AtStep mem (sending.ResetPassed parcel at)) g → HasRequest d.e_call parcel.tag parcel.body → IsNextSend h d.e_call
       → Turn c (put mem (ItemWord at item.Passed) 0) d r h g (place.Sending job (sending.ResetItemNext parcel at))
   reset_passed parcel at has asked next =
       let v : Queue = AtStep mem (sending.ResetPassed parcel at) in
@@ -299,25 +301,23 @@ module _ (c : Config) (mem : Word → ℕ) (d : Duty) (r : ℕ → Regs) (h : Re
     now : accepted (told_send h a) ≡ accepted h ++ it ∷ []
     now = e_accepted c h ties.lawful d.e_call a next ∙ ap (λ (l : List Item). accepted h ++ l) (item_sent c d.e_call.pass d.e_call.call d.e_call.number count caller.senders known.3 caller.small)
 
-    new_item : (k : ℕ) → k ≡ g.accepted → slice_get (accepted (told_send h a)) k ≡ Some (item_of k (told.items k 0) (told.items k 1))
+    new_item : (k : ℕ) → k ≡ g.accepted → slice_get (accepted (told_send h a)) k ≡ Some (item_of k (told.items k 0) (body_at (told.items k)))
     new_item k same =
         let place : k ≡ length (accepted h) = same ∙ ties.accepted_is in
         let is : slice_get (accepted h ++ it ∷ []) (length (accepted h)) ≡ Some it = get_last (accepted h) it in
         let tag : told.items k 0 ≡ (request_in d.e_call).tag = ap (λ (j : ℕ). told.items j 0) same ∙ u.items_now 0 in
-        let body : told.items k 1 ≡ (request_in d.e_call).body = ap (λ (j : ℕ). told.items j 1) same ∙ u.items_now 1 in
+        let body : body_at (told.items k) ≡ (request_in d.e_call).body = λ i. body_at (λ n. (ap (λ (j : ℕ). told.items j n) same ∙ u.items_now n) i) in
         rw now (
         ap (λ (j : ℕ). slice_get (accepted h ++ it ∷ []) j) place
         ∙ is
         ∙ ap (λ (j : ℕ). Some (item_of j (request_in d.e_call).tag (request_in d.e_call).body)) (known.0 ∙ sym same)
         ∙ ap (λ (w : ℕ). Some (item_of k w (request_in d.e_call).body)) (sym tag)
-        ∙ ap (λ (w : ℕ). Some (item_of k (told.items k 0) w)) (sym body)
+        ∙ ap (λ (w : BodyWords). Some (item_of k (told.items k 0) w)) (sym body)
         )
 
-    old_item : (k : ℕ) → k < g.accepted → k ≢ g.accepted → slice_get (accepted (told_send h a)) k ≡ Some (item_of k (told.items k 0) (told.items k 1))
+    old_item : (k : ℕ) → k < g.accepted → k ≢ g.accepted → slice_get (accepted (told_send h a)) k ≡ Some (item_of k (told.items k 0) (body_at (told.items k)))
     old_item k l ne =
-        let same : told.items k 0 ≡ g.items k 0 = u.items k 0 ne in
-        let same2 : told.items k 1 ≡ g.items k 1 = u.items k 1 ne in
-        rw (now, same, same2) (get_front (accepted h) (it ∷ []) k (item_of k (g.items k 0) (g.items k 1)) (ties.items_are k l))
+        rw now (get_front (accepted h) (it ∷ []) k (item_of k (g.items k 0) (body_at (g.items k))) (ties.items_are k l) ∙ sym (ap Some (item_same k (told.items k) (g.items k) (λ j. u.items k j ne))))
 
     link_item : TurnBy c (put mem (ItemWord last item.Next) (at + 1)) d r (told_send h a) g (place.Sending job (sending.WriteLast count at)) (at ∷ [])
     link_item = record {
@@ -389,7 +389,7 @@ module _ (c : Config) (mem : Word → ℕ) (d : Duty) (r : ℕ → Regs) (h : Re
 
   -- ---- the load of the cursor: the scan begins there
 
-  read_cursor : (parcel : Parcel) (found : ℕ) → mem (Object object.Cursor) ≡ found → Has (AtStep mem (sending.ReadCursor parcel)) g → Asked d.e_call parcel.tag parcel.body → IsNextSend h d.e_call
+  read_cursor : (parcel : Parcel) (found : ℕ) → mem (Object object.Cursor) ≡ found → Has (AtStep mem (sending.ReadCursor parcel)) g → HasRequest d.e_call parcel.tag parcel.body → IsNextSend h d.e_call
       → Turn c mem d r h g (place.Sending job (sending.ReadPassed parcel found 1))
   read_cursor parcel found e has asked next =
       let within : mem (Object object.Cursor) ≤ c.capacity = has.inv.words.cursor_in in
@@ -399,11 +399,18 @@ module _ (c : Config) (mem : Word → ℕ) (d : Duty) (r : ℕ → Regs) (h : Re
         list = record { inv = keeps.read_cursor mem d r c (further c + 1) g parcel found e has.inv; counted = has.counted };
         least_up = omega arith;
         entries_up = omega arith;
-        reads = (record { tag_is = asked.tag_is; body_is = asked.body_is }, record { some = omega arith; most = omega arith; within = omega (arith, e, within); past = λ l. omega arith; round = λ l. absurd (omega (arith, l, e, within)) });
+        reads = (asked, record { some = omega arith; most = omega arith; within = omega (arith, e, within); past = λ l. omega arith; round = λ l. absurd (omega (arith, l, e, within)) });
         next_call = λ u. next;
         ties = ties;
         linked = (refl, λ j l. refl);
       }
+
+  -- ---- a word of the item's body
+
+  word_reads : (parcel : Parcel) (at i : ℕ) (b : Bool) → nat_lt i (further_words parcel.tag) ≡ b → HasRequest d.e_call parcel.tag parcel.body × (i ≤ further_words parcel.tag)
+      → Reads c d.e_call d.from (cond b (sending.WriteItemBody parcel at (i + 1)) (sending.ReadLast parcel.place at))
+  word_reads parcel at i true is a = (a.0, omega (arith, ltb-true i (further_words parcel.tag) is))
+  word_reads parcel at i false is a = tt
 
   -- ---- the whole service, but for the loads of the request
 
@@ -413,7 +420,7 @@ module _ (c : Config) (mem : Word → ℕ) (d : Duty) (r : ℕ → Regs) (h : Re
   pub send_turn : (service : Sending) (found : ℕ) → IsBegun service → mem (word_of (operation c job.round.at service)) ≡ found → Needs service
       → TurnBy c (stored mem (operation c job.round.at service)) d r (noted Send h None (decides c service found)) g (goes c job service found) (links service)
   send_turn sending.ReadTag found low e n = absurd low
-  send_turn (sending.ReadBody tag) found low e n = absurd low
+  send_turn (sending.ReadBody request i) found low e n = absurd low
   send_turn (sending.ReadShut q) found low e n = read_shut q found e n.0 n.1 (n.2 tt)
   send_turn sending.ReadTotal found low e n = subst (λ (k : ℕ). Turn c mem d r (told_send h (answer.Close (close.Already k))) g (place.WriteAnswer job (answer.Close (close.Already k)))) e (read_total n.0 (n.2 tt))
   send_turn (sending.ReadCount q) found low e n =
@@ -429,8 +436,9 @@ module _ (c : Config) (mem : Word → ℕ) (d : Duty) (r : ℕ → Regs) (h : Re
       subst (λ (k : ℕ). Leads (by_passed c parcel at reads k)) e (passed_branch parcel at reads (mem (ItemWord at item.Passed) == groups c) refl n.0 n.1 (n.2 tt))
   send_turn (sending.ResetPassed parcel at) found low e n = reset_passed parcel at n.0 n.1 (n.2 tt)
   send_turn (sending.ResetItemNext parcel at) found low e n = on _ (sending.WriteItemTag parcel at) n.0.counted (keeps.reset_next mem d r c (further c + 1) g parcel at n.0.inv) n.1 (λ u. n.2 tt)
-  send_turn (sending.WriteItemTag parcel at) found low e n = on _ (sending.WriteItemBody parcel.place parcel.body at) n.0.counted (keeps.write_tag mem d r c (further c + 1) g parcel at n.1.tag_is n.0.inv) n.1.body_is (λ u. n.2 tt)
-  send_turn (sending.WriteItemBody count body at) found low e n = on _ (sending.ReadLast count at) n.0.counted (keeps.write_body mem d r c (further c + 1) g count body at n.1 n.0.inv) tt (λ u. n.2 tt)
+  send_turn (sending.WriteItemTag parcel at) found low e n = on _ (sending.WriteItemBody parcel at 0) n.0.counted (keeps.write_tag mem d r c (further c + 1) g parcel at n.1.0 n.0.inv) (n.1, omega arith) (λ u. n.2 tt)
+  send_turn (sending.WriteItemBody parcel at i) found low e n =
+      on _ _ n.0.counted (keeps.write_body mem d r c (further c + 1) g parcel at i n.1.0 n.1.1 n.0.inv) (word_reads parcel at i (nat_lt i (further_words parcel.tag)) refl n.1) (λ u. n.2 tt)
   send_turn (sending.ReadLast count at) found low e n =
       let link : (0 < mem (Object object.Last)) × (mem (Object object.Last) ≤ c.capacity + 1) = limits.last_link c.capacity c.life (further c + 1) (AtStep mem (sending.ReadLast count at)) g n.0.inv refl in
       subst (λ (k : ℕ). Turn c mem d r h g (place.Sending job (sending.LinkItem count at (k - 1)))) e (on mem (sending.LinkItem count at (mem (Object object.Last) - 1)) n.0.counted (keeps.read_last mem d r c (further c + 1) g count at link.0 n.0.inv) tt (λ u. n.2 tt))

@@ -1,6 +1,6 @@
 -- Each step of the machine keeps the list's invariant, the passes' and the calls'.
-use Rattle.std.proofs.Common.{◌≡◌, ◌≢◌, ◌∙◌, inl, inr, None, arith, ℕ, zero, suc, ◌+◌, ◌<◌, ◌≤◌, List, [], ◌∷◌, ◌++◌, length, false, Some, refl, sym, ap, subst}
-use Rattle.std.proofs.lemmas.Bool.{cases_eq}
+use Rattle.std.proofs.Common.{◌≡◌, ◌≢◌, ◌∙◌, inl, inr, None, arith, ℕ, zero, suc, ◌+◌, ◌<◌, ◌≤◌, List, [], ◌∷◌, ◌++◌, length, Bool, true, false, nat_lt, cond, Some, refl, sym, ap, subst}
+use Rattle.std.proofs.lemmas.Bool.{cases_eq, ltb-false}
 use Rattle.std.proofs.lemmas.List.{length-set}
 use Rattle.std.specs.List.{slice_get}
 use Rattle.cc_model.specs.Legal.{DAnswers}
@@ -16,13 +16,17 @@ use Rattle.cc_model.proofs.Grows.{get_front, e_calls_more, accepted_calls_more, 
 use Rattle.cc_runs.specs.declared.setting.Served.TheVariants as served
 use Rattle.cc_runs.specs.declared.word.Chain.{Chain}
 use Rattle.cc_runs.specs.declared.word.Chain.TheVariants.{Send, Take}
+use Rattle.cc_runs.specs.declared.word.NodeField.TheVariants as node
 use Rattle.cc_runs.specs.declared.word.Word.{Word}
+use Rattle.cc_runs.specs.declared.word.Word.TheVariants.{Node}
 use Rattle.cc_runs.specs.declared.place.Job.{Job}
 use Rattle.cc_runs.specs.declared.place.Round.{Round}
+use Rattle.cc_runs.specs.declared.place.Request.{Request}
 use Rattle.cc_runs.specs.declared.place.Place.{Place}
 use Rattle.cc_runs.specs.declared.place.Place.TheVariants as place
 use Rattle.cc_runs.specs.declared.place.Sending.TheVariants as sending
 use Rattle.cc_runs.specs.declared.place.Stand.{Stand}
+use Rattle.cc_runs.specs.Codes.{further_words, with_asked}
 use Rattle.cc_runs.specs.State.{State, chain_of, pass_at, hold, noted, word_of}
 use Rattle.cc_runs.specs.Lines.{operation, after_next}
 use Rattle.cc_runs.specs.Step.{stepped_from}
@@ -46,8 +50,8 @@ use Rattle.cc_runs.proofs.ListRuns.EnterTake.{take_enters}
 read_tag_still : (job : Job) → StillSend (place.Sending job sending.ReadTag)
 read_tag_still job = record { enq_is = λ e from. refl; serves = λ u. u; open_send = λ u. u; reads = λ c e from. tt }
 
-read_body_still : (job : Job) (tag : ℕ) → StillSend (place.Sending job (sending.ReadBody tag))
-read_body_still job tag = record { enq_is = λ e from. refl; serves = λ u. u; open_send = λ u. u; reads = λ c e from. tt }
+read_body_still : (job : Job) (request : Request) (i : ℕ) → StillSend (place.Sending job (sending.ReadBody request i))
+read_body_still job request i = record { enq_is = λ e from. refl; serves = λ u. u; open_send = λ u. u; reads = λ c e from. tt }
 
 next_send_still : (round : Round) (found : ℕ) → StillSend (after_next served.List Send round found)
 next_send_still round zero = still_send (place.HandOver round.at) tt
@@ -130,12 +134,18 @@ module _ (c : Config) (s : State) (p begun own : ℕ) (within : p < passes (list
       let same : at ≡ (s.stand p).place = ap (λ (z : Stand). z.place) (sym stands) in
       quiet c s p now mem' s.history k (subst StillSend same a) (subst StillTake same b) e f words (λ e n. n) (λ y e n. n) (λ t. t)
 
+  -- a word of a request: the service begins with the last one
+  read_step : (job : Job) (request : Request) (i : ℕ) (b : Bool) → nat_lt i (further_words request.tag) ≡ b → s.stand p ≡ stand_at (place.Sending job (sending.ReadBody request i)) → ChainFacts (lists c) s
+      → Onward c s k (record { mem = s.mem; stand = hold s.stand p (stand_at (place.Sending job (cond b (sending.ReadBody (with_asked request i (s.mem (Node Send job.round.at (node.Body i)))) (i + 1)) (sending.ReadShut (with_asked request i (s.mem (Node Send job.round.at (node.Body i)))))))); history = s.history })
+  read_step job request i true is stands facts = chain_step Send _ stands _ _ (read_body_still job request i) (in_send job _) (read_body_still job _ (i + 1)) (in_send job _) (λ d e r. refl)
+  read_step job request i false is stands facts = send_enters c s p begun own job request i (ltb-false i (further_words request.tag) is) (ap (λ (z : Stand). z.place) stands) within facts posts.outside e_callers k
+
   pub send_step : (at : Place) → s.stand p ≡ stand_at at → Well s.history Send (Sender (p + 1)) begun at → ChainFacts (lists c) s → OnwardBy c s k (stepped_from (lists c) s Send p (stand_at at)) (links_at at)
   send_step (place.Counting job service) stands w facts = absurd w
   send_step (place.Taking job service) stands w facts = absurd w
   send_step (place.Sending job sending.ReadTag) stands w facts =
-      chain_step Send _ stands _ _ (read_tag_still job) (in_send job _) (read_body_still job _) (in_send job _) (λ d e r. refl)
-  send_step (place.Sending job (sending.ReadBody tag)) stands w facts = send_enters c s p begun own job tag (ap (λ (z : Stand). z.place) stands) within facts posts.outside e_callers k
+      chain_step Send _ stands _ _ (read_tag_still job) (in_send job _) (read_body_still job _ 0) (in_send job _) (λ d e r. refl)
+  send_step (place.Sending job (sending.ReadBody request i)) stands w facts = read_step job request i (nat_lt i (further_words request.tag)) refl stands facts
   send_step (place.Sending job service) stands w facts = send_serves c s p begun own job service stands tt k
   send_step (place.ReadNext round) stands w facts =
       chain_step Send _ stands _ _ (still_send (place.ReadNext round) tt) (still_take (place.ReadNext round) tt) (next_send_still round _) (next_take_still round _) (λ d e r. refl)

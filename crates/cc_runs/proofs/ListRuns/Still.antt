@@ -1,5 +1,5 @@
 -- Places at which a pass isn't in the service of the list, on the one side or on the other; and the steps between them.
-use Rattle.std.proofs.Common.{◌≡◌, ℕ, zero, suc, ◌+◌, ◌==◌, Bool, true, false, if◌then◌else◌, refl}
+use Rattle.std.proofs.Common.{◌≡◌, ℕ, zero, suc, ◌+◌, ◌==◌, nat_lt, Bool, true, false, if◌then◌else◌, refl}
 use Rattle.cc_model.specs.Record.{Record}
 use Rattle.cc_model.specs.declared.config.Config.{Config}
 use Rattle.cc_model.specs.declared.call.Entry.{Entry}
@@ -15,8 +15,8 @@ use Rattle.cc_runs.specs.declared.place.Place.{Place}
 use Rattle.cc_runs.specs.declared.place.Place.TheVariants as place
 use Rattle.cc_runs.specs.declared.place.Sending.{Sending}
 use Rattle.cc_runs.specs.declared.place.Taking.{Taking}
-use Rattle.cc_runs.specs.Codes.{code_of}
 use Rattle.cc_runs.specs.Lines.{goes, after_state, after_answer, after_done, after_ret}
+use Rattle.cc_runs.specs.Codes.{code_of, parcel, no_words, with_read, tag_of, further_words}
 use Rattle.cc_runs.specs.SendLines as send_side
 use Rattle.cc_runs.specs.TakeLines as take_side
 use Rattle.cc_runs.proofs.ListRuns.View.{none, resting, enq_at, regs_at}
@@ -124,18 +124,18 @@ plain_goes c x own (place.Exchange e) found never = absurd never
 plain_goes c x own (place.Sending job service) found never = absurd never
 plain_goes c x own (place.Taking job service) found never = absurd never
 plain_goes c x own (place.Counting job service) found never = absurd never
-plain_goes c x own (place.WriteTag put request) found u = plain (place.WriteBody put request.body) tt
-plain_goes c x own (place.WriteBody put body) found u = plain (place.Link put) tt
+plain_goes c x own (place.WriteTag put request) found u = plain (place.WriteBody put request 0) tt
+plain_goes c x own (place.WriteBody put request i) found u = if_plain (nat_lt i (further_words request.tag)) _ _ (plain (place.WriteBody put request (i + 1)) tt) (plain (place.Link put) tt)
 plain_goes c x own (place.Link put) found u = plain place.ReadState tt
 plain_goes c x own place.ReadState found u = plain_state own found
 plain_goes c x own (place.WriteAnswer job told) found u = plain_answer job told
-plain_goes c x own (place.WriteAnswerTag job item) found u = plain (place.WriteAnswerBody job item.body) tt
-plain_goes c x own (place.WriteAnswerBody job body) found u = plain (place.MarkDone job) tt
+plain_goes c x own (place.WriteAnswerTag job item) found u = plain (place.WriteAnswerBody job item 0) tt
+plain_goes c x own (place.WriteAnswerBody job item i) found u = if_plain (nat_lt i (further_words (tag_of item))) _ _ (plain (place.WriteAnswerBody job item (i + 1)) tt) (plain (place.MarkDone job) tt)
 plain_goes c x own (place.MarkDone job) found u = plain_done c.bound job
 plain_goes c x own (place.HandOver at) found u = plain place.ReadAnswer tt
 plain_goes c x own place.ReadAnswer found u = plain_ret x found
-plain_goes c x own (place.ReadAnswerTag at) found u = plain (place.ReadAnswerBody at found) tt
-plain_goes c x own (place.ReadAnswerBody at tag) found u = plain (place.Finished _) tt
+plain_goes c x own (place.ReadAnswerTag at) found u = plain (place.ReadAnswerBody (parcel at found no_words) 0) tt
+plain_goes c x own (place.ReadAnswerBody at i) found u = if_plain (nat_lt i (further_words at.tag)) _ _ (plain (place.ReadAnswerBody (with_read at i found) (i + 1)) tt) (plain (place.Finished _) tt)
 plain_goes c x own (place.Finished told) found u = plain (place.Finished told) tt
 
 -- ---- where a service's steps lead

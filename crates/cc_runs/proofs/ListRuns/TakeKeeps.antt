@@ -1,7 +1,7 @@
 -- Each line of the service of a take of a group keeps the list's invariant. The registers of that group's service are told by
 -- where its pass stands, those of the others stay.
-use Rattle.std.proofs.Common.{◌≡◌, ◌≢◌, ℕ, zero, suc, ◌+◌, ◌<◌, ◌≤◌, arith, refl, ap, ◌∙◌}
-use Rattle.std.proofs.lemmas.Bool.{cases_eq}
+use Rattle.std.proofs.Common.{◌≡◌, ◌≢◌, ℕ, zero, suc, ◌+◌, ◌<◌, ◌≤◌, Bool, true, false, nat_lt, cond, arith, refl, sym, ap, ◌∙◌}
+use Rattle.std.proofs.lemmas.Bool.{cases_eq, ltb-true, ltb-false}
 use Rattle.cc_model.specs.declared.config.Config.{Config}
 use Rattle.cc_runs.specs.declared.word.ItemField.TheVariants as item
 use Rattle.cc_runs.specs.declared.word.Object.TheVariants as object
@@ -12,13 +12,16 @@ use Rattle.cc_runs.specs.declared.place.Taking.{Taking}
 use Rattle.cc_runs.specs.declared.place.Taking.TheVariants as taking
 use Rattle.cc_runs.specs.declared.word.Object.{Object as Obj}
 use Rattle.cc_runs.specs.Words.{put, object_number}
+use Rattle.cc_runs.specs.Codes.{further_words, word, with_read}
 use Rattle.cc_runs.specs.State.{word_of, stored}
+use Rattle.cc_runs.proofs.ReadWords.{few_further, next_word}
+use Rattle.cc_runs.proofs.Chains.View.{words_of}
 use Rattle.cc_runs.specs.ServiceLine.{Next, On, Decides, DecidesAndOn, Tells}
 use Rattle.cc_runs.specs.TakeLines.{line, by_next, by_tag, operation}
 use Rattle.cc_runs.proofs.LinkedList.Queue.{Enq, Queue, Told, SameWords, SameCells}
 use Rattle.cc_runs.proofs.LinkedList.Invariant.{LInv, Heads, Takes}
 use Rattle.cc_runs.proofs.LinkedList.Grow.{Gives}
-use Rattle.cc_runs.proofs.ListRuns.View.{Duty, Regs, none, regs_in, queue_from, object_here, object_other}
+use Rattle.cc_runs.proofs.ListRuns.View.{Duty, Regs, long_of, none, regs_in, queue_from, object_here, object_other}
 
 -- what names no side of the takes stays where they alone change
 sides_keep : (c life n : ℕ) (v v' : Queue) (g : Told) → SameWords v v' → SameCells v v' → v'.enq ≡ v.enq → LInv c life n v g → Heads c life n v' g → Takes c life n v' g → LInv c life n v' g
@@ -92,7 +95,7 @@ module _ (mem : Word → ℕ) (d : Duty) (e : Enq) (c : Config) (n : ℕ) (g : T
       ended : g.handed y ≡ g.accepted → at ≡ c.capacity + 1
       ended z = grind (arith, dummy_is, is, ended_shut z, i.links.end_shut)
 
-  pub read_tag : (dummy taken at tag : ℕ) → g.tells ≡ (λ (k : ℕ). 2) → mem (Item at item.Tag) ≡ suc tag → r y ≡ regs_in (taking.ReadItemTag dummy taken at) → Before → After mem (by_tag dummy taken at (suc tag))
+  pub read_tag : (dummy taken at tag : ℕ) → g.tells ≡ long_of → mem (Item at item.Tag) ≡ suc tag → r y ≡ regs_in (taking.ReadItemTag dummy taken at) → Before → After mem (by_tag dummy taken at (suc tag))
   read_tag dummy taken at tag tells is a i b = loaded i (grind (arith, cases_eq, a, b, same, more)) (grind (arith, cases_eq, a, b, same, more, after_is, tag_is, long_is))
     where
       not_mark : g.handed y ≢ g.accepted
@@ -104,32 +107,63 @@ module _ (mem : Word → ℕ) (d : Duty) (e : Enq) (c : Config) (n : ℕ) (g : T
       after_is : at ≡ g.node (g.handed y + 1)
       after_is = grind (arith, a, i.takes.after_is y, more)
 
-      long_is : g.long (g.handed y) ≡ 2
+      long_is : g.long (g.handed y) ≡ long_of (g.items (g.handed y) 0)
       long_is = i.links.long_is (g.handed y) more ∙ ap (λ (f : ℕ → ℕ). f (g.items (g.handed y) 0)) tells
 
       tag_is : suc tag ≡ g.items (g.handed y) 0
       tag_is = grind (arith, is, after_is, more, live i, long_is, i.links.items (g.handed y) 0)
 
-  pub read_body : (dummy taken at tag : ℕ) → g.tells ≡ (λ (k : ℕ). 2) → LineKeeps (taking.ReadItemBody dummy taken at tag)
-  read_body dummy taken at tag tells a i b = loaded i (grind (arith, cases_eq, a, b, same, more)) (grind (arith, cases_eq, a, b, same, more, after_is, tag_is, body_is, long_is))
+  -- a word of a body, and what the next step is then
+  module _ (dummy at : ℕ) (p : Parcel) (j : ℕ) (tells : g.tells ≡ long_of) (a : r y ≡ regs_in (taking.ReadItemBody dummy at p j)) (i : Before) where
+    abbrev now : Parcel
+    now = with_read p j (mem (Item at (item.Body j)))
+
+    not_mark : g.handed y ≢ g.accepted
+    not_mark z = grind (arith, a, i.takes.read_none y)
+
+    more : g.handed y < g.accepted
+    more = omega (arith, in_order i, not_mark)
+
+    after_is : at ≡ g.node (g.handed y + 1)
+    after_is = grind (arith, a, i.takes.after_is y, more)
+
+    long_is : g.long (g.handed y) ≡ long_of (g.items (g.handed y) 0)
+    long_is = i.links.long_is (g.handed y) more ∙ ap (λ (f : ℕ → ℕ). f (g.items (g.handed y) 0)) tells
+
+    read_so : (k : ℕ) → k < suc j → words_of p.tag (word p.body) k ≡ g.items (g.handed y) k
+    read_so k l = sym (ap (λ (z : Regs). z.word k) a) ∙ i.takes.read y k inside (omega (arith, ap (λ (z : Regs). z.stage) a)) more (omega (arith, l, ap (λ (z : Regs). z.got) a))
+
+    tag_is : p.tag ≡ g.items (g.handed y) 0
+    tag_is = read_so 0 (omega arith)
+
+    low : j ≤ further_words p.tag
+    low = omega (arith, ap (λ (z : Regs). z.got) a, i.takes.read_more y inside (ap (λ (z : Regs). z.stage) a) more, long_is, ap long_of tag_is)
+
+    found_is : mem (Item at (item.Body j)) ≡ g.items (g.handed y) (suc j)
+    found_is = ap (λ (z : ℕ). mem (Item z (item.Body j))) after_is ∙ i.links.items (g.handed y) (suc j) (live i) more (omega (arith, low, long_is, ap long_of tag_is))
+
+    word_is : (k : ℕ) → k < suc (suc j) → words_of now.tag (word now.body) k ≡ g.items (g.handed y) k
+    word_is zero l = tag_is
+    word_is (suc k) l = next_word p.body (λ (n : ℕ). g.items (g.handed y) (suc n)) j (mem (Item at (item.Body j))) (omega (arith, low, few_further p.tag)) found_is (λ n less. read_so (suc n) (omega arith)) k (omega arith)
+
+    read_on : j < further_words p.tag → r' y ≡ regs_in (taking.ReadItemBody dummy at now (j + 1)) → LInv c.capacity c.life n (queue_from mem d e r') g
+    read_on less b = loaded i (grind (arith, cases_eq, a, b, same, more)) (grind (arith, cases_eq, a, b, same, more, after_is, word_is, long_is, small))
+      where
+        small : j + 2 < g.long (g.handed y)
+        small = omega (arith, less, long_is, ap long_of tag_is)
+
+    read_last : further_words p.tag ≤ j → r' y ≡ regs_in (taking.WriteHead dummy at now) → LInv c.capacity c.life n (queue_from mem d e r') g
+    read_last far b = loaded i (grind (arith, cases_eq, a, b, same, more)) (grind (arith, cases_eq, a, b, same, more, after_is, word_is, whole))
+      where
+        whole : (long_of p.tag ≡ g.long (g.handed y)) × (long_of p.tag ≡ suc (suc j))
+        whole = omega (arith, far, low, long_is, ap long_of tag_is)
+
+  pub read_body : (dummy at : ℕ) (p : Parcel) (j : ℕ) → g.tells ≡ long_of → LineKeeps (taking.ReadItemBody dummy at p j)
+  read_body dummy at p j tells a i b = by_case (nat_lt j (further_words p.tag)) refl b
     where
-      not_mark : g.handed y ≢ g.accepted
-      not_mark z = grind (arith, a, i.takes.read_none y)
-
-      more : g.handed y < g.accepted
-      more = omega (arith, in_order i, not_mark)
-
-      after_is : at ≡ g.node (g.handed y + 1)
-      after_is = grind (arith, a, i.takes.after_is y, more)
-
-      long_is : g.long (g.handed y) ≡ 2
-      long_is = i.links.long_is (g.handed y) more ∙ ap (λ (f : ℕ → ℕ). f (g.items (g.handed y) 0)) tells
-
-      tag_is : tag ≡ g.items (g.handed y) 0
-      tag_is = grind (arith, a, more, i.takes.read y 0)
-
-      body_is : mem (Item at item.Body) ≡ g.items (g.handed y) 1
-      body_is = grind (arith, after_is, more, live i, long_is, i.links.items (g.handed y) 1)
+      by_case : (z : Bool) → nat_lt j (further_words p.tag) ≡ z → Keeps mem (cond z (taking.ReadItemBody dummy at (with_read p j (mem (Item at (item.Body j)))) (j + 1)) (taking.WriteHead dummy at (with_read p j (mem (Item at (item.Body j))))))
+      by_case true is b = read_on dummy at p j tells a i (ltb-true j (further_words p.tag) is) b
+      by_case false is b = read_last dummy at p j tells a i (ltb-false j (further_words p.tag) is) b
 
   pub write_head : (dummy at : ℕ) (parcel : Parcel) → LineKeeps (taking.WriteHead dummy at parcel)
   write_head dummy at parcel a i b = stored_keeps (object.Head y) (at + 1) (omega arith) i (grind (arith, cases_eq, a, b, same, more, head_now, head_else, taken_same)) (grind (arith, cases_eq, a, b, same, more))

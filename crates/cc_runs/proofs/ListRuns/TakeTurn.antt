@@ -23,7 +23,9 @@ use Rattle.cc_runs.specs.declared.place.Taking.{Taking}
 use Rattle.cc_runs.specs.declared.place.Taking.TheVariants as taking
 use Rattle.cc_runs.specs.Words.{groups, put}
 use Rattle.cc_runs.specs.State.{noted, word_of, stored}
-use Rattle.cc_runs.specs.Codes.{item_of, item_in}
+use Rattle.cc_runs.specs.Codes.{item_in, further_words, word, no_words, with_read, behind, parcel as parcel_of}
+use Rattle.cc_runs.proofs.ReadWords.{few_further, one_item}
+use Rattle.cc_runs.proofs.Chains.View.{words_of}
 use Rattle.cc_runs.specs.TakeLines.{operation, goes, decides}
 use Rattle.cc_runs.proofs.Chains.Facts.{noted_none}
 use Rattle.cc_runs.proofs.LinkedList.Queue.{Enq, Queue, Told}
@@ -32,10 +34,10 @@ use Rattle.cc_runs.proofs.LinkedList.Grow as grow
 use Rattle.cc_runs.proofs.LinkedList.Grow.{Held, Gives}
 use Rattle.cc_runs.proofs.LinkedList.Decide as decide
 use Rattle.cc_runs.proofs.LinkedList.Limits as limits
-use Rattle.cc_runs.proofs.ListRuns.View.{Duty, Regs, none, regs_in, regs_at, queue_from}
+use Rattle.cc_runs.proofs.ListRuns.View.{Duty, Regs, long_of, none, regs_in, regs_at, queue_from}
 use Rattle.cc_runs.proofs.ListRuns.TakeKeeps as keeps
 use Rattle.cc_runs.proofs.ListRuns.Decided.{told_take, d_handed, d_others, d_decided}
-use Rattle.cc_runs.proofs.ListRuns.Ties.{Ties, further, IsTaking, IsNextTake, Linked, ties_same, shut_true}
+use Rattle.cc_runs.proofs.ListRuns.Ties.{Ties, further, body_at, item_same, word_at, IsTaking, IsNextTake, Linked, ties_same, shut_true}
 
 -- what such a step leads to, where the services' registers are these then
 pub record Turn (c : Config) (mem : Word → ℕ) (d : Duty) (e : Enq) (y : ℕ) (r : ℕ → Regs) (h : Record) (g : Told) (at : Place) : Type 0 where
@@ -133,14 +135,8 @@ module _ (c : Config) (mem : Word → ℕ) (d : Duty) (e : Enq) (h : Record) (g 
       answered (answer.Take (take.Ended taken)) (keeps.read_mark mem d e c (further c + 1) g y below r r' same dummy taken at a has.inv b) refl
       (shut_true (is_shut h) (sym ties.shut_is ∙ known.2), sym seen ∙ known.0 ∙ sym known.1 ∙ ties.handed_is y, sym (ties.handed_is y) ∙ known.1 ∙ ties.accepted_is)
   read_tag dummy taken at (suc tag) is a b =
-      on mem (taking.ReadItemBody dummy taken at (suc tag))
+      on mem (taking.ReadItemBody dummy at (parcel_of taken (suc tag) no_words) 0)
       (keeps.read_tag mem d e c (further c + 1) g y below r r' same dummy taken at tag ties.tells_is is a has.inv b)
-
-  read_body : (dummy taken at tag : ℕ) → From (taking.ReadItemBody dummy taken at tag) → To (taking.WriteHead dummy at record { place = taken; tag = tag; body = mem (ItemWord at item.Body) })
-      → Turn c mem d e y r' (noted (Take y) h None None) g (place.Taking job (taking.WriteHead dummy at record { place = taken; tag = tag; body = mem (ItemWord at item.Body) }))
-  read_body dummy taken at tag a b =
-      on mem (taking.WriteHead dummy at record { place = taken; tag = tag; body = mem (ItemWord at item.Body) })
-      (keeps.read_body mem d e c (further c + 1) g y below r r' same dummy taken at tag ties.tells_is a has.inv b)
 
   -- ---- the add to passed of the old dummy
 
@@ -163,22 +159,17 @@ module _ (c : Config) (mem : Word → ℕ) (d : Duty) (e : Enq) (h : Record) (g 
     place_is : parcel.place ≡ g.handed y
     place_is = sym (ap (λ (z : Regs). z.seen) from) ∙ decide.got_place c.capacity c.life (further c + 1) Before g has.inv y below stage
 
-    long_is : 2 ≡ g.long (g.handed y)
+    long_is : long_of parcel.tag ≡ g.long (g.handed y)
     long_is = sym (ap (λ (z : Regs). z.got) from) ∙ decide.got_long c.capacity c.life (further c + 1) Before g has.inv y below stage
 
-    tag_is : parcel.tag ≡ g.items (g.handed y) 0
-    tag_is = sym (ap (λ (z : Regs). z.word 0) from) ∙ decide.got_word c.capacity c.life (further c + 1) Before g has.inv y below stage 0 (omega (arith, long_is))
-
-    body_is : parcel.body ≡ g.items (g.handed y) 1
-    body_is = sym (ap (λ (z : Regs). z.word 1) from) ∙ decide.got_word c.capacity c.life (further c + 1) Before g has.inv y below stage 1 (omega (arith, long_is))
+    word_is : (j : ℕ) → j < long_of parcel.tag → words_of parcel.tag (word parcel.body) j ≡ g.items (g.handed y) j
+    word_is j l = sym (ap (λ (z : Regs). z.word j) from) ∙ decide.got_word c.capacity c.life (further c + 1) Before g has.inv y below stage j (omega (arith, l, long_is))
 
     item_is : slice_get (accepted h) (length (handed h y)) ≡ Some (item_in parcel)
     item_is =
         ap (λ (k : ℕ). slice_get (accepted h) k) (sym (ties.handed_is y))
         ∙ ties.items_are (g.handed y) more
-        ∙ ap (λ (k : ℕ). Some (item_of k (g.items (g.handed y) 0) (g.items (g.handed y) 1))) (sym place_is)
-        ∙ ap (λ (w : ℕ). Some (item_of parcel.place w (g.items (g.handed y) 1))) (sym tag_is)
-        ∙ ap (λ (w : ℕ). Some (item_of parcel.place parcel.tag w)) (sym body_is)
+        ∙ sym (ap Some (one_item parcel (body_at (g.items (g.handed y))) place_is (word_is 0 (omega arith)) (λ j low. word_is (suc j) (omega (arith, low)) ∙ sym (word_at (g.items (g.handed y)) j (omega (arith, low, few_further parcel.tag))))))
 
     mine : told.handed y ≡ length (handed (told_take h y a) y)
     mine = omega (arith, u.handed_now, ties.handed_is y, ap length (d_handed c h ties.lawful y side_in (d.d_call y) a next), length-append (handed h y) (item_in parcel ∷ []))
@@ -203,7 +194,7 @@ module _ (c : Config) (mem : Word → ℕ) (d : Duty) (e : Enq) (h : Record) (g 
         handed_is = all_handed;
         shut_is = u.log.shut ∙ ties.shut_is;
         tells_is = grow.giving_tells (further c) g y ∙ ties.tells_is;
-        items_are = λ k l. rw (u.log.items k 0, u.log.items k 1) (ties.items_are k (omega (arith, l, u.log.accepted)));
+        items_are = λ k l. ties.items_are k (omega (arith, l, u.log.accepted)) ∙ sym (ap Some (item_same k (told.items k) (g.items k) (u.log.items k)));
         lawful = d_decided c h ties.lawful y side_in (d.d_call y) a next (item_is, place_is ∙ ties.handed_is y);
       };
       linked = (u.log.accepted, λ j l. u.log.node j);
@@ -220,9 +211,10 @@ module _ (c : Config) (mem : Word → ℕ) (d : Duty) (e : Enq) (h : Record) (g 
       (on mem (taking.ReadDummyNext dummy (mem (Object (object.Taken y)))) (keeps.read_taken mem d e c (further c + 1) g y below r r' same dummy a has.inv (b ∙ sym (ap (λ (k : ℕ). regs_in (taking.ReadDummyNext dummy k)) is))))
   take_turn (taking.ReadDummyNext dummy taken) found is a b = read_next dummy taken found is a b
   take_turn (taking.ReadItemTag dummy taken at) found is a b = read_tag dummy taken at found is a b
-  take_turn (taking.ReadItemBody dummy taken at tag) found is a b =
-      subst (λ (k : ℕ). Turn c mem d e y r' (noted (Take y) h None None) g (place.Taking job (taking.WriteHead dummy at record { place = taken; tag = tag; body = k }))) is
-      (read_body dummy taken at tag a (b ∙ sym (ap (λ (k : ℕ). regs_in (taking.WriteHead dummy at record { place = taken; tag = tag; body = k })) is)))
+  take_turn (taking.ReadItemBody dummy at p j) found is a b =
+      subst (λ (k : ℕ). Turn c mem d e y r' (noted (Take y) h None None) g (place.Taking job (behind (further_words p.tag) j (taking.ReadItemBody dummy at (with_read p j k) (j + 1)) (taking.WriteHead dummy at (with_read p j k))))) is
+      (on mem _ (keeps.read_body mem d e c (further c + 1) g y below r r' same dummy at p j ties.tells_is a has.inv
+      (b ∙ sym (ap (λ (k : ℕ). regs_in (behind (further_words p.tag) j (taking.ReadItemBody dummy at (with_read p j k) (j + 1)) (taking.WriteHead dummy at (with_read p j k)))) is))))
   take_turn (taking.WriteHead dummy at parcel) found is a b = on _ (taking.WriteTaken dummy parcel) (keeps.write_head mem d e c (further c + 1) g y below r r' same dummy at parcel a has.inv b)
   take_turn (taking.WriteTaken dummy parcel) found is a b = on _ (taking.AddPassed dummy parcel) (keeps.write_taken mem d e c (further c + 1) g y below r r' same dummy parcel a has.inv b)
   take_turn (taking.AddPassed dummy parcel) found is a b = add_passed dummy parcel a b

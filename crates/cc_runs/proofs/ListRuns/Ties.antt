@@ -1,5 +1,5 @@
 -- How the list's ghosts, and what the services have read, are tied to the history.
-use Rattle.std.proofs.Common.{◌≡◌, ℕ, ◌+◌, ◌-◌, ◌<◌, ◌≤◌, List, [], ◌∷◌, length, Bool, true, false, if◌then◌else◌, Some, refl, sym, ap, ◌∙◌, arith}
+use Rattle.std.proofs.Common.{◌≡◌, ℕ, zero, suc, ◌+◌, ◌-◌, ◌<◌, ◌≤◌, List, [], ◌∷◌, length, Bool, true, false, if◌then◌else◌, Some, refl, sym, ap, ◌∙◌, arith}
 use Rattle.std.specs.List.{slice_get}
 use Rattle.cc_model.specs.Record.{Record, of_group}
 use Rattle.cc_model.specs.Items.{accepted, is_shut, handed}
@@ -10,7 +10,10 @@ use Rattle.cc_runs.specs.declared.place.Place.TheVariants as place
 use Rattle.cc_runs.specs.declared.place.Sending.{Sending}
 use Rattle.cc_runs.specs.declared.place.Sending.TheVariants as sending
 use Rattle.cc_runs.specs.Words.{groups}
-use Rattle.cc_runs.specs.Codes.{item_of, request_in}
+use Rattle.cc_runs.specs.declared.place.BodyWords.{BodyWords}
+use Rattle.cc_runs.specs.Codes.{item_of, further_words, word}
+use Rattle.cc_runs.proofs.Chains.Registers.{HasRequest}
+use Rattle.cc_runs.proofs.ListRuns.View.{long_of}
 use Rattle.cc_runs.proofs.LinkedList.Queue.{Told}
 use Rattle.cc_runs.proofs.ListRuns.Decided.{Lawful}
 
@@ -22,21 +25,31 @@ shut_number b = if b then 1 else 0
 abbrev pub further : Config → ℕ
 further c = groups c - 1
 
--- the ghosts are those of the history, which has a side for each group and whose answers are lawful; each item has two words
+-- the words of a body behind a tag
+abbrev pub body_at : (ℕ → ℕ) → BodyWords
+body_at words = record { first = words 1; second = words 2; third = words 3; fourth = words 4 }
+
+-- which are those words
+pub word_at : (words : ℕ → ℕ) (i : ℕ) → i ≤ 3 → word (body_at words) i ≡ words (suc i)
+word_at words zero most = refl
+word_at words (suc zero) most = refl
+word_at words (suc (suc zero)) most = refl
+word_at words (suc (suc (suc zero))) most = refl
+word_at words (suc (suc (suc (suc i)))) most = absurd (omega arith)
+
+pub item_same : (k : ℕ) (f g : ℕ → ℕ) → ((j : ℕ) → f j ≡ g j) → item_of k (f 0) (body_at f) ≡ item_of k (g 0) (body_at g)
+item_same k f g same = λ i. item_of k (same 0 i) (body_at (λ j. same j i))
+
+-- the ghosts are those of the history, which has a side for each group and whose answers are lawful; each item has as many words as its tag tells
 pub record Ties (c : Config) (h : Record) (g : Told) : Type 0 where
   pub some : 0 < groups c
   pub many : length h.takes ≡ groups c
   pub accepted_is : g.accepted ≡ length (accepted h)
   pub handed_is : (y : ℕ) → g.handed y ≡ length (handed h y)
   pub shut_is : g.shut ≡ shut_number (is_shut h)
-  pub tells_is : g.tells ≡ (λ (a : ℕ). 2)
-  pub items_are : (k : ℕ) → k < g.accepted → slice_get (accepted h) k ≡ Some (item_of k (g.items k 0) (g.items k 1))
+  pub tells_is : g.tells ≡ long_of
+  pub items_are : (k : ℕ) → k < g.accepted → slice_get (accepted h) k ≡ Some (item_of k (g.items k 0) (body_at (g.items k)))
   pub lawful : Lawful c h
-
--- the words that were read are those of the request that is served
-pub record Asked (e : Entry) (tag body : ℕ) : Type 0 where
-  pub tag_is : tag ≡ (request_in e).tag
-  pub body_is : body ≡ (request_in e).body
 
 -- the reads-th node of the scan, round the end, is at
 pub record Scanned (c : Config) (from at reads : ℕ) : Type 0 where
@@ -48,14 +61,14 @@ pub record Scanned (c : Config) (from at reads : ℕ) : Type 0 where
 
 -- what the service of the send side holds
 abbrev pub Reads : Config → Entry → ℕ → Sending → Type 0
-Reads c e from (sending.ReadShut q) = Asked e q.tag q.body
-Reads c e from (sending.ReadCount q) = Asked e q.tag q.body
-Reads c e from (sending.ReadCursor parcel) = Asked e parcel.tag parcel.body
-Reads c e from (sending.ReadPassed parcel at reads) = Asked e parcel.tag parcel.body × Scanned c from at reads
-Reads c e from (sending.ResetPassed parcel at) = Asked e parcel.tag parcel.body
-Reads c e from (sending.ResetItemNext parcel at) = Asked e parcel.tag parcel.body
-Reads c e from (sending.WriteItemTag parcel at) = Asked e parcel.tag parcel.body
-Reads c e from (sending.WriteItemBody count body at) = body ≡ (request_in e).body
+Reads c e from (sending.ReadShut q) = HasRequest e q.tag q.body
+Reads c e from (sending.ReadCount q) = HasRequest e q.tag q.body
+Reads c e from (sending.ReadCursor parcel) = HasRequest e parcel.tag parcel.body
+Reads c e from (sending.ReadPassed parcel at reads) = HasRequest e parcel.tag parcel.body × Scanned c from at reads
+Reads c e from (sending.ResetPassed parcel at) = HasRequest e parcel.tag parcel.body
+Reads c e from (sending.ResetItemNext parcel at) = HasRequest e parcel.tag parcel.body
+Reads c e from (sending.WriteItemTag parcel at) = HasRequest e parcel.tag parcel.body
+Reads c e from (sending.WriteItemBody parcel at i) = HasRequest e parcel.tag parcel.body × (i ≤ further_words parcel.tag)
 Reads c e from _ = Unit {0}
 
 abbrev pub ReadsAt : Config → Entry → ℕ → Place → Type 0
@@ -65,7 +78,7 @@ ReadsAt c e from _ = Unit {0}
 -- the service has read its request, and its answer isn't decided
 abbrev pub IsUndecided : Sending → Type 0
 IsUndecided sending.ReadTag = ⊥
-IsUndecided (sending.ReadBody tag) = ⊥
+IsUndecided (sending.ReadBody request i) = ⊥
 IsUndecided (sending.WriteLast count at) = ⊥
 IsUndecided (sending.WriteCount count at) = ⊥
 IsUndecided (sending.WriteCursor count at) = ⊥
@@ -76,7 +89,7 @@ IsUndecided _ = Unit {0}
 -- the service has read its request
 abbrev pub IsBegun : Sending → Type 0
 IsBegun sending.ReadTag = ⊥
-IsBegun (sending.ReadBody tag) = ⊥
+IsBegun (sending.ReadBody request i) = ⊥
 IsBegun _ = Unit {0}
 
 abbrev pub IsServing : Place → Type 0

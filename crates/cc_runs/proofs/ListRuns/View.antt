@@ -1,5 +1,6 @@
 -- A state of the machine as the list between the chains.
-use Rattle.std.proofs.Common.{◌≡◌, ◌≢◌, ℕ, zero, suc, ◌+◌, ◌-◌, ◌==◌, Bool, true, false, cond, refl, sym, ap, ◌∙◌, subst}
+use Rattle.std.proofs.Common.{◌≡◌, ◌≢◌, ℕ, zero, suc, ◌+◌, ◌-◌, ◌==◌, ◌&&◌, Bool, true, false, cond, refl, sym, ap, ◌∙◌, subst}
+use Rattle.std.proofs.Math.Bool.{and-false}
 use Rattle.std.proofs.lemmas.Bool.{eq-eqb, ne_eqb, eqb-true, eqb-false}
 use Rattle.cc_model.specs.declared.call.Entry.{Entry}
 use Rattle.cc_runs.specs.declared.word.ItemField.TheVariants as item
@@ -16,7 +17,8 @@ use Rattle.cc_runs.specs.declared.place.Taking.TheVariants as taking
 use Rattle.cc_runs.specs.declared.place.Stand.{Stand}
 use Rattle.cc_runs.specs.Words.{put, object_number}
 use Rattle.cc_runs.specs.State.{State, hold}
-use Rattle.cc_runs.specs.Codes.{request_in}
+use Rattle.cc_runs.specs.Codes.{request_in, further_words, word}
+use Rattle.cc_runs.proofs.Chains.View.{words_of, no_word}
 use Rattle.cc_runs.proofs.LinkedList.Queue.{Enq, Side, Queue}
 
 -- What no word and no place holds of the two services: which pass served last on each side, the call that it serves or
@@ -32,24 +34,22 @@ pub record Duty : Type 0 where
 abbrev pub with_group : {X : Type 0} → (ℕ → X) → ℕ → X → ℕ → X
 with_group f y now x = cond (x == y) now (f x)
 
--- a list of two words
-abbrev pub two : ℕ → ℕ → ℕ → ℕ
-two a b zero = a
-two a b (suc zero) = b
-two a b (suc (suc _)) = 0
+-- how many words an item or a request has whose tag this is, the tag among them
+abbrev pub long_of : ℕ → ℕ
+long_of tag = further_words tag + 2
 
 -- the words of the request that is served
 abbrev pub asks_of : Entry → ℕ → ℕ
-asks_of e = two (request_in e).tag (request_in e).body
+asks_of e = words_of (request_in e).tag (word (request_in e).body)
 
 -- the service of the send side where nobody serves
 abbrev pub resting : Entry → ℕ → Enq
-resting e from = record { stage = 0; asks = asks_of e; asks_long = 2; known = e.known; seen = 0; cursor = from; tried = 0; found = 0; wrote = 0; last = 0 }
+resting e from = record { stage = 0; asks = asks_of e; asks_long = long_of (request_in e).tag; known = e.known; seen = 0; cursor = from; tried = 0; found = 0; wrote = 0; last = 0 }
 
 -- and at a step of the service of this call, whose scan began so
 abbrev pub enq_in : Entry → ℕ → Sending → Enq
 enq_in e from sending.ReadTag = resting e from
-enq_in e from (sending.ReadBody tag) = resting e from
+enq_in e from (sending.ReadBody request i) = resting e from
 enq_in e from (sending.ReadShut request) = record (resting e from) { stage = 1 }
 enq_in e from sending.ReadTotal = record (resting e from) { stage = 2 }
 enq_in e from (sending.ReadCount request) = record (resting e from) { stage = 3 }
@@ -58,9 +58,9 @@ enq_in e from (sending.ReadPassed parcel at reads) = record (resting e from) { s
 enq_in e from (sending.ResetPassed parcel at) = record (resting e from) { stage = 6; seen = parcel.place; found = at }
 enq_in e from (sending.ResetItemNext parcel at) = record (resting e from) { stage = 7; seen = parcel.place; found = at }
 enq_in e from (sending.WriteItemTag parcel at) = record (resting e from) { stage = 8; seen = parcel.place; found = at }
-enq_in e from (sending.WriteItemBody count body at) = record (resting e from) { stage = 8; seen = count; found = at; wrote = 1 }
-enq_in e from (sending.ReadLast count at) = record (resting e from) { stage = 9; seen = count; found = at; wrote = 2 }
-enq_in e from (sending.LinkItem count at last) = record (resting e from) { stage = 10; seen = count; found = at; wrote = 2; last = last + 1 }
+enq_in e from (sending.WriteItemBody parcel at i) = record (resting e from) { stage = 8; seen = parcel.place; found = at; wrote = suc i }
+enq_in e from (sending.ReadLast count at) = record (resting e from) { stage = 9; seen = count; found = at; wrote = long_of (request_in e).tag }
+enq_in e from (sending.LinkItem count at last) = record (resting e from) { stage = 10; seen = count; found = at; wrote = long_of (request_in e).tag; last = last + 1 }
 enq_in e from (sending.WriteLast count at) = record (resting e from) { stage = 11; seen = count; found = at }
 enq_in e from (sending.WriteCount count at) = record (resting e from) { stage = 12; seen = count; found = at }
 enq_in e from (sending.WriteCursor count at) = record (resting e from) { stage = 13; seen = count; found = at }
@@ -83,17 +83,17 @@ pub record Regs : Type 0 where
   pub word : ℕ → ℕ
 
 abbrev pub none : Regs
-none = record { stage = 0; dummy = 0; seen = 0; after = 0; got = 0; word = two 0 0 }
+none = record { stage = 0; dummy = 0; seen = 0; after = 0; got = 0; word = no_word }
 
 abbrev pub regs_in : Taking → Regs
 regs_in taking.ReadHead = record none { stage = 1 }
 regs_in (taking.ReadTaken dummy) = record none { stage = 2; dummy = dummy }
 regs_in (taking.ReadDummyNext dummy taken) = record none { stage = 3; dummy = dummy; seen = taken }
 regs_in (taking.ReadItemTag dummy taken at) = record none { stage = 4; dummy = dummy; seen = taken; after = at + 1 }
-regs_in (taking.ReadItemBody dummy taken at tag) = record { stage = 4; dummy = dummy; seen = taken; after = at + 1; got = 1; word = two tag 0 }
-regs_in (taking.WriteHead dummy at parcel) = record { stage = 5; dummy = dummy; seen = parcel.place; after = at + 1; got = 2; word = two parcel.tag parcel.body }
-regs_in (taking.WriteTaken dummy parcel) = record { stage = 6; dummy = dummy; seen = parcel.place; after = 0; got = 2; word = two parcel.tag parcel.body }
-regs_in (taking.AddPassed dummy parcel) = record { stage = 7; dummy = dummy; seen = parcel.place; after = 0; got = 2; word = two parcel.tag parcel.body }
+regs_in (taking.ReadItemBody dummy at p i) = record { stage = 4; dummy = dummy; seen = p.place; after = at + 1; got = suc i; word = words_of p.tag (word p.body) }
+regs_in (taking.WriteHead dummy at parcel) = record { stage = 5; dummy = dummy; seen = parcel.place; after = at + 1; got = long_of parcel.tag; word = words_of parcel.tag (word parcel.body) }
+regs_in (taking.WriteTaken dummy parcel) = record { stage = 6; dummy = dummy; seen = parcel.place; after = 0; got = long_of parcel.tag; word = words_of parcel.tag (word parcel.body) }
+regs_in (taking.AddPassed dummy parcel) = record { stage = 7; dummy = dummy; seen = parcel.place; after = 0; got = long_of parcel.tag; word = words_of parcel.tag (word parcel.body) }
 
 abbrev pub regs_at : Place → Regs
 regs_at (place.Taking job service) = regs_in service
@@ -113,7 +113,7 @@ side_from head taken call r = record {
 }
 
 abbrev pub item_word : (Word → ℕ) → ℕ → ℕ → ℕ
-item_word mem x = two (mem (Item x item.Tag)) (mem (Item x item.Body))
+item_word mem x = words_of (mem (Item x item.Tag)) (λ i. mem (Item x (item.Body i)))
 
 -- of the words, the calls that the groups serve, and the registers of all services
 abbrev pub queue_from : (Word → ℕ) → Duty → Enq → (ℕ → Regs) → Queue
@@ -169,6 +169,19 @@ object_here mem o value = ap (λ (b : Bool). cond b value (mem (Object o))) (sam
 
 pub object_other : (mem : Word → ℕ) (o q : Obj) (value : ℕ) → object_number o ≢ object_number q → put mem (Object o) value (Object q) ≡ mem (Object q)
 object_other mem o q value ne = ap (λ (b : Bool). cond b value (mem (Object q))) (other_number (object_number o) (object_number q) ne)
+
+-- ---- a store to a word of an item's body
+
+pub part_here : (mem : Word → ℕ) (x i value : ℕ) → item_word (put mem (Item x (item.Body i)) value) x (suc i) ≡ value
+part_here mem x i value = (λ k. cond (same_number i k && (x == x)) value (mem (Item x (item.Body i)))) ∙ ap (λ (b : Bool). cond b value (mem (Item x (item.Body i)))) (same_number x)
+
+pub part_other : (mem : Word → ℕ) (x i value y j : ℕ) → (x ≡ y → j ≢ suc i) → item_word (put mem (Item x (item.Body i)) value) y j ≡ item_word mem y j
+part_other mem x i value y zero ne = refl
+part_other mem x i value y (suc j) ne = by_node (x == y) refl
+  where
+    by_node : (b : Bool) → (x == y) ≡ b → put mem (Item x (item.Body i)) value (Item y (item.Body j)) ≡ mem (Item y (item.Body j))
+    by_node true same = ap (λ (b : Bool). cond (b && (x == y)) value (mem (Item y (item.Body j)))) (other_number i j (λ e. ne (eqb-true x y same) (ap suc (sym e))))
+    by_node false other = ap (λ (b : Bool). cond ((i == j) && b) value (mem (Item y (item.Body j)))) other ∙ ap (λ (b : Bool). cond b value (mem (Item y (item.Body j)))) (and-false (i == j))
 
 -- ---- a pass that goes on
 

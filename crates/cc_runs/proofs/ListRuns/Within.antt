@@ -25,6 +25,7 @@ use Rattle.cc_runs.specs.State.{State}
 use Rattle.cc_runs.specs.Run.{reached, history_of, IsRun}
 use Rattle.cc_runs.specs.MachineLaws.{AnswerWithin, IsWithin, NumbersStayWithin}
 use Rattle.cc_runs.proofs.Ranges.{in_range}
+use Rattle.cc_runs.proofs.ListRuns.Ties.{body_at}
 use Rattle.cc_runs.proofs.ListRuns.Facts.{lists}
 use Rattle.cc_runs.proofs.ListRuns.Whole.{Parts}
 use Rattle.cc_runs.proofs.ListRuns.Runs.{Whole}
@@ -74,8 +75,8 @@ within c s w =
     small : Small (accepted s.history)
     small i x is =
         let low : i < w.parts.told.accepted = omega (arith, slice_get_within (accepted s.history) i x is, w.parts.ties.accepted_is) in
-        let at : Some x ≡ Some (item_of i (w.parts.told.items i 0) (w.parts.told.items i 1)) = sym is ∙ w.parts.ties.items_are i low in
-        let same : x ≡ item_of i (w.parts.told.items i 0) (w.parts.told.items i 1) = cc in
+        let at : Some x ≡ Some (item_of i (w.parts.told.items i 0) (body_at (w.parts.told.items i))) = sym is ∙ w.parts.ties.items_are i low in
+        let same : x ≡ item_of i (w.parts.told.items i 0) (body_at (w.parts.told.items i)) = cc in
         omega (arith, ap (λ (y : Item). y.number) same)
 
     by_chain : length (accepted s.history) ≤ c.life → (x : Chain) → AllByRecursion (AnswerWithin c.life) (answers_on x s.history)

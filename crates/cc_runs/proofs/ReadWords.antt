@@ -1,0 +1,53 @@
+-- The words of a body, read one by one.
+use Rattle.std.proofs.Common.{◌≡◌, ◌≢◌, ℕ, zero, suc, ◌+◌, ◌/◌, ◌%◌, ◌^◌, ◌<◌, ◌≤◌, refl, ap, sym, ◌∙◌, arith, inl, inr}
+use Rattle.std.proofs.lemmas.Bool.{cases_eq}
+use Rattle.cc_runs.specs.declared.place.BodyWords.{BodyWords}
+use Rattle.cc_runs.specs.declared.place.Parcel.{Parcel}
+use Rattle.cc_runs.specs.Codes.{word, with_word, further_words, item_in, item_of}
+
+-- the word that was read
+word_here : (body : BodyWords) (i value : ℕ) → i ≤ 3 → word (with_word body i value) i ≡ value
+word_here body zero value most = refl
+word_here body (suc zero) value most = refl
+word_here body (suc (suc zero)) value most = refl
+word_here body (suc (suc (suc zero))) value most = refl
+word_here body (suc (suc (suc (suc i)))) value most = absurd (omega arith)
+
+-- and each other one
+word_other : (body : BodyWords) (i value j : ℕ) → j ≢ i → word (with_word body i value) j ≡ word body j
+word_other body zero value zero ne = absurd (ne refl)
+word_other body zero value (suc zero) ne = refl
+word_other body zero value (suc (suc zero)) ne = refl
+word_other body zero value (suc (suc (suc zero))) ne = refl
+word_other body zero value (suc (suc (suc (suc j)))) ne = refl
+word_other body (suc zero) value zero ne = refl
+word_other body (suc zero) value (suc zero) ne = absurd (ne refl)
+word_other body (suc zero) value (suc (suc zero)) ne = refl
+word_other body (suc zero) value (suc (suc (suc zero))) ne = refl
+word_other body (suc zero) value (suc (suc (suc (suc j)))) ne = refl
+word_other body (suc (suc zero)) value zero ne = refl
+word_other body (suc (suc zero)) value (suc zero) ne = refl
+word_other body (suc (suc zero)) value (suc (suc zero)) ne = absurd (ne refl)
+word_other body (suc (suc zero)) value (suc (suc (suc zero))) ne = refl
+word_other body (suc (suc zero)) value (suc (suc (suc (suc j)))) ne = refl
+word_other body (suc (suc (suc zero))) value zero ne = refl
+word_other body (suc (suc (suc zero))) value (suc zero) ne = refl
+word_other body (suc (suc (suc zero))) value (suc (suc zero)) ne = refl
+word_other body (suc (suc (suc zero))) value (suc (suc (suc zero))) ne = absurd (ne refl)
+word_other body (suc (suc (suc zero))) value (suc (suc (suc (suc j)))) ne = refl
+word_other body (suc (suc (suc (suc i)))) value j ne = refl
+
+-- a tag tells of four words at most
+pub few_further : (tag : ℕ) → further_words tag ≤ 3
+few_further tag = omega arith
+
+-- the first words are these, and so is the next one
+pub next_word : (body : BodyWords) (words : ℕ → ℕ) (i value : ℕ) → i ≤ 3 → value ≡ words i → ((j : ℕ) → j < i → word body j ≡ words j) → (j : ℕ) → j ≤ i → word (with_word body i value) j ≡ words j
+next_word body words i value most is front j low = elim (cases_eq j i) [
+  | inl same ↦ ap (λ (k : ℕ). word (with_word body i value) k) same ∙ word_here body i value most ∙ is ∙ ap words (sym same)
+  | inr ne ↦ word_other body i value j ne ∙ front j (omega arith)
+]
+
+-- an item is told by its place, its tag and its words
+pub one_item : (p : Parcel) {place tag : ℕ} (body : BodyWords) → p.place ≡ place → p.tag ≡ tag → ((j : ℕ) → j ≤ further_words p.tag → word p.body j ≡ word body j) → item_in p ≡ item_of place tag body
+one_item p body place_is tag_is words = λ i. record { place = place_is i; sender = tag_is i / 2 ^ 32; number = tag_is i % 2 ^ 32; body = words 0 (omega arith) i }
