@@ -1,5 +1,6 @@
 pub mod Range
 pub mod Config
+pub mod Body
 pub mod Record
 pub mod Kept
 pub mod Room
