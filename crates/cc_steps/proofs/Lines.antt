@@ -1,11 +1,12 @@
 -- The slots of a table: past the configuration, and on different lines where different threads write.
-use Rattle.std.proofs.Common.{◌≡◌, ℕ, ◌+◌, ◌*◌, ◌<◌, ◌≤◌, IsTrue, refl, sym, ap, ◌∙◌, arith}
+use Rattle.std.proofs.Common.{◌≡◌, ℕ, ◌+◌, ◌*◌, ◌<◌, ◌≤◌, Bool, true, false, ◌&&◌, nat_lt, IsTrue, refl, sym, ap, ◌∙◌, arith}
+use Rattle.std.proofs.lemmas.Bool.{and_parts}
 use Rattle.cc_runs.specs.declared.word.Chain.TheVariants.{Send, Take}
 use Rattle.cc_runs.specs.declared.word.Chain.TheVariants as chain
 use Rattle.cc_runs.specs.declared.word.Object.TheVariants as object
 use Rattle.cc_runs.specs.declared.word.Word.{Word}
 use Rattle.cc_runs.specs.declared.word.Word.TheVariants as word
-use Rattle.cc_runs.specs.Words.{Layout, IsRoomy, exists}
+use Rattle.cc_runs.specs.Words.{Layout, IsRoomy, exists, is_node_field, is_item_field}
 use Rattle.cc_runs.proofs.Words.{one_to_one, field_small, part_small}
 use Rattle.cc_steps.specs.Slots.{spread, slot, first_beside, LinesApart}
 
@@ -33,26 +34,30 @@ record OnLine (l : Layout) (w : Word) : Type 0 where
   low : 8 * line ≤ slot l w
   high : slot l w < 8 * line + 8
 
-on_line : (l : Layout) (w : Word) → OnLine l w
-on_line l (word.Tail Send) = record { line = 2; begins = refl; low = omega arith; high = omega arith }
-on_line l (word.Tail (Take g)) = record { line = 6 + 4 * g; begins = omega arith; low = omega arith; high = omega arith }
-on_line l (word.Object object.Last) = record { line = 4; begins = refl; low = omega arith; high = omega arith }
-on_line l (word.Object object.Shut) = record { line = 4; begins = refl; low = omega arith; high = omega arith }
-on_line l (word.Object object.Count) = record { line = 4; begins = refl; low = omega arith; high = omega arith }
-on_line l (word.Object object.Cursor) = record { line = 4; begins = refl; low = omega arith; high = omega arith }
-on_line l (word.Object (object.Head g)) = record { line = 8 + 4 * g; begins = omega arith; low = omega arith; high = omega arith }
-on_line l (word.Object (object.Taken g)) = record { line = 8 + 4 * g; begins = omega arith; low = omega arith; high = omega arith }
-on_line l (word.Node Send i f) =
-    let few = field_small Send f in
+on_line : (l : Layout) (w : Word) → IsTrue (exists l w) → OnLine l w
+on_line l (word.Tail Send) a = record { line = 2; begins = refl; low = omega arith; high = omega arith }
+on_line l (word.Tail (Take g)) a = record { line = 6 + 4 * g; begins = omega arith; low = omega arith; high = omega arith }
+on_line l (word.Object object.Last) a = record { line = 4; begins = refl; low = omega arith; high = omega arith }
+on_line l (word.Object object.Shut) a = record { line = 4; begins = refl; low = omega arith; high = omega arith }
+on_line l (word.Object object.Count) a = record { line = 4; begins = refl; low = omega arith; high = omega arith }
+on_line l (word.Object object.Cursor) a = record { line = 4; begins = refl; low = omega arith; high = omega arith }
+on_line l (word.Object (object.Head g)) a = record { line = 8 + 4 * g; begins = omega arith; low = omega arith; high = omega arith }
+on_line l (word.Object (object.Taken g)) a = record { line = 8 + 4 * g; begins = omega arith; low = omega arith; high = omega arith }
+on_line l (word.Node Send i f) a =
+    let few = field_small Send f (and_parts (nat_lt i (l.senders + 1)) (is_node_field f) a).1 in
     record { line = 6 + 4 * l.groups + 2 * i; begins = omega arith; low = omega arith; high = omega (arith, few) }
-on_line l (word.Node (Take g) i f) =
-    let few = field_small (Take g) f in
+on_line l (word.Node (Take g) i f) a =
+    let few = field_small (Take g) f (and_parts (nat_lt g l.groups && nat_lt i (l.receivers + 1)) (is_node_field f) a).1 in
     record { line = 6 + 4 * l.groups + 2 * (l.senders + 1) + 2 * (g * (l.receivers + 1)) + 2 * i; begins = omega arith; low = omega arith; high = omega (arith, few) }
-on_line l (word.Item i f) =
-    let few = part_small f in
+on_line l (word.Item i f) a =
+    let few = part_small f (and_parts (nat_lt i (l.capacity + 2)) (is_item_field f) a).1 in
     record { line = 6 + 4 * l.groups + 2 * (l.senders + 1) + 2 * (l.groups * (l.receivers + 1)) + i; begins = omega arith; low = omega arith; high = omega (arith, few) }
 
 -- and that one is there too
+there : (a b : Bool) → a && b ≡ true → a && true ≡ true
+there true b e = refl
+there false b e = absurd (cc e)
+
 exists_beside : (l : Layout) (w : Word) → IsTrue (exists l w) → IsTrue (exists l (first_beside w))
 exists_beside l (word.Tail Send) a = a
 exists_beside l (word.Tail (Take g)) a = a
@@ -62,13 +67,13 @@ exists_beside l (word.Object object.Count) a = a
 exists_beside l (word.Object object.Cursor) a = a
 exists_beside l (word.Object (object.Head g)) a = a
 exists_beside l (word.Object (object.Taken g)) a = a
-exists_beside l (word.Node Send i f) a = a
-exists_beside l (word.Node (Take g) i f) a = a
-exists_beside l (word.Item i f) a = a
+exists_beside l (word.Node Send i f) a = there (nat_lt i (l.senders + 1)) (is_node_field f) a
+exists_beside l (word.Node (Take g) i f) a = there (nat_lt g l.groups && nat_lt i (l.receivers + 1)) (is_node_field f) a
+exists_beside l (word.Item i f) a = there (nat_lt i (l.capacity + 2)) (is_item_field f) a
 
 pub lines_apart : LinesApart
 lines_apart l v w a b same =
-    let x = on_line l v in
-    let y = on_line l w in
+    let x = on_line l v a in
+    let y = on_line l w b in
     let line : x.line ≡ y.line = omega (arith, same, x.low, x.high, y.low, y.high) in
     one_to_one spread spread_roomy l (first_beside v) (first_beside w) (exists_beside l v a) (exists_beside l w b) (x.begins ∙ ap (λ (n : ℕ). 8 * n) line ∙ sym y.begins)

@@ -1,12 +1,12 @@
 -- The pass that has just stepped has seen the longest run: all moves of a pass are covered by what it has seen.
-use Rattle.std.proofs.Common.{◌≡◌, ℕ, ◌+◌, ◌*◌, ◌<◌, ◌≤◌, Bool, cond, List, [], ◌∷◌, ◌++◌, length, IsTrue, refl, sym, ap, ◌∙◌, subst, arith}
-use Rattle.std.proofs.lemmas.Bool.{eq-eqb}
+use Rattle.std.proofs.Common.{◌≡◌, ℕ, ◌+◌, ◌*◌, ◌<◌, ◌≤◌, Bool, ◌&&◌, nat_lt, cond, List, [], ◌∷◌, ◌++◌, length, IsTrue, refl, sym, ap, ◌∙◌, subst, arith}
+use Rattle.std.proofs.lemmas.Bool.{and_parts, eq-eqb}
 use Rattle.cc_runs.specs.declared.run.Move.{Move}
 use Rattle.cc_runs.specs.declared.word.Chain.TheVariants.{Send, Take}
 use Rattle.cc_runs.specs.declared.word.Object.TheVariants as object
 use Rattle.cc_runs.specs.declared.word.Word.{Word}
 use Rattle.cc_runs.specs.declared.word.Word.TheVariants as word
-use Rattle.cc_runs.specs.Words.{Layout, layout_of, exists}
+use Rattle.cc_runs.specs.Words.{Layout, layout_of, exists, is_node_field, is_item_field}
 use Rattle.cc_runs.specs.State.{word_of}
 use Rattle.cc_runs.specs.Passes.{pass_of, by}
 use Rattle.cc_runs.proofs.Words.{field_small, part_small}
@@ -44,12 +44,20 @@ slot_in l (word.Object object.Count) a = omega arith
 slot_in l (word.Object object.Cursor) a = omega arith
 slot_in l (word.Object (object.Head g)) a = let less : g < l.groups = grind arith in omega (arith, less)
 slot_in l (word.Object (object.Taken g)) a = let less : g < l.groups = grind arith in omega (arith, less)
-slot_in l (word.Node Send i f) a = let less : i < l.senders + 1 = grind arith in omega (arith, less, field_small Send f)
+slot_in l (word.Node Send i f) a =
+    let t = and_parts (nat_lt i (l.senders + 1)) (is_node_field f) a in
+    let less : i < l.senders + 1 = grind (arith, t.0) in
+    omega (arith, less, field_small Send f t.1)
 slot_in l (word.Node (Take g) i f) a =
-    let low : g < l.groups = grind arith in
-    let less : i < l.receivers + 1 = grind arith in
-    omega (arith, less, groups_in g l.groups (l.receivers + 1) low, field_small (Take g) f)
-slot_in l (word.Item i f) a = let less : i < l.capacity + 2 = grind arith in omega (arith, less, part_small f)
+    let t = and_parts (nat_lt g l.groups && nat_lt i (l.receivers + 1)) (is_node_field f) a in
+    let u = and_parts (nat_lt g l.groups) (nat_lt i (l.receivers + 1)) t.0 in
+    let low : g < l.groups = grind (arith, u.0) in
+    let less : i < l.receivers + 1 = grind (arith, u.1) in
+    omega (arith, less, groups_in g l.groups (l.receivers + 1) low, field_small (Take g) f t.1)
+slot_in l (word.Item i f) a =
+    let t = and_parts (nat_lt i (l.capacity + 2)) (is_item_field f) a in
+    let less : i < l.capacity + 2 = grind (arith, t.0) in
+    omega (arith, less, part_small f t.1)
 
 pub stepper : StepperHasSeenAll
 stepper s j v call h at ready =

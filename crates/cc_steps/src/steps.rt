@@ -72,7 +72,8 @@ pub fn exchange_tail(words: &Words, seat: &mut PassSeat, chain: Chain, link: u64
     moves::swap(words, seat, Word::Tail(chain), link)
 }
 
-/// WriteRequest, by a sender: stores the tag or the body of its request into its current node.
+/// WriteRequest, by a sender: stores the tag or a word of the body of its request into its current
+/// node.
 #[tactic(auto, using(crate::proofs::Walks::can_do))]
 #[inline(always)]
 pub fn write_request(words: &Words, seat: &mut PassSeat, node: u64, field: NodeField, value: u64)
@@ -127,7 +128,7 @@ pub fn read_next(words: &Words, seat: &mut PassSeat, chain: Chain, node: u64) ->
     moves::load(words, seat, Word::Node(chain, node, NodeField::Next))
 }
 
-/// ReadRequest, by the senders' combiner: loads the tag or the body of the request in a node.
+/// ReadRequest, by the senders' combiner: loads the tag or a word of the body of the request in a node.
 #[tactic(auto, using(crate::proofs::Walks::can_do))]
 #[inline(always)]
 pub fn read_request(words: &Words, seat: &mut PassSeat, node: u64, field: NodeField) -> u64
@@ -166,8 +167,8 @@ pub fn write_object(words: &Words, seat: &mut PassSeat, object: Object, value: u
     moves::store(words, seat, Word::Object(object), value);
 }
 
-/// WriteAnswer, by a combiner: stores the answer word, or the tag or the body of the item that was handed out, into the node
-/// that it serves.
+/// WriteAnswer, by a combiner: stores the answer word, or the tag or a word of the body of the item that was handed out, into
+/// the node that it serves.
 #[tactic(auto, using(crate::proofs::Walks::can_do))]
 #[inline(always)]
 pub fn write_answer(
@@ -213,9 +214,9 @@ pub fn hand_over(words: &Words, seat: &mut PassSeat, chain: Chain, node: u64)
     moves::store(words, seat, Word::Node(chain, node, NodeField::State), 0);
 }
 
-/// ReadAnswer, by the caller: loads the answer word of its current node, or the tag or the body of the item that it was
-/// given. Where it is the last word, the call ends with this step, and the answer is taken. `told`: it is then the answer of
-/// the pass's last call in the history that the pass has seen.
+/// ReadAnswer, by the caller: loads the answer word of its current node, or the tag or a word of the body of the item that
+/// it was given. Where it is the last word, the call ends with this step, and the answer is taken. `told`: it is then the
+/// answer of the pass's last call in the history that the pass has seen.
 #[tactic(auto, using(crate::proofs::Walks::can_do, crate::proofs::Told::told_so))]
 #[inline(always)]
 pub fn read_answer(
@@ -263,7 +264,8 @@ pub fn reset_list_node(words: &Words, seat: &mut PassSeat, node: u64, field: Ite
     moves::store(words, seat, Word::Item(node, field), 0);
 }
 
-/// WriteItem, by the senders' combiner: stores the tag or the body of an item into the node that it prepares.
+/// WriteItem, by the senders' combiner: stores the tag or a word of the body of an item into the node that it
+/// prepares.
 #[tactic(auto, using(crate::proofs::Walks::can_do))]
 #[inline(always)]
 pub fn write_item(words: &Words, seat: &mut PassSeat, node: u64, field: ItemField, value: u64)
@@ -303,7 +305,7 @@ pub fn read_dummy_next(words: &Words, seat: &mut PassSeat, dummy: u64) -> u64
     moves::load(words, seat, Word::Item(dummy, ItemField::Next))
 }
 
-/// ReadItem, by a group's combiner: loads the tag or the body of the node after the dummy.
+/// ReadItem, by a group's combiner: loads the tag or a word of the body of the node after the dummy.
 #[tactic(auto, using(crate::proofs::Walks::can_do))]
 #[inline(always)]
 pub fn read_item(words: &Words, seat: &mut PassSeat, node: u64, field: ItemField) -> u64
