@@ -7,3 +7,4 @@ pub mod Trying
 pub mod Seated
 pub mod Held
 pub mod Rounds
+pub mod WordByWord

@@ -11,6 +11,7 @@ ghost use Rattle.cc_steps.specs.Walk.{IsOf, IsReadyToStep, IsPendingIn};
 ghost use Rattle.cc_queue.specs.Work.{IsOn, IsOnList, Enters};
 ghost use Rattle.cc_queue.specs.Headline.{entry_of};
 
+use crate::bodies;
 use cc_model::Call;
 use cc_runs::{Chain, NodeField, Request};
 use cc_steps::seats::PassSeat;
@@ -51,7 +52,7 @@ pub fn begin_request(
 {
     let got = exchange(words, seat, Chain::Send, node, call);
     steps::write_request(words, seat, got, NodeField::Tag, request.tag);
-    steps::write_request(words, seat, got, NodeField::Body, request.body);
+    bodies::write_request(words, seat, got, node, request);
     steps::link_next(words, seat, Chain::Send, got, node + 1);
     got
 }

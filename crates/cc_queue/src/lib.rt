@@ -11,6 +11,7 @@
 
 mod begins;
 mod blocking;
+mod bodies;
 mod codes;
 mod combine;
 mod meets;

@@ -10,7 +10,7 @@ use crate::passes::{CloseTurn, PendingClose, PendingSend, SendTurn, Sender};
 use crate::queue::Queue;
 use crate::turns::turn_request;
 use cc_model::{Call, pack};
-use cc_runs::Request;
+use cc_runs::{BodyWords, Request};
 
 /// Begins a send of this body. Err hands the sender back unchanged, where it has begun as many sends as one sender may.
 pub fn begin_send(queue: &Queue, sender: Sender, body: u64) -> Result<PendingSend, Sender>
@@ -27,7 +27,7 @@ pub fn begin_send(queue: &Queue, sender: Sender, body: u64) -> Result<PendingSen
     at.begun += 1;
     let request = Request {
         tag: pack(at.number, at.begun),
-        body,
+        body: BodyWords::one(body),
     };
     at.node = begin_request(
         &queue.words,
@@ -46,7 +46,10 @@ pub fn begin_close(queue: &Queue, sender: Sender) -> PendingClose
     ensures { Begun sender call.Close result }
 {
     let Sender { mut at } = sender;
-    let request = Request { tag: 0, body: 0 };
+    let request = Request {
+        tag: 0,
+        body: BodyWords::one(0),
+    };
     at.node = begin_request(&queue.words, &mut at.seat, at.node, Call::Close, request);
     at.seat.stands();
     PendingClose { at }

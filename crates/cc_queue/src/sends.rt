@@ -8,6 +8,7 @@ ghost use Rattle.cc_runs.specs.declared.place.Sending.TheVariants as sending;
 ghost use Rattle.cc_steps.specs.Walk.{IsReadyToStep};
 ghost use Rattle.cc_queue.specs.Work.{IsOnList, IsServing, Serves};
 
+use crate::bodies;
 use crate::tell::tell;
 use cc_model::{Answer, CloseAnswer, Config, SendAnswer};
 use cc_runs::{Chain, ItemField, Job, NodeField, Object, Parcel, node_after};
@@ -21,9 +22,8 @@ pub fn serve_request(words: &Words, seat: &mut PassSeat, config: &Config, job: J
     requires at { seat.old.stand.place ≡ place.Sending job sending.ReadTag }
     ensures { Serves seat.old (place.MarkDone job) (config.now.capacity + 1) seat.new }
 {
-    let at = job.round.at;
-    let tag = steps::read_request(words, seat, at, NodeField::Tag);
-    let body = steps::read_request(words, seat, at, NodeField::Body);
+    let tag = steps::read_request(words, seat, job.round.at, NodeField::Tag);
+    let body = bodies::read_request(words, seat, job, tag);
     let shut = steps::read_object(words, seat, Object::Shut);
     if shut != 0 {
         refuse_after_close(words, seat, job, tag);
@@ -121,7 +121,7 @@ fn prepare(words: &Words, seat: &mut PassSeat, config: &Config, job: Job, parcel
     steps::reset_list_node(words, seat, node, ItemField::Passed);
     steps::reset_list_node(words, seat, node, ItemField::Next);
     steps::write_item(words, seat, node, ItemField::Tag, parcel.tag);
-    steps::write_item(words, seat, node, ItemField::Body, parcel.body);
+    bodies::write_item(words, seat, job, parcel, node);
     append(words, seat, config, job, parcel.place, node);
 }
 

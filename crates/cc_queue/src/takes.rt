@@ -6,9 +6,10 @@ ghost use Rattle.cc_runs.specs.declared.place.Taking.TheVariants as taking;
 ghost use Rattle.cc_steps.specs.Walk.{IsReadyToStep};
 ghost use Rattle.cc_queue.specs.Work.{IsOnList, Serves};
 
+use crate::bodies;
 use crate::tell::tell;
 use cc_model::{Answer, TakeAnswer};
-use cc_runs::{CODE, Chain, ItemField, Job, NodeField, Object, Parcel};
+use cc_runs::{CODE, Chain, ItemField, Job, NodeField, Object, Parcel, item_of};
 use cc_steps::seats::PassSeat;
 use cc_steps::steps;
 use cc_steps::words::Words;
@@ -51,12 +52,7 @@ fn take_item(
         tell(words, seat, Chain::Take(group), job, answer);
         return;
     }
-    let body = steps::read_item(words, seat, node, ItemField::Body);
-    let parcel = Parcel {
-        place: taken,
-        tag,
-        body,
-    };
+    let parcel = bodies::read_item(words, seat, group, job, dummy, node, taken, tag);
     hand_out(words, seat, group, job, dummy, node, parcel);
 }
 
@@ -82,5 +78,6 @@ fn hand_out(
     steps::add_passed(words, seat, dummy);
     steps::write_answer(words, seat, chain, at, NodeField::Ret, CODE + parcel.place);
     steps::write_answer(words, seat, chain, at, NodeField::Tag, parcel.tag);
-    steps::write_answer(words, seat, chain, at, NodeField::Body, parcel.body);
+    let item = item_of(parcel.place, parcel.tag, parcel.body);
+    bodies::write_answer(words, seat, chain, job, item);
 }

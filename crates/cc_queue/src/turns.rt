@@ -8,9 +8,10 @@ ghost use Rattle.cc_runs.specs.Codes.{list_reads};
 ghost use Rattle.cc_steps.specs.Walk.{IsToldAt};
 ghost use Rattle.cc_queue.specs.Work.{IsOnList, IsServing, Works, Waits, looked, turned};
 
+use crate::bodies;
 use crate::combine::combine;
-use cc_model::{Config, Item, TakeAnswer, unpack};
-use cc_runs::{CODE, Chain, NodeField};
+use cc_model::{Config, TakeAnswer};
+use cc_runs::{CODE, Chain, NodeField, item_of};
 use cc_steps::seats::PassSeat;
 use cc_steps::steps;
 use cc_steps::words::Words;
@@ -61,14 +62,9 @@ pub fn read_take_answer(words: &Words, seat: &mut PassSeat, group: u32, node: u6
     match ret / CODE {
         1 => {
             let tag = steps::read_answer(words, seat, chain, node, NodeField::Tag);
-            let body = steps::read_answer(words, seat, chain, node, NodeField::Body);
-            let (sender, number) = unpack(tag);
-            TakeAnswer::Got(Item {
-                place: ret % CODE,
-                sender,
-                number,
-                body,
-            })
+            let place = ret % CODE;
+            let body = bodies::read_answer(words, seat, group, node, place, tag);
+            TakeAnswer::Got(item_of(place, tag, body))
         }
         2 => TakeAnswer::Empty,
         _ => TakeAnswer::Ended { total: ret % CODE },

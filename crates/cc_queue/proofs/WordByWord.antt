@@ -1,0 +1,65 @@
+-- A loop over the words of a body: where a step on a word leads.
+use Rattle.std.proofs.Common.{◌≡◌, ℕ, ◌+◌, ◌<◌, Bool, true, false, cond, nat_lt, List, ◌∷◌, None, sym, ap, ◌∙◌, subst, arith}
+use Rattle.std.proofs.lemmas.Bool.{lt-ltb}
+use Rattle.cc_runs.specs.declared.place.Event.{Event}
+use Rattle.cc_runs.specs.declared.place.Event.TheVariants.{Did}
+use Rattle.cc_runs.specs.declared.place.Kind.{Kind}
+use Rattle.cc_runs.specs.declared.place.Place.{Place}
+use Rattle.cc_runs.specs.declared.place.Stand.{Stand}
+use Rattle.cc_runs.specs.Codes.{behind}
+use Rattle.cc_runs.specs.Lines.{event_at}
+use Rattle.cc_runs.specs.Passes.{then_did}
+use Rattle.cc_runs.specs.State.{chain_of}
+use Rattle.cc_runs.specs.Step.{advanced}
+use Rattle.cc_steps.specs.Seen.{Onward, settled}
+use Rattle.cc_steps.specs.Walk.{Walk, walked_to}
+use Rattle.cc_queue.specs.Work.{Serves, worked_to, tally, reads, marks, hands, scans}
+
+-- a pass that came to the first place stands at the second one, once an answer is taken
+abbrev pub Settles : Place → Place → Type 0
+Settles p q = (z : Stand) → settled (record z { place = p }) ≡ record z { place = q }
+
+settles_either : (b : Bool) (p q x y : Place) → Settles p q → Settles x y → Settles (cond b p x) (cond b q y)
+settles_either true p q x y one other = one
+settles_either false p q x y one other = other
+
+-- a step that isn't counted
+abbrev pub IsUncounted : Kind → Type 0
+IsUncounted k = (reads k ≡ 0) × (marks k ≡ 0) × (hands k ≡ 0) × (scans k ≡ 0)
+
+-- one step, which isn't counted
+module _ (v s r : Walk) (k : Kind) (here to on : Place) (found : ℕ) (at : Serves v here 0 s) (step : r ≡ walked_to s None found r.seen) (later : Onward s.seen r.seen)
+    (event : event_at here ≡ Did k) (uncounted : IsUncounted k) (goes : (z : Stand) → advanced v.setting (chain_of v.setting.config v.number) (record z { place = here }) found ≡ record z { place = to }) (settles : Settles to on) where
+  went : r ≡ walked_to (worked_to v here s) None found r.seen
+  went = subst (λ (z : Walk). r ≡ walked_to z None found r.seen) at.worked step
+
+  did : r.did ≡ k ∷ s.did
+  did = ap (λ (z : Walk). z.did) went ∙ ap (λ (e : Event). then_did e s.did) event
+
+  worked : r ≡ worked_to v on r
+  worked =
+      went
+      ∙ ap (λ (z : Stand). record v { seen = r.seen; did = then_did (event_at here) s.did; stand = z }) (ap settled (goes v.stand) ∙ settles v.stand)
+      ∙ ap (λ (all : List Kind). record v { seen = r.seen; did = all; stand = record v.stand { place = on } }) (sym (ap (λ (z : Walk). z.did) went))
+
+  counts : (f : Kind → ℕ) → tally f r.did ≡ f k + tally f s.did
+  counts f = ap (tally f) did
+
+  stepped : Serves v on 0 r
+  stepped = record {
+    worked = worked;
+    reads = omega (arith, counts reads, uncounted.0, at.reads);
+    marks = omega (arith, counts marks, uncounted.1, at.marks);
+    hands = omega (arith, counts hands, uncounted.2, at.hands);
+    scans = omega (arith, counts scans, uncounted.3, at.scans);
+    later = λ first before. later first (at.later first before);
+  }
+
+-- a word behind others, while there is one left
+pub at_word : (v s : Walk) (here on : Place) (further i : ℕ) → Serves v (behind further i here on) 0 s → i < further → Serves v here 0 s
+at_word v s here on further i at less = subst (λ (b : Bool). Serves v (cond b here on) 0 s) (lt-ltb i further less) at
+
+pub next_word : (v s r : Walk) (k : Kind) (here before next last on : Place) (further i found : ℕ) → Serves v (behind further i here before) 0 s → i < further → r ≡ walked_to s None found r.seen → Onward s.seen r.seen → event_at here ≡ Did k → IsUncounted k
+    → ((z : Stand) → advanced v.setting (chain_of v.setting.config v.number) (record z { place = here }) found ≡ record z { place = behind further (i + 1) next last }) → Settles next next → Settles last on → Serves v (behind further (i + 1) next on) 0 r
+next_word v s r k here before next last on further i found at less step later event uncounted goes stays ends =
+    stepped v s r k here (behind further (i + 1) next last) (behind further (i + 1) next on) found (at_word v s here before further i at less) step later event uncounted goes (settles_either (nat_lt (i + 1) further) next next last on stays ends)

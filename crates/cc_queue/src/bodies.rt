@@ -1,0 +1,163 @@
+//! The words of a body, one after another: the first one, and those behind it that the tag tells of.
+ghost use Rattle.std.specs.Prelude.{◌≡◌};
+ghost use Rattle.cc_model.specs.declared.call.Answer.TheVariants as answer;
+ghost use Rattle.cc_model.specs.declared.call.TakeAnswer.TheVariants as take;
+ghost use Rattle.cc_runs.specs.declared.word.Chain.TheVariants.{Send, Take};
+ghost use Rattle.cc_runs.specs.declared.place.Place.TheVariants as place;
+ghost use Rattle.cc_runs.specs.declared.place.Sending.TheVariants as sending;
+ghost use Rattle.cc_runs.specs.declared.place.Taking.TheVariants as taking;
+ghost use Rattle.cc_runs.specs.Codes as codes;
+ghost use Rattle.cc_steps.specs.Walk.{IsOf, IsReadyToStep, IsToldAt};
+ghost use Rattle.cc_queue.specs.Work.{IsOn, IsOnList, Serves};
+
+use cc_model::Item;
+use cc_runs::{
+    BodyWords, Chain, ItemField, Job, NodeField, Parcel, Request, body_words, further_words, tag_of,
+};
+use cc_steps::seats::PassSeat;
+use cc_steps::steps;
+use cc_steps::words::Words;
+
+/// A sender writes the body of its request into its current node, which is given. `put` is here for the clauses alone.
+#[inline(always)]
+pub fn write_request(words: &Words, seat: &mut PassSeat, node: u64, put: u64, request: Request)
+    requires here { IsOf words.now seat.old }
+    requires chain { IsOn seat.old Send }
+    requires at { seat.old.stand ≡ record { begun = seat.old.stand.begun; node = node; place = place.WriteBody put request 0 } }
+    ensures written { Serves seat.old (place.Link put) 0 seat.new }
+    ensures ready { IsReadyToStep seat.new }
+{
+    let _ = put;
+    steps::write_request(words, seat, node, NodeField::Body(0), request.body.first);
+    for done in 0..further_words(request.tag) {
+        let index = done + 1;
+        steps::write_request(
+            words,
+            seat,
+            node,
+            NodeField::Body(index),
+            request.body.word(index),
+        );
+    }
+}
+
+/// The senders' combiner reads the body of the request that it serves.
+#[inline(always)]
+pub fn read_request(words: &Words, seat: &mut PassSeat, job: Job, tag: u64) -> BodyWords
+    requires here { IsOnList words.now Send seat.old }
+    requires at { seat.old.stand.place ≡ place.Sending job (sending.ReadBody record { tag = tag; body = codes.no_words } 0) }
+    ensures read { Serves seat.old (place.Sending job (sending.ReadShut record { tag = tag; body = result })) 0 seat.new }
+    ensures ready { IsReadyToStep seat.new }
+{
+    let at = job.round.at;
+    let mut body = BodyWords::one(steps::read_request(words, seat, at, NodeField::Body(0)));
+    for done in 0..further_words(tag) {
+        let index = done + 1;
+        let found = steps::read_request(words, seat, at, NodeField::Body(index));
+        body = body.with_word(index, found);
+    }
+    body
+}
+
+/// The senders' combiner writes the body of an item into the node that it prepares. `job` is here for the clauses alone.
+#[inline(always)]
+pub fn write_item(words: &Words, seat: &mut PassSeat, job: Job, parcel: Parcel, node: u64)
+    requires here { IsOnList words.now Send seat.old }
+    requires at { seat.old.stand.place ≡ place.Sending job (sending.WriteItemBody parcel node 0) }
+    ensures written { Serves seat.old (place.Sending job (sending.ReadLast parcel.place node)) 0 seat.new }
+    ensures ready { IsReadyToStep seat.new }
+{
+    let _ = job;
+    steps::write_item(words, seat, node, ItemField::Body(0), parcel.body.first);
+    for done in 0..further_words(parcel.tag) {
+        let index = done + 1;
+        steps::write_item(
+            words,
+            seat,
+            node,
+            ItemField::Body(index),
+            parcel.body.word(index),
+        );
+    }
+}
+
+/// A group's combiner reads the body of the item behind the dummy. `job` and `dummy` are here for the clauses alone.
+#[inline(always)]
+pub fn read_item(
+    words: &Words,
+    seat: &mut PassSeat,
+    group: u32,
+    job: Job,
+    dummy: u64,
+    node: u64,
+    at: u64,
+    tag: u64,
+) -> Parcel
+    requires here { IsOnList words.now (Take group) seat.old }
+    requires at { seat.old.stand.place ≡ place.Taking job (taking.ReadItemBody dummy node (codes.parcel at tag codes.no_words) 0) }
+    ensures read { Serves seat.old (place.Taking job (taking.WriteHead dummy node result)) 0 seat.new }
+    ensures ready { IsReadyToStep seat.new }
+{
+    let _ = (group, job, dummy);
+    let mut body = BodyWords::one(steps::read_item(words, seat, node, ItemField::Body(0)));
+    for done in 0..further_words(tag) {
+        let index = done + 1;
+        let found = steps::read_item(words, seat, node, ItemField::Body(index));
+        body = body.with_word(index, found);
+    }
+    Parcel {
+        place: at,
+        tag,
+        body,
+    }
+}
+
+/// A combiner writes the body of the item that it hands out into the node that it serves.
+#[inline(always)]
+pub fn write_answer(words: &Words, seat: &mut PassSeat, chain: Chain, job: Job, item: Item)
+    requires here { IsOnList words.now chain seat.old }
+    requires at { seat.old.stand.place ≡ place.WriteAnswerBody job item 0 }
+    ensures written { Serves seat.old (place.MarkDone job) 0 seat.new }
+    ensures ready { IsReadyToStep seat.new }
+{
+    let at = job.round.at;
+    let body = body_words(item);
+    steps::write_answer(words, seat, chain, at, NodeField::Body(0), body.first);
+    for done in 0..further_words(tag_of(item)) {
+        let index = done + 1;
+        steps::write_answer(
+            words,
+            seat,
+            chain,
+            at,
+            NodeField::Body(index),
+            body.word(index),
+        );
+    }
+}
+
+/// A receiver reads the body of the item that it was given, in its current node.
+#[inline(always)]
+pub fn read_answer(
+    words: &Words,
+    seat: &mut PassSeat,
+    group: u32,
+    node: u64,
+    at: u64,
+    tag: u64,
+) -> BodyWords
+    requires here { IsOnList words.now (Take group) seat.old }
+    requires at { seat.old.stand ≡ record { begun = seat.old.stand.begun; node = node; place = place.ReadAnswerBody (codes.parcel at tag codes.no_words) 0 } }
+    ensures read { Serves seat.old place.Idle 0 seat.new }
+    ensures told { IsToldAt seat.new (place.Finished (answer.Take (take.Got (codes.item_of at tag result)))) }
+{
+    let chain = Chain::Take(group);
+    let found = steps::read_answer(words, seat, chain, node, NodeField::Body(0));
+    let mut body = BodyWords::one(found);
+    for done in 0..further_words(tag) {
+        let index = done + 1;
+        let found = steps::read_answer(words, seat, chain, node, NodeField::Body(index));
+        body = body.with_word(index, found);
+    }
+    body
+}
