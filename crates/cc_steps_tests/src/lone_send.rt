@@ -3,6 +3,7 @@ ghost use Rattle.std.specs.Prelude.{◌≡◌, ◌∷◌, []};
 ghost use Rattle.cc_runs.specs.declared.place.Place.TheVariants as place;
 ghost use Rattle.cc_runs.specs.declared.place.Kind.TheVariants as kind;
 ghost use Rattle.cc_runs.specs.declared.place.Sending.TheVariants as sending;
+ghost use Rattle.cc_runs.specs.Codes.{one_word};
 ghost use Rattle.cc_steps_tests.specs.Lone.{IsAt, sender};
 
 use cc_model::Call;
@@ -28,27 +29,27 @@ pub fn begin(rt: &impl Abort, words: &Words, seat: &mut PassSeat)
     steps::reset_state(words, seat, Chain::Send, 1);
     assert!(rt; steps::exchange_tail(words, seat, Chain::Send, 2) == 1);
     steps::write_request(words, seat, 0, NodeField::Tag, TAG);
-    steps::write_request(words, seat, 0, NodeField::Body, 7);
+    steps::write_request(words, seat, 0, NodeField::Body(0), 7);
     steps::link_next(words, seat, Chain::Send, 0, 2);
 }
 
 /// Steps 7 to 12: it has to serve, and reads its own request.
 pub fn read(rt: &impl Abort, words: &Words, seat: &mut PassSeat)
     requires at { IsAt words.now seat.old sender 1 0 place.ReadState }
-    ensures at { IsAt words.now seat.new sender 1 0 (place.Sending record { round = record { at = 0; served = 0 }; next = 1 } (sending.ReadCursor record { place = 0; tag = 4294967297; body = 7 })) }
+    ensures at { IsAt words.now seat.new sender 1 0 (place.Sending record { round = record { at = 0; served = 0 }; next = 1 } (sending.ReadCursor record { place = 0; tag = 4294967297; body = one_word 7 })) }
     ensures did { seat.new.did ≡ kind.ReadObject ∷ kind.ReadObject ∷ kind.ReadRequest ∷ kind.ReadRequest ∷ kind.ReadNext ∷ kind.ReadState ∷ seat.old.did }
 {
     assert!(rt; steps::read_state(words, seat, Chain::Send, 0) == 0);
     assert!(rt; steps::read_next(words, seat, Chain::Send, 0) == 2);
     assert!(rt; steps::read_request(words, seat, 0, NodeField::Tag) == TAG);
-    assert!(rt; steps::read_request(words, seat, 0, NodeField::Body) == 7);
+    assert!(rt; steps::read_request(words, seat, 0, NodeField::Body(0)) == 7);
     assert!(rt; steps::read_object(words, seat, Object::Shut) == 0);
     assert!(rt; steps::read_object(words, seat, Object::Count) == 0);
 }
 
 /// Steps 13 to 18: node 1 is free, and is prepared.
 pub fn prepare(rt: &impl Abort, words: &Words, seat: &mut PassSeat)
-    requires at { IsAt words.now seat.old sender 1 0 (place.Sending record { round = record { at = 0; served = 0 }; next = 1 } (sending.ReadCursor record { place = 0; tag = 4294967297; body = 7 })) }
+    requires at { IsAt words.now seat.old sender 1 0 (place.Sending record { round = record { at = 0; served = 0 }; next = 1 } (sending.ReadCursor record { place = 0; tag = 4294967297; body = one_word 7 })) }
     ensures at { IsAt words.now seat.new sender 1 0 (place.Sending record { round = record { at = 0; served = 0 }; next = 1 } (sending.ReadLast 0 1)) }
     ensures did { seat.new.did ≡ kind.WriteItem ∷ kind.WriteItem ∷ kind.ResetListNode ∷ kind.ResetListNode ∷ kind.ReadPassed ∷ kind.ReadObject ∷ seat.old.did }
 {
@@ -57,7 +58,7 @@ pub fn prepare(rt: &impl Abort, words: &Words, seat: &mut PassSeat)
     steps::reset_list_node(words, seat, 1, ItemField::Passed);
     steps::reset_list_node(words, seat, 1, ItemField::Next);
     steps::write_item(words, seat, 1, ItemField::Tag, TAG);
-    steps::write_item(words, seat, 1, ItemField::Body, 7);
+    steps::write_item(words, seat, 1, ItemField::Body(0), 7);
 }
 
 /// Steps 19 to 24: the item is linked, which accepts the send, and the answer is written.

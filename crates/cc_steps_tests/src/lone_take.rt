@@ -3,6 +3,7 @@ ghost use Rattle.std.specs.Prelude.{◌≡◌, ◌∷◌, []};
 ghost use Rattle.cc_runs.specs.declared.place.Place.TheVariants as place;
 ghost use Rattle.cc_runs.specs.declared.place.Kind.TheVariants as kind;
 ghost use Rattle.cc_runs.specs.declared.place.Taking.TheVariants as taking;
+ghost use Rattle.cc_runs.specs.Codes.{one_word};
 ghost use Rattle.cc_steps_tests.specs.Lone.{IsAt, receiver};
 
 use cc_model::Call;
@@ -37,20 +38,20 @@ pub fn begin(rt: &impl Abort, words: &Words, seat: &mut PassSeat)
 /// Steps 7 to 12: the node behind the dummy has the item, and is the dummy from now on.
 pub fn take(rt: &impl Abort, words: &Words, seat: &mut PassSeat)
     requires at { IsAt words.now seat.old receiver 0 0 (place.Taking record { round = record { at = 0; served = 0 }; next = 1 } taking.ReadHead) }
-    ensures at { IsAt words.now seat.new receiver 0 0 (place.Taking record { round = record { at = 0; served = 0 }; next = 1 } (taking.WriteTaken 0 record { place = 0; tag = 4294967297; body = 7 })) }
+    ensures at { IsAt words.now seat.new receiver 0 0 (place.Taking record { round = record { at = 0; served = 0 }; next = 1 } (taking.WriteTaken 0 record { place = 0; tag = 4294967297; body = one_word 7 })) }
     ensures did { seat.new.did ≡ kind.WriteObject ∷ kind.ReadItem ∷ kind.ReadItem ∷ kind.ReadDummyNext ∷ kind.ReadObject ∷ kind.ReadObject ∷ seat.old.did }
 {
     assert!(rt; steps::read_object(words, seat, Object::Head(0)) == 1);
     assert!(rt; steps::read_object(words, seat, Object::Taken(0)) == 0);
     assert!(rt; steps::read_dummy_next(words, seat, 0) == 2);
     assert!(rt; steps::read_item(words, seat, 1, ItemField::Tag) == TAG);
-    assert!(rt; steps::read_item(words, seat, 1, ItemField::Body) == 7);
+    assert!(rt; steps::read_item(words, seat, 1, ItemField::Body(0)) == 7);
     steps::write_object(words, seat, Object::Head(0), 2);
 }
 
 /// Steps 13 to 18: the old dummy is passed, which decides the take, and the answer is written.
 pub fn answer(rt: &impl Abort, words: &Words, seat: &mut PassSeat)
-    requires at { IsAt words.now seat.old receiver 0 0 (place.Taking record { round = record { at = 0; served = 0 }; next = 1 } (taking.WriteTaken 0 record { place = 0; tag = 4294967297; body = 7 })) }
+    requires at { IsAt words.now seat.old receiver 0 0 (place.Taking record { round = record { at = 0; served = 0 }; next = 1 } (taking.WriteTaken 0 record { place = 0; tag = 4294967297; body = one_word 7 })) }
     ensures at { IsAt words.now seat.new receiver 0 0 (place.ReadNext record { at = 1; served = 1 }) }
     ensures did { seat.new.did ≡ kind.MarkDone ∷ kind.WriteAnswer ∷ kind.WriteAnswer ∷ kind.WriteAnswer ∷ kind.AddPassed ∷ kind.WriteObject ∷ seat.old.did }
 {
@@ -58,7 +59,7 @@ pub fn answer(rt: &impl Abort, words: &Words, seat: &mut PassSeat)
     assert!(rt; steps::add_passed(words, seat, 0) == 0);
     steps::write_answer(words, seat, GROUP, 0, NodeField::Ret, GOT);
     steps::write_answer(words, seat, GROUP, 0, NodeField::Tag, TAG);
-    steps::write_answer(words, seat, GROUP, 0, NodeField::Body, 7);
+    steps::write_answer(words, seat, GROUP, 0, NodeField::Body(0), 7);
     steps::mark_done(words, seat, GROUP, 0);
 }
 
@@ -72,5 +73,5 @@ pub fn end(rt: &impl Abort, words: &Words, seat: &mut PassSeat)
     steps::hand_over(words, seat, GROUP, 1);
     assert!(rt; steps::read_answer(words, seat, GROUP, 0, NodeField::Ret) == GOT);
     assert!(rt; steps::read_answer(words, seat, GROUP, 0, NodeField::Tag) == TAG);
-    assert!(rt; steps::read_answer(words, seat, GROUP, 0, NodeField::Body) == 7);
+    assert!(rt; steps::read_answer(words, seat, GROUP, 0, NodeField::Body(0)) == 7);
 }

@@ -5,6 +5,7 @@ ghost use Rattle.cc_runs.specs.declared.place.Sending.TheVariants as sending;
 ghost use Rattle.cc_runs.specs.declared.place.Taking.TheVariants as taking;
 ghost use Rattle.cc_runs.specs.declared.setting.Served.TheVariants as served;
 ghost use Rattle.cc_steps.specs.Walk.{fresh, fresh_from};
+ghost use Rattle.cc_runs.specs.Codes.{one_word};
 ghost use Rattle.cc_steps_tests.specs.Lone.{IsIn, triple, sender, first_of};
 
 use crate::openings::checked;
@@ -63,33 +64,33 @@ fn enter_sends(rt: &impl Abort, words: &Words, seat: &mut PassSeat)
     steps::reset_state(words, seat, Chain::Send, 1);
     assert!(rt; steps::exchange_tail(words, seat, Chain::Send, 2) == 1);
     steps::write_request(words, seat, 0, NodeField::Tag, TAG);
-    steps::write_request(words, seat, 0, NodeField::Body, 7);
+    steps::write_request(words, seat, 0, NodeField::Body(0), 7);
     steps::link_next(words, seat, Chain::Send, 0, 2);
 }
 
 /// Nothing was accepted, and the topic is open.
 fn read_objects(rt: &impl Abort, words: &Words, seat: &mut PassSeat)
     requires at { IsIn triple words.now seat.old sender 1 0 place.ReadState }
-    ensures at { IsIn triple words.now seat.new sender 1 0 (place.Sending record { round = record { at = 0; served = 0 }; next = 1 } (sending.ReadCursor record { place = 0; tag = 4294967297; body = 7 })) }
+    ensures at { IsIn triple words.now seat.new sender 1 0 (place.Sending record { round = record { at = 0; served = 0 }; next = 1 } (sending.ReadCursor record { place = 0; tag = 4294967297; body = one_word 7 })) }
 {
     assert!(rt; steps::read_state(words, seat, Chain::Send, 0) == 0);
     assert!(rt; steps::read_next(words, seat, Chain::Send, 0) == 2);
     assert!(rt; steps::read_request(words, seat, 0, NodeField::Tag) == TAG);
-    assert!(rt; steps::read_request(words, seat, 0, NodeField::Body) == 7);
+    assert!(rt; steps::read_request(words, seat, 0, NodeField::Body(0)) == 7);
     assert!(rt; steps::read_object(words, seat, Object::Shut) == 0);
     assert!(rt; steps::read_object(words, seat, Object::Count) == 0);
 }
 
 /// Node 1, the only one beside the dummy, is free: it counts as passed by all three groups. The dummy is the last one.
 fn prepare(rt: &impl Abort, words: &Words, seat: &mut PassSeat)
-    requires at { IsIn triple words.now seat.old sender 1 0 (place.Sending record { round = record { at = 0; served = 0 }; next = 1 } (sending.ReadCursor record { place = 0; tag = 4294967297; body = 7 })) }
+    requires at { IsIn triple words.now seat.old sender 1 0 (place.Sending record { round = record { at = 0; served = 0 }; next = 1 } (sending.ReadCursor record { place = 0; tag = 4294967297; body = one_word 7 })) }
 {
     assert!(rt; steps::read_object(words, seat, Object::Cursor) == 1);
     assert!(rt; steps::read_passed(words, seat, 1) == 3);
     steps::reset_list_node(words, seat, 1, ItemField::Passed);
     steps::reset_list_node(words, seat, 1, ItemField::Next);
     steps::write_item(words, seat, 1, ItemField::Tag, TAG);
-    steps::write_item(words, seat, 1, ItemField::Body, 7);
+    steps::write_item(words, seat, 1, ItemField::Body(0), 7);
     assert!(rt; steps::read_object(words, seat, Object::Last) == 1);
 }
 
