@@ -1,5 +1,5 @@
 -- What a step adds to the calls of its chain, it takes from those to come.
-use Rattle.std.proofs.Common.{◌≡◌, ℕ, zero, suc, ◌+◌, ◌≤◌, ◌==◌, arith, refl, length, List, Bool, true, false, if◌then◌else◌}
+use Rattle.std.proofs.Common.{◌≡◌, ℕ, zero, suc, ◌+◌, ◌≤◌, ◌==◌, arith, refl, length, List, nat_lt, Bool, true, false, if◌then◌else◌}
 use Rattle.std.proofs.lemmas.List.{length_push}
 use Rattle.cc_model.specs.declared.config.Config.{Config}
 use Rattle.cc_model.specs.declared.call.Entry.{Entry}
@@ -18,7 +18,7 @@ use Rattle.cc_runs.specs.declared.place.Place.TheVariants as place
 use Rattle.cc_runs.specs.declared.place.Counting.{Counting}
 use Rattle.cc_runs.specs.declared.place.Sending.{Sending}
 use Rattle.cc_runs.specs.declared.place.Taking.{Taking}
-use Rattle.cc_runs.specs.Codes.{code_of}
+use Rattle.cc_runs.specs.Codes.{code_of, further_words, tag_of}
 use Rattle.cc_runs.specs.State.{appended}
 use Rattle.cc_runs.specs.Lines.{after_exchange, after_state, serves, after_next, after_answer, after_done, after_ret, goes, enters}
 use Rattle.cc_runs.specs.CountLines as count_side
@@ -83,7 +83,7 @@ gained c x own (place.ResetNext call) found calls = omega arith
 gained c x own (place.ResetState call) found calls = omega arith
 gained c x own (place.Exchange call) found calls = omega (arith, length_push calls call, past_exchange x own call)
 gained c x own (place.WriteTag put request) found calls = omega arith
-gained c x own (place.WriteBody put body) found calls = omega arith
+gained c x own (place.WriteBody put request i) found calls = same calls _ 0 (either (nat_lt i (further_words request.tag)) _ _ refl refl)
 gained c x own (place.Link put) found calls = omega arith
 gained c x own place.ReadState found calls = same calls _ 0 (past_state own found)
 gained c x own (place.ReadNext round) found calls = same calls _ 0 (past_next c.served x round found)
@@ -92,10 +92,10 @@ gained c x own (place.Sending job service) found calls = same calls _ 0 (past_se
 gained c x own (place.Taking job service) found calls = same calls _ 0 (past_take job service found)
 gained c x own (place.WriteAnswer job told) found calls = same calls _ 0 (past_answer job told)
 gained c x own (place.WriteAnswerTag job item) found calls = omega arith
-gained c x own (place.WriteAnswerBody job body) found calls = omega arith
+gained c x own (place.WriteAnswerBody job item i) found calls = same calls _ 0 (either (nat_lt i (further_words (tag_of item))) _ _ refl refl)
 gained c x own (place.MarkDone job) found calls = same calls _ 0 (past_done c.config.bound job)
 gained c x own (place.HandOver at) found calls = omega arith
 gained c x own place.ReadAnswer found calls = same calls _ 0 (past_ret c.served x found)
 gained c x own (place.ReadAnswerTag at) found calls = omega arith
-gained c x own (place.ReadAnswerBody at tag) found calls = omega arith
+gained c x own (place.ReadAnswerBody p i) found calls = same calls _ 0 (either (nat_lt i (further_words p.tag)) _ _ refl refl)
 gained c x own (place.Finished told) found calls = omega arith

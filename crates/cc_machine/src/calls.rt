@@ -3,10 +3,11 @@ ghost use Rattle.std.specs.Prelude.{◌≡◌};
 ghost use Rattle.cc_runs.specs.Lines.{serves};
 
 use crate::board::{Board, Seat};
-use cc_model::{Answer, Entry, Item, TakeAnswer, pack};
+use cc_model::{Answer, Entry, Item, TakeAnswer};
 use cc_runs::{
-    CODE, Chain, Counting, Job, Kind, NodeField, Place, Request, Round, Sending, Served, Taking,
-    Word, item_of, request_in, ret_of, sender_reads,
+    BodyWords, CODE, Chain, Counting, Job, Kind, NodeField, Parcel, Place, Request, Round, Sending,
+    Served, Taking, Word, body_words, further_words, item_of, request_in, ret_of, sender_reads,
+    tag_of,
 };
 
 /// Where a combiner begins: with its own node.
@@ -78,18 +79,31 @@ impl Board {
             seat,
             Place::WriteBody {
                 put,
-                body: request.body,
+                request,
+                index: 0,
             },
         );
         Kind::WriteRequest
     }
 
-    pub fn write_body(&mut self, seat: Seat, put: u64, body: u64) -> Kind
-        requires { CanStep self.old seat (Place.WriteBody put body) }
-        ensures { Stepped self.old seat (Place.WriteBody put body) result self.new }
+    pub fn write_body(&mut self, seat: Seat, put: u64, request: Request, index: u32) -> Kind
+        requires { CanStep self.old seat (Place.WriteBody put request index) }
+        ensures { Stepped self.old seat (Place.WriteBody put request index) result self.new }
     {
-        self.store(Word::Node(seat.chain, seat.node, NodeField::Body), body);
-        self.go(seat, Place::Link { put });
+        self.store(
+            Word::Node(seat.chain, seat.node, NodeField::Body(index)),
+            request.body.word(index),
+        );
+        let place = if index < further_words(request.tag) {
+            Place::WriteBody {
+                put,
+                request,
+                index: index + 1,
+            }
+        } else {
+            Place::Link { put }
+        };
+        self.go(seat, place);
         Kind::WriteRequest
     }
 
@@ -175,24 +189,37 @@ impl Board {
     {
         self.store(
             Word::Node(seat.chain, job.round.at, NodeField::Tag),
-            pack(item.sender, item.number),
+            tag_of(item),
         );
         self.go(
             seat,
             Place::WriteAnswerBody {
                 job,
-                body: item.body,
+                item,
+                index: 0,
             },
         );
         Kind::WriteAnswer
     }
 
-    pub fn write_answer_body(&mut self, seat: Seat, job: Job, body: u64) -> Kind
-        requires { CanStep self.old seat (Place.WriteAnswerBody job body) }
-        ensures { Stepped self.old seat (Place.WriteAnswerBody job body) result self.new }
+    pub fn write_answer_body(&mut self, seat: Seat, job: Job, item: Item, index: u32) -> Kind
+        requires { CanStep self.old seat (Place.WriteAnswerBody job item index) }
+        ensures { Stepped self.old seat (Place.WriteAnswerBody job item index) result self.new }
     {
-        self.store(Word::Node(seat.chain, job.round.at, NodeField::Body), body);
-        self.go(seat, Place::MarkDone { job });
+        self.store(
+            Word::Node(seat.chain, job.round.at, NodeField::Body(index)),
+            body_words(item).word(index),
+        );
+        let place = if index < further_words(tag_of(item)) {
+            Place::WriteAnswerBody {
+                job,
+                item,
+                index: index + 1,
+            }
+        } else {
+            Place::MarkDone { job }
+        };
+        self.go(seat, place);
         Kind::WriteAnswer
     }
 
@@ -253,22 +280,36 @@ impl Board {
         ensures { Stepped self.old seat (Place.ReadAnswerTag place) result self.new }
     {
         let tag = self.load(Word::Node(seat.chain, seat.node, NodeField::Tag));
-        self.go(seat, Place::ReadAnswerBody { place, tag });
+        let parcel = Parcel {
+            place,
+            tag,
+            body: BodyWords::one(0),
+        };
+        self.go(seat, Place::ReadAnswerBody { parcel, index: 0 });
         Kind::ReadAnswer
     }
 
-    pub fn read_answer_body(&mut self, seat: Seat, place: u64, tag: u64) -> Kind
-        requires { CanStep self.old seat (Place.ReadAnswerBody place tag) }
-        ensures { Stepped self.old seat (Place.ReadAnswerBody place tag) result self.new }
+    pub fn read_answer_body(&mut self, seat: Seat, parcel: Parcel, index: u32) -> Kind
+        requires { CanStep self.old seat (Place.ReadAnswerBody parcel index) }
+        ensures { Stepped self.old seat (Place.ReadAnswerBody parcel index) result self.new }
     {
-        let body = self.load(Word::Node(seat.chain, seat.node, NodeField::Body));
-        let item = item_of(place, tag, body);
-        self.go(
-            seat,
+        let found = self.load(Word::Node(seat.chain, seat.node, NodeField::Body(index)));
+        let parcel = Parcel {
+            body: parcel.body.with_word(index, found),
+            ..parcel
+        };
+        let place = if index < further_words(parcel.tag) {
+            Place::ReadAnswerBody {
+                parcel,
+                index: index + 1,
+            }
+        } else {
+            let item = item_of(parcel.place, parcel.tag, parcel.body);
             Place::Finished {
                 answer: Answer::Take(TakeAnswer::Got(item)),
-            },
-        );
+            }
+        };
+        self.go(seat, place);
         Kind::ReadAnswer
     }
 }

@@ -2,7 +2,7 @@ ghost use Rattle.cc_machine.specs.Shown.{CanStep, Stepped};
 
 use crate::board::{Board, Seat};
 use cc_model::{Answer, SendAnswer};
-use cc_runs::{Chain, Counting, Job, Kind, NodeField, Object, Place, Word};
+use cc_runs::{Chain, Counting, Job, Kind, NodeField, Object, Place, Word, further_words};
 
 /// The steps of the combiner in the service of one request to the counter.
 impl Board {
@@ -10,29 +10,31 @@ impl Board {
         requires { CanStep self.old seat (Place.Counting job Counting.ReadTag) }
         ensures { Stepped self.old seat (Place.Counting job Counting.ReadTag) result self.new }
     {
-        let _tag = self.load(Word::Node(Chain::Send, job.round.at, NodeField::Tag));
+        let tag = self.load(Word::Node(Chain::Send, job.round.at, NodeField::Tag));
         self.go(
             seat,
             Place::Counting {
                 job,
-                service: Counting::ReadBody,
+                service: Counting::ReadBody { tag, index: 0 },
             },
         );
         Kind::ReadRequest
     }
 
-    fn read_count_body(&mut self, seat: Seat, job: Job) -> Kind
-        requires { CanStep self.old seat (Place.Counting job Counting.ReadBody) }
-        ensures { Stepped self.old seat (Place.Counting job Counting.ReadBody) result self.new }
+    fn read_count_body(&mut self, seat: Seat, job: Job, tag: u64, index: u32) -> Kind
+        requires { CanStep self.old seat (Place.Counting job (Counting.ReadBody tag index)) }
+        ensures { Stepped self.old seat (Place.Counting job (Counting.ReadBody tag index)) result self.new }
     {
-        let _body = self.load(Word::Node(Chain::Send, job.round.at, NodeField::Body));
-        self.go(
-            seat,
-            Place::Counting {
-                job,
-                service: Counting::ReadCount,
-            },
-        );
+        let _word = self.load(Word::Node(Chain::Send, job.round.at, NodeField::Body(index)));
+        let service = if index < further_words(tag) {
+            Counting::ReadBody {
+                tag,
+                index: index + 1,
+            }
+        } else {
+            Counting::ReadCount
+        };
+        self.go(seat, Place::Counting { job, service });
         Kind::ReadRequest
     }
 
@@ -68,7 +70,7 @@ impl Board {
     {
         match service {
             Counting::ReadTag => self.read_count_tag(seat, job),
-            Counting::ReadBody => self.read_count_body(seat, job),
+            Counting::ReadBody { tag, index } => self.read_count_body(seat, job, tag, index),
             Counting::ReadCount => self.read_number(seat, job),
             Counting::WriteCount { count } => self.write_number(seat, job, count),
         }

@@ -80,18 +80,26 @@ impl Board {
             Place::ResetState { call } => Some(self.reset_state(seat, call)),
             Place::Exchange { call } => Some(self.exchange(seat, call)),
             Place::WriteTag { put, request } => Some(self.write_tag(seat, put, request)),
-            Place::WriteBody { put, body } => Some(self.write_body(seat, put, body)),
+            Place::WriteBody {
+                put,
+                request,
+                index,
+            } => Some(self.write_body(seat, put, request, index)),
             Place::Link { put } => Some(self.link(seat, put)),
             Place::ReadState => Some(self.read_state(seat)),
             Place::ReadNext { round } => Some(self.read_next(seat, round)),
             Place::WriteAnswer { job, answer } => Some(self.write_answer(seat, job, answer)),
             Place::WriteAnswerTag { job, item } => Some(self.write_answer_tag(seat, job, item)),
-            Place::WriteAnswerBody { job, body } => Some(self.write_answer_body(seat, job, body)),
+            Place::WriteAnswerBody { job, item, index } => {
+                Some(self.write_answer_body(seat, job, item, index))
+            }
             Place::MarkDone { job } => Some(self.mark_done(seat, job)),
             Place::HandOver { at } => Some(self.hand_over(seat, at)),
             Place::ReadAnswer => Some(self.read_answer(seat)),
             Place::ReadAnswerTag { place } => Some(self.read_answer_tag(seat, place)),
-            Place::ReadAnswerBody { place, tag } => Some(self.read_answer_body(seat, place, tag)),
+            Place::ReadAnswerBody { parcel, index } => {
+                Some(self.read_answer_body(seat, parcel, index))
+            }
             Place::Counting { job, service } => Some(self.count(seat, job, service)),
             Place::Sending { job, service } => Some(self.send(seat, job, service)),
             Place::Taking { job, service } => Some(self.take(seat, job, service)),

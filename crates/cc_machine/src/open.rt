@@ -52,8 +52,8 @@ pub fn open(alloc: Global, setting: Setting) -> Result<Board, AllocError>
     let nodes = config.senders as usize + 1 + groups * (config.receivers as usize + 1);
     let words = vec![in alloc; 0u64; 13
         + 3 * groups
-        + 5 * nodes
-        + 4 * (config.capacity as usize + 2)]?;
+        + 8 * nodes
+        + 7 * (config.capacity as usize + 2)]?;
     let mut board = Board {
         setting,
         words,

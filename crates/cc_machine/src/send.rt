@@ -3,8 +3,8 @@ ghost use Rattle.cc_machine.specs.Shown.{CanStep, Stepped};
 use crate::board::{Board, Seat};
 use cc_model::{Answer, CloseAnswer, SendAnswer};
 use cc_runs::{
-    Chain, ItemField, Job, Kind, NodeField, Object, Parcel, Place, Request, Sending, Word,
-    node_after,
+    BodyWords, Chain, ItemField, Job, Kind, NodeField, Object, Parcel, Place, Request, Sending,
+    Word, further_words, node_after,
 };
 
 /// The steps of the senders' combiner in the service of one request.
@@ -14,30 +14,38 @@ impl Board {
         ensures { Stepped self.old seat (Place.Sending job Sending.ReadTag) result self.new }
     {
         let tag = self.load(Word::Node(Chain::Send, job.round.at, NodeField::Tag));
+        let request = Request {
+            tag,
+            body: BodyWords::one(0),
+        };
         self.go(
             seat,
             Place::Sending {
                 job,
-                service: Sending::ReadBody { tag },
+                service: Sending::ReadBody { request, index: 0 },
             },
         );
         Kind::ReadRequest
     }
 
-    fn read_body(&mut self, seat: Seat, job: Job, tag: u64) -> Kind
-        requires { CanStep self.old seat (Place.Sending job (Sending.ReadBody tag)) }
-        ensures { Stepped self.old seat (Place.Sending job (Sending.ReadBody tag)) result self.new }
+    fn read_body(&mut self, seat: Seat, job: Job, request: Request, index: u32) -> Kind
+        requires { CanStep self.old seat (Place.Sending job (Sending.ReadBody request index)) }
+        ensures { Stepped self.old seat (Place.Sending job (Sending.ReadBody request index)) result self.new }
     {
-        let body = self.load(Word::Node(Chain::Send, job.round.at, NodeField::Body));
-        self.go(
-            seat,
-            Place::Sending {
-                job,
-                service: Sending::ReadShut {
-                    request: Request { tag, body },
-                },
-            },
-        );
+        let found = self.load(Word::Node(Chain::Send, job.round.at, NodeField::Body(index)));
+        let request = Request {
+            body: request.body.with_word(index, found),
+            ..request
+        };
+        let service = if index < further_words(request.tag) {
+            Sending::ReadBody {
+                request,
+                index: index + 1,
+            }
+        } else {
+            Sending::ReadShut { request }
+        };
+        self.go(seat, Place::Sending { job, service });
         Kind::ReadRequest
     }
 
@@ -259,27 +267,43 @@ impl Board {
             Place::Sending {
                 job,
                 service: Sending::WriteItemBody {
-                    place: parcel.place,
-                    body: parcel.body,
+                    parcel,
                     node,
+                    index: 0,
                 },
             },
         );
         Kind::WriteItem
     }
 
-    fn write_item_body(&mut self, seat: Seat, job: Job, place: u64, body: u64, node: u64) -> Kind
-        requires { CanStep self.old seat (Place.Sending job (Sending.WriteItemBody place body node)) }
-        ensures { Stepped self.old seat (Place.Sending job (Sending.WriteItemBody place body node)) result self.new }
+    fn write_item_body(
+        &mut self,
+        seat: Seat,
+        job: Job,
+        parcel: Parcel,
+        node: u64,
+        index: u32,
+    ) -> Kind
+        requires { CanStep self.old seat (Place.Sending job (Sending.WriteItemBody parcel node index)) }
+        ensures { Stepped self.old seat (Place.Sending job (Sending.WriteItemBody parcel node index)) result self.new }
     {
-        self.store(Word::Item(node, ItemField::Body), body);
-        self.go(
-            seat,
-            Place::Sending {
-                job,
-                service: Sending::ReadLast { place, node },
-            },
+        self.store(
+            Word::Item(node, ItemField::Body(index)),
+            parcel.body.word(index),
         );
+        let service = if index < further_words(parcel.tag) {
+            Sending::WriteItemBody {
+                parcel,
+                node,
+                index: index + 1,
+            }
+        } else {
+            Sending::ReadLast {
+                place: parcel.place,
+                node,
+            }
+        };
+        self.go(seat, Place::Sending { job, service });
         Kind::WriteItem
     }
 
@@ -366,7 +390,7 @@ impl Board {
     {
         match service {
             Sending::ReadTag => self.read_tag(seat, job),
-            Sending::ReadBody { tag } => self.read_body(seat, job, tag),
+            Sending::ReadBody { request, index } => self.read_body(seat, job, request, index),
             Sending::ReadShut { request } => self.read_shut(seat, job, request),
             Sending::ReadTotal => self.read_total(seat, job),
             Sending::ReadCount { request } => self.read_count(seat, job, request),
@@ -385,9 +409,11 @@ impl Board {
                 seat, job, parcel, node,
             ),
             Sending::WriteItemTag { parcel, node } => self.write_item_tag(seat, job, parcel, node),
-            Sending::WriteItemBody { place, body, node } => self.write_item_body(
-                seat, job, place, body, node,
-            ),
+            Sending::WriteItemBody {
+                parcel,
+                node,
+                index,
+            } => self.write_item_body(seat, job, parcel, node, index),
             Sending::ReadLast { place, node } => self.read_last(seat, job, place, node),
             Sending::LinkItem { place, node, last } => self.link_item(seat, job, place, node, last),
             Sending::WriteLast { place, node } => self.write_last(seat, job, place, node),

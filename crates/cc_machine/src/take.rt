@@ -2,7 +2,9 @@ ghost use Rattle.cc_machine.specs.Shown.{CanStep, Stepped};
 
 use crate::board::{Board, Seat};
 use cc_model::{Answer, TakeAnswer};
-use cc_runs::{ItemField, Job, Kind, Object, Parcel, Place, Taking, Word, item_of};
+use cc_runs::{
+    BodyWords, ItemField, Job, Kind, Object, Parcel, Place, Taking, Word, further_words, item_of,
+};
 
 /// The steps of a group's combiner in the service of one take.
 impl Board {
@@ -71,13 +73,18 @@ impl Board {
             self.decide(seat.chain, answer);
             Place::WriteAnswer { job, answer }
         } else {
+            let parcel = Parcel {
+                place: taken,
+                tag,
+                body: BodyWords::one(0),
+            };
             Place::Taking {
                 job,
                 service: Taking::ReadItemBody {
                     dummy,
-                    taken,
                     node,
-                    tag,
+                    parcel,
+                    index: 0,
                 },
             }
         };
@@ -90,30 +97,33 @@ impl Board {
         seat: Seat,
         job: Job,
         dummy: u64,
-        taken: u64,
         node: u64,
-        tag: u64,
+        parcel: Parcel,
+        index: u32,
     ) -> Kind
-        requires { CanStep self.old seat (Place.Taking job (Taking.ReadItemBody dummy taken node tag)) }
-        ensures { Stepped self.old seat (Place.Taking job (Taking.ReadItemBody dummy taken node tag)) result self.new }
+        requires { CanStep self.old seat (Place.Taking job (Taking.ReadItemBody dummy node parcel index)) }
+        ensures { Stepped self.old seat (Place.Taking job (Taking.ReadItemBody dummy node parcel index)) result self.new }
     {
-        let body = self.load(Word::Item(node, ItemField::Body));
+        let found = self.load(Word::Item(node, ItemField::Body(index)));
         let parcel = Parcel {
-            place: taken,
-            tag,
-            body,
+            body: parcel.body.with_word(index, found),
+            ..parcel
         };
-        self.go(
-            seat,
-            Place::Taking {
-                job,
-                service: Taking::WriteHead {
-                    dummy,
-                    node,
-                    parcel,
-                },
-            },
-        );
+        let service = if index < further_words(parcel.tag) {
+            Taking::ReadItemBody {
+                dummy,
+                node,
+                parcel,
+                index: index + 1,
+            }
+        } else {
+            Taking::WriteHead {
+                dummy,
+                node,
+                parcel,
+            }
+        };
+        self.go(seat, Place::Taking { job, service });
         Kind::ReadItem
     }
 
@@ -173,10 +183,10 @@ impl Board {
             ),
             Taking::ReadItemBody {
                 dummy,
-                taken,
                 node,
-                tag,
-            } => self.read_item_body(seat, job, dummy, taken, node, tag),
+                parcel,
+                index,
+            } => self.read_item_body(seat, job, dummy, node, parcel, index),
             Taking::WriteHead {
                 dummy,
                 node,

@@ -67,7 +67,7 @@ unfolding state_in
 loop-group-init c =
     let b : Board = record { setting = c.args.setting; words = c.in_ok-words.words; stands = c.in_ok-first_stands.field-0; history = c.in_ok-new.field-0 } in
     let base : state_of b ≡ record (opening c.args.setting) { mem = λ w. 0 } = λ i. record {
-      mem = λ w. blank (layout_of c.args.setting.config) c.in_ok-words.words.items (13 + 3 * c.args.setting.config.groups + 5 * (c.args.setting.config.senders + 1 + c.args.setting.config.groups * (c.args.setting.config.receivers + 1)) + 4 * (c.args.setting.config.capacity + 2)) (c.in_ok-words.ensures.items_if_clones_equal (λ y e. e)) w i;
+      mem = λ w. blank (layout_of c.args.setting.config) c.in_ok-words.words.items (13 + 3 * c.args.setting.config.groups + 8 * (c.args.setting.config.senders + 1 + c.args.setting.config.groups * (c.args.setting.config.receivers + 1)) + 7 * (c.args.setting.config.capacity + 2)) (c.in_ok-words.ensures.items_if_clones_equal (λ y e. e)) w i;
       stand = λ p. stood c.args.setting c.in_ok-first_stands.field-0.items c.in_ok-first_stands.ensures p i;
       history = c.in_ok-new.ensures i;
     } in
