@@ -1,6 +1,7 @@
 #!/bin/bash
 # Proves and builds the static library, crates/cc_binding/out/libcc_binding.a, by `rt lib`; tells first what that does, and
-# then how long it took. The last line of a proof, `logic=proved ...`, is kept beside the archive in libcc_binding.proof,
+# then how long it took. Where the gate has just proved what lies below it, of the same sources, it proves cc_binding alone,
+# over what the gate left. The last line of a proof, `logic=proved ...`, is kept beside the archive in libcc_binding.proof,
 # with the sums of the archive and of its sources, and only where this script has seen it.
 # The exit status is 0 where the library is proved and built. `--help` prints this.
 set -u
@@ -26,22 +27,56 @@ record=$out/libcc_binding.proof
 log=$(mktemp) || exit 1
 trap 'rm -f "$log"' EXIT
 
-anew=()
-for crate in $(library_crates); do
-    [ -d "crates/$crate/out" ] || anew+=("$crate")
-done
-echo "library: rt lib proves and builds cc_binding over $(library_crates | grep -vx cc_binding | xargs)."
-if [ "${#anew[@]}" -gt 0 ]; then
-    echo "library: nothing is kept of ${anew[*]}: all of them from nothing take some ten minutes of one processor."
+below=$(library_crates | grep -vx cc_binding | xargs)
+
+# As `rt lib` does it, but for the libraries below, which `rt ci` leaves without the stamp that `rt lib` asks for.
+build_over_gate() {
+    local kit crate words
+    kit=$(dirname "$(dirname "$(realpath "$(command -v rt)")")")
+    words=(--crate-name cc_binding src/lib.rt --extern "std=$kit/rlibs/std.rlib" -L "dependency=$kit/rlibs")
+    for crate in $(sed -n 's/^cc_binding[^:]*://p' crates.txt); do
+        words+=(--extern "$crate=$PWD/crates/$crate/out/rlib/$crate.rlib")
+    done
+    for crate in $below; do
+        words+=(-L "dependency=$PWD/crates/$crate/out/rlib")
+    done
+    words+=(--antt-project "$kit/rattle/logic/antt-project.json" --logic-built "$kit/logic_built" --jobs 2)
+    words+=(--links cc_binding= --crate-type staticlib --backend llvm --toolchain "$kit/toolchain" -o "$archive")
+    (cd crates/cc_binding && "$kit/bin/rattle" build "${words[@]}")
+}
+
+by_rt_lib() {
+    (cd crates/cc_binding && rt lib)
+}
+
+if gate_stands; then
+    echo "library: rattle proves and builds cc_binding over $below, which the gate proved of these sources: about a minute."
+    build() {
+        local status=0
+        build_over_gate || status=$?
+        [ "$status" = 2 ] || return "$status"
+        echo 'rt: rattle was not called as this toolchain wants it: rt lib builds the library from nothing'
+        by_rt_lib
+    }
 else
-    echo 'library: of each of them something is kept: what has changed since is proved again, which takes up to minutes.'
+    anew=()
+    for crate in $(library_crates); do
+        [ -d "crates/$crate/out" ] || anew+=("$crate")
+    done
+    echo "library: rt lib proves and builds cc_binding over $below."
+    if [ "${#anew[@]}" -gt 0 ]; then
+        echo "library: nothing is kept of ${anew[*]}: all of them from nothing take some ten minutes of one processor."
+    else
+        echo 'library: of each of them something is kept: what has changed since is proved again, which takes up to minutes.'
+    fi
+    build() { by_rt_lib; }
 fi
 
 rm -f "$record"
 before=$(sources_sum)
 started=$SECONDS
 # Shows how far the check is, and keeps all that was said.
-(cd crates/cc_binding && rt lib) 2>&1 | tee "$log" | grep --line-buffered -E '^so far:|^rt: |^logic=|error|no proof' | sed -u 's/^/library: /'
+build 2>&1 | tee "$log" | grep --line-buffered -E '^so far:|^rt: |^logic=|error|no proof' | sed -u 's/^/library: /'
 status=${PIPESTATUS[0]}
 taken=$((SECONDS - started))
 proof=$(grep '^logic=proved ' "$log" | tail -n 1)
@@ -50,7 +85,7 @@ if [ "$status" != 0 ]; then
     echo "library: FAILED after $taken s (status $status)"
     exit 1
 elif [ ! -f "$archive" ]; then
-    echo "library: FAILED: rt lib ended well after $taken s, and left no $archive"
+    echo "library: FAILED: the build ended well after $taken s, and left no $archive"
     exit 1
 elif [ -z "$proof" ]; then
     echo "library: built in $taken s, but no line logic=proved was seen: no record is kept"

@@ -40,3 +40,50 @@ sources_sum() {
 value_of() {
     sed -n "s/^$1: //p" "$2"
 }
+
+# The libraries below cc_binding, as `rt ci` or `rt lib` left them.
+libraries_below() {
+    library_crates | grep -vx cc_binding | sed 's|.*|crates/&/out/rlib|'
+}
+
+# The sha256 of the lines that sha256sum prints of the files of these libraries.
+libraries_sum() {
+    find $(libraries_below) -type f -print 2>/dev/null | LC_ALL=C sort | xargs -d '\n' sha256sum | sum_of
+}
+
+# What the gate says of the libraries that it proved, for tools/build_library.sh: it stands until one of them, the sources or
+# the toolchain are others.
+gate_record=crates/cc_binding/out/libraries.record
+
+# Removes what an earlier gate left of the libraries: no command takes it but tools/build_library.sh, and `rt ci` would put
+# it back over its own.
+clear_gate() {
+    local library
+    rm -f "$gate_record"
+    for library in $(libraries_below); do
+        [ -f "$library/stamp" ] || rm -rf "$library"
+    done
+}
+
+# Writes that record after a gate: with the sum of the sources before it, and a file that was made before it. It writes
+# none where the sources have changed meanwhile, or where a library isn't of this gate.
+record_gate() {
+    local library
+    [ "$(sources_sum)" = "$1" ] || return 0
+    for library in $(libraries_below); do
+        [ -d "$library" ] && [ ! -f "$library/stamp" ] || return 0
+        [ -z "$(find "$library" -type f ! -newer "$2" -print -quit)" ] || return 0
+    done
+    {
+        echo "sources: $1"
+        echo "toolchain: $(rt version)"
+        echo "libraries: $(libraries_sum)"
+    } >"$gate_record"
+}
+
+# Whether the libraries are those that a gate proved of these sources with this toolchain.
+gate_stands() {
+    [ -f "$gate_record" ] && [ "$(value_of sources "$gate_record")" = "$(sources_sum)" ] &&
+        [ "$(value_of toolchain "$gate_record")" = "$(rt version)" ] &&
+        [ "$(value_of libraries "$gate_record")" = "$(libraries_sum)" ]
+}

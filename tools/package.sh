@@ -72,7 +72,7 @@ proof_of_package() {
     if is_recorded; then
         echo "toolchain: $(value_of toolchain "$record")"
         echo "proof: $(value_of proof "$record")"
-        echo "    (the last line of \`rt lib\`, which tools/build_library.sh saw when it built this archive of these sources)"
+        echo "    (the last line of the proof, which tools/build_library.sh saw when it built this archive of these sources)"
     else
         echo 'proof: not seen. No record of tools/build_library.sh says that this archive was built of these sources.'
     fi

@@ -1,7 +1,7 @@
 #!/bin/bash
 # Tests what stands over the proved static library: the crate in bindings/rust and the programs in bindings/c, and both
-# again under valgrind and the sanitizers. It takes the library that the gate left, and builds it by `rt lib` where there
-# is none, or an older one. It writes into a folder of its own, and fetches nothing.
+# again under valgrind and the sanitizers. Where there is no library, or an older one, tools/build_library.sh builds it: over
+# what the gate left, or by `rt lib`. It writes into a folder of its own, and fetches nothing.
 # Prints a line for each step. A step for which something isn't on the machine is skipped, and its line says so. The exit
 # status is 0 where no step failed.
 set -u
