@@ -189,23 +189,36 @@ fn worn(queue: &Queue, sender: Sender) -> Option<CloseAnswer>
     }
 }
 
-/// Opens both queues, and only then makes the calls. The answer is the exit status: 3 where memory is refused, and 1 where a
-/// call waits that is to be answered, or the other way round.
-pub fn call_queues(rt: &HostRuntime) -> Result<u8, io::Error> {
-    let (Some((queue, first, second, receiver)), Some((once, sender, _, _))) = (
-        opened(rt.alloc(), 10),
-        opened(rt.alloc(), 1),
-    ) else {
-        eprintln!(rt; "queue: NoMemory")?;
-        return Ok(3);
-    };
-    println!(rt; "opened")?;
-    let Some(told) = two_combined(&queue, first, second, receiver) else {
-        return Ok(1);
-    };
-    let Some(close) = worn(&once, sender) else {
-        return Ok(1);
-    };
+/// Both queues: one with its passes, and one with a sender that may begin one send. None where memory is refused.
+fn both_opened(alloc: Global) -> Option<((Queue, Sender, Sender, Receiver), (Queue, Sender))>
+    ensures first { IfSome result (λ r. IsOf r.0.0 r.0.1) }
+    ensures second { IfSome result (λ r. IsOf r.0.0 r.0.2) }
+    ensures receiver { IfSome result (λ r. IsOf r.0.0 r.0.3) }
+    ensures once { IfSome result (λ r. IsOf r.1.0 r.1.1) }
+{
+    let wide = opened(alloc, 10)?;
+    let (once, sender, _, _) = opened(alloc, 1)?;
+    Some((wide, (once, sender)))
+}
+
+/// The calls of both queues. None where a call waits that is to be answered, or the other way round.
+fn called(
+    wide: (Queue, Sender, Sender, Receiver),
+    once: (Queue, Sender),
+) -> Option<(Combined, CloseAnswer)>
+    requires first { IsOf wide.0 wide.1 }
+    requires second { IsOf wide.0 wide.2 }
+    requires receiver { IsOf wide.0 wide.3 }
+    requires once { IsOf once.0 once.1 }
+{
+    let (queue, first, second, receiver) = wide;
+    let combined = two_combined(&queue, first, second, receiver)?;
+    let (once, sender) = once;
+    Some((combined, worn(&once, sender)?))
+}
+
+/// Tells the answers, and how many calls each turn served.
+fn tell(rt: &HostRuntime, told: Combined, close: CloseAnswer) -> Result<(), io::Error> {
     let Combined {
         first: (first, first_served),
         second: (second, second_served),
@@ -214,6 +227,20 @@ pub fn call_queues(rt: &HostRuntime) -> Result<u8, io::Error> {
     println!(rt; "{first:?}, served {first_served}")?;
     println!(rt; "{second:?}, served {second_served}")?;
     println!(rt; "{taken:?}, served {taken_served}")?;
-    println!(rt; "worn, {close:?}")?;
+    println!(rt; "worn, {close:?}")
+}
+
+/// Opens both queues, and only then makes the calls. The answer is the exit status: 3 where memory is refused, and 1 where a
+/// call waits that is to be answered, or the other way round.
+pub fn call_queues(rt: &HostRuntime) -> Result<u8, io::Error> {
+    let Some((wide, once)) = both_opened(rt.alloc()) else {
+        eprintln!(rt; "queue: NoMemory")?;
+        return Ok(3);
+    };
+    println!(rt; "opened")?;
+    let Some((told, close)) = called(wide, once) else {
+        return Ok(1);
+    };
+    tell(rt, told, close)?;
     Ok(0)
 }
