@@ -56,13 +56,17 @@ abbrev pub verdict_in : Result DriveEnd RunFault → Result Verdict RunFault
 verdict_in (Ok e) = Ok e.verdict
 verdict_in (Err f) = Err f
 
--- What a line that asks for a drive leaves. Nothing is read. It is done and its outcome told, or the line is declined for what
+-- What a line that asks for a drive leaves on both outputs: it is done and its outcome told, or the line is declined for what
 -- was found in it.
-module _ (left_old left_new : Option (List ℕ)) (reads reads_after : ℕ) (old new : Option (List ℕ)) (fails fails_after : ℕ) (errors_old errors_new : Option (List ℕ)) (before after status : ℕ) where
+module _ (old new : Option (List ℕ)) (fails fails_after : ℕ) (errors_old errors_new : Option (List ℕ)) (before after status : ℕ) where
   abbrev pub Done : Type 0
   Done = (outcome : Result DriveEnd RunFault) × Leaves outcome old new fails fails_after
       × (status ≡ status_of (verdict_in outcome)) × Told errors_old errors_new before after (line_of (verdict_in outcome))
 
+  abbrev pub Answers : Type 0
+  Answers = Done ⊎ ((found : ErrorKind) × Declines old new fails fails_after errors_old errors_new before after status found)
+
+-- Nothing is read beside that.
+module _ (left_old left_new : Option (List ℕ)) (reads reads_after : ℕ) (old new : Option (List ℕ)) (fails fails_after : ℕ) (errors_old errors_new : Option (List ℕ)) (before after status : ℕ) where
   abbrev pub Drives : Type 0
-  Drives = Keeps left_old left_new × (reads_after ≡ reads)
-      × (Done ⊎ ((found : ErrorKind) × Declines old new fails fails_after errors_old errors_new before after status found))
+  Drives = Keeps left_old left_new × (reads_after ≡ reads) × Answers old new fails fails_after errors_old errors_new before after status

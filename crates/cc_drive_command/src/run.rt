@@ -4,7 +4,7 @@ ghost use Rattle.clap.specs.Words.{fault_of};
 ghost use Rattle.cc_command.specs.CommandLine.{commands, task_of};
 ghost use Rattle.cc_command.specs.Run.{Runs};
 ghost use Rattle.cc_drive_command.specs.Line.{asks_to_drive};
-ghost use Rattle.cc_drive_command.specs.Drive.{Drives};
+ghost use Rattle.cc_drive_command.specs.Drive.{Answers, Drives};
 ghost use Rattle.std.specs.Bool.{OnTrue, OnFalse};
 
 use crate::command_line::{asked, asks_to_drive};
@@ -48,9 +48,28 @@ pub fn run<R: Threads + Wait + Sync, S: Source, W: Sink, E: Sink>(
         (E.write_failures errors.old) (E.write_failures errors.new) result
         (task_of (map string_bytes words.now)) (fault_of commands (map string_bytes words.now))) }
 {
-    if !asks_to_drive(words) {
-        return cc_command::run::run(alloc, words, source, sink, errors);
+    if asks_to_drive(words) {
+        answer(rt, alloc, words, sink, errors)
+    } else {
+        cc_command::run::run(alloc, words, source, sink, errors)
     }
+}
+
+/// A line that asks for a drive, on both outputs; it gets no source to read.
+fn answer<R: Threads + Wait + Sync, W: Sink, E: Sink>(
+    rt: &R,
+    alloc: Global,
+    words: &[String],
+    sink: &mut W,
+    errors: &mut E,
+) -> u8
+    requires writes { W.write_failures sink.old < 2 ^ 64 - 1 }
+    requires errors { E.write_failures errors.old < 2 ^ 64 - 1 }
+    ensures { Answers (W.bytes_written sink.old) (W.bytes_written sink.new)
+        (W.write_failures sink.old) (W.write_failures sink.new)
+        (E.bytes_written errors.old) (E.bytes_written errors.new)
+        (E.write_failures errors.old) (E.write_failures errors.new) result }
+{
     match asked(alloc, words) {
         Ok(config) => {
             let outcome = drive_to(rt, alloc, &config, sink);
