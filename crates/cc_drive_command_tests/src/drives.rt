@@ -18,11 +18,13 @@ struct Outcome {
     left: usize,
 }
 
-/// The words of a command line.
-fn words_of(alloc: Global, line: &[&str]) -> Result<Vec<String>, AllocError> {
+/// The words of a line, with a blank between two; none where the line is empty.
+fn words_of(alloc: Global, line: &str) -> Result<Vec<String>, AllocError> {
     let mut words = Vec::new(alloc);
-    for word in line {
-        words.push(String::from_str(alloc, word)?)?;
+    if !line.is_empty() {
+        for word in line.split(' ') {
+            words.push(String::from_str(alloc, word)?)?;
+        }
     }
     Ok(words)
 }
@@ -30,7 +32,7 @@ fn words_of(alloc: Global, line: &[&str]) -> Result<Vec<String>, AllocError> {
 fn ran<R: Threads + Wait + Sync>(
     rt: &R,
     alloc: Global,
-    line: &[&str],
+    line: &str,
     input: &[u8],
 ) -> Result<Outcome, AllocError> {
     let words = words_of(alloc, line)?;
@@ -53,202 +55,105 @@ fn ran<R: Threads + Wait + Sync>(
     })
 }
 
+/// Lines, and what their drives write.
+const RUNS: &str = "\
+drive --senders 3 --receivers 2 --items 100 --capacity 4 --bound 2
+sent 300
+taken 300
+audit clean
+
+drive --items 0
+sent 0
+taken 0
+audit clean
+
+drive --items=7 --senders=1 --receivers=1
+sent 7
+taken 7
+audit clean
+
+drive --items=2 --senders=63 --receivers=64
+sent 126
+taken 126
+audit clean
+
+drive --items=20 --capacity=1 --bound=1
+sent 80
+taken 80
+audit clean
+
+drive --items=20 --capacity=4096 --bound=1024
+sent 80
+taken 80
+audit clean";
+
 /// Lines whose threads pass all items on. Nothing of the input is read.
 #[test]
 fn runs_are_told(rt: HostRuntime) -> Result<(), Fail> {
-    let rows: [(&[&str], &str); 6] = [
-        (
-            &[
-                "drive",
-                "--senders",
-                "3",
-                "--receivers",
-                "2",
-                "--items",
-                "100",
-                "--capacity",
-                "4",
-                "--bound",
-                "2",
-            ],
-            "sent 300\ntaken 300\naudit clean\n",
-        ),
-        (&["drive", "--items", "0"], "sent 0\ntaken 0\naudit clean\n"),
-        (
-            &["drive", "--items=7", "--senders=1", "--receivers=1"],
-            "sent 7\ntaken 7\naudit clean\n",
-        ),
-        (
-            &["drive", "--items=2", "--senders=63", "--receivers=64"],
-            "sent 126\ntaken 126\naudit clean\n",
-        ),
-        (
-            &["drive", "--items=20", "--capacity=1", "--bound=1"],
-            "sent 80\ntaken 80\naudit clean\n",
-        ),
-        (
-            &["drive", "--items=20", "--capacity=4096", "--bound=1024"],
-            "sent 80\ntaken 80\naudit clean\n",
-        ),
-    ];
-    for (line, text) in rows {
-        let outcome = ran(&rt, rt.alloc(), line, b"untouched".as_slice())?;
+    for row in RUNS.split("\n\n") {
+        let (line, told) = row.split_once('\n').unwrap_or((row, ""));
+        let mut outcome = ran(&rt, rt.alloc(), line, b"untouched".as_slice())?;
         assert_eq!(rt; outcome.status, 0);
-        assert_eq!(rt; outcome.output.as_slice(), text.as_bytes());
+        assert_eq!(rt; outcome.output.pop(), Some(b'\n'));
+        assert_eq!(rt; outcome.output.as_slice(), told.as_bytes());
         assert!(rt; outcome.errors.is_empty());
         assert_eq!(rt; outcome.left, 9);
     }
     Ok(())
 }
 
+/// Lines, and the runs that they ask for.
+const ASKED: &str = "\
+drive => DriveConfig { senders: 4, receivers: 4, items: 1000, capacity: 64, bound: 8, limit: 281474976710656 }
+drive --senders 63 => DriveConfig { senders: 63, receivers: 4, items: 1000, capacity: 64, bound: 8, limit: 281474976710656 }
+drive --receivers 64 => DriveConfig { senders: 4, receivers: 64, items: 1000, capacity: 64, bound: 8, limit: 281474976710656 }
+drive --items 1000000 => DriveConfig { senders: 4, receivers: 4, items: 1000000, capacity: 64, bound: 8, limit: 281474976710656 }
+drive --capacity 4096 => DriveConfig { senders: 4, receivers: 4, items: 1000, capacity: 4096, bound: 8, limit: 281474976710656 }
+drive --bound 1024 => DriveConfig { senders: 4, receivers: 4, items: 1000, capacity: 64, bound: 1024, limit: 281474976710656 }
+drive --bound 1 --capacity 1 --items 0 --receivers 1 --senders 1 => DriveConfig { senders: 1, receivers: 1, items: 0, capacity: 1, bound: 1, limit: 281474976710656 }";
+
 /// What an option doesn't give has its default, and the limit is the program's.
 #[test]
 fn defaults(rt: HostRuntime) -> Result<(), Fail> {
     let alloc = rt.alloc();
-    let all = DriveConfig {
-        senders: 4,
-        receivers: 4,
-        items: 1000,
-        capacity: 64,
-        bound: 8,
-        limit: 281_474_976_710_656,
-    };
-    assert_eq!(rt; asked(alloc, words_of(alloc, &["drive"])?.as_slice())?, all);
-    let rows: [(&[&str], DriveConfig); 6] = [
-        (
-            &["drive", "--senders", "63"],
-            DriveConfig { senders: 63, ..all },
-        ),
-        (
-            &["drive", "--receivers", "64"],
-            DriveConfig {
-                receivers: 64,
-                ..all
-            },
-        ),
-        (
-            &["drive", "--items", "1000000"],
-            DriveConfig {
-                items: 1_000_000,
-                ..all
-            },
-        ),
-        (
-            &["drive", "--capacity", "4096"],
-            DriveConfig {
-                capacity: 4096,
-                ..all
-            },
-        ),
-        (
-            &["drive", "--bound", "1024"],
-            DriveConfig { bound: 1024, ..all },
-        ),
-        (
-            &[
-                "drive",
-                "--bound",
-                "1",
-                "--capacity",
-                "1",
-                "--items",
-                "0",
-                "--receivers",
-                "1",
-                "--senders",
-                "1",
-            ],
-            DriveConfig {
-                senders: 1,
-                receivers: 1,
-                items: 0,
-                capacity: 1,
-                bound: 1,
-                ..all
-            },
-        ),
-    ];
-    for (line, config) in rows {
-        assert_eq!(rt; asked(alloc, words_of(alloc, line)?.as_slice())?, config);
+    for row in ASKED.lines() {
+        let (line, told) = row.split_once(" => ").unwrap_or((row, ""));
+        let config = asked(alloc, words_of(alloc, line)?.as_slice())?;
+        assert_eq!(rt; format!(in alloc; "{config:?}")?.as_str(), told);
     }
     Ok(())
 }
 
+/// Lines, and how what is told of them begins.
+const REFUSED: &str = "\
+drive --senders 64 => error: invalid value '64' for '--senders <N>': 64 is not in 1..=63
+drive --senders 0 => error: invalid value '0' for '--senders <N>': 0 is not in 1..=63
+drive --receivers 65 => error: invalid value '65' for '--receivers <N>': 65 is not in 1..=64
+drive --receivers 0 => error: invalid value '0' for '--receivers <N>': 0 is not in 1..=64
+drive --items 1000001 => error: invalid value '1000001' for '--items <N>': 1000001 is not in 0..=1000000
+drive --items=-1 => error: invalid value '-1' for '--items <N>'
+drive --items 18446744073709551616 => error: invalid value '18446744073709551616' for '--items <N>': number too large to fit in target type
+drive --capacity 4097 => error: invalid value '4097' for '--capacity <N>': 4097 is not in 1..=4096
+drive --capacity 0 => error: invalid value '0' for '--capacity <N>': 0 is not in 1..=4096
+drive --bound 1025 => error: invalid value '1025' for '--bound <N>': 1025 is not in 1..=1024
+drive --bound 0 => error: invalid value '0' for '--bound <N>': 0 is not in 1..=1024
+drive --bound two => error: invalid value 'two' for '--bound <N>': invalid digit found in string
+drive --bound 1.5 => error: invalid value '1.5' for '--bound <N>': invalid digit found in string
+drive --bound  => error: invalid value '' for '--bound <N>': cannot parse integer from empty string
+drive --bound => error: a value is required for '--bound <N>' but none was supplied
+drive --bound 1 --bound 2 => error: the argument '--bound <N>' cannot be used multiple times
+drive 5 => error: unexpected argument '5' found
+drive --life 5 => error: unexpected argument '--life' found";
+
+/// All that is told of the first of them.
+const WHOLE: &str =
+    "error: invalid value '64' for '--senders <N>': 64 is not in 1..=63\n\nFor more information, try '--help'.\n";
+
 /// Each number just out of its range, words that are no numbers, and options that aren't there.
 #[test]
 fn lines_are_refused(rt: HostRuntime) -> Result<(), Fail> {
-    let rows: [(&[&str], &str); 18] = [
-        (
-            &["drive", "--senders", "64"],
-            "error: invalid value '64' for '--senders <N>': 64 is not in 1..=63\n\nFor more information, try '--help'.\n",
-        ),
-        (
-            &["drive", "--senders", "0"],
-            "error: invalid value '0' for '--senders <N>': 0 is not in 1..=63",
-        ),
-        (
-            &["drive", "--receivers", "65"],
-            "error: invalid value '65' for '--receivers <N>': 65 is not in 1..=64",
-        ),
-        (
-            &["drive", "--receivers", "0"],
-            "error: invalid value '0' for '--receivers <N>': 0 is not in 1..=64",
-        ),
-        (
-            &["drive", "--items", "1000001"],
-            "error: invalid value '1000001' for '--items <N>': 1000001 is not in 0..=1000000",
-        ),
-        (
-            &["drive", "--items=-1"],
-            "error: invalid value '-1' for '--items <N>'",
-        ),
-        (
-            &["drive", "--items", "18446744073709551616"],
-            "error: invalid value '18446744073709551616' for '--items <N>': number too large to fit in target type",
-        ),
-        (
-            &["drive", "--capacity", "4097"],
-            "error: invalid value '4097' for '--capacity <N>': 4097 is not in 1..=4096",
-        ),
-        (
-            &["drive", "--capacity", "0"],
-            "error: invalid value '0' for '--capacity <N>': 0 is not in 1..=4096",
-        ),
-        (
-            &["drive", "--bound", "1025"],
-            "error: invalid value '1025' for '--bound <N>': 1025 is not in 1..=1024",
-        ),
-        (
-            &["drive", "--bound", "0"],
-            "error: invalid value '0' for '--bound <N>': 0 is not in 1..=1024",
-        ),
-        (
-            &["drive", "--bound", "two"],
-            "error: invalid value 'two' for '--bound <N>': invalid digit found in string",
-        ),
-        (
-            &["drive", "--bound", "1.5"],
-            "error: invalid value '1.5' for '--bound <N>': invalid digit found in string",
-        ),
-        (
-            &["drive", "--bound", ""],
-            "error: invalid value '' for '--bound <N>': cannot parse integer from empty string",
-        ),
-        (
-            &["drive", "--bound"],
-            "error: a value is required for '--bound <N>' but none was supplied",
-        ),
-        (
-            &["drive", "--bound", "1", "--bound", "2"],
-            "error: the argument '--bound <N>' cannot be used multiple times",
-        ),
-        (&["drive", "5"], "error: unexpected argument '5' found"),
-        (
-            &["drive", "--life", "5"],
-            "error: unexpected argument '--life' found",
-        ),
-    ];
-    for (line, text) in rows {
+    for row in REFUSED.lines() {
+        let (line, text) = row.split_once(" => ").unwrap_or((row, ""));
         let outcome = ran(&rt, rt.alloc(), line, b"untouched".as_slice())?;
         let told = outcome.errors.as_slice();
         assert!(rt; told.starts_with(text.as_bytes()), "{told:?}");
@@ -256,6 +161,8 @@ fn lines_are_refused(rt: HostRuntime) -> Result<(), Fail> {
         assert_eq!(rt; outcome.output.len(), 0);
         assert_eq!(rt; outcome.left, 9);
     }
+    let first = ran(&rt, rt.alloc(), "drive --senders 64", b"".as_slice())?;
+    assert_eq!(rt; first.errors.as_slice(), WHOLE.as_bytes());
     Ok(())
 }
 
@@ -276,12 +183,7 @@ Each sender sends the bodies 1 to the number of items";
 
 #[test]
 fn help_goes_to_the_output(rt: HostRuntime) -> Result<(), Fail> {
-    let lines: [&[&str]; 3] = [
-        &["drive", "--help"],
-        &["drive", "-h"],
-        &["drive", "--items", "5", "--help"],
-    ];
-    for line in lines {
+    for line in ["drive --help", "drive -h", "drive --items 5 --help"] {
         let outcome = ran(&rt, rt.alloc(), line, b"untouched".as_slice())?;
         assert_eq!(rt; outcome.status, 0);
         let text = outcome.output.as_slice();
@@ -298,7 +200,7 @@ fn help_goes_to_the_output(rt: HostRuntime) -> Result<(), Fail> {
             assert!(rt; column <= 100);
         }
     }
-    let outcome = ran(&rt, rt.alloc(), &["--help"], b"".as_slice())?;
+    let outcome = ran(&rt, rt.alloc(), "--help", b"".as_slice())?;
     assert_eq!(rt; outcome.status, 0);
     assert!(rt;
         outcome
@@ -313,16 +215,12 @@ fn help_goes_to_the_output(rt: HostRuntime) -> Result<(), Fail> {
 #[test]
 fn outputs_that_fail(rt: HostRuntime) -> Result<(), Fail> {
     let alloc = rt.alloc();
-    let rows: [(&[&str], usize, &str); 5] = [
-        (&["drive", "--items", "5"], 0, ""),
-        (&["drive", "--items", "5"], 8, "sent 20\n"),
-        (&["drive", "--items", "5"], 17, "sent 20\ntaken 20\n"),
-        (
-            &["drive", "--items", "5"],
-            28,
-            "sent 20\ntaken 20\naudit clean",
-        ),
-        (&["drive", "--help"], 6, "Drives"),
+    let rows = [
+        ("drive --items 5", 0, ""),
+        ("drive --items 5", 8, "sent 20\n"),
+        ("drive --items 5", 17, "sent 20\ntaken 20\n"),
+        ("drive --items 5", 28, "sent 20\ntaken 20\naudit clean"),
+        ("drive --help", 6, "Drives"),
     ];
     for (line, size, text) in rows {
         let words = words_of(alloc, line)?;
@@ -347,8 +245,7 @@ fn outputs_that_fail(rt: HostRuntime) -> Result<(), Fail> {
 #[test]
 fn errors_that_are_not_told(rt: HostRuntime) -> Result<(), Fail> {
     let alloc = rt.alloc();
-    let rows: [(&[&str], u8); 2] = [(&["drive", "--senders", "64"], 64), (&["drive"], 4)];
-    for (line, due) in rows {
+    for (line, due) in [("drive --senders 64", 64), ("drive", 4)] {
         let words = words_of(alloc, line)?;
         let mut no_room = [0u8; 0];
         let mut none = [0u8; 0];
@@ -374,32 +271,27 @@ const REPORT: &str = "E 0 s1 send 7 -> accepted 0\nD 0 r1 take -> got 0 s1 1 7\n
 #[test]
 fn other_lines(rt: HostRuntime) -> Result<(), Fail> {
     let alloc = rt.alloc();
-    let played = ran(&rt, alloc, &["play"], PLAN.as_bytes())?;
+    let played = ran(&rt, alloc, "play", PLAN.as_bytes())?;
     assert_eq!(rt; played.status, 0);
     assert_eq!(rt; played.output.as_slice(), REPORT.as_bytes());
     assert_eq!(rt; played.left, 0);
     let receipts = b"{\"accepted\":[],\"taken\":[[1,0,1,1,5]]}";
-    let audited = ran(&rt, alloc, &["audit"], receipts.as_slice())?;
+    let audited = ran(&rt, alloc, "audit", receipts.as_slice())?;
     assert_eq!(rt; audited.status, 1);
     assert_eq!(rt;
         audited.output.as_slice(),
         b"audit fault 3 place 0\n".as_slice()
     );
-    let refused: [(&[&str], &str); 5] = [
-        (&[], "Plays plans of CC-Queue"),
-        (
-            &["Drive"],
-            "error: unrecognized subcommand 'Drive'\n\n  tip: a similar subcommand exists: 'drive'\n\n",
-        ),
-        (
-            &["drives", "--items", "5"],
-            "error: unrecognized subcommand 'drives'\n\n  tip: a similar subcommand exists: 'drive'\n\n",
-        ),
-        (&["--", "drive"], "error: unexpected argument 'drive' found"),
-        (
-            &["play", "drive"],
-            "error: unexpected argument 'drive' found",
-        ),
+    let tip =
+        "error: unrecognized subcommand 'Drive'\n\n  tip: a similar subcommand exists: 'drive'\n\n";
+    let tips =
+        "error: unrecognized subcommand 'drives'\n\n  tip: a similar subcommand exists: 'drive'\n\n";
+    let refused = [
+        ("", "Plays plans of CC-Queue"),
+        ("Drive", tip),
+        ("drives --items 5", tips),
+        ("-- drive", "error: unexpected argument 'drive' found"),
+        ("play drive", "error: unexpected argument 'drive' found"),
     ];
     for (line, text) in refused {
         let outcome = ran(&rt, alloc, line, PLAN.as_bytes())?;
