@@ -25,7 +25,7 @@ fn places_taken(alloc: Global, takes: &[TakeReceipt]) -> Result<Vec<u64>, AllocE
 }
 
 /// The verdict on these receipts, whatever their order, with the total that a close gave. It takes memory in proportion
-/// to the receipts.
+/// to the receipts: first for the places alone, and when these are let go for the receipts of sends once more.
 pub fn audit(
     alloc: Global,
     sends: &[SendReceipt],
@@ -34,20 +34,27 @@ pub fn audit(
 ) -> Result<Verdict, AllocError>
     ensures { IfOk result (IsVerdict sends.now takes.now total) }
 {
-    let sent = places_sent(alloc, sends)?;
-    let sent = sent.as_slice();
-    let taken = places_taken(alloc, takes)?;
-    let taken = taken.as_slice();
+    let sent_list = places_sent(alloc, sends)?;
+    let taken_list = places_taken(alloc, takes)?;
+    let sent = sent_list.as_slice();
+    let taken = taken_list.as_slice();
+    let sent_twice = first_double(sent);
+    let taken_twice = first_double(taken);
+    let stranger = first_stranger(sent, taken);
+    let gap = first_gap(taken);
+    let overrun = first_overrun(sent, taken, total);
+    drop(sent_list);
+    drop(taken_list);
     let placed = by_place(alloc, sends)?;
     let altered = first_altered(placed.as_slice(), takes);
     let grouped = by_sender(placed)?;
     let disorder = first_disorder(grouped.as_slice());
 
-    let verdict = or_fault(Verdict::Clean, 1, first_double(sent));
-    let verdict = or_fault(verdict, 2, first_double(taken));
-    let verdict = or_fault(verdict, 3, first_stranger(sent, taken));
+    let verdict = or_fault(Verdict::Clean, 1, sent_twice);
+    let verdict = or_fault(verdict, 2, taken_twice);
+    let verdict = or_fault(verdict, 3, stranger);
     let verdict = or_fault(verdict, 4, altered);
-    let verdict = or_fault(verdict, 5, first_gap(taken));
+    let verdict = or_fault(verdict, 5, gap);
     let verdict = or_fault(verdict, 6, disorder);
-    Ok(or_fault(verdict, 7, first_overrun(sent, taken, total)))
+    Ok(or_fault(verdict, 7, overrun))
 }
