@@ -59,7 +59,7 @@ pub fn drive<G: Gate + Send, R: Threads + Wait + Sync>(
 }
 
 /// Runs all workers in threads, and closes between the senders' end and the receivers'.
-fn run<G: Gate + Send, R: Threads + Wait>(
+fn run<G: Gate + Send, R: Threads + Wait + Sync>(
     rt: &R,
     alloc: Global,
     queue: &Queue,
@@ -98,9 +98,9 @@ fn run<G: Gate + Send, R: Threads + Wait>(
 }
 
 /// Does so in this scope. All memory that the lists of threads take is asked for before the first thread is started.
-fn run_in<'s, E, G: Gate + Send + 's, R: Threads>(
+fn run_in<'s, E, G: Gate + Send + 's, R: Threads + Wait + Sync + 's>(
     scope: &Scope<'s, E>,
-    rt: &R,
+    rt: &'s R,
     alloc: Global,
     queue: &'s Queue,
     config: DriveConfig,
@@ -127,6 +127,7 @@ fn run_in<'s, E, G: Gate + Send + 's, R: Threads>(
     let (sending, to_send) = room_for(alloc, senders.len())?;
     let taking = start_all(
         scope,
+        rt,
         alloc,
         queue,
         brief,
@@ -136,7 +137,7 @@ fn run_in<'s, E, G: Gate + Send + 's, R: Threads>(
         false,
     );
     let refused = taking.refused;
-    let sending = start_all(scope, alloc, queue, brief, 0, senders, sending, refused);
+    let sending = start_all(scope, rt, alloc, queue, brief, 0, senders, sending, refused);
     let refused = sending.refused;
     let (sent, closed) = close_behind(rt, alloc, queue, brief, closer, sending, to_send);
     let taken = join_receivers(rt, alloc, queue, brief, count, taking, to_take);

@@ -11,6 +11,7 @@ use crate::threads::{Brief, Worker};
 use cc_audit::{SendReceipt, TakeReceipt};
 use cc_queue::{Queue, Receiver, Sender};
 use std::alloc::{AllocError, Global};
+use std::sync::Wait;
 
 /// A pass of a queue with its number, from 1, and the gate of its worker.
 #[derive(Drop)]
@@ -30,8 +31,9 @@ impl<G: Gate + Send> Worker for Job<Sender, G> {
 
     ghost gives = { λ z b n d. SenderGave z b.items b.limit n d };
 
-    fn run(
+    fn run<R: Wait>(
         self,
+        rt: &R,
         alloc: Global,
         queue: &Queue,
         brief: Brief,
@@ -39,7 +41,7 @@ impl<G: Gate + Send> Worker for Job<Sender, G> {
     ) -> Worked<Sender, SendReceipt> {
         let Self { number, pass, gate } = self;
         let Brief { items, limit } = brief;
-        send_all(alloc, queue, row, number, items, limit, pass, gate)
+        send_all(rt, alloc, queue, row, number, items, limit, pass, gate)
     }
 }
 
@@ -53,15 +55,16 @@ impl<G: Gate + Send> Worker for Job<Receiver, G> {
 
     ghost gives = { λ z b n d. ReceiverGave z b.limit n d };
 
-    fn run(
+    fn run<R: Wait>(
         self,
+        rt: &R,
         alloc: Global,
         queue: &Queue,
         brief: Brief,
         row: u32,
     ) -> Worked<Receiver, TakeReceipt> {
         let Self { number, pass, gate } = self;
-        take_all(alloc, queue, row, number, brief.limit, pass, gate)
+        take_all(rt, alloc, queue, row, number, brief.limit, pass, gate)
     }
 }
 

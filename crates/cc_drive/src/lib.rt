@@ -10,6 +10,7 @@ mod gate;
 mod jobs;
 mod kept;
 mod meeting;
+mod pace;
 mod receiving;
 mod sending;
 mod threads;

@@ -12,12 +12,14 @@ ghost use Rattle.cc_drive.specs.Work.{WentOn, EachRead};
 
 use crate::gate::{Gate, Point};
 use crate::kept::{Kept, Worked};
+use crate::pace::Pace;
 use crate::turns::Turns;
 use cc_audit::TakeReceipt;
 use cc_model::TakeAnswer;
 use cc_queue::{PendingTake, Queue, Receiver, TakeTurn, begin_take, turn_take};
 use crossbeam_utils::Backoff;
 use std::alloc::Global;
+use std::sync::Wait;
 
 /// Waits for the answer of a take within the limit.
 fn await_take(
@@ -81,7 +83,8 @@ fn take_one<G: Gate>(
 
 /// Takes until the queue has ended, again after Empty, and keeps a receipt of each item. The pass is given back, but where
 /// the worker reached its limit.
-pub(crate) fn take_all<G: Gate>(
+pub(crate) fn take_all<G: Gate, R: Wait>(
+    rt: &R,
     alloc: Global,
     queue: &Queue,
     row: u32,
@@ -100,8 +103,9 @@ pub(crate) fn take_all<G: Gate>(
     receiver.stands();
     let mut turns = Turns::new(limit);
     let mut kept = Kept::new(alloc);
-    let backoff = Backoff::new();
+    let mut pace = Pace::new();
     while turns.made < turns.limit {
+        let before = turns.made;
         let Some((after, answer)) = take_one(queue, receiver, &mut gate, &mut turns) else {
             return Worked {
                 pass: None,
@@ -110,11 +114,14 @@ pub(crate) fn take_all<G: Gate>(
             };
         };
         match answer {
-            TakeAnswer::Got(item) => kept.keep(TakeReceipt {
-                receiver: number,
-                item,
-            }),
-            TakeAnswer::Empty => backoff.snooze(),
+            TakeAnswer::Got(item) => {
+                kept.keep(TakeReceipt {
+                    receiver: number,
+                    item,
+                });
+                pace.go_on(rt, turns.made - before);
+            }
+            TakeAnswer::Empty => pace.rest(),
             TakeAnswer::Ended { total: _ } => {
                 return Worked {
                     pass: Some(after),

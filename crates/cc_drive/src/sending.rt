@@ -11,12 +11,14 @@ ghost use Rattle.cc_drive.specs.Work.{WentOn, EachRead, IsSent, CostsOfSend};
 
 use crate::gate::{Gate, Point};
 use crate::kept::{Kept, Worked};
+use crate::pace::Pace;
 use crate::turns::Turns;
 use cc_audit::SendReceipt;
 use cc_model::SendAnswer;
 use cc_queue::{PendingSend, Queue, SendTurn, Sender, begin_send, turn_send};
 use crossbeam_utils::Backoff;
 use std::alloc::Global;
+use std::sync::Wait;
 
 /// How a send went.
 pub(crate) enum Sent {
@@ -96,7 +98,8 @@ pub(crate) fn send_body<G: Gate>(
 /// Sends the bodies from 1 to `items`, each again until it is accepted, and keeps a receipt of each. In a run the answer is
 /// Full until then: the queue is closed when all senders are joined, and its life is longer than any sends that they can
 /// begin. A worn sender stops. The pass is given back, but where the worker reached its limit.
-pub(crate) fn send_all<G: Gate>(
+pub(crate) fn send_all<G: Gate, R: Wait>(
+    rt: &R,
     alloc: Global,
     queue: &Queue,
     row: u32,
@@ -119,9 +122,10 @@ pub(crate) fn send_all<G: Gate>(
     let mut kept = Kept::new(alloc);
     let mut begun: u32 = 0;
     let mut accepted: u64 = 0;
-    let backoff = Backoff::new();
+    let mut pace = Pace::new();
     while accepted < items {
         let body = accepted + 1;
+        let before = turns.made;
         match send_body(queue, sender, body, &mut gate, &mut turns) {
             Sent::Answered(after, answer) => {
                 sender = after;
@@ -134,8 +138,9 @@ pub(crate) fn send_all<G: Gate>(
                         place,
                         body,
                     });
+                    pace.go_on(rt, turns.made - before);
                 } else {
-                    backoff.snooze();
+                    pace.rest();
                 }
             }
             Sent::Worn(after) => {

@@ -6,6 +6,7 @@ use cc_queue::Queue;
 use std::alloc::Global;
 use std::marker::PhantomData;
 use std::snapshot::Snapshot;
+use std::sync::Wait;
 use std::thread::{Promise, PromisedHandle, Scope, Threads};
 
 /// What all workers of a run are told.
@@ -32,7 +33,14 @@ pub trait Worker: Send + Drop {
     /// What a worker that stood at that place may give back.
     ghost gives: { Topic → Brief → ℕ → Self.Done → Type 0 };
 
-    fn run(self, alloc: Global, queue: &Queue, brief: Brief, row: u32) -> Self::Done
+    fn run<R: Wait>(
+        self,
+        rt: &R,
+        alloc: Global,
+        queue: &Queue,
+        brief: Brief,
+        row: u32,
+    ) -> Self::Done
         requires { is_ready queue.now row self }
         ensures { gives queue.now brief row result };
 }
@@ -72,8 +80,9 @@ pub struct Started<J: Worker> {
 
 /// Starts a thread for each worker in turn, until one is refused, and none where one was refused before. They stand from
 /// this place on in the row of all passes.
-pub fn start_all<'s, E, J: Worker + 's>(
+pub fn start_all<'s, E, J: Worker + 's, R: Wait + Sync + 's>(
     scope: &Scope<'s, E>,
+    rt: &'s R,
     alloc: Global,
     queue: &'s Queue,
     brief: Brief,
@@ -102,7 +111,7 @@ pub fn start_all<'s, E, J: Worker + 's>(
     }
     for worker in workers {
         let promise = work_of::<J>(queue, brief, row);
-        let run = move || worker.run(alloc, queue, brief, row);
+        let run = move || worker.run(rt, alloc, queue, brief, row);
         let Ok(handle) = scope.spawn_with(promise, run) else {
             return Started {
                 handles,
