@@ -25,7 +25,7 @@ fn config(senders: u16, receivers: u16, items: u64, capacity: u32, bound: u32) -
 }
 
 /// Each item that is sent is taken, in runs of several shapes: the least, the greatest in threads, no items at all, one
-/// place for many threads.
+/// place for many threads, and more threads than processors where each call hands over to the next.
 #[test]
 fn all_items_pass(rt: HostRuntime) -> Result<(), Fail> {
     for (senders, receivers, items, capacity, bound) in [
@@ -33,6 +33,7 @@ fn all_items_pass(rt: HostRuntime) -> Result<(), Fail> {
         (3, 2, 100, 4, 2),
         (2, 3, 0, 64, 8),
         (4, 4, 50, 1, 1),
+        (16, 16, 200, 64, 1),
         (63, 64, 10, 16, 1024),
     ] {
         let config = config(senders, receivers, items, capacity, bound);
