@@ -12,7 +12,11 @@ const EACH: u64 = 2000;
 type Item = Box<(u64, String)>;
 
 fn send_all(sender: &Sender<Item>, number: u64) {
-    for k in 0..EACH {
+    send_some(sender, number, EACH);
+}
+
+fn send_some(sender: &Sender<Item>, number: u64, items: u64) {
+    for k in 0..items {
         let mut item = Box::new((k, String::new()));
         item.1 = format!("{number}: {k}");
         while let Err(told) = sender.try_send(item) {
@@ -84,4 +88,29 @@ fn boxes_go_by_shared_handles() {
     let (sender, receivers) = groups(4, 2).unwrap();
     let [one, other] = [&receivers[0], &receivers[1]];
     assert_eq!(pass(&[&sender; 3], &[one, one, other, other]), 2 * SUM);
+}
+
+/// The one receiver takes by itself until it is cloned, which another thread does while it takes, and
+/// while senders find no room.
+#[test]
+fn boxes_go_on_where_a_receiver_is_cloned() {
+    for pause in 0..20 {
+        let (sender, receiver) = channel(2).unwrap();
+        let sums = thread::scope(|scope| {
+            let first = scope.spawn(|| take_all(&receiver));
+            let second = scope.spawn(|| {
+                (0..pause).for_each(|_| thread::yield_now());
+                let clone = receiver.clone();
+                (take_all(&clone), clone)
+            });
+            let sending = [0, 1].map(|number| {
+                let sender = &sender;
+                scope.spawn(move || send_some(sender, number, 100))
+            });
+            sending.into_iter().for_each(|it| it.join().unwrap());
+            sender.close();
+            first.join().unwrap() + second.join().unwrap().0
+        });
+        assert_eq!(sums, 2 * 99 * 100 / 2);
+    }
 }

@@ -7,7 +7,7 @@ use super::PASSES;
 use super::event::{Event, lock};
 use super::line::{Extended, Line, Seated};
 use super::seat::SeatLock;
-use super::slots::{Hand, Held, Padded, Slots};
+use super::slots::{Hand, Held, Owner, Padded, Reader, Slots};
 use crate::words::{self, Config, OpenError};
 use std::any::Any;
 use std::panic::{AssertUnwindSafe, catch_unwind, resume_unwind};
@@ -20,21 +20,32 @@ struct Sends {
     is_first: bool,
 }
 
-/// What is under the lock of a seat.
-struct Locked<P> {
+/// What is under the lock of a sender's seat.
+struct Sending {
     /// None until it is used for the first time.
-    pass: Option<P>,
-    /// The slots for a sender's next items, or those that a receiver has emptied.
-    hand: Hand,
+    pass: Option<Sends>,
+    /// By which its items are put into slots.
+    owner: Owner,
 }
 
-struct Seat<P> {
-    locked: SeatLock<Locked<P>>,
+/// What is under the lock of a receiver's seat.
+struct Taking {
+    /// None until it is used for the first time.
+    pass: Option<Seated<words::Receiver>>,
+    /// The slots that it has emptied.
+    hand: Hand,
+    /// Of the slots, where this is the one group's first receiver, and there was no second one so far.
+    reader: Option<Reader>,
+}
+
+struct Seat<L> {
+    locked: SeatLock<L>,
     /// How many items went through it. Written under the lock.
     count: AtomicU64,
 }
 
-impl<P> Seat<P> {
+impl<L> Seat<L> {
+    #[inline]
     fn count_one(&self) {
         let count = self.count.load(Ordering::Relaxed);
         self.count.store(count + 1, Ordering::Release);
@@ -48,21 +59,18 @@ fn boxed<S>(seats: impl Iterator<Item = S>) -> Box<[S; PASSES]> {
 }
 
 /// The seats of one side, and which of them handles have.
-struct Seats<P> {
+struct Seats<L> {
     /// A bit for each seat that a handle has.
     taken: AtomicU64,
-    seats: Box<[Padded<Seat<P>>; PASSES]>,
+    seats: Box<[Padded<Seat<L>>; PASSES]>,
 }
 
-impl<P> Seats<P> {
-    /// One handle has the first seat.
-    fn new() -> Seats<P> {
+impl<L> Seats<L> {
+    /// With this under their locks. One handle has the first seat.
+    fn new(mut locked: impl FnMut() -> L) -> Seats<L> {
         let seat = |_| {
             Padded(Seat {
-                locked: SeatLock::new(Locked {
-                    pass: None,
-                    hand: Hand::empty(),
-                }),
+                locked: SeatLock::new(locked()),
                 count: AtomicU64::new(0),
             })
         };
@@ -73,7 +81,7 @@ impl<P> Seats<P> {
     }
 
     #[inline]
-    fn at(&self, seat: usize) -> &Seat<P> {
+    fn at(&self, seat: usize) -> &Seat<L> {
         // A handle's seat is one of these, so that the remainder is itself.
         &self.seats[seat % PASSES].0
     }
@@ -117,7 +125,7 @@ impl<P> Seats<P> {
 pub struct Group {
     /// Where its receivers wait for items.
     pub items: Event,
-    seats: Seats<Seated<words::Receiver>>,
+    seats: Seats<Taking>,
     /// Once it has lost its last receiver: that one's seat and 1, by which its items are let go.
     left: AtomicUsize,
     /// Whether somebody lets them go at this moment.
@@ -145,7 +153,7 @@ pub struct Core<T> {
     slots: Slots<T>,
     capacity: u64,
     line: Line,
-    senders: Seats<Sends>,
+    senders: Seats<Sending>,
     pub groups: Box<[Group]>,
     /// How many groups have lost all their receivers.
     lost: AtomicUsize,
@@ -173,22 +181,32 @@ impl<T> Core<T> {
         slots: impl FnOnce(usize, usize) -> Slots<T>,
     ) -> Result<Core<T>, OpenError> {
         let line = Line::open(config, groups)?;
+        // Those in the queues, and those in the hands of senders and of receivers; where there are
+        // several groups, one that a receiver copies in place of a hand.
+        let hands = PASSES * (1 + groups as usize);
+        let count = config.capacity as usize + hands * Slots::<T>::IN_HAND;
+        let mut slots = slots(count, PASSES);
+        let mut reader = slots.reader();
         let group = |_| Group {
             items: Event::new(),
-            seats: Seats::new(),
+            seats: Seats::new(|| Taking {
+                pass: None,
+                hand: Hand::empty(),
+                reader: reader.take(),
+            }),
             left: AtomicUsize::new(0),
             letting_go: AtomicBool::new(false),
         };
-        let groups: Box<[Group]> = (0..groups).map(group).collect();
-        // Those in the queues, and those in the hands of senders and of receivers; where there are
-        // several groups, one that a receiver copies in place of a hand.
-        let hands = PASSES * (1 + groups.len());
-        let count = config.capacity as usize + hands * Slots::<T>::IN_HAND;
+        let groups = (0..groups).map(group).collect();
+        let senders = Seats::new(|| Sending {
+            pass: None,
+            owner: slots.owner(),
+        });
         Ok(Core {
-            slots: slots(count, PASSES),
+            slots,
             capacity: config.capacity.into(),
             line,
-            senders: Seats::new(),
+            senders,
             groups,
             lost: AtomicUsize::new(0),
             room: Event::new(),
@@ -247,16 +265,20 @@ impl<T> Core<T> {
     #[inline]
     fn send_once(&self, seat: usize, item: T) -> Result<(), (Refusal, T)> {
         let sends = self.senders.at(seat);
-        sends.locked.with(|Locked { pass, hand }| {
-            let pass = pass.get_or_insert_with(|| self.first_sends(seat));
-            // There is none where receivers of several groups that threads share copy many items at
+        sends.locked.with(|Sending { pass, owner }| {
+            // There is no slot where receivers of several groups that threads share copy many items at
             // once. They ring after it.
-            let Some(free) = self.slots.free(seat, hand) else {
-                return Err((Refusal::Full, item));
+            let put = self.slots.put(owner, item);
+            let held = put.map_err(|item| (Refusal::Full, item))?;
+            let sent = match pass {
+                Some(sends) if sends.is_first => sends.at.pass.try_send(held.word()),
+                _ => {
+                    let sends = pass.get_or_insert_with(|| self.first_sends(seat));
+                    self.send_here(sends, held.word())
+                }
             };
-            let held = self.slots.put(free, item);
-            if let Err(told) = self.send_here(pass, held.word()) {
-                self.go_on_sending(seat, pass, hand, held, told)?;
+            if let Err(told) = sent {
+                self.go_on_sending(seat, pass, owner, held, told)?;
             }
             sends.count_one();
             Ok(())
@@ -276,19 +298,10 @@ impl<T> Core<T> {
         }
     }
 
-    /// Sends a word to the queue where the seat is.
-    #[inline]
-    fn send_here(&self, sends: &mut Sends, word: u64) -> Result<u64, words::TrySendError> {
-        match sends.is_first {
-            true => sends.at.pass.try_send(word),
-            false => self.send_here_behind(sends, word),
-        }
-    }
-
-    /// The same where earlier queues may still have held items.
+    /// Sends a word to the queue where the seat is. Earlier queues may still have held items.
     #[inline(never)]
-    fn send_here_behind(&self, sends: &mut Sends, word: u64) -> Result<u64, words::TrySendError> {
-        sends.is_first = self.taken() >= sends.at.queue.before;
+    fn send_here(&self, sends: &mut Sends, word: u64) -> Result<u64, words::TrySendError> {
+        sends.is_first = sends.is_first || self.taken() >= sends.at.queue.before;
         match sends.is_first {
             true => sends.at.pass.try_send(word),
             false => self.send_behind(&mut sends.at, word),
@@ -301,17 +314,38 @@ impl<T> Core<T> {
     fn go_on_sending(
         &self,
         seat: usize,
-        sends: &mut Sends,
-        hand: &mut Hand,
+        pass: &mut Option<Sends>,
+        owner: &mut Owner,
         held: Held,
         told: words::TrySendError,
     ) -> Result<(), (Refusal, T)> {
+        let sends = pass.as_mut().expect("a queue was asked");
         self.send_further(seat, sends, held.word(), told)
-            .map_err(|refusal| {
-                let (free, item) = self.slots.take_back(held);
-                self.slots.keep(free, hand);
-                (refusal, item)
-            })
+            .map_err(|refusal| (refusal, self.take_back(held, owner)))
+    }
+
+    /// Takes an item back that wasn't sent: with the reader, where there is one, once no take has it.
+    fn take_back(&self, held: Held, owner: &mut Owner) -> T {
+        if self.slots.is_shared() {
+            return self.slots.take_back(None, held, owner);
+        }
+        let first = self.groups[0].seats.at(0);
+        first.locked.with(|Taking { reader, .. }| {
+            let reader = reader.as_mut();
+            self.slots.take_back(reader, held, owner)
+        })
+    }
+
+    /// From here on there may be another reader than the one group's first receiver.
+    fn share(&self) {
+        if !self.slots.is_shared() {
+            let first = self.groups[0].seats.at(0);
+            first.locked.with(|Taking { reader, .. }| {
+                if let Some(reader) = reader.take() {
+                    self.slots.share(reader);
+                }
+            });
+        }
     }
 
     fn send_further(
@@ -391,9 +425,9 @@ impl<T> Core<T> {
     /// Takes an item for a group.
     #[inline]
     pub fn try_recv(&self, group: usize, seat: usize) -> Result<T, NoItem> {
-        if self.slots.has_one_group() {
-            let item = self.take_word(group, seat, |owner, word, hand| {
-                self.slots.take_alone(owner, word, hand)
+        if let [only] = &*self.groups {
+            let item = self.take_word(only, (group, seat), |owner, word, hand, reader| {
+                self.slots.take_alone(reader, owner, word, hand)
             })?;
             self.room.ring();
             return Ok(item);
@@ -404,29 +438,31 @@ impl<T> Core<T> {
     /// The same where each group gets a copy, which is made once the seat is let go.
     #[inline(never)]
     fn try_recv_of_groups(&self, group: usize, seat: usize) -> Result<T, NoItem> {
-        let (owner, word) = self.take_word(group, seat, |owner, word, _| (owner, word))?;
+        let takes = &self.groups[group];
+        let got = self.take_word(takes, (group, seat), |owner, word, _, _| (owner, word));
+        let (owner, word) = got?;
         let _rings = Rings(&self.room);
         Ok(self.slots.take(group, owner, word))
     }
 
-    /// Takes a word, and does this with its sender's seat, the word, and the hand of the receiver's
-    /// seat, while the seat is locked.
+    /// Takes a word, and does this with its sender's seat, the word, and the hand and the reader of the
+    /// receiver's seat, while the seat is locked.
     #[inline]
     fn take_word<R>(
         &self,
-        group: usize,
-        seat: usize,
-        got: impl FnOnce(usize, u64, &mut Hand) -> R,
+        group: &Group,
+        (number, seat): (usize, usize),
+        got: impl FnOnce(usize, u64, &mut Hand, Option<&mut Reader>) -> R,
     ) -> Result<R, NoItem> {
-        let takes = self.groups[group].seats.at(seat);
-        takes.locked.with(|Locked { pass, hand }| {
-            let at = pass.get_or_insert_with(|| self.first_takes(group, seat));
+        let takes = group.seats.at(seat);
+        takes.locked.with(|Taking { pass, hand, reader }| {
+            let at = pass.get_or_insert_with(|| self.first_takes(number, seat));
             let taken = at.pass.try_recv_as(|item| (item.sender, item.body));
             let (sender, word) = match taken {
                 Ok(item) => item,
-                Err(told) => self.go_on_taking((group, seat), at, told)?,
+                Err(told) => self.go_on_taking((number, seat), at, told)?,
             };
-            let got = got(sender as usize - 1, word, hand);
+            let got = got(sender as usize - 1, word, hand, reader.as_mut());
             takes.count_one();
             Ok(got)
         })
@@ -463,7 +499,7 @@ impl<T> Core<T> {
     pub fn close(&self) -> bool {
         // Any seat does, and there is one at all times.
         const SEAT: usize = 0;
-        let closed = self.senders.at(SEAT).locked.with(|Locked { pass, .. }| {
+        let closed = self.senders.at(SEAT).locked.with(|Sending { pass, .. }| {
             let sends = pass.get_or_insert_with(|| self.first_sends(SEAT));
             sends.is_first = false;
             self.line.close(SEAT, &mut sends.at)
@@ -484,6 +520,7 @@ impl<T> Core<T> {
 
     /// A seat for a further receiver of a group, if there is one.
     pub fn add_receiver(&self, group: usize) -> Option<usize> {
+        self.share();
         self.groups[group].seats.enter()
     }
 
@@ -500,6 +537,7 @@ impl<T> Core<T> {
         if !self.groups[group].seats.leave(seat) {
             return;
         }
+        self.share();
         self.groups[group].left.store(seat + 1, Ordering::SeqCst);
         let lost = self.lost.fetch_add(1, Ordering::SeqCst) + 1;
         if lost == self.groups.len() {
@@ -520,8 +558,9 @@ impl<T> Core<T> {
             // Who finds another at it leaves it to that one, who looks once more when it is done. So a
             // drop of an item that sends again doesn't come here again.
             while left != 0 && !group.letting_go.swap(true, Ordering::SeqCst) {
+                let seat = (number, left - 1);
                 while let Ok((owner, word)) =
-                    self.take_word(number, left - 1, |owner, word, _| (owner, word))
+                    self.take_word(group, seat, |owner, word, _, _| (owner, word))
                 {
                     let drops = || drop(self.slots.pass_over(number, owner, word));
                     panic = panic.or(catch_unwind(AssertUnwindSafe(drops)).err());

@@ -30,7 +30,8 @@ impl<T> Sender<T> {
     }
 
     /// Sends, if there is room. It doesn't wait for room, but where another thread serves the calls
-    /// of all senders at this moment, for its answer.
+    /// of all senders at this moment, for its answer; and where there is no room, it may wait for the
+    /// end of a call that a receiver makes at this moment, but not of one that waits for an item.
     ///
     /// # Errors
     ///

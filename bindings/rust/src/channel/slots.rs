@@ -3,70 +3,103 @@
 //!
 //! A slot is in one of these states, by the bits of its `state`:
 //!
-//! - **0**: it holds no item. It is free, in one of the lists or in the [`Hand`] of a seat, or somebody
-//!   is about to use it, as the one [`Free`] of its number.
-//! - **A claim bit and a rest bit for each group**: it holds an item. A reader of group `g` first
-//!   clears the claim bit of `g`, and only who found it set goes on; and it clears the rest bit of
-//!   `g` once it has its copy. Who finds no other group's rest bit has the item itself, and nobody
+//! - **0**: it holds no item. It is one of an owner's own slots, and free for that one; or it is in one of
+//!   the lists or in a [`Hand`], or somebody is about to use it, as the one [`Free`] of its number.
+//! - **`HELD`, and a claim bit and a rest bit for each group**: it holds an item. A reader of group `g`
+//!   first clears the claim bit of `g`, and only who found it set goes on; and it clears the rest bit
+//!   of `g` once it has its copy. Who finds no other group's rest bit has the item itself, and nobody
 //!   else reads it any more: it moves the item out, stores 0, and then frees the slot.
 //!
-//! A list changes by a compare-and-swap, which costs as much as much else of a call. So a seat draws a
-//! few slots at a time, which it has in hand then, and gives a few back at a time.
+//! A claim is an exchange, so that of two readers who were given one slot's number only one goes on. It
+//! costs as much as much else of a call. Where a channel's one group has had one receiver so far, that
+//! one's seat has the [`Reader`] of the slots: nobody makes a claim without it, and to look is enough.
+//! Before there is another reader it is given up for good, and who made a claim with it is done by then.
+//!
+//! A list changes by a compare-and-swap, which costs as much. So an owner has a few slots of its own, in
+//! no list: it puts its items there, one after another, and where the next one still holds an item it
+//! draws a few slots of a list at a time, which it has in hand then. Whoever empties slots of the lists
+//! gives a few back at a time.
 #![allow(unsafe_code)]
 
 use std::cell::UnsafeCell;
 use std::mem::{MaybeUninit, forget};
-use std::sync::atomic::{AtomicU32, AtomicU64, Ordering};
+use std::sync::atomic::{AtomicBool, AtomicU32, AtomicU64, Ordering};
 
 /// The rest bits stand above the claim bits: there are at most 8 groups.
 const REST: u32 = 8;
+/// Stands above both: there is an item, which somebody may be about to move out.
+const HELD: u32 = 1 << (2 * REST);
+
+/// The groups whose rest bits are set.
+fn rests(state: u32) -> u32 {
+    (state & !HELD) >> REST
+}
 
 struct Slot<T> {
     state: AtomicU32,
-    /// In a list of free slots, or in a hand: the number of the next, and 1; or 0 at its end.
+    /// In a list of free slots: the number of the next, and 1; or 0 at its end.
     next: AtomicU32,
     item: UnsafeCell<MaybeUninit<T>>,
 }
 
-/// A free slot in hand. There is one for each slot at most, and it isn't copied.
-pub struct Free(u32);
+/// A free slot of the lists. There is one for each at most, and it isn't copied.
+struct Free(u32);
 
-/// Free slots in a chain, which one seat has for itself. It isn't copied, and is used with the slots
-/// that filled it.
+/// So many free slots are in a hand at most.
+const IN_HAND: usize = 8;
+
+/// Free slots of the lists, in one seat's hand. It isn't copied, and is used with the slots that filled
+/// it.
 pub struct Hand {
-    /// The number of the first, and 1; or 0 where there is none.
-    first: u32,
-    /// The same of the last. Of no meaning where there is none.
-    last: u32,
-    count: u32,
+    count: u16,
+    /// The numbers of the first `count`.
+    slots: [u16; IN_HAND],
 }
 
 impl Hand {
     pub const fn empty() -> Hand {
         Hand {
-            first: 0,
-            last: 0,
             count: 0,
+            slots: [0; IN_HAND],
         }
     }
 }
 
-/// A slot in hand whose item was put, but not yet sent.
+/// What an owner puts its items by. There is one for each owner at most, and it isn't copied; it is used
+/// with the slots that it is of.
+pub struct Owner {
+    number: u16,
+    /// Which of its own slots is next, once it is divided by how many there are.
+    next: u16,
+    hand: Hand,
+}
+
+/// A slot whose item was put, but not yet sent.
 pub struct Held(u32);
 
 impl Held {
     /// What the queue passes for it.
+    #[inline]
     pub fn word(&self) -> u64 {
         u64::from(self.0)
     }
 }
+
+/// Who has it makes all claims of its slots. There is one at most, and it isn't copied; it is used with
+/// the slots that it is of.
+pub struct Reader(());
 
 /// A value on cache lines of its own.
 #[repr(align(128))]
 pub struct Padded<T>(pub T);
 
 pub struct Slots<T> {
+    /// The first ones are the owners' own, `OWN` of each.
     slots: Box<[Slot<T>]>,
+    /// How many are.
+    own: usize,
+    /// So many owners were given.
+    owners: usize,
     /// For each owner a list of free slots: the first one's number and 1 in the lower 16 bits, and
     /// above it how often one was taken from the list, so that a compare-and-swap which slept
     /// through changes fails.
@@ -74,6 +107,8 @@ pub struct Slots<T> {
     groups: u32,
     /// The state of a slot whose item nobody has taken.
     untaken: u32,
+    /// Whether there is no reader that makes all claims, nor will be.
+    shared: AtomicBool,
     /// Called only where there are several groups.
     copy: fn(&T) -> T,
 }
@@ -101,20 +136,27 @@ impl<T: Send> Slots<T> {
     }
 
     fn new(count: usize, owners: usize, groups: u32, copy: fn(&T) -> T) -> Slots<T> {
+        let own = owners * Self::OWN;
+        let count = count + own;
         assert!(count < 1 << 16 && (1..=REST).contains(&groups));
-        let slot = |number: usize| Slot {
+        // By their numbers and 1. All slots of the lists are in the first owner's, until others take from
+        // there.
+        let slot = |after: usize| Slot {
             state: AtomicU32::new(0),
-            next: AtomicU32::new(((number + 1) % count) as u32),
+            next: AtomicU32::new(if after < count { after as u32 + 1 } else { 0 }),
             item: UnsafeCell::new(MaybeUninit::uninit()),
         };
-        // All slots are the first owner's, until others take from there.
+        let first = |owner| if owner == 0 { own as u64 + 1 } else { 0 };
+        let list = |owner| Padded(AtomicU64::new(first(owner)));
         let claims = (1 << groups) - 1;
-        let list = |owner| Padded(AtomicU64::new(u64::from(owner == 0)));
         Slots {
             slots: (1..=count).map(slot).collect(),
+            own,
+            owners: 0,
             free: (0..owners).map(list).collect(),
             groups,
-            untaken: claims << REST | claims,
+            untaken: HELD | claims << REST | claims,
+            shared: AtomicBool::new(true),
             copy,
         }
     }
@@ -124,91 +166,138 @@ impl<T> Slots<T> {
     /// So many free slots are in a hand at most. Of large items there are few: each hand of a channel
     /// may have as many more than the channel holds.
     pub const IN_HAND: usize = match size_of::<T>() {
-        0..=64 => 8,
+        0..=64 => IN_HAND,
         _ => 2,
     };
 
-    /// A free slot: one in hand, or else of this owner's list, or of another's.
+    /// So many slots each owner has of its own.
+    const OWN: usize = Self::IN_HAND / 2;
+
+    /// The next owner, of so many as there are.
+    pub fn owner(&mut self) -> Owner {
+        assert!(self.owners < self.free.len());
+        self.owners += 1;
+        Owner {
+            number: self.owners as u16 - 1,
+            next: 0,
+            hand: Hand::empty(),
+        }
+    }
+
+    /// Puts an item into a slot, if one is free: one in the owner's hand, or else the next of its own, or
+    /// else one of its list, or of another's. While its own ones are in use it looks for one seldom.
     #[inline]
-    pub fn free(&self, owner: usize, hand: &mut Hand) -> Option<Free> {
-        if hand.first == 0 {
+    pub fn put(&self, owner: &mut Owner, item: T) -> Result<Held, T> {
+        let own = usize::from(owner.number) * Self::OWN + usize::from(owner.next) % Self::OWN;
+        let Some(slot) = self.slots.get(own) else {
+            return Err(item);
+        };
+        // By the acquire, whoever took the last item from there is done.
+        if owner.hand.count != 0 || slot.state.load(Ordering::Acquire) != 0 {
+            return self.put_elsewhere(owner, item);
+        }
+        owner.next = owner.next.wrapping_add(1);
+        // SAFETY: the slot's state is 0, and it is its owner's own, which is here: nobody else reads it
+        // or writes to it.
+        unsafe { (*slot.item.get()).write(item) };
+        slot.state.store(self.untaken, Ordering::Release);
+        Ok(Held(own as u32))
+    }
+
+    /// Puts it into a slot of the lists.
+    #[inline(never)]
+    fn put_elsewhere(&self, owner: &mut Owner, item: T) -> Result<Held, T> {
+        let Some(free) = self.free(owner.number.into(), &mut owner.hand) else {
+            return Err(item);
+        };
+        let slot = &self.slots[free.0 as usize];
+        // SAFETY: the slot's state is 0, and its one `Free` is here: nobody else reads or writes.
+        unsafe { (*slot.item.get()).write(item) };
+        slot.state.store(self.untaken, Ordering::Release);
+        Ok(Held(free.0))
+    }
+
+    /// A free slot: one in hand, or else of this owner's list, or of another's.
+    fn free(&self, owner: usize, hand: &mut Hand) -> Option<Free> {
+        if hand.count == 0 {
             self.draw(owner, hand);
         }
-        let first = hand.first.checked_sub(1)?;
-        hand.first = self.slots[first as usize].next.load(Ordering::Relaxed);
-        hand.count -= 1;
-        Some(Free(first))
+        hand.count = hand.count.checked_sub(1)?;
+        // It is in there, so that the remainder is itself.
+        Some(Free(hand.slots[hand.count as usize % IN_HAND].into()))
+    }
+
+    /// Whose item was moved out: this slot is free. Where it is one of the lists it is put in hand; and
+    /// where as many as may be are there, those go to this owner's list first.
+    #[inline]
+    fn emptied(&self, owner: usize, slot: (usize, &Slot<T>), hand: &mut Hand) {
+        let (number, slot) = slot;
+        slot.state.store(0, Ordering::Release);
+        if number >= self.own {
+            self.keep(owner, Free(number as u32), hand);
+        }
     }
 
     /// Puts a slot in hand.
-    #[inline]
-    pub fn keep(&self, free: Free, hand: &mut Hand) {
-        let next = &self.slots[free.0 as usize].next;
-        next.store(hand.first, Ordering::Relaxed);
-        if hand.first == 0 {
-            hand.last = free.0 + 1;
-        }
-        hand.first = free.0 + 1;
-        hand.count += 1;
-    }
-
-    /// The same, and gives all in hand to this owner's list where they are as many as may be.
-    #[inline]
-    fn keep_few(&self, owner: usize, free: Free, hand: &mut Hand) {
-        self.keep(free, hand);
+    #[inline(never)]
+    fn keep(&self, owner: usize, free: Free, hand: &mut Hand) {
         if hand.count as usize >= Self::IN_HAND {
             self.give_back(owner, hand);
         }
+        hand.slots[hand.count as usize % IN_HAND] = free.0 as u16;
+        hand.count += 1;
     }
 
     /// Draws slots of a list into an empty hand, where there are some.
     #[cold]
     fn draw(&self, owner: usize, hand: &mut Hand) {
         let lists = self.free.len();
-        let drawn = (owner..lists)
-            .chain(0..owner)
-            .find_map(|owner| self.pop(&self.free[owner].0));
-        if let Some(drawn) = drawn {
-            *hand = drawn;
-        }
+        let mut owners = (owner..lists).chain(0..owner);
+        owners.find(|&owner| self.pop(&self.free[owner].0, hand));
     }
 
-    /// Takes the first slots of a list.
-    fn pop(&self, list: &AtomicU64) -> Option<Hand> {
+    /// Takes the first slots of a list. Tells whether there were some.
+    fn pop(&self, list: &AtomicU64, hand: &mut Hand) -> bool {
         let mut head = list.load(Ordering::SeqCst);
         loop {
-            let first = (head & 0xffff) as u32;
-            let (mut last, mut count) = (first.checked_sub(1)?, 1);
-            let mut next = self.slots[last as usize].next.load(Ordering::Relaxed);
+            let mut next = (head & 0xffff) as u32;
+            hand.count = 0;
             // Where another took some meanwhile this goes astray, and the exchange below fails.
-            while next != 0 && count < Self::IN_HAND as u32 {
-                last = next - 1;
-                count += 1;
-                next = self.slots[last as usize].next.load(Ordering::Relaxed);
+            while next != 0 && (hand.count as usize) < Self::IN_HAND {
+                let number = next - 1;
+                hand.slots[hand.count as usize % IN_HAND] = number as u16;
+                hand.count += 1;
+                next = self.slots[number as usize].next.load(Ordering::Relaxed);
+            }
+            if hand.count == 0 {
+                return false;
             }
             let rest = ((head >> 16) + 1) << 16 | u64::from(next);
             match list.compare_exchange_weak(head, rest, Ordering::SeqCst, Ordering::SeqCst) {
-                Ok(_) => {
-                    self.slots[last as usize].next.store(0, Ordering::Relaxed);
-                    let last = last + 1;
-                    return Some(Hand { first, last, count });
-                }
+                Ok(_) => return true,
                 Err(now) => head = now,
             }
         }
     }
 
     /// Puts what is in hand into this owner's list.
+    #[inline(never)]
     fn give_back(&self, owner: usize, hand: &mut Hand) {
-        let Hand { first, last, .. } = std::mem::replace(hand, Hand::empty());
-        let Some(last) = last.checked_sub(1).filter(|_| first != 0) else {
+        let Hand { count, slots } = std::mem::replace(hand, Hand::empty());
+        if count == 0 {
             return;
-        };
+        }
+        let slots = slots.iter().take(count as usize).map(|&it| u32::from(it));
         let list = &self.free[owner].0;
         let mut head = list.load(Ordering::Relaxed);
         loop {
-            let next = &self.slots[last as usize].next;
-            next.store((head & 0xffff) as u32, Ordering::Relaxed);
+            let mut first = (head & 0xffff) as u32;
+            for number in slots.clone() {
+                self.slots[number as usize]
+                    .next
+                    .store(first, Ordering::Relaxed);
+                first = number + 1;
+            }
             let all = head & !0xffff | u64::from(first);
             match list.compare_exchange_weak(head, all, Ordering::SeqCst, Ordering::Relaxed) {
                 Ok(_) => return,
@@ -217,44 +306,80 @@ impl<T> Slots<T> {
         }
     }
 
-    /// Puts an item into a free slot.
+    /// The reader, where there is one group. Until it is given up, all claims are made with it.
+    pub fn reader(&mut self) -> Option<Reader> {
+        let gives = self.has_one_group() && *self.shared.get_mut();
+        gives.then(|| {
+            *self.shared.get_mut() = false;
+            Reader(())
+        })
+    }
+
+    /// Gives the reader up for good. From here on claims are exchanges.
+    pub fn share(&self, _given_up: Reader) {
+        self.shared.store(true, Ordering::Release);
+    }
+
+    /// Whether claims are exchanges. Else they want the reader.
     #[inline]
-    pub fn put(&self, free: Free, item: T) -> Held {
-        let slot = &self.slots[free.0 as usize];
-        // SAFETY: the slot's state is 0, and its one `Free` is here: nobody else reads or writes.
-        unsafe { (*slot.item.get()).write(item) };
-        slot.state.store(self.untaken, Ordering::Release);
-        Held(free.0)
+    pub fn is_shared(&self) -> bool {
+        self.shared.load(Ordering::Acquire)
+    }
+
+    /// Makes all claims of a slot, with the reader or by an exchange. Tells whether they could be made:
+    /// whether there was an item, and no claim of it had been made.
+    #[inline]
+    fn claim_whole(&self, reader: Option<&mut Reader>, slot: &Slot<T>) -> bool {
+        if reader.is_some() {
+            // Nobody makes a claim without it, so that nobody makes one before the item is moved out.
+            return slot.state.load(Ordering::Acquire) == self.untaken;
+        }
+        assert!(self.is_shared(), "the claim wants the reader");
+        let claim = |state| {
+            let (claims, fails) = (Ordering::AcqRel, Ordering::Relaxed);
+            slot.state.compare_exchange(state, HELD, claims, fails)
+        };
+        claim(self.untaken).is_ok()
     }
 
     /// Takes an item back that wasn't sent.
-    #[inline]
-    pub fn take_back(&self, held: Held) -> (Free, T) {
-        let slot = &self.slots[held.0 as usize];
-        let before = slot.state.swap(0, Ordering::AcqRel);
-        assert_eq!(before, self.untaken, "an item was taken that wasn't sent");
-        // SAFETY: the item was put, and no claim of it was made, nor can be made any more.
+    pub fn take_back(&self, reader: Option<&mut Reader>, held: Held, owner: &mut Owner) -> T {
+        let number = held.0 as usize;
+        let slot = &self.slots[number];
+        let can = self.claim_whole(reader, slot);
+        assert!(can, "an item was taken that wasn't sent");
+        // SAFETY: the item was put, and all its claims were made here.
         let item = unsafe { (*slot.item.get()).assume_init_read() };
-        (Free(held.0), item)
+        self.emptied(owner.number.into(), (number, slot), &mut owner.hand);
+        item
     }
 
     /// Whether no item is ever copied, as there is one group.
-    #[inline]
     pub fn has_one_group(&self) -> bool {
         self.groups == 1
     }
 
-    /// Takes the item of a slot where there is one group: no foreign code runs. The slot is then in
-    /// this hand, and goes to this owner with the others there, once they are many.
+    /// Takes the item of a slot where there is one group, with the reader or by an exchange: no foreign
+    /// code runs. Where the slot is one of the lists, it is then in this hand, and goes to the list of
+    /// this owner with the others there, once they are many.
     #[inline]
-    pub fn take_alone(&self, owner: usize, word: u64, hand: &mut Hand) -> T {
-        assert!(self.has_one_group());
-        let (at, _) = self.claimed(0, word);
-        let slot = &self.slots[at];
-        // SAFETY: the item was put; its one group's claim was made here, and no other can be made.
+    pub fn take_alone(
+        &self,
+        reader: Option<&mut Reader>,
+        owner: usize,
+        word: u64,
+        hand: &mut Hand,
+    ) -> T {
+        // Where there is a reader, there is one group.
+        assert!(reader.is_some() || self.has_one_group());
+        let slot = self.slot(word);
+        let can = slot.is_some_and(|slot| self.claim_whole(reader, slot));
+        let Some(slot) = slot.filter(|_| can) else {
+            panic!("an item was given to a group twice");
+        };
+        // SAFETY: the item was put, and the claim of its one group was made here.
         let item = unsafe { (*slot.item.get()).assume_init_read() };
-        slot.state.store(0, Ordering::Relaxed);
-        self.keep_few(owner, Free(at as u32), hand);
+        self.emptied(owner, (word as usize, slot), hand);
         item
     }
 
@@ -282,27 +407,29 @@ impl<T> Slots<T> {
         reading.finish()
     }
 
-    /// Claims the item of a slot for a group. Gives the slot, and its state before.
+    /// The slot of this number, where there is one.
     #[inline]
-    fn claimed(&self, group: usize, word: u64) -> (usize, u32) {
-        let slot = usize::try_from(word).ok().and_then(|at| self.slots.get(at));
-        let before = slot.map_or(0, |it| it.state.fetch_and(!(1 << group), Ordering::AcqRel));
+    fn slot(&self, word: u64) -> Option<&Slot<T>> {
+        usize::try_from(word).ok().and_then(|at| self.slots.get(at))
+    }
+
+    /// Claims the item of a slot for a group.
+    #[inline]
+    fn claim(&self, group: usize, owner: usize, word: u64) -> Reading<'_, T> {
+        assert!(self.is_shared(), "the claim wants the reader");
+        let before = self.slot(word).map_or(0, |slot| {
+            slot.state.fetch_and(!(1 << group), Ordering::AcqRel)
+        });
         assert!(
             before & 1 << group != 0,
             "an item was given to a group twice"
         );
-        (word as usize, before)
-    }
-
-    #[inline]
-    fn claim(&self, group: usize, owner: usize, word: u64) -> Reading<'_, T> {
-        let (at, before) = self.claimed(group, word);
         Reading {
             slots: self,
-            at,
-            rest: 1 << group << REST,
+            at: word as usize,
+            group,
             owner,
-            is_last: before >> REST == 1 << group,
+            is_last: rests(before) == 1 << group,
         }
     }
 }
@@ -311,7 +438,7 @@ impl<T> Slots<T> {
 struct Reading<'a, T> {
     slots: &'a Slots<T>,
     at: usize,
-    rest: u32,
+    group: usize,
     owner: usize,
     /// Whether all other groups had finished.
     is_last: bool,
@@ -335,20 +462,21 @@ impl<T> Reading<'_, T> {
 
     fn clear(&self) -> Option<T> {
         let state = &self.slots.slots[self.at].state;
-        let before = state.fetch_and(!self.rest, Ordering::AcqRel);
-        (before >> REST << REST == self.rest).then(|| self.take_out())
+        let before = state.fetch_and(!(1 << self.group << REST), Ordering::AcqRel);
+        (rests(before) == 1 << self.group).then(|| self.take_out())
     }
 
     #[inline]
     fn take_out(&self) -> T {
         let slot = &self.slots.slots[self.at];
         // SAFETY: the item was put; all claims were made, since each group clears its claim bit before
-        // its rest bit, and no rest bit but this one's is left: nobody else reads it any more.
+        // its rest bit, and no rest bit but this one's is left: nobody else reads it any more. Nobody
+        // writes to it before the state is 0, and until then that has `HELD`.
         let item = unsafe { (*slot.item.get()).assume_init_read() };
-        slot.state.store(0, Ordering::Relaxed);
         let mut hand = Hand::empty();
-        self.slots.keep(Free(self.at as u32), &mut hand);
-        self.slots.give_back(self.owner, &mut hand);
+        let slots = self.slots;
+        slots.emptied(self.owner, (self.at, slot), &mut hand);
+        slots.give_back(self.owner, &mut hand);
         item
     }
 }
@@ -367,6 +495,108 @@ impl<T> Drop for Slots<T> {
                 // SAFETY: the slot holds an item, and nobody else has the slots any more.
                 unsafe { slot.item.get_mut().assume_init_drop() };
             }
+        }
+    }
+}
+
+#[cfg(test)]
+mod tests {
+    use super::*;
+    use std::panic::{AssertUnwindSafe, catch_unwind};
+    use std::sync::Arc;
+    use std::thread;
+
+    /// Whether this panics.
+    fn refused<R>(call: impl FnOnce() -> R) -> bool {
+        catch_unwind(AssertUnwindSafe(call)).is_err()
+    }
+
+    /// Whatever the queue answers, no item is read twice and no empty slot is read: with the reader and
+    /// without it.
+    #[test]
+    fn what_was_not_given_is_not_read() {
+        for shares in [false, true] {
+            let mut slots = Slots::of_one_group(20, 2);
+            let (mut owner, hand) = (slots.owner(), &mut Hand::empty());
+            let mut reader = slots.reader();
+            assert!(slots.reader().is_none());
+            let item = Arc::new(7);
+            let words: Vec<u64> = (0..10)
+                .map(|_| slots.put(&mut owner, item.clone()).ok().unwrap().word())
+                .collect();
+            assert!(refused(|| slots.take_alone(None, 0, words[0], hand)));
+            if shares {
+                slots.share(reader.take().unwrap());
+            }
+            // An empty slot, and no slots.
+            for word in [5, slots.slots.len() as u64, 1 << 32, u64::MAX] {
+                assert!(refused(|| slots.take_alone(reader.as_mut(), 0, word, hand)));
+            }
+            for &word in &words[..8] {
+                assert_eq!(*slots.take_alone(reader.as_mut(), 0, word, hand), 7);
+                assert!(refused(|| slots.take_alone(reader.as_mut(), 0, word, hand)));
+                let held = Held(word as u32);
+                assert!(refused(|| slots.take_back(
+                    reader.as_mut(),
+                    held,
+                    &mut owner
+                )));
+            }
+            assert_eq!(Arc::strong_count(&item), 3);
+            let held = Held(words[9] as u32);
+            drop(slots.take_back(reader.as_mut(), held, &mut owner));
+            assert_eq!(Arc::strong_count(&item), 2);
+            drop(slots);
+            assert_eq!(Arc::strong_count(&item), 1);
+        }
+    }
+
+    /// Each slot is used, and again once it is empty; one that is full is not.
+    #[test]
+    fn slots_come_back() {
+        for shares in [false, true] {
+            let mut slots = Slots::of_one_group(16, 2);
+            let (mut owner, mut other) = (slots.owner(), slots.owner());
+            assert!(refused(|| slots.owner()));
+            let mut reader = slots.reader();
+            if shares {
+                slots.share(reader.take().unwrap());
+            }
+            let hand = &mut Hand::empty();
+            for round in 0..50_usize {
+                let mut words = vec![];
+                for owner in [&mut owner, &mut other] {
+                    let puts = (0..100).map_while(|_| slots.put(owner, round).ok());
+                    words.extend(puts.map(|held| held.word()));
+                }
+                words.sort();
+                words.dedup();
+                // The hands of the other owner and of the reader keep some.
+                assert!(words.len() >= 8 + 16 - 2 * IN_HAND, "{words:?}");
+                for word in words {
+                    assert_eq!(
+                        slots.take_alone(reader.as_mut(), round % 2, word, hand),
+                        round
+                    );
+                }
+            }
+        }
+    }
+
+    /// Of threads that are given one slot at once, one has its item.
+    #[test]
+    fn one_of_many_has_the_item() {
+        let mut slots = Slots::of_one_group(8, 1);
+        let mut owner = slots.owner();
+        slots.reader().map(|reader| slots.share(reader));
+        for _ in 0..50 {
+            let word = slots.put(&mut owner, Box::new(7)).ok().unwrap().word();
+            let takes = || slots.take_alone(None, 0, word, &mut Hand::empty());
+            let had = thread::scope(|scope| {
+                let threads = [(); 3].map(|()| scope.spawn(|| !refused(takes)));
+                threads.map(|thread| thread.join().unwrap())
+            });
+            assert_eq!(had.iter().filter(|&&had| had).count(), 1);
         }
     }
 }
