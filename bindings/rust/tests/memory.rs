@@ -1,0 +1,106 @@
+//! No send and no take asks for memory: what each thread asks the allocator for is counted.
+use std::alloc::{GlobalAlloc, Layout, System};
+use std::cell::Cell;
+use std::thread;
+use std::time::Duration;
+use vahepito::{RecvTimeoutError, SendTimeoutError, TryRecvError, channel, groups};
+
+struct Counts;
+
+thread_local! {
+    static ASKED: Cell<u64> = const { Cell::new(0) };
+}
+
+// SAFETY: each call is handed to the system's allocator as it is.
+unsafe impl GlobalAlloc for Counts {
+    unsafe fn alloc(&self, layout: Layout) -> *mut u8 {
+        let _ = ASKED.try_with(|asked| asked.set(asked.get() + 1));
+        unsafe { System.alloc(layout) }
+    }
+
+    unsafe fn dealloc(&self, at: *mut u8, layout: Layout) {
+        unsafe { System.dealloc(at, layout) }
+    }
+}
+
+#[global_allocator]
+static COUNTS: Counts = Counts;
+
+/// How often this asks for memory, on its own thread.
+fn asked(call: impl FnOnce()) -> u64 {
+    let before = ASKED.get();
+    call();
+    ASKED.get() - before
+}
+
+#[test]
+fn what_asks_is_counted() {
+    assert_eq!(asked(|| drop(Box::new([7; 9]))), 1);
+    assert!(asked(|| drop(channel::<u8>(1))) > 0);
+}
+
+/// By the first handles and by clones of them, from each one's first call on.
+#[test]
+fn calls_that_do_not_wait_ask_for_none() {
+    fn fill_and_empty<T: Send + Copy>(item: T) {
+        let (sender, receiver) = channel(20).unwrap();
+        let rounds = asked(|| {
+            for round in 0..30 {
+                let (sent, taken) = (sender.clone(), receiver.clone());
+                let senders = [&sender, &sent].into_iter().cycle();
+                let many = senders.take_while(|sender| sender.try_send(item).is_ok());
+                assert_eq!(many.count(), 20, "{round}");
+                assert_eq!(receiver.try_iter().take(15).count(), 15);
+                assert_eq!(taken.try_iter().count(), 5);
+                assert!(receiver.try_recv().is_err() && sender.is_empty());
+            }
+            sender.close();
+        });
+        assert_eq!(rounds, 0);
+    }
+    fill_and_empty(7_u64);
+    fill_and_empty([7_u8; 300]);
+
+    let (sender, receivers) = groups(20, 3).unwrap();
+    let rounds = asked(|| {
+        for number in 0..100_u64 {
+            sender.send(number).unwrap();
+            for receiver in &receivers {
+                assert_eq!(receiver.recv(), Ok(number));
+                assert_eq!(receiver.try_recv(), Err(TryRecvError::Empty));
+            }
+        }
+    });
+    assert_eq!(rounds, 0);
+}
+
+/// A thread's first wait takes some, and no later one does.
+#[test]
+fn a_second_wait_asks_for_none() {
+    const SOON: Duration = Duration::from_millis(2);
+    let (sender, receiver) = channel(1).unwrap();
+    let waits = || {
+        assert_eq!(receiver.recv_timeout(SOON), Err(RecvTimeoutError::Timeout));
+        sender.send(1).unwrap();
+        let told = sender.send_timeout(2, SOON);
+        assert_eq!(told, Err(SendTimeoutError::Timeout(2)));
+        assert_eq!(receiver.recv(), Ok(1));
+    };
+    waits();
+    assert_eq!(asked(waits), 0);
+
+    let (there, here) = channel(1).unwrap();
+    let (_open, empty) = channel::<u8>(1).unwrap();
+    thread::scope(|scope| {
+        let takes = scope.spawn(move || {
+            assert_eq!(empty.recv_timeout(SOON), Err(RecvTimeoutError::Timeout));
+            asked(|| assert!(here.iter().eq(0..6)))
+        });
+        for number in 0..6 {
+            thread::sleep(SOON);
+            there.send(number).unwrap();
+        }
+        drop(there);
+        assert_eq!(takes.join().unwrap(), 0);
+    });
+}
