@@ -81,6 +81,16 @@ impl<T> Receiver<T> {
     /// # Errors
     ///
     /// The channel is closed, and its group has all its items.
+    ///
+    /// ```
+    /// use std::thread;
+    ///
+    /// let (sender, receiver) = vahepito::channel(4)?;
+    /// thread::spawn(move || sender.send('a')); // and then drops its sender, the last one
+    /// assert_eq!(receiver.recv(), Ok('a'));
+    /// assert!(receiver.recv().is_err());
+    /// # Ok::<(), vahepito::OpenError>(())
+    /// ```
     pub fn recv(&self) -> Result<T, RecvError> {
         self.recv_until(None).map_err(|_| RecvError)
     }
@@ -90,6 +100,16 @@ impl<T> Receiver<T> {
     /// # Errors
     ///
     /// There was none in that time, or the channel is closed and there are no more.
+    ///
+    /// ```
+    /// use std::time::Duration;
+    /// use vahepito::RecvTimeoutError;
+    ///
+    /// let (_sender, receiver) = vahepito::channel::<u8>(1)?;
+    /// let told = receiver.recv_timeout(Duration::from_millis(5));
+    /// assert_eq!(told, Err(RecvTimeoutError::Timeout));
+    /// # Ok::<(), vahepito::OpenError>(())
+    /// ```
     pub fn recv_timeout(&self, time: Duration) -> Result<T, RecvTimeoutError> {
         // A moment that the clock can't tell never comes.
         self.recv_until(Instant::now().checked_add(time))
@@ -100,22 +120,62 @@ impl<T> Receiver<T> {
     /// # Errors
     ///
     /// As of [`recv_timeout`](Receiver::recv_timeout).
+    ///
+    /// ```
+    /// use std::time::{Duration, Instant};
+    ///
+    /// let (sender, receiver) = vahepito::channel(4)?;
+    /// sender.send(1).unwrap();
+    /// // All that comes within five milliseconds.
+    /// let soon = Instant::now() + Duration::from_millis(5);
+    /// let mut all = vec![];
+    /// while let Ok(number) = receiver.recv_deadline(soon) {
+    ///     all.push(number);
+    /// }
+    /// assert_eq!(all, [1]);
+    /// # Ok::<(), vahepito::OpenError>(())
+    /// ```
     pub fn recv_deadline(&self, until: Instant) -> Result<T, RecvTimeoutError> {
         self.recv_until(Some(until))
     }
 
     /// Takes an item, as a future of any runtime. Where it is dropped before it is done, nothing was
     /// taken.
+    ///
+    /// ```
+    /// async fn sum(numbers: vahepito::Receiver<u32>) -> u32 {
+    ///     let mut sum = 0;
+    ///     while let Ok(number) = numbers.recv_async().await {
+    ///         sum += number;
+    ///     }
+    ///     sum
+    /// }
+    /// ```
     pub fn recv_async(&self) -> RecvFuture<'_, T> {
         RecvFuture::new(self)
     }
 
     /// Takes items until the end, by [`recv`](Receiver::recv).
+    ///
+    /// ```
+    /// let (sender, receiver) = vahepito::channel(4)?;
+    /// (1..=3).for_each(|number| sender.send(number).unwrap());
+    /// drop(sender);
+    /// assert_eq!(receiver.iter().sum::<u32>(), 6);
+    /// # Ok::<(), vahepito::OpenError>(())
+    /// ```
     pub fn iter(&self) -> Iter<'_, T> {
         Iter { receiver: self }
     }
 
     /// Takes items as long as there are some, by [`try_recv`](Receiver::try_recv).
+    ///
+    /// ```
+    /// let (sender, receiver) = vahepito::channel(4)?;
+    /// (1..=3).for_each(|number| sender.send(number).unwrap());
+    /// assert!(receiver.try_iter().eq(1..=3)); // though the channel is open
+    /// # Ok::<(), vahepito::OpenError>(())
+    /// ```
     pub fn try_iter(&self) -> TryIter<'_, T> {
         TryIter { receiver: self }
     }
@@ -125,6 +185,16 @@ impl<T> Receiver<T> {
     /// # Errors
     ///
     /// 64 receivers of the group are open.
+    ///
+    /// ```
+    /// let (sender, receiver) = vahepito::channel(2)?;
+    /// let other = receiver.try_clone().expect("it is the second one");
+    /// sender.send(1).unwrap();
+    /// sender.send(2).unwrap();
+    /// // Each item goes to one of them.
+    /// assert_eq!((other.recv(), receiver.recv()), (Ok(1), Ok(2)));
+    /// # Ok::<(), vahepito::OpenError>(())
+    /// ```
     pub fn try_clone(&self) -> Result<Receiver<T>, CloneError> {
         let seat = self.core.add_receiver(self.group);
         let seat = seat.ok_or(CloneError::Receivers)?;
@@ -133,6 +203,15 @@ impl<T> Receiver<T> {
 
     /// Closes the channel, as [`Sender::close`](crate::Sender::close): what was sent before can still
     /// be taken. Tells whether it was open.
+    ///
+    /// ```
+    /// let (sender, receiver) = vahepito::channel(4)?;
+    /// sender.send(1).unwrap();
+    /// assert!(receiver.close());
+    /// assert!(sender.send(2).is_err());
+    /// assert!(receiver.into_iter().eq([1]));
+    /// # Ok::<(), vahepito::OpenError>(())
+    /// ```
     pub fn close(&self) -> bool {
         self.core.close()
     }
@@ -149,6 +228,14 @@ impl<T> Receiver<T> {
     }
 
     /// How many items its group hasn't taken. While others send and take it is near the number.
+    ///
+    /// ```
+    /// let (sender, receivers) = vahepito::groups(4, 2)?;
+    /// sender.send('a').unwrap();
+    /// receivers[0].recv().unwrap();
+    /// assert_eq!((receivers[0].len(), receivers[1].len(), sender.len()), (0, 1, 1));
+    /// # Ok::<(), vahepito::OpenError>(())
+    /// ```
     pub fn len(&self) -> usize {
         self.core.len_of(self.group)
     }

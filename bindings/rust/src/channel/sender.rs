@@ -89,6 +89,14 @@ impl<T> Sender<T> {
     /// # Errors
     ///
     /// The channel is closed: the item is handed back.
+    ///
+    /// ```
+    /// let (sender, receiver) = vahepito::channel(2)?;
+    /// sender.send("one").unwrap();
+    /// drop(receiver);
+    /// assert_eq!(sender.send("two").unwrap_err().into_inner(), "two");
+    /// # Ok::<(), vahepito::OpenError>(())
+    /// ```
     pub fn send(&self, item: T) -> Result<(), SendError<T>> {
         let sent = self.send_until(item, None);
         sent.map_err(|error| SendError(error.into_inner()))
@@ -120,12 +128,33 @@ impl<T> Sender<T> {
     /// # Errors
     ///
     /// As of [`send_timeout`](Sender::send_timeout).
+    ///
+    /// ```
+    /// use std::time::{Duration, Instant};
+    ///
+    /// let (sender, _receiver) = vahepito::channel(1)?;
+    /// let soon = Instant::now() + Duration::from_millis(5);
+    /// assert!(sender.send_deadline(1, soon).is_ok());
+    /// assert!(sender.send_deadline(2, soon).unwrap_err().is_timeout());
+    /// # Ok::<(), vahepito::OpenError>(())
+    /// ```
     pub fn send_deadline(&self, item: T, until: Instant) -> Result<(), SendTimeoutError<T>> {
         self.send_until(item, Some(until))
     }
 
     /// Sends, as a future of any runtime. Where it is dropped before it is done, the item wasn't sent,
     /// and is dropped with it.
+    ///
+    /// ```
+    /// use vahepito::{Receiver, SendError, Sender};
+    ///
+    /// async fn double(from: Receiver<u32>, to: Sender<u32>) -> Result<(), SendError<u32>> {
+    ///     while let Ok(number) = from.recv_async().await {
+    ///         to.send_async(2 * number).await?;
+    ///     }
+    ///     Ok(())
+    /// }
+    /// ```
     pub fn send_async(&self, item: T) -> SendFuture<'_, T> {
         SendFuture::new(self, item)
     }
@@ -135,6 +164,15 @@ impl<T> Sender<T> {
     /// # Errors
     ///
     /// 64 senders are open.
+    ///
+    /// ```
+    /// let (sender, receiver) = vahepito::channel(1)?;
+    /// let other = sender.try_clone().expect("it is the second one");
+    /// drop(sender); // the channel stays open
+    /// other.send('a').unwrap();
+    /// assert_eq!(receiver.recv(), Ok('a'));
+    /// # Ok::<(), vahepito::OpenError>(())
+    /// ```
     pub fn try_clone(&self) -> Result<Sender<T>, CloneError> {
         let seat = self.core.add_sender().ok_or(CloneError::Senders)?;
         Ok(Sender::new(self.core.clone(), seat))
@@ -142,6 +180,16 @@ impl<T> Sender<T> {
 
     /// Closes the channel: nothing is sent after it, and the receivers see the end once they have what
     /// was sent before. Tells whether it was open.
+    ///
+    /// ```
+    /// let (sender, receiver) = vahepito::channel(4)?;
+    /// sender.send(1).unwrap();
+    /// assert!(sender.close());
+    /// assert!(sender.is_closed() && !sender.close());
+    /// assert!(sender.send(2).is_err());
+    /// assert!(receiver.iter().eq([1]));
+    /// # Ok::<(), vahepito::OpenError>(())
+    /// ```
     pub fn close(&self) -> bool {
         self.core.close()
     }
@@ -153,6 +201,16 @@ impl<T> Sender<T> {
 
     /// How many items the channel holds: those that some group hasn't taken. While others send and take
     /// it is near the number.
+    ///
+    /// ```
+    /// let (sender, receiver) = vahepito::channel(2)?;
+    /// assert!(sender.is_empty());
+    /// sender.send('a').unwrap();
+    /// assert_eq!((sender.len(), receiver.len(), sender.capacity()), (1, 1, Some(2)));
+    /// sender.send('b').unwrap();
+    /// assert!(sender.is_full());
+    /// # Ok::<(), vahepito::OpenError>(())
+    /// ```
     pub fn len(&self) -> usize {
         self.core.len()
     }

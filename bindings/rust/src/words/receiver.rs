@@ -82,6 +82,18 @@ impl Receiver {
     /// # Errors
     ///
     /// See [`TryRecvError`].
+    ///
+    /// ```
+    /// use vahepito::words::{Config, TryRecvError, open};
+    ///
+    /// let (mut senders, mut receivers) = open(Config::new(2, 1, 4))?;
+    /// assert_eq!(receivers[0].try_recv(), Err(TryRecvError::Empty));
+    /// senders[1].send(7).unwrap();
+    /// let item = receivers[0].try_recv().unwrap();
+    /// // The first that was accepted, the second sender's first.
+    /// assert_eq!((item.place, item.sender, item.number, item.body), (0, 2, 1, 7));
+    /// # Ok::<(), vahepito::OpenError>(())
+    /// ```
     #[inline]
     pub fn try_recv(&mut self) -> Result<Item, TryRecvError> {
         self.try_recv_as(Item::clone)
@@ -149,6 +161,16 @@ impl Receiver {
     /// The call stands in line among its group's calls from here on, and may be served by any of
     /// them. So the guard is to be turned without delay, until it is done: see
     /// [Guards](crate::words#guards).
+    ///
+    /// ```
+    /// use vahepito::words::{Config, open};
+    ///
+    /// let (mut senders, mut receivers) = open(Config::new(1, 1, 2))?;
+    /// senders[0].send(7).unwrap();
+    /// let pending = receivers[0].begin();
+    /// assert_eq!(pending.wait().map(|item| item.body), Ok(7));
+    /// # Ok::<(), vahepito::OpenError>(())
+    /// ```
     pub fn begin(&mut self) -> PendingRecv<'_> {
         while self.kept.is_none() {
             match self.handle.begin_take() {

@@ -102,6 +102,16 @@ impl Sender {
     ///
     /// See [`TrySendError`]. `Full` is told by what the sender knew: `capacity` items had been
     /// accepted beyond those of which it knew that they were taken.
+    ///
+    /// ```
+    /// use vahepito::words::{Config, TrySendError, open};
+    ///
+    /// let (mut senders, _receivers) = open(Config::new(1, 1, 2))?; // room for two
+    /// assert_eq!(senders[0].try_send(70), Ok(0)); // its place
+    /// assert_eq!(senders[0].try_send(71), Ok(1));
+    /// assert_eq!(senders[0].try_send(72), Err(TrySendError::Full));
+    /// # Ok::<(), vahepito::OpenError>(())
+    /// ```
     #[inline]
     pub fn try_send(&mut self, body: u64) -> Result<u64, TrySendError> {
         let told = self.handle.try_send(body);
@@ -159,6 +169,18 @@ impl Sender {
 
     /// Closes the queue: nothing is accepted after it, and the receivers see the end once they have
     /// taken what was accepted. A worn sender may close, and a queue may be closed twice.
+    ///
+    /// ```
+    /// use vahepito::words::{Closed, Config, SendError, open};
+    ///
+    /// let (mut senders, mut receivers) = open(Config::new(1, 1, 2))?;
+    /// assert_eq!(senders[0].send(7), Ok(0));
+    /// assert_eq!(senders[0].close(), Closed::Shut { total: 1 });
+    /// assert_eq!(senders[0].send(8), Err(SendError::Closed));
+    /// assert_eq!(receivers[0].recv().map(|item| item.body), Ok(7));
+    /// assert_eq!(receivers[0].recv().unwrap_err().total, 1);
+    /// # Ok::<(), vahepito::OpenError>(())
+    /// ```
     pub fn close(&mut self) -> Closed {
         self.begin_close().wait()
     }
@@ -172,6 +194,21 @@ impl Sender {
     /// # Errors
     ///
     /// The sender has begun all the sends that it may; nothing was begun.
+    ///
+    /// ```
+    /// use vahepito::words::{Config, Turn, open};
+    ///
+    /// let (mut senders, _receivers) = open(Config::new(1, 1, 2))?;
+    /// let mut pending = senders[0].begin(7)?;
+    /// let answer = loop {
+    ///     match pending.turn() {
+    ///         Turn::Done { answer, .. } => break answer,
+    ///         Turn::Waiting(again) => pending = again, // do something else, but not for long
+    ///     }
+    /// };
+    /// assert_eq!(answer, Ok(0));
+    /// # Ok::<(), Box<dyn std::error::Error>>(())
+    /// ```
     pub fn begin(&mut self, body: u64) -> Result<PendingSend<'_>, Worn> {
         loop {
             match self.handle.begin_send(body) {
