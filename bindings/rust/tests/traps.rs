@@ -5,7 +5,7 @@ use std::sync::mpsc;
 use std::thread;
 use std::time::Duration;
 use vahepito::words::{
-    Config, PendingClose, PendingRecv, PendingSend, Receiver, RecvError, SendError, Sender,
+    Closed, Config, PendingClose, PendingRecv, PendingSend, Receiver, RecvError, SendError, Sender,
     TryRecvError, TrySendError, Turn, open,
 };
 
@@ -108,7 +108,7 @@ fn guards_in_a_list() {
     });
 }
 
-/// What is held and not turned stops its side, and goes on where it is turned.
+/// What is held and not turned holds up guards that are only turned, and goes on where it is turned.
 #[test]
 fn a_guard_that_is_held() {
     ends(|| {
@@ -123,6 +123,65 @@ fn a_guard_that_is_held() {
         }
         assert_eq!(held.wait(), Ok(0));
         assert_eq!(waits.wait(), Ok(1));
+    });
+}
+
+/// A guard is held, and another pass of its side has a call that waits for its answer on the same
+/// thread: that one turns the guard's call, which is first in line.
+#[test]
+fn a_guard_is_held_while_another_calls() {
+    ends(|| {
+        let ([mut one, mut two], [mut first, mut second]) = two_and_two();
+        let held = one.begin(1).unwrap();
+        assert_eq!(two.try_send(2), Ok(1));
+        assert_eq!(two.send(3), Ok(2));
+        assert_eq!(held.wait(), Ok(0));
+        let held = first.begin();
+        assert_eq!(second.try_recv().unwrap().body, 2);
+        assert_eq!(second.recv().unwrap().body, 3);
+        assert_eq!(held.wait().unwrap().body, 1);
+        let held = one.begin(4).unwrap();
+        assert_eq!(two.close(), Closed::Shut { total: 4 });
+        drop(held);
+        let _held = first.begin();
+        assert_eq!(second.recv(), Err(RecvError { total: 4 }));
+    });
+}
+
+#[test]
+fn guards_are_waited_for_last_first() {
+    for bound in [1, 64] {
+        ends(move || {
+            let config = Config::new(4, 4, 4);
+            let (mut senders, mut receivers) = open(Config { bound, ..config }).unwrap();
+            let mut sends: Vec<_> = (0..).zip(&mut senders).map(|(n, it)| it.begin(n)).collect();
+            for number in (0..4).rev() {
+                assert_eq!(sends.pop().unwrap().unwrap().wait(), Ok(number));
+            }
+            let mut takes: Vec<_> = receivers.iter_mut().map(Receiver::begin).collect();
+            for number in (0..4).rev() {
+                let item = takes.pop().unwrap().wait().unwrap();
+                assert_eq!((item.place, item.body), (number, number));
+            }
+        });
+    }
+}
+
+/// A thread leaks its pass with a call begun: others of its side go on.
+#[test]
+fn a_pass_is_leaked_with_its_call() {
+    ends(|| {
+        let ([one, mut two], [first, mut second]) = two_and_two();
+        let (mut one, mut first) = (ManuallyDrop::new(one), ManuallyDrop::new(first));
+        forget(one.begin(1));
+        assert_eq!(two.try_send(2), Ok(1));
+        forget(first.begin());
+        assert_eq!(second.recv().unwrap().body, 2);
+        // Were they never dropped, their memory would be lost.
+        drop((
+            ManuallyDrop::into_inner(one),
+            ManuallyDrop::into_inner(first),
+        ));
     });
 }
 
@@ -240,8 +299,7 @@ fn guards_are_waited_for_elsewhere() {
     });
 }
 
-/// A sender is forgotten with a call begun: its side is stopped. A guard's drop comes back all the
-/// same, and so does a sender's.
+/// A sender is forgotten with a call begun: who waits on its side turns it, a guard's drop too.
 #[test]
 fn a_sender_is_forgotten_with_its_call() {
     ends(|| {
@@ -250,11 +308,10 @@ fn a_sender_is_forgotten_with_its_call() {
         forget(one.begin(1));
         drop(two.begin(2));
         drop(two);
-        // The receivers' side goes on.
+        assert_eq!(bodies(&mut receiver), [1, 2]);
         assert_eq!(receiver.try_recv(), Err(TryRecvError::Empty));
         // Were it never dropped, its memory would be lost, and nobody would close the queue.
         drop(ManuallyDrop::into_inner(one));
-        assert_eq!(bodies(&mut receiver), [1, 2]);
         assert_eq!(receiver.recv(), Err(RecvError { total: 2 }));
     });
 }

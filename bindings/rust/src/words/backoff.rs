@@ -47,12 +47,13 @@ impl Backoff {
     }
 }
 
-/// Does turns until one of them is answered.
+/// Does turns until one of them is answered. They are told whether it takes long: so that they turn the
+/// calls of others, too.
 #[inline]
-pub fn turn_until<T>(mut turn: impl FnMut() -> Option<T>) -> T {
+pub fn turn_until<T>(mut turn: impl FnMut(bool) -> Option<T>) -> T {
     let mut backoff = Backoff::new();
     loop {
-        if let Some(answer) = turn() {
+        if let Some(answer) = turn(backoff.round > SPINS) {
             return answer;
         }
         backoff.between_turns();
@@ -60,10 +61,10 @@ pub fn turn_until<T>(mut turn: impl FnMut() -> Option<T>) -> T {
 }
 
 /// Does turns for some rounds. Gives the answer where there is one by then.
-pub fn turn_shortly<T>(mut turn: impl FnMut() -> Option<T>) -> Option<T> {
+pub fn turn_shortly<T>(mut turn: impl FnMut(bool) -> Option<T>) -> Option<T> {
     let mut backoff = Backoff::new();
     for _ in 0..SPINS + YIELDS {
-        if let Some(answer) = turn() {
+        if let Some(answer) = turn(backoff.round > SPINS) {
             return Some(answer);
         }
         backoff.between_turns();

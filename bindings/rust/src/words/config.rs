@@ -1,5 +1,5 @@
 //! What a queue is opened with, and its opening.
-use crate::words::abandoned::Abandoned;
+use crate::words::begun::Begun;
 use crate::words::handle::{self, Handle, code, unexpected};
 use crate::words::{OpenError, Receiver, Sender};
 use std::sync::Arc;
@@ -48,15 +48,15 @@ impl Config {
     }
 }
 
-/// How many senders are left, and how many receivers of each group; and what those that are gone
-/// have left.
+/// How many senders are left, and how many receivers of each group; and the calls of both that were
+/// begun by guards.
 #[derive(Debug)]
 pub(crate) struct Left {
     pub senders: AtomicUsize,
     pub receivers: Box<[AtomicUsize]>,
-    pub senders_calls: Abandoned,
+    pub sends: Begun,
     /// By groups.
-    pub takes: Box<[Abandoned]>,
+    pub takes: Box<[Begun]>,
 }
 
 impl Left {
@@ -165,8 +165,8 @@ pub fn open_groups(
     let left = Arc::new(Left {
         senders: AtomicUsize::new(senders.len()),
         receivers: (0..groups).map(|_| AtomicUsize::new(in_each)).collect(),
-        senders_calls: Abandoned::default(),
-        takes: (0..groups).map(|_| Abandoned::default()).collect(),
+        sends: Begun::new(senders.len()),
+        takes: (0..groups).map(|_| Begun::new(in_each)).collect(),
     });
     let senders = (1..)
         .zip(senders)

@@ -17,7 +17,6 @@ pub mod code {
     pub const BAD_LIFE: u32 = 5;
     pub const BAD_PER_SENDER: u32 = 6;
     pub const NO_MEMORY: u32 = 7;
-    pub const BUSY: u32 = 11;
     pub const WORN: u32 = 13;
     pub const BEGUN: u32 = 14;
     pub const WAITING: u32 = 15;
@@ -244,17 +243,6 @@ impl Handle {
         })
     }
 
-    /// Whether no call is begun any more, after a turn of the one that was. An item that it got is
-    /// lost.
-    pub fn is_settled(&mut self) -> bool {
-        let codes = [
-            self.turn_send().code,
-            self.turn_close().code,
-            self.turn_take().code,
-        ];
-        !codes.contains(&code::WAITING)
-    }
-
     /// The code, and the group where that is DONE.
     pub fn group(&mut self) -> (u32, u32) {
         let mut group = 0;
@@ -328,6 +316,7 @@ mod tests {
             "BAD_HANDLES",
             "NO_PASS",
             "WRONG_SIDE",
+            "BUSY",
             "NOT_BEGUN",
             "BAD_VERSION",
         ] {
@@ -342,7 +331,6 @@ mod tests {
             ("BAD_LIFE", BAD_LIFE),
             ("BAD_PER_SENDER", BAD_PER_SENDER),
             ("NO_MEMORY", NO_MEMORY),
-            ("BUSY", BUSY),
             ("WORN", WORN),
             ("BEGUN", BEGUN),
             ("WAITING", WAITING),

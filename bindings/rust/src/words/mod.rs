@@ -1,7 +1,7 @@
 #![doc = include_str!("../../WORDS.md")]
 
-mod abandoned;
 pub(crate) mod backoff;
+mod begun;
 mod config;
 mod error;
 mod handle;

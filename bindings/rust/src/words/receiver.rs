@@ -1,7 +1,9 @@
 //! Receivers, and their pending calls.
 use crate::words::backoff::{Backoff, turn_shortly, turn_until};
+use crate::words::begun::{Answer, Begun, Kind};
 use crate::words::config::Left;
 use crate::words::handle::{Handle, Taken, code, unexpected};
+use crate::words::sender::another;
 use crate::words::{RecvError, TryRecvError, Turn};
 use std::fmt;
 use std::iter::FusedIterator;
@@ -37,6 +39,9 @@ pub struct Receiver {
     left: Arc<Left>,
     /// What a take got whose guard was dropped or forgotten. No call is begun where there is one.
     kept: Option<Item>,
+    /// Whether it has a call that was begun by a guard. The handle stands with it then, and this one is
+    /// empty.
+    stands: bool,
 }
 
 fn taken(taken: &Taken) -> Result<Item, TryRecvError> {
@@ -60,6 +65,7 @@ impl Receiver {
             group,
             left: left.clone(),
             kept: None,
+            stands: false,
         }
     }
 
@@ -121,8 +127,8 @@ impl Receiver {
             let first = told.take();
             let told = first.unwrap_or_else(|| self.handle.try_take());
             match told.code {
-                code::WAITING => return turn_until(|| self.turn_take()).0,
-                code::BUSY => self.settle(),
+                code::WAITING => return turn_until(|long| self.turn_take(long)),
+                _ if self.stands => self.settle(),
                 _ => return taken(&told),
             }
         }
@@ -172,10 +178,10 @@ impl Receiver {
     /// # Ok::<(), vahepito::OpenError>(())
     /// ```
     pub fn begin(&mut self) -> PendingRecv<'_> {
-        while self.kept.is_none() {
+        self.settle();
+        if self.kept.is_none() {
             match self.handle.begin_take() {
-                code::BEGUN => break,
-                code::BUSY => self.settle(),
+                code::BEGUN => self.stand(),
                 code => unexpected(code),
             }
         }
@@ -185,42 +191,75 @@ impl Receiver {
         }
     }
 
-    fn turn_take(&mut self) -> Option<(Result<Item, TryRecvError>, u32)> {
+    /// The calls of its group that were begun, and its place among them.
+    fn begun(&self) -> (&Begun, usize) {
+        let begun = &self.left.takes[self.group as usize - 1];
+        (begun, (self.number as usize - 1) % begun.places())
+    }
+
+    /// The call that was begun stands among them from here on, and the handle with it.
+    fn stand(&mut self) {
+        let handle = mem::replace(&mut self.handle, Handle::empty());
+        let (begun, place) = self.begun();
+        begun.stand(place, handle, Kind::Take);
+        self.stands = true;
+    }
+
+    /// One turn of a take that no guard has; where that waits, also of those that are gone, and of all
+    /// that were begun where it takes long.
+    fn turn_take(&mut self, long: bool) -> Option<Result<Item, TryRecvError>> {
+        let told = self.handle.turn_take();
+        if told.code == code::WAITING {
+            self.begun().0.turn_others(long);
+            return None;
+        }
+        Some(taken(&told))
+    }
+
+    /// The same of the call that was begun by a guard.
+    fn turn_begun(&mut self, long: bool) -> Option<Taken> {
+        let mut handle = Handle::empty();
+        let (begun, place) = self.begun();
+        match begun.turn(place, &mut handle) {
+            Some(Answer::Taken(told)) => {
+                self.handle = handle;
+                self.stands = false;
+                Some(told)
+            }
+            Some(_) => another(),
+            None => {
+                begun.turn_others(long);
+                None
+            }
+        }
+    }
+
+    /// One turn of a guard, which gives first what was kept.
+    fn turn_guard(&mut self, long: bool) -> Option<(Result<Item, TryRecvError>, u32)> {
         if let Some(item) = self.kept.take() {
             return Some((Ok(item), 0));
         }
-        let told = self.turn_handle()?;
+        let told = self.turn_begun(long)?;
         Some((taken(&told), told.served))
     }
 
-    /// What a turn told, unless its call waits. Then those that are gone get a turn.
-    fn turn_handle(&mut self) -> Option<Taken> {
-        let told = self.handle.turn_take();
-        if told.code == code::WAITING {
-            self.left.takes[self.group as usize - 1].turn();
-            return None;
-        }
-        Some(told)
-    }
-
-    /// One turn of a call whose guard was dropped or forgotten, if there is one: keeps what it got.
-    fn turn_to_keep(&mut self) -> Option<()> {
-        if self.kept.is_none() {
-            let told = self.turn_handle()?;
-            self.kept = (told.code == code::GOT).then_some(told.item);
-        }
+    /// One turn of a call whose guard was dropped or forgotten: keeps what it got.
+    fn turn_to_keep(&mut self, long: bool) -> Option<()> {
+        let told = self.turn_begun(long)?;
+        self.kept = (told.code == code::GOT).then_some(told.item);
         Some(())
     }
 
-    /// Goes on to the end of such a call.
-    #[cold]
+    /// Goes on to the end of such a call, if there is one.
     fn settle(&mut self) {
-        turn_until(|| self.turn_to_keep());
+        if self.stands {
+            turn_until(|long| self.turn_to_keep(long));
+        }
     }
 
     /// The same for some rounds. Tells whether no call is begun any more.
     fn settle_shortly(&mut self) -> bool {
-        turn_shortly(|| self.turn_to_keep()).is_some()
+        !self.stands || turn_shortly(|long| self.turn_to_keep(long)).is_some()
     }
 }
 
@@ -230,8 +269,8 @@ impl Drop for Receiver {
         let group = self.group as usize - 1;
         self.left.receivers[group].fetch_sub(1, Ordering::AcqRel);
         if !settled {
-            let handle = mem::replace(&mut self.handle, Handle::empty());
-            self.left.takes[group].leave(handle);
+            let (begun, place) = self.begun();
+            begun.leave(place);
         }
     }
 }
@@ -259,7 +298,7 @@ impl PendingRecv<'_> {
     /// One turn: looks once whether the answer is there, and serves the calls of its group's other
     /// receivers with its own where it is this call's part to do so. It never waits.
     pub fn turn(mut self) -> Turn<Self, Result<Item, TryRecvError>> {
-        match self.receiver.turn_take() {
+        match self.receiver.turn_guard(false) {
             None => Turn::Waiting(self),
             Some((answer, served)) => {
                 self.done = true;
@@ -270,7 +309,7 @@ impl PendingRecv<'_> {
 
     /// Turns until the answer, and spins or yields in between.
     pub fn wait(mut self) -> Result<Item, TryRecvError> {
-        let (answer, _) = turn_until(|| self.receiver.turn_take());
+        let (answer, _) = turn_until(|long| self.receiver.turn_guard(long));
         self.done = true;
         answer
     }

@@ -1,5 +1,6 @@
 //! Senders, and their pending calls.
 use crate::words::backoff::{Backoff, turn_shortly, turn_until};
+use crate::words::begun::{Answer, Kind};
 use crate::words::config::Left;
 use crate::words::handle::{Handle, Told, code, unexpected};
 use crate::words::{SendError, TrySendError, Turn, Worn};
@@ -19,6 +20,9 @@ pub struct Sender {
     handle: Handle,
     number: u32,
     left: Arc<Left>,
+    /// Whether it has a call that was begun by a guard. The handle stands with it then, and this one is
+    /// empty.
+    stands: bool,
 }
 
 /// What a close tells.
@@ -45,6 +49,12 @@ impl Closed {
     }
 }
 
+/// The answer of a call that isn't of this kind.
+#[cold]
+pub(crate) fn another() -> ! {
+    unreachable!("a call is answered as it was begun")
+}
+
 fn sent(told: &Told) -> Result<u64, TrySendError> {
     match told.code {
         code::ACCEPTED => Ok(told.number),
@@ -69,6 +79,7 @@ impl Sender {
             handle,
             number,
             left: left.clone(),
+            stands: false,
         }
     }
 
@@ -81,13 +92,11 @@ impl Sender {
     ///
     /// By `&mut`, since it first goes on to the end of a send or a close whose guard was forgotten.
     pub fn is_worn(&mut self) -> bool {
-        loop {
-            match self.handle.is_worn() {
-                code::FRESH => return false,
-                code::WORN => return true,
-                code::BUSY => self.settle(),
-                code => unexpected(code),
-            }
+        self.settle();
+        match self.handle.is_worn() {
+            code::FRESH => false,
+            code::WORN => true,
+            code => unexpected(code),
         }
     }
 
@@ -126,9 +135,9 @@ impl Sender {
     fn go_on_sending(&mut self, body: u64, mut told: Told) -> Result<u64, TrySendError> {
         loop {
             match told.code {
-                code::WAITING => return turn_until(|| self.turn_send()).0,
+                code::WAITING => return turn_until(|long| self.turn_send(long)),
                 code::WORN => return Err(TrySendError::Worn),
-                code::BUSY => self.settle(),
+                _ if self.stands => self.settle(),
                 _ => return sent(&told),
             }
             told = self.handle.try_send(body);
@@ -210,75 +219,88 @@ impl Sender {
     /// # Ok::<(), Box<dyn std::error::Error>>(())
     /// ```
     pub fn begin(&mut self, body: u64) -> Result<PendingSend<'_>, Worn> {
-        loop {
-            match self.handle.begin_send(body) {
-                code::BEGUN => {
-                    return Ok(PendingSend {
-                        sender: self,
-                        done: false,
-                    });
-                }
-                code::WORN => return Err(Worn),
-                code::BUSY => self.settle(),
-                code => unexpected(code),
-            }
+        self.settle();
+        match self.handle.begin_send(body) {
+            code::BEGUN => self.stand(Kind::Send),
+            code::WORN => return Err(Worn),
+            code => unexpected(code),
         }
+        Ok(PendingSend {
+            sender: self,
+            done: false,
+        })
     }
 
     /// Begins a close, and does nothing more, as [`begin`](Sender::begin) of a send.
     pub fn begin_close(&mut self) -> PendingClose<'_> {
-        loop {
-            match self.handle.begin_close() {
-                code::BEGUN => {
-                    return PendingClose {
-                        sender: self,
-                        done: false,
-                    };
-                }
-                code::BUSY => self.settle(),
-                code => unexpected(code),
-            }
+        self.settle();
+        match self.handle.begin_close() {
+            code::BEGUN => self.stand(Kind::Close),
+            code => unexpected(code),
+        }
+        PendingClose {
+            sender: self,
+            done: false,
         }
     }
 
-    /// The told of a turn, unless its call waits. Then those that are gone get a turn.
-    fn answered(&self, told: Told) -> Option<Told> {
+    /// Its place among the senders' calls that were begun.
+    fn place(&self) -> usize {
+        self.number as usize - 1
+    }
+
+    /// The call that was begun stands among them from here on, and the handle with it.
+    fn stand(&mut self, kind: Kind) {
+        let handle = mem::replace(&mut self.handle, Handle::empty());
+        self.left.sends.stand(self.place(), handle, kind);
+        self.stands = true;
+    }
+
+    /// One turn of a send that no guard has; where that waits, also of those that are gone, and of all
+    /// that were begun where it takes long.
+    fn turn_send(&mut self, long: bool) -> Option<Result<u64, TrySendError>> {
+        let told = self.handle.turn_send();
         if told.code == code::WAITING {
-            self.left.senders_calls.turn();
+            self.left.sends.turn_others(long);
             return None;
         }
-        Some(told)
+        Some(sent(&told))
     }
 
-    fn turn_send(&mut self) -> Option<(Result<u64, TrySendError>, u32)> {
-        let told = self.handle.turn_send();
-        let told = self.answered(told)?;
-        Some((sent(&told), told.served))
-    }
-
-    fn turn_close(&mut self) -> Option<(Closed, u32)> {
-        let told = self.handle.turn_close();
-        let told = self.answered(told)?;
-        Some((closed(&told), told.served))
-    }
-
-    fn turn_any(&mut self) -> Option<()> {
-        if self.handle.is_settled() {
-            return Some(());
+    /// The same of the call that was begun by a guard.
+    fn turn_begun(&mut self, long: bool) -> Option<Answer> {
+        let answer = self.left.sends.turn(self.place(), &mut self.handle);
+        match answer {
+            Some(_) => self.stands = false,
+            None => self.left.sends.turn_others(long),
         }
-        self.left.senders_calls.turn();
-        None
+        answer
     }
 
-    /// Goes on to the end of a call whose guard was dropped or forgotten.
-    #[cold]
+    fn turn_begun_send(&mut self, long: bool) -> Option<(Result<u64, TrySendError>, u32)> {
+        match self.turn_begun(long)? {
+            Answer::Sent(told) => Some((sent(&told), told.served)),
+            _ => another(),
+        }
+    }
+
+    fn turn_begun_close(&mut self, long: bool) -> Option<(Closed, u32)> {
+        match self.turn_begun(long)? {
+            Answer::Closed(told) => Some((closed(&told), told.served)),
+            _ => another(),
+        }
+    }
+
+    /// Goes on to the end of a call whose guard was dropped or forgotten, if there is one.
     fn settle(&mut self) {
-        turn_until(|| self.turn_any());
+        if self.stands {
+            turn_until(|long| self.turn_begun(long));
+        }
     }
 
     /// The same for some rounds. Tells whether no call is begun any more.
     fn settle_shortly(&mut self) -> bool {
-        turn_shortly(|| self.turn_any()).is_some()
+        !self.stands || turn_shortly(|long| self.turn_begun(long)).is_some()
     }
 }
 
@@ -289,8 +311,7 @@ impl Drop for Sender {
             // All others are gone: whatever this waits for is turned here.
             self.close();
         } else if !settled {
-            let handle = mem::replace(&mut self.handle, Handle::empty());
-            self.left.senders_calls.leave(handle);
+            self.left.sends.leave(self.place());
         }
     }
 }
@@ -315,7 +336,7 @@ impl PendingSend<'_> {
     /// One turn: looks once whether the answer is there, and serves the calls of other senders with
     /// its own where it is this call's part to do so. It never waits.
     pub fn turn(mut self) -> Turn<Self, Result<u64, TrySendError>> {
-        match self.sender.turn_send() {
+        match self.sender.turn_begun_send(false) {
             None => Turn::Waiting(self),
             Some((answer, served)) => {
                 self.done = true;
@@ -327,7 +348,7 @@ impl PendingSend<'_> {
     /// Turns until the answer, and spins or yields in between. The answer is as of
     /// [`Sender::try_send`], but never `Worn`.
     pub fn wait(mut self) -> Result<u64, TrySendError> {
-        let (answer, _) = turn_until(|| self.sender.turn_send());
+        let (answer, _) = turn_until(|long| self.sender.turn_begun_send(long));
         self.done = true;
         answer
     }
@@ -352,7 +373,7 @@ pub struct PendingClose<'a> {
 impl PendingClose<'_> {
     /// One turn, as of [`PendingSend::turn`].
     pub fn turn(mut self) -> Turn<Self, Closed> {
-        match self.sender.turn_close() {
+        match self.sender.turn_begun_close(false) {
             None => Turn::Waiting(self),
             Some((answer, served)) => {
                 self.done = true;
@@ -363,7 +384,7 @@ impl PendingClose<'_> {
 
     /// Turns until the answer, and spins or yields in between.
     pub fn wait(mut self) -> Closed {
-        let (answer, _) = turn_until(|| self.sender.turn_close());
+        let (answer, _) = turn_until(|long| self.sender.turn_begun_close(long));
         self.done = true;
         answer
     }
