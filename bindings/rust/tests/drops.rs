@@ -59,7 +59,8 @@ fn an_item_is_kept_though_its_guard_is_dropped() {
     assert_eq!(first.try_recv(), Err(TryRecvError::Empty));
 }
 
-/// A guard that was forgotten holds up guards that are only turned, until its pass is used again or dropped.
+/// A guard that was forgotten holds up one that is turned a few times, until its pass is used again or
+/// dropped.
 #[test]
 fn a_forgotten_guard_goes_on_with_the_next_call() {
     let ([mut one, mut two], [mut first, mut second]) = two_and_two();

@@ -108,7 +108,8 @@ fn guards_in_a_list() {
     });
 }
 
-/// What is held and not turned holds up guards that are only turned, and goes on where it is turned.
+/// What is held and not turned holds up a guard that is turned a few times, and goes on where it is
+/// turned.
 #[test]
 fn a_guard_that_is_held() {
     ends(|| {
@@ -145,6 +146,23 @@ fn a_guard_is_held_while_another_calls() {
         drop(held);
         let _held = first.begin();
         assert_eq!(second.recv(), Err(RecvError { total: 4 }));
+    });
+}
+
+/// A guard is held beside a loop of turns, which after some thousands turns its call, too.
+#[test]
+fn a_guard_is_held_while_another_is_turned() {
+    ends(|| {
+        let ([mut one, mut two], _receivers) = two_and_two();
+        let held = one.begin(1).unwrap();
+        let mut turned = two.begin(2).unwrap();
+        let answer = loop {
+            match turned.turn() {
+                Turn::Done { answer, .. } => break answer,
+                Turn::Waiting(again) => turned = again,
+            }
+        };
+        assert_eq!((answer, held.wait()), (Ok(1), Ok(0)));
     });
 }
 

@@ -6,6 +6,8 @@ use std::time::Duration;
 const SPINS: u32 = 7;
 /// So many rounds more give the processor to another thread.
 const YIELDS: u32 = 256;
+/// So many turns of a guard leave the calls of others alone.
+const TURNS: u32 = 4096;
 /// How long a round sleeps then: at first, and at most.
 const SLEEPS: (Duration, Duration) = (Duration::from_micros(50), Duration::from_millis(1));
 
@@ -70,4 +72,10 @@ pub fn turn_shortly<T>(mut turn: impl FnMut(bool) -> Option<T>) -> Option<T> {
         backoff.between_turns();
     }
     None
+}
+
+/// Counts one turn of a guard. Tells whether there were so many that it turns the calls of others, too.
+pub fn takes_long(turns: &mut u32) -> bool {
+    *turns = turns.saturating_add(1);
+    *turns > TURNS
 }

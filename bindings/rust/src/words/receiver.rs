@@ -1,5 +1,5 @@
 //! Receivers, and their pending calls.
-use crate::words::backoff::{Backoff, turn_shortly, turn_until};
+use crate::words::backoff::{Backoff, takes_long, turn_shortly, turn_until};
 use crate::words::begun::{Answer, Begun, Kind};
 use crate::words::config::Left;
 use crate::words::handle::{Handle, Taken, code, unexpected};
@@ -188,6 +188,7 @@ impl Receiver {
         PendingRecv {
             receiver: self,
             done: false,
+            waited: 0,
         }
     }
 
@@ -292,13 +293,15 @@ impl fmt::Debug for Receiver {
 pub struct PendingRecv<'a> {
     receiver: &'a mut Receiver,
     done: bool,
+    /// How many of its turns told that it waits.
+    waited: u32,
 }
 
 impl PendingRecv<'_> {
     /// One turn: looks once whether the answer is there, and serves the calls of its group's other
     /// receivers with its own where it is this call's part to do so. It never waits.
     pub fn turn(mut self) -> Turn<Self, Result<Item, TryRecvError>> {
-        match self.receiver.turn_guard(false) {
+        match self.receiver.turn_guard(takes_long(&mut self.waited)) {
             None => Turn::Waiting(self),
             Some((answer, served)) => {
                 self.done = true;

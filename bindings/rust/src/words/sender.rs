@@ -1,5 +1,5 @@
 //! Senders, and their pending calls.
-use crate::words::backoff::{Backoff, turn_shortly, turn_until};
+use crate::words::backoff::{Backoff, takes_long, turn_shortly, turn_until};
 use crate::words::begun::{Answer, Kind};
 use crate::words::config::Left;
 use crate::words::handle::{Handle, Told, code, unexpected};
@@ -228,6 +228,7 @@ impl Sender {
         Ok(PendingSend {
             sender: self,
             done: false,
+            waited: 0,
         })
     }
 
@@ -241,6 +242,7 @@ impl Sender {
         PendingClose {
             sender: self,
             done: false,
+            waited: 0,
         }
     }
 
@@ -330,13 +332,15 @@ impl fmt::Debug for Sender {
 pub struct PendingSend<'a> {
     sender: &'a mut Sender,
     done: bool,
+    /// How many of its turns told that it waits.
+    waited: u32,
 }
 
 impl PendingSend<'_> {
     /// One turn: looks once whether the answer is there, and serves the calls of other senders with
     /// its own where it is this call's part to do so. It never waits.
     pub fn turn(mut self) -> Turn<Self, Result<u64, TrySendError>> {
-        match self.sender.turn_begun_send(false) {
+        match self.sender.turn_begun_send(takes_long(&mut self.waited)) {
             None => Turn::Waiting(self),
             Some((answer, served)) => {
                 self.done = true;
@@ -368,12 +372,14 @@ impl Drop for PendingSend<'_> {
 pub struct PendingClose<'a> {
     sender: &'a mut Sender,
     done: bool,
+    /// How many of its turns told that it waits.
+    waited: u32,
 }
 
 impl PendingClose<'_> {
     /// One turn, as of [`PendingSend::turn`].
     pub fn turn(mut self) -> Turn<Self, Closed> {
-        match self.sender.turn_begun_close(false) {
+        match self.sender.turn_begun_close(takes_long(&mut self.waited)) {
             None => Turn::Waiting(self),
             Some((answer, served)) => {
                 self.done = true;
