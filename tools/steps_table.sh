@@ -14,7 +14,7 @@ specs=crates/cc_runs/specs
 # One file's lines as rows, and its functions. A line is `line ARGUMENTS PLACE FOUND = VERB KIND WORD ..`.
 table_of() {
     printf '\n### %s\n\n| where it stands | kind | what it does | where it leads |\n|---|---|---|---|\n' "$2"
-    sed -E 's/\b(place|kind|node|item|object|answer|send|close|take|counting|sending|taking)\.([A-Z])/\2/g' "$specs/$1.antt" | awk '
+    sed -E 's/\b[A-Z][A-Za-z]*\.([A-Z])/\1/g' "$specs/$1.antt" | awk '
         # What stands between the outermost brackets, if a word has them.
         function bare(s) { return s ~ /^\(.*\)$/ ? substr(s, 2, length(s) - 2) : s }
         function code(s) { return "`" bare(s) "`" }

@@ -5,10 +5,8 @@ use Rattle.std.proofs.lemmas.Bool.{eqb-true}
 use Rattle.std.proofs.lemmas.List.{get_or-map, get_or_default, length-map}
 use Rattle.std.proofs.lemmas.Option.{slice_get-get_or}
 use Rattle.cc_model.specs.Items.{IsFront}
-use Rattle.cc_model.specs.declared.call.Item.{Item}
+use Rattle.cc_audit.specs.Names.{Item, SendReceipt, TakeReceipt}
 use Rattle.cc_model.proofs.Grows.{get_front}
-use Rattle.cc_audit.specs.declared.receipt.SendReceipt.{SendReceipt}
-use Rattle.cc_audit.specs.declared.receipt.TakeReceipt.{TakeReceipt}
 use Rattle.cc_audit.specs.Receipts.{send_receipt}
 use Rattle.cc_audit.specs.Verdict.{HasNoFault, double_accept, double_take, stranger, altered, gap, disorder, overrun, SendNames, TakeNames, Differs, DoubleAccept, DoubleTake, Stranger, Altered, Gap, Disorder, Overrun}
 use Rattle.cc_audit.proofs.Counts.{Two, two_of_count}

@@ -1,10 +1,7 @@
 -- No receipts are left where the calls or the answers have come to an end.
 use Rattle.std.proofs.Common.{◌≡◌, ◌⊎◌, inl, inr, List, [], ◌∷◌, ◌++◌, map, refl, sym, ap, ◌∙◌, append-nil}
 use Rattle.cc_model.specs.Items.{accepted_by}
-use Rattle.cc_model.specs.declared.call.Entry.{Entry}
-use Rattle.cc_model.specs.declared.call.Answer.{Answer}
-use Rattle.cc_audit.specs.declared.receipt.SendReceipt.{SendReceipt}
-use Rattle.cc_audit.specs.declared.receipt.TakeReceipt.{TakeReceipt}
+use Rattle.cc_audit.specs.Names.{Entry, Answer, SendReceipt, TakeReceipt}
 use Rattle.cc_audit.specs.Receipts.{send_receipt, takes_by}
 
 none_to_accept : (calls : List Entry) (answers : List Answer) → (calls ≡ []) ⊎ (answers ≡ []) → accepted_by calls answers ≡ []

@@ -1,9 +1,6 @@
 -- The verdict, kind by kind.
 use Rattle.std.proofs.Common.{◌≡◌, ℕ, zero, suc, ◌+◌, ◌<◌, ◌≤◌, inl, inr, List, Bool, true, false, cond, Option, Some, None, nat_lt, refl, sym, subst, arith}
-use Rattle.cc_audit.specs.declared.receipt.SendReceipt.{SendReceipt}
-use Rattle.cc_audit.specs.declared.receipt.TakeReceipt.{TakeReceipt}
-use Rattle.cc_audit.specs.declared.receipt.Verdict.{Verdict}
-use Rattle.cc_audit.specs.declared.receipt.Verdict.TheVariants.{Clean, Fault}
+use Rattle.cc_audit.specs.Names.{SendReceipt, TakeReceipt, Verdict}
 use Rattle.std.proofs.lemmas.Bool.{cases_lt, ltb-true, ltb-false}
 use Rattle.cc_audit.specs.Least.{IsLeastUnless, or_fault_of}
 use Rattle.cc_audit.specs.Verdict.{Holds, double_accept, double_take, stranger, altered, gap, disorder, overrun, DoubleAccept, DoubleTake, Stranger, Altered, Gap, Disorder, Overrun, IsVerdict}
@@ -57,10 +54,10 @@ module _ (sends : List SendReceipt) (takes : List TakeReceipt) (total : Option �
     pub kinds : (k : ℕ) → k < kind → Holds sends takes total k p → ⊥
 
   abbrev pub UpTo : ℕ → Verdict → Type 0
-  UpTo n Clean = (k q : ℕ) → k ≤ n → Holds sends takes total k q → ⊥
-  UpTo n (Fault kind p) = First n kind p
+  UpTo n Verdict.Clean = (k q : ℕ) → k ≤ n → Holds sends takes total k q → ⊥
+  UpTo n (Verdict.Fault kind p) = First n kind p
 
-  pub none_yet : UpTo 0 Clean
+  pub none_yet : UpTo 0 Verdict.Clean
   none_yet k q l h = absurd (omega (arith, (kind_bounds h).0))
 
   -- no lesser kind holds where none of the first n does
@@ -93,12 +90,12 @@ module _ (sends : List SendReceipt) (takes : List TakeReceipt) (total : Option �
   }
 
   next_kind : (n : ℕ) (v : Verdict) (r : Option ℕ) → UpTo n v → Finds (n + 1) r → UpTo (n + 1) (or_fault_of v (n + 1) r)
-  next_kind n Clean None upto find = λ k q. one_more n q (λ j l. upto j q l) (find q) k
-  next_kind n (Fault kind p) None upto find = old_fault n kind p upto (λ q below. find q)
-  next_kind n Clean (Some m) upto find = new_fault n m (λ k q l le. upto k q l) find
-  next_kind n (Fault kind p) (Some m) upto find = by_test (nat_lt m p) (λ t. ltb-true m p t) (λ t. ltb-false m p t)
+  next_kind n Verdict.Clean None upto find = λ k q. one_more n q (λ j l. upto j q l) (find q) k
+  next_kind n (Verdict.Fault kind p) None upto find = old_fault n kind p upto (λ q below. find q)
+  next_kind n Verdict.Clean (Some m) upto find = new_fault n m (λ k q l le. upto k q l) find
+  next_kind n (Verdict.Fault kind p) (Some m) upto find = by_test (nat_lt m p) (λ t. ltb-true m p t) (λ t. ltb-false m p t)
     where
-      by_test : (b : Bool) → (b ≡ true → m < p) → (b ≡ false → p ≤ m) → UpTo (n + 1) (cond b (Fault (n + 1) m) (Fault kind p))
+      by_test : (b : Bool) → (b ≡ true → m < p) → (b ≡ false → p ≤ m) → UpTo (n + 1) (cond b (Verdict.Fault (n + 1) m) (Verdict.Fault kind p))
       by_test true under over = new_fault n m (λ k q l le. upto.places k q l (omega (arith, under refl))) find
       by_test false under over = old_fault n kind p upto (λ q below. find.1 q (omega (arith, over refl)))
 
@@ -107,8 +104,8 @@ module _ (sends : List SendReceipt) (takes : List TakeReceipt) (total : Option �
   joined n v w r is upto find = subst (UpTo (n + 1)) (sym is) (next_kind n v r upto find)
 
   pub all_kinds : (v : Verdict) → UpTo 7 v → IsVerdict sends takes total v
-  all_kinds Clean upto = λ k p h. upto k p (kind_bounds h).1 h
-  all_kinds (Fault kind p) upto = record {
+  all_kinds Verdict.Clean upto = λ k p h. upto k p (kind_bounds h).1 h
+  all_kinds (Verdict.Fault kind p) upto = record {
     holds = upto.holds;
     least_place = λ k q below h. upto.places k q (kind_bounds h).1 below h;
     least_kind = upto.kinds;

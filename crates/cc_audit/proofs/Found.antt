@@ -1,7 +1,6 @@
 -- What each search over copies of the receipts finds.
 use Rattle.std.proofs.Common.{◌≡◌, ℕ, ◌<◌, ◌≤◌, ◌==◌, ◌⊎◌, inl, inr, List, map, Option, Some, None, Contains, Any, IsSomeAnd, IsPermutation, refl, sym, subst, arith}
-use Rattle.cc_audit.specs.declared.receipt.SendReceipt.{SendReceipt}
-use Rattle.cc_audit.specs.declared.receipt.TakeReceipt.{TakeReceipt}
+use Rattle.cc_audit.specs.Names.{SendReceipt, TakeReceipt}
 use Rattle.cc_audit.specs.Least.{IsLeast, IsLeastUnless}
 use Rattle.cc_audit.specs.Verdict.{Holds, double_accept, double_take, stranger, altered, gap, disorder, overrun, SendNames, TakeNames, Differs, DoubleAccept, Altered, Disorder}
 use Rattle.cc_audit.proofs.InOrder.{TwiceIn, Unsent, LeftOut}

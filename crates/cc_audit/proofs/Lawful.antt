@@ -6,33 +6,21 @@ use Rattle.cc_model.specs.Record.{Record, of_group}
 use Rattle.cc_model.specs.Items.{IsFront, accepted, accepted_by, accepted_item, handed_by, handed_item, of_sender}
 use Rattle.cc_model.specs.Legal.{Legal, LegalTakes, EAnswer, EAnswers, DAnswer, DAnswers, IsReceivers}
 use Rattle.cc_model.specs.Fifo.{RisesFrom}
-use Rattle.cc_model.specs.declared.config.Config.{Config}
-use Rattle.cc_model.specs.declared.call.Pass.{Pass}
-use Rattle.cc_model.specs.declared.call.Pass.TheVariants as pass
-use Rattle.cc_model.specs.declared.call.Call.{Call}
-use Rattle.cc_model.specs.declared.call.Call.TheVariants as call
-use Rattle.cc_model.specs.declared.call.Item.{Item}
-use Rattle.cc_model.specs.declared.call.Entry.{Entry}
-use Rattle.cc_model.specs.declared.call.Answer.{Answer}
-use Rattle.cc_model.specs.declared.call.Answer.TheVariants as answer
-use Rattle.cc_model.specs.declared.call.SendAnswer.TheVariants as send
-use Rattle.cc_model.specs.declared.call.CloseAnswer.TheVariants as close
-use Rattle.cc_model.specs.declared.call.TakeAnswer.TheVariants as take
+use Rattle.cc_audit.specs.Names.{Config, Pass, Call, Item, Entry, Answer, SendAnswer, CloseAnswer, TakeAnswer, TakeReceipt}
 use Rattle.cc_model.proofs.Fronts.{map-append}
 use Rattle.cc_model.proofs.Grows.{accepted_places}
 use Rattle.cc_model.proofs.InOrder.{handed_front, accepted_rise}
-use Rattle.cc_audit.specs.declared.receipt.TakeReceipt.{TakeReceipt}
 use Rattle.cc_audit.specs.Receipts.{take_receipt, takes_by, takes_of, total_by, total_of}
 use Rattle.cc_audit.proofs.Clean.{Fair}
 
 -- ---- the items on the take receipts are those handed out
 
 item_taken : (cfg : Config) (g : ℕ) (items : List Item) (shut : Bool) (n known : ℕ) (p : Pass) (k : Call) (a : Answer) → IsReceivers cfg g p k → DAnswer items shut n known a → map (λ (t : TakeReceipt). t.item) (take_receipt p a) ≡ handed_item a
-item_taken cfg g items shut n known (pass.Sender s) k a is h = absurd is
-item_taken cfg g items shut n known (pass.Receiver r) k (answer.Take (take.Got item)) is h = refl
-item_taken cfg g items shut n known (pass.Receiver r) k (answer.Take take.Empty) is h = refl
-item_taken cfg g items shut n known (pass.Receiver r) k (answer.Take (take.Ended total)) is h = refl
-item_taken cfg g items shut n known (pass.Receiver r) k _ is h = absurd h
+item_taken cfg g items shut n known (Pass.Sender s) k a is h = absurd is
+item_taken cfg g items shut n known (Pass.Receiver r) k (Answer.Take (TakeAnswer.Got item)) is h = refl
+item_taken cfg g items shut n known (Pass.Receiver r) k (Answer.Take TakeAnswer.Empty) is h = refl
+item_taken cfg g items shut n known (Pass.Receiver r) k (Answer.Take (TakeAnswer.Ended total)) is h = refl
+item_taken cfg g items shut n known (Pass.Receiver r) k _ is h = absurd h
 
 items_taken : (cfg : Config) (g : ℕ) (items : List Item) (shut : Bool) (n : ℕ) (calls : List Entry) (answers : List Answer) → DAnswers items shut n calls answers → AllByRecursion (λ c. IsReceivers cfg g c.pass c.call) calls
     → map (λ (t : TakeReceipt). t.item) (takes_by calls answers) ≡ handed_by answers
@@ -83,13 +71,13 @@ apart s low (z ∷ items) i j x y up lt is_x is_y own_x own_y =
 
 -- ---- the total is all that was accepted
 
-no_accept : (cfg : Config) (n known place : ℕ) (k : Call) → EAnswer cfg n true known k (answer.Send (send.Accepted place)) → ⊥
-no_accept cfg n known place (call.Send body) h = h
-no_accept cfg n known place call.Close h = h
-no_accept cfg n known place call.Take h = h
+no_accept : (cfg : Config) (n known place : ℕ) (k : Call) → EAnswer cfg n true known k (Answer.Send (SendAnswer.Accepted place)) → ⊥
+no_accept cfg n known place (Call.Send body) h = h
+no_accept cfg n known place Call.Close h = h
+no_accept cfg n known place Call.Take h = h
 
 none_accepted : (cfg : Config) (n known : ℕ) (c : Entry) (a : Answer) → EAnswer cfg n true known c.call a → accepted_item c a ≡ []
-none_accepted cfg n known c (answer.Send (send.Accepted place)) h = absurd (no_accept cfg n known place c.call h)
+none_accepted cfg n known c (Answer.Send (SendAnswer.Accepted place)) h = absurd (no_accept cfg n known place c.call h)
 none_accepted cfg n known c _ h = refl
 
 -- nothing is accepted after a close
@@ -99,21 +87,21 @@ closed cfg n (c ∷ calls) [] h = refl
 closed cfg n [] (a ∷ answers) h = absurd h
 closed cfg n (c ∷ calls) (a ∷ answers) h = ap (λ (l : List Item). l ++ accepted_by calls answers) (none_accepted cfg n c.known c a h.0) ∙ closed cfg (n + length (accepted_item c a)) calls answers h.1
 
-total_told : (cfg : Config) (n known total : ℕ) (k : Call) → EAnswer cfg n false known k (answer.Close (close.Shut total)) → total ≡ n
-total_told cfg n known total (call.Send body) h = absurd h
-total_told cfg n known total call.Close h = h
-total_told cfg n known total call.Take h = absurd h
+total_told : (cfg : Config) (n known total : ℕ) (k : Call) → EAnswer cfg n false known k (Answer.Close (CloseAnswer.Shut total)) → total ≡ n
+total_told cfg n known total (Call.Send body) h = absurd h
+total_told cfg n known total Call.Close h = h
+total_told cfg n known total Call.Take h = absurd h
 
 total_is : (cfg : Config) (n : ℕ) (calls : List Entry) (answers : List Answer) (t : ℕ) → EAnswers cfg n false calls answers → total_by answers ≡ Some t → t ≡ n + length (accepted_by calls answers)
 total_is cfg n calls [] t h is = cc
 total_is cfg n [] (a ∷ answers) t h is = absurd h
-total_is cfg n (c ∷ calls) (answer.Close (close.Shut total) ∷ answers) t h is =
+total_is cfg n (c ∷ calls) (Answer.Close (CloseAnswer.Shut total) ∷ answers) t h is =
     let same : total ≡ t = cc in
     omega (arith, total_told cfg n c.known total c.call h.0, ap length (closed cfg (n + 0) calls answers h.1))
-total_is cfg n (c ∷ calls) (answer.Close (close.Already total) ∷ answers) t h is = omega (arith, total_is cfg (n + 0) calls answers t h.1 is)
-total_is cfg n (c ∷ calls) (answer.Send x ∷ answers) t h is =
-    omega (arith, total_is cfg (n + length (accepted_item c (answer.Send x))) calls answers t h.1 is, length-append (accepted_item c (answer.Send x)) (accepted_by calls answers))
-total_is cfg n (c ∷ calls) (answer.Take x ∷ answers) t h is = omega (arith, total_is cfg (n + 0) calls answers t h.1 is)
+total_is cfg n (c ∷ calls) (Answer.Close (CloseAnswer.Already total) ∷ answers) t h is = omega (arith, total_is cfg (n + 0) calls answers t h.1 is)
+total_is cfg n (c ∷ calls) (Answer.Send x ∷ answers) t h is =
+    omega (arith, total_is cfg (n + length (accepted_item c (Answer.Send x))) calls answers t h.1 is, length-append (accepted_item c (Answer.Send x)) (accepted_by calls answers))
+total_is cfg n (c ∷ calls) (Answer.Take x ∷ answers) t h is = omega (arith, total_is cfg (n + 0) calls answers t h.1 is)
 
 pub fair_of : (cfg : Config) (h : Record) (g : ℕ) → g < cfg.groups → Legal cfg h → Fair (accepted h) (takes_of h g) (total_of h)
 fair_of cfg h g inside legal =

@@ -1,10 +1,7 @@
 -- The same receipts have one verdict.
 use Rattle.std.proofs.Common.{◌≡◌, ℕ, inl, inr, List, Option, refl, sym, ap, ◌∙◌}
 use Rattle.std.proofs.lemmas.Bool.{cases_order}
-use Rattle.cc_audit.specs.declared.receipt.SendReceipt.{SendReceipt}
-use Rattle.cc_audit.specs.declared.receipt.TakeReceipt.{TakeReceipt}
-use Rattle.cc_audit.specs.declared.receipt.Verdict.{Verdict}
-use Rattle.cc_audit.specs.declared.receipt.Verdict.TheVariants.{Clean, Fault}
+use Rattle.cc_audit.specs.Names.{SendReceipt, TakeReceipt, Verdict}
 use Rattle.cc_audit.specs.Verdict.{IsVerdict, IsFirstFault}
 
 -- the least place is the lesser fault's
@@ -21,9 +18,9 @@ same_kind {sends} {takes} {total} {k} {p} {j} {q} same f g = elim (cases_order k
 ]
 
 pub same : (sends : List SendReceipt) (takes : List TakeReceipt) (total : Option ℕ) (v w : Verdict) → IsVerdict sends takes total v → IsVerdict sends takes total w → v ≡ w
-same sends takes total Clean Clean f g = refl
-same sends takes total Clean (Fault j q) f g = absurd (f j q g.holds)
-same sends takes total (Fault k p) Clean f g = absurd (g k p f.holds)
-same sends takes total (Fault k p) (Fault j q) f g =
+same sends takes total Verdict.Clean Verdict.Clean f g = refl
+same sends takes total Verdict.Clean (Verdict.Fault j q) f g = absurd (f j q g.holds)
+same sends takes total (Verdict.Fault k p) Verdict.Clean f g = absurd (g k p f.holds)
+same sends takes total (Verdict.Fault k p) (Verdict.Fault j q) f g =
     let place : p ≡ q = same_place f g in
-    ap (λ (n : ℕ). Fault n p) (same_kind place f g) ∙ ap (λ (n : ℕ). Fault j n) place
+    ap (λ (n : ℕ). Verdict.Fault n p) (same_kind place f g) ∙ ap (λ (n : ℕ). Verdict.Fault j n) place

@@ -1,10 +1,7 @@
 -- The verdict on the same receipts in another order.
 use Rattle.std.proofs.Common.{◌≡◌, ℕ, ◌<◌, ◌≤◌, ◌==◌, inl, inr, List, Option, IsPermutation, sym, subst}
 use Rattle.std.proofs.lemmas.List.Sorted.{IsPermutation-sym}
-use Rattle.cc_audit.specs.declared.receipt.SendReceipt.{SendReceipt}
-use Rattle.cc_audit.specs.declared.receipt.TakeReceipt.{TakeReceipt}
-use Rattle.cc_audit.specs.declared.receipt.Verdict.{Verdict}
-use Rattle.cc_audit.specs.declared.receipt.Verdict.TheVariants.{Clean, Fault}
+use Rattle.cc_audit.specs.Names.{SendReceipt, TakeReceipt, Verdict}
 use Rattle.cc_audit.specs.Verdict.{Holds, double_accept, double_take, stranger, altered, gap, disorder, overrun, SendNames, TakeNames, Differs, IsVerdict}
 use Rattle.cc_audit.proofs.Copies.{any_permuted, any_back, any_weaker, count_permuted}
 
@@ -25,9 +22,9 @@ holds_again {sends} {sends'} {takes} {takes'} {total} {kind} {p} same also (over
     overrun is (h.0, elim h.1 [ inl names ↦ inl (any_permuted (SendNames p) sends sends' same names) | inr names ↦ inr (any_permuted (TakeNames p) takes takes' also names) ])
 
 pub same_verdict : (sends sends' : List SendReceipt) (takes takes' : List TakeReceipt) (total : Option ℕ) (v : Verdict) → IsPermutation sends sends' → IsPermutation takes takes' → IsVerdict sends takes total v → IsVerdict sends' takes' total v
-same_verdict sends sends' takes takes' total Clean same also clean =
+same_verdict sends sends' takes takes' total Verdict.Clean same also clean =
     λ kind p h. clean kind p (holds_again (IsPermutation-sym sends sends' same) (IsPermutation-sym takes takes' also) h)
-same_verdict sends sends' takes takes' total (Fault kind p) same also fault =
+same_verdict sends sends' takes takes' total (Verdict.Fault kind p) same also fault =
     let back : IsPermutation sends' sends = IsPermutation-sym sends sends' same in
     let back_also : IsPermutation takes' takes = IsPermutation-sym takes takes' also in
     record {

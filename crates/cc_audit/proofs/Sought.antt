@@ -1,15 +1,13 @@
 -- What a search for a place among send receipts in the order of their places tells.
 use Rattle.std.proofs.Common.{◌≡◌, ℕ, ◌+◌, ◌<◌, ◌≤◌, ◌==◌, ◌⊎◌, inl, inr, List, length, Option, Some, None, Ok, Err, get_or, Any, IfSome, refl, sym, ap, ◌∙◌, subst, arith, eq-eqb}
 use Rattle.std.specs.Ordering.{nat_cmp}
-use Rattle.std.specs.declared.cmp.Ordering.TheVariants.{Less, Equal, Greater}
+use Rattle.std.specs.declared.cmp.Ordering.{Ordering}
 use Rattle.std.specs.List.Sorted.{IsBinarySearchResult, IsSortedByKey}
 use Rattle.std.proofs.lemmas.Bool.{cases_lt, cases_order}
 use Rattle.std.proofs.lemmas.Cmp.{ranked, nat_cmp_total}
 use Rattle.std.proofs.lemmas.List.{get_or_default}
 use Rattle.std.proofs.lemmas.List.Sorted.{searchable_from_sorted}
-use Rattle.cc_model.specs.declared.call.Item.{Item}
-use Rattle.cc_audit.specs.declared.receipt.SendReceipt.{SendReceipt}
-use Rattle.cc_audit.specs.declared.receipt.TakeReceipt.{TakeReceipt}
+use Rattle.cc_audit.specs.Names.{Item, SendReceipt, TakeReceipt}
 use Rattle.cc_audit.specs.Least.{IsLeastUnless, sooner_of}
 use Rattle.cc_audit.specs.Verdict.{SendNames, Differs, Altered, DoubleAccept}
 use Rattle.cc_audit.proofs.Counts.{count_of_two}
@@ -30,7 +28,7 @@ doubled sends p a b d apart l m at_a at_b = elim (cases_order a b) [
 ]
 
 pub hit_place : (sends : List SendReceipt) (p i : ℕ) (d : SendReceipt) → IsBinarySearchResult (λ s. nat_cmp s.place p) sends (Ok i) → (get_or sends i d).place ≡ p
-hit_place sends p i d found = ranked (get_or sends i d).place p Equal (sym (found d))
+hit_place sends p i d found = ranked (get_or sends i d).place p Ordering.Equal (sym (found d))
 
 pub hit_altered : (sends : List SendReceipt) (x : Item) (i : ℕ) (d : SendReceipt) → i < length sends → IsBinarySearchResult (λ s. nat_cmp s.place x.place) sends (Ok i) → Differs (get_or sends i d) x → AlteredBy sends x
 hit_altered sends x i d l found differ = (i, get_or sends i d, l, get_or_default sends i _ d l, (hit_place sends x.place i d found, differ))
@@ -51,8 +49,8 @@ miss sends x i up found other =
     let round = found (searchable_from_sorted nat_cmp_total (λ (r : SendReceipt). r.place) sends x.place up) in
     let names : (get_or sends other.0 s).place ≡ x.place = ap (λ (r : SendReceipt). r.place) other.3 ∙ other.4.0 in
     elim (cases_lt other.0 i) [
-      | inl below ↦ (let less : (get_or sends other.0 s).place < x.place = ranked _ x.place Less (sym (round.0 other.0 s (omega arith) below)) in absurd (omega arith))
-      | inr past ↦ (let more : x.place < (get_or sends other.0 s).place = ranked _ x.place Greater (sym (round.1 other.0 s past other.2)) in absurd (omega arith))
+      | inl below ↦ (let less : (get_or sends other.0 s).place < x.place = ranked _ x.place Ordering.Less (sym (round.0 other.0 s (omega arith) below)) in absurd (omega arith))
+      | inr past ↦ (let more : x.place < (get_or sends other.0 s).place = ranked _ x.place Ordering.Greater (sym (round.1 other.0 s past other.2)) in absurd (omega arith))
     ]
 
 -- ---- over the take receipts

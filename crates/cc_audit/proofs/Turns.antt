@@ -3,7 +3,7 @@ use Rattle.std.proofs.Common.{◌≡◌, ℕ, zero, suc, ◌+◌, ◌-◌, ◌<�
 use Rattle.std.specs.List.Sorted.{IsNonDecreasingBy}
 use Rattle.std.proofs.lemmas.Bool.{cases_lt}
 use Rattle.std.proofs.lemmas.List.{get_or_default}
-use Rattle.cc_audit.specs.declared.receipt.SendReceipt.{SendReceipt}
+use Rattle.cc_audit.specs.Names.{SendReceipt}
 use Rattle.cc_audit.specs.Least.{IsLeastUnless, RisesInSenders, sooner_of}
 use Rattle.cc_audit.specs.Verdict.{Disorder, DoubleAccept}
 use Rattle.cc_audit.proofs.Counts.{count_of_two}

@@ -1,8 +1,6 @@
 -- The least place at which a fact holds.
 use Rattle.std.specs.Prelude.{◌≡◌, ℕ, ◌+◌, ◌<◌, ◌≤◌, ◌⊎◌, List, length, slice_index_or, Option, Some, None, nat_lt, if◌then◌else◌}
-use Rattle.cc_audit.specs.declared.receipt.SendReceipt.{SendReceipt}
-use Rattle.cc_audit.specs.declared.receipt.Verdict.{Verdict}
-use Rattle.cc_audit.specs.declared.receipt.Verdict.TheVariants.{Clean, Fault}
+use Rattle.cc_audit.specs.Names.{SendReceipt, Verdict}
 
 -- the least place at which P holds, or None where it holds nowhere
 abbrev pub IsLeast : (ℕ → Type 0) → Option ℕ → Type 0
@@ -23,8 +21,8 @@ sooner_of (Some x) (Some y) = Some (if nat_lt y x then y else x)
 -- a fault of a further kind, if its place is below the fault's that was found
 abbrev pub or_fault_of : Verdict → (kind : ℕ) → Option ℕ → Verdict
 or_fault_of verdict kind None = verdict
-or_fault_of Clean kind (Some p) = Fault kind p
-or_fault_of (Fault found q) kind (Some p) = if nat_lt p q then Fault kind p else Fault found q
+or_fault_of Verdict.Clean kind (Some p) = Verdict.Fault kind p
+or_fault_of (Verdict.Fault found q) kind (Some p) = if nat_lt p q then Verdict.Fault kind p else Verdict.Fault found q
 
 -- neighbours of one sender are in the order of their places
 abbrev pub RisesInSenders : List SendReceipt → Type 0

@@ -1,3 +1,4 @@
+pub mod Names
 pub mod Least
 pub mod Verdict
 pub mod Receipts

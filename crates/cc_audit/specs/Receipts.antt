@@ -3,18 +3,7 @@ use Rattle.std.specs.Prelude.{ℕ, ◌<◌, List, [], ◌∷◌, ◌++◌, map, 
 use Rattle.cc_model.specs.Record.{Record, of_group}
 use Rattle.cc_model.specs.Items.{accepted}
 use Rattle.cc_model.specs.Legal.{Legal}
-use Rattle.cc_model.specs.declared.config.Config.{Config}
-use Rattle.cc_model.specs.declared.call.Pass.{Pass}
-use Rattle.cc_model.specs.declared.call.Pass.TheVariants as pass
-use Rattle.cc_model.specs.declared.call.Item.{Item}
-use Rattle.cc_model.specs.declared.call.Entry.{Entry}
-use Rattle.cc_model.specs.declared.call.Answer.{Answer}
-use Rattle.cc_model.specs.declared.call.Answer.TheVariants as answer
-use Rattle.cc_model.specs.declared.call.CloseAnswer.TheVariants as close
-use Rattle.cc_model.specs.declared.call.TakeAnswer.TheVariants as take
-use Rattle.cc_audit.specs.declared.receipt.SendReceipt.{SendReceipt}
-use Rattle.cc_audit.specs.declared.receipt.TakeReceipt.{TakeReceipt}
-use Rattle.cc_audit.specs.declared.receipt.Verdict.TheVariants.{Clean}
+use Rattle.cc_audit.specs.Names.{Config, Pass, Item, Entry, Answer, CloseAnswer, TakeAnswer, SendReceipt, TakeReceipt, Verdict}
 use Rattle.cc_audit.specs.Verdict.{IsVerdict}
 
 -- the receipt of the send that an item comes from
@@ -27,7 +16,7 @@ sends_of h = map send_receipt (accepted h)
 
 -- the receipt of a take answered Got
 abbrev pub take_receipt : Pass → Answer → List TakeReceipt
-take_receipt (pass.Receiver r) (answer.Take (take.Got item)) = record { receiver = r; item = item } ∷ []
+take_receipt (Pass.Receiver r) (Answer.Take (TakeAnswer.Got item)) = record { receiver = r; item = item } ∷ []
 take_receipt _ _ = []
 
 abbrev pub takes_by : List Entry → List Answer → List TakeReceipt
@@ -41,7 +30,7 @@ takes_of h g = takes_by (of_group h g).calls (of_group h g).answers
 
 abbrev pub total_by : List Answer → Option ℕ
 total_by [] = None
-total_by (answer.Close (close.Shut total) ∷ answers) = Some total
+total_by (Answer.Close (CloseAnswer.Shut total) ∷ answers) = Some total
 total_by (_ ∷ answers) = total_by answers
 
 -- the total of the first close answered Shut
@@ -50,4 +39,4 @@ total_of h = total_by h.sends.answers
 
 -- the law: the receipts of a lawful history are clean, those of the takes of each group
 abbrev pub LegalGivesClean : Type 0
-LegalGivesClean = (cfg : Config) (h : Record) (g : ℕ) → g < cfg.groups → Legal cfg h → IsVerdict (sends_of h) (takes_of h g) (total_of h) Clean
+LegalGivesClean = (cfg : Config) (h : Record) (g : ℕ) → g < cfg.groups → Legal cfg h → IsVerdict (sends_of h) (takes_of h g) (total_of h) Verdict.Clean

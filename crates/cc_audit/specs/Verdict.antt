@@ -1,10 +1,6 @@
 -- The verdict on receipts: seven kinds of fault, each of them at a place.
 use Rattle.std.specs.Prelude.{◌≡◌, ℕ, ◌<◌, ◌≤◌, ◌==◌, ◌≢◌, ◌⊎◌, List, Option, IsSomeAnd, Any, IsPermutation, count_by}
-use Rattle.cc_model.specs.declared.call.Item.{Item}
-use Rattle.cc_audit.specs.declared.receipt.SendReceipt.{SendReceipt}
-use Rattle.cc_audit.specs.declared.receipt.TakeReceipt.{TakeReceipt}
-use Rattle.cc_audit.specs.declared.receipt.Verdict.{Verdict}
-use Rattle.cc_audit.specs.declared.receipt.Verdict.TheVariants.{Clean, Fault}
+use Rattle.cc_audit.specs.Names.{Item, SendReceipt, TakeReceipt, Verdict}
 
 -- the receipt names the place
 abbrev pub SendNames : ℕ → SendReceipt → Type 0
@@ -67,8 +63,8 @@ pub record IsFirstFault (sends : List SendReceipt) (takes : List TakeReceipt) (t
 
 -- the verdict on the receipts
 abbrev pub IsVerdict : List SendReceipt → List TakeReceipt → Option ℕ → Verdict → Type 0
-IsVerdict sends takes total Clean = HasNoFault sends takes total
-IsVerdict sends takes total (Fault kind p) = IsFirstFault sends takes total kind p
+IsVerdict sends takes total Verdict.Clean = HasNoFault sends takes total
+IsVerdict sends takes total (Verdict.Fault kind p) = IsFirstFault sends takes total kind p
 
 -- the law: the same receipts have one verdict
 abbrev pub OneVerdict : Type 0

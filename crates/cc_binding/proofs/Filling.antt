@@ -4,7 +4,7 @@ use Rattle.std.proofs.lemmas.List.{take_more_set, map-append, take_all}
 use Rattle.std.specs.List.{remove}
 use Rattle.cc_steps.specs.Topic.{Topic}
 use Rattle.cc_steps.specs.Walk.{Walk, IsOf, fresh, fresh_from}
-use Rattle.cc_binding.specs.declared.kept.Pass.{Pass}
+use Rattle.cc_binding.specs.Names.{Pass}
 use Rattle.cc_binding.specs.Handles.{pass_in}
 use Rattle.cc_binding.specs.Opened.{HoldFresh}
 

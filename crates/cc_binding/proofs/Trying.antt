@@ -1,6 +1,6 @@
 -- A begin, and where it was begun a turn.
 use Rattle.std.proofs.Common.{◌≡◌, ◌≢◌, ℕ, Option}
-use Rattle.cc_binding.specs.declared.kept.Pass.{Pass}
+use Rattle.cc_binding.specs.Names.{Pass}
 use Rattle.cc_binding.specs.declared.codes.TheConstants.{BEGUN}
 use Rattle.cc_binding.specs.Calls.{Tries}
 

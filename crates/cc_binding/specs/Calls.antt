@@ -1,41 +1,33 @@
 -- What each call of a handle tells, by the pass that stood behind it before and the one that stands there afterwards.
 use Rattle.std.specs.Prelude.{◌≡◌, ◌≢◌, ℕ, ◌≤◌, nat_le, if◌then◌else◌, Option, Some, None}
-use Rattle.cc_model.specs.declared.call.Call.TheVariants as call
-use Rattle.cc_model.specs.declared.call.Answer.TheVariants as answer
-use Rattle.cc_model.specs.declared.call.SendAnswer.{SendAnswer}
-use Rattle.cc_model.specs.declared.call.CloseAnswer.{CloseAnswer}
-use Rattle.cc_model.specs.declared.call.TakeAnswer.{TakeAnswer}
+use Rattle.cc_binding.specs.Names.{Call, Answer, SendAnswer, CloseAnswer, TakeAnswer, Pass, Told, Taken}
 use Rattle.cc_steps.specs.Walk.{Walk}
 use Rattle.cc_queue.specs.Calls.{Begun, Waited, Answered}
 use Rattle.cc_queue.specs.Group.{Ranked}
-use Rattle.cc_binding.specs.declared.kept.Pass.{Pass}
-use Rattle.cc_binding.specs.declared.kept.Pass.TheVariants.{Sender, Sending, Closing, Receiver, Taking}
-use Rattle.cc_binding.specs.declared.told.Told.{Told}
-use Rattle.cc_binding.specs.declared.told.Taken.{Taken}
 use Rattle.cc_binding.specs.declared.codes.TheConstants.{DONE, NO_PASS, WRONG_SIDE, BUSY, NOT_BEGUN, WORN, BEGUN, WAITING, FRESH}
 use Rattle.cc_binding.specs.Told.{only, sent_as, closed_as, none_taken, taken_as}
 
 -- why a pass that is no idle sender doesn't begin a sender's call
 abbrev pub no_idle_sender : Pass → ℕ
-no_idle_sender (Sending w) = BUSY
-no_idle_sender (Closing w) = BUSY
+no_idle_sender (Pass.Sending w) = BUSY
+no_idle_sender (Pass.Closing w) = BUSY
 no_idle_sender _ = WRONG_SIDE
 
 -- why one that is no idle receiver doesn't begin a take
 abbrev pub no_idle_receiver : Pass → ℕ
-no_idle_receiver (Taking w) = BUSY
+no_idle_receiver (Pass.Taking w) = BUSY
 no_idle_receiver _ = WRONG_SIDE
 
 -- why one that has no such call pending doesn't turn a sender's call
 abbrev pub no_pending_sender : Pass → ℕ
-no_pending_sender (Receiver w) = WRONG_SIDE
-no_pending_sender (Taking w) = WRONG_SIDE
+no_pending_sender (Pass.Receiver w) = WRONG_SIDE
+no_pending_sender (Pass.Taking w) = WRONG_SIDE
 no_pending_sender _ = NOT_BEGUN
 
 -- and why not a take
 abbrev pub no_pending_take : Pass → ℕ
-no_pending_take (Receiver w) = NOT_BEGUN
-no_pending_take (Taking w) = NOT_BEGUN
+no_pending_take (Pass.Receiver w) = NOT_BEGUN
+no_pending_take (Pass.Taking w) = NOT_BEGUN
 no_pending_take _ = WRONG_SIDE
 
 -- a begin, and where the call was begun one turn of it; else its code alone is told
@@ -50,13 +42,13 @@ pub record Tries {T : Type 0} (alone : ℕ → T) (Begins : Option Pass → Opti
 
 -- an idle sender begins a send of this body, or is worn and stays as it is
 abbrev pub SenderBegins : ℕ → Walk → Option Pass → ℕ → Type 0
-SenderBegins body v (Some (Sending w)) code = (code ≡ BEGUN) × Begun v (call.Send body) w
-SenderBegins body v (Some (Sender w)) code = (code ≡ WORN) × (w ≡ v) × (v.setting.config.per_sender ≤ v.stand.begun)
+SenderBegins body v (Some (Pass.Sending w)) code = (code ≡ BEGUN) × Begun v (Call.Send body) w
+SenderBegins body v (Some (Pass.Sender w)) code = (code ≡ WORN) × (w ≡ v) × (v.setting.config.per_sender ≤ v.stand.begun)
 SenderBegins body v _ code = ⊥
 
 -- the begin of a send: where it can't be begun, the pass stays as it is
 abbrev pub BeginsSend : ℕ → Option Pass → Option Pass → ℕ → Type 0
-BeginsSend body (Some (Sender v)) new code = SenderBegins body v new code
+BeginsSend body (Some (Pass.Sender v)) new code = SenderBegins body v new code
 BeginsSend body (Some p) new code = (new ≡ Some p) × (code ≡ no_idle_sender p)
 BeginsSend body None new code = (new ≡ None) × (code ≡ NO_PASS)
 
@@ -64,17 +56,17 @@ BeginsSend body None new code = (new ≡ None) × (code ≡ NO_PASS)
 pub record SendIsTold (v w : Walk) (told : Told) : Type 0 where
   pub given : SendAnswer
   pub told_is : told ≡ sent_as given told.served
-  pub answered : Answered v (answer.Send given) told.served w
+  pub answered : Answered v (Answer.Send given) told.served w
 
 -- a pending send waits, or is done
 abbrev pub SendTurns : Walk → Option Pass → Told → Type 0
-SendTurns v (Some (Sending w)) told = (told ≡ only WAITING) × Waited v w
-SendTurns v (Some (Sender w)) told = SendIsTold v w told
+SendTurns v (Some (Pass.Sending w)) told = (told ≡ only WAITING) × Waited v w
+SendTurns v (Some (Pass.Sender w)) told = SendIsTold v w told
 SendTurns v _ told = ⊥
 
 -- a turn of a send
 abbrev pub TurnsSend : Option Pass → Option Pass → Told → Type 0
-TurnsSend (Some (Sending v)) new told = SendTurns v new told
+TurnsSend (Some (Pass.Sending v)) new told = SendTurns v new told
 TurnsSend (Some p) new told = (new ≡ Some p) × (told ≡ only (no_pending_sender p))
 TurnsSend None new told = (new ≡ None) × (told ≡ only NO_PASS)
 
@@ -84,7 +76,7 @@ TriesSend body = Tries only (BeginsSend body) TurnsSend
 
 -- whether a sender is worn; nothing changes
 abbrev pub worn_code : Pass → ℕ
-worn_code (Sender w) = if nat_le w.setting.config.per_sender w.stand.begun then WORN else FRESH
+worn_code (Pass.Sender w) = if nat_le w.setting.config.per_sender w.stand.begun then WORN else FRESH
 worn_code p = no_idle_sender p
 
 abbrev pub TellsWorn : Option Pass → Option Pass → ℕ → Type 0
@@ -95,12 +87,12 @@ TellsWorn None new code = (new ≡ None) × (code ≡ NO_PASS)
 
 -- an idle sender begins a close
 abbrev pub CloserBegins : Walk → Option Pass → ℕ → Type 0
-CloserBegins v (Some (Closing w)) code = (code ≡ BEGUN) × Begun v call.Close w
+CloserBegins v (Some (Pass.Closing w)) code = (code ≡ BEGUN) × Begun v Call.Close w
 CloserBegins v _ code = ⊥
 
 -- the begin of a close
 abbrev pub BeginsClose : Option Pass → Option Pass → ℕ → Type 0
-BeginsClose (Some (Sender v)) new code = CloserBegins v new code
+BeginsClose (Some (Pass.Sender v)) new code = CloserBegins v new code
 BeginsClose (Some p) new code = (new ≡ Some p) × (code ≡ no_idle_sender p)
 BeginsClose None new code = (new ≡ None) × (code ≡ NO_PASS)
 
@@ -108,17 +100,17 @@ BeginsClose None new code = (new ≡ None) × (code ≡ NO_PASS)
 pub record CloseIsTold (v w : Walk) (told : Told) : Type 0 where
   pub given : CloseAnswer
   pub told_is : told ≡ closed_as given told.served
-  pub answered : Answered v (answer.Close given) told.served w
+  pub answered : Answered v (Answer.Close given) told.served w
 
 -- a pending close waits, or is done
 abbrev pub CloseTurns : Walk → Option Pass → Told → Type 0
-CloseTurns v (Some (Closing w)) told = (told ≡ only WAITING) × Waited v w
-CloseTurns v (Some (Sender w)) told = CloseIsTold v w told
+CloseTurns v (Some (Pass.Closing w)) told = (told ≡ only WAITING) × Waited v w
+CloseTurns v (Some (Pass.Sender w)) told = CloseIsTold v w told
 CloseTurns v _ told = ⊥
 
 -- a turn of a close
 abbrev pub TurnsClose : Option Pass → Option Pass → Told → Type 0
-TurnsClose (Some (Closing v)) new told = CloseTurns v new told
+TurnsClose (Some (Pass.Closing v)) new told = CloseTurns v new told
 TurnsClose (Some p) new told = (new ≡ Some p) × (told ≡ only (no_pending_sender p))
 TurnsClose None new told = (new ≡ None) × (told ≡ only NO_PASS)
 
@@ -126,12 +118,12 @@ TurnsClose None new told = (new ≡ None) × (told ≡ only NO_PASS)
 
 -- an idle receiver begins a take
 abbrev pub ReceiverBegins : Walk → Option Pass → ℕ → Type 0
-ReceiverBegins v (Some (Taking w)) code = (code ≡ BEGUN) × Begun v call.Take w
+ReceiverBegins v (Some (Pass.Taking w)) code = (code ≡ BEGUN) × Begun v Call.Take w
 ReceiverBegins v _ code = ⊥
 
 -- the begin of a take
 abbrev pub BeginsTake : Option Pass → Option Pass → ℕ → Type 0
-BeginsTake (Some (Receiver v)) new code = ReceiverBegins v new code
+BeginsTake (Some (Pass.Receiver v)) new code = ReceiverBegins v new code
 BeginsTake (Some p) new code = (new ≡ Some p) × (code ≡ no_idle_receiver p)
 BeginsTake None new code = (new ≡ None) × (code ≡ NO_PASS)
 
@@ -139,17 +131,17 @@ BeginsTake None new code = (new ≡ None) × (code ≡ NO_PASS)
 pub record TakeIsTold (v w : Walk) (told : Taken) : Type 0 where
   pub given : TakeAnswer
   pub told_is : told ≡ taken_as given told.served
-  pub answered : Answered v (answer.Take given) told.served w
+  pub answered : Answered v (Answer.Take given) told.served w
 
 -- a pending take waits, or is done
 abbrev pub TakeTurns : Walk → Option Pass → Taken → Type 0
-TakeTurns v (Some (Taking w)) told = (told ≡ none_taken WAITING) × Waited v w
-TakeTurns v (Some (Receiver w)) told = TakeIsTold v w told
+TakeTurns v (Some (Pass.Taking w)) told = (told ≡ none_taken WAITING) × Waited v w
+TakeTurns v (Some (Pass.Receiver w)) told = TakeIsTold v w told
 TakeTurns v _ told = ⊥
 
 -- a turn of a take
 abbrev pub TurnsTake : Option Pass → Option Pass → Taken → Type 0
-TurnsTake (Some (Taking v)) new told = TakeTurns v new told
+TurnsTake (Some (Pass.Taking v)) new told = TakeTurns v new told
 TurnsTake (Some p) new told = (new ≡ Some p) × (told ≡ none_taken (no_pending_take p))
 TurnsTake None new told = (new ≡ None) × (told ≡ none_taken NO_PASS)
 
@@ -159,6 +151,6 @@ TriesTake = Tries none_taken BeginsTake TurnsTake
 
 -- the group of a receiver that has no call, from 1; nothing changes
 abbrev pub TellsGroup : Option Pass → Option Pass → ℕ → ℕ → Type 0
-TellsGroup (Some (Receiver w)) new code group = (new ≡ Some (Receiver w)) × (code ≡ DONE) × Ranked w group
+TellsGroup (Some (Pass.Receiver w)) new code group = (new ≡ Some (Pass.Receiver w)) × (code ≡ DONE) × Ranked w group
 TellsGroup (Some p) new code group = (new ≡ Some p) × (code ≡ no_idle_receiver p) × (group ≡ 0)
 TellsGroup None new code group = (new ≡ None) × (code ≡ NO_PASS) × (group ≡ 0)

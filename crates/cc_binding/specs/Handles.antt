@@ -1,6 +1,6 @@
 -- Handles.
 use Rattle.std.specs.Prelude.{◌≡◌, ℕ, Bool, not, IsTrue, if◌then◌else◌, Option, Some, None}
-use Rattle.cc_binding.specs.declared.kept.Pass.{Pass}
+use Rattle.cc_binding.specs.Names.{Pass}
 use Rattle.cc_binding.specs.declared.handle.Handle.{Handle}
 use Rattle.cc_binding.specs.declared.codes.TheConstants.{DONE, NO_PASS}
 

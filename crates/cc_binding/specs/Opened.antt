@@ -3,16 +3,10 @@ use Rattle.std.specs.Prelude.{◌≡◌, ℕ, ◌+◌, ◌*◌, Bool, ◌&&◌, 
 use Rattle.std.specs.List.{list_all}
 use Rattle.std.specs.declared.result.Result.{Result}
 use Rattle.cc_model.specs.Config.{config_fault}
-use Rattle.cc_model.specs.declared.config.Config.{Config}
-use Rattle.cc_model.specs.declared.config.ConfigFault.{ConfigFault}
-use Rattle.cc_model.specs.declared.config.ConfigFault.TheVariants as fault
-use Rattle.cc_runs.specs.declared.setting.Served.TheVariants as served
+use Rattle.cc_binding.specs.Names.{Config, ConfigFault, Served, Pass, Settings}
 use Rattle.cc_steps.specs.Topic.{Topic}
 use Rattle.cc_steps.specs.Walk.{Walk, fresh}
-use Rattle.cc_binding.specs.declared.kept.Pass.{Pass}
-use Rattle.cc_binding.specs.declared.kept.Pass.TheVariants.{Sender, Receiver}
 use Rattle.cc_binding.specs.declared.handle.Handle.{Handle}
-use Rattle.cc_binding.specs.declared.opening.Settings.{Settings}
 use Rattle.cc_binding.specs.declared.codes.TheConstants.{DONE, BAD_SENDERS, BAD_RECEIVERS, BAD_CAPACITY, BAD_BOUND, BAD_LIFE, BAD_PER_SENDER, BAD_HANDLES, BAD_GROUPS}
 use Rattle.cc_binding.specs.Handles.{pass_of, is_empty}
 
@@ -22,13 +16,13 @@ config_of s groups = record { senders = s.senders; receivers = s.receivers; capa
 
 -- the code of a field that is out of its range
 abbrev pub field_code : ConfigFault → ℕ
-field_code fault.Senders = BAD_SENDERS
-field_code fault.Receivers = BAD_RECEIVERS
-field_code fault.Capacity = BAD_CAPACITY
-field_code fault.Bound = BAD_BOUND
-field_code fault.Life = BAD_LIFE
-field_code fault.PerSender = BAD_PER_SENDER
-field_code fault.Groups = BAD_GROUPS
+field_code ConfigFault.Senders = BAD_SENDERS
+field_code ConfigFault.Receivers = BAD_RECEIVERS
+field_code ConfigFault.Capacity = BAD_CAPACITY
+field_code ConfigFault.Bound = BAD_BOUND
+field_code ConfigFault.Life = BAD_LIFE
+field_code ConfigFault.PerSender = BAD_PER_SENDER
+field_code ConfigFault.Groups = BAD_GROUPS
 
 -- there are so many handles, and each is empty
 abbrev pub are_free : ℕ → List Handle → Bool
@@ -51,6 +45,6 @@ HoldFresh (x ∷ xs) held side z p = (held x ≡ Some (side (fresh z p))) × Hol
 -- group stand together
 pub record HaveOpened (c : Config) (senders receivers : List Handle) : Type 0 where
   pub queue : Topic
-  pub setting : queue.setting ≡ record { served = served.List; config = c }
-  pub senders_hold : HoldFresh senders pass_of Sender queue 0
-  pub receivers_hold : HoldFresh receivers pass_of Receiver queue c.senders
+  pub setting : queue.setting ≡ record { served = Served.List; config = c }
+  pub senders_hold : HoldFresh senders pass_of Pass.Sender queue 0
+  pub receivers_hold : HoldFresh receivers pass_of Pass.Receiver queue c.senders

@@ -1,15 +1,6 @@
 -- What a call tells: its code, and the numbers of its answer. A number that the code tells nothing of is 0.
 use Rattle.std.specs.Prelude.{ℕ}
-use Rattle.cc_model.specs.declared.call.Item.{Item}
-use Rattle.cc_model.specs.declared.call.SendAnswer.{SendAnswer}
-use Rattle.cc_model.specs.declared.call.SendAnswer.TheVariants as send
-use Rattle.cc_model.specs.declared.call.CloseAnswer.{CloseAnswer}
-use Rattle.cc_model.specs.declared.call.CloseAnswer.TheVariants as close
-use Rattle.cc_model.specs.declared.call.TakeAnswer.{TakeAnswer}
-use Rattle.cc_model.specs.declared.call.TakeAnswer.TheVariants as take
-use Rattle.cc_binding.specs.declared.told.Told.{Told}
-use Rattle.cc_binding.specs.declared.told.Taken.{Taken}
-use Rattle.cc_binding.specs.declared.told.TakenItem.{TakenItem}
+use Rattle.cc_binding.specs.Names.{Item, SendAnswer, CloseAnswer, TakeAnswer, Told, Taken, TakenItem}
 use Rattle.cc_binding.specs.declared.codes.TheConstants.{ACCEPTED, FULL, CLOSED, SPENT, SHUT, ALREADY, GOT, EMPTY, ENDED}
 
 -- a code alone
@@ -18,15 +9,15 @@ only code = record { code = code; number = 0; served = 0 }
 
 -- the answer of a send, in a turn that served so many calls
 abbrev pub sent_as : SendAnswer → ℕ → Told
-sent_as (send.Accepted place) served = record { code = ACCEPTED; number = place; served = served }
-sent_as send.Full served = record { code = FULL; number = 0; served = served }
-sent_as send.Closed served = record { code = CLOSED; number = 0; served = served }
-sent_as send.Spent served = record { code = SPENT; number = 0; served = served }
+sent_as (SendAnswer.Accepted place) served = record { code = ACCEPTED; number = place; served = served }
+sent_as SendAnswer.Full served = record { code = FULL; number = 0; served = served }
+sent_as SendAnswer.Closed served = record { code = CLOSED; number = 0; served = served }
+sent_as SendAnswer.Spent served = record { code = SPENT; number = 0; served = served }
 
 -- the answer of a close
 abbrev pub closed_as : CloseAnswer → ℕ → Told
-closed_as (close.Shut total) served = record { code = SHUT; number = total; served = served }
-closed_as (close.Already total) served = record { code = ALREADY; number = total; served = served }
+closed_as (CloseAnswer.Shut total) served = record { code = SHUT; number = total; served = served }
+closed_as (CloseAnswer.Already total) served = record { code = ALREADY; number = total; served = served }
 
 -- an item as C gets it
 abbrev pub item_of : Item → TakenItem
@@ -42,6 +33,6 @@ none_taken code = record { code = code; item = no_item; total = 0; served = 0 }
 
 -- the answer of a take
 abbrev pub taken_as : TakeAnswer → ℕ → Taken
-taken_as (take.Got item) served = record { code = GOT; item = item_of item; total = 0; served = served }
-taken_as take.Empty served = record { code = EMPTY; item = no_item; total = 0; served = served }
-taken_as (take.Ended total) served = record { code = ENDED; item = no_item; total = total; served = served }
+taken_as (TakeAnswer.Got item) served = record { code = GOT; item = item_of item; total = 0; served = served }
+taken_as TakeAnswer.Empty served = record { code = EMPTY; item = no_item; total = 0; served = served }
+taken_as (TakeAnswer.Ended total) served = record { code = ENDED; item = no_item; total = total; served = served }

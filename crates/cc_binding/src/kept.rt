@@ -31,7 +31,7 @@ pub struct Kept {
 
 impl Model for Kept {
     ghost use Rattle.std.specs.Prelude.{Option};
-    ghost use Rattle.cc_binding.specs.declared.kept.Pass.{Pass};
+    ghost use Rattle.cc_binding.specs.Names.{Pass};
     ghost use Rattle.cc_binding.specs.Passes.{IsPassOf};
 
     ghost Value = { Option Pass };

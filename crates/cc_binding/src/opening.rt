@@ -3,7 +3,7 @@ ghost use Rattle.std.specs.Prelude.{◌≡◌, ◌≢◌, ◌*◌, length, map, 
 ghost use Rattle.cc_queue.specs.Opened.{HasOpened};
 ghost use Rattle.cc_steps.specs.Walk.{IsOf, fresh_from};
 ghost use Rattle.cc_binding.specs.Passes.{walk_of};
-ghost use Rattle.cc_binding.specs.declared.kept.Pass.TheVariants as pass;
+ghost use Rattle.cc_binding.specs.Names.{Pass};
 ghost use Rattle.cc_binding.specs.declared.codes.TheConstants.{DONE};
 ghost use Rattle.std.specs.List.{list_all};
 ghost use Rattle.cc_binding.specs.Handles.{pass_of, is_empty};
@@ -125,7 +125,7 @@ fn keep_senders(
 ) -> Result<Vec<Box<Kept>>, AllocError>
     requires { fresh_from queue.now 0 senders.items }
     ensures count { IfOk result (λ k. length k.items ≡ length senders.items) }
-    ensures fresh { IfOk result (λ k. HoldFresh k.items (λ b. b.value) pass.Sender queue.now 0) }
+    ensures fresh { IfOk result (λ k. HoldFresh k.items (λ b. b.value) Pass.Sender queue.now 0) }
 {
     let mut all = Vec::new(alloc);
     for _row in 0..senders.len() {
@@ -144,7 +144,7 @@ fn keep_receivers(
 ) -> Result<Vec<Box<Kept>>, AllocError>
     requires { fresh_from queue.now first receivers.items }
     ensures count { IfOk result (λ k. length k.items ≡ length receivers.items) }
-    ensures fresh { IfOk result (λ k. HoldFresh k.items (λ b. b.value) pass.Receiver queue.now first) }
+    ensures fresh { IfOk result (λ k. HoldFresh k.items (λ b. b.value) Pass.Receiver queue.now first) }
 {
     let _ = first;
     let mut all = Vec::new(alloc);

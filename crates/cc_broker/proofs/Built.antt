@@ -7,7 +7,7 @@ use Rattle.std.proofs.lemmas.List.{map-append}
 use Rattle.std.proofs.lemmas.Option.{none-some}
 use Rattle.cc_model.specs.declared.config.Config.{Config}
 use Rattle.cc_runs.specs.declared.setting.Setting.{Setting}
-use Rattle.cc_runs.specs.declared.setting.Served.TheVariants as served
+use Rattle.cc_runs.specs.declared.setting.Served.{Served}
 use Rattle.cc_steps.specs.Topic.{Topic}
 use Rattle.cc_queue.specs.Opened as queue
 use Rattle.cc_broker.specs.Names.{AreDistinct}
@@ -36,7 +36,7 @@ opened_push : (asked : List (Bor (List ℕ) × Config)) (topics : List (List ℕ
     → Opened (asked ++ a ∷ []) (topics ++ t ∷ []) (passes ++ p ∷ [])
 opened_push asked topics passes a t p so name one = record {
   names_are = map-append (λ t. t.0) topics (t ∷ []) ∙ (λ i. so.names_are i ++ name i ∷ []) ∙ sym (map-append (λ t. t.0.now) asked (a ∷ []));
-  settings_are = map-append (λ t. t.1.setting) topics (t ∷ []) ∙ (λ i. so.settings_are i ++ one.setting i ∷ []) ∙ sym (map-append (λ t. record { served = served.List; config = t.1 }) asked (a ∷ []));
+  settings_are = map-append (λ t. t.1.setting) topics (t ∷ []) ∙ (λ i. so.settings_are i ++ one.setting i ∷ []) ∙ sym (map-append (λ t. record { served = Served.List; config = t.1 }) asked (a ∷ []));
   passes_are = subst (λ zs. AreTheirPasses zs (passes ++ p ∷ [])) (sym (map-append (λ t. t.1) topics (t ∷ []))) (passes_push (queues topics) passes t.1 p so.passes_are (its_passes a.1 t.1 p one));
 }
 

@@ -13,7 +13,6 @@ use Rattle.cc_queue.specs.Opened as queue
 use Rattle.cc_broker.specs.Names.{IsFirstDouble, AreDistinct}
 use Rattle.cc_broker.specs.Topics.{names, queues, settings, asked_names, asked_settings}
 use Rattle.cc_broker.specs.declared.broker.BrokerFault.{BrokerFault}
-use Rattle.cc_broker.specs.declared.broker.BrokerFault.TheVariants as fault
 use Rattle.cc_broker.specs.declared.broker.OpenedBroker.{OpenedBroker}
 
 -- the passes of a topic
@@ -58,7 +57,7 @@ pub record CanOpenUpTo (asked : List (Bor (List ℕ) × Config)) (place : ℕ) :
 -- Too many topics are refused first, then a double name, and then the topics are opened in order. Other memory than for
 -- an opening is asked for only behind the opening of a topic.
 abbrev pub IsBrokerFault : List (Bor (List ℕ) × Config) → BrokerFault → Type 0
-IsBrokerFault asked fault.TooMany = 64 < length asked
-IsBrokerFault asked (fault.DoubleName place) = (length asked ≤ 64) × IsFirstDouble (asked_names asked) place
-IsBrokerFault asked (fault.Topic place cause) = (length asked ≤ 64) × AreDistinct (asked_names asked) × IsTopicFault asked place cause
-IsBrokerFault asked fault.NoMemory = (length asked ≤ 64) × AreDistinct (asked_names asked) × (place : ℕ) × CanOpenUpTo asked place
+IsBrokerFault asked BrokerFault.TooMany = 64 < length asked
+IsBrokerFault asked (BrokerFault.DoubleName place) = (length asked ≤ 64) × IsFirstDouble (asked_names asked) place
+IsBrokerFault asked (BrokerFault.Topic place cause) = (length asked ≤ 64) × AreDistinct (asked_names asked) × IsTopicFault asked place cause
+IsBrokerFault asked BrokerFault.NoMemory = (length asked ≤ 64) × AreDistinct (asked_names asked) × (place : ℕ) × CanOpenUpTo asked place

@@ -3,7 +3,7 @@ use Rattle.std.specs.Prelude.{ℕ, List, map}
 use Rattle.std.specs.Borrow.{Bor}
 use Rattle.cc_model.specs.declared.config.Config.{Config}
 use Rattle.cc_runs.specs.declared.setting.Setting.{Setting}
-use Rattle.cc_runs.specs.declared.setting.Served.TheVariants as served
+use Rattle.cc_runs.specs.declared.setting.Served.{Served}
 use Rattle.cc_steps.specs.Topic.{Topic}
 
 -- their names, their queues, and what these queues were made with
@@ -22,4 +22,4 @@ asked_names asked = map (λ t. t.0.now) asked
 
 -- and what their queues are to be made with: each is a list with its configuration
 abbrev pub asked_settings : List (Bor (List ℕ) × Config) → List Setting
-asked_settings asked = map (λ t. record { served = served.List; config = t.1 }) asked
+asked_settings asked = map (λ t. record { served = Served.List; config = t.1 }) asked

@@ -1,7 +1,7 @@
 //! A broker: topics by name.
 ghost use Rattle.std.specs.Prelude.{◌≡◌, ◌↔◌, ℕ, [], ◌∷◌, ◌++◌, slice_get, Some, option_copied, OnOk};
 ghost use Rattle.cc_broker.specs.Topics.{names, queues};
-ghost use Rattle.cc_broker.specs.declared.broker.BrokerFault.TheVariants as fault;
+ghost use Rattle.cc_broker.specs.declared.broker.BrokerFault.{BrokerFault};
 
 use cc_queue::{Queue, Receiver, Sender};
 use cc_runs::OpenFault;
@@ -46,7 +46,7 @@ pub enum BrokerFault {
 }
 
 impl From<AllocError> for BrokerFault {
-    ghost from_gives = { λ _ f. f ≡ fault.NoMemory };
+    ghost from_gives = { λ _ f. f ≡ BrokerFault.NoMemory };
 
     fn from(_: AllocError) -> BrokerFault {
         BrokerFault::NoMemory

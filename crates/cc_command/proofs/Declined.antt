@@ -3,10 +3,7 @@ use Rattle.std.proofs.Common.{◌≡◌, ◌⊎◌, ℕ, List, Option, Some, Non
 use Rattle.std.specs.Io.KnownBytes.{Keeps}
 use Rattle.clap.specs.Words.{IsAmong, Kinds}
 use Rattle.clap.specs.declared.error.kind.ErrorKind.{ErrorKind}
-use Rattle.clap.specs.declared.error.kind.ErrorKind.TheVariants.{OutOfMemory}
-use Rattle.cc_command.specs.declared.command_line.Task.{Task}
-use Rattle.cc_command.specs.declared.command_line.Task.TheVariants.{Play, Audit}
-use Rattle.cc_play.specs.declared.fault.PlayFault.TheVariants as fault
+use Rattle.cc_command.specs.Names.{Task, PlayFault}
 use Rattle.cc_play.specs.Outcome.{line_of}
 use Rattle.cc_command.specs.Run.{Declines, Runs}
 
@@ -15,11 +12,11 @@ kept None = tt
 kept (Some xs) = refl
 
 module _ (left : Option (List ℕ)) (reads : ℕ) (old new : Option (List ℕ)) (fails fails_after : ℕ) (errors_old errors_new : Option (List ℕ)) (before after status : ℕ) where
-  pub declined : (asked : Option Task) (faults : Kinds) (kind : ErrorKind) → (kind ≡ OutOfMemory) ⊎ ((asked ≡ None) × IsAmong kind faults) → Declines old new fails fails_after errors_old errors_new before after status kind
+  pub declined : (asked : Option Task) (faults : Kinds) (kind : ErrorKind) → (kind ≡ ErrorKind.OutOfMemory) ⊎ ((asked ≡ None) × IsAmong kind faults) → Declines old new fails fails_after errors_old errors_new before after status kind
       → Runs left left reads reads old new fails fails_after errors_old errors_new before after status asked faults
   unfolding line_of
-  declined (Some Play) faults kind (inl memory) d = let out = subst (Declines old new fails fails_after errors_old errors_new before after status) memory d in (Err fault.NoMemory, out.1, omega arith, omega (arith, out.2), out.0, out.3)
-  declined (Some Audit) faults kind (inl memory) d = let out = subst (Declines old new fails fails_after errors_old errors_new before after status) memory d in (Err fault.NoMemory, out.1, omega arith, omega (arith, out.2), out.0, out.3)
+  declined (Some Task.Play) faults kind (inl memory) d = let out = subst (Declines old new fails fails_after errors_old errors_new before after status) memory d in (Err PlayFault.NoMemory, out.1, omega arith, omega (arith, out.2), out.0, out.3)
+  declined (Some Task.Audit) faults kind (inl memory) d = let out = subst (Declines old new fails fails_after errors_old errors_new before after status) memory d in (Err PlayFault.NoMemory, out.1, omega arith, omega (arith, out.2), out.0, out.3)
   declined (Some t) faults kind (inr h) d = cc
   declined None faults kind (inl memory) d = (kept left, refl, (kind, inl memory, d))
   declined None faults kind (inr h) d = (kept left, refl, (kind, inr h.1, d))

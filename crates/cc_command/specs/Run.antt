@@ -3,15 +3,10 @@ use Rattle.std.specs.Prelude.{ℕ, ◌≡◌, ◌⊎◌, ◌+◌, if◌then◌el
 use Rattle.std.specs.Io.KnownBytes.{Keeps}
 use Rattle.clap.specs.Words.{IsAmong, Kinds}
 use Rattle.clap.specs.declared.error.kind.ErrorKind.{ErrorKind}
-use Rattle.clap.specs.declared.error.kind.ErrorKind.TheVariants.{DisplayHelp, OutOfMemory}
 use Rattle.cc_model.specs.Written.{Writes}
-use Rattle.cc_audit.specs.declared.receipt.Verdict.{Verdict}
-use Rattle.cc_play.specs.declared.fault.PlayFault.{PlayFault}
-use Rattle.cc_play.specs.declared.fault.PlayFault.TheVariants as fault
+use Rattle.cc_command.specs.Names.{Verdict, PlayFault, Task}
 use Rattle.cc_play.specs.Outcome.{Told, line_of, no_memory_line, status_of}
 use Rattle.cc_play.specs.Play.{Plays, Audits, failed_reads, failed_writes}
-use Rattle.cc_command.specs.declared.command_line.Task.{Task}
-use Rattle.cc_command.specs.declared.command_line.Task.TheVariants.{Play, Audit}
 
 -- What a line that asks for no task leaves on both outputs, each with its number of failed writes, and the status.
 module _ (old new : Option (List ℕ)) (fails fails_after : ℕ) (errors_old errors_new : Option (List ℕ)) (before after status : ℕ) where
@@ -21,7 +16,7 @@ module _ (old new : Option (List ℕ)) (fails fails_after : ℕ) (errors_old err
 
   -- a text of help was written; or a front of it was, and a write failed
   abbrev pub Helps : Type 0
-  Helps = (text : List ℕ) × ((failed : Bool) × Writes failed old new fails fails_after text × (status ≡ (if failed then 4 else 0)) × Told errors_old errors_new before after (if failed then line_of (Err fault.Write) else []))
+  Helps = (text : List ℕ) × ((failed : Bool) × Writes failed old new fails fails_after text × (status ≡ (if failed then 4 else 0)) × Told errors_old errors_new before after (if failed then line_of (Err PlayFault.Write) else []))
 
   -- what is wrong with the line was told
   abbrev pub Complains : Type 0
@@ -29,8 +24,8 @@ module _ (old new : Option (List ℕ)) (fails fails_after : ℕ) (errors_old err
 
   -- how the line is answered, by what was found in it
   abbrev pub Declines : ErrorKind → Type 0
-  Declines DisplayHelp = Helps ⊎ RunsOut
-  Declines OutOfMemory = RunsOut
+  Declines ErrorKind.DisplayHelp = Helps ⊎ RunsOut
+  Declines ErrorKind.OutOfMemory = RunsOut
   Declines _ = Complains ⊎ RunsOut
 
 -- What a whole line leaves, on its input too, with the number of failed reads. Where it asks for a task, that is done as far as
@@ -42,7 +37,7 @@ module _ (left_old left_new : Option (List ℕ)) (reads reads_after : ℕ) (old 
       × (status ≡ status_of outcome) × Told errors_old errors_new before after (line_of outcome)
 
   abbrev pub Runs : Option Task → Kinds → Type 0
-  Runs (Some Play) faults = Does Plays
-  Runs (Some Audit) faults = Does Audits
+  Runs (Some Task.Play) faults = Does Plays
+  Runs (Some Task.Audit) faults = Does Audits
   Runs None faults = Keeps left_old left_new × (reads_after ≡ reads)
-      × ((found : ErrorKind) × IsAmong found (OutOfMemory ∷ faults) × Declines old new fails fails_after errors_old errors_new before after status found)
+      × ((found : ErrorKind) × IsAmong found (ErrorKind.OutOfMemory ∷ faults) × Declines old new fails fails_after errors_old errors_new before after status found)

@@ -1,7 +1,7 @@
 -- The turns of a call, one after another.
 use Rattle.std.proofs.Common.{◌≡◌, ℕ, ◌+◌, ap, arith}
 use Rattle.cc_steps.specs.Walk.{Walk}
-use Rattle.cc_model.specs.declared.call.Answer.{Answer}
+use Rattle.cc_drive.specs.Names.{Answer}
 use Rattle.cc_queue.specs.Calls.{Waited, Answered}
 use Rattle.cc_queue.specs.Work.{tally, reads}
 

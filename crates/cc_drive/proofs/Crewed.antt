@@ -3,23 +3,15 @@ use Rattle.std.proofs.Common.{◌≡◌, ℕ, zero, suc, ◌+◌, ◌<◌, ◌�
 use Rattle.std.specs.Prelude.{⊤}
 use Rattle.std.specs.List.{All, AllByRecursion}
 use Rattle.std.proofs.lemmas.List.{length-map}
-use Rattle.cc_model.specs.declared.call.CloseAnswer.{CloseAnswer}
-use Rattle.cc_model.specs.declared.config.Config.{Config}
-use Rattle.cc_model.specs.declared.config.ConfigFault.{ConfigFault}
+use Rattle.cc_drive.specs.Names.{CloseAnswer, Config, ConfigFault, SendReceipt, TakeReceipt, DriveConfig, Worked, DriveFault}
 use Rattle.cc_steps.specs.Topic.{Topic}
 use Rattle.cc_steps.specs.Walk.{Walk, IsOf, fresh}
-use Rattle.cc_audit.specs.declared.receipt.SendReceipt.{SendReceipt}
-use Rattle.cc_audit.specs.declared.receipt.TakeReceipt.{TakeReceipt}
 use Rattle.cc_queue.specs.Met.{HasMet}
 use Rattle.cc_queue.specs.Receipts.{receipts_in, receipts_by, sent, got}
 use Rattle.cc_queue.proofs.OnItsSide.{Told}
-use Rattle.cc_drive.specs.declared.config.DriveConfig.{DriveConfig}
-use Rattle.cc_drive.specs.declared.kept.Worked.{Worked}
 use Rattle.cc_drive.specs.Back.{IsBack, SenderIsBack, ReceiverIsBack, SenderGave, ReceiverGave, IsNotClosed, calls}
 use Rattle.cc_drive.specs.Config.{queue_of, IsDue}
 use Rattle.cc_drive.specs.Crew.{present, least_missing, in_turn}
-use Rattle.cc_drive.specs.declared.config.DriveFault.{DriveFault}
-use Rattle.cc_drive.specs.declared.config.DriveFault.TheVariants as fault
 use Rattle.cc_drive.specs.Ran.{ClosedAfter, IsTold, due}
 use Rattle.cc_drive.specs.Row.{InRow, Pairs}
 use Rattle.cc_drive.proofs.Crews.{crew_passes, crew_count, crew_receipts, crew_all}
@@ -92,11 +84,11 @@ least_below n m (None ∷ xs) e = let same : n ≡ m = cc e in omega (arith, sam
 
 due_below : (refused : Bool) (workers : ℕ) (sender receiver : Option ℕ) (closed whole : Bool) (told : DriveFault) → (refused ≡ false → (n : ℕ) → sender ≡ Some n → n ≤ workers) → (refused ≡ false → (n : ℕ) → receiver ≡ Some n → n ≤ workers)
     → due refused workers sender receiver closed whole ≡ Some told → IsDue (Ok tt) workers told
-due_below true workers sender receiver closed whole told low low' e = (let is : fault.Thread ≡ told = cc e in subst (IsDue (Ok tt) workers) is tt)
-due_below false workers (Some n) receiver closed whole told low low' e = (let is : fault.Limit n ≡ told = cc e in subst (IsDue (Ok tt) workers) is (low refl n refl))
-due_below false workers None (Some n) closed whole told low low' e = (let is : fault.Limit n ≡ told = cc e in subst (IsDue (Ok tt) workers) is (low' refl n refl))
-due_below false workers None None false whole told low low' e = (let is : fault.Limit workers ≡ told = cc e in subst (IsDue (Ok tt) workers) is (omega arith))
-due_below false workers None None true false told low low' e = (let is : fault.NoMemory ≡ told = cc e in subst (IsDue (Ok tt) workers) is tt)
+due_below true workers sender receiver closed whole told low low' e = (let is : DriveFault.Thread ≡ told = cc e in subst (IsDue (Ok tt) workers) is tt)
+due_below false workers (Some n) receiver closed whole told low low' e = (let is : DriveFault.Limit n ≡ told = cc e in subst (IsDue (Ok tt) workers) is (low refl n refl))
+due_below false workers None (Some n) closed whole told low low' e = (let is : DriveFault.Limit n ≡ told = cc e in subst (IsDue (Ok tt) workers) is (low' refl n refl))
+due_below false workers None None false whole told low low' e = (let is : DriveFault.Limit workers ≡ told = cc e in subst (IsDue (Ok tt) workers) is (omega arith))
+due_below false workers None None true false told low low' e = (let is : DriveFault.NoMemory ≡ told = cc e in subst (IsDue (Ok tt) workers) is tt)
 due_below false workers None None true true told low low' e = absurd (cc e)
 
 told_due : (z : Topic) (c : DriveConfig) (told : DriveFault) → IsTold z c told → IsDue (Ok tt) (c.senders + c.receivers) told
@@ -111,7 +103,7 @@ all_due z c (Ok a) told = tt
 all_due z c (Err f) told = told_due z c f told
 
 -- and so is missing memory, of a lawful configuration
-pub memory_due : {A : Type 0} (lawful : Result ⊤ ConfigFault) (workers : ℕ) (r : Result A DriveFault) → lawful ≡ Ok tt → IfErr r (λ f. f ≡ fault.NoMemory) → IfErr r (IsDue lawful workers)
+pub memory_due : {A : Type 0} (lawful : Result ⊤ ConfigFault) (workers : ℕ) (r : Result A DriveFault) → lawful ≡ Ok tt → IfErr r (λ f. f ≡ DriveFault.NoMemory) → IfErr r (IsDue lawful workers)
 memory_due lawful workers (Ok a) fine none = tt
 memory_due lawful workers (Err f) fine none = subst (λ (y : Result ⊤ ConfigFault × DriveFault). IsDue y.0 workers y.1) (λ i. (sym fine i, sym none i)) tt
 

@@ -1,12 +1,10 @@
 -- The passes of an opened queue, as they are dealt to the workers.
 use Rattle.std.proofs.Common.{◌≡◌, ℕ, suc, ◌+◌, ◌≤◌, List, [], ◌∷◌, ◌++◌, length, map, refl, sym, ap, ◌∙◌, subst, arith}
-use Rattle.cc_model.specs.declared.config.Config.{Config}
-use Rattle.cc_model.specs.declared.call.Pass.TheVariants.{Sender, Receiver}
+use Rattle.cc_drive.specs.Names.{Config, Pass, DriveConfig}
 use Rattle.cc_runs.specs.State.{pass_at}
 use Rattle.cc_steps.specs.Topic.{Topic}
 use Rattle.cc_steps.specs.Walk.{Walk, fresh, fresh_from}
 use Rattle.cc_queue.proofs.Held.{sender_named, receiver_named}
-use Rattle.cc_drive.specs.declared.config.DriveConfig.{DriveConfig}
 use Rattle.cc_drive.specs.declared.jobs.Job.{Job}
 use Rattle.cc_drive.specs.Config.{queue_of}
 use Rattle.cc_drive.specs.Jobs.{IsSending, IsTaking}
@@ -25,11 +23,11 @@ sending_from : {G : Type 0} (z : Topic) (c : DriveConfig) (row : ℕ) (jobs : Li
 sending_from z c row [] passes config few are f numbers = tt
 sending_from z c row (j ∷ jobs) [] config few are f numbers = absurd (let n : suc (length (map (λ i. i.pass) jobs)) ≡ 0 = ap length are in omega (arith, n))
 sending_from z c row (j ∷ jobs) (p ∷ passes) config few are f numbers =
-    let at : pass_at z.setting.config row ≡ Sender (1 + row) = ap (λ (k : Config). pass_at k row) config ∙ sender_named (queue_of c) row (omega (arith, few)) in
+    let at : pass_at z.setting.config row ≡ Pass.Sender (1 + row) = ap (λ (k : Config). pass_at k row) config ∙ sender_named (queue_of c) row (omega (arith, few)) in
     let one : j.pass ≡ p = cc are in
     let rest : map (λ i. i.pass) jobs ≡ passes = cc are in
     let number : j.number ≡ row + 1 = numbers.0 in (
-      (one ∙ f.0, at ∙ ap Sender (omega (arith, number)), ap (λ (k : Config). k.per_sender) config),
+      (one ∙ f.0, at ∙ ap Pass.Sender (omega (arith, number)), ap (λ (k : Config). k.per_sender) config),
       sending_from z c (row + 1) jobs passes config (omega (arith, few)) rest f.1 numbers.1,
     )
 
@@ -45,12 +43,12 @@ taking_from : {G : Type 0} (z : Topic) (c : DriveConfig) (k : ℕ) (jobs : List 
 taking_from z c k [] passes config are f numbers = tt
 taking_from z c k (j ∷ jobs) [] config are f numbers = absurd (let n : suc (length (map (λ i. i.pass) jobs)) ≡ 0 = ap length are in omega (arith, n))
 taking_from {G} z c k (j ∷ jobs) (p ∷ passes) config are f numbers =
-    let at : pass_at z.setting.config (c.senders + 1 + k) ≡ Receiver (1 + k) = ap (λ (x : Config). pass_at x (c.senders + 1 + k)) config ∙ receiver_named (queue_of c) k in
+    let at : pass_at z.setting.config (c.senders + 1 + k) ≡ Pass.Receiver (1 + k) = ap (λ (x : Config). pass_at x (c.senders + 1 + k)) config ∙ receiver_named (queue_of c) k in
     let one : j.pass ≡ p = cc are in
     let rest : map (λ i. i.pass) jobs ≡ passes = cc are in
     let number : j.number ≡ k + 1 = numbers.0 in
     let next : c.senders + 1 + (k + 1) ≡ c.senders + 1 + k + 1 = omega arith in (
-      (one ∙ f.0, at ∙ ap Receiver (omega (arith, number))),
+      (one ∙ f.0, at ∙ ap Pass.Receiver (omega (arith, number))),
       subst (λ (n : ℕ). InRow (IsTaking {G = G} z) n jobs) next (taking_from z c (k + 1) jobs passes config rest (subst (λ (n : ℕ). fresh_from z n passes) (sym next) f.1) numbers.1),
     )
 

@@ -2,9 +2,7 @@
 use Rattle.std.proofs.Common.{◌≡◌, ℕ, zero, suc, ◌+◌, ◌*◌, ◌-◌, ◌^◌, ◌<◌, List, [], ◌∷◌, ◌++◌, map, length, get_or, Some, refl, sym, ap, ◌∙◌, subst, arith, append-nil, append_assoc, length-append}
 use Rattle.std.specs.List.{All, AllByRecursion}
 use Rattle.cc_model.specs.Legal.{CountsFrom}
-use Rattle.cc_model.specs.declared.call.Call.TheVariants as call
-use Rattle.cc_model.specs.declared.call.CloseAnswer.{CloseAnswer}
-use Rattle.cc_model.specs.declared.call.Answer.TheVariants as answer
+use Rattle.cc_drive.specs.Names.{Call, CloseAnswer, Answer}
 use Rattle.cc_runs.specs.ChainLaws.{IsLastAnswer}
 use Rattle.cc_steps.specs.Topic.{Topic}
 use Rattle.cc_steps.specs.Walk.{Walk, IsOf, fresh}
@@ -118,20 +116,20 @@ fresh_met z n c met is m =
     )
 
 pub closer_back : (z : Topic) (n : ℕ) (c w : Walk) (senders : List Walk) (told : CloseAnswer) → c ≡ fresh z n → ClosedAfter c senders told w → IsBack z n w
-closer_back z n c w senders told is k = back_more z n k.met w call.Close (answer.Close told) (fresh_met z n c k.met is k.first).1 k.close
+closer_back z n c w senders told is k = back_more z n k.met w Call.Close (Answer.Close told) (fresh_met z n c k.met is k.first).1 k.close
 
-pub closer_calls : (z : Topic) (n : ℕ) (c w : Walk) (senders : List Walk) (told : CloseAnswer) → c ≡ fresh z n → (k : ClosedAfter c senders told w) → calls w ≡ (entry_of k.met call.Close, Some (answer.Close told)) ∷ []
+pub closer_calls : (z : Topic) (n : ℕ) (c w : Walk) (senders : List Walk) (told : CloseAnswer) → c ≡ fresh z n → (k : ClosedAfter c senders told w) → calls w ≡ (entry_of k.met Call.Close, Some (Answer.Close told)) ∷ []
 closer_calls z n c w senders told is k =
     let met = fresh_met z n c k.met is k.first in
-    call_more z n k.met w call.Close (answer.Close told) met.1 k.close ∙ ap (λ (zs : List Told). zs ++ (entry_of k.met call.Close, Some (answer.Close told)) ∷ []) met.0
+    call_more z n k.met w Call.Close (Answer.Close told) met.1 k.close ∙ ap (λ (zs : List Told). zs ++ (entry_of k.met Call.Close, Some (Answer.Close told)) ∷ []) met.0
 
 pub closer_sent_none : (z : Topic) (n : ℕ) (c w : Walk) (senders : List Walk) (told : CloseAnswer) → c ≡ fresh z n → ClosedAfter c senders told w → receipts_in sent (calls w) ≡ []
 closer_sent_none z n c w senders told is k = ap (receipts_in sent) (closer_calls z n c w senders told is k)
 
 -- and was told so, when it has met the others too
-pub closer_told : (z : Topic) (n : ℕ) (c w x : Walk) (senders : List Walk) (told : CloseAnswer) → c ≡ fresh z n → ClosedAfter c senders told w → HasMet w x → IsLastAnswer (name x) (history x) (answer.Close told)
+pub closer_told : (z : Topic) (n : ℕ) (c w x : Walk) (senders : List Walk) (told : CloseAnswer) → c ≡ fresh z n → ClosedAfter c senders told w → HasMet w x → IsLastAnswer (name x) (history x) (Answer.Close told)
 closer_told z n c w x senders told is k m = record {
   before = [];
-  entry = entry_of k.met call.Close;
+  entry = entry_of k.met Call.Close;
   last = calls_met z n w x (closer_back z n c w senders told is k) m ∙ closer_calls z n c w senders told is k;
 }

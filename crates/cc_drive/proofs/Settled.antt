@@ -4,11 +4,8 @@ use Rattle.std.specs.List.{All}
 use Rattle.std.proofs.lemmas.List.Sorted.{length_permutation}
 use Rattle.cc_model.specs.Record.{Record}
 use Rattle.cc_model.specs.Legal.{Legal}
-use Rattle.cc_model.specs.declared.config.Config.{Config}
+use Rattle.cc_drive.specs.Names.{Config, Move, Setting, Served, DriveConfig, Ran}
 use Rattle.cc_runs.specs.Run.{history_of}
-use Rattle.cc_runs.specs.declared.run.Move.{Move}
-use Rattle.cc_runs.specs.declared.setting.Setting.{Setting}
-use Rattle.cc_runs.specs.declared.setting.Served.TheVariants as served
 use Rattle.cc_steps.specs.Topic.{Topic}
 use Rattle.cc_steps.specs.Walk.{Walk, IsOf, fresh}
 use Rattle.cc_audit.specs.Receipts.{sends_of, takes_of, total_of}
@@ -17,8 +14,6 @@ use Rattle.cc_queue.specs.Met.{AreOfOne, HasMet, HaveSeenOne}
 use Rattle.cc_queue.specs.Receipts.{AreAll, AreInRow, in_group, receipts_by, seen_by, sent, got}
 use Rattle.cc_queue.proofs.Held.{sends_held, takes_held, only_group, seen_is}
 use Rattle.cc_runs.specs.Words.{groups}
-use Rattle.cc_drive.specs.declared.config.DriveConfig.{DriveConfig}
-use Rattle.cc_drive.specs.declared.ending.Ran.{Ran}
 use Rattle.cc_drive.specs.Config.{queue_of}
 use Rattle.cc_drive.specs.Back.{IsBack, SenderIsBack, ReceiverIsBack}
 use Rattle.cc_drive.specs.Ran.{HasRun, total_in}
@@ -51,7 +46,7 @@ even_so z n (w ∷ ws) seen group some row one =
     let is = one 0 w (omega arith) in
     subst (λ (h : Record). length (takes_of h 0) ≡ length (sends_of h)) (seen_of z n w seen row.0.back is) (taken_is_sent w.setting.config (history w) (name w) row.0.total (ap (λ (s : Setting). s.config.groups) row.0.back.here.1 ∙ group) row.0.back.stands.legal row.0.ended)
 
-pub settled : (z : Topic) (c : DriveConfig) (r : Ran) (all senders receivers : List Walk) → z.setting ≡ record { served = served.List; config = queue_of c } → 0 < c.receivers → HasRun z c r
+pub settled : (z : Topic) (c : DriveConfig) (r : Ran) (all senders receivers : List Walk) → z.setting ≡ record { served = Served.List; config = queue_of c } → 0 < c.receivers → HasRun z c r
     → all ≡ r.senders.items ++ r.closer ∷ [] → Pairs HasMet all senders → Pairs HasMet r.receivers.items receivers → HaveSeenOne senders receivers → Settled z c r senders receivers
 settled z c r all senders receivers setting some run is met met' one =
     let config : z.setting.config ≡ queue_of c = ap (λ (s : Setting). s.config) setting in

@@ -5,12 +5,7 @@ use Rattle.cc_model.specs.Record.{Side, Record, of_group}
 use Rattle.cc_model.specs.Items.{HasAnswer, SideBegins, Begins, calls_of, is_pass}
 use Rattle.cc_model.specs.Legal.{Legal}
 use Rattle.cc_model.specs.Config.{group_of}
-use Rattle.cc_model.specs.declared.config.Config.{Config}
-use Rattle.cc_model.specs.declared.call.Pass.{Pass}
-use Rattle.cc_model.specs.declared.call.Pass.TheVariants as pass
-use Rattle.cc_model.specs.declared.call.Entry.{Entry}
-use Rattle.cc_model.specs.declared.call.Answer.{Answer}
-use Rattle.cc_runs.specs.declared.setting.Setting.{Setting}
+use Rattle.cc_drive.specs.Names.{Config, Pass, Entry, Answer, Setting}
 use Rattle.cc_runs.specs.ChainLaws.{IsLastAnswer}
 use Rattle.cc_runs.specs.State.{pass_at}
 use Rattle.cc_steps.specs.Walk.{Walk}
@@ -77,8 +72,8 @@ stays p (c ∷ calls) more [] (y ∷ later) all =
     front_skips (is_pass p c.pass) c (c, Some y) (its p calls []) (its p (calls ++ more) later) all (λ rest. stays p calls more [] later rest)
 
 side_begins : (cfg : Config) (p : Pass) (h h' : Record) → Begins h h' → SideBegins (its_side cfg p h) (its_side cfg p h')
-side_begins cfg (pass.Sender s) h h' b = b.sends
-side_begins cfg (pass.Receiver r) h h' b = b.takes (group_of cfg r)
+side_begins cfg (Pass.Sender s) h h' b = b.sends
+side_begins cfg (Pass.Receiver r) h h' b = b.takes (group_of cfg r)
 
 -- a pass's calls stay, with their answers, in each history that begins so
 all_stay : (cfg cfg' : Config) (h h' : Record) (p : Pass) → cfg' ≡ cfg → Legal cfg h → Legal cfg' h' → Begins h h' → AllByRecursion HasAnswer (calls_of p h) → Front (calls_of p h) (calls_of p h')

@@ -6,18 +6,8 @@ use Rattle.std.proofs.lemmas.Bool.{cases_lt}
 use Rattle.cc_model.specs.Record.{Record}
 use Rattle.cc_model.specs.Items.{answered, calls_of, is_pass, accepted_item, shuts}
 use Rattle.cc_model.specs.Legal.{Legal, IsSenders, EAnswer, EAnswers}
-use Rattle.cc_model.specs.declared.config.Config.{Config}
-use Rattle.cc_model.specs.declared.call.Call.{Call}
-use Rattle.cc_model.specs.declared.call.Call.TheVariants as call
-use Rattle.cc_model.specs.declared.call.Pass.{Pass}
-use Rattle.cc_model.specs.declared.call.Pass.TheVariants.{Sender, Receiver}
-use Rattle.cc_model.specs.declared.call.Entry.{Entry}
-use Rattle.cc_model.specs.declared.call.Answer.{Answer}
-use Rattle.cc_model.specs.declared.call.Answer.TheVariants as answer
-use Rattle.cc_model.specs.declared.call.SendAnswer.TheVariants as send
-use Rattle.cc_model.specs.declared.call.CloseAnswer.TheVariants as close
+use Rattle.cc_drive.specs.Names.{Config, Call, Pass, Entry, Answer, SendAnswer, CloseAnswer, Setting}
 use Rattle.cc_runs.specs.State.{pass_at}
-use Rattle.cc_runs.specs.declared.setting.Setting.{Setting}
 use Rattle.cc_runs.specs.Run.{history_of}
 use Rattle.cc_steps.specs.Topic.{Topic}
 use Rattle.cc_steps.specs.Walk.{Walk, fresh}
@@ -30,7 +20,7 @@ use Rattle.cc_drive.specs.Row.{InRow}
 use Rattle.cc_drive.proofs.Told.{nil_of}
 
 abbrev IsSend : Told → Type 0
-IsSend z = (body : ℕ) × (z.0.call ≡ call.Send body)
+IsSend z = (body : ℕ) × (z.0.call ≡ Call.Send body)
 
 sends_all : (n : ℕ) (zs : List Told) → SendsFrom n zs → AllByRecursion IsSend zs
 sends_all n [] s = tt
@@ -50,37 +40,37 @@ filter_all P f (z ∷ zs) all = go (f z) (filter_all P f zs all.1)
     go true rest = (all.0, rest)
     go false rest = rest
 
-one_send : (cfg : Config) (p : Pass) (c : Call) (z : Told) (rest : ℕ → List Told) → IsSenders cfg p c → ((s : ℕ) → 1 ≤ s → s ≤ cfg.senders → AllByRecursion IsSend (kept (is_pass (Sender s) p) z (rest s))) → IsSend z
-one_send cfg (Sender s) (call.Send body) z rest is each = (subst (λ (b : Bool). AllByRecursion IsSend (kept b z (rest s))) (eq-eqb s s refl) (each s is.0 is.1)).0
-one_send cfg (Sender s) call.Close z rest is each = (subst (λ (b : Bool). AllByRecursion IsSend (kept b z (rest s))) (eq-eqb s s refl) (each s is.0 is.1)).0
-one_send cfg (Sender s) call.Take z rest is each = absurd is
-one_send cfg (Receiver r) c z rest is each = absurd is
+one_send : (cfg : Config) (p : Pass) (c : Call) (z : Told) (rest : ℕ → List Told) → IsSenders cfg p c → ((s : ℕ) → 1 ≤ s → s ≤ cfg.senders → AllByRecursion IsSend (kept (is_pass (Pass.Sender s) p) z (rest s))) → IsSend z
+one_send cfg (Pass.Sender s) (Call.Send body) z rest is each = (subst (λ (b : Bool). AllByRecursion IsSend (kept b z (rest s))) (eq-eqb s s refl) (each s is.0 is.1)).0
+one_send cfg (Pass.Sender s) Call.Close z rest is each = (subst (λ (b : Bool). AllByRecursion IsSend (kept b z (rest s))) (eq-eqb s s refl) (each s is.0 is.1)).0
+one_send cfg (Pass.Sender s) Call.Take z rest is each = absurd is
+one_send cfg (Pass.Receiver r) c z rest is each = absurd is
 
-each_send : (cfg : Config) (entries : List Entry) (answers : List Answer) → AllByRecursion (λ c. IsSenders cfg c.pass c.call) entries → ((s : ℕ) → 1 ≤ s → s ≤ cfg.senders → AllByRecursion IsSend (its (Sender s) entries answers)) → AllByRecursion IsSend (answered entries answers)
+each_send : (cfg : Config) (entries : List Entry) (answers : List Answer) → AllByRecursion (λ c. IsSenders cfg c.pass c.call) entries → ((s : ℕ) → 1 ≤ s → s ≤ cfg.senders → AllByRecursion IsSend (its (Pass.Sender s) entries answers)) → AllByRecursion IsSend (answered entries answers)
 each_send cfg [] answers are each = tt
 each_send cfg (c ∷ entries) [] are each = (
-  one_send cfg c.pass c.call (c, None) (λ s. its (Sender s) entries []) are.0 each,
-  each_send cfg entries [] are.1 (λ s low high. tail_all IsSend (is_pass (Sender s) c.pass) (c, None) (its (Sender s) entries []) (each s low high)),
+  one_send cfg c.pass c.call (c, None) (λ s. its (Pass.Sender s) entries []) are.0 each,
+  each_send cfg entries [] are.1 (λ s low high. tail_all IsSend (is_pass (Pass.Sender s) c.pass) (c, None) (its (Pass.Sender s) entries []) (each s low high)),
 )
 each_send cfg (c ∷ entries) (a ∷ answers) are each = (
-  one_send cfg c.pass c.call (c, Some a) (λ s. its (Sender s) entries answers) are.0 each,
-  each_send cfg entries answers are.1 (λ s low high. tail_all IsSend (is_pass (Sender s) c.pass) (c, Some a) (its (Sender s) entries answers) (each s low high)),
+  one_send cfg c.pass c.call (c, Some a) (λ s. its (Pass.Sender s) entries answers) are.0 each,
+  each_send cfg entries answers are.1 (λ s low high. tail_all IsSend (is_pass (Pass.Sender s) c.pass) (c, Some a) (its (Pass.Sender s) entries answers) (each s low high)),
 )
 
 -- ---- nothing is answered that the queue is closed
 
-answer_of_send : (cfg : Config) (count known : ℕ) (e : Entry) (c : Call) (a : Answer) (body : ℕ) → c ≡ call.Send body → EAnswer cfg count false known c a → IsNotClosed (e, Some a) × (shuts a ≡ false)
-answer_of_send cfg count known e c (answer.Send (send.Accepted place)) body is k = (tt, refl)
-answer_of_send cfg count known e c (answer.Send send.Full) body is k = (tt, refl)
-answer_of_send cfg count known e c (answer.Send send.Spent) body is k = (tt, refl)
-answer_of_send cfg count known e (call.Send other) (answer.Send send.Closed) body is k = absurd k
-answer_of_send cfg count known e call.Close (answer.Send send.Closed) body is k = absurd k
-answer_of_send cfg count known e call.Take (answer.Send send.Closed) body is k = absurd k
-answer_of_send cfg count known e (call.Send other) (answer.Close (close.Shut total)) body is k = absurd k
-answer_of_send cfg count known e call.Close (answer.Close (close.Shut total)) body is k = absurd (cc is)
-answer_of_send cfg count known e call.Take (answer.Close (close.Shut total)) body is k = absurd k
-answer_of_send cfg count known e c (answer.Close (close.Already total)) body is k = (tt, refl)
-answer_of_send cfg count known e c (answer.Take told) body is k = (tt, refl)
+answer_of_send : (cfg : Config) (count known : ℕ) (e : Entry) (c : Call) (a : Answer) (body : ℕ) → c ≡ Call.Send body → EAnswer cfg count false known c a → IsNotClosed (e, Some a) × (shuts a ≡ false)
+answer_of_send cfg count known e c (Answer.Send (SendAnswer.Accepted place)) body is k = (tt, refl)
+answer_of_send cfg count known e c (Answer.Send SendAnswer.Full) body is k = (tt, refl)
+answer_of_send cfg count known e c (Answer.Send SendAnswer.Spent) body is k = (tt, refl)
+answer_of_send cfg count known e (Call.Send other) (Answer.Send SendAnswer.Closed) body is k = absurd k
+answer_of_send cfg count known e Call.Close (Answer.Send SendAnswer.Closed) body is k = absurd k
+answer_of_send cfg count known e Call.Take (Answer.Send SendAnswer.Closed) body is k = absurd k
+answer_of_send cfg count known e (Call.Send other) (Answer.Close (CloseAnswer.Shut total)) body is k = absurd k
+answer_of_send cfg count known e Call.Close (Answer.Close (CloseAnswer.Shut total)) body is k = absurd (cc is)
+answer_of_send cfg count known e Call.Take (Answer.Close (CloseAnswer.Shut total)) body is k = absurd k
+answer_of_send cfg count known e c (Answer.Close (CloseAnswer.Already total)) body is k = (tt, refl)
+answer_of_send cfg count known e c (Answer.Take told) body is k = (tt, refl)
 
 none_closed : (cfg : Config) (count : ℕ) (entries : List Entry) (answers : List Answer) → AllByRecursion IsSend (answered entries answers) → EAnswers cfg count false entries answers → AllByRecursion IsNotClosed (answered entries answers)
 none_closed cfg count [] answers all k = tt
@@ -108,9 +98,9 @@ row_unclosed : (z : Topic) (items limit n : ℕ) (ws : List Walk) (h : Record) �
     → AllByRecursion IsNotClosed (answered h.sends.calls h.sends.answers) → AllByRecursion (λ w. AllByRecursion IsNotClosed (calls w)) ws
 row_unclosed z items limit n [] h few l row same none = tt
 row_unclosed z items limit n (w ∷ ws) h few l row same none =
-    let its_own : calls w ≡ its (Sender (1 + n)) h.sends.calls h.sends.answers =
-    calls_at z n w h row.0.back (same 0 w (omega arith)) ∙ ap (λ (p : Pass). calls_of p h) (sender_named z.setting.config n (omega (arith, few))) ∙ on_its_side z.setting.config h (Sender (1 + n)) l in (
-      subst (AllByRecursion IsNotClosed) (sym its_own) (filter_all IsNotClosed (λ x. is_pass (Sender (1 + n)) x.0.pass) (answered h.sends.calls h.sends.answers) none),
+    let its_own : calls w ≡ its (Pass.Sender (1 + n)) h.sends.calls h.sends.answers =
+    calls_at z n w h row.0.back (same 0 w (omega arith)) ∙ ap (λ (p : Pass). calls_of p h) (sender_named z.setting.config n (omega (arith, few))) ∙ on_its_side z.setting.config h (Pass.Sender (1 + n)) l in (
+      subst (AllByRecursion IsNotClosed) (sym its_own) (filter_all IsNotClosed (λ x. is_pass (Pass.Sender (1 + n)) x.0.pass) (answered h.sends.calls h.sends.answers) none),
       row_unclosed z items limit (n + 1) ws h (omega (arith, few)) l row.1 (λ j d less. same (suc j) d (omega (arith, less))) none,
     )
 
@@ -131,13 +121,13 @@ unclosed z items limit senders met count row m after =
           let at : k ≡ length senders = omega (arith, last, less, count) in
           subst (λ (zs : List Told). AllByRecursion IsSend zs) (sym none ∙ closers ∙ ap (λ (n : ℕ). calls_of (pass_at cfg n) h) (sym at)) tt
     ] in
-    let by_number : (s : ℕ) → 1 ≤ s → s ≤ cfg.senders → AllByRecursion IsSend (its (Sender s) h.sends.calls h.sends.answers) = λ s low high. numbered cfg h lawful by_place s low high in
+    let by_number : (s : ℕ) → 1 ≤ s → s ≤ cfg.senders → AllByRecursion IsSend (its (Pass.Sender s) h.sends.calls h.sends.answers) = λ s low high. numbered cfg h lawful by_place s low high in
     row_unclosed z items limit 0 senders h (omega (arith, count)) lawful row same (none_closed cfg 0 h.sends.calls h.sends.answers (each_send cfg h.sends.calls h.sends.answers lawful.senders by_number) lawful.answers)
   where
-    numbered : (cfg : Config) (h : Record) → Legal cfg h → ((k : ℕ) → k < cfg.senders → AllByRecursion IsSend (calls_of (pass_at cfg k) h)) → (s : ℕ) → 1 ≤ s → s ≤ cfg.senders → AllByRecursion IsSend (its (Sender s) h.sends.calls h.sends.answers)
+    numbered : (cfg : Config) (h : Record) → Legal cfg h → ((k : ℕ) → k < cfg.senders → AllByRecursion IsSend (calls_of (pass_at cfg k) h)) → (s : ℕ) → 1 ≤ s → s ≤ cfg.senders → AllByRecursion IsSend (its (Pass.Sender s) h.sends.calls h.sends.answers)
     numbered cfg h l each zero low high = absurd (omega (arith, low))
     numbered cfg h l each (suc k) low high =
         let less : k < cfg.senders = omega (arith, high) in
         let at : 1 + k ≡ suc k = omega arith in
-        subst (λ (s : ℕ). AllByRecursion IsSend (its (Sender s) h.sends.calls h.sends.answers)) at
-        (subst (AllByRecursion IsSend) (ap (λ (p : Pass). calls_of p h) (sender_named cfg k less) ∙ on_its_side cfg h (Sender (1 + k)) l) (each k less))
+        subst (λ (s : ℕ). AllByRecursion IsSend (its (Pass.Sender s) h.sends.calls h.sends.answers)) at
+        (subst (AllByRecursion IsSend) (ap (λ (p : Pass). calls_of p h) (sender_named cfg k less) ∙ on_its_side cfg h (Pass.Sender (1 + k)) l) (each k less))

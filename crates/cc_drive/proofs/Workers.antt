@@ -4,17 +4,7 @@ use Rattle.std.specs.List.{AllByRecursion}
 use Rattle.std.proofs.lemmas.List.{map-append, length-map}
 use Rattle.cc_model.specs.Items.{sent_item}
 use Rattle.cc_model.specs.Legal.{CountsFrom}
-use Rattle.cc_model.specs.declared.call.Call.{Call}
-use Rattle.cc_model.specs.declared.call.Call.TheVariants as call
-use Rattle.cc_model.specs.declared.call.Pass.{Pass}
-use Rattle.cc_model.specs.declared.call.Pass.TheVariants as pass
-use Rattle.cc_model.specs.declared.call.Entry.{Entry}
-use Rattle.cc_model.specs.declared.call.Item.{Item}
-use Rattle.cc_model.specs.declared.call.Answer.{Answer}
-use Rattle.cc_model.specs.declared.call.Answer.TheVariants as answer
-use Rattle.cc_model.specs.declared.call.SendAnswer.{SendAnswer}
-use Rattle.cc_model.specs.declared.call.SendAnswer.TheVariants as send
-use Rattle.cc_model.specs.declared.call.TakeAnswer.TheVariants as take
+use Rattle.cc_drive.specs.Names.{Call, Pass, Entry, Item, Answer, SendAnswer, TakeAnswer, TakeReceipt, SendReceipt}
 use Rattle.cc_runs.specs.State.{pass_at}
 use Rattle.cc_steps.specs.Topic.{Topic}
 use Rattle.cc_steps.specs.Walk.{Walk, fresh}
@@ -24,9 +14,7 @@ use Rattle.cc_queue.specs.Met.{HasMet}
 use Rattle.cc_model.specs.Items.{HasAnswer}
 use Rattle.cc_queue.specs.Receipts.{receipts_in, sent, got}
 use Rattle.cc_audit.specs.Receipts.{send_receipt, take_receipt}
-use Rattle.cc_audit.specs.declared.receipt.TakeReceipt.{TakeReceipt}
 use Rattle.cc_queue.proofs.Held.{in_both}
-use Rattle.cc_audit.specs.declared.receipt.SendReceipt.{SendReceipt}
 use Rattle.cc_drive.specs.Back.{IsBack, SendsFrom, calls}
 use Rattle.cc_drive.proofs.Told.{Told, nil_of, stands_self, same_name, calls_more, each_answered}
 
@@ -83,80 +71,80 @@ working_more receipts z row who w x whole whole' keeps keeps' c told b k still m
 
 -- ---- a send
 
-pub sent_one : (n begun : ℕ) (w : Walk) (body place : ℕ) → name w ≡ pass.Sender n → begun ≡ w.stand.begun → sent (entry_of w (call.Send body), Some (answer.Send (send.Accepted place))) ≡ record { sender = n; number = begun + 1; place = place; body = body } ∷ []
+pub sent_one : (n begun : ℕ) (w : Walk) (body place : ℕ) → name w ≡ Pass.Sender n → begun ≡ w.stand.begun → sent (entry_of w (Call.Send body), Some (Answer.Send (SendAnswer.Accepted place))) ≡ record { sender = n; number = begun + 1; place = place; body = body } ∷ []
 sent_one n begun w body place named is =
-    ap (λ (p : Pass). map send_receipt (sent_item p (call.Send body) (w.stand.begun + 1) place)) named ∙ (λ i. record { sender = n; number = sym is i + 1; place = place; body = body } ∷ [])
+    ap (λ (p : Pass). map send_receipt (sent_item p (Call.Send body) (w.stand.begun + 1) place)) named ∙ (λ i. record { sender = n; number = sym is i + 1; place = place; body = body } ∷ [])
 
-pub sent_none : (e : Entry) (told : SendAnswer) → ((place : ℕ) → told ≢ send.Accepted place) → sent (e, Some (answer.Send told)) ≡ []
-sent_none e send.Full ne = refl
-sent_none e send.Closed ne = refl
-sent_none e send.Spent ne = refl
-sent_none e (send.Accepted place) ne = absurd (ne place refl)
+pub sent_none : (e : Entry) (told : SendAnswer) → ((place : ℕ) → told ≢ SendAnswer.Accepted place) → sent (e, Some (Answer.Send told)) ≡ []
+sent_none e SendAnswer.Full ne = refl
+sent_none e SendAnswer.Closed ne = refl
+sent_none e SendAnswer.Spent ne = refl
+sent_none e (SendAnswer.Accepted place) ne = absurd (ne place refl)
 
-pub count_more : (z : Topic) (row : ℕ) (w x : Walk) (body : ℕ) (told : SendAnswer) → IsBack z row w → Completed w (call.Send body) (answer.Send told) x → length (receipts_in sent (calls x)) ≡ length (receipts_in sent (calls w)) + length (sent (entry_of w (call.Send body), Some (answer.Send told)))
-count_more z row w x body told b k = ap length (receipts_more sent z row w x (call.Send body) (answer.Send told) b k) ∙ length-append (receipts_in sent (calls w)) (sent (entry_of w (call.Send body), Some (answer.Send told)))
+pub count_more : (z : Topic) (row : ℕ) (w x : Walk) (body : ℕ) (told : SendAnswer) → IsBack z row w → Completed w (Call.Send body) (Answer.Send told) x → length (receipts_in sent (calls x)) ≡ length (receipts_in sent (calls w)) + length (sent (entry_of w (Call.Send body), Some (Answer.Send told)))
+count_more z row w x body told b k = ap length (receipts_more sent z row w x (Call.Send body) (Answer.Send told) b k) ∙ length-append (receipts_in sent (calls w)) (sent (entry_of w (Call.Send body), Some (Answer.Send told)))
 
 -- ---- a take
 
-pub got_one : (n : ℕ) (w : Walk) (item : Item) → name w ≡ pass.Receiver n → got (entry_of w call.Take, Some (answer.Take (take.Got item))) ≡ record { receiver = n; item = item } ∷ []
-got_one n w item named = ap (λ (p : Pass). take_receipt p (answer.Take (take.Got item))) named
+pub got_one : (n : ℕ) (w : Walk) (item : Item) → name w ≡ Pass.Receiver n → got (entry_of w Call.Take, Some (Answer.Take (TakeAnswer.Got item))) ≡ record { receiver = n; item = item } ∷ []
+got_one n w item named = ap (λ (p : Pass). take_receipt p (Answer.Take (TakeAnswer.Got item))) named
 
-pub got_empty : (n : ℕ) (w : Walk) → name w ≡ pass.Receiver n → got (entry_of w call.Take, Some (answer.Take take.Empty)) ≡ []
-got_empty n w named = ap (λ (p : Pass). take_receipt p (answer.Take take.Empty)) named
+pub got_empty : (n : ℕ) (w : Walk) → name w ≡ Pass.Receiver n → got (entry_of w Call.Take, Some (Answer.Take TakeAnswer.Empty)) ≡ []
+got_empty n w named = ap (λ (p : Pass). take_receipt p (Answer.Take TakeAnswer.Empty)) named
 
-pub got_end : (n : ℕ) (w : Walk) (total : ℕ) → name w ≡ pass.Receiver n → got (entry_of w call.Take, Some (answer.Take (take.Ended total))) ≡ []
-got_end n w total named = ap (λ (p : Pass). take_receipt p (answer.Take (take.Ended total))) named
+pub got_end : (n : ℕ) (w : Walk) (total : ℕ) → name w ≡ Pass.Receiver n → got (entry_of w Call.Take, Some (Answer.Take (TakeAnswer.Ended total))) ≡ []
+got_end n w total named = ap (λ (p : Pass). take_receipt p (Answer.Take (TakeAnswer.Ended total))) named
 
 -- a call that leaves no receipt
 pub working_still : {X : Type 0} (receipts : Told → List X) (z : Topic) (row : ℕ) (who : Pass) (w x : Walk) (whole : Bool) (keeps : List X) (c : Call) (told : Answer) → Working receipts z row who w whole keeps → Completed w c told x → receipts (entry_of w c, Some told) ≡ [] → Working receipts z row who x whole keeps
 working_still receipts z row who w x whole keeps c told b k none = working_more receipts z row who w x whole whole keeps keeps c told b k (λ is. is) (λ is. sym (append-nil keeps) ∙ ap (λ l. keeps ++ l) (sym none))
 
-pub taken_none : (z : Topic) (row n : ℕ) (w x : Walk) (whole : Bool) (keeps : List TakeReceipt) (told : Answer) → Working got z row (pass.Receiver n) w whole keeps → Completed w call.Take told x → got (entry_of w call.Take, Some told) ≡ [] → Working got z row (pass.Receiver n) x whole keeps
-taken_none z row n w x whole keeps told b k none = working_still got z row (pass.Receiver n) w x whole keeps call.Take told b k none
+pub taken_none : (z : Topic) (row n : ℕ) (w x : Walk) (whole : Bool) (keeps : List TakeReceipt) (told : Answer) → Working got z row (Pass.Receiver n) w whole keeps → Completed w Call.Take told x → got (entry_of w Call.Take, Some told) ≡ [] → Working got z row (Pass.Receiver n) x whole keeps
+taken_none z row n w x whole keeps told b k none = working_still got z row (Pass.Receiver n) w x whole keeps Call.Take told b k none
 
 -- so many more items accepted
-pub count_one : (z : Topic) (row n : ℕ) (w x : Walk) (body place so_far : ℕ) → IsBack z row w → name w ≡ pass.Sender n → Completed w (call.Send body) (answer.Send (send.Accepted place)) x → so_far ≡ length (receipts_in sent (calls w)) → so_far + 1 ≡ length (receipts_in sent (calls x))
+pub count_one : (z : Topic) (row n : ℕ) (w x : Walk) (body place so_far : ℕ) → IsBack z row w → name w ≡ Pass.Sender n → Completed w (Call.Send body) (Answer.Send (SendAnswer.Accepted place)) x → so_far ≡ length (receipts_in sent (calls w)) → so_far + 1 ≡ length (receipts_in sent (calls x))
 count_one z row n w x body place so_far b named k are =
-    ap (λ (m : ℕ). m + 1) are ∙ ap (λ l. length (receipts_in sent (calls w)) + length l) (sym (sent_one n w.stand.begun w body place named refl)) ∙ sym (count_more z row w x body (send.Accepted place) b k)
+    ap (λ (m : ℕ). m + 1) are ∙ ap (λ l. length (receipts_in sent (calls w)) + length l) (sym (sent_one n w.stand.begun w body place named refl)) ∙ sym (count_more z row w x body (SendAnswer.Accepted place) b k)
 
-pub count_none : (z : Topic) (row : ℕ) (w x : Walk) (body so_far : ℕ) (told : SendAnswer) → IsBack z row w → Completed w (call.Send body) (answer.Send told) x → sent (entry_of w (call.Send body), Some (answer.Send told)) ≡ [] → so_far ≡ length (receipts_in sent (calls w)) → so_far ≡ length (receipts_in sent (calls x))
+pub count_none : (z : Topic) (row : ℕ) (w x : Walk) (body so_far : ℕ) (told : SendAnswer) → IsBack z row w → Completed w (Call.Send body) (Answer.Send told) x → sent (entry_of w (Call.Send body), Some (Answer.Send told)) ≡ [] → so_far ≡ length (receipts_in sent (calls w)) → so_far ≡ length (receipts_in sent (calls x))
 count_none z row w x body so_far told b k none are =
     are ∙ sym (count_more z row w x body told b k ∙ ap (λ l. length (receipts_in sent (calls w)) + length l) none ∙ (let e : length (receipts_in sent (calls w)) + 0 ≡ length (receipts_in sent (calls w)) = omega arith in e))
 
 -- ---- sends of the bodies in order
 
 -- one more
-sends_end : (n : ℕ) (zs : List Told) (z : Told) → SendsFrom n zs → z.0.call ≡ call.Send (n + length (receipts_in sent zs)) → SendsFrom n (zs ++ z ∷ [])
-sends_end n [] z s is = (is ∙ (let e : n + 0 ≡ n = omega arith in ap (λ (m : ℕ). call.Send m) e), tt)
+sends_end : (n : ℕ) (zs : List Told) (z : Told) → SendsFrom n zs → z.0.call ≡ Call.Send (n + length (receipts_in sent zs)) → SendsFrom n (zs ++ z ∷ [])
+sends_end n [] z s is = (is ∙ (let e : n + 0 ≡ n = omega arith in ap (λ (m : ℕ). Call.Send m) e), tt)
 sends_end n (y ∷ zs) z s is = (
   s.0,
   sends_end (n + length (sent y)) zs z s.1
-      (is ∙ (let e : n + length (sent y ++ receipts_in sent zs) ≡ n + length (sent y) + length (receipts_in sent zs) = omega (arith, length-append (sent y) (receipts_in sent zs)) in ap (λ (m : ℕ). call.Send m) e)),
+      (is ∙ (let e : n + length (sent y ++ receipts_in sent zs) ≡ n + length (sent y) + length (receipts_in sent zs) = omega (arith, length-append (sent y) (receipts_in sent zs)) in ap (λ (m : ℕ). Call.Send m) e)),
 )
 
-pub sends_more : (z : Topic) (row : ℕ) (w x : Walk) (so_far : ℕ) (told : Answer) → IsBack z row w → Completed w (call.Send (so_far + 1)) told x → so_far ≡ length (receipts_in sent (calls w)) → SendsFrom 1 (calls w) → SendsFrom 1 (calls x)
+pub sends_more : (z : Topic) (row : ℕ) (w x : Walk) (so_far : ℕ) (told : Answer) → IsBack z row w → Completed w (Call.Send (so_far + 1)) told x → so_far ≡ length (receipts_in sent (calls w)) → SendsFrom 1 (calls w) → SendsFrom 1 (calls x)
 sends_more z row w x so_far told b k are s =
-    subst (SendsFrom 1) (sym (call_more z row w x (call.Send (so_far + 1)) told b k))
-    (sends_end 1 (calls w) (entry_of w (call.Send (so_far + 1)), Some told) s (let e : so_far + 1 ≡ 1 + length (receipts_in sent (calls w)) = omega (arith, are) in ap (λ (m : ℕ). call.Send m) e))
+    subst (SendsFrom 1) (sym (call_more z row w x (Call.Send (so_far + 1)) told b k))
+    (sends_end 1 (calls w) (entry_of w (Call.Send (so_far + 1)), Some told) s (let e : so_far + 1 ≡ 1 + length (receipts_in sent (calls w)) = omega (arith, are) in ap (λ (m : ℕ). Call.Send m) e))
 
 -- their receipts have these bodies
 abbrev body_of : SendReceipt → ℕ
 body_of r = r.body
 
-one_body : (body : ℕ) (z : Told) → z.0.call ≡ call.Send body → CountsFrom body (map body_of (sent z))
+one_body : (body : ℕ) (z : Told) → z.0.call ≡ Call.Send body → CountsFrom body (map body_of (sent z))
 one_body body (e, None) is = tt
-one_body body (e, Some (answer.Send (send.Accepted place))) is = go e.pass e.call is
+one_body body (e, Some (Answer.Send (SendAnswer.Accepted place))) is = go e.pass e.call is
   where
-    go : (p : Pass) (c : Call) → c ≡ call.Send body → CountsFrom body (map body_of (map send_receipt (sent_item p c e.number place)))
-    go (pass.Sender s) (call.Send other) is = (let same : other ≡ body = cc is in same, tt)
-    go (pass.Sender s) call.Close is = tt
-    go (pass.Sender s) call.Take is = tt
-    go (pass.Receiver r) c is = tt
-one_body body (e, Some (answer.Send send.Full)) is = tt
-one_body body (e, Some (answer.Send send.Closed)) is = tt
-one_body body (e, Some (answer.Send send.Spent)) is = tt
-one_body body (e, Some (answer.Close told)) is = tt
-one_body body (e, Some (answer.Take told)) is = tt
+    go : (p : Pass) (c : Call) → c ≡ Call.Send body → CountsFrom body (map body_of (map send_receipt (sent_item p c e.number place)))
+    go (Pass.Sender s) (Call.Send other) is = (let same : other ≡ body = cc is in same, tt)
+    go (Pass.Sender s) Call.Close is = tt
+    go (Pass.Sender s) Call.Take is = tt
+    go (Pass.Receiver r) c is = tt
+one_body body (e, Some (Answer.Send SendAnswer.Full)) is = tt
+one_body body (e, Some (Answer.Send SendAnswer.Closed)) is = tt
+one_body body (e, Some (Answer.Send SendAnswer.Spent)) is = tt
+one_body body (e, Some (Answer.Close told)) is = tt
+one_body body (e, Some (Answer.Take told)) is = tt
 
 counts_both : (n m : ℕ) (xs ys : List ℕ) → m ≡ n + length xs → CountsFrom n xs → CountsFrom m ys → CountsFrom n (xs ++ ys)
 counts_both n m [] ys at k l = (let e : m ≡ n = omega (arith, at) in subst (λ (j : ℕ). CountsFrom j ys) e l)

@@ -3,20 +3,12 @@ use Rattle.std.specs.Prelude.{ℕ, ◌≡◌, ◌+◌, ◌<◌, ◌≤◌, ◌-�
 use Rattle.std.specs.List.{AllByRecursion}
 use Rattle.cc_model.specs.Items.{HasAnswer, calls_of}
 use Rattle.cc_model.specs.Legal.{CountsFrom}
-use Rattle.cc_model.specs.declared.call.Call.TheVariants as call
-use Rattle.cc_model.specs.declared.call.Entry.{Entry}
-use Rattle.cc_model.specs.declared.call.Answer.{Answer}
-use Rattle.cc_model.specs.declared.call.Answer.TheVariants as answer
-use Rattle.cc_model.specs.declared.call.SendAnswer.TheVariants as send
-use Rattle.cc_model.specs.declared.call.TakeAnswer.TheVariants as take
+use Rattle.cc_drive.specs.Names.{Call, Entry, Answer, SendAnswer, TakeAnswer, SendReceipt, TakeReceipt, Worked}
 use Rattle.cc_runs.specs.ChainLaws.{IsLastAnswer}
 use Rattle.cc_steps.specs.Topic.{Topic}
 use Rattle.cc_steps.specs.Walk.{Walk, IsOf}
 use Rattle.cc_queue.specs.Headline.{StandsInOne, name, history}
-use Rattle.cc_audit.specs.declared.receipt.SendReceipt.{SendReceipt}
-use Rattle.cc_audit.specs.declared.receipt.TakeReceipt.{TakeReceipt}
 use Rattle.cc_queue.specs.Receipts.{receipts_in, sent, got}
-use Rattle.cc_drive.specs.declared.kept.Worked.{Worked}
 
 -- the calls of a pass in the history that it has seen, each with its answer or pending
 abbrev pub calls : Walk → List (Entry × Option Answer)
@@ -33,11 +25,11 @@ pub record IsBack (z : Topic) (row : ℕ) (w : Walk) : Type 0 where
 -- these calls are sends of the bodies from this one on, in order: of each one until it was accepted
 abbrev pub SendsFrom : ℕ → List (Entry × Option Answer) → Type 0
 SendsFrom body [] = ⊤
-SendsFrom body (z ∷ zs) = (z.0.call ≡ call.Send body) × SendsFrom (body + length (sent z)) zs
+SendsFrom body (z ∷ zs) = (z.0.call ≡ Call.Send body) × SendsFrom (body + length (sent z)) zs
 
 -- the call wasn't told that the queue is closed
 abbrev pub IsNotClosed : Entry × Option Answer → Type 0
-IsNotClosed (e, Some (answer.Send send.Closed)) = ⊥
+IsNotClosed (e, Some (Answer.Send SendAnswer.Closed)) = ⊥
 IsNotClosed _ = ⊤
 
 -- A sender whose calls are sends of the bodies 1, 2 and so on, as its receipts have them. Where it could make fewer turns than
@@ -52,7 +44,7 @@ pub record SenderIsBack (z : Topic) (items limit row : ℕ) (w : Walk) : Type 0 
 pub record ReceiverIsBack (z : Topic) (row : ℕ) (w : Walk) : Type 0 where
   pub back : IsBack z row w
   pub total : ℕ
-  pub ended : IsLastAnswer (name w) (history w) (answer.Take (take.Ended total))
+  pub ended : IsLastAnswer (name w) (history w) (Answer.Take (TakeAnswer.Ended total))
 
 -- What the thread of a sender gives back: the pass, with the receipts of its calls where there was memory for each of them; or
 -- none, where it made as many turns as it may.

@@ -2,12 +2,7 @@
 use Rattle.std.specs.Prelude.{ℕ, ◌≡◌, ◌≤◌, ◌+◌, ◌-◌, ◌^◌, not, if◌then◌else◌, Result, Ok, Err, ⊤}
 use Rattle.cc_model.specs.Range.{within}
 use Rattle.cc_model.specs.Config.{config_fault}
-use Rattle.cc_model.specs.declared.config.Config.{Config}
-use Rattle.cc_model.specs.declared.config.ConfigFault.{ConfigFault}
-use Rattle.cc_model.specs.declared.config.ConfigFault.TheVariants as fault
-use Rattle.cc_drive.specs.declared.config.DriveConfig.{DriveConfig}
-use Rattle.cc_drive.specs.declared.config.DriveFault.{DriveFault}
-use Rattle.cc_drive.specs.declared.config.DriveFault.TheVariants as drive
+use Rattle.cc_drive.specs.Names.{Config, ConfigFault, DriveConfig, DriveFault}
 
 -- the queue of a run: it has one sender more, who closes it, and no other limits than a queue can have
 abbrev pub queue_of : DriveConfig → Config
@@ -23,12 +18,12 @@ queue_of c = record {
 
 -- the first field out of its range
 abbrev pub drive_fault : DriveConfig → Result ⊤ ConfigFault
-drive_fault c = if not (within 1 63 c.senders) then Err fault.Senders else config_fault (queue_of c)
+drive_fault c = if not (within 1 63 c.senders) then Err ConfigFault.Senders else config_fault (queue_of c)
 
 -- Why a run of so many workers has no end, whose configuration has this fault or none: for that fault where there is one, and
 -- else never for one of the configuration. At a limit is one of the workers, from 0, or the closer, whose number is the next.
 abbrev pub IsDue : Result ⊤ ConfigFault → (workers : ℕ) → DriveFault → Type 0
-IsDue (Err f) workers told = told ≡ drive.Config f
-IsDue (Ok _) workers (drive.Config f) = ⊥
-IsDue (Ok _) workers (drive.Limit n) = n ≤ workers
+IsDue (Err f) workers told = told ≡ DriveFault.Config f
+IsDue (Ok _) workers (DriveFault.Config f) = ⊥
+IsDue (Ok _) workers (DriveFault.Limit n) = n ≤ workers
 IsDue (Ok _) workers _ = ⊤

@@ -1,8 +1,7 @@
 -- What workers gave back, one after another.
 use Rattle.std.specs.Prelude.{ℕ, ◌≡◌, ◌+◌, true, List, [], ◌∷◌, ◌++◌, length, map, Option, Some, None}
 use Rattle.std.specs.List.{AllByRecursion}
-use Rattle.cc_drive.specs.declared.crew.Crew.{Crew}
-use Rattle.cc_drive.specs.declared.kept.Worked.{Worked}
+use Rattle.cc_drive.specs.Names.{Crew, Worked}
 use Rattle.cc_drive.specs.Row.{InRow}
 
 -- those that are there

@@ -1,3 +1,4 @@
+pub mod Names
 pub mod Config
 pub mod Work
 pub mod Back

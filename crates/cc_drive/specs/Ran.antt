@@ -1,40 +1,27 @@
 -- A run whose threads have ended.
 use Rattle.std.specs.Prelude.{ℕ, ◌≡◌, ◌<◌, ◌+◌, ◌⊎◌, Bool, true, false, List, length, map, Option, Some, None, IfSome, IfNone}
 use Rattle.std.specs.List.{All, AllByRecursion}
-use Rattle.cc_model.specs.declared.call.Answer.TheVariants as answer
-use Rattle.cc_model.specs.declared.call.Call.TheVariants as call
-use Rattle.cc_model.specs.declared.call.CloseAnswer.{CloseAnswer}
-use Rattle.cc_model.specs.declared.call.CloseAnswer.TheVariants as close
+use Rattle.cc_drive.specs.Names.{Answer, Call, CloseAnswer, DriveConfig, DriveFault, Ran, Crew, Worked, Brief, Turns, SendReceipt, TakeReceipt}
 use Rattle.cc_steps.specs.Topic.{Topic}
 use Rattle.cc_steps.specs.Walk.{Walk, fresh}
 use Rattle.cc_queue.specs.Calls.{Completed}
 use Rattle.cc_queue.specs.Met.{HasMet}
 use Rattle.cc_queue.specs.Receipts.{receipts_by, sent, got}
-use Rattle.cc_drive.specs.declared.config.DriveConfig.{DriveConfig}
-use Rattle.cc_drive.specs.declared.config.DriveFault.{DriveFault}
-use Rattle.cc_drive.specs.declared.config.DriveFault.TheVariants as fault
-use Rattle.cc_drive.specs.declared.ending.Ran.{Ran}
-use Rattle.cc_drive.specs.declared.crew.Crew.{Crew}
-use Rattle.cc_drive.specs.declared.kept.Worked.{Worked}
-use Rattle.cc_drive.specs.declared.threads.Brief.{Brief}
-use Rattle.cc_drive.specs.declared.turns.Turns.{Turns}
-use Rattle.cc_audit.specs.declared.receipt.SendReceipt.{SendReceipt}
-use Rattle.cc_audit.specs.declared.receipt.TakeReceipt.{TakeReceipt}
 use Rattle.cc_drive.specs.Back.{SenderIsBack, ReceiverIsBack, SenderGave, ReceiverGave, IsNotClosed, calls}
 use Rattle.cc_drive.specs.Crew.{IsCrew, least_missing}
 use Rattle.cc_drive.specs.Row.{InRow, Pairs}
 
 -- the total that a close tells
 abbrev pub total_in : CloseAnswer → ℕ
-total_in (close.Shut total) = total
-total_in (close.Already total) = total
+total_in (CloseAnswer.Shut total) = total
+total_in (CloseAnswer.Already total) = total
 
 -- The closer met these senders, and closed then: the call of the close had seen all that they had done.
 pub record ClosedAfter (closer : Walk) (senders : List Walk) (told : CloseAnswer) (w : Walk) : Type 0 where
   pub met : Walk
   pub first : HasMet closer met
   pub after : All (λ s. s.seen ≡ met.seen) senders
-  pub close : Completed met call.Close (answer.Close told) w
+  pub close : Completed met Call.Close (Answer.Close told) w
 
 -- So many senders are back, and have met the closer then, which closed behind that: it has its answer, or made as many turns
 -- as it may.
@@ -72,11 +59,11 @@ pub record HasRun (z : Topic) (c : DriveConfig) (r : Ran) : Type 0 where
 -- Why a run has no end, if it has none: a thread was refused; else the least sender, or else receiver, that reached its limit,
 -- or else the closer, whose number is that of all workers; else a receipt wasn't kept.
 abbrev pub due : (refused : Bool) → (workers : ℕ) → (sender receiver : Option ℕ) → (closed whole : Bool) → Option DriveFault
-due true workers sender receiver closed whole = Some fault.Thread
-due false workers (Some n) receiver closed whole = Some (fault.Limit n)
-due false workers None (Some n) closed whole = Some (fault.Limit n)
-due false workers None None false whole = Some (fault.Limit workers)
-due false workers None None true false = Some fault.NoMemory
+due true workers sender receiver closed whole = Some DriveFault.Thread
+due false workers (Some n) receiver closed whole = Some (DriveFault.Limit n)
+due false workers None (Some n) closed whole = Some (DriveFault.Limit n)
+due false workers None None false whole = Some (DriveFault.Limit workers)
+due false workers None None true false = Some DriveFault.NoMemory
 due false workers None None true true = None
 
 -- All threads of a run that were started have ended, and this is due for what they gave back. Where a thread was refused they
@@ -98,4 +85,4 @@ pub record EndedWith (z : Topic) (c : DriveConfig) (told : DriveFault) : Type 0 
 
 -- why a run has no end: memory was refused before a thread was started; or else its threads have ended so
 abbrev pub IsTold : Topic → DriveConfig → DriveFault → Type 0
-IsTold z c told = (told ≡ fault.NoMemory) ⊎ EndedWith z c told
+IsTold z c told = (told ≡ DriveFault.NoMemory) ⊎ EndedWith z c told

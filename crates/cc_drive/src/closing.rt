@@ -1,7 +1,7 @@
 //! The close of a run.
 ghost use Rattle.std.specs.Prelude.{◌≡◌, ◌<◌, ◌≤◌, [], IfSome, IfNone, vec_len, vec_capacity};
 ghost use Rattle.std.specs.List.{All};
-ghost use Rattle.cc_model.specs.declared.call.Answer.TheVariants as answer;
+ghost use Rattle.cc_drive.specs.Names.{Answer};
 ghost use Rattle.cc_steps.specs.Walk.{IsOf};
 ghost use Rattle.cc_queue.specs.Calls.{Ended};
 ghost use Rattle.cc_queue.specs.Headline.{StandsInOne};
@@ -26,7 +26,7 @@ fn await_close(
     requires here { IsOf queue.now pending }
     requires stands { StandsInOne pending [] pending }
     requires within { turns.old.made ≤ turns.old.limit }
-    ensures ended { IfSome result (λ r. Ended pending (answer.Close r.1) r.0) }
+    ensures ended { IfSome result (λ r. Ended pending (Answer.Close r.1) r.0) }
     ensures reads { IfSome result (λ r. EachRead turns.old turns.new pending.did r.0.did) }
     ensures limited { IfNone result (turns.new.made ≡ turns.new.limit) }
     ensures on { WentOn turns.old turns.new }

@@ -2,7 +2,7 @@
 ghost use Rattle.std.specs.Prelude.{◌≡◌, IfOk, OnOk, IfErr, Ok, Err};
 ghost use Rattle.cc_model.specs.Config.{config_fault};
 ghost use Rattle.cc_drive.specs.Config.{drive_fault, queue_of};
-ghost use Rattle.cc_drive.specs.declared.config.DriveFault.TheVariants as drive;
+ghost use Rattle.cc_drive.specs.Names.{DriveFault};
 
 use cc_audit::Verdict;
 use cc_model::{CheckedConfig, Config, ConfigFault, is_within};
@@ -57,7 +57,7 @@ pub enum DriveFault {
 }
 
 impl From<ConfigFault> for DriveFault {
-    ghost from_gives = { λ from told. told ≡ drive.Config from };
+    ghost from_gives = { λ from told. told ≡ DriveFault.Config from };
 
     fn from(fault: ConfigFault) -> DriveFault {
         DriveFault::Config(fault)
@@ -65,7 +65,7 @@ impl From<ConfigFault> for DriveFault {
 }
 
 impl From<AllocError> for DriveFault {
-    ghost from_gives = { λ _ told. told ≡ drive.NoMemory };
+    ghost from_gives = { λ _ told. told ≡ DriveFault.NoMemory };
 
     fn from(_: AllocError) -> DriveFault {
         DriveFault::NoMemory

@@ -1,12 +1,10 @@
 //! A run: threads that send beside threads that take, the close, and the audit.
 ghost use Rattle.std.specs.Prelude.{◌≡◌, ◌+◌, ◌*◌, ◌-◌, ◌<◌, ◌^◌, IfOk, OnOk, IfErr, Ok, length, vec_len};
-ghost use Rattle.cc_audit.specs.declared.receipt.Verdict.TheVariants.{Clean};
-ghost use Rattle.cc_runs.specs.declared.setting.Served.TheVariants as served;
+ghost use Rattle.cc_drive.specs.Names.{Verdict, Served, DriveFault};
 ghost use Rattle.cc_steps.specs.Walk.{fresh, fresh_from};
 ghost use Rattle.cc_drive.specs.Config.{drive_fault, queue_of, IsDue};
 ghost use Rattle.cc_drive.specs.Jobs.{IsSending, IsTaking};
 ghost use Rattle.cc_drive.specs.Ran.{HasRun, IsTold};
-ghost use Rattle.cc_drive.specs.declared.config.DriveFault.TheVariants as drive;
 ghost use Rattle.cc_drive.specs.Row.{InRow};
 
 use crate::closing::total_of;
@@ -38,7 +36,7 @@ pub fn drive<G: Gate + Send, R: Threads + Wait + Sync>(
     requires gates { vec_len gates ≡ config.now.senders + config.now.receivers }
     ensures lawful { OnOk result (drive_fault config.now ≡ Ok tt) }
     ensures due { IfErr result (IsDue (drive_fault config.now) (config.now.senders + config.now.receivers)) }
-    ensures clean { IfOk result (λ e. e.verdict ≡ Clean) }
+    ensures clean { IfOk result (λ e. e.verdict ≡ Verdict.Clean) }
     ensures all_taken { IfOk result (λ e. e.taken ≡ e.sent) }
     ensures all_sent { config.now.limit < 2 ^ 32 - 1 → IfOk result (λ e. e.sent ≡ config.now.senders * config.now.items) }
 {
@@ -151,11 +149,11 @@ fn settle(
     config: &DriveConfig,
     ran: Ran,
 ) -> Result<DriveEnd, DriveFault>
-    requires setting { queue.now.setting ≡ record { served = served.List; config = queue_of config.now } }
+    requires setting { queue.now.setting ≡ record { served = Served.List; config = queue_of config.now } }
     requires some { 0 < config.now.receivers }
     requires run { HasRun queue.now config.now ran }
-    ensures memory { IfErr result (λ f. f ≡ drive.NoMemory) }
-    ensures clean { IfOk result (λ e. e.verdict ≡ Clean) }
+    ensures memory { IfErr result (λ f. f ≡ DriveFault.NoMemory) }
+    ensures clean { IfOk result (λ e. e.verdict ≡ Verdict.Clean) }
     ensures sent { IfOk result (λ e. e.sent ≡ length ran.sends.items) }
     ensures taken { IfOk result (λ e. e.taken ≡ length ran.takes.items) }
     ensures all_taken { IfOk result (λ e. e.taken ≡ e.sent) }

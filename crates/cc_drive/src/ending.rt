@@ -1,7 +1,7 @@
 //! The end of a run: its threads are joined, its queue is closed, and what came of it is told.
 ghost use Rattle.std.specs.Prelude.{[], ◌≡◌, ◌+◌, ◌<◌, ◌≤◌, ◌^◌, ◌&&◌, IfOk, IfErr, is_some, vec_len, vec_capacity};
 ghost use Rattle.cc_steps.specs.Walk.{IsOf};
-ghost use Rattle.cc_drive.specs.declared.config.DriveFault.TheVariants as drive;
+ghost use Rattle.cc_drive.specs.Names.{DriveFault};
 ghost use Rattle.cc_drive.specs.Back.{SenderGave, ReceiverGave};
 ghost use Rattle.cc_drive.specs.Config.{queue_of};
 ghost use Rattle.cc_drive.specs.Crew.{IsCrew};
@@ -50,7 +50,7 @@ pub fn room_for<H: Drop, P: Drop, X: Drop>(
     count: usize,
 ) -> Result<(Vec<H>, Room<P, X>), DriveFault>
     requires few { count < 2 ^ 16 }
-    ensures memory { IfErr result (λ f. f ≡ drive.NoMemory) }
+    ensures memory { IfErr result (λ f. f ≡ DriveFault.NoMemory) }
     ensures none { IfOk result (λ r. r.0.items ≡ []) }
     ensures none_done { IfOk result (λ r. r.1.done.items ≡ []) }
     ensures no_passes { IfOk result (λ r. r.1.passes.items ≡ []) }

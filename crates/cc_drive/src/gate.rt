@@ -25,8 +25,7 @@ pub enum Go {
 /// Who is asked: a worker has a gate of its own, which may hold it up.
 pub trait Gate: Drop {
     ghost use Rattle.std.specs.Prelude.{⊤};
-    ghost use Rattle.cc_drive.specs.declared.gate.Go.{Go};
-    ghost use Rattle.cc_drive.specs.declared.gate.Point.{Point};
+    ghost use Rattle.cc_drive.specs.Names.{Go, Point};
 
     /// What it may tell its worker at a point, and what it is afterwards. A gate that doesn't say so may tell anything.
     ghost tells: { Self → Point → Go → Self → Type 0 } = { λ _ _ _ _. ⊤ };

@@ -1,8 +1,6 @@
 //! The work of a receiver's thread.
 ghost use Rattle.std.specs.Prelude.{◌≡◌, ◌<◌, ◌≤◌, [], IfSome, IfNone, OnSome};
-ghost use Rattle.cc_model.specs.declared.call.Answer.TheVariants as answer;
-ghost use Rattle.cc_model.specs.declared.call.Call.TheVariants as call;
-ghost use Rattle.cc_model.specs.declared.call.Pass.TheVariants as pass;
+ghost use Rattle.cc_drive.specs.Names.{Answer, Call, Pass};
 ghost use Rattle.cc_runs.specs.State.{pass_at};
 ghost use Rattle.cc_steps.specs.Walk.{IsOf, fresh};
 ghost use Rattle.cc_queue.specs.Calls.{Completed, Ended};
@@ -30,7 +28,7 @@ fn await_take(
     requires here { IsOf queue.now pending }
     requires stands { StandsInOne pending [] pending }
     requires within { turns.old.made ≤ turns.old.limit }
-    ensures ended { IfSome result (λ r. Ended pending (answer.Take r.1) r.0) }
+    ensures ended { IfSome result (λ r. Ended pending (Answer.Take r.1) r.0) }
     ensures turned { OnSome result (turns.old.made < turns.new.made) }
     ensures reads { IfSome result (λ r. EachRead turns.old turns.new pending.did r.0.did) }
     ensures limited { IfNone result (turns.new.made ≡ turns.new.limit) }
@@ -64,7 +62,7 @@ fn take_one<G: Gate>(
 ) -> Option<(Receiver, TakeAnswer)>
     requires here { IsOf queue.now receiver }
     requires within { turns.old.made ≤ turns.old.limit }
-    ensures taken { IfSome result (λ r. Completed receiver call.Take (answer.Take r.1) r.0) }
+    ensures taken { IfSome result (λ r. Completed receiver Call.Take (Answer.Take r.1) r.0) }
     ensures turned { OnSome result (turns.old.made < turns.new.made) }
     ensures limited { IfNone result (turns.new.made ≡ turns.new.limit) }
     ensures on { WentOn turns.old turns.new }
@@ -94,7 +92,7 @@ pub(crate) fn take_all<G: Gate, R: Wait>(
     gate: G,
 ) -> Worked<Receiver, TakeReceipt>
     requires fresh { receiver ≡ fresh queue.now row }
-    requires named { pass_at queue.now.setting.config row ≡ pass.Receiver number }
+    requires named { pass_at queue.now.setting.config row ≡ Pass.Receiver number }
     ensures { ReceiverGave queue.now limit row result }
 {
     let _ = row;

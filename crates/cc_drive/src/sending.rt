@@ -1,7 +1,6 @@
 //! The work of a sender's thread.
 ghost use Rattle.std.specs.Prelude.{◌≡◌, ◌+◌, ◌-◌, ◌^◌, ◌<◌, ◌≤◌, [], IfSome, IfNone, OnSome};
-ghost use Rattle.cc_model.specs.declared.call.Answer.TheVariants as answer;
-ghost use Rattle.cc_model.specs.declared.call.Pass.TheVariants as pass;
+ghost use Rattle.cc_drive.specs.Names.{Answer, Pass};
 ghost use Rattle.cc_runs.specs.State.{pass_at};
 ghost use Rattle.cc_steps.specs.Walk.{IsOf, fresh};
 ghost use Rattle.cc_queue.specs.Calls.{Ended};
@@ -39,7 +38,7 @@ fn await_send(
     requires here { IsOf queue.now pending }
     requires stands { StandsInOne pending [] pending }
     requires within { turns.old.made ≤ turns.old.limit }
-    ensures ended { IfSome result (λ r. Ended pending (answer.Send r.1) r.0) }
+    ensures ended { IfSome result (λ r. Ended pending (Answer.Send r.1) r.0) }
     ensures begun { IfSome result (λ r. r.0.stand.begun ≡ pending.stand.begun) }
     ensures turned { OnSome result (turns.old.made < turns.new.made) }
     ensures reads { IfSome result (λ r. EachRead turns.old turns.new pending.did r.0.did) }
@@ -110,7 +109,7 @@ pub(crate) fn send_all<G: Gate, R: Wait>(
     gate: G,
 ) -> Worked<Sender, SendReceipt>
     requires fresh { sender ≡ fresh queue.now row }
-    requires named { pass_at queue.now.setting.config row ≡ pass.Sender number }
+    requires named { pass_at queue.now.setting.config row ≡ Pass.Sender number }
     requires worn { queue.now.setting.config.per_sender ≡ 2 ^ 32 - 1 }
     ensures { SenderGave queue.now items limit row result }
 {

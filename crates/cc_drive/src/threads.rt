@@ -22,7 +22,7 @@ pub struct Brief {
 pub trait Worker: Send + Drop {
     ghost use Rattle.std.specs.Prelude.{ℕ};
     ghost use Rattle.cc_steps.specs.Topic.{Topic};
-    ghost use Rattle.cc_drive.specs.declared.threads.Brief.{Brief};
+    ghost use Rattle.cc_drive.specs.Names.{Brief};
 
     /// What it gives back.
     type Done: Send + Drop;

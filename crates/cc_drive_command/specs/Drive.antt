@@ -5,14 +5,12 @@ use Rattle.clap.specs.declared.error.kind.ErrorKind.{ErrorKind}
 use Rattle.cc_model.specs.Items.{IsFront}
 use Rattle.cc_model.specs.Written.{word_text}
 use Rattle.cc_audit.specs.declared.receipt.Verdict.{Verdict}
-use Rattle.cc_audit.specs.declared.receipt.Verdict.TheVariants.{Clean, Fault}
 use Rattle.cc_plan.specs.Report.{verdict_text}
 use Rattle.cc_play.specs.Outcome.{Told, no_memory_line}
 use Rattle.cc_drive.specs.declared.config.DriveEnd.{DriveEnd}
-use Rattle.cc_drive.specs.declared.config.DriveFault.TheVariants as drive
+use Rattle.cc_drive.specs.declared.config.DriveFault.{DriveFault}
 use Rattle.cc_command.specs.Run.{Declines}
 use Rattle.cc_drive_command.specs.declared.driving.RunFault.{RunFault}
-use Rattle.cc_drive_command.specs.declared.driving.RunFault.TheVariants as fault
 
 -- the lines of both counts
 unfoldable pub counts_text : ℕ → ℕ → List ℕ
@@ -24,32 +22,32 @@ end_text e = counts_text e.sent e.taken ++ verdict_text e.verdict
 
 -- all that was sent was taken, and the audit finds nothing wrong
 pub record IsWhole (e : DriveEnd) : Type 0 where
-  pub clean : e.verdict ≡ Clean
+  pub clean : e.verdict ≡ Verdict.Clean
   pub all_taken : e.taken ≡ e.sent
 
 -- What a run leaves on the sink, with its number of failed writes: the whole text of its end, a front of it where a write
 -- failed, and nothing where it has no end.
 abbrev pub Leaves : Result DriveEnd RunFault → Option (List ℕ) → Option (List ℕ) → ℕ → ℕ → Type 0
 Leaves (Ok e) old new fails fails_after = IsWhole e × Appends old new (end_text e) × (fails_after ≡ fails)
-Leaves (Err fault.Write) old new fails fails_after = (e : DriveEnd) × (front : List ℕ) × IsWhole e × IsFront front (end_text e) × Appends old new front × (fails_after ≡ fails + 1)
-Leaves (Err (fault.Drive f)) old new fails fails_after = Keeps old new × (fails_after ≡ fails)
+Leaves (Err RunFault.Write) old new fails fails_after = (e : DriveEnd) × (front : List ℕ) × IsWhole e × IsFront front (end_text e) × Appends old new front × (fails_after ≡ fails + 1)
+Leaves (Err (RunFault.Drive f)) old new fails fails_after = Keeps old new × (fails_after ≡ fails)
 
 -- the exit status
 abbrev pub status_of : Result Verdict RunFault → ℕ
-status_of (Ok Clean) = 0
-status_of (Ok (Fault kind place)) = 1
-status_of (Err (fault.Drive (drive.Config f))) = 64
-status_of (Err (fault.Drive f)) = 3
-status_of (Err fault.Write) = 4
+status_of (Ok Verdict.Clean) = 0
+status_of (Ok (Verdict.Fault kind place)) = 1
+status_of (Err (RunFault.Drive (DriveFault.Config f))) = 64
+status_of (Err (RunFault.Drive f)) = 3
+status_of (Err RunFault.Write) = 4
 
 -- the line on standard error: none where all went well
 unfoldable pub line_of : Result Verdict RunFault → List ℕ
 line_of (Ok verdict) = []
-line_of (Err (fault.Drive drive.NoMemory)) = no_memory_line
-line_of (Err (fault.Drive drive.Thread)) = codes "ccq: a thread was refused\n"
-line_of (Err (fault.Drive (drive.Limit n))) = codes "ccq: a worker reached its limit\n"
-line_of (Err (fault.Drive (drive.Config f))) = codes "ccq: a number is out of its range\n"
-line_of (Err fault.Write) = codes "ccq: writing failed\n"
+line_of (Err (RunFault.Drive DriveFault.NoMemory)) = no_memory_line
+line_of (Err (RunFault.Drive DriveFault.Thread)) = codes "ccq: a thread was refused\n"
+line_of (Err (RunFault.Drive (DriveFault.Limit n))) = codes "ccq: a worker reached its limit\n"
+line_of (Err (RunFault.Drive (DriveFault.Config f))) = codes "ccq: a number is out of its range\n"
+line_of (Err RunFault.Write) = codes "ccq: writing failed\n"
 
 -- what is audited of a run
 abbrev pub verdict_in : Result DriveEnd RunFault → Result Verdict RunFault

@@ -2,7 +2,7 @@
 ghost use Rattle.std.specs.Prelude.{◌≡◌, ◌<◌, ◌-◌, ◌^◌, IfOk, is_err};
 ghost use Rattle.cc_model.specs.Written.{Writes};
 ghost use Rattle.cc_play.specs.Outcome.{Told};
-ghost use Rattle.cc_drive_command.specs.declared.driving.RunFault.TheVariants as run_fault;
+ghost use Rattle.cc_drive_command.specs.declared.driving.RunFault.{RunFault};
 ghost use Rattle.cc_drive_command.specs.Drive.{IsWhole, Leaves, counts_text, end_text, line_of, status_of};
 
 use crate::gate::open_gates;
@@ -28,7 +28,7 @@ pub enum RunFault {
 }
 
 impl From<DriveFault> for RunFault {
-    ghost from_gives = { λ from fault. fault ≡ run_fault.Drive from };
+    ghost from_gives = { λ from fault. fault ≡ RunFault.Drive from };
 
     fn from(from: DriveFault) -> RunFault {
         RunFault::Drive(from)
@@ -36,7 +36,7 @@ impl From<DriveFault> for RunFault {
 }
 
 impl From<WriteFault> for RunFault {
-    ghost from_gives = { λ _ fault. fault ≡ run_fault.Write };
+    ghost from_gives = { λ _ fault. fault ≡ RunFault.Write };
 
     fn from(_: WriteFault) -> RunFault {
         RunFault::Write

@@ -1,18 +1,10 @@
 -- What every run gives a board.
 use Rattle.std.proofs.Common.{◌≡◌, ℕ, ◌<◌, List, Option, Some, None, IfSome, sym, subst, refl}
 use Rattle.cc_model.specs.Kept.{lists}
-use Rattle.cc_model.specs.declared.call.Answer.{Answer}
-use Rattle.cc_model.specs.declared.call.Pass.{Pass}
+use Rattle.cc_machine.specs.Names.{Answer, Pass, SendAnswer, Setting, Board, Place, Move}
 use Rattle.std.specs.Option.{option_map}
-use Rattle.cc_model.specs.declared.call.Answer.TheVariants as answer
-use Rattle.cc_model.specs.declared.call.SendAnswer.TheVariants as send
 use Rattle.cc_runs.specs.Codes.{count_word}
-use Rattle.cc_runs.specs.declared.setting.Setting.{Setting}
-use Rattle.cc_machine.specs.declared.board.Board.{Board}
-use Rattle.cc_runs.specs.declared.place.Place.{Place}
-use Rattle.cc_runs.specs.declared.place.Place.TheVariants as place
 use Rattle.cc_runs.specs.State.{State, pass_at}
-use Rattle.cc_runs.specs.declared.run.Move.{Move}
 use Rattle.cc_runs.specs.Run.{passes, reached, IsRun}
 use Rattle.cc_runs.specs.Safe.{IsReady}
 use Rattle.cc_machine.specs.Shown.{view_of, state_of}
@@ -28,19 +20,19 @@ AlwaysReady c = (moves : List Move) → IsRun c moves → (p : ℕ) → p < pass
 
 -- and what a call has read is its answer in the history
 abbrev pub AlwaysTold : Setting → Type 0
-AlwaysTold c = (moves : List Move) → IsRun c moves → (p : ℕ) → p < passes c → (answer : Answer) → ((reached c moves).stand p).place ≡ place.Finished answer →
+AlwaysTold c = (moves : List Move) → IsRun c moves → (p : ℕ) → p < passes c → (answer : Answer) → ((reached c moves).stand p).place ≡ Place.Finished answer →
     IsLastAnswer (pass_at c.config p) (reached c moves).history answer
 
 -- the next step of each pass can be done
 pub all_ready : (b : Board) → IsLawful b → AlwaysReady b.setting → (p : ℕ) → p < passes b.setting → IsReady b.setting (state_of b) p
 all_ready b l always p near = subst (λ (s : State). IsReady b.setting s p) l.reached.leads (always l.reached.moves l.reached.run p near)
 
-finished : (at : Place) (answer : Answer) → told_at at ≡ Some answer → at ≡ place.Finished answer
-finished (place.Finished told) answer e = cc
+finished : (at : Place) (answer : Answer) → told_at at ≡ Some answer → at ≡ Place.Finished answer
+finished (Place.Finished told) answer e = cc
 finished _ answer e = absurd (cc)
 
-told_here : (b : Board) → IsLawful b → AlwaysTold b.setting → (p : ℕ) → p < passes b.setting → (answer : Answer) → ((state_of b).stand p).place ≡ place.Finished answer → IsLastAnswer (pass_at b.setting.config p) (state_of b).history answer
-told_here b l always p near = subst (λ (s : State). (answer : Answer) → (s.stand p).place ≡ place.Finished answer → IsLastAnswer (pass_at b.setting.config p) s.history answer) l.reached.leads
+told_here : (b : Board) → IsLawful b → AlwaysTold b.setting → (p : ℕ) → p < passes b.setting → (answer : Answer) → ((state_of b).stand p).place ≡ Place.Finished answer → IsLastAnswer (pass_at b.setting.config p) (state_of b).history answer
+told_here b l always p near = subst (λ (s : State). (answer : Answer) → (s.stand p).place ≡ Place.Finished answer → IsLastAnswer (pass_at b.setting.config p) s.history answer) l.reached.leads
     (always l.reached.moves l.reached.run p near)
 
 told_row : (b : Board) → IsLawful b → AlwaysTold b.setting → (who : Pass) (i : Option ℕ) → index_of b.setting who ≡ i → (answer : Answer) → told_in (view_of b) i ≡ Some answer → IsLastAnswer who (lists b.history) answer
@@ -57,17 +49,17 @@ told_if b l always who (Some answer) is = told_row b l always who (index_of b.se
 
 -- an answer of the counter is a number
 abbrev pub AlwaysNumber : Setting → Type 0
-AlwaysNumber c = (moves : List Move) → IsRun c moves → (p : ℕ) → p < passes c → (told : Answer) → ((reached c moves).stand p).place ≡ place.Finished told → told ≡ answer.Send (send.Accepted (count_word told))
+AlwaysNumber c = (moves : List Move) → IsRun c moves → (p : ℕ) → p < passes c → (told : Answer) → ((reached c moves).stand p).place ≡ Place.Finished told → told ≡ Answer.Send (SendAnswer.Accepted (count_word told))
 
-number_row : (b : Board) → IsLawful b → AlwaysNumber b.setting → (who : Pass) (i : Option ℕ) → index_of b.setting who ≡ i → (told : Answer) → told_in (view_of b) i ≡ Some told → told ≡ answer.Send (send.Accepted (count_word told))
+number_row : (b : Board) → IsLawful b → AlwaysNumber b.setting → (who : Pass) (i : Option ℕ) → index_of b.setting who ≡ i → (told : Answer) → told_in (view_of b) i ≡ Some told → told ≡ Answer.Send (SendAnswer.Accepted (count_word told))
 number_row b l always who None at told is = absurd (cc)
 number_row b l always who (Some p) at told is =
-    subst (λ (s : State). (s.stand p).place ≡ place.Finished told → told ≡ answer.Send (send.Accepted (count_word told))) l.reached.leads (always l.reached.moves l.reached.run p (inside b.setting who p at) told)
+    subst (λ (s : State). (s.stand p).place ≡ Place.Finished told → told ≡ Answer.Send (SendAnswer.Accepted (count_word told))) l.reached.leads (always l.reached.moves l.reached.run p (inside b.setting who p at) told)
     (finished ((state_of b).stand p).place told is)
 
 -- what a pass is told is its last call's answer in the history, that its call was accepted in this place
 pub number_if : (b : Board) → IsLawful b → AlwaysTold b.setting → AlwaysNumber b.setting → (who : Pass) (r : Option Answer) → r ≡ answer_of (view_of b) who →
-    IfSome (option_map count_word r) (λ number. IsLastAnswer who (lists b.history) (answer.Send (send.Accepted number)))
+    IfSome (option_map count_word r) (λ number. IsLastAnswer who (lists b.history) (Answer.Send (SendAnswer.Accepted number)))
 number_if b l always number who None is = tt
 number_if b l always number who (Some told) is =
     subst (λ (a : Answer). IsLastAnswer who (lists b.history) a) (number_row b l number who (index_of b.setting who) refl told (sym is)) (told_row b l always who (index_of b.setting who) refl told (sym is))

@@ -2,15 +2,7 @@
 use Rattle.std.proofs.Common.{◌≡◌, ℕ, zero, suc, ◌+◌, ◌*◌, Bool, true, false, ◌==◌, if◌then◌else◌, ◌<◌, ◌≤◌, arith, ap, sym, refl, inl, inr}
 use Rattle.std.proofs.lemmas.Bool.{cases_eq}
 use Rattle.std.proofs.lemmas.Nat.{mul-le}
-use Rattle.cc_model.specs.declared.config.Config.{Config}
-use Rattle.cc_runs.specs.declared.setting.Setting.{Setting}
-use Rattle.cc_runs.specs.declared.setting.Served.{Served}
-use Rattle.cc_runs.specs.declared.setting.Served.TheVariants as served
-use Rattle.cc_runs.specs.declared.word.Chain.{Chain}
-use Rattle.cc_runs.specs.declared.word.Chain.TheVariants.{Send, Take}
-use Rattle.cc_runs.specs.declared.place.Stand.{Stand}
-use Rattle.cc_runs.specs.declared.place.Place.{Place}
-use Rattle.cc_runs.specs.declared.place.Place.TheVariants as place
+use Rattle.cc_machine.specs.Names.{Config, Setting, Served, Chain, Stand, Place}
 use Rattle.cc_runs.specs.Words.{groups}
 use Rattle.cc_runs.specs.State.{chain_of, hold}
 use Rattle.cc_runs.specs.Run.{passes_of}
@@ -18,17 +10,17 @@ use Rattle.cc_machine.specs.Lawful.{to_come, coming}
 use Rattle.cc_runs.specs.CallsMade.{before_exchange}
 
 at_most_one : (at : Place) → before_exchange at ≤ 1
-at_most_one place.Idle = omega arith
-at_most_one (place.ResetNext call) = omega arith
-at_most_one (place.ResetState call) = omega arith
-at_most_one (place.Exchange call) = omega arith
+at_most_one Place.Idle = omega arith
+at_most_one (Place.ResetNext call) = omega arith
+at_most_one (Place.ResetState call) = omega arith
+at_most_one (Place.Exchange call) = omega arith
 at_most_one _ = omega arith
 
 pub one_on_side : (x y : Chain) (at : Place) → to_come x y at ≤ 1
-one_on_side Send Send at = at_most_one at
-one_on_side Send (Take g) at = omega arith
-one_on_side (Take g) Send at = omega arith
-one_on_side (Take g) (Take h) at = of_group (g == h)
+one_on_side Chain.Send Chain.Send at = at_most_one at
+one_on_side Chain.Send (Chain.Take g) at = omega arith
+one_on_side (Chain.Take g) Chain.Send at = omega arith
+one_on_side (Chain.Take g) (Chain.Take h) at = of_group (g == h)
   where
     of_group : (b : Bool) → (if b then before_exchange at else 0) ≤ 1
     of_group true = at_most_one at
@@ -86,5 +78,5 @@ few_of : (g r : ℕ) → g ≤ 8 → r ≤ 64 → g * r ≤ 512
 few_of g r a b = mul-le g r 8 64 a b
 
 pub few_passes : (what : Served) (c : Config) → c.senders ≤ 64 → c.receivers ≤ 64 → groups c ≤ 8 → passes_of what c ≤ 576
-few_passes served.Counter c s r g = omega (arith, s)
-few_passes served.List c s r g = omega (arith, s, few_of (groups c) c.receivers g r)
+few_passes Served.Counter c s r g = omega (arith, s)
+few_passes Served.List c s r g = omega (arith, s, few_of (groups c) c.receivers g r)

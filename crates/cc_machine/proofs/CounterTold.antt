@@ -1,21 +1,18 @@
 -- What the calls of a counter are told.
 use Rattle.std.proofs.Common.{◌≡◌, ℕ, Ok, ap, sym, ◌∙◌}
 use Rattle.cc_model.specs.Config.{config_fault}
-use Rattle.cc_model.specs.declared.call.Answer.TheVariants as answer
-use Rattle.cc_model.specs.declared.call.SendAnswer.TheVariants as send
-use Rattle.cc_runs.specs.declared.setting.Setting.{Setting}
-use Rattle.cc_runs.specs.declared.setting.Served.TheVariants as served
+use Rattle.cc_machine.specs.Names.{Answer, SendAnswer, Setting, Served}
 use Rattle.cc_runs.specs.Codes.{count_word}
 use Rattle.cc_runs.proofs.Ranges.{in_range}
 use Rattle.cc_runs.proofs.ChainRuns.{counter_answer, counter_number}
 use Rattle.cc_machine.proofs.BoardLaws.{AlwaysTold, AlwaysNumber}
 
 -- its answer in the history
-pub counter_told : (c : Setting) → c.served ≡ served.Counter → config_fault c.config ≡ Ok tt → AlwaysTold c
+pub counter_told : (c : Setting) → c.served ≡ Served.Counter → config_fault c.config ≡ Ok tt → AlwaysTold c
 counter_told c what checked moves run p near told is = counter_answer c what (in_range c.config checked).bound.0 moves run p near told is
 
 -- a number
-pub number_told : (c : Setting) → c.served ≡ served.Counter → config_fault c.config ≡ Ok tt → AlwaysNumber c
+pub number_told : (c : Setting) → c.served ≡ Served.Counter → config_fault c.config ≡ Ok tt → AlwaysNumber c
 number_told c what checked moves run p near told is =
     let w = counter_number c what (in_range c.config checked).bound.0 moves run p near told is in
-    w.2 ∙ ap (λ (n : ℕ). answer.Send (send.Accepted n)) (sym (ap count_word w.2))
+    w.2 ∙ ap (λ (n : ℕ). Answer.Send (SendAnswer.Accepted n)) (sym (ap count_word w.2))

@@ -1,33 +1,22 @@
 -- A call that has no cause to be refused can be begun.
 use Rattle.std.proofs.Common.{◌≡◌, ℕ, ◌≤◌, Option, Some, Result, Ok, subst, sym, arith}
-use Rattle.cc_model.specs.declared.config.Config.{Config}
-use Rattle.cc_model.specs.declared.call.Call.{Call}
-use Rattle.cc_model.specs.declared.call.Call.TheVariants as call
-use Rattle.cc_runs.specs.declared.setting.Served.{Served}
-use Rattle.cc_runs.specs.declared.setting.Served.TheVariants as served
-use Rattle.cc_machine.specs.declared.fault.BeginFault.{BeginFault}
-use Rattle.cc_runs.specs.declared.word.Chain.{Chain}
-use Rattle.cc_runs.specs.declared.word.Chain.TheVariants as chain
-use Rattle.cc_runs.specs.declared.place.Place.{Place}
-use Rattle.cc_runs.specs.declared.place.Place.TheVariants as place
+use Rattle.cc_machine.specs.Names.{Config, Call, Served, BeginFault, Chain, Place, Pass, Move}
 use Rattle.cc_model.specs.Items.{known_at}
-use Rattle.cc_model.specs.declared.call.Pass.{Pass}
 use Rattle.cc_runs.specs.State.{chain_of}
-use Rattle.cc_runs.specs.declared.run.Move.TheVariants.{Begin}
 use Rattle.cc_runs.specs.Run.{begun_after, IsOn, IsIdle, May}
 use Rattle.cc_machine.specs.View.{View, state_in}
 use Rattle.cc_machine.proofs.Rows.{inside, named}
 use Rattle.cc_machine.specs.Machine.{unless_wrong, unless_busy, unless_worn, index_of, fault_at, begin_fault}
 
 on_side : (what : Served) (x : Chain) (call : Call) (rest : Result (Unit {0}) BeginFault) → unless_wrong what x call rest ≡ Ok tt → IsOn what x call × (rest ≡ Ok tt)
-on_side served.Counter chain.Send (call.Send body) rest e = (tt, e)
-on_side served.List chain.Send (call.Send body) rest e = (tt, e)
-on_side served.List chain.Send call.Close rest e = (tt, e)
-on_side served.List (chain.Take g) call.Take rest e = (tt, e)
+on_side Served.Counter Chain.Send (Call.Send body) rest e = (tt, e)
+on_side Served.List Chain.Send (Call.Send body) rest e = (tt, e)
+on_side Served.List Chain.Send Call.Close rest e = (tt, e)
+on_side Served.List (Chain.Take g) Call.Take rest e = (tt, e)
 on_side _ _ _ rest e = absurd (cc)
 
 idle : (at : Place) (rest : Result (Unit {0}) BeginFault) → unless_busy at rest ≡ Ok tt → IsIdle at × (rest ≡ Ok tt)
-idle place.Idle rest e = (tt, e)
+idle Place.Idle rest e = (tt, e)
 idle _ rest e = absurd (cc)
 
 fresh : (c : Config) (begun : ℕ) → unless_worn c begun ≡ Ok tt → begun ≤ c.per_sender
@@ -43,7 +32,7 @@ no_fault what c x call at begun e =
 
 -- such a call is a move that can be made
 pub may_begin : (m : View) (who : Pass) (call : Call) (known p : ℕ) → index_of m.setting who ≡ Some p → begin_fault m who call ≡ Ok tt → known ≤ known_at who (state_in m).history →
-    May m.setting (state_in m) (Begin p call known)
+    May m.setting (state_in m) (Move.Begin p call known)
 may_begin m who call known p found none seen =
     let here : fault_at m call (Some p) ≡ Ok tt = subst (λ (i : Option ℕ). fault_at m call i ≡ Ok tt) found none in
     let parts = no_fault m.setting.served m.setting.config (chain_of m.setting.config p) call ((state_in m).stand p).place (begun_after call ((state_in m).stand p).begun) here in

@@ -1,23 +1,7 @@
 -- What a step adds to the calls of its chain, it takes from those to come.
 use Rattle.std.proofs.Common.{◌≡◌, ℕ, zero, suc, ◌+◌, ◌≤◌, ◌==◌, arith, refl, length, List, nat_lt, Bool, true, false, if◌then◌else◌}
 use Rattle.std.proofs.lemmas.List.{length_push}
-use Rattle.cc_model.specs.declared.config.Config.{Config}
-use Rattle.cc_model.specs.declared.call.Entry.{Entry}
-use Rattle.cc_model.specs.declared.call.Answer.{Answer}
-use Rattle.cc_model.specs.declared.call.Answer.TheVariants as answer
-use Rattle.cc_model.specs.declared.call.TakeAnswer.TheVariants as take
-use Rattle.cc_runs.specs.declared.setting.Setting.{Setting}
-use Rattle.cc_runs.specs.declared.setting.Served.{Served}
-use Rattle.cc_runs.specs.declared.setting.Served.TheVariants as served
-use Rattle.cc_runs.specs.declared.word.Chain.{Chain}
-use Rattle.cc_runs.specs.declared.word.Chain.TheVariants.{Send, Take}
-use Rattle.cc_runs.specs.declared.place.Round.{Round}
-use Rattle.cc_runs.specs.declared.place.Job.{Job}
-use Rattle.cc_runs.specs.declared.place.Place.{Place}
-use Rattle.cc_runs.specs.declared.place.Place.TheVariants as place
-use Rattle.cc_runs.specs.declared.place.Counting.{Counting}
-use Rattle.cc_runs.specs.declared.place.Sending.{Sending}
-use Rattle.cc_runs.specs.declared.place.Taking.{Taking}
+use Rattle.cc_machine.specs.Names.{Config, Entry, Answer, TakeAnswer, Setting, Served, Chain, Round, Job, Place, Counting, Sending, Taking}
 use Rattle.cc_runs.specs.Codes.{code_of, further_words, tag_of}
 use Rattle.cc_runs.specs.State.{appended}
 use Rattle.cc_runs.specs.Lines.{after_exchange, after_state, serves, after_next, after_answer, after_done, after_ret, goes, enters}
@@ -36,8 +20,8 @@ either true u v pu pv = pu
 either false u v pu pv = pv
 
 past_exchange : (x : Chain) (own : ℕ) (call : Entry) → Past (after_exchange x own call)
-past_exchange Send own call = refl
-past_exchange (Take g) own call = refl
+past_exchange Chain.Send own call = refl
+past_exchange (Chain.Take g) own call = refl
 
 past_state : (own found : ℕ) → Past (after_state own found)
 past_state own zero = refl
@@ -45,24 +29,24 @@ past_state own (suc zero) = refl
 past_state own (suc (suc n)) = refl
 
 past_serves : (what : Served) (x : Chain) (job : Job) → Past (serves what x job)
-past_serves served.Counter x job = refl
-past_serves served.List Send job = refl
-past_serves served.List (Take g) job = refl
+past_serves Served.Counter x job = refl
+past_serves Served.List Chain.Send job = refl
+past_serves Served.List (Chain.Take g) job = refl
 
 past_next : (what : Served) (x : Chain) (round : Round) (found : ℕ) → Past (after_next what x round found)
 past_next what x round zero = refl
 past_next what x round (suc next) = past_serves what x record { round = round; next = next }
 
 past_answer : (job : Job) (told : Answer) → Past (after_answer job told)
-past_answer job (answer.Take (take.Got item)) = refl
+past_answer job (Answer.Take (TakeAnswer.Got item)) = refl
 past_answer job _ = refl
 
 past_done : (bound : ℕ) (job : Job) → Past (after_done bound job)
 past_done bound job = either (job.round.served + 1 == bound) _ _ refl refl
 
 past_ret : (what : Served) (x : Chain) (ret : ℕ) → Past (after_ret what x ret)
-past_ret what Send ret = refl
-past_ret what (Take g) ret = either (code_of ret == 1) _ _ refl (either (code_of ret == 2) _ _ refl refl)
+past_ret what Chain.Send ret = refl
+past_ret what (Chain.Take g) ret = either (code_of ret == 1) _ _ refl (either (code_of ret == 2) _ _ refl refl)
 
 past_count : (job : Job) (service : Counting) (found : ℕ) → Past (count_side.goes job service found)
 past_count job service found = leads Past count_side.in_service job (λ s. refl) (λ told. refl) (count_side.line 0 service found).next
@@ -78,24 +62,24 @@ same calls there n past = omega (arith, past)
 
 pub gained : (c : Setting) (x : Chain) (own : ℕ) (at : Place) (found : ℕ) (calls : List Entry) →
     length (appended calls (enters at)) + before_exchange (goes c x own at found) ≤ length calls + before_exchange at
-gained c x own place.Idle found calls = omega arith
-gained c x own (place.ResetNext call) found calls = omega arith
-gained c x own (place.ResetState call) found calls = omega arith
-gained c x own (place.Exchange call) found calls = omega (arith, length_push calls call, past_exchange x own call)
-gained c x own (place.WriteTag put request) found calls = omega arith
-gained c x own (place.WriteBody put request i) found calls = same calls _ 0 (either (nat_lt i (further_words request.tag)) _ _ refl refl)
-gained c x own (place.Link put) found calls = omega arith
-gained c x own place.ReadState found calls = same calls _ 0 (past_state own found)
-gained c x own (place.ReadNext round) found calls = same calls _ 0 (past_next c.served x round found)
-gained c x own (place.Counting job service) found calls = same calls _ 0 (past_count job service found)
-gained c x own (place.Sending job service) found calls = same calls _ 0 (past_send c.config job service found)
-gained c x own (place.Taking job service) found calls = same calls _ 0 (past_take job service found)
-gained c x own (place.WriteAnswer job told) found calls = same calls _ 0 (past_answer job told)
-gained c x own (place.WriteAnswerTag job item) found calls = omega arith
-gained c x own (place.WriteAnswerBody job item i) found calls = same calls _ 0 (either (nat_lt i (further_words (tag_of item))) _ _ refl refl)
-gained c x own (place.MarkDone job) found calls = same calls _ 0 (past_done c.config.bound job)
-gained c x own (place.HandOver at) found calls = omega arith
-gained c x own place.ReadAnswer found calls = same calls _ 0 (past_ret c.served x found)
-gained c x own (place.ReadAnswerTag at) found calls = omega arith
-gained c x own (place.ReadAnswerBody p i) found calls = same calls _ 0 (either (nat_lt i (further_words p.tag)) _ _ refl refl)
-gained c x own (place.Finished told) found calls = omega arith
+gained c x own Place.Idle found calls = omega arith
+gained c x own (Place.ResetNext call) found calls = omega arith
+gained c x own (Place.ResetState call) found calls = omega arith
+gained c x own (Place.Exchange call) found calls = omega (arith, length_push calls call, past_exchange x own call)
+gained c x own (Place.WriteTag put request) found calls = omega arith
+gained c x own (Place.WriteBody put request i) found calls = same calls _ 0 (either (nat_lt i (further_words request.tag)) _ _ refl refl)
+gained c x own (Place.Link put) found calls = omega arith
+gained c x own Place.ReadState found calls = same calls _ 0 (past_state own found)
+gained c x own (Place.ReadNext round) found calls = same calls _ 0 (past_next c.served x round found)
+gained c x own (Place.Counting job service) found calls = same calls _ 0 (past_count job service found)
+gained c x own (Place.Sending job service) found calls = same calls _ 0 (past_send c.config job service found)
+gained c x own (Place.Taking job service) found calls = same calls _ 0 (past_take job service found)
+gained c x own (Place.WriteAnswer job told) found calls = same calls _ 0 (past_answer job told)
+gained c x own (Place.WriteAnswerTag job item) found calls = omega arith
+gained c x own (Place.WriteAnswerBody job item i) found calls = same calls _ 0 (either (nat_lt i (further_words (tag_of item))) _ _ refl refl)
+gained c x own (Place.MarkDone job) found calls = same calls _ 0 (past_done c.config.bound job)
+gained c x own (Place.HandOver at) found calls = omega arith
+gained c x own Place.ReadAnswer found calls = same calls _ 0 (past_ret c.served x found)
+gained c x own (Place.ReadAnswerTag at) found calls = omega arith
+gained c x own (Place.ReadAnswerBody p i) found calls = same calls _ 0 (either (nat_lt i (further_words p.tag)) _ _ refl refl)
+gained c x own (Place.Finished told) found calls = omega arith

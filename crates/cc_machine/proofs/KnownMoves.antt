@@ -5,25 +5,11 @@ use Rattle.std.proofs.lemmas.Option.{slice_get_past, slice_get_cases}
 use Rattle.std.proofs.lemmas.List.{length_push, length-map, length-set, get_or-set_same, get_or-set_other}
 use Rattle.cc_model.specs.Record.{Side, Record, empty, of_group}
 use Rattle.cc_model.specs.Items.{accepted_by, accepted_item, sent_item, shuts, handed, handed_by, handed_item, is_shut, known_at, least}
-use Rattle.cc_model.specs.declared.call.Pass.{Pass}
-use Rattle.cc_model.specs.declared.call.Pass.TheVariants as pass
-use Rattle.cc_model.specs.declared.call.Call.{Call}
-use Rattle.cc_model.specs.declared.call.Call.TheVariants as call
-use Rattle.cc_model.specs.declared.call.Item.{Item}
-use Rattle.cc_model.specs.declared.call.Entry.{Entry}
-use Rattle.cc_model.specs.declared.call.Answer.{Answer}
-use Rattle.cc_model.specs.declared.call.Answer.TheVariants as answer
-use Rattle.cc_model.specs.declared.call.SendAnswer.TheVariants as send
-use Rattle.cc_model.specs.declared.call.CloseAnswer.TheVariants as close
-use Rattle.cc_model.specs.declared.call.TakeAnswer.TheVariants as take
+use Rattle.cc_machine.specs.Names.{Pass, Call, Item, Entry, Answer, SendAnswer, CloseAnswer, TakeAnswer, Known, Chain, Config}
 use Rattle.cc_model.proofs.Grows.{get_front, get_last, any-append, accepted_more, handed_by-append}
-use Rattle.cc_machine.specs.declared.known.Known.{Known}
-use Rattle.cc_runs.specs.declared.word.Chain.{Chain}
-use Rattle.cc_runs.specs.declared.word.Chain.TheVariants.{Send, Take}
 use Rattle.cc_runs.specs.State.{side, appended, noted}
 use Rattle.cc_runs.specs.Words.{groups}
 use Rattle.cc_runs.specs.Lines.{group_of}
-use Rattle.cc_model.specs.declared.config.Config.{Config}
 use Rattle.std.proofs.lemmas.Bool.{cases_eq}
 use Rattle.cc_runs.proofs.Chains.Registers.{HasSide}
 use Rattle.cc_runs.proofs.Chains.Opening.{no_calls}
@@ -44,7 +30,7 @@ least_more x xs f same =
     smallest_of (length xs) f ∙ least_smallest x xs f same
 
 pub known_is : (c : Config) (h : Record) (k : Known) (who : Pass) → 0 < groups c → length h.takes ≡ groups c → IsKnown h k → known_count (groups c) k who ≡ known_at who h
-known_is c h k (pass.Sender n) some many known = by_list h.takes refl
+known_is c h k (Pass.Sender n) some many known = by_list h.takes refl
   where
     count : Side → ℕ
     count = λ side. length (handed_by side.answers)
@@ -56,7 +42,7 @@ known_is c h k (pass.Sender n) some many known = by_list h.takes refl
         ap (λ (m : ℕ). least_of m (λ g. slice_index_or k.handed g 0)) (sym long)
         ∙ least_more (count s) (map count sides) (λ g. slice_index_or k.handed g 0) (λ j l. known.handed_are j ∙ sym (counts_get h.takes j) ∙ ap (λ (z : List Side). get_or (map count z) j 0) e)
         ∙ ap (λ (z : List Side). least (map count z)) (sym e)
-known_is c h k (pass.Receiver n) some many known = known.entries_is
+known_is c h k (Pass.Receiver n) some many known = known.entries_is
 
 -- ---- the senders' side
 
@@ -79,15 +65,15 @@ adds_none shut None = refl
 adds_none shut (Some c) = refl
 
 at_most_one : (p : Pass) (call : Call) (number place : ℕ) → length (sent_item p call number place) ≤ 1
-at_most_one (pass.Sender s) (call.Send body) number place = omega arith
+at_most_one (Pass.Sender s) (Call.Send body) number place = omega arith
 at_most_one _ _ number place = omega arith
 
 -- what one more answer adds
 adds_one : (shut : Bool) (c : Entry) (a : Answer) → (length (accepted_item c a) + (if shut || shuts a then 1 else 0) ≡ (if shut then 1 else 0) + adds_entry shut (Some c) (Some a)) × (adds_entry shut (Some c) (Some a) ≤ 1)
-adds_one true c (answer.Close (close.Shut total)) = (omega arith, omega arith)
-adds_one false c (answer.Close (close.Shut total)) = (omega arith, omega arith)
-adds_one true c (answer.Send (send.Accepted place)) = (omega arith, at_most_one c.pass c.call c.number place)
-adds_one false c (answer.Send (send.Accepted place)) = (omega arith, at_most_one c.pass c.call c.number place)
+adds_one true c (Answer.Close (CloseAnswer.Shut total)) = (omega arith, omega arith)
+adds_one false c (Answer.Close (CloseAnswer.Shut total)) = (omega arith, omega arith)
+adds_one true c (Answer.Send (SendAnswer.Accepted place)) = (omega arith, at_most_one c.pass c.call c.number place)
+adds_one false c (Answer.Send (SendAnswer.Accepted place)) = (omega arith, at_most_one c.pass c.call c.number place)
 adds_one true c _ = (omega arith, omega arith)
 adds_one false c _ = (omega arith, omega arith)
 
@@ -151,7 +137,7 @@ grown calls answers c (Some a) order waits =
 -- ---- the receivers' side
 
 one_item : (a : Answer) → length (handed_item a) ≤ 1
-one_item (answer.Take (take.Got item)) = omega arith
+one_item (Answer.Take (TakeAnswer.Got item)) = omega arith
 one_item _ = omega arith
 
 record Handed (calls : List Entry) (answers : List Answer) (c : Option Entry) (a : Option Answer) : Type 0 where
@@ -191,10 +177,10 @@ more s c a = record { calls = appended s.calls c; answers = appended s.answers a
 module _ (h t : Record) (k n : Known) (g : ℕ) (few : g < 8) (ec dc : Option Entry) (ea da : Option Answer) (s_is : t.sends ≡ more h.sends ec ea) (g_is : of_group t g ≡ more (of_group h g) dc da) (others : (x : ℕ) → x ≢ g → of_group t x ≡ of_group h x)
     (ew : ea ≢ None → length h.sends.answers < length h.sends.calls) (dw : da ≢ None → length (of_group h g).answers < length (of_group h g).calls) (i : IsCounted h k) (m : HasCounted k t (length h.sends.answers) g (length (of_group h g).answers) n) where
   e : Grown h.sends.calls h.sends.answers ec ea
-  e = grown h.sends.calls h.sends.answers ec ea (i.order Send) ew
+  e = grown h.sends.calls h.sends.answers ec ea (i.order Chain.Send) ew
 
   d : Handed (of_group h g).calls (of_group h g).answers dc da
-  d = handing (of_group h g).calls (of_group h g).answers dc da (i.order (Take g)) dw
+  d = handing (of_group h g).calls (of_group h g).answers dc da (i.order (Chain.Take g)) dw
 
   -- what the answers add, in the words of the later history
   adds_e : adds_entry k.shut (slice_get t.sends.calls (length h.sends.answers)) (slice_get t.sends.answers (length h.sends.answers)) ≡ adds_entry (is_shut h) (slice_get (appended h.sends.calls ec) (length h.sends.answers)) (slice_get (appended h.sends.answers ea) (length h.sends.answers))
@@ -229,20 +215,20 @@ module _ (h t : Record) (k n : Known) (g : ℕ) (few : g < 8) (ec dc : Option En
   }
     where
       order : (x : Chain) → length (side x t).answers ≤ length (side x t).calls
-      order Send = subst (λ (s : Side). length s.answers ≤ length s.calls) (sym s_is) e.order
-      order (Take x) = elim (cases_eq x g) [
+      order Chain.Send = subst (λ (s : Side). length s.answers ≤ length s.calls) (sym s_is) e.order
+      order (Chain.Take x) = elim (cases_eq x g) [
         | inl same ↦ subst (λ (z : ℕ). length (of_group t z).answers ≤ length (of_group t z).calls) (sym same) (subst (λ (s : Side). length s.answers ≤ length s.calls) (sym g_is) d.order)
-        | inr ne ↦ subst (λ (s : Side). length s.answers ≤ length s.calls) (sym (others x ne)) (i.order (Take x))
+        | inr ne ↦ subst (λ (s : Side). length s.answers ≤ length s.calls) (sym (others x ne)) (i.order (Chain.Take x))
       ]
 
 -- the history with a call more, or an answer, on the chain of this group or on the senders'
 pub counted : (x : Chain) (h t : Record) (k n : Known) (g : ℕ) (c : Option Entry) (a : Option Answer) → g < 8 → HasSide x h → group_of x ≡ g → t ≡ noted x h c a → (a ≢ None → HasOpenCall h x) → IsCounted h k →
     HasCounted k t (length h.sends.answers) g (length (of_group h g).answers) n → IsCounted t n
-counted Send h t k n g c a few there at is waits i m =
+counted Chain.Send h t k n g c a few there at is waits i m =
     both h t k n g few c None a None (ap (λ (z : Record). z.sends) is) (ap (λ (z : Record). of_group z g) is) (λ x ne. ap (λ (z : Record). of_group z x) is) waits (λ some. absurd (some refl)) i m
-counted (Take y) h t k n g c a few there at is waits i m =
+counted (Chain.Take y) h t k n g c a few there at is waits i m =
     both h t k n g few None c None a (ap (λ (z : Record). z.sends) is)
-    (ap (λ (z : Record). of_group z g) is ∙ subst (λ (z : ℕ). of_group (noted (Take y) h c a) z ≡ more (of_group h z) c a) at (group_mine h y (more (of_group h y) c a) there))
+    (ap (λ (z : Record). of_group z g) is ∙ subst (λ (z : ℕ). of_group (noted (Chain.Take y) h c a) z ≡ more (of_group h z) c a) at (group_mine h y (more (of_group h y) c a) there))
     (λ x ne. ap (λ (z : Record). of_group z x) is ∙ group_other h y x (more (of_group h y) c a) (λ e. ne (e ∙ at)))
     (λ some. absurd (some refl)) (λ some. subst (λ (z : ℕ). length (of_group h z).answers < length (of_group h z).calls) at (waits some)) i m
 
@@ -263,7 +249,7 @@ counted_first n = record {
     entries_is = refl;
     shut_is = refl;
     long = refl;
-    handed_are = λ g. zero_at 8 g ∙ sym (ap (λ (s : Side). length (handed_by s.answers)) (no_calls n (Take g)));
+    handed_are = λ g. zero_at 8 g ∙ sym (ap (λ (s : Side). length (handed_by s.answers)) (no_calls n (Chain.Take g)));
     few = omega arith;
     few_handed = λ g. omega (arith, zero_at 8 g);
   };

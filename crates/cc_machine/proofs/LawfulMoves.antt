@@ -5,20 +5,9 @@ use Rattle.std.proofs.lemmas.List.{length-map}
 use Rattle.cc_model.specs.Config.{config_fault}
 use Rattle.cc_model.specs.Kept.{Kept, KeptSide, lists}
 use Rattle.cc_model.specs.Record.{Side, Record, silent}
-use Rattle.cc_model.specs.declared.call.Call.{Call}
-use Rattle.cc_model.specs.declared.call.Answer.{Answer}
-use Rattle.cc_runs.specs.declared.setting.Setting.{Setting}
-use Rattle.cc_runs.specs.declared.word.Chain.{Chain}
-use Rattle.cc_runs.specs.declared.word.Chain.TheVariants.{Send, Take}
-use Rattle.cc_runs.specs.declared.place.Stand.{Stand}
-use Rattle.cc_runs.specs.declared.place.Place.{Place}
-use Rattle.cc_runs.specs.declared.place.Place.TheVariants as place
-use Rattle.cc_runs.specs.declared.place.Sending.TheVariants as sending
-use Rattle.cc_machine.specs.declared.board.Board.{Board}
+use Rattle.cc_machine.specs.Names.{Call, Answer, Setting, Chain, Stand, Place, Sending, Board, Served, Config, Event, Move}
 use Rattle.cc_runs.specs.Words.{groups, IsSmall, layout_of, size}
 use Rattle.cc_runs.specs.Sides.{IsThere}
-use Rattle.cc_runs.specs.declared.setting.Served.{Served}
-use Rattle.cc_model.specs.declared.config.Config.{Config}
 use Rattle.cc_runs.proofs.Chains.Registers.{IsChainOf, HasSide}
 use Rattle.cc_runs.proofs.Chains.Opening.{no_calls}
 use Rattle.cc_runs.proofs.Chains.Facts.{side_same}
@@ -28,10 +17,6 @@ use Rattle.cc_runs.proofs.ChainRuns.{sides_are}
 use Rattle.cc_runs.specs.State.{State, side, appended, chain_of, first_node, hold, noted, word_of}
 use Rattle.cc_runs.specs.Lines.{event_at, operation, goes, enters, decides}
 use Rattle.cc_runs.specs.Step.{advanced, stepped}
-use Rattle.cc_runs.specs.declared.place.Event.{Event}
-use Rattle.cc_runs.specs.declared.place.Event.TheVariants.{Did, Idle}
-use Rattle.cc_runs.specs.declared.run.Move.{Move}
-use Rattle.cc_runs.specs.declared.run.Move.TheVariants.{Begin, Step, Take as Taken}
 use Rattle.cc_runs.specs.Run.{opening, nowhere, passes, moved, reached, IsRun, May, rests, IsFinished}
 use Rattle.cc_runs.specs.Safe.{HasOpenCall, IsOpenAt, IsReady}
 use Rattle.cc_machine.specs.View.{View, state_in}
@@ -52,8 +37,8 @@ history_shown b = history_in (view_of b)
 
 -- what is kept of a side is that side
 pub kept_lists : (x : Chain) (h : Kept) → side x (lists h) ≡ (kept_side x h).lists
-kept_lists Send h = refl
-kept_lists (Take g) h = at h.takes g
+kept_lists Chain.Send h = refl
+kept_lists (Chain.Take g) h = at h.takes g
   where
     at : (sides : List KeptSide) (g : ℕ) → get_or (map (λ s. s.lists) sides) g silent ≡ (get_or sides g record { lists = silent; room = 0 }).lists
     at [] g = refl
@@ -105,32 +90,32 @@ many_sides : (b : Board) → IsLawful b → length (state_of b).history.takes �
 many_sides b l = subst (λ (s : State). length s.history.takes ≡ groups b.setting.config) l.reached.leads (sides_are b.setting l.reached.moves)
 
 there_side : (s : Served) (n : ℕ) (x : Chain) (h : Record) → IsChainOf s n x → length h.takes ≡ n → HasSide x h
-there_side s n Send h ok e = tt
-there_side s n (Take g) h ok e = omega (arith, group_in s n g ok, e)
+there_side s n Chain.Send h ok e = tt
+there_side s n (Chain.Take g) h ok e = omega (arith, group_in s n g ok, e)
 
 pub has_side : (b : Board) → IsLawful b → (p : ℕ) → p < passes b.setting → HasSide (chain_of b.setting.config p) (state_of b).history
 has_side b l p near = there_side b.setting.served (groups b.setting.config) (chain_of b.setting.config p) (state_of b).history (chain_is b.setting p near) (many_sides b l)
 
 is_there : (s : Served) (c : Config) (x : Chain) → IsChainOf s (groups c) x → IsThere c x
-is_there s c Send ok = tt
-is_there s c (Take g) ok = group_in s (groups c) g ok
+is_there s c Chain.Send ok = tt
+is_there s c (Chain.Take g) ok = group_in s (groups c) g ok
 
 -- one chain, or two
 same_or_other : (x y : Chain) → (x ≡ y) ⊎ IsOther x y
-same_or_other Send Send = inl refl
-same_or_other Send (Take g) = inr tt
-same_or_other (Take g) Send = inr tt
-same_or_other (Take g) (Take h) = elim (cases_eq g h) [ inl e ↦ inl (ap Take e) | inr ne ↦ inr ne ]
+same_or_other Chain.Send Chain.Send = inl refl
+same_or_other Chain.Send (Chain.Take g) = inr tt
+same_or_other (Chain.Take g) Chain.Send = inr tt
+same_or_other (Chain.Take g) (Chain.Take h) = elim (cases_eq g h) [ inl e ↦ inl (ap Chain.Take e) | inr ne ↦ inr ne ]
 
 come_same : (x : Chain) (at : Place) → to_come x x at ≡ before_exchange at
-come_same Send at = refl
-come_same (Take g) at = ap (λ (b : Bool). if b then before_exchange at else 0) (eq-eqb g g refl)
+come_same Chain.Send at = refl
+come_same (Chain.Take g) at = ap (λ (b : Bool). if b then before_exchange at else 0) (eq-eqb g g refl)
 
 come_other : (x y : Chain) (at : Place) → IsOther x y → to_come x y at ≡ 0
-come_other Send Send at o = absurd o
-come_other Send (Take g) at o = refl
-come_other (Take g) Send at o = refl
-come_other (Take g) (Take h) at o = ap (λ (b : Bool). if b then before_exchange at else 0) (ne_eqb g h o)
+come_other Chain.Send Chain.Send at o = absurd o
+come_other Chain.Send (Chain.Take g) at o = refl
+come_other (Chain.Take g) Chain.Send at o = refl
+come_other (Chain.Take g) (Chain.Take h) at o = ap (λ (b : Bool). if b then before_exchange at else 0) (ne_eqb g h o)
 
 -- a move of pass p, which then stands there
 record Balance (c : Setting) (s t : State) (p : ℕ) (there : Stand) (x : Chain) : Type 0 where
@@ -164,28 +149,28 @@ step_balance c s t p x there is =
           (side_gain c x (chain_of c.config p) (s.stand p).node (s.stand p).place found s.history there);
     }
 
-pub lawful_step : (old new : Board) (p : ℕ) → IsLawful old → p < passes old.setting → event_at ((state_of old).stand p).place ≢ Idle → Keeps old new → state_of new ≡ stepped old.setting (state_of old) p → IsLawful new
+pub lawful_step : (old new : Board) (p : ℕ) → IsLawful old → p < passes old.setting → event_at ((state_of old).stand p).place ≢ Event.Idle → Keeps old new → state_of new ≡ stepped old.setting (state_of old) p → IsLawful new
 lawful_step old new p l near some k is =
-    lawful_after old new (Step p) l (laid_kept old new k l.laid) (near, some) k.setting is
+    lawful_after old new (Move.Step p) l (laid_kept old new k l.laid) (near, some) k.setting is
     (λ x there. fits_on old new p _ x near k.setting (omega (arith, k.rooms x)) (step_balance old.setting (state_of old) (state_of new) p x (has_side old l p near) is) (fits old l x there))
 
 -- ---- an answer taken
 
-none_idle : (x y : Chain) → to_come x y place.Idle ≡ 0
+none_idle : (x y : Chain) → to_come x y Place.Idle ≡ 0
 none_idle x y = elim (same_or_other x y) [
-  | inl same ↦ subst (λ (z : Chain). to_come z y place.Idle ≡ 0) (sym same) (come_same y place.Idle)
-  | inr o ↦ come_other x y place.Idle o
+  | inl same ↦ subst (λ (z : Chain). to_come z y Place.Idle ≡ 0) (sym same) (come_same y Place.Idle)
+  | inr o ↦ come_other x y Place.Idle o
 ]
 
-take_balance : (c : Setting) (s t : State) (p : ℕ) (x : Chain) → t ≡ moved c s (Taken p) → Balance c s t p (rests (s.stand p)) x
+take_balance : (c : Setting) (s t : State) (p : ℕ) (x : Chain) → t ≡ moved c s (Move.Take p) → Balance c s t p (rests (s.stand p)) x
 take_balance c s t p x is = record {
   stands = ap (λ (z : State). z.stand) is;
   calls = let h : calls_on t.history x ≡ calls_on s.history x = ap (λ (z : State). calls_on z.history x) is in omega (arith, h, none_idle x (chain_of c.config p));
 }
 
-pub lawful_take : (old new : Board) (p : ℕ) → IsLawful old → p < passes old.setting → IsFinished ((state_of old).stand p).place → Keeps old new → state_of new ≡ moved old.setting (state_of old) (Taken p) → IsLawful new
+pub lawful_take : (old new : Board) (p : ℕ) → IsLawful old → p < passes old.setting → IsFinished ((state_of old).stand p).place → Keeps old new → state_of new ≡ moved old.setting (state_of old) (Move.Take p) → IsLawful new
 lawful_take old new p l near done k is =
-    lawful_after old new (Taken p) l (laid_kept old new k l.laid) (near, done) k.setting is
+    lawful_after old new (Move.Take p) l (laid_kept old new k l.laid) (near, done) k.setting is
     (λ x there. fits_on old new p _ x near k.setting (omega (arith, k.rooms x)) (take_balance old.setting (state_of old) (state_of new) p x is) (fits old l x there))
 
 -- ---- a begin, after room was made
@@ -232,12 +217,12 @@ begun_side old new p there x all near same stands history room f =
       | inr o ↦ fits_on old new p there x near same room (record { stands = stands; calls = omega (arith, calls, come_other x (chain_of old.setting.config p) there.place o, come_other x (chain_of old.setting.config p) ((state_of old).stand p).place o) }) f
     ]
 
-pub lawful_begin : (old new : Board) (p : ℕ) (call : Call) (known : ℕ) → IsLawful old → HasRoomToCome old (chain_of old.setting.config p) → May old.setting (state_of old) (Begin p call known) → Keeps old new → state_of new ≡ moved old.setting (state_of old) (Begin p call known) → IsLawful new
+pub lawful_begin : (old new : Board) (p : ℕ) (call : Call) (known : ℕ) → IsLawful old → HasRoomToCome old (chain_of old.setting.config p) → May old.setting (state_of old) (Move.Begin p call known) → Keeps old new → state_of new ≡ moved old.setting (state_of old) (Move.Begin p call known) → IsLawful new
 lawful_begin old new p call known l room may k is =
     let all = roomy old (chain_of old.setting.config p) room in
     let stands = ap (λ (z : State). z.stand) is in
     let history = ap (λ (z : State). z.history) is in
-    lawful_after old new (Begin p call known) l (laid_kept old new k l.laid) may k.setting is
+    lawful_after old new (Move.Begin p call known) l (laid_kept old new k l.laid) may k.setting is
     (λ x there. begun_side old new p _ x all may.0 k.setting stands history (omega (arith, k.rooms x)) (fits old l x there))
 
 -- ---- what a step needs
@@ -249,21 +234,21 @@ answer_room : (h : Kept) (x : Chain) (n : ℕ) → length (kept_side x h).lists.
 answer_room h x n fits waits = omega (arith, fits, waits, ap (λ (s : Side). length s.calls) (kept_lists x h), ap (λ (s : Side). length s.answers) (kept_lists x h))
 
 room_at : (h : Kept) (x : Chain) (at : Place) (n : ℕ) → length (kept_side x h).lists.calls + n ≤ room_on h x → before_exchange at ≤ n → IsOpenAt (lists h) x at → HasRoom h x at
-room_at h x (place.Exchange call) n fits some waits = call_room h x n fits some
-room_at h x (place.Counting job service) n fits some waits = answer_room h x n fits waits
-room_at h x (place.Sending job (sending.WriteLastMark total)) n fits some waits = tt
-room_at h x (place.Sending job (sending.WriteShut total)) n fits some waits = tt
-room_at h x (place.Sending job (sending.WriteLast at node)) n fits some waits = tt
-room_at h x (place.Sending job (sending.WriteCount at node)) n fits some waits = tt
-room_at h x (place.Sending job (sending.WriteCursor at node)) n fits some waits = tt
-room_at h x (place.Sending job service) n fits some waits = answer_room h x n fits waits
-room_at h x (place.Taking job service) n fits some waits = answer_room h x n fits waits
+room_at h x (Place.Exchange call) n fits some waits = call_room h x n fits some
+room_at h x (Place.Counting job service) n fits some waits = answer_room h x n fits waits
+room_at h x (Place.Sending job (Sending.WriteLastMark total)) n fits some waits = tt
+room_at h x (Place.Sending job (Sending.WriteShut total)) n fits some waits = tt
+room_at h x (Place.Sending job (Sending.WriteLast at node)) n fits some waits = tt
+room_at h x (Place.Sending job (Sending.WriteCount at node)) n fits some waits = tt
+room_at h x (Place.Sending job (Sending.WriteCursor at node)) n fits some waits = tt
+room_at h x (Place.Sending job service) n fits some waits = answer_room h x n fits waits
+room_at h x (Place.Taking job service) n fits some waits = answer_room h x n fits waits
 room_at h x _ n fits some waits = tt
 
 first_idle : (c : Setting) (x : Chain) (q : ℕ) → to_come x (chain_of c.config q) ((opening c).stand q).place ≡ 0
 first_idle c x q = ap (λ (z : Place). to_come x (chain_of c.config q) z) (idle_first (nat_lt q (passes c))) ∙ none_idle x (chain_of c.config q)
   where
-    idle_first : (b : Bool) → (if b then (record { begun = 0; node = first_node c.config q; place = place.Idle }) else nowhere).place ≡ place.Idle
+    idle_first : (b : Bool) → (if b then (record { begun = 0; node = first_node c.config q; place = Place.Idle }) else nowhere).place ≡ Place.Idle
     idle_first true = refl
     idle_first false = refl
 
@@ -299,15 +284,15 @@ lawful_open c b checked same is laid =
 
 -- an event, and an answer that was asked for
 pub lawful_event : (old new : Board) (p : ℕ) (event : Event) → IsLawful old → p < passes old.setting → Moved old p event new → IsLawful new
-lawful_event old new p Idle l near m = subst (λ (b : Board). IsLawful b) (sym (m.idle refl)) l
-lawful_event old new p (Did kind) l near m =
+lawful_event old new p Event.Idle l near m = subst (λ (b : Board). IsLawful b) (sym (m.idle refl)) l
+lawful_event old new p (Event.Did kind) l near m =
     lawful_step old new p l near (λ none. absurd (cc (m.event_is, none))) m.keeps (m.state (λ none. absurd (cc none)))
 
 finished : (at : Place) (told : Answer) → Some told ≡ told_at at → IsFinished at
-finished (place.Finished answer) told e = tt
+finished (Place.Finished answer) told e = tt
 finished _ told e = absurd (cc)
 
 pub lawful_answer : (old new : Board) (p : ℕ) (told : Option Answer) → IsLawful old → p < passes old.setting → told ≡ told_at ((state_of old).stand p).place →
-    IfSome told (λ answer. state_of new ≡ moved old.setting (state_of old) (Taken p)) → IfNone told (new ≡ old) → Keeps old new → IsLawful new
+    IfSome told (λ answer. state_of new ≡ moved old.setting (state_of old) (Move.Take p)) → IfNone told (new ≡ old) → Keeps old new → IsLawful new
 lawful_answer old new p None l near e is same k = subst (λ (b : Board). IsLawful b) (sym same) l
 lawful_answer old new p (Some told) l near e is same k = lawful_take old new p l near (finished ((state_of old).stand p).place told e) k is

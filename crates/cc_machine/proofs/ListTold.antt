@@ -4,24 +4,22 @@ use Rattle.cc_model.specs.Config.{config_fault}
 use Rattle.cc_model.specs.Kept.{lists}
 use Rattle.cc_model.specs.Record.{Record}
 use Rattle.cc_model.specs.Legal.{Legal}
-use Rattle.cc_machine.specs.declared.board.Board.{Board}
+use Rattle.cc_machine.specs.Names.{Board, Setting, Served}
 use Rattle.cc_runs.specs.State.{State}
 use Rattle.cc_machine.specs.Shown.{view_of, state_of}
 use Rattle.cc_machine.specs.Lawful.{IsLawful}
 use Rattle.cc_machine.proofs.LawfulMoves.{history_in}
-use Rattle.cc_runs.specs.declared.setting.Setting.{Setting}
-use Rattle.cc_runs.specs.declared.setting.Served.TheVariants as served
 use Rattle.cc_machine.proofs.BoardLaws.{AlwaysTold}
 use Rattle.cc_runs.proofs.ListRuns.Ready.{list_answer}
 use Rattle.cc_runs.proofs.ListRuns.Laws.{history_is_legal}
 
 -- its answer in the history
-pub list_told : (c : Setting) → c.served ≡ served.List → config_fault c.config ≡ Ok tt → AlwaysTold c
+pub list_told : (c : Setting) → c.served ≡ Served.List → config_fault c.config ≡ Ok tt → AlwaysTold c
 list_told c what checked moves run p near told is = list_answer c what checked moves run p near told is
 
-legal_in : (b : Board) → b.setting.served ≡ served.List → IsLawful b → Legal b.setting.config (state_of b).history
+legal_in : (b : Board) → b.setting.served ≡ Served.List → IsLawful b → Legal b.setting.config (state_of b).history
 legal_in b what l = subst (λ (s : State). Legal b.setting.config s.history) l.reached.leads (history_is_legal b.setting l.reached.moves what l.checked l.reached.run)
 
 -- the history of a machine is lawful
-pub legal_here : (b : Board) → b.setting.served ≡ served.List → IsLawful b → Legal b.setting.config (lists b.history)
+pub legal_here : (b : Board) → b.setting.served ≡ Served.List → IsLawful b → Legal b.setting.config (lists b.history)
 legal_here b what l = subst (λ (h : Record). Legal b.setting.config h) (history_in (view_of b)) (legal_in b what l)

@@ -2,19 +2,7 @@
 use Rattle.std.proofs.Common.{◌≡◌, ◌≢◌, ◌<◌, arith, ℕ, length, Option, Some, None, Result, Ok, Err, OnOk, OnErr, refl, sym, ap, subst, ◌∙◌}
 use Rattle.cc_model.specs.Record.{Record, empty, of_group}
 use Rattle.cc_model.specs.Kept.{lists}
-use Rattle.cc_model.specs.declared.call.Call.{Call}
-use Rattle.cc_model.specs.declared.call.Answer.{Answer}
-use Rattle.cc_runs.specs.declared.setting.Setting.{Setting}
-use Rattle.cc_runs.specs.declared.setting.Served.TheVariants as served
-use Rattle.cc_machine.specs.declared.fault.BeginFault.{BeginFault}
-use Rattle.cc_machine.specs.declared.known.Known.{Known}
-use Rattle.cc_runs.specs.declared.word.Chain.{Chain}
-use Rattle.cc_machine.specs.declared.board.Board.{Board}
-use Rattle.cc_runs.specs.declared.place.Event.{Event}
-use Rattle.cc_runs.specs.declared.place.Event.TheVariants.{Did, Idle}
-use Rattle.cc_runs.specs.declared.place.Place.{Place}
-use Rattle.cc_runs.specs.declared.place.Place.TheVariants as place
-use Rattle.cc_runs.specs.declared.place.Sending.TheVariants as sending
+use Rattle.cc_machine.specs.Names.{Call, Answer, Setting, Served, BeginFault, Known, Chain, Board, Event, Place, Sending}
 use Rattle.cc_runs.specs.State.{State, chain_of, word_of}
 use Rattle.cc_runs.specs.Lines.{operation, enters, decides}
 use Rattle.cc_runs.specs.Step.{stepped}
@@ -60,7 +48,7 @@ taken_or_not v w (Some p) (Some told) h = record { setting = h.setting; history 
 counted_in : (b : Board) (k : Known) → IsMachine b k → IsCounted (lists b.history) k
 counted_in b k m = record { known = m.known; order = m.order }
 
-machine : (b : Board) (k : Known) → b.setting.served ≡ served.List → IsLawful b → IsCounted (lists b.history) k → IsMachine b k
+machine : (b : Board) (k : Known) → b.setting.served ≡ Served.List → IsLawful b → IsCounted (lists b.history) k → IsMachine b k
 machine b k is l i = record { served_is = is; lawful = l; known = i.known; order = i.order }
 
 kept : (old new : Board) (k : Known) → IsMachine old k → IsLawful new → Same (view_of old) (view_of new) → IsMachine new k
@@ -74,7 +62,7 @@ machine_begun old new k i call known r m l ok err = kept old new k m l (begun_or
 pub machine_taken : (old new : Board) (k : Known) (i : Option ℕ) (told : Option Answer) → IsMachine old k → IsLawful new → HasTaken (view_of old) i told (view_of new) → IsMachine new k
 machine_taken old new k i told m l h = kept old new k m l (taken_or_not (view_of old) (view_of new) i told h)
 
-pub machine_opened : (b : Board) (c : Setting) (k : Known) → c.served ≡ served.List → IsLawful b → b.setting ≡ c → state_of b ≡ opening c → IsCounted (empty (groups c.config)) k → IsMachine b k
+pub machine_opened : (b : Board) (c : Setting) (k : Known) → c.served ≡ Served.List → IsLawful b → b.setting ≡ c → state_of b ≡ opening c → IsCounted (empty (groups c.config)) k → IsMachine b k
 machine_opened b c k is l same opened i =
     let none : (lists b.history) ≡ empty (groups c.config) = sym (history_in (view_of b)) ∙ ap (λ (s : State). s.history) opened in
     machine b k (ap (λ (z : Setting). z.served) same ∙ is) l (subst (λ (h : Record). IsCounted h k) (sym none) i)
@@ -83,14 +71,14 @@ machine_opened b c k is l same opened i =
 
 -- an answer is only decided where a call has none
 decided : (c : Setting) (at : Place) (found : ℕ) (P : Type 0) → WhileUndecided at P → decides c at found ≢ None → P
-decided c (place.Counting job service) found P waits some = waits
-decided c (place.Sending job (sending.WriteLastMark total)) found P waits some = absurd (some refl)
-decided c (place.Sending job (sending.WriteShut total)) found P waits some = absurd (some refl)
-decided c (place.Sending job (sending.WriteLast at node)) found P waits some = absurd (some refl)
-decided c (place.Sending job (sending.WriteCount at node)) found P waits some = absurd (some refl)
-decided c (place.Sending job (sending.WriteCursor at node)) found P waits some = absurd (some refl)
-decided c (place.Sending job service) found P waits some = waits
-decided c (place.Taking job service) found P waits some = waits
+decided c (Place.Counting job service) found P waits some = waits
+decided c (Place.Sending job (Sending.WriteLastMark total)) found P waits some = absurd (some refl)
+decided c (Place.Sending job (Sending.WriteShut total)) found P waits some = absurd (some refl)
+decided c (Place.Sending job (Sending.WriteLast at node)) found P waits some = absurd (some refl)
+decided c (Place.Sending job (Sending.WriteCount at node)) found P waits some = absurd (some refl)
+decided c (Place.Sending job (Sending.WriteCursor at node)) found P waits some = absurd (some refl)
+decided c (Place.Sending job service) found P waits some = waits
+decided c (Place.Taking job service) found P waits some = waits
 decided c _ found P waits some = absurd (some refl)
 
 stepped_counts : (c : Setting) (s : State) (p g : ℕ) (t : Record) (k n : Known) → g < 8 → HasSide (chain_of c.config p) s.history → group_of (chain_of c.config p) ≡ g → IsReady c s p → t ≡ (stepped c s p).history → IsCounted s.history k →
@@ -113,10 +101,10 @@ idle old new k n g inside m l is c =
 pub machine_stepped : (old new : Board) (k n : Known) (i : Option ℕ) (g : ℕ) (e : Event) → IsMachine old k → ((p : ℕ) → i ≡ Some p → p < passes old.setting) → ((p : ℕ) → i ≡ Some p → IsReady old.setting (state_of old) p) → IsLawful new →
     ((p : ℕ) → i ≡ Some p → group_of (chain_of old.setting.config p) ≡ g) → g < length old.history.takes →
     HasStepped (view_of old) i e (view_of new) → HasCounted k (lists new.history) (length old.history.sends.lists.answers) g (length (of_group (lists old.history) g).answers) n → IsMachine new n
-machine_stepped old new k n None g (Did kind) m near ready l at inside h c = absurd h
-machine_stepped old new k n None g Idle m near ready l at inside h c = idle old new k n g inside m l h c
-machine_stepped old new k n (Some p) g Idle m near ready l at inside h c = idle old new k n g inside m l h c
-machine_stepped old new k n (Some p) g (Did kind) m near ready l at inside h c =
+machine_stepped old new k n None g (Event.Did kind) m near ready l at inside h c = absurd h
+machine_stepped old new k n None g Event.Idle m near ready l at inside h c = idle old new k n g inside m l h c
+machine_stepped old new k n (Some p) g Event.Idle m near ready l at inside h c = idle old new k n g inside m l h c
+machine_stepped old new k n (Some p) g (Event.Did kind) m near ready l at inside h c =
     machine new n (ap (λ (z : Setting). z.served) h.setting ∙ m.served_is) l
     (stepped_counts old.setting (state_of old) p g (lists new.history) k n (few_groups old g m.lawful.laid inside) (has_side old m.lawful p (near p refl)) (at p refl) (ready p refl) (sym (history_in (view_of new)) ∙ ap (λ (s : State). s.history) h.state)
     (subst (λ (z : Record). IsCounted z k) (sym (history_in (view_of old))) (counted_in old k m))

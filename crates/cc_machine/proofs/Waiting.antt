@@ -2,13 +2,7 @@
 use Rattle.std.proofs.Common.{◌≡◌, ℕ, Bool, true, false, Option, refl, sym, ap, ◌∙◌, Some, None, inl, inr}
 use Rattle.std.specs.Bool.{OnTrue}
 use Rattle.std.proofs.lemmas.Bool.{cases_eq, eqb-true}
-use Rattle.cc_runs.specs.declared.setting.Setting.{Setting}
-use Rattle.cc_runs.specs.declared.word.NodeField.TheVariants as node
-use Rattle.cc_runs.specs.declared.word.Word.TheVariants.{Node}
-use Rattle.cc_runs.specs.declared.place.Place.{Place}
-use Rattle.cc_runs.specs.declared.place.Place.TheVariants as place
-use Rattle.cc_runs.specs.declared.place.Stand.{Stand}
-use Rattle.cc_runs.specs.declared.word.Chain.{Chain}
+use Rattle.cc_machine.specs.Names.{Setting, NodeField, Word, Place, Stand, Chain}
 use Rattle.cc_runs.proofs.Chains.Facts.{noted_none}
 use Rattle.cc_runs.specs.State.{State, chain_of, hold}
 use Rattle.cc_runs.specs.Lines.{after_state}
@@ -19,11 +13,11 @@ use Rattle.cc_runs.proofs.Chains.Frame.{hold_here, hold_apart}
 
 -- a pass that waits is about to read its state, and stays as it is
 pub record IsStill (c : Setting) (s : State) (p : ℕ) : Type 0 where
-  pub reads : (s.stand p).place ≡ place.ReadState
+  pub reads : (s.stand p).place ≡ Place.ReadState
   pub same : stepped c s p ≡ s
 
-found_one : (c : Setting) (s : State) (p : ℕ) (at : Place) → waits_at c s p at ≡ true → (at ≡ place.ReadState) × (s.mem (Node (chain_of c.config p) (s.stand p).node node.State) ≡ 1)
-found_one c s p place.ReadState e = (refl, eqb-true _ 1 e)
+found_one : (c : Setting) (s : State) (p : ℕ) (at : Place) → waits_at c s p at ≡ true → (at ≡ Place.ReadState) × (s.mem (Word.Node (chain_of c.config p) (s.stand p).node NodeField.State) ≡ 1)
+found_one c s p Place.ReadState e = (refl, eqb-true _ 1 e)
 found_one c s p _ e = absurd (cc)
 
 -- what is held where it stands is held nowhere else
@@ -45,13 +39,13 @@ still c s p e = record { reads = facts.0; same = ap (λ (at : Stand). stepped_fr
     x : Chain
     x = chain_of c.config p
 
-    facts : ((s.stand p).place ≡ place.ReadState) × (s.mem (Node x (s.stand p).node node.State) ≡ 1)
+    facts : ((s.stand p).place ≡ Place.ReadState) × (s.mem (Word.Node x (s.stand p).node NodeField.State) ≡ 1)
     facts = found_one c s p (s.stand p).place e
 
-    here : s.stand p ≡ stand_with (s.stand p) place.ReadState
+    here : s.stand p ≡ stand_with (s.stand p) Place.ReadState
     here = ap (λ (z : Place). stand_with (s.stand p) z) facts.0
 
-    kept : hold s.stand p (stand_with (s.stand p) (after_state (s.stand p).node (s.mem (Node x (s.stand p).node node.State)))) ≡ s.stand
+    kept : hold s.stand p (stand_with (s.stand p) (after_state (s.stand p).node (s.mem (Word.Node x (s.stand p).node NodeField.State)))) ≡ s.stand
     kept = held s.stand p _ (ap (λ (found : ℕ). stand_with (s.stand p) (after_state (s.stand p).node found)) facts.1 ∙ sym here)
 
 -- of a machine's pass

@@ -3,17 +3,11 @@ use Rattle.std.specs.Prelude.{◌≡◌, ℕ, ◌+◌, ◌≤◌, Bool, false, �
 use Rattle.std.specs.List.{slice_get}
 use Rattle.cc_model.specs.Record.{Record, of_group}
 use Rattle.cc_model.specs.Items.{entries, accepted_item, shuts, is_shut, handed, handed_item}
-use Rattle.cc_model.specs.declared.call.Pass.{Pass}
-use Rattle.cc_model.specs.declared.call.Pass.TheVariants as pass
-use Rattle.cc_model.specs.declared.call.Entry.{Entry}
-use Rattle.cc_model.specs.declared.call.Answer.{Answer}
-use Rattle.cc_model.specs.declared.call.Answer.TheVariants as answer
-use Rattle.cc_model.specs.declared.call.CloseAnswer.TheVariants as close
-use Rattle.cc_machine.specs.declared.known.Known.{Known}
+use Rattle.cc_machine.specs.Names.{Pass, Entry, Answer, CloseAnswer, Known}
 
 -- what a further call with its answer adds to the entries of the list, where it was shut before or wasn't
 abbrev pub adds_entry : Bool → Option Entry → Option Answer → ℕ
-adds_entry shut (Some c) (Some (answer.Close (close.Shut total))) = if shut then 0 else 1
+adds_entry shut (Some c) (Some (Answer.Close (CloseAnswer.Shut total))) = if shut then 0 else 1
 adds_entry shut (Some c) (Some a) = length (accepted_item c a)
 adds_entry shut _ _ = 0
 
@@ -49,5 +43,5 @@ least_of (suc n) f = min (least_of n f) (f (suc n))
 
 -- so much of it can be known to a pass of a side
 abbrev pub known_count : (groups : ℕ) → Known → Pass → ℕ
-known_count groups k (pass.Sender n) = least_of (groups - 1) (λ g. slice_index_or k.handed g 0)
-known_count groups k (pass.Receiver n) = k.entries
+known_count groups k (Pass.Sender n) = least_of (groups - 1) (λ g. slice_index_or k.handed g 0)
+known_count groups k (Pass.Receiver n) = k.entries

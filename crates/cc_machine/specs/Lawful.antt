@@ -1,16 +1,9 @@
 -- The boards that runs lead to, with room in the history for every call to come.
 use Rattle.std.specs.Prelude.{◌≡◌, ℕ, zero, suc, ◌+◌, ◌≤◌, ◌<◌, ◌==◌, max, Bool, if◌then◌else◌, length, Ok}
 use Rattle.cc_model.specs.Config.{config_fault}
-use Rattle.cc_runs.specs.declared.setting.Setting.{Setting}
-use Rattle.cc_runs.specs.declared.setting.Served.TheVariants as served
-use Rattle.cc_runs.specs.declared.word.Chain.{Chain}
-use Rattle.cc_runs.specs.declared.word.Chain.TheVariants.{Send, Take}
-use Rattle.cc_runs.specs.declared.place.Stand.{Stand}
-use Rattle.cc_runs.specs.declared.place.Place.{Place}
-use Rattle.cc_machine.specs.declared.board.Board.{Board}
+use Rattle.cc_machine.specs.Names.{Setting, Served, Chain, Stand, Place, Board, Known}
 use Rattle.cc_model.specs.Kept.{lists}
 use Rattle.cc_runs.specs.Sides.{IsThere}
-use Rattle.cc_machine.specs.declared.known.Known.{Known}
 use Rattle.cc_machine.specs.Known.{IsKnown}
 use Rattle.cc_runs.specs.State.{chain_of, side}
 use Rattle.cc_runs.specs.Run.{passes}
@@ -20,8 +13,8 @@ use Rattle.cc_machine.specs.Machine.{IsReached}
 
 -- such a call of a sender, or of a receiver
 abbrev pub to_come : Chain → Chain → Place → ℕ
-to_come Send Send at = before_exchange at
-to_come (Take g) (Take h) at = if g == h then before_exchange at else 0
+to_come Chain.Send Chain.Send at = before_exchange at
+to_come (Chain.Take g) (Chain.Take h) at = if g == h then before_exchange at else 0
 to_come x y at = 0
 
 -- one where there is such a call
@@ -54,12 +47,12 @@ pub record IsLawful (b : Board) : Type 0 where
 
 -- the board of a counter
 pub record IsCounter (b : Board) : Type 0 where
-  pub served_is : b.setting.served ≡ served.Counter
+  pub served_is : b.setting.served ≡ Served.Counter
   pub lawful : IsLawful b
 
 -- the board of a list, with what there is to be known of its history; no answer stands there before its call
 pub record IsMachine (b : Board) (k : Known) : Type 0 where
-  pub served_is : b.setting.served ≡ served.List
+  pub served_is : b.setting.served ≡ Served.List
   pub lawful : IsLawful b
   pub known : IsKnown (lists b.history) k
   pub order : (x : Chain) → length (side x (lists b.history)).answers ≤ length (side x (lists b.history)).calls

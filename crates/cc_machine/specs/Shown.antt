@@ -1,17 +1,7 @@
 -- The state that a board shows, and what its steps ask for and do.
 use Rattle.std.specs.Prelude.{List, ◌≡◌, ◌≢◌, ℕ, ◌<◌, slice_index_or, length}
 use Rattle.cc_model.specs.Kept.{KeptSide, Kept, kept_of_group, lists}
-use Rattle.cc_runs.specs.declared.setting.Setting.{Setting}
-use Rattle.cc_runs.specs.declared.word.Chain.{Chain}
-use Rattle.cc_runs.specs.declared.word.Chain.TheVariants.{Send, Take}
-use Rattle.cc_runs.specs.declared.place.Kind.{Kind}
-use Rattle.cc_runs.specs.declared.place.Event.{Event}
-use Rattle.cc_runs.specs.declared.place.Event.TheVariants.{Did, Idle}
-use Rattle.cc_runs.specs.declared.place.Stand.{Stand}
-use Rattle.cc_runs.specs.declared.place.Place.{Place}
-use Rattle.cc_runs.specs.declared.place.Place.TheVariants as place
-use Rattle.cc_machine.specs.declared.board.Board.{Board}
-use Rattle.cc_machine.specs.declared.board.Seat.{Seat}
+use Rattle.cc_machine.specs.Names.{Setting, Chain, Kind, Event, Stand, Place, Board, Seat}
 use Rattle.cc_runs.specs.Words.{IsSmall, layout_of, size, groups}
 use Rattle.cc_runs.specs.State.{State, first_node, chain_of}
 use Rattle.cc_runs.specs.Lines.{event_at}
@@ -37,8 +27,8 @@ pub record IsLaid (b : Board) : Type 0 where
 
 -- what is kept of a chain's side
 abbrev pub kept_side : Chain → Kept → KeptSide
-kept_side Send h = h.sends
-kept_side (Take g) h = kept_of_group h g
+kept_side Chain.Send h = h.sends
+kept_side (Chain.Take g) h = kept_of_group h g
 
 -- room for a further call of this chain
 abbrev pub HasCallRoom : Kept → Chain → Type 0
@@ -50,7 +40,7 @@ HasAnswerRoom h x = length (kept_side x h).lists.answers < (kept_side x h).room
 
 -- room for what the step at this place puts into the history
 abbrev pub HasRoom : Kept → Chain → Place → Type 0
-HasRoom h x (place.Exchange call) = HasCallRoom h x
+HasRoom h x (Place.Exchange call) = HasCallRoom h x
 HasRoom h x at = WhileUndecided at (HasAnswerRoom h x)
 
 -- a pass during its step, at this place
@@ -74,7 +64,7 @@ pub record Keeps (old new : Board) : Type 0 where
 
 -- the step of this seat, at this place, was done
 pub record Stepped (old : Board) (seat : Seat) (at : Place) (kind : Kind) (new : Board) : Type 0 where
-  pub kind_is : event_at at ≡ Did kind
+  pub kind_is : event_at at ≡ Event.Did kind
   pub state : state_of new ≡ stepped_from old.setting (state_of old) seat.chain seat.pass (stand_of seat at)
   pub keeps : Keeps old new
 
@@ -85,11 +75,11 @@ seat_at b p = record { pass = p; chain = chain_of b.setting.config p; begun = ((
 -- an event is the one step of its pass, and Idle where the pass has none: then nothing changes
 pub record Moved (old : Board) (p : ℕ) (event : Event) (new : Board) : Type 0 where
   pub event_is : event ≡ event_at ((state_of old).stand p).place
-  pub state : event ≢ Idle → state_of new ≡ stepped old.setting (state_of old) p
-  pub idle : event ≡ Idle → new ≡ old
+  pub state : event ≢ Event.Idle → state_of new ≡ stepped old.setting (state_of old) p
+  pub idle : event ≡ Event.Idle → new ≡ old
   pub keeps : Keeps old new
 
 -- the places at the opening, of a list that ends there
 pub record StandFirst (c : Setting) (stands : List Stand) : Type 0 where
   pub all : length stands ≡ passes c
-  pub each : (p : ℕ) → p < passes c → slice_index_or stands p nowhere ≡ record { begun = 0; node = first_node c.config p; place = place.Idle }
+  pub each : (p : ℕ) → p < passes c → slice_index_or stands p nowhere ≡ record { begun = 0; node = first_node c.config p; place = Place.Idle }

@@ -1,8 +1,7 @@
 -- What a caller sees of a machine: its words, where each pass stands, and the history; and the state that they are.
 use Rattle.std.specs.Prelude.{ℕ, List, slice_index_or}
 use Rattle.cc_model.specs.Record.{Record}
-use Rattle.cc_runs.specs.declared.setting.Setting.{Setting}
-use Rattle.cc_runs.specs.declared.place.Stand.{Stand}
+use Rattle.cc_machine.specs.Names.{Setting, Stand}
 use Rattle.cc_runs.specs.Words.{layout_of, word_at}
 use Rattle.cc_runs.specs.State.{State}
 use Rattle.cc_runs.specs.Run.{nowhere}

@@ -2,7 +2,7 @@ ghost use Rattle.std.specs.Prelude.{◌≡◌, ◌+◌, ◌<◌, ◌^◌, length
 ghost use Rattle.cc_machine.specs.Shown.{state_of, Keeps};
 ghost use Rattle.cc_runs.specs.State.{pass_at};
 ghost use Rattle.cc_runs.specs.Run as run;
-ghost use Rattle.cc_runs.specs.declared.run.Move.TheVariants as move;
+ghost use Rattle.cc_machine.specs.Names.{Move};
 ghost use Rattle.cc_machine.specs.Machine.{told_at};
 
 use crate::board::Board;
@@ -29,7 +29,7 @@ impl Board {
         requires pass { pass < length self.old.stands.items }
         requires small { pass + 1 < 2 ^ 32 }
         requires worn { run.begun_after call ((state_of self.old).stand pass).begun < 2 ^ 32 }
-        ensures state { state_of self.new ≡ run.moved self.old.setting (state_of self.old) (move.Begin pass call known) }
+        ensures state { state_of self.new ≡ run.moved self.old.setting (state_of self.old) (Move.Begin pass call known) }
         ensures keeps { Keeps self.old self.new }
     {
         let stand = self.stand(pass);
@@ -57,7 +57,7 @@ impl Board {
     pub fn answer(&mut self, pass: usize) -> Option<Answer>
         requires pass { pass < length self.old.stands.items }
         ensures answer { result ≡ told_at ((state_of self.old).stand pass).place }
-        ensures state { IfSome result (λ answer. state_of self.new ≡ run.moved self.old.setting (state_of self.old) (move.Take pass)) }
+        ensures state { IfSome result (λ answer. state_of self.new ≡ run.moved self.old.setting (state_of self.old) (Move.Take pass)) }
         ensures none { IfNone result (self.new ≡ self.old) }
         ensures keeps { Keeps self.old self.new }
     {

@@ -5,17 +5,7 @@ use Rattle.cc_model.specs.Record.{Record, of_group}
 use Rattle.cc_model.specs.Items.{IsFront, entries, accepted, accepted_by, accepted_item, shuts, is_shut, handed_by, handed_item, handed_to_all, known_at}
 use Rattle.cc_model.specs.Legal.{LegalTakes, EAnswer, EAnswers, DAnswer, DAnswers, IsSenders, IsReceivers}
 use Rattle.cc_model.specs.Fresh.{GoesOn, EmptyIsFresh, FullIsFresh}
-use Rattle.cc_model.specs.declared.config.Config.{Config}
-use Rattle.cc_model.specs.declared.call.Pass.{Pass}
-use Rattle.cc_model.specs.declared.call.Pass.TheVariants as pass
-use Rattle.cc_model.specs.declared.call.Call.{Call}
-use Rattle.cc_model.specs.declared.call.Call.TheVariants as call
-use Rattle.cc_model.specs.declared.call.Item.{Item}
-use Rattle.cc_model.specs.declared.call.Entry.{Entry}
-use Rattle.cc_model.specs.declared.call.Answer.{Answer}
-use Rattle.cc_model.specs.declared.call.Answer.TheVariants as answer
-use Rattle.cc_model.specs.declared.call.SendAnswer.TheVariants as send
-use Rattle.cc_model.specs.declared.call.TakeAnswer.TheVariants as take
+use Rattle.cc_model.specs.Names.{Config, Pass, Call, Item, Entry, Answer, SendAnswer, TakeAnswer}
 use Rattle.cc_model.proofs.Fronts.{front_after}
 use Rattle.cc_model.proofs.InOrder.{handed_front}
 
@@ -53,8 +43,8 @@ d_at items shut n (d ∷ calls) (b ∷ before) behind c a h is =
 
 -- a receiver can come upon the entries
 taker_knows : (cfg : Config) (g : ℕ) (h : Record) (p : Pass) (k : Call) → IsReceivers cfg g p k → known_at p h ≡ entries h
-taker_knows cfg g h (pass.Receiver r) k is = refl
-taker_knows cfg g h (pass.Sender s) k is = absurd is
+taker_knows cfg g h (Pass.Receiver r) k is = refl
+taker_knows cfg g h (Pass.Sender s) k is = absurd is
 
 -- ---- sends
 
@@ -77,31 +67,31 @@ e_at cfg n shut (d ∷ calls) (b ∷ before) behind c a h is =
     or_assoc false q r = refl
 
 sender_knows : (cfg : Config) (h : Record) (p : Pass) (k : Call) → IsSenders cfg p k → known_at p h ≡ handed_to_all h
-sender_knows cfg h (pass.Sender s) k is = refl
-sender_knows cfg h (pass.Receiver r) k is = absurd is
+sender_knows cfg h (Pass.Sender s) k is = refl
+sender_knows cfg h (Pass.Receiver r) k is = absurd is
 
-full_only : (cfg : Config) (count known : ℕ) (shut : Bool) (k : Call) → EAnswer cfg count shut known k (answer.Send send.Full) → known + cfg.capacity ≤ count
-full_only cfg count known false (call.Send body) h = h.1
-full_only cfg count known true (call.Send body) h = absurd h
-full_only cfg count known true call.Close h = absurd h
-full_only cfg count known false call.Close h = absurd h
-full_only cfg count known true call.Take h = absurd h
-full_only cfg count known false call.Take h = absurd h
+full_only : (cfg : Config) (count known : ℕ) (shut : Bool) (k : Call) → EAnswer cfg count shut known k (Answer.Send SendAnswer.Full) → known + cfg.capacity ≤ count
+full_only cfg count known false (Call.Send body) h = h.1
+full_only cfg count known true (Call.Send body) h = absurd h
+full_only cfg count known true Call.Close h = absurd h
+full_only cfg count known false Call.Close h = absurd h
+full_only cfg count known true Call.Take h = absurd h
+full_only cfg count known false Call.Take h = absurd h
 
 -- ---- what was accepted before
 
 closed_adds : (cfg : Config) (n : ℕ) (c : Entry) (a : Answer) → EAnswer cfg n true c.known c.call a → length (accepted_item c a) ≡ 0
-closed_adds cfg n c (answer.Send (send.Accepted place)) h = none c.call h
+closed_adds cfg n c (Answer.Send (SendAnswer.Accepted place)) h = none c.call h
   where
-    none : (k : Call) → EAnswer cfg n true c.known k (answer.Send (send.Accepted place)) → length (accepted_item c (answer.Send (send.Accepted place))) ≡ 0
-    none (call.Send body) e = absurd e
-    none call.Close e = absurd e
-    none call.Take e = absurd e
-closed_adds cfg n c (answer.Send send.Full) h = refl
-closed_adds cfg n c (answer.Send send.Closed) h = refl
-closed_adds cfg n c (answer.Send send.Spent) h = refl
-closed_adds cfg n c (answer.Close told) h = refl
-closed_adds cfg n c (answer.Take told) h = refl
+    none : (k : Call) → EAnswer cfg n true c.known k (Answer.Send (SendAnswer.Accepted place)) → length (accepted_item c (Answer.Send (SendAnswer.Accepted place))) ≡ 0
+    none (Call.Send body) e = absurd e
+    none Call.Close e = absurd e
+    none Call.Take e = absurd e
+closed_adds cfg n c (Answer.Send SendAnswer.Full) h = refl
+closed_adds cfg n c (Answer.Send SendAnswer.Closed) h = refl
+closed_adds cfg n c (Answer.Send SendAnswer.Spent) h = refl
+closed_adds cfg n c (Answer.Close told) h = refl
+closed_adds cfg n c (Answer.Take told) h = refl
 
 closed_none : (cfg : Config) (n : ℕ) (calls : List Entry) (answers : List Answer) → EAnswers cfg n true calls answers → length (accepted_by calls answers) ≡ 0
 closed_none cfg n [] answers h = refl
@@ -167,18 +157,18 @@ not_shut false n h = refl
 pub empty_fresh : EmptyIsFresh
 empty_fresh cfg h later on g before c inside is seen =
     let of : LegalTakes cfg later g = on.later_legal.takes g inside in
-    let takes : DAnswers (accepted later) (is_shut later) 0 (of_group later g).calls (before ++ answer.Take take.Empty ∷ is.behind) = subst (λ (l : List Answer). DAnswers (accepted later) (is_shut later) 0 (of_group later g).calls l) is.answers_are of.answers in
-    let reached : c.known ≤ 0 + length (handed_by before) = d_at (accepted later) (is_shut later) 0 (of_group later g).calls before is.behind c (answer.Take take.Empty) takes is.call_is in
+    let takes : DAnswers (accepted later) (is_shut later) 0 (of_group later g).calls (before ++ Answer.Take TakeAnswer.Empty ∷ is.behind) = subst (λ (l : List Answer). DAnswers (accepted later) (is_shut later) 0 (of_group later g).calls l) is.answers_are of.answers in
+    let reached : c.known ≤ 0 + length (handed_by before) = d_at (accepted later) (is_shut later) 0 (of_group later g).calls before is.behind c (Answer.Take TakeAnswer.Empty) takes is.call_is in
     let knows : known_at c.pass h ≡ entries h = taker_knows cfg g h c.pass c.call (all_at (λ (e : Entry). IsReceivers cfg g e.pass e.call) (of_group later g).calls (length before) c of.receivers is.call_is) in
     let all : length (accepted h) + (if is_shut h then 1 else 0) ≤ length (handed_by before) = omega (arith, seen, reached, knows) in
-    let out : IsFront (handed_by before) (accepted later) = handed_front (accepted later) (is_shut later) 0 (of_group later g).calls before (d_front (accepted later) (is_shut later) 0 (of_group later g).calls before (answer.Take take.Empty ∷ is.behind) takes) in (
+    let out : IsFront (handed_by before) (accepted later) = handed_front (accepted later) (is_shut later) 0 (of_group later g).calls before (d_front (accepted later) (is_shut later) 0 (of_group later g).calls before (Answer.Take TakeAnswer.Empty ∷ is.behind) takes) in (
       shorter_front (accepted h) (handed_by before) (accepted later) (front cfg h later on) out (omega (arith, all)),
       not_shut (is_shut h) (length (accepted h)) (λ closed. omega (arith, all, all_there cfg h later on closed, ap (λ (l : List Item). length l) out.1, length-append (handed_by before) out.0)),
     )
 
 pub full_fresh : FullIsFresh
 full_fresh cfg h later on before c is seen =
-    let sends : EAnswers cfg 0 false later.sends.calls (before ++ answer.Send send.Full ∷ is.behind) = subst (λ (l : List Answer). EAnswers cfg 0 false later.sends.calls l) is.answers_are on.later_legal.answers in
-    let told : c.known + cfg.capacity ≤ 0 + length (accepted_by later.sends.calls before) = full_only cfg (0 + length (accepted_by later.sends.calls before)) c.known _ c.call (e_at cfg 0 false later.sends.calls before is.behind c (answer.Send send.Full) sends is.call_is) in
+    let sends : EAnswers cfg 0 false later.sends.calls (before ++ Answer.Send SendAnswer.Full ∷ is.behind) = subst (λ (l : List Answer). EAnswers cfg 0 false later.sends.calls l) is.answers_are on.later_legal.answers in
+    let told : c.known + cfg.capacity ≤ 0 + length (accepted_by later.sends.calls before) = full_only cfg (0 + length (accepted_by later.sends.calls before)) c.known _ c.call (e_at cfg 0 false later.sends.calls before is.behind c (Answer.Send SendAnswer.Full) sends is.call_is) in
     let knows : known_at c.pass h ≡ handed_to_all h = sender_knows cfg h c.pass c.call (all_at (λ (e : Entry). IsSenders cfg e.pass e.call) later.sends.calls (length before) c on.later_legal.senders is.call_is) in
     omega (arith, seen, told, knows)

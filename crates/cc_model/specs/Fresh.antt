@@ -4,12 +4,7 @@ use Rattle.std.specs.List.{slice_get}
 use Rattle.cc_model.specs.Record.{Side, Record, of_group}
 use Rattle.cc_model.specs.Items.{IsFront, Begins, accepted, accepted_by, is_shut, handed_by, handed_to_all, known_at}
 use Rattle.cc_model.specs.Legal.{Legal}
-use Rattle.cc_model.specs.declared.config.Config.{Config}
-use Rattle.cc_model.specs.declared.call.Entry.{Entry}
-use Rattle.cc_model.specs.declared.call.Answer.{Answer}
-use Rattle.cc_model.specs.declared.call.Answer.TheVariants as answer
-use Rattle.cc_model.specs.declared.call.SendAnswer.TheVariants as send
-use Rattle.cc_model.specs.declared.call.TakeAnswer.TheVariants as take
+use Rattle.cc_model.specs.Names.{Config, Entry, Answer, SendAnswer, TakeAnswer}
 
 -- two lawful histories, the first of which begins the second
 pub record GoesOn (cfg : Config) (h later : Record) : Type 0 where
@@ -31,10 +26,10 @@ pub record IsAnswered (side : Side) (before : List Answer) (call : Entry) (told 
 -- accepted there, and where that history isn't shut.
 abbrev pub EmptyIsFresh : Type 0
 EmptyIsFresh = (cfg : Config) (h later : Record) → GoesOn cfg h later → (g : ℕ) (before : List Answer) (call : Entry) → g < cfg.groups →
-    IsAnswered (of_group later g) before call (answer.Take take.Empty) → HasSeen h call → IsFront (accepted h) (handed_by before) × (is_shut h ≡ false)
+    IsAnswered (of_group later g) before call (Answer.Take TakeAnswer.Empty) → HasSeen h call → IsFront (accepted h) (handed_by before) × (is_shut h ≡ false)
 
 -- A send that had seen the earlier history is answered Full only where before it at least `capacity` items were accepted
 -- beyond those that every group was handed there.
 abbrev pub FullIsFresh : Type 0
 FullIsFresh = (cfg : Config) (h later : Record) → GoesOn cfg h later → (before : List Answer) (call : Entry) →
-    IsAnswered later.sends before call (answer.Send send.Full) → HasSeen h call → handed_to_all h + cfg.capacity ≤ length (accepted_by later.sends.calls before)
+    IsAnswered later.sends before call (Answer.Send SendAnswer.Full) → HasSeen h call → handed_to_all h + cfg.capacity ≤ length (accepted_by later.sends.calls before)

@@ -1,3 +1,4 @@
+pub mod Names
 pub mod Range
 pub mod Config
 pub mod Body

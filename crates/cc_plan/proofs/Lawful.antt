@@ -8,13 +8,9 @@ use Rattle.serde_json.specs.Data.{Data}
 use Rattle.serde_json.specs.Find.{get}
 use Rattle.cc_model.specs.Range.{within}
 use Rattle.cc_model.specs.Config.{config_fault}
-use Rattle.cc_model.specs.declared.call.Call.{Call}
-use Rattle.cc_model.specs.declared.call.Call.TheVariants as call
-use Rattle.cc_model.specs.declared.call.Pass.{Pass}
+use Rattle.cc_plan.specs.Names.{Call, Pass, Plan, PlanFault}
 use Rattle.cc_plan.specs.Json.{elements, pair_of, each, ranged, number_in, whole_number, is_word}
 use Rattle.cc_plan.specs.Refusal.{◌>>=◌, Refusal, wrong_shape, or_range, value_at, tree_of}
-use Rattle.cc_plan.specs.declared.plan.Plan.{Plan}
-use Rattle.cc_plan.specs.declared.fault.PlanFault.{PlanFault}
 use Rattle.cc_plan.specs.Answers.{Gives}
 use Rattle.cc_plan.specs.Plan.{PlanValue, plan_value}
 use Rattle.cc_plan.specs.PlanShape.{named, has_plan_shape}
@@ -94,9 +90,9 @@ each_length f (d ∷ ds) xs e = let s = each_step f d ds xs e in ap (λ (n : ℕ
 
 -- ---- calls
 
-of_sender : (b : Bool) (o : Option ℕ) (c : Call) → cond b (Some call.Close) (option_map call.Send o) ≡ Some c → IsOfSender c
-of_sender true o c e = let same : call.Close ≡ c = cc e in subst IsOfSender same tt
-of_sender false (Some n) c e = let same : call.Send n ≡ c = cc e in subst IsOfSender same tt
+of_sender : (b : Bool) (o : Option ℕ) (c : Call) → cond b (Some Call.Close) (option_map Call.Send o) ≡ Some c → IsOfSender c
+of_sender true o c e = let same : Call.Close ≡ c = cc e in subst IsOfSender same tt
+of_sender false (Some n) c e = let same : Call.Send n ≡ c = cc e in subst IsOfSender same tt
 of_sender false None c e = cc e
 
 all_of_sender : (d : Data) (calls : List Call) → calls_of d ≡ Some calls → All IsOfSender calls

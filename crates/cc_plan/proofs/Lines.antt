@@ -1,8 +1,7 @@
 -- The lines of a report, one after another.
 use Rattle.std.proofs.Common.{◌≡◌, ◌<◌, ◌+◌, ℕ, zero, suc, List, [], ◌∷◌, ◌++◌, length, get_or, drop, None, refl, sym, ap, ◌∙◌, append_assoc, arith, add-one}
 use Rattle.std.specs.List.{slice_get}
-use Rattle.cc_model.specs.declared.call.Entry.{Entry}
-use Rattle.cc_model.specs.declared.call.Answer.{Answer}
+use Rattle.cc_plan.specs.Names.{Entry, Answer}
 use Rattle.cc_plan.specs.Report.{line_text, lines_text}
 
 lines_pending : (side : List ℕ) (n : ℕ) (calls : List Entry) (i : ℕ) (d : Entry) → i < length calls

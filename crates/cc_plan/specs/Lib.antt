@@ -1,3 +1,4 @@
+pub mod Names
 pub mod Json
 pub mod Closures
 pub mod Refusal

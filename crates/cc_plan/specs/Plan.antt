@@ -1,9 +1,6 @@
 -- What a plan says.
 use Rattle.std.specs.Prelude.{ℕ, List, map}
-use Rattle.cc_model.specs.declared.config.Config.{Config}
-use Rattle.cc_model.specs.declared.call.Call.{Call}
-use Rattle.cc_model.specs.declared.call.Pass.{Pass}
-use Rattle.cc_plan.specs.declared.plan.Plan.{Plan}
+use Rattle.cc_plan.specs.Names.{Config, Call, Pass, Plan}
 
 -- the configuration, each sender's calls, how often each receiver takes, and which pass goes on next, by up to how many steps
 pub record PlanValue : Type 0 where

@@ -1,16 +1,15 @@
 -- What holds of every plan that an input describes.
 use Rattle.std.specs.Prelude.{true, ◌≡◌, ◌≤◌, ◌^◌, ◌-◌, length, All, Ok, ⊤}
 use Rattle.cc_model.specs.Config.{config_fault}
-use Rattle.cc_model.specs.declared.call.Call.{Call}
-use Rattle.cc_model.specs.declared.call.Call.TheVariants as call
+use Rattle.cc_plan.specs.Names.{Call}
 use Rattle.cc_plan.specs.Plan.{PlanValue}
 use Rattle.cc_plan.specs.PlanOf.{has_pass}
 
 -- a call that a sender makes
 abbrev pub IsOfSender : Call → Type 0
-IsOfSender (call.Send body) = ⊤
-IsOfSender call.Close = ⊤
-IsOfSender call.Take = ⊥
+IsOfSender (Call.Send body) = ⊤
+IsOfSender Call.Close = ⊤
+IsOfSender Call.Take = ⊥
 
 -- the configuration is lawful, lets each sender send 2^32 - 1 times, has one group, and as many passes as there are lists of
 -- calls; the lists are no longer than the limits, and each sender's calls are those of senders; each entry names a pass of the

@@ -3,9 +3,7 @@ use Rattle.std.specs.Prelude.{ℕ, ◌-◌, ◌^◌, Bool, not, List, codes, len
 use Rattle.std.specs.List.{position}
 use Rattle.serde_json.specs.Data.{Data}
 use Rattle.cc_model.specs.Range.{within}
-use Rattle.cc_model.specs.declared.config.Config.{Config}
-use Rattle.cc_model.specs.declared.call.Pass.{Pass}
-use Rattle.cc_model.specs.declared.call.Pass.TheVariants as pass
+use Rattle.cc_plan.specs.Names.{Config, Pass}
 use Rattle.cc_plan.specs.Json.{number_in}
 use Rattle.cc_plan.specs.PlanShape.{has_plan_shape}
 use Rattle.cc_plan.specs.PlanValues.{senders_of, receivers_of, schedule_of, version_of}
@@ -29,8 +27,8 @@ plan_of_values d = do
 
 -- the configuration has this pass
 abbrev pub has_pass : Config → Pass → Bool
-has_pass c (pass.Sender s) = within 1 c.senders s
-has_pass c (pass.Receiver r) = within 1 c.receivers r
+has_pass c (Pass.Sender s) = within 1 c.senders s
+has_pass c (Pass.Receiver r) = within 1 c.receivers r
 
 abbrev pub known_passes : Option ℕ → PlanValue → Result PlanValue Refusal
 known_passes None p = Ok p

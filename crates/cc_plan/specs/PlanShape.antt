@@ -6,8 +6,7 @@ use Rattle.std.specs.Str.{bytes_eq}
 use Rattle.serde_json.specs.Data.{Data}
 use Rattle.serde_json.specs.Find.{as_str}
 use Rattle.cc_model.specs.Range.{within}
-use Rattle.cc_model.specs.declared.call.Pass.{Pass}
-use Rattle.cc_model.specs.declared.call.Pass.TheVariants as pass
+use Rattle.cc_plan.specs.Names.{Pass}
 use Rattle.cc_plan.specs.Json.{elements, is_list_of, pair_of, is_number, is_word, has_only, has, may_have}
 
 -- a number, or the text close
@@ -33,7 +32,7 @@ numbered digits = if is_pass_number digits then Some (pass_number digits) else N
 -- s and a number, or r and a number
 abbrev pub pass_of : List ℕ → Option Pass
 pass_of [] = None
-pass_of (letter ∷ digits) = if letter == 115 then option_map pass.Sender (numbered digits) else (if letter == 114 then option_map pass.Receiver (numbered digits) else None)
+pass_of (letter ∷ digits) = if letter == 115 then option_map Pass.Sender (numbered digits) else (if letter == 114 then option_map Pass.Receiver (numbered digits) else None)
 
 -- the pass that the text names
 abbrev pub named : Data → Option Pass

@@ -3,9 +3,7 @@ use Rattle.std.specs.Prelude.{ℕ, List, codes, length, if◌then◌else◌, Opt
 use Rattle.serde_json.specs.Data.{Data}
 use Rattle.serde_json.specs.Find.{get}
 use Rattle.cc_model.specs.Range.{within}
-use Rattle.cc_model.specs.declared.call.Call.{Call}
-use Rattle.cc_model.specs.declared.call.Call.TheVariants as call
-use Rattle.cc_model.specs.declared.call.Pass.{Pass}
+use Rattle.cc_plan.specs.Names.{Call, Pass}
 use Rattle.cc_plan.specs.Json.{◌>>=◌, elements, pair_of, each, is_word, whole_number, number_in}
 use Rattle.cc_plan.specs.PlanShape.{named}
 
@@ -17,7 +15,7 @@ counted low high d = do
 
 -- close, or a send of any 64-bit number
 abbrev pub call_of : Data → Option Call
-call_of d = if is_word (codes "close") d then Some call.Close else option_map call.Send (whole_number d)
+call_of d = if is_word (codes "close") d then Some Call.Close else option_map Call.Send (whole_number d)
 
 abbrev pub calls_of : Data → Option (List Call)
 calls_of d = do

@@ -1,8 +1,6 @@
 -- What receipts say.
 use Rattle.std.specs.Prelude.{ℕ, List, Option}
-use Rattle.cc_audit.specs.declared.receipt.SendReceipt.{SendReceipt}
-use Rattle.cc_audit.specs.declared.receipt.TakeReceipt.{TakeReceipt}
-use Rattle.cc_plan.specs.declared.receipts.Receipts.{Receipts}
+use Rattle.cc_plan.specs.Names.{SendReceipt, TakeReceipt, Receipts}
 
 -- the receipts of the senders, those of the receivers, and the total, where one is given
 pub record ReceiptsValue : Type 0 where

@@ -3,8 +3,7 @@ use Rattle.std.specs.Prelude.{ℕ, ◌-◌, ◌^◌, List, codes, if◌then◌el
 use Rattle.serde_json.specs.Data.{Data}
 use Rattle.serde_json.specs.Find.{get, as_null}
 use Rattle.cc_plan.specs.Json.{◌>>=◌, elements, each, whole_number, number_in}
-use Rattle.cc_audit.specs.declared.receipt.SendReceipt.{SendReceipt}
-use Rattle.cc_audit.specs.declared.receipt.TakeReceipt.{TakeReceipt}
+use Rattle.cc_plan.specs.Names.{SendReceipt, TakeReceipt}
 
 -- any 64-bit number, or none where it is absent or null
 abbrev pub total_in : Option Data → Option (Option ℕ)

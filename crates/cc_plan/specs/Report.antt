@@ -1,44 +1,32 @@
 -- The text of a report.
 use Rattle.std.specs.Prelude.{ℕ, ◌+◌, List, [], ◌∷◌, ◌++◌, codes, Option, Some, None}
 use Rattle.cc_model.specs.Record.{Record, of_group}
-use Rattle.cc_model.specs.declared.call.Pass.{Pass}
-use Rattle.cc_model.specs.declared.call.Pass.TheVariants as pass
-use Rattle.cc_model.specs.declared.call.Call.{Call}
-use Rattle.cc_model.specs.declared.call.Call.TheVariants as call
-use Rattle.cc_model.specs.declared.call.Item.{Item}
-use Rattle.cc_model.specs.declared.call.Entry.{Entry}
-use Rattle.cc_model.specs.declared.call.Answer.{Answer}
-use Rattle.cc_model.specs.declared.call.Answer.TheVariants as answer
-use Rattle.cc_model.specs.declared.call.SendAnswer.TheVariants as send
-use Rattle.cc_model.specs.declared.call.CloseAnswer.TheVariants as close
-use Rattle.cc_model.specs.declared.call.TakeAnswer.TheVariants as take
+use Rattle.cc_plan.specs.Names.{Pass, Call, Item, Entry, Answer, SendAnswer, CloseAnswer, TakeAnswer, Verdict}
 use Rattle.cc_model.specs.Written.{word_text}
-use Rattle.cc_audit.specs.declared.receipt.Verdict.{Verdict}
-use Rattle.cc_audit.specs.declared.receipt.Verdict.TheVariants as verdict
 
 unfoldable pub pass_text : Pass → List ℕ
-pass_text (pass.Sender s) = word_text (codes "s") s
-pass_text (pass.Receiver r) = word_text (codes "r") r
+pass_text (Pass.Sender s) = word_text (codes "s") s
+pass_text (Pass.Receiver r) = word_text (codes "r") r
 
 unfoldable pub call_text : Call → List ℕ
-call_text (call.Send body) = word_text (codes "send ") body
-call_text call.Close = codes "close"
-call_text call.Take = codes "take"
+call_text (Call.Send body) = word_text (codes "send ") body
+call_text Call.Close = codes "close"
+call_text Call.Take = codes "take"
 
 unfoldable pub item_text : Item → List ℕ
 item_text x = word_text (codes "got ") x.place ++ word_text (codes " s") x.sender ++ word_text (codes " ") x.number ++ word_text (codes " ") x.body
 
 unfoldable pub answer_text : Option Answer → List ℕ
 answer_text None = codes "pending"
-answer_text (Some (answer.Send (send.Accepted place))) = word_text (codes "accepted ") place
-answer_text (Some (answer.Send send.Full)) = codes "full"
-answer_text (Some (answer.Send send.Closed)) = codes "closed"
-answer_text (Some (answer.Send send.Spent)) = codes "spent"
-answer_text (Some (answer.Close (close.Shut total))) = word_text (codes "shut ") total
-answer_text (Some (answer.Close (close.Already total))) = word_text (codes "already ") total
-answer_text (Some (answer.Take (take.Got x))) = item_text x
-answer_text (Some (answer.Take take.Empty)) = codes "empty"
-answer_text (Some (answer.Take (take.Ended total))) = word_text (codes "ended ") total
+answer_text (Some (Answer.Send (SendAnswer.Accepted place))) = word_text (codes "accepted ") place
+answer_text (Some (Answer.Send SendAnswer.Full)) = codes "full"
+answer_text (Some (Answer.Send SendAnswer.Closed)) = codes "closed"
+answer_text (Some (Answer.Send SendAnswer.Spent)) = codes "spent"
+answer_text (Some (Answer.Close (CloseAnswer.Shut total))) = word_text (codes "shut ") total
+answer_text (Some (Answer.Close (CloseAnswer.Already total))) = word_text (codes "already ") total
+answer_text (Some (Answer.Take (TakeAnswer.Got x))) = item_text x
+answer_text (Some (Answer.Take TakeAnswer.Empty)) = codes "empty"
+answer_text (Some (Answer.Take (TakeAnswer.Ended total))) = word_text (codes "ended ") total
 
 -- a call with its place in its list
 unfoldable pub line_text : List ℕ → ℕ → Entry → Option Answer → List ℕ
@@ -51,8 +39,8 @@ lines_text side n (c ∷ calls) [] = line_text side n c None ++ lines_text side 
 lines_text side n (c ∷ calls) (a ∷ answers) = line_text side n c (Some a) ++ lines_text side (n + 1) calls answers
 
 unfoldable pub verdict_text : Verdict → List ℕ
-verdict_text verdict.Clean = codes "audit clean\n"
-verdict_text (verdict.Fault kind place) = word_text (codes "audit fault ") kind ++ word_text (codes " place ") place ++ codes "\n"
+verdict_text Verdict.Clean = codes "audit clean\n"
+verdict_text (Verdict.Fault kind place) = word_text (codes "audit fault ") kind ++ word_text (codes " place ") place ++ codes "\n"
 
 -- of a history of one group: the lines of the senders' calls, those of the receivers' calls, and the verdict
 unfoldable pub report_text : Record → Verdict → List ℕ

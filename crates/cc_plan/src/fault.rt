@@ -1,6 +1,6 @@
 //! Why an input is refused.
 ghost use Rattle.std.specs.Prelude.{◌≡◌};
-ghost use Rattle.cc_plan.specs.declared.fault.PlanFault.TheVariants.{P5};
+ghost use Rattle.cc_plan.specs.Names.{PlanFault};
 
 use std::alloc::{AllocError, AllocFailed};
 use thiserror::Error;
@@ -29,7 +29,7 @@ pub enum PlanFault {
 }
 
 impl From<AllocError> for PlanFault {
-    ghost from_gives = { λ _ e. e ≡ P5 };
+    ghost from_gives = { λ _ e. e ≡ PlanFault.P5 };
 
     fn from(_: AllocError) -> PlanFault {
         PlanFault::P5
@@ -37,7 +37,7 @@ impl From<AllocError> for PlanFault {
 }
 
 impl<T: Drop> From<AllocFailed<T>> for PlanFault {
-    ghost from_gives = { λ _ e. e ≡ P5 };
+    ghost from_gives = { λ _ e. e ≡ PlanFault.P5 };
 
     fn from(_: AllocFailed<T>) -> PlanFault {
         PlanFault::P5

@@ -7,7 +7,7 @@ ghost use Rattle.cc_plan.specs.Json.{json_of, elements, is_list_of, pair_of, eac
 ghost use Rattle.cc_plan.specs.Closures.{Computes, TestsText};
 ghost use Rattle.cc_plan.specs.Answers.{Gives};
 ghost use Rattle.cc_plan.specs.Refusal.{tree_of, or_no_json, input_limit};
-ghost use Rattle.cc_plan.specs.declared.fault.PlanFault.TheVariants.{P5};
+ghost use Rattle.cc_plan.specs.Names.{PlanFault};
 
 use crate::fault::PlanFault;
 use cc_model::is_within;
@@ -22,7 +22,7 @@ pub const INPUT_LIMIT: usize = 16_777_216;
 pub fn parse(alloc: Global, bytes: &[u8]) -> Result<Value, PlanFault>
     ensures tree { Gives view result (tree_of bytes.now) }
     ensures short { OnOk result (length bytes.now ≤ input_limit) }
-    ensures memory { IsErrOf result P5 → length bytes.now ≤ input_limit }
+    ensures memory { IsErrOf result PlanFault.P5 → length bytes.now ≤ input_limit }
 {
     if bytes.len() > INPUT_LIMIT {
         return Err(PlanFault::P3("input"));

@@ -7,7 +7,7 @@ ghost use Rattle.cc_plan.specs.Plan.{plan_value};
 ghost use Rattle.cc_plan.specs.PlanLaws.{Lawful};
 ghost use Rattle.cc_plan.specs.PlanOf.{plan_of, plan_of_tree, has_pass};
 ghost use Rattle.cc_plan.specs.Refusal.{input_limit};
-ghost use Rattle.cc_plan.specs.declared.fault.PlanFault.TheVariants.{P5};
+ghost use Rattle.cc_plan.specs.Names.{PlanFault};
 
 use crate::fault::PlanFault;
 use crate::json;
@@ -39,7 +39,7 @@ use values::values;
 /// range, a range in the order of the keys, and an unknown pass last.
 pub fn read_plan(alloc: Global, bytes: &[u8]) -> Result<Plan, PlanFault>
     ensures plan { Gives plan_value result (plan_of bytes.now) }
-    ensures memory { IsErrOf result P5 → length bytes.now ≤ input_limit }
+    ensures memory { IsErrOf result PlanFault.P5 → length bytes.now ≤ input_limit }
     ensures lawful { IfOk result (λ plan. Lawful (plan_value plan)) }
 {
     read(alloc, bytes)
@@ -48,7 +48,7 @@ pub fn read_plan(alloc: Global, bytes: &[u8]) -> Result<Plan, PlanFault>
 #[tactic(auto, unfolding(crate::specs::PlanOf::plan_of))]
 fn read(alloc: Global, bytes: &[u8]) -> Result<Plan, PlanFault>
     ensures plan { Gives plan_value result (plan_of bytes.now) }
-    ensures memory { IsErrOf result P5 → length bytes.now ≤ input_limit }
+    ensures memory { IsErrOf result PlanFault.P5 → length bytes.now ≤ input_limit }
 {
     let tree = json::parse(alloc, bytes)?;
     plan_in(alloc, &tree)

@@ -5,7 +5,7 @@ ghost use Rattle.cc_plan.specs.Answers.{Gives};
 ghost use Rattle.cc_plan.specs.Receipts.{receipts_value};
 ghost use Rattle.cc_plan.specs.ReceiptsOf.{receipts_of, receipts_of_tree};
 ghost use Rattle.cc_plan.specs.Refusal.{input_limit};
-ghost use Rattle.cc_plan.specs.declared.fault.PlanFault.TheVariants.{P5};
+ghost use Rattle.cc_plan.specs.Names.{PlanFault};
 
 use crate::fault::PlanFault;
 use crate::json;
@@ -34,7 +34,7 @@ use values::values;
 #[tactic(auto, unfolding(crate::specs::ReceiptsOf::receipts_of))]
 pub fn read_receipts(alloc: Global, bytes: &[u8]) -> Result<Receipts, PlanFault>
     ensures receipts { Gives receipts_value result (receipts_of bytes.now) }
-    ensures memory { IsErrOf result P5 → length bytes.now ≤ input_limit }
+    ensures memory { IsErrOf result PlanFault.P5 → length bytes.now ≤ input_limit }
 {
     let tree = json::parse(alloc, bytes)?;
     receipts_in(alloc, &tree)

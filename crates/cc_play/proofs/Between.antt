@@ -6,24 +6,9 @@ use Rattle.std.proofs.lemmas.Bool.Decides.{nat_tests}
 use Rattle.std.proofs.lemmas.List.{get_or-set_same, get_or-set_other}
 use Rattle.std.proofs.lemmas.Option.{get_or_from_slice_get, slice_get_within}
 use Rattle.cc_model.specs.Range.{within}
-use Rattle.cc_model.specs.declared.config.Config.{Config}
-use Rattle.cc_model.specs.declared.call.Answer.{Answer}
-use Rattle.cc_model.specs.declared.call.Call.{Call}
-use Rattle.cc_model.specs.declared.call.Call.TheVariants as call
-use Rattle.cc_model.specs.declared.call.Pass.{Pass}
-use Rattle.cc_model.specs.declared.call.Pass.TheVariants as pass
-use Rattle.cc_machine.specs.declared.fault.BeginFault.{BeginFault}
-use Rattle.cc_runs.specs.declared.setting.Setting.{Setting}
-use Rattle.cc_runs.specs.declared.setting.Served.TheVariants as served
-use Rattle.cc_runs.specs.declared.word.Chain.TheVariants as chain
-use Rattle.cc_runs.specs.declared.place.Event.{Event}
-use Rattle.cc_runs.specs.declared.place.Event.TheVariants as event
-use Rattle.cc_runs.specs.declared.place.Place.{Place}
-use Rattle.cc_runs.specs.declared.place.Place.TheVariants as place
-use Rattle.cc_runs.specs.declared.place.Stand.{Stand}
+use Rattle.cc_play.specs.Names.{Config, Answer, Call, Pass, BeginFault, Setting, Served, Chain, Event, Place, Stand, Move}
 use Rattle.cc_runs.specs.Lines.{event_at}
 use Rattle.cc_runs.specs.State.{State, chain_of, hold}
-use Rattle.cc_runs.specs.declared.run.Move.TheVariants.{Begin}
 use Rattle.cc_runs.specs.Run.{begun_after, nowhere, passes}
 use Rattle.cc_machine.specs.Machine.{index_of, IsOpened, IsAfter, event_of, event_in, HasStepped, told_at, told_in, answer_of, HasTaken, HasBegun, begin_fault, fault_at, unless_busy, unless_worn, unless_wrong}
 use Rattle.cc_machine.specs.View.{View, state_in}
@@ -35,12 +20,12 @@ use Rattle.cc_play.proofs.Followed.{written_back}
 
 -- ---- the opening
 
-opened_stand : (b : Bool) (node : ℕ) (at : Stand) → cond b (record { begun = 0; node = node; place = place.Idle }) nowhere ≡ at → (told_at at.place ≡ None) × (at.begun ≡ 0)
+opened_stand : (b : Bool) (node : ℕ) (at : Stand) → cond b (record { begun = 0; node = node; place = Place.Idle }) nowhere ≡ at → (told_at at.place ≡ None) × (at.begun ≡ 0)
 opened_stand true node at e = (sym (ap (λ (s : Stand). told_at s.place) e), sym (ap (λ (s : Stand). s.begun) e))
 opened_stand false node at e = (sym (ap (λ (s : Stand). told_at s.place) e), sym (ap (λ (s : Stand). s.begun) e))
 
 -- at the opening no pass has a call
-pub opened_between : (plan : PlanValue) (m : View) (begun : List ℕ) → IsOpened served.List plan.config m → IsBetweenTurns plan m begun
+pub opened_between : (plan : PlanValue) (m : View) (begun : List ℕ) → IsOpened Served.List plan.config m → IsBetweenTurns plan m begun
 opened_between plan m begun h = record {
   setting = h.setting;
   taken = λ r. (stands r).0;
@@ -92,13 +77,13 @@ after_is : (m m' : View) (h : State) → state_in m' ≡ h → (r : ℕ) → (st
 after_is m m' h e r = ap (λ (s : State). s.stand r) e
 
 one_more : (k : Call) (n : ℕ) → begun_after k n ≤ n + 1
-one_more (call.Send body) n = omega arith
-one_more call.Close n = omega arith
-one_more call.Take n = omega arith
+one_more (Call.Send body) n = omega arith
+one_more Call.Close n = omega arith
+one_more Call.Take n = omega arith
 
-idle_place : (at : Place) → event_at at ≡ event.Idle → told_at at ≡ None → at ≡ place.Idle
-idle_place place.Idle e none = refl
-idle_place (place.Finished told) e none = cc none
+idle_place : (at : Place) → event_at at ≡ Event.Idle → told_at at ≡ None → at ≡ Place.Idle
+idle_place Place.Idle e none = refl
+idle_place (Place.Finished told) e none = cc none
 idle_place _ e none = cc e
 
 module _ (plan : PlanValue) (who : Pass) (row : ℕ) (named : index_of (setting_of plan) who ≡ Some row) where
@@ -106,19 +91,19 @@ module _ (plan : PlanValue) (who : Pass) (row : ℕ) (named : index_of (setting_
   index m is = rw is named
 
   -- between turns a pass without a step is idle
-  pub idle_between : (m : View) (begun : List ℕ) → IsBetweenTurns plan m begun → event.Idle ≡ event_of m who → ((state_in m).stand row).place ≡ place.Idle
+  pub idle_between : (m : View) (begun : List ℕ) → IsBetweenTurns plan m begun → Event.Idle ≡ event_of m who → ((state_in m).stand row).place ≡ Place.Idle
   idle_between m begun at is = idle_place ((state_in m).stand row).place (sym (is ∙ ap (event_in m) (index m at.setting))) (at.taken row)
 
   stepped_within : (m m' : View) (begun : List ℕ) (e : Event) → IsWithin plan row m begun → HasStepped m (index_of m.setting who) e m' → IsWithin plan row m' begun
   stepped_within m m' begun e at did = core e (subst (λ (o : Option ℕ). HasStepped m o e m') (index m at.setting) did)
     where
       core : (x : Event) → HasStepped m (Some row) x m' → IsWithin plan row m' begun
-      core (event.Did kind) h = moved_within plan row m m' begun begun _ at h.setting (after_is m m' _ h.state) (at.sends row) (λ r ne. refl)
-      core event.Idle h = rw h at
+      core (Event.Did kind) h = moved_within plan row m m' begun begun _ at h.setting (after_is m m' _ h.state) (at.sends row) (λ r ne. refl)
+      core Event.Idle h = rw h at
 
   begun_within : (m m' : View) (begun : List ℕ) (k : Call) (known : ℕ) → IsWithin plan row m begun → row < length begun → HasBegun m (index_of m.setting who) k known m' → IsWithin plan row m' (set begun row (get_or begun row 0 + 1))
   begun_within m m' begun k known at inside did =
-      let h : IsAfter m (Begin row k known) m' = subst (λ (o : Option ℕ). HasBegun m o k known m') (index m at.setting) did in
+      let h : IsAfter m (Move.Begin row k known) m' = subst (λ (o : Option ℕ). HasBegun m o k known m') (index m at.setting) did in
       let before : ((state_in m).stand row).begun ≤ get_or begun row 0 = at.sends row in
       let now : get_or (set begun row (get_or begun row 0 + 1)) row 0 ≡ get_or begun row 0 + 1 = get_or-set_same begun row (get_or begun row 0 + 1) 0 inside in
       let more : begun_after k ((state_in m).stand row).begun ≤ ((state_in m).stand row).begun + 1 = one_more k ((state_in m).stand row).begun in
@@ -161,18 +146,18 @@ chosen : {A : Type 0} (b : Bool) (x y : A) → cond b (Some x) None ≡ Some y �
 chosen true x y e = (refl, cc e)
 chosen false x y e = cc e
 
-send_side : (k : Call) (rest : Result ⊤ BeginFault) → IsOfSender k → unless_wrong served.List chain.Send k rest ≡ rest
-send_side (call.Send body) rest of = refl
-send_side call.Close rest of = refl
-send_side call.Take rest of = absurd of
+send_side : (k : Call) (rest : Result ⊤ BeginFault) → IsOfSender k → unless_wrong Served.List Chain.Send k rest ≡ rest
+send_side (Call.Send body) rest of = refl
+send_side Call.Close rest of = refl
+send_side Call.Take rest of = absurd of
 
 -- a call of the plan is made on its side, and is one of 65,536 at most
 record IsPlanned (plan : PlanValue) (row begun : ℕ) (k : Call) : Type 0 where
-  side : (rest : Result ⊤ BeginFault) → unless_wrong served.List (chain_of plan.config row) k rest ≡ rest
+  side : (rest : Result ⊤ BeginFault) → unless_wrong Served.List (chain_of plan.config row) k rest ≡ rest
   few : begun < 65536
 
 planned : (plan : PlanValue) (who : Pass) (row begun : ℕ) (k : Call) → Lawful plan → index_of (setting_of plan) who ≡ Some row → next_call plan who begun ≡ Some k → IsPlanned plan row begun k
-planned plan (pass.Sender n) row begun k lawful named next =
+planned plan (Pass.Sender n) row begun k lawful named next =
     let here = chosen (within 1 plan.config.senders n) (n - 1) row named in
     let high : row < plan.config.senders = grind (arith, nat_tests, here.0, here.1) in
     let calls : List Call = get_or plan.senders (n - 1) [] in
@@ -181,10 +166,10 @@ planned plan (pass.Sender n) row begun k lawful named next =
     let of : IsOfSender k = subst IsOfSender (get_or_from_slice_get calls begun k k next) (lawful.calls (n - 1) [] there begun k inside) in
     let on : nat_lt row plan.config.senders ≡ true = grind (arith, nat_tests, high) in
     record { side = λ rest. rw on (send_side k rest of); few = omega (arith, inside, lawful.sends (n - 1) [] there) }
-planned plan (pass.Receiver n) row begun k lawful named next =
+planned plan (Pass.Receiver n) row begun k lawful named next =
     let one : plan.config.groups * plan.config.receivers ≡ plan.config.receivers = rw lawful.groups (omega arith) in
     let here = chosen (within 1 (plan.config.groups * plan.config.receivers) n) (plan.config.senders + (n - 1)) row named in
-    let now = chosen (nat_lt begun (get_or plan.receivers (n - 1) 0)) call.Take k next in
+    let now = chosen (nat_lt begun (get_or plan.receivers (n - 1) 0)) Call.Take k next in
     let low : n - 1 < plan.config.receivers = grind (arith, nat_tests, one, here.0) in
     let there : n - 1 < length plan.receivers = omega (arith, low, lawful.receivers) in
     let inside : begun < get_or plan.receivers (n - 1) 0 = grind (arith, nat_tests, now.0) in
@@ -196,11 +181,11 @@ not_worn c n less = let test : nat_lt c.per_sender n ≡ false = grind (arith, n
 
 -- only memory can be refused
 pub may_begin : (plan : PlanValue) (who : Pass) (row : ℕ) (m : View) (begun : List ℕ) (k : Call) → Lawful plan → index_of (setting_of plan) who ≡ Some row → IsBetweenTurns plan m begun
-    → event.Idle ≡ event_of m who → next_call plan who (get_or begun row 0) ≡ Some k → begin_fault m who k ≡ Ok tt
+    → Event.Idle ≡ event_of m who → next_call plan who (get_or begun row 0) ≡ Some k → begin_fault m who k ≡ Ok tt
 may_begin plan who row m begun k lawful named at is next =
     let here : index_of m.setting who ≡ Some row = rw at.setting named in
     let call : IsPlanned plan row (get_or begun row 0) k = planned plan who row (get_or begun row 0) k lawful named next in
-    let idle : ((state_in m).stand row).place ≡ place.Idle = idle_between plan who row named m begun at is in
+    let idle : ((state_in m).stand row).place ≡ Place.Idle = idle_between plan who row named m begun at is in
     let sent : ((state_in m).stand row).begun ≤ get_or begun row 0 = at.sends row in
     let more : begun_after k ((state_in m).stand row).begun ≤ ((state_in m).stand row).begun + 1 = one_more k ((state_in m).stand row).begun in
     let few : get_or begun row 0 < 65536 = call.few in

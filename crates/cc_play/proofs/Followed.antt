@@ -3,9 +3,7 @@ use Rattle.std.proofs.Common.{◌≡◌, ◌<◌, ◌≤◌, ℕ, suc, ◌+◌, 
 use Rattle.std.proofs.lemmas.Grind.{common_steps}
 use Rattle.std.proofs.Math.Seq.{drop-cons}
 use Rattle.std.proofs.lemmas.List.{drop_all, length-replicate, get_or-replicate}
-use Rattle.cc_model.specs.declared.call.Pass.{Pass}
-use Rattle.cc_runs.specs.declared.setting.Served.TheVariants as served
-use Rattle.cc_runs.specs.declared.run.Move.{Move}
+use Rattle.cc_play.specs.Names.{Pass, Served, Move}
 use Rattle.cc_runs.specs.Run.{reached, passes, IsRun}
 use Rattle.cc_machine.specs.Machine.{index_of, IsOpened}
 use Rattle.cc_machine.specs.View.{View, state_in}
@@ -26,7 +24,7 @@ pub all_passes : (plan : PlanValue) → Lawful plan → plan.config.senders + pl
 all_passes plan lawful = rw lawful.groups (omega arith)
 
 -- the opening
-pub opened : (plan : PlanValue) (m : View) (begun : List ℕ) (n : ℕ) → IsOpened served.List plan.config m → begun ≡ replicate n 0 → n ≡ passes (setting_of plan) → IsAt plan m begun []
+pub opened : (plan : PlanValue) (m : View) (begun : List ℕ) (n : ℕ) → IsOpened Served.List plan.config m → begun ≡ replicate n 0 → n ≡ passes (setting_of plan) → IsAt plan m begun []
 opened plan m begun n h zeros all = record {
   moves = tt;
   setting = h.setting;

@@ -3,21 +3,10 @@ use Rattle.std.proofs.Common.{◌≡◌, ◌<◌, ◌==◌, ℕ, zero, suc, ◌+
 use Rattle.std.proofs.lemmas.Bool.Decides.{nat_tests}
 use Rattle.std.proofs.lemmas.List.{get_or-set_same, get_or-set_other}
 use Rattle.cc_model.specs.Items.{known_at}
-use Rattle.cc_model.specs.declared.call.Answer.{Answer}
-use Rattle.cc_model.specs.declared.call.Call.{Call}
-use Rattle.cc_model.specs.declared.call.Pass.{Pass}
-use Rattle.cc_runs.specs.declared.setting.Setting.{Setting}
-use Rattle.cc_runs.specs.declared.place.Event.{Event}
-use Rattle.cc_runs.specs.declared.place.Event.TheVariants as event
-use Rattle.cc_runs.specs.declared.place.Kind.{Kind}
-use Rattle.cc_runs.specs.declared.place.Place.{Place}
-use Rattle.cc_runs.specs.declared.place.Place.TheVariants as place
+use Rattle.cc_play.specs.Names.{Answer, Call, Pass, Setting, Event, Kind, Place, Move}
 use Rattle.cc_runs.specs.Lines.{event_at}
 use Rattle.cc_runs.specs.Step.{stepped as machine_stepped}
-use Rattle.cc_runs.specs.declared.place.Kind.TheVariants as kind
 use Rattle.cc_runs.specs.State.{State}
-use Rattle.cc_runs.specs.declared.run.Move.{Move}
-use Rattle.cc_runs.specs.declared.run.Move.TheVariants.{Begin, Step, Take}
 use Rattle.cc_runs.specs.Run.{reached, moved, rests, May, IsFinished}
 use Rattle.cc_machine.specs.Machine.{index_of, IsAfter, begin_fault, StandsStill, event_of, event_in, HasStepped, told_at, told_in, answer_of, HasTaken, HasBegun}
 use Rattle.cc_machine.specs.View.{View, state_in}
@@ -33,24 +22,24 @@ same_number n = grind (arith, nat_tests)
 
 -- ---- places
 
-begins-busy : (row : ℕ) (at : Place) (kind : Kind) (next : Option Call) (known : ℕ) (run : List Move) → event_at at ≡ event.Did kind → begins_at row at next known run ≡ run
-begins-busy row place.Idle kind next known run e = cc
+begins-busy : (row : ℕ) (at : Place) (kind : Kind) (next : Option Call) (known : ℕ) (run : List Move) → event_at at ≡ Event.Did kind → begins_at row at next known run ≡ run
+begins-busy row Place.Idle kind next known run e = cc
 begins-busy row _ kind next known run e = refl
 
 begins-none : (row : ℕ) (at : Place) (known : ℕ) (run : List Move) → begins_at row at None known run ≡ run
-begins-none row place.Idle known run = refl
+begins-none row Place.Idle known run = refl
 begins-none row _ known run = refl
 
 abbrev taken : ℕ → Option Answer → List Move → List Move
-taken row (Some told) run = Take row ∷ run
+taken row (Some told) run = Move.Take row ∷ run
 taken row None run = run
 
 takes-told : (row : ℕ) (at : Place) (run : List Move) → takes_at row at run ≡ taken row (told_at at) run
-takes-told row (place.Finished told) run = refl
+takes-told row (Place.Finished told) run = refl
 takes-told row _ run = refl
 
 finished_at : (at : Place) (told : Answer) → Some told ≡ told_at at → IsFinished at
-finished_at (place.Finished answer) told e = tt
+finished_at (Place.Finished answer) told e = tt
 finished_at _ told e = absurd (cc)
 
 -- ---- one move of the machine
@@ -70,8 +59,8 @@ module _ (plan : PlanValue) (who : Pass) (row : ℕ) (named : index_of (setting_
       subst (λ (x : Event). IsAt plan m' begun (steps_at row x run)) same (core e same (subst (λ (o : Option ℕ). HasStepped m o e m') here did))
     where
       core : (x : Event) → x ≡ event_at (place_in plan run row) → HasStepped m (Some row) x m' → IsAt plan m' begun (steps_at row x run)
-      core (event.Did kind) does h = record { moves = (at.moves, (inside (setting_of plan) who row named, λ none. absurd (cc (does, none)))); setting = h.setting ∙ at.setting; state = moves m m' begun run (Step row) at h; rows = at.rows; counts = at.counts }
-      core event.Idle does h = rw h at
+      core (Event.Did kind) does h = record { moves = (at.moves, (inside (setting_of plan) who row named, λ none. absurd (cc (does, none)))); setting = h.setting ∙ at.setting; state = moves m m' begun run (Move.Step row) at h; rows = at.rows; counts = at.counts }
+      core Event.Idle does h = rw h at
 
   pub answered : (m m' : View) (begun : List ℕ) (run : List Move) (a : Option Answer) → IsAt plan m begun run → a ≡ answer_of m who → HasTaken m (index_of m.setting who) a m' → IsAt plan m' begun (takes plan row run)
   answered m m' begun run a at is did =
@@ -80,11 +69,11 @@ module _ (plan : PlanValue) (who : Pass) (row : ℕ) (named : index_of (setting_
       rw (takes-told row (place_in plan run row) run) (subst (λ (x : Option Answer). IsAt plan m' begun (taken row x run)) same (core a same (subst (λ (o : Option ℕ). HasTaken m o a m') here did)))
     where
       core : (x : Option Answer) → x ≡ told_at (place_in plan run row) → HasTaken m (Some row) x m' → IsAt plan m' begun (taken row x run)
-      core (Some told) read h = record { moves = (at.moves, (inside (setting_of plan) who row named, finished_at (place_in plan run row) told read)); setting = h.setting ∙ at.setting; state = moves m m' begun run (Take row) at h; rows = at.rows; counts = at.counts }
+      core (Some told) read h = record { moves = (at.moves, (inside (setting_of plan) who row named, finished_at (place_in plan run row) told read)); setting = h.setting ∙ at.setting; state = moves m m' begun run (Move.Take row) at h; rows = at.rows; counts = at.counts }
       core None read h = rw h at
 
   counts_after : (begun : List ℕ) (run : List Move) (k : Call) (known n : ℕ) → ((r : ℕ) → r < length begun → get_or begun r 0 ≡ begun_in r run) → get_or begun row 0 ≡ n → row < length begun
-      → (r : ℕ) → r < length begun → get_or (set begun row (n + 1)) r 0 ≡ begun_in r (Begin row k known ∷ run)
+      → (r : ℕ) → r < length begun → get_or (set begun row (n + 1)) r 0 ≡ begun_in r (Move.Begin row k known ∷ run)
   counts_after begun run k known n counts is inside r within = by (r == row) refl
     where
       by : (b : Bool) → (r == row) ≡ b → get_or (set begun row (n + 1)) r 0 ≡ cond b (begun_in r run + 1) (begun_in r run)
@@ -93,20 +82,20 @@ module _ (plan : PlanValue) (who : Pass) (row : ℕ) (named : index_of (setting_
           rw same (get_or-set_same begun row (n + 1) 0 inside ∙ ap (λ (x : ℕ). x + 1) (sym is ∙ counts row inside))
       by false e = get_or-set_other begun row r (n + 1) 0 (λ same. grind (arith, nat_tests)) ∙ counts r within
 
-  pub begun_now : (m m' : View) (begun : List ℕ) (run : List Move) (n : ℕ) (k : Call) → IsAt plan m begun run → row < length begun → get_or begun row 0 ≡ n → place_in plan run row ≡ place.Idle → next_call plan who n ≡ Some k → begin_fault m who k ≡ Ok tt
+  pub begun_now : (m m' : View) (begun : List ℕ) (run : List Move) (n : ℕ) (k : Call) → IsAt plan m begun run → row < length begun → get_or begun row 0 ≡ n → place_in plan run row ≡ Place.Idle → next_call plan who n ≡ Some k → begin_fault m who k ≡ Ok tt
       → HasBegun m (index_of m.setting who) k (known_at who m.history) m' → IsAt plan m' (set begun row (n + 1)) (begins plan who row run)
   unfolding state_in
   begun_now m m' begun run n k at within is at_rest next free did =
       let here : index_of m.setting who ≡ Some row = index m begun run at in
-      let h : IsAfter m (Begin row k (known_at who m.history)) m' = subst (λ (o : Option ℕ). HasBegun m o k (known_at who m.history) m') here did in
+      let h : IsAfter m (Move.Begin row k (known_at who m.history)) m' = subst (λ (o : Option ℕ). HasBegun m o k (known_at who m.history) m') here did in
       let knows : known_at who m.history ≡ known_at who (reached (setting_of plan) run).history = ap (λ (s : State). known_at who s.history) at.state in
       let call : next_call plan who (begun_in row run) ≡ Some k = ap (next_call plan who) (sym (at.counts row within) ∙ is) ∙ next in
-      let begins_so : begins plan who row run ≡ Begin row k (known_at who m.history) ∷ run = rw (at_rest, call, ← knows) refl in
-      let may : May m.setting (state_in m) (Begin row k (known_at who m.history)) = may_begin m who k (known_at who m.history) row here free (omega arith) in
+      let begins_so : begins plan who row run ≡ Move.Begin row k (known_at who m.history) ∷ run = rw (at_rest, call, ← knows) refl in
+      let may : May m.setting (state_in m) (Move.Begin row k (known_at who m.history)) = may_begin m who k (known_at who m.history) row here free (omega arith) in
       rw begins_so (record {
-        moves = (at.moves, subst (λ (s : State). May (setting_of plan) s (Begin row k (known_at who m.history))) at.state (subst (λ (c : Setting). May c (state_in m) (Begin row k (known_at who m.history))) at.setting may));
+        moves = (at.moves, subst (λ (s : State). May (setting_of plan) s (Move.Begin row k (known_at who m.history))) at.state (subst (λ (c : Setting). May c (state_in m) (Move.Begin row k (known_at who m.history))) at.setting may));
         setting = h.setting ∙ at.setting;
-        state = moves m m' begun run (Begin row k (known_at who m.history)) at h;
+        state = moves m m' begun run (Move.Begin row k (known_at who m.history)) at h;
         rows = length_set begun row (n + 1) ∙ at.rows;
         counts = λ r less. counts_after begun run k (known_at who m.history) n at.counts is within r (rw (← length_set begun row (n + 1)) less);
       })
@@ -115,30 +104,30 @@ module _ (plan : PlanValue) (who : Pass) (row : ℕ) (named : index_of (setting_
       length_set xs i x = search rules
 
   -- a pass that has a step begins nothing
-  pub did_turn : (run : List Move) (kind : Kind) → event_at (place_in plan run row) ≡ event.Did kind → turn plan who row run ≡ takes plan row (steps plan row run)
+  pub did_turn : (run : List Move) (kind : Kind) → event_at (place_in plan run row) ≡ Event.Did kind → turn plan who row run ≡ takes plan row (steps plan row run)
   unfolding turn
   did_turn run kind e = ap (λ (r : List Move). takes plan row (steps plan row r)) (begins-busy row _ kind _ _ run e)
 
   -- a pass without a step and without a call does nothing but have its answer taken
-  pub no_turn : (run : List Move) → event_at (place_in plan run row) ≡ event.Idle → next_call plan who (begun_in row run) ≡ None → turn plan who row run ≡ takes plan row run
+  pub no_turn : (run : List Move) → event_at (place_in plan run row) ≡ Event.Idle → next_call plan who (begun_in row run) ≡ None → turn plan who row run ≡ takes plan row run
   unfolding turn
   no_turn run e none =
       let first : begins plan who row run ≡ run = rw none (begins-none row (place_in plan run row) _ run) in
       let second : steps plan row run ≡ run = rw e refl in
       ap (λ (r : List Move). takes plan row (steps plan row r)) first ∙ ap (takes plan row) second
 
-  ended_at : (run : List Move) (at : Place) → place_in plan run row ≡ at → event_at at ≡ event.Idle → next_call plan who (begun_in row run) ≡ None → HasEnded plan who row (takes_at row at run)
-  ended_at run place.Idle is e none = record { idle = is; none = none }
-  ended_at run (place.Finished told) is e none = record { idle = ap (λ (b : Bool). (cond b (rests ((reached (setting_of plan) run).stand row)) ((reached (setting_of plan) run).stand row)).place) (same_number row); none = none }
+  ended_at : (run : List Move) (at : Place) → place_in plan run row ≡ at → event_at at ≡ Event.Idle → next_call plan who (begun_in row run) ≡ None → HasEnded plan who row (takes_at row at run)
+  ended_at run Place.Idle is e none = record { idle = is; none = none }
+  ended_at run (Place.Finished told) is e none = record { idle = ap (λ (b : Bool). (cond b (rests ((reached (setting_of plan) run).stand row)) ((reached (setting_of plan) run).stand row)).place) (same_number row); none = none }
   ended_at run _ is e none = cc
 
-  pub ended : (run : List Move) → event_at (place_in plan run row) ≡ event.Idle → next_call plan who (begun_in row run) ≡ None → HasEnded plan who row (turn plan who row run)
+  pub ended : (run : List Move) → event_at (place_in plan run row) ≡ Event.Idle → next_call plan who (begun_in row run) ≡ None → HasEnded plan who row (turn plan who row run)
   ended run e none = rw (no_turn run e none) (ended_at run (place_in plan run row) refl e none)
 
   -- further turns of a pass that has ended change nothing
   stays : (run : List Move) → HasEnded plan who row run → turn plan who row run ≡ run
   stays run h =
-      let e : event_at (place_in plan run row) ≡ event.Idle = ap event_at h.idle in
+      let e : event_at (place_in plan run row) ≡ Event.Idle = ap event_at h.idle in
       no_turn run e h.none ∙ ap (λ (at : Place). takes_at row at run) h.idle
 
   pub stays_on : (n more : ℕ) (run : List Move) → HasEnded plan who row (turns plan who row n run) → turns plan who row (n + more) run ≡ turns plan who row n run
@@ -154,24 +143,24 @@ module _ (plan : PlanValue) (who : Pass) (row : ℕ) (named : index_of (setting_
   event_here m begun run at = ap (event_in m) (index m begun run at) ∙ ap (λ (s : State). event_at (s.stand row).place) at.state
 
   -- the pass had a step
-  pub did_turned : (m m1 m2 : View) (begun : List ℕ) (kind : Kind) (a : Option Answer) → event.Did kind ≡ event_of m who → HasStepped m (index_of m.setting who) (event.Did kind) m1
+  pub did_turned : (m m1 m2 : View) (begun : List ℕ) (kind : Kind) (a : Option Answer) → Event.Did kind ≡ event_of m who → HasStepped m (index_of m.setting who) (Event.Did kind) m1
       → a ≡ answer_of m1 who → HasTaken m1 (index_of m1.setting who) a m2 → HasTurned plan who row m m2 begun begun true
   did_turned m m1 m2 begun kind a is did told took = record {
     at = λ run at.
-        let does : event_at (place_in plan run row) ≡ event.Did kind = sym (is ∙ event_here m begun run at) in
-        rw (did_turn run kind does) (answered m1 m2 begun (steps plan row run) a (stepped m m1 begun run (event.Did kind) at is did) told took);
+        let does : event_at (place_in plan run row) ≡ Event.Did kind = sym (is ∙ event_here m begun run at) in
+        rw (did_turn run kind does) (answered m1 m2 begun (steps plan row run) a (stepped m m1 begun run (Event.Did kind) at is did) told took);
     ended = λ run at more. cc;
   }
 
   -- the pass was idle, and had a call to begin
   pub begun_turned : (m m1 m2 m3 : View) (begun : List ℕ) (k : Call) (e : Event) (a : Option Answer) → row < length begun → next_call plan who (get_or begun row 0) ≡ Some k
-      → ((state_in m).stand row).place ≡ place.Idle → begin_fault m who k ≡ Ok tt → HasBegun m (index_of m.setting who) k (known_at who m.history) m1
+      → ((state_in m).stand row).place ≡ Place.Idle → begin_fault m who k ≡ Ok tt → HasBegun m (index_of m.setting who) k (known_at who m.history) m1
       → e ≡ event_of m1 who → HasStepped m1 (index_of m1.setting who) e m2
       → a ≡ answer_of m2 who → HasTaken m2 (index_of m2.setting who) a m3 → HasTurned plan who row m m3 begun (set begun row (get_or begun row 0 + 1)) true
   unfolding turn
   begun_turned m m1 m2 m3 begun k e a within next idle free begin is did told took = record {
     at = λ run at.
-        let at_rest : place_in plan run row ≡ place.Idle = sym (ap (λ (s : State). (s.stand row).place) at.state) ∙ idle in
+        let at_rest : place_in plan run row ≡ Place.Idle = sym (ap (λ (s : State). (s.stand row).place) at.state) ∙ idle in
         let first = begun_now m m1 begun run (get_or begun row 0) k at within refl at_rest next free begin in
         let counted : List ℕ = set begun row (get_or begun row 0 + 1) in
         answered m2 m3 counted (steps plan row (begins plan who row run)) a (stepped m1 m2 counted (begins plan who row run) e first is did) told took;
@@ -179,14 +168,14 @@ module _ (plan : PlanValue) (who : Pass) (row : ℕ) (named : index_of (setting_
   }
 
   -- the pass had neither a step nor a call to begin
-  pub none_turned : (m m1 : View) (begun : List ℕ) → row < length begun → told_at ((state_in m).stand row).place ≡ None → event.Idle ≡ event_of m who → HasStepped m (index_of m.setting who) event.Idle m1
+  pub none_turned : (m m1 : View) (begun : List ℕ) → row < length begun → told_at ((state_in m).stand row).place ≡ None → Event.Idle ≡ event_of m who → HasStepped m (index_of m.setting who) Event.Idle m1
       → next_call plan who (get_or begun row 0) ≡ None → HasTurned plan who row m m1 begun begun false
   none_turned m m1 begun inside untold is did next = record {
     at = λ run at. rw (unmoved run at) (still run at);
     ended = λ run at more. ended run (stepless run at) (none run at);
   }
     where
-      stepless : (run : List Move) → IsAt plan m begun run → event_at (place_in plan run row) ≡ event.Idle
+      stepless : (run : List Move) → IsAt plan m begun run → event_at (place_in plan run row) ≡ Event.Idle
       stepless run at = sym (is ∙ event_here m begun run at)
 
       none : (run : List Move) → IsAt plan m begun run → next_call plan who (begun_in row run) ≡ None
@@ -196,21 +185,21 @@ module _ (plan : PlanValue) (who : Pass) (row : ℕ) (named : index_of (setting_
       unmoved run at = no_turn run (stepless run at) (none run at) ∙ takes-told row (place_in plan run row) run ∙ ap (λ (told : Option Answer). taken row told run) (sym (ap (λ (s : State). told_at (s.stand row).place) at.state) ∙ untold)
 
       still : (run : List Move) → IsAt plan m begun run → IsAt plan m1 begun run
-      still run at = subst (λ (r : List Move). IsAt plan m1 begun r) (rw (stepless run at) refl) (stepped m m1 begun run event.Idle at is did)
+      still run at = subst (λ (r : List Move). IsAt plan m1 begun r) (rw (stepless run at) refl) (stepped m m1 begun run Event.Idle at is did)
 
   -- ---- an entry
 
   -- a turn of a pass that waits is one read, and leaves all as it was
-  still_turn : (m : View) (begun : List ℕ) (run : List Move) → ((state_in m).stand row).place ≡ place.ReadState → machine_stepped m.setting (state_in m) row ≡ state_in m
+  still_turn : (m : View) (begun : List ℕ) (run : List Move) → ((state_in m).stand row).place ≡ Place.ReadState → machine_stepped m.setting (state_in m) row ≡ state_in m
       → IsAt plan m begun run → IsAt plan m begun (turn plan who row run)
   still_turn m begun run reads same at =
-      let here : place_in plan run row ≡ place.ReadState = ap (λ (s : State). (s.stand row).place) (sym at.state) ∙ reads in
+      let here : place_in plan run row ≡ Place.ReadState = ap (λ (s : State). (s.stand row).place) (sym at.state) ∙ reads in
       let stays : machine_stepped (setting_of plan) (reached (setting_of plan) run) row ≡ reached (setting_of plan) run =
       subst (λ (s : State). machine_stepped (setting_of plan) s row ≡ s) at.state (subst (λ (c : Setting). machine_stepped c (state_in m) row ≡ state_in m) at.setting same) in
-      let does : event_at (place_in plan run row) ≡ event.Did kind.ReadState = ap event_at here in
-      let one : steps plan row run ≡ Step row ∷ run = ap (λ (e : Event). steps_at row e run) does in
-      let there : place_in plan (Step row ∷ run) row ≡ place.ReadState = ap (λ (s : State). (s.stand row).place) stays ∙ here in
-      let whole : turn plan who row run ≡ Step row ∷ run = did_turn run kind.ReadState does ∙ ap (takes plan row) one ∙ ap (λ (p : Place). takes_at row p (Step row ∷ run)) there in
+      let does : event_at (place_in plan run row) ≡ Event.Did Kind.ReadState = ap event_at here in
+      let one : steps plan row run ≡ Move.Step row ∷ run = ap (λ (e : Event). steps_at row e run) does in
+      let there : place_in plan (Move.Step row ∷ run) row ≡ Place.ReadState = ap (λ (s : State). (s.stand row).place) stays ∙ here in
+      let whole : turn plan who row run ≡ Move.Step row ∷ run = did_turn run Kind.ReadState does ∙ ap (takes plan row) one ∙ ap (λ (p : Place). takes_at row p (Move.Step row ∷ run)) there in
       rw whole (record {
         moves = (at.moves, (inside (setting_of plan) who row named, λ none. absurd (cc (does, none))));
         setting = at.setting;
@@ -219,7 +208,7 @@ module _ (plan : PlanValue) (who : Pass) (row : ℕ) (named : index_of (setting_
         counts = at.counts;
       })
 
-  still_turns : (m : View) (begun : List ℕ) (run : List Move) → ((state_in m).stand row).place ≡ place.ReadState → machine_stepped m.setting (state_in m) row ≡ state_in m
+  still_turns : (m : View) (begun : List ℕ) (run : List Move) → ((state_in m).stand row).place ≡ Place.ReadState → machine_stepped m.setting (state_in m) row ≡ state_in m
       → (n more : ℕ) → IsAt plan m begun (turns plan who row n run) → IsAt plan m begun (turns plan who row (n + more) run)
   still_turns m begun run reads same n zero at = let none : n ≡ n + zero = omega arith in subst (λ (k : ℕ). IsAt plan m begun (turns plan who row k run)) none at
   still_turns m begun run reads same n (suc more) at =

@@ -1,3 +1,4 @@
+pub mod Names
 pub mod Schedule
 pub mod Play
 pub mod Outcome

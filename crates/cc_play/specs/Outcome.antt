@@ -1,22 +1,17 @@
 -- What is told of what came of an input: the exit status, and the line on standard error.
 use Rattle.std.specs.Prelude.{ℕ, ◌++◌, Bool, List, [], codes, Option, Result, Ok, Err}
 use Rattle.cc_model.specs.Written.{Writes, word_text}
-use Rattle.cc_plan.specs.declared.fault.PlanFault.{PlanFault}
-use Rattle.cc_plan.specs.declared.fault.PlanFault.TheVariants.{P1, P2, P3, P4, P5}
-use Rattle.cc_audit.specs.declared.receipt.Verdict.{Verdict}
-use Rattle.cc_audit.specs.declared.receipt.Verdict.TheVariants.{Clean, Fault}
-use Rattle.cc_play.specs.declared.fault.PlayFault.{PlayFault}
-use Rattle.cc_play.specs.declared.fault.PlayFault.TheVariants as fault
+use Rattle.cc_play.specs.Names.{PlanFault, Verdict, PlayFault}
 
 -- the exit status
 abbrev pub status_of : Result Verdict PlayFault → ℕ
-status_of (Ok Clean) = 0
-status_of (Ok (Fault kind place)) = 1
-status_of (Err (fault.Plan P5)) = 3
-status_of (Err (fault.Plan f)) = 2
-status_of (Err fault.Read) = 4
-status_of (Err fault.Write) = 4
-status_of (Err fault.NoMemory) = 3
+status_of (Ok Verdict.Clean) = 0
+status_of (Ok (Verdict.Fault kind place)) = 1
+status_of (Err (PlayFault.Plan PlanFault.P5)) = 3
+status_of (Err (PlayFault.Plan f)) = 2
+status_of (Err PlayFault.Read) = 4
+status_of (Err PlayFault.Write) = 4
+status_of (Err PlayFault.NoMemory) = 3
 
 -- the line where there is no memory
 abbrev pub no_memory_line : List ℕ
@@ -24,19 +19,19 @@ no_memory_line = codes "ccq: out of memory\n"
 
 -- the line where the input is refused
 unfoldable pub refusal_line : PlanFault → List ℕ
-refusal_line P1 = codes "ccq: plan refused: P1\n"
-refusal_line P2 = codes "ccq: plan refused: P2\n"
-refusal_line (P3 key) = codes "ccq: plan refused: P3 " ++ key.now ++ codes "\n"
-refusal_line (P4 place) = word_text (codes "ccq: plan refused: P4 at ") place ++ codes "\n"
-refusal_line P5 = no_memory_line
+refusal_line PlanFault.P1 = codes "ccq: plan refused: P1\n"
+refusal_line PlanFault.P2 = codes "ccq: plan refused: P2\n"
+refusal_line (PlanFault.P3 key) = codes "ccq: plan refused: P3 " ++ key.now ++ codes "\n"
+refusal_line (PlanFault.P4 place) = word_text (codes "ccq: plan refused: P4 at ") place ++ codes "\n"
+refusal_line PlanFault.P5 = no_memory_line
 
 -- the line on standard error: none where all went well
 unfoldable pub line_of : Result Verdict PlayFault → List ℕ
 line_of (Ok verdict) = []
-line_of (Err (fault.Plan f)) = refusal_line f
-line_of (Err fault.Read) = codes "ccq: reading failed\n"
-line_of (Err fault.Write) = codes "ccq: writing failed\n"
-line_of (Err fault.NoMemory) = no_memory_line
+line_of (Err (PlayFault.Plan f)) = refusal_line f
+line_of (Err PlayFault.Read) = codes "ccq: reading failed\n"
+line_of (Err PlayFault.Write) = codes "ccq: writing failed\n"
+line_of (Err PlayFault.NoMemory) = no_memory_line
 
 -- the text went to standard error, or a front of it did and a write failed
 pub record Told (old new : Option (List ℕ)) (before after : ℕ) (text : List ℕ) : Type 0 where

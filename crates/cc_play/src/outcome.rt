@@ -1,7 +1,7 @@
 //! What came of an input, as it is told: the exit status, and the line on standard error.
 ghost use Rattle.std.specs.Prelude.{◌≡◌, ◌<◌, ◌-◌, ◌^◌, ◌++◌, codes, Err};
 ghost use Rattle.cc_model.specs.Written.{word_text};
-ghost use Rattle.cc_play.specs.declared.fault.PlayFault.TheVariants as play_fault;
+ghost use Rattle.cc_play.specs.Names.{PlayFault};
 ghost use Rattle.cc_play.specs.Outcome.{Told, line_of, no_memory_line, refusal_line, status_of};
 
 use crate::fault::PlayFault;
@@ -53,7 +53,7 @@ pub fn told<E: Sink>(errors: &mut E, line: &[u8], status: u8) -> u8
 #[tactic(auto, unfolding(crate::specs::Outcome::refusal_line))]
 fn refused<E: Sink>(errors: &mut E, fault: PlanFault) -> u8
     requires { E.write_failures errors.old < 2 ^ 64 - 1 }
-    ensures status { result ≡ status_of (Err (play_fault.Plan fault)) }
+    ensures status { result ≡ status_of (Err (PlayFault.Plan fault)) }
     ensures told { Told (E.bytes_written errors.old) (E.bytes_written errors.new)
         (E.write_failures errors.old) (E.write_failures errors.new) (refusal_line fault) }
 {

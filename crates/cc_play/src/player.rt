@@ -1,7 +1,7 @@
 //! Following a schedule: which pass does its next atomic step, begins its next call, has its answer taken.
 ghost use Rattle.std.specs.Prelude.{◌≡◌, ◌<◌, Some, Ok, List, length, IfOk, IfSome, OnOk, ◌^◌, ◌-◌};
 ghost use Rattle.cc_model.specs.Items.{known_at};
-ghost use Rattle.cc_runs.specs.declared.run.Move.{Move};
+ghost use Rattle.cc_play.specs.Names.{Move};
 ghost use Rattle.cc_runs.specs.Run.{passes, reached, IsRun};
 ghost use Rattle.cc_machine.specs.View.{state_in};
 ghost use Rattle.cc_machine.specs.Machine.{index_of, HasBegun, begin_fault};

@@ -6,26 +6,16 @@ use Rattle.std.proofs.lemmas.Bool.{cases_lt}
 use Rattle.std.proofs.lemmas.List.{get_or_past}
 use Rattle.cc_model.specs.Items.{all_answered, answered, calls_of, is_pass, accepted, accepted_item, shuts, is_shut, handed_item}
 use Rattle.cc_model.specs.Legal.{Legal, EAnswer, EAnswers, DAnswer, DAnswers, IsReceivers}
-use Rattle.cc_model.specs.declared.config.Config.{Config}
-use Rattle.cc_model.specs.declared.call.Call.{Call}
-use Rattle.cc_model.specs.declared.call.Call.TheVariants as call
-use Rattle.cc_model.specs.declared.call.Pass.{Pass}
-use Rattle.cc_model.specs.declared.call.Pass.TheVariants as pass
-use Rattle.cc_model.specs.declared.call.Item.{Item}
-use Rattle.cc_model.specs.declared.call.Entry.{Entry}
-use Rattle.cc_model.specs.declared.call.Answer.{Answer}
-use Rattle.cc_model.specs.declared.call.Answer.TheVariants as answer
-use Rattle.cc_model.specs.declared.call.SendAnswer.TheVariants as send
-use Rattle.cc_model.specs.declared.call.CloseAnswer.TheVariants as close
+use Rattle.cc_queue.specs.Names.{Config, Call, Pass, Item, Entry, Answer, SendAnswer, CloseAnswer}
 use Rattle.cc_runs.specs.ChainLaws.{IsLastAnswer}
 use Rattle.cc_queue.specs.Kept.{MadeLast, IsSend, IsClose}
 use Rattle.cc_queue.specs.Codes.{IsSendAnswer, IsCloseAnswer}
 
 -- the answer is one that such a call may get
 abbrev Suits : Call → Answer → Type 0
-Suits (call.Send body) (answer.Send a) = Unit {0}
-Suits call.Close (answer.Close a) = Unit {0}
-Suits call.Take (answer.Take a) = Unit {0}
+Suits (Call.Send body) (Answer.Send a) = Unit {0}
+Suits Call.Close (Answer.Close a) = Unit {0}
+Suits Call.Take (Answer.Take a) = Unit {0}
 Suits _ _ = ⊥
 
 abbrev SuitsIt : Entry × Option Answer → Type 0
@@ -35,12 +25,12 @@ SuitsIt (e, Some a) = Suits e.call a
 -- ---- each answer of a side
 
 e_suits : (cfg : Config) (count : ℕ) (shut : Bool) (known : ℕ) (c : Call) (a : Answer) → EAnswer cfg count shut known c a → Suits c a
-e_suits cfg count true known (call.Send body) (answer.Send send.Closed) k = tt
-e_suits cfg count true known call.Close (answer.Close (close.Already total)) k = tt
-e_suits cfg count false known call.Close (answer.Close (close.Shut total)) k = tt
-e_suits cfg count false known (call.Send body) (answer.Send send.Spent) k = tt
-e_suits cfg count false known (call.Send body) (answer.Send (send.Accepted place)) k = tt
-e_suits cfg count false known (call.Send body) (answer.Send send.Full) k = tt
+e_suits cfg count true known (Call.Send body) (Answer.Send SendAnswer.Closed) k = tt
+e_suits cfg count true known Call.Close (Answer.Close (CloseAnswer.Already total)) k = tt
+e_suits cfg count false known Call.Close (Answer.Close (CloseAnswer.Shut total)) k = tt
+e_suits cfg count false known (Call.Send body) (Answer.Send SendAnswer.Spent) k = tt
+e_suits cfg count false known (Call.Send body) (Answer.Send (SendAnswer.Accepted place)) k = tt
+e_suits cfg count false known (Call.Send body) (Answer.Send SendAnswer.Full) k = tt
 e_suits cfg count shut known c a k = absurd k
 
 e_all : (cfg : Config) (count : ℕ) (shut : Bool) (calls : List Entry) (answers : List Answer) → EAnswers cfg count shut calls answers → AllByRecursion SuitsIt (answered calls answers)
@@ -49,9 +39,9 @@ e_all cfg count shut (e ∷ calls) [] k = (tt, e_all cfg count shut calls [] tt)
 e_all cfg count shut (e ∷ calls) (a ∷ answers) k = (e_suits cfg count shut e.known e.call a k.0, e_all cfg (count + length (accepted_item e a)) (shut || shuts a) calls answers k.1)
 
 d_suits : (cfg : Config) (g : ℕ) (items : List Item) (shut : Bool) (count known : ℕ) (p : Pass) (c : Call) (a : Answer) → IsReceivers cfg g p c → DAnswer items shut count known a → Suits c a
-d_suits cfg g items shut count known (pass.Receiver r) call.Take (answer.Take a) is k = tt
-d_suits cfg g items shut count known (pass.Receiver r) call.Take (answer.Send a) is k = absurd k
-d_suits cfg g items shut count known (pass.Receiver r) call.Take (answer.Close a) is k = absurd k
+d_suits cfg g items shut count known (Pass.Receiver r) Call.Take (Answer.Take a) is k = tt
+d_suits cfg g items shut count known (Pass.Receiver r) Call.Take (Answer.Send a) is k = absurd k
+d_suits cfg g items shut count known (Pass.Receiver r) Call.Take (Answer.Close a) is k = absurd k
 d_suits cfg g items shut count known p c a is k = absurd is
 
 d_all : (cfg : Config) (g : ℕ) (items : List Item) (shut : Bool) (count : ℕ) (calls : List Entry) (answers : List Answer) → AllByRecursion (λ c. IsReceivers cfg g c.pass c.call) calls → DAnswers items shut count calls answers → AllByRecursion SuitsIt (answered calls answers)
@@ -113,15 +103,15 @@ suits_last cfg h who told made Is l calls k m =
     subst (λ (e : Entry). Suits e.call told) same (all_last SuitsIt k.before (k.entry, Some told) (subst (AllByRecursion SuitsIt) k.last (all_suit cfg h who l)))
 
 send_kind : (c : Call) (told : Answer) → IsSend c → Suits c told → IsSendAnswer told
-send_kind (call.Send body) (answer.Send a) is s = tt
-send_kind (call.Send body) (answer.Close a) is s = absurd s
-send_kind (call.Send body) (answer.Take a) is s = absurd s
+send_kind (Call.Send body) (Answer.Send a) is s = tt
+send_kind (Call.Send body) (Answer.Close a) is s = absurd s
+send_kind (Call.Send body) (Answer.Take a) is s = absurd s
 send_kind c told is s = absurd is
 
 close_kind : (c : Call) (told : Answer) → IsClose c → Suits c told → IsCloseAnswer told
-close_kind call.Close (answer.Close a) is s = tt
-close_kind call.Close (answer.Send a) is s = absurd s
-close_kind call.Close (answer.Take a) is s = absurd s
+close_kind Call.Close (Answer.Close a) is s = tt
+close_kind Call.Close (Answer.Send a) is s = absurd s
+close_kind Call.Close (Answer.Take a) is s = absurd s
 close_kind c told is s = absurd is
 
 -- a send is answered as a send

@@ -1,22 +1,9 @@
 -- What a pass has seen stands in one history.
 use Rattle.std.proofs.Common.{◌/◌, arith, ◌≡◌, ◌≢◌, ℕ, ◌+◌, ◌*◌, ◌≤◌, if◌then◌else◌, List, [], ◌∷◌, ◌++◌, map, refl, sym, ap, ◌∙◌, subst, append-nil, append_assoc, Bool, true, false, nat_lt, ◌-◌}
-use Rattle.cc_model.specs.declared.config.Config.{Config}
+use Rattle.cc_queue.specs.Names.{Config, Answer, Call, TakeAnswer, Entry, Move, Setting, Served, Stand, Place, Chain, Pass}
 use Rattle.std.specs.List.{AllByRecursion}
 use Rattle.cc_model.specs.Items.{HasAnswer, Begins, calls_of}
-use Rattle.cc_model.specs.declared.call.Answer.{Answer}
-use Rattle.cc_model.specs.declared.call.Call.{Call}
-use Rattle.cc_model.specs.declared.call.TakeAnswer.{TakeAnswer}
-use Rattle.cc_model.specs.declared.call.TakeAnswer.TheVariants as take
-use Rattle.cc_model.specs.declared.call.Entry.{Entry}
-use Rattle.cc_runs.specs.declared.run.Move.{Move}
-use Rattle.cc_runs.specs.declared.setting.Setting.{Setting}
-use Rattle.cc_runs.specs.declared.setting.Served.TheVariants as served
-use Rattle.cc_runs.specs.declared.place.Stand.{Stand}
-use Rattle.cc_runs.specs.declared.place.Place.{Place}
-use Rattle.cc_runs.specs.declared.place.Place.TheVariants as place
 use Rattle.cc_runs.specs.ChainLaws.{IsLastAnswer}
-use Rattle.cc_runs.specs.declared.word.Chain.TheVariants.{Send, Take}
-use Rattle.cc_model.specs.declared.call.Pass.TheVariants as pass
 use Rattle.cc_runs.specs.Run.{IsRun, history_of, reached, begun_after}
 use Rattle.cc_runs.specs.CallsMade.{made, to_exchange}
 use Rattle.cc_runs.specs.ChainLaws.{IsOut}
@@ -53,7 +40,7 @@ calls_in w s out =
     let none : to_exchange ((reached w.setting w.seen).stand w.number).place ≡ [] = ap (λ (x : Stand). to_exchange x.place) (sym s.shows.0) ∙ out in
     sym (append-nil _) ∙ ap (λ (l : List Entry). map (λ z. z.0) (calls_of (name w) (history w)) ++ l) (sym none) ∙ sym law ∙ sym s.shows.1
 
-pub stands_in_one : (v w : Walk) (calls : List Entry) → IsSound w → w.setting.served ≡ served.List → to_exchange w.stand.place ≡ [] → IsSameSeat v w → Onward v.seen w.seen → w.made ≡ v.made ++ calls → StandsInOne v calls w
+pub stands_in_one : (v w : Walk) (calls : List Entry) → IsSound w → w.setting.served ≡ Served.List → to_exchange w.stand.place ≡ [] → IsSameSeat v w → Onward v.seen w.seen → w.made ≡ v.made ++ calls → StandsInOne v calls w
 stands_in_one v w calls s list out same on made_is = record {
   same = same;
   run = s.run;
@@ -72,13 +59,13 @@ made_of : (v w : Walk) (at : Place) → w ≡ worked_to v at w → w.made ≡ v.
 made_of v w at e = ap (λ (x : Walk). x.made) e ∙ sym (append-nil v.made)
 
 -- the same of a pass that stands idle or waits, whose topic is a list
-pub stands_on : (v w : Walk) (calls : List Entry) (begun node : ℕ) (at : Place) → w.stand ≡ record { begun = begun; node = node; place = at } → to_exchange at ≡ [] → IsSound w → v.setting.served ≡ served.List → IsSameSeat v w → Onward v.seen w.seen → w.made ≡ v.made ++ calls → StandsInOne v calls w
+pub stands_on : (v w : Walk) (calls : List Entry) (begun node : ℕ) (at : Place) → w.stand ≡ record { begun = begun; node = node; place = at } → to_exchange at ≡ [] → IsSound w → v.setting.served ≡ Served.List → IsSameSeat v w → Onward v.seen w.seen → w.made ≡ v.made ++ calls → StandsInOne v calls w
 stands_on v w calls begun node at stand out s list same on made_is = stands_in_one v w calls s (ap (λ (c : Setting). c.served) same.1 ∙ list) (ap (λ (x : Stand). to_exchange x.place) stand ∙ out) same on made_is
 
 -- a call that was begun; a caller knows the pass as u
-pub begun_so : (u v w : Walk) (call : Call) (node : ℕ) → v ≡ u → v.setting.served ≡ served.List → IsSound w → Enters v call record { begun = begun_after call v.stand.begun; node = node; place = place.ReadState } w → IsPendingIn w → Begun u call w
+pub begun_so : (u v w : Walk) (call : Call) (node : ℕ) → v ≡ u → v.setting.served ≡ Served.List → IsSound w → Enters v call record { begun = begun_after call v.stand.begun; node = node; place = Place.ReadState } w → IsPendingIn w → Begun u call w
 begun_so u v w call node is list s e pending = subst (λ (x : Walk). Begun x call w) is (record {
-  stands = stands_on v w (entry_of v call ∷ []) (begun_after call v.stand.begun) node place.ReadState e.stand refl s list e.same e.later e.made;
+  stands = stands_on v w (entry_of v call ∷ []) (begun_after call v.stand.begun) node Place.ReadState e.stand refl s list e.same e.later e.made;
   pending = pending;
   begun = ap (λ (x : Stand). x.begun) e.stand;
   reads = e.reads;
@@ -86,21 +73,21 @@ begun_so u v w call node is list s e pending = subst (λ (x : Walk). Begun x cal
 })
 
 -- a turn that waits
-pub waited_so : (u v w : Walk) → v ≡ u → v.setting.served ≡ served.List → v.stand.place ≡ place.ReadState → IsSound w → Waits v w → Waited u w
+pub waited_so : (u v w : Walk) → v ≡ u → v.setting.served ≡ Served.List → v.stand.place ≡ Place.ReadState → IsSound w → Waits v w → Waited u w
 waited_so u v w is list at s e = subst (λ (x : Walk). Waited x w) is (record {
-  stands = stands_on v w [] v.stand.begun v.stand.node place.ReadState (ap (λ (x : Walk). x.stand) e.worked) refl s list (seat_of v w place.ReadState e.worked) e.later (made_of v w place.ReadState e.worked);
+  stands = stands_on v w [] v.stand.begun v.stand.node Place.ReadState (ap (λ (x : Walk). x.stand) e.worked) refl s list (seat_of v w Place.ReadState e.worked) e.later (made_of v w Place.ReadState e.worked);
   still = ap (λ (x : Walk). x.stand) e.worked ∙ (λ i. record { begun = v.stand.begun; node = v.stand.node; place = sym at i });
   did = e.did;
 })
 
 -- the pass and its queue are of one list with this configuration
-pub listed : (q z : Topic) (u v : Walk) (c : Config) → q ≡ z → q.setting ≡ record { served = served.List; config = c } → IsOf z u → v ≡ u → v.setting ≡ record { served = served.List; config = c }
+pub listed : (q z : Topic) (u v : Walk) (c : Config) → q ≡ z → q.setting ≡ record { served = Served.List; config = c } → IsOf z u → v ≡ u → v.setting ≡ record { served = Served.List; config = c }
 listed q z u v c same list here is = ap (λ (x : Walk). x.setting) is ∙ here.1 ∙ sym (ap (λ (x : Topic). x.setting) same) ∙ list
 
 -- a turn that is done
-pub answered_so : (u v w : Walk) (c : Config) (told : Answer) (n : ℕ) → v ≡ u → v.setting ≡ record { served = served.List; config = c } → IsSound w → Works v place.Idle (turned c n) w → IsLastAnswer (name w) (history w) told → n ≤ c.bound → Answered u told n w
+pub answered_so : (u v w : Walk) (c : Config) (told : Answer) (n : ℕ) → v ≡ u → v.setting ≡ record { served = Served.List; config = c } → IsSound w → Works v Place.Idle (turned c n) w → IsLastAnswer (name w) (history w) told → n ≤ c.bound → Answered u told n w
 answered_so u v w c told n is list s e last few = subst (λ (x : Walk). Answered x told n w) is (record {
-  stands = stands_on v w [] v.stand.begun v.stand.node place.Idle (ap (λ (x : Walk). x.stand) e.worked) refl s (ap (λ (x : Setting). x.served) list) (seat_of v w place.Idle e.worked) e.later (made_of v w place.Idle e.worked);
+  stands = stands_on v w [] v.stand.begun v.stand.node Place.Idle (ap (λ (x : Walk). x.stand) e.worked) refl s (ap (λ (x : Setting). x.served) list) (seat_of v w Place.Idle e.worked) e.later (made_of v w Place.Idle e.worked);
   last = last;
   begun = ap (λ (x : Walk). x.stand.begun) e.worked;
   reads = e.reads;
@@ -111,13 +98,13 @@ answered_so u v w c told n is list s e last few = subst (λ (x : Walk). Answered
 })
 
 -- a send that is told its answer is told one of a send
-pub send_told : (v w : Walk) (told : Answer) → v.setting.served ≡ served.List → IsSound w → w ≡ worked_to v place.Idle w → IsLastAnswer (name w) (history w) told → MadeLast IsSend v.made → IsSendAnswer told
+pub send_told : (v w : Walk) (told : Answer) → v.setting.served ≡ Served.List → IsSound w → w ≡ worked_to v Place.Idle w → IsLastAnswer (name w) (history w) told → MadeLast IsSend v.made → IsSendAnswer told
 send_told v w told list s worked last m =
     send_answered w.setting.config (history w) (name w) told w.made (history_is_legal w.setting w.seen (ap (λ (x : Walk). x.setting.served) worked ∙ list) s.checked s.run)
     (calls_in w s (ap (λ (x : Walk). to_exchange x.stand.place) worked)) last (subst (MadeLast IsSend) (sym (ap (λ (x : Walk). x.made) worked)) m)
 
 -- and a close one of a close
-pub close_told : (v w : Walk) (told : Answer) → v.setting.served ≡ served.List → IsSound w → w ≡ worked_to v place.Idle w → IsLastAnswer (name w) (history w) told → MadeLast IsClose v.made → IsCloseAnswer told
+pub close_told : (v w : Walk) (told : Answer) → v.setting.served ≡ Served.List → IsSound w → w ≡ worked_to v Place.Idle w → IsLastAnswer (name w) (history w) told → MadeLast IsClose v.made → IsCloseAnswer told
 close_told v w told list s worked last m =
     close_answered w.setting.config (history w) (name w) told w.made (history_is_legal w.setting w.seen (ap (λ (x : Walk). x.setting.served) worked ∙ list) s.checked s.run)
     (calls_in w s (ap (λ (x : Walk). to_exchange x.stand.place) worked)) last (subst (MadeLast IsClose) (sym (ap (λ (x : Walk). x.made) worked)) m)
@@ -148,8 +135,8 @@ pub completed_so : (a b c : Walk) (call : Call) (told : Answer) → Begun a call
 completed_so a b c call told f g = record { stands = stands_more a b c (entry_of a call ∷ []) [] f.stands g.stands; last = g.last }
 
 -- a pass with a pending call stands in the history that it has seen
-pub pending_stands : (u v : Walk) (begun node : ℕ) → v ≡ u → v.setting.served ≡ served.List → v.stand ≡ record { begun = begun; node = node; place = place.ReadState } → IsSound v → StandsInOne u [] u
-pending_stands u v begun node is list stand s = subst (λ (x : Walk). StandsInOne x [] x) is (stands_on v v [] begun node place.ReadState stand refl s list (refl, refl, refl) (λ first k. k) (sym (append-nil v.made)))
+pub pending_stands : (u v : Walk) (begun node : ℕ) → v ≡ u → v.setting.served ≡ Served.List → v.stand ≡ record { begun = begun; node = node; place = Place.ReadState } → IsSound v → StandsInOne u [] u
+pending_stands u v begun node is list stand s = subst (λ (x : Walk). StandsInOne x [] x) is (stands_on v v [] begun node Place.ReadState stand refl s list (refl, refl, refl) (λ first k. k) (sym (append-nil v.made)))
 
 -- the calls of a pass that is out of its chain have their answers
 answers_in : (w : Walk) → IsSound w → IsOut w.stand.place → AllByRecursion HasAnswer (calls_of (name w) (history w))
@@ -157,23 +144,23 @@ unfolding stand_in
 answers_in w s out = calls_end w.setting s.checked w.seen s.run w.number s.below (subst (λ (x : Stand). IsOut x.place) s.shows.0 out)
 
 -- an idle pass, which a caller knows as u
-pub at_rest_so : (u v : Walk) (begun node : ℕ) → v ≡ u → v.setting.served ≡ served.List → v.stand ≡ record { begun = begun; node = node; place = place.Idle } → IsSound v → IsAtRest u
+pub at_rest_so : (u v : Walk) (begun node : ℕ) → v ≡ u → v.setting.served ≡ Served.List → v.stand ≡ record { begun = begun; node = node; place = Place.Idle } → IsSound v → IsAtRest u
 at_rest_so u v begun node is list stand s = subst IsAtRest is (record {
-  stands = stands_on v v [] begun node place.Idle stand refl s list (refl, refl, refl) (λ first k. k) (sym (append-nil v.made));
+  stands = stands_on v v [] begun node Place.Idle stand refl s list (refl, refl, refl) (λ first k. k) (sym (append-nil v.made));
   answered = answers_in v s (subst (λ (x : Stand). IsOut x.place) (sym stand) tt);
 })
 
 -- an answer that isn't Empty
-pub settled_unless : (told : TakeAnswer) → told ≢ take.Empty → IsSettled told
-settled_unless take.Empty ne = absurd (ne refl)
-settled_unless (take.Got item) ne = tt
-settled_unless (take.Ended total) ne = tt
+pub settled_unless : (told : TakeAnswer) → told ≢ TakeAnswer.Empty → IsSettled told
+settled_unless TakeAnswer.Empty ne = absurd (ne refl)
+settled_unless (TakeAnswer.Got item) ne = tt
+settled_unless (TakeAnswer.Ended total) ne = tt
 
 -- a receiver's group is that of its chain
-pub ranked_so : (u v : Walk) (g : ℕ) → v ≡ u → IsOn v (Take g) → Ranked u (g + 1)
+pub ranked_so : (u v : Walk) (g : ℕ) → v ≡ u → IsOn v (Chain.Take g) → Ranked u (g + 1)
 ranked_so u v g is on = subst (λ (x : Walk). Ranked x (g + 1)) is (go (nat_lt v.number v.setting.config.senders) on)
   where
-    go : (b : Bool) → (if b then Send else Take ((v.number - v.setting.config.senders) / v.setting.config.receivers)) ≡ Take g → IsGroupOf v.setting.config (if b then pass.Sender (v.number + 1) else pass.Receiver (v.number - v.setting.config.senders + 1)) (g + 1)
+    go : (b : Bool) → (if b then Chain.Send else Chain.Take ((v.number - v.setting.config.senders) / v.setting.config.receivers)) ≡ Chain.Take g → IsGroupOf v.setting.config (if b then Pass.Sender (v.number + 1) else Pass.Receiver (v.number - v.setting.config.senders + 1)) (g + 1)
     go true e = absurd (cc e)
     go false e =
         let back : v.number - v.setting.config.senders + 1 - 1 ≡ v.number - v.setting.config.senders = omega arith in

@@ -12,25 +12,14 @@ use Rattle.cc_model.specs.Record.{Side, Record, silent, of_group}
 use Rattle.cc_model.specs.Items.{answered, calls_of, is_pass, accepted, accepted_by, accepted_item}
 use Rattle.cc_model.specs.Legal.{Legal, IsSenders, IsReceivers}
 use Rattle.cc_model.specs.Config.{config_fault, group_of}
-use Rattle.cc_model.specs.declared.config.Config.{Config}
-use Rattle.cc_model.specs.declared.call.Call.{Call}
-use Rattle.cc_model.specs.declared.call.Call.TheVariants as call
-use Rattle.cc_model.specs.declared.call.Pass.{Pass}
-use Rattle.cc_model.specs.declared.call.Pass.TheVariants.{Sender, Receiver}
-use Rattle.cc_model.specs.declared.call.Entry.{Entry}
-use Rattle.cc_model.specs.declared.call.Answer.{Answer}
+use Rattle.cc_queue.specs.Names.{Config, Call, Pass, Entry, Answer, Move, Setting, SendReceipt, TakeReceipt, Verdict}
 use Rattle.cc_runs.specs.Words.{groups}
 use Rattle.cc_runs.specs.State.{pass_at}
-use Rattle.cc_runs.specs.declared.run.Move.{Move}
-use Rattle.cc_runs.specs.declared.setting.Setting.{Setting}
 use Rattle.cc_runs.specs.Run.{history_of}
 use Rattle.cc_runs.proofs.ListRuns.Posts.{all_map}
 use Rattle.cc_runs.proofs.Ranges.{in_range}
 use Rattle.cc_audit.specs.Receipts.{send_receipt, take_receipt, sends_of, takes_of, takes_by, total_of}
 use Rattle.cc_audit.specs.Verdict.{IsVerdict}
-use Rattle.cc_audit.specs.declared.receipt.SendReceipt.{SendReceipt}
-use Rattle.cc_audit.specs.declared.receipt.TakeReceipt.{TakeReceipt}
-use Rattle.cc_audit.specs.declared.receipt.Verdict.TheVariants.{Clean}
 use Rattle.cc_audit.proofs.Clean.{no_fault}
 use Rattle.cc_audit.proofs.Lawful.{fair_of}
 use Rattle.cc_audit.proofs.Orders.{same_verdict}
@@ -122,17 +111,17 @@ all_answered P Q [] answers f all = tt
 all_answered P Q (e ∷ calls) [] f all = (f e None all.0, all_answered P Q calls [] f all.1)
 all_answered P Q (e ∷ calls) (a ∷ answers) f all = (f e (Some a) all.0, all_answered P Q calls answers f all.1)
 
-sender_of : (cfg : Config) (p : Pass) (c : Call) → IsSenders cfg p c → (s : ℕ) × (1 ≤ s) × (s < 1 + cfg.senders) × (p ≡ Sender s)
-sender_of cfg (Sender s) (call.Send body) is = (s, is.0, omega (arith, is.1), refl)
-sender_of cfg (Sender s) call.Close is = (s, is.0, omega (arith, is.1), refl)
-sender_of cfg (Sender s) call.Take is = absurd is
-sender_of cfg (Receiver r) c is = absurd is
+sender_of : (cfg : Config) (p : Pass) (c : Call) → IsSenders cfg p c → (s : ℕ) × (1 ≤ s) × (s < 1 + cfg.senders) × (p ≡ Pass.Sender s)
+sender_of cfg (Pass.Sender s) (Call.Send body) is = (s, is.0, omega (arith, is.1), refl)
+sender_of cfg (Pass.Sender s) Call.Close is = (s, is.0, omega (arith, is.1), refl)
+sender_of cfg (Pass.Sender s) Call.Take is = absurd is
+sender_of cfg (Pass.Receiver r) c is = absurd is
 
-receiver_of : (cfg : Config) (g : ℕ) (p : Pass) (c : Call) → IsReceivers cfg g p c → (r : ℕ) × (1 ≤ r) × (r < 1 + cfg.groups * cfg.receivers) × (group_of cfg r ≡ g) × (p ≡ Receiver r)
-receiver_of cfg g (Receiver r) call.Take is = (r, is.0, omega (arith, is.1), is.2, refl)
-receiver_of cfg g (Receiver r) (call.Send body) is = absurd is
-receiver_of cfg g (Receiver r) call.Close is = absurd is
-receiver_of cfg g (Sender s) c is = absurd is
+receiver_of : (cfg : Config) (g : ℕ) (p : Pass) (c : Call) → IsReceivers cfg g p c → (r : ℕ) × (1 ≤ r) × (r < 1 + cfg.groups * cfg.receivers) × (group_of cfg r ≡ g) × (p ≡ Pass.Receiver r)
+receiver_of cfg g (Pass.Receiver r) Call.Take is = (r, is.0, omega (arith, is.1), is.2, refl)
+receiver_of cfg g (Pass.Receiver r) (Call.Send body) is = absurd is
+receiver_of cfg g (Pass.Receiver r) Call.Close is = absurd is
+receiver_of cfg g (Pass.Sender s) c is = absurd is
 
 -- a receiver's number by its group
 number_in : (cfg : Config) (g r : ℕ) → 0 < cfg.receivers → 1 ≤ r → group_of cfg r ≡ g → (1 + g * cfg.receivers ≤ r) × (r < 1 + g * cfg.receivers + cfg.receivers)
@@ -169,15 +158,15 @@ in_got (e ∷ f ∷ calls) [] = in_got (f ∷ calls) []
 in_got (e ∷ calls) (a ∷ answers) = ap (λ l. take_receipt e.pass a ++ l) (in_got calls answers)
 
 -- each call of the senders, and of a group, is dealt to one of its passes
-sends_dealt : (cfg : Config) (h : Record) → Legal cfg h → AllByRecursion (IsDealt (is_of Sender) 1 cfg.senders) (answered h.sends.calls h.sends.answers)
+sends_dealt : (cfg : Config) (h : Record) → Legal cfg h → AllByRecursion (IsDealt (is_of Pass.Sender) 1 cfg.senders) (answered h.sends.calls h.sends.answers)
 sends_dealt cfg h l =
-    all_answered (λ e. IsSenders cfg e.pass e.call) (IsDealt (is_of Sender) 1 cfg.senders) h.sends.calls h.sends.answers
-    (λ e told is. let s = sender_of cfg e.pass e.call is in (s.0, s.1, s.2, λ m. ap (is_pass (Sender m)) s.3)) l.senders
+    all_answered (λ e. IsSenders cfg e.pass e.call) (IsDealt (is_of Pass.Sender) 1 cfg.senders) h.sends.calls h.sends.answers
+    (λ e told is. let s = sender_of cfg e.pass e.call is in (s.0, s.1, s.2, λ m. ap (is_pass (Pass.Sender m)) s.3)) l.senders
 
-takes_dealt : (cfg : Config) (h : Record) (g : ℕ) → 0 < cfg.receivers → g < cfg.groups → Legal cfg h → AllByRecursion (IsDealt (is_of Receiver) (1 + g * cfg.receivers) cfg.receivers) (answered (of_group h g).calls (of_group h g).answers)
+takes_dealt : (cfg : Config) (h : Record) (g : ℕ) → 0 < cfg.receivers → g < cfg.groups → Legal cfg h → AllByRecursion (IsDealt (is_of Pass.Receiver) (1 + g * cfg.receivers) cfg.receivers) (answered (of_group h g).calls (of_group h g).answers)
 takes_dealt cfg h g some inside l =
-    all_answered (λ e. IsReceivers cfg g e.pass e.call) (IsDealt (is_of Receiver) (1 + g * cfg.receivers) cfg.receivers) (of_group h g).calls (of_group h g).answers
-    (λ e told is. let r = receiver_of cfg g e.pass e.call is in let n = number_in cfg g r.0 some r.1 r.3 in (r.0, n.0, n.1, λ m. ap (is_pass (Receiver m)) r.4)) (l.takes g inside).receivers
+    all_answered (λ e. IsReceivers cfg g e.pass e.call) (IsDealt (is_of Pass.Receiver) (1 + g * cfg.receivers) cfg.receivers) (of_group h g).calls (of_group h g).answers
+    (λ e told is. let r = receiver_of cfg g e.pass e.call is in let n = number_in cfg g r.0 some r.1 r.3 in (r.0, n.0, n.1, λ m. ap (is_pass (Pass.Receiver m)) r.4)) (l.takes g inside).receivers
 
 -- ---- passes in a row
 
@@ -222,15 +211,15 @@ row_range called h first count ws row fits = record {
 
 -- ---- the passes of a queue that have met
 
-pub sender_named : (cfg : Config) (k : ℕ) → k < cfg.senders → pass_at cfg k ≡ Sender (1 + k)
-sender_named cfg k less = ap (λ (b : Bool). if b then Sender (k + 1) else Receiver (k - cfg.senders + 1)) (lt-ltb k cfg.senders less) ∙ ap Sender (omega arith)
+pub sender_named : (cfg : Config) (k : ℕ) → k < cfg.senders → pass_at cfg k ≡ Pass.Sender (1 + k)
+sender_named cfg k less = ap (λ (b : Bool). if b then Pass.Sender (k + 1) else Pass.Receiver (k - cfg.senders + 1)) (lt-ltb k cfg.senders less) ∙ ap Pass.Sender (omega arith)
 
-pub receiver_named : (cfg : Config) (k : ℕ) → pass_at cfg (cfg.senders + k) ≡ Receiver (1 + k)
+pub receiver_named : (cfg : Config) (k : ℕ) → pass_at cfg (cfg.senders + k) ≡ Pass.Receiver (1 + k)
 receiver_named cfg k = named (nat_lt (cfg.senders + k) cfg.senders) refl
   where
-    named : (b : Bool) → nat_lt (cfg.senders + k) cfg.senders ≡ b → (if b then Sender (cfg.senders + k + 1) else Receiver (cfg.senders + k - cfg.senders + 1)) ≡ Receiver (1 + k)
+    named : (b : Bool) → nat_lt (cfg.senders + k) cfg.senders ≡ b → (if b then Pass.Sender (cfg.senders + k + 1) else Pass.Receiver (cfg.senders + k - cfg.senders + 1)) ≡ Pass.Receiver (1 + k)
     named true is = absurd (omega (arith, ltb-true _ _ is))
-    named false is = ap Receiver (omega arith)
+    named false is = ap Pass.Receiver (omega arith)
 
 name_at : (z : Topic) (first count : ℕ) (ws : List Walk) (k : ℕ) (d : Walk) → AreInRow z first count ws → k < length ws → name (get_or ws k d) ≡ pass_at z.setting.config (first + k)
 name_at z first count ws k d row less = λ i. pass_at ((row.are k d less).1 i).config (row.numbered k d less i)
@@ -238,13 +227,13 @@ name_at z first count ws k d row less = λ i. pass_at ((row.are k d less).1 i).c
 seen_at : (z : Topic) (first count : ℕ) (ws : List Walk) (seen : List Move) → AreInRow z first count ws → All (λ w. w.seen ≡ seen) ws → All (λ w. history w ≡ history_of z.setting seen) ws
 seen_at z first count ws seen row one k d less = λ i. history_of ((row.are k d less).1 i) (one k d less i)
 
-senders_row : (z : Topic) (ws : List Walk) (seen : List Move) → AreInRow z 0 z.setting.config.senders ws → All (λ w. w.seen ≡ seen) ws → IsRow Sender (history_of z.setting seen) 1 ws
+senders_row : (z : Topic) (ws : List Walk) (seen : List Move) → AreInRow z 0 z.setting.config.senders ws → All (λ w. w.seen ≡ seen) ws → IsRow Pass.Sender (history_of z.setting seen) 1 ws
 senders_row z ws seen row one = record {
   named = λ k d less. name_at z 0 z.setting.config.senders ws k d row less ∙ ap (pass_at z.setting.config) (omega arith) ∙ sender_named z.setting.config k (omega (arith, less, row.count_is));
   seen = seen_at z 0 z.setting.config.senders ws seen row one;
 }
 
-receivers_row : (z : Topic) (ws : List Walk) (seen : List Move) → AreInRow z z.setting.config.senders (groups z.setting.config * z.setting.config.receivers) ws → All (λ w. w.seen ≡ seen) ws → IsRow Receiver (history_of z.setting seen) 1 ws
+receivers_row : (z : Topic) (ws : List Walk) (seen : List Move) → AreInRow z z.setting.config.senders (groups z.setting.config * z.setting.config.receivers) ws → All (λ w. w.seen ≡ seen) ws → IsRow Pass.Receiver (history_of z.setting seen) 1 ws
 receivers_row z ws seen row one = record {
   named = λ k d less. name_at z z.setting.config.senders (groups z.setting.config * z.setting.config.receivers) ws k d row less ∙ receiver_named z.setting.config k;
   seen = seen_at z z.setting.config.senders (groups z.setting.config * z.setting.config.receivers) ws seen row one;
@@ -278,14 +267,14 @@ has_just z senders receivers checked all one rest also =
     let h : Record = history_of z.setting one.seen in
     let here : h ≡ seen_by senders = sym (seen_is z senders one.seen some all.0 one.senders_have) in
     let lawful : Legal cfg h = subst (Legal cfg) (sym here) (lawful_seen z senders some all.0 rest) in
-    let sent_row : IsRow Sender h 1 senders = senders_row z senders one.seen all.0 one.senders_have in
-    let got_row : IsRow Receiver h 1 receivers = receivers_row z receivers one.seen all.1 one.receivers_have in
+    let sent_row : IsRow Pass.Sender h 1 senders = senders_row z senders one.seen all.0 one.senders_have in
+    let got_row : IsRow Pass.Receiver h 1 receivers = receivers_row z receivers one.seen all.1 one.receivers_have in
     subst (HasJustCallsOf senders receivers) here (record {
       sends = all_at (λ e. Any (λ w. e.pass ≡ name w) senders) h.sends.calls (all_map (λ e. IsSenders cfg e.pass e.call) (λ e. Any (λ w. e.pass ≡ name w) senders) h.sends.calls
-          (λ e is. let s = sender_of cfg e.pass e.call is in subst (λ (p : Pass). Any (λ w. p ≡ name w) senders) (sym s.3) (one_called Sender h senders s.0 sent_row s.1 (omega (arith, s.2, all.0.count_is)))) lawful.senders);
+          (λ e is. let s = sender_of cfg e.pass e.call is in subst (λ (p : Pass). Any (λ w. p ≡ name w) senders) (sym s.3) (one_called Pass.Sender h senders s.0 sent_row s.1 (omega (arith, s.2, all.0.count_is)))) lawful.senders);
       takes = λ g. elim (cases_lt g cfg.groups) [
         | inl inside ↦ all_at (λ e. Any (λ w. e.pass ≡ name w) receivers) (of_group h g).calls (all_map (λ e. IsReceivers cfg g e.pass e.call) (λ e. Any (λ w. e.pass ≡ name w) receivers) (of_group h g).calls
-            (λ e is. let r = receiver_of cfg g e.pass e.call is in subst (λ (p : Pass). Any (λ w. p ≡ name w) receivers) (sym r.4) (one_called Receiver h receivers r.0 got_row r.1 (omega (arith, r.2, all.1.count_is)))) (lawful.takes g inside).receivers)
+            (λ e is. let r = receiver_of cfg g e.pass e.call is in subst (λ (p : Pass). Any (λ w. p ≡ name w) receivers) (sym r.4) (one_called Pass.Receiver h receivers r.0 got_row r.1 (omega (arith, r.2, all.1.count_is)))) (lawful.takes g inside).receivers)
         | inr far ↦ subst (λ (s : Side). All (λ e. Any (λ w. e.pass ≡ name w) receivers) s.calls) (sym (get_or_past h.takes g silent (omega (arith, far, lawful.groups)))) (λ k d less. absurd (omega (arith, less)))
       ];
       of_senders = all_at_rest h senders (λ k d less. sent_row.seen k d less) rest;
@@ -298,9 +287,9 @@ sends_held z ws seen l row one =
     let cfg : Config = z.setting.config in
     let h : Record = history_of z.setting seen in
     let zs : List Told = answered h.sends.calls h.sends.answers in
-    let same : receipts_by sent ws ≡ held sent (is_of Sender) zs 1 cfg.senders =
-    held_by sent Sender h zs 1 ws (senders_row z ws seen row one) (λ m low high. on_its_side cfg h (Sender m) l) ∙ ap (held sent (is_of Sender) zs 1) row.count_is in
-    subst (λ (y : List SendReceipt × List SendReceipt). IsPermutation y.0 y.1) (λ i. (sym same i, in_sent h.sends.calls h.sends.answers i)) (held_all sent (is_of Sender) 1 cfg.senders zs (sends_dealt cfg h l))
+    let same : receipts_by sent ws ≡ held sent (is_of Pass.Sender) zs 1 cfg.senders =
+    held_by sent Pass.Sender h zs 1 ws (senders_row z ws seen row one) (λ m low high. on_its_side cfg h (Pass.Sender m) l) ∙ ap (held sent (is_of Pass.Sender) zs 1) row.count_is in
+    subst (λ (y : List SendReceipt × List SendReceipt). IsPermutation y.0 y.1) (λ i. (sym same i, in_sent h.sends.calls h.sends.answers i)) (held_all sent (is_of Pass.Sender) 1 cfg.senders zs (sends_dealt cfg h l))
 
 -- those of a group, and its side of the history
 pub takes_held : (z : Topic) (ws : List Walk) (seen : List Move) (group : ℕ) → 0 < z.setting.config.receivers → 1 ≤ group → group ≤ groups z.setting.config → Legal z.setting.config (history_of z.setting seen)
@@ -314,13 +303,13 @@ takes_held z ws seen group some low high l row one =
     let all : first + cfg.receivers ≡ group * cfg.receivers = next_multiple group cfg.receivers low in
     let fits : first + cfg.receivers ≤ length ws = rw (all, row.count_is) (mul-le-mul_right cfg.receivers high) in
     let part : List Walk = slice_range ws first (first + cfg.receivers) in
-    let its_row : IsRow Receiver h (1 + first) part = row_range Receiver h first cfg.receivers ws (receivers_row z ws seen row one) fits in
+    let its_row : IsRow Pass.Receiver h (1 + first) part = row_range Pass.Receiver h first cfg.receivers ws (receivers_row z ws seen row one) fits in
     let many : length part ≡ cfg.receivers = omega (arith, length-take (first + cfg.receivers - first) (drop first ws), length-drop first ws, fits) in
-    let mine : (m : ℕ) → 1 + first ≤ m → m < 1 + first + length part → calls_of (Receiver m) h ≡ filter (is_of Receiver m) zs =
-    λ m from to. on_its_side cfg h (Receiver m) l ∙ ap (λ (k : ℕ). filter (is_of Receiver m) (answered (of_group h k).calls (of_group h k).answers)) (group_at cfg g m some from (omega (arith, to, many))) in
-    let same : receipts_by got part ≡ held got (is_of Receiver) zs (1 + first) cfg.receivers = held_by got Receiver h zs (1 + first) part its_row mine ∙ ap (held got (is_of Receiver) zs (1 + first)) many in
+    let mine : (m : ℕ) → 1 + first ≤ m → m < 1 + first + length part → calls_of (Pass.Receiver m) h ≡ filter (is_of Pass.Receiver m) zs =
+    λ m from to. on_its_side cfg h (Pass.Receiver m) l ∙ ap (λ (k : ℕ). filter (is_of Pass.Receiver m) (answered (of_group h k).calls (of_group h k).answers)) (group_at cfg g m some from (omega (arith, to, many))) in
+    let same : receipts_by got part ≡ held got (is_of Pass.Receiver) zs (1 + first) cfg.receivers = held_by got Pass.Receiver h zs (1 + first) part its_row mine ∙ ap (held got (is_of Pass.Receiver) zs (1 + first)) many in
     subst (λ (n : ℕ). IsPermutation (receipts_by got (slice_range ws first n)) (takes_of h g)) all
-    (subst (λ (y : List TakeReceipt × List TakeReceipt). IsPermutation y.0 y.1) (λ i. (sym same i, in_got (of_group h g).calls (of_group h g).answers i)) (held_all got (is_of Receiver) (1 + first) cfg.receivers zs (takes_dealt cfg h g some (omega (arith, low, high)) l)))
+    (subst (λ (y : List TakeReceipt × List TakeReceipt). IsPermutation y.0 y.1) (λ i. (sym same i, in_got (of_group h g).calls (of_group h g).answers i)) (held_all got (is_of Pass.Receiver) (1 + first) cfg.receivers zs (takes_dealt cfg h g some (omega (arith, low, high)) l)))
 
 -- where there is one group, all receivers are its
 pub only_group : (cfg : Config) (ws : List Walk) → length ws ≡ cfg.receivers → in_group cfg 1 ws ≡ ws
@@ -332,14 +321,14 @@ only_group cfg ws all =
 -- so the verdict on them is Clean, in whatever order they come
 pub are_clean : (z : Topic) (senders receivers : List Walk) (group : ℕ) (sends : List SendReceipt) (takes : List TakeReceipt) (total : Option ℕ) → config_fault z.setting.config ≡ Ok tt → 1 ≤ group → group ≤ groups z.setting.config
     → AreAll z senders receivers → HaveSeenOne senders receivers → All IsAtRest senders
-    → IsPermutation (receipts_by sent senders) sends → IsPermutation (receipts_by got (in_group z.setting.config group receivers)) takes → total ≡ total_of (seen_by senders) → IsVerdict sends takes total Clean
+    → IsPermutation (receipts_by sent senders) sends → IsPermutation (receipts_by got (in_group z.setting.config group receivers)) takes → total ≡ total_of (seen_by senders) → IsVerdict sends takes total Verdict.Clean
 are_clean z senders receivers group sends takes total checked low high all one rest same also last =
     let some : 0 < length senders = has_sender z senders checked all.0 in
     let h : Record = history_of z.setting one.seen in
     let here : seen_by senders ≡ h = seen_is z senders one.seen some all.0 one.senders_have in
     let lawful : Legal z.setting.config h = subst (Legal z.setting.config) here (lawful_seen z senders some all.0 rest) in
-    let clean : IsVerdict (sends_of h) (takes_of h (group - 1)) (total_of h) Clean = no_fault (accepted h) (takes_of h (group - 1)) (total_of h) (fair_of z.setting.config h (group - 1) (omega (arith, low, high)) lawful) in
-    subst (λ (t : Option ℕ). IsVerdict sends takes t Clean) (sym (last ∙ ap total_of here))
-    (same_verdict (sends_of h) sends (takes_of h (group - 1)) takes (total_of h) Clean
+    let clean : IsVerdict (sends_of h) (takes_of h (group - 1)) (total_of h) Verdict.Clean = no_fault (accepted h) (takes_of h (group - 1)) (total_of h) (fair_of z.setting.config h (group - 1) (omega (arith, low, high)) lawful) in
+    subst (λ (t : Option ℕ). IsVerdict sends takes t Verdict.Clean) (sym (last ∙ ap total_of here))
+    (same_verdict (sends_of h) sends (takes_of h (group - 1)) takes (total_of h) Verdict.Clean
     (IsPermutation-trans (sends_of h) (receipts_by sent senders) sends (IsPermutation-sym (receipts_by sent senders) (sends_of h) (sends_held z senders one.seen lawful all.0 one.senders_have)) same)
     (IsPermutation-trans (takes_of h (group - 1)) (receipts_by got (in_group z.setting.config group receivers)) takes (IsPermutation-sym (receipts_by got (in_group z.setting.config group receivers)) (takes_of h (group - 1)) (takes_held z receivers one.seen group (in_range z.setting.config checked).receivers.0 low high lawful all.1 one.receivers_have)) also) clean)

@@ -3,9 +3,7 @@ use Rattle.std.proofs.Common.{◌≡◌, ◌≢◌, ℕ, zero, suc, ◌+◌, ◌
 use Rattle.std.proofs.lemmas.Bool.{ltb-true}
 use Rattle.std.specs.List.{All}
 use native.Mathlib.Decide.{ℕ_discrete}
-use Rattle.cc_runs.specs.declared.run.Move.{Move}
-use Rattle.cc_runs.specs.declared.setting.Served.TheVariants as served
-use Rattle.cc_runs.specs.declared.place.Place.TheVariants as place
+use Rattle.cc_queue.specs.Names.{Move, Served, Place}
 use Rattle.cc_steps.specs.Seen.{Later, Onward}
 use Rattle.cc_steps.specs.Shown.{longer}
 use Rattle.cc_steps.specs.Topic.{Topic}
@@ -14,9 +12,9 @@ use Rattle.cc_queue.specs.Met.{IsOfOne, IsIdle, Sees, HasMet, EachHasMet, Swept,
 use Rattle.cc_queue.proofs.Headline.{stands_on, stands_more}
 
 -- an idle pass whose seat has seen more
-pub met_so : (u v w : Walk) (begun node : ℕ) → v ≡ u → v.setting.served ≡ served.List → v.stand ≡ record { begun = begun; node = node; place = place.Idle } → Sees v w → HasMet u w
+pub met_so : (u v w : Walk) (begun node : ℕ) → v ≡ u → v.setting.served ≡ Served.List → v.stand ≡ record { begun = begun; node = node; place = Place.Idle } → Sees v w → HasMet u w
 met_so u v w begun node is list stand s = subst (λ (x : Walk). HasMet x w) is (record {
-  stands = stands_on v w [] begun node place.Idle (ap (λ (x : Walk). x.stand) s.same ∙ stand) refl s.sound list
+  stands = stands_on v w [] begun node Place.Idle (ap (λ (x : Walk). x.stand) s.same ∙ stand) refl s.sound list
       (ap (λ (x : Walk). x.table_id) s.same, ap (λ (x : Walk). x.setting) s.same, ap (λ (x : Walk). x.number) s.same) s.onward (ap (λ (x : Walk). x.made) s.same ∙ sym (append-nil v.made));
   same = s.same;
 })
@@ -28,11 +26,11 @@ met_on v w idle s = met_so v v w v.stand.begun v.stand.node refl idle.list idle.
 pub idle_still : (v w : Walk) → IsIdle v → w ≡ record v { seen = w.seen } → IsIdle w
 idle_still v w idle same = record {
   list = ap (λ (x : Walk). x.setting.served) same ∙ idle.list;
-  stand = ap (λ (x : Walk). x.stand) same ∙ idle.stand ∙ (λ i. record { begun = (sym same i).stand.begun; node = (sym same i).stand.node; place = place.Idle });
+  stand = ap (λ (x : Walk). x.stand) same ∙ idle.stand ∙ (λ i. record { begun = (sym same i).stand.begun; node = (sym same i).stand.node; place = Place.Idle });
 }
 
 -- one that has seen no more has met itself
-pub met_self : (u v : Walk) (begun node : ℕ) → v ≡ u → v.setting.served ≡ served.List → v.stand ≡ record { begun = begun; node = node; place = place.Idle } → IsSound v → HasMet u u
+pub met_self : (u v : Walk) (begun node : ℕ) → v ≡ u → v.setting.served ≡ Served.List → v.stand ≡ record { begun = begun; node = node; place = Place.Idle } → IsSound v → HasMet u u
 met_self u v begun node is list stand s = subst (λ (x : Walk). HasMet x x) is (met_so v v v begun node refl list stand (record { same = refl; onward = λ first k. k; sound = s }))
 
 pub met_still : (v : Walk) → IsIdle v → IsSound v → HasMet v v

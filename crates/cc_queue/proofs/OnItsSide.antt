@@ -8,13 +8,7 @@ use Rattle.cc_model.specs.Record.{Side, Record, silent, of_group}
 use Rattle.cc_model.specs.Items.{answered, calls_of, is_pass}
 use Rattle.cc_model.specs.Legal.{Legal, IsSenders, IsReceivers}
 use Rattle.cc_model.specs.Config.{group_of}
-use Rattle.cc_model.specs.declared.config.Config.{Config}
-use Rattle.cc_model.specs.declared.call.Call.{Call}
-use Rattle.cc_model.specs.declared.call.Call.TheVariants as call
-use Rattle.cc_model.specs.declared.call.Pass.{Pass}
-use Rattle.cc_model.specs.declared.call.Pass.TheVariants as pass
-use Rattle.cc_model.specs.declared.call.Entry.{Entry}
-use Rattle.cc_model.specs.declared.call.Answer.{Answer}
+use Rattle.cc_queue.specs.Names.{Config, Call, Pass, Entry, Answer}
 use Rattle.cc_runs.proofs.Chains.Told.{filter-flat, flat-none, flat-one}
 
 abbrev pub Told : Type 0
@@ -33,19 +27,19 @@ none_of P p other [] answers all = refl
 none_of P p other (c ∷ calls) [] all = ap (λ (b : Bool). kept b (c, None) (its p calls [])) (other c all.0) ∙ none_of P p other calls [] all.1
 none_of P p other (c ∷ calls) (a ∷ answers) all = ap (λ (b : Bool). kept b (c, Some a) (its p calls answers)) (other c all.0) ∙ none_of P p other calls answers all.1
 
-not_a_sender : (cfg : Config) (r : ℕ) (p : Pass) (c : Call) → IsSenders cfg p c → is_pass (pass.Receiver r) p ≡ false
-not_a_sender cfg r (pass.Sender s) c is = refl
-not_a_sender cfg r (pass.Receiver s) c is = absurd is
+not_a_sender : (cfg : Config) (r : ℕ) (p : Pass) (c : Call) → IsSenders cfg p c → is_pass (Pass.Receiver r) p ≡ false
+not_a_sender cfg r (Pass.Sender s) c is = refl
+not_a_sender cfg r (Pass.Receiver s) c is = absurd is
 
-not_a_receiver : (cfg : Config) (g s : ℕ) (p : Pass) (c : Call) → IsReceivers cfg g p c → is_pass (pass.Sender s) p ≡ false
-not_a_receiver cfg g s (pass.Receiver r) c is = refl
-not_a_receiver cfg g s (pass.Sender r) c is = absurd is
+not_a_receiver : (cfg : Config) (g s : ℕ) (p : Pass) (c : Call) → IsReceivers cfg g p c → is_pass (Pass.Sender s) p ≡ false
+not_a_receiver cfg g s (Pass.Receiver r) c is = refl
+not_a_receiver cfg g s (Pass.Sender r) c is = absurd is
 
-not_in_group : (cfg : Config) (g r : ℕ) → group_of cfg r ≢ g → (p : Pass) (c : Call) → IsReceivers cfg g p c → is_pass (pass.Receiver r) p ≡ false
-not_in_group cfg g r ne (pass.Receiver n) call.Take is = ne_eqb r n (λ e. ne (ap (group_of cfg) e ∙ is.2))
-not_in_group cfg g r ne (pass.Receiver n) (call.Send body) is = absurd is
-not_in_group cfg g r ne (pass.Receiver n) call.Close is = absurd is
-not_in_group cfg g r ne (pass.Sender n) c is = absurd is
+not_in_group : (cfg : Config) (g r : ℕ) → group_of cfg r ≢ g → (p : Pass) (c : Call) → IsReceivers cfg g p c → is_pass (Pass.Receiver r) p ≡ false
+not_in_group cfg g r ne (Pass.Receiver n) Call.Take is = ne_eqb r n (λ e. ne (ap (group_of cfg) e ∙ is.2))
+not_in_group cfg g r ne (Pass.Receiver n) (Call.Send body) is = absurd is
+not_in_group cfg g r ne (Pass.Receiver n) Call.Close is = absurd is
+not_in_group cfg g r ne (Pass.Sender n) c is = absurd is
 
 -- nor of any group where none is of those that there are
 none_of_group : (cfg : Config) (h : Record) (p : Pass) (k : ℕ) → Legal cfg h → ((q : Pass) (c : Call) → IsReceivers cfg k q c → is_pass p q ≡ false) → its p (of_group h k).calls (of_group h k).answers ≡ []
@@ -63,23 +57,23 @@ all_sides h p =
     filter-append (λ (z : Told). is_pass p z.0.pass) (answered h.sends.calls h.sends.answers) (flat_map (λ side. answered side.calls side.answers) h.takes)
     ∙ ap (λ (l : List Told). its p h.sends.calls h.sends.answers ++ l) (filter-flat (is_its p) h.takes)
 
-sender_on_its_side : (cfg : Config) (h : Record) (s : ℕ) → Legal cfg h → calls_of (pass.Sender s) h ≡ its (pass.Sender s) h.sends.calls h.sends.answers
+sender_on_its_side : (cfg : Config) (h : Record) (s : ℕ) → Legal cfg h → calls_of (Pass.Sender s) h ≡ its (Pass.Sender s) h.sends.calls h.sends.answers
 sender_on_its_side cfg h s l =
-    all_sides h (pass.Sender s)
-    ∙ ap (λ (l : List Told). its (pass.Sender s) h.sends.calls h.sends.answers ++ l) (flat-none (is_its (pass.Sender s)) h.takes (λ k. none_of_group cfg h (pass.Sender s) k l (not_a_receiver cfg k s)))
-    ∙ append-nil (its (pass.Sender s) h.sends.calls h.sends.answers)
+    all_sides h (Pass.Sender s)
+    ∙ ap (λ (l : List Told). its (Pass.Sender s) h.sends.calls h.sends.answers ++ l) (flat-none (is_its (Pass.Sender s)) h.takes (λ k. none_of_group cfg h (Pass.Sender s) k l (not_a_receiver cfg k s)))
+    ∙ append-nil (its (Pass.Sender s) h.sends.calls h.sends.answers)
 
-receiver_on_its_side : (cfg : Config) (h : Record) (r : ℕ) → Legal cfg h → calls_of (pass.Receiver r) h ≡ its (pass.Receiver r) (of_group h (group_of cfg r)).calls (of_group h (group_of cfg r)).answers
+receiver_on_its_side : (cfg : Config) (h : Record) (r : ℕ) → Legal cfg h → calls_of (Pass.Receiver r) h ≡ its (Pass.Receiver r) (of_group h (group_of cfg r)).calls (of_group h (group_of cfg r)).answers
 receiver_on_its_side cfg h r l =
-    all_sides h (pass.Receiver r)
-    ∙ ap (λ (xs : List Told). xs ++ flat_map (λ side. its (pass.Receiver r) side.calls side.answers) h.takes) (none_of (λ e. IsSenders cfg e.pass e.call) (pass.Receiver r) (λ e is. not_a_sender cfg r e.pass e.call is) h.sends.calls h.sends.answers l.senders)
-    ∙ flat-one (is_its (pass.Receiver r)) h.takes (group_of cfg r) (λ k ne. none_of_group cfg h (pass.Receiver r) k l (not_in_group cfg k r (λ e. ne (sym e))))
+    all_sides h (Pass.Receiver r)
+    ∙ ap (λ (xs : List Told). xs ++ flat_map (λ side. its (Pass.Receiver r) side.calls side.answers) h.takes) (none_of (λ e. IsSenders cfg e.pass e.call) (Pass.Receiver r) (λ e is. not_a_sender cfg r e.pass e.call is) h.sends.calls h.sends.answers l.senders)
+    ∙ flat-one (is_its (Pass.Receiver r)) h.takes (group_of cfg r) (λ k ne. none_of_group cfg h (Pass.Receiver r) k l (not_in_group cfg k r (λ e. ne (sym e))))
 
 -- the side of a pass
 abbrev pub its_side : Config → Pass → Record → Side
-its_side cfg (pass.Sender s) h = h.sends
-its_side cfg (pass.Receiver r) h = of_group h (group_of cfg r)
+its_side cfg (Pass.Sender s) h = h.sends
+its_side cfg (Pass.Receiver r) h = of_group h (group_of cfg r)
 
 pub on_its_side : (cfg : Config) (h : Record) (p : Pass) → Legal cfg h → calls_of p h ≡ its p (its_side cfg p h).calls (its_side cfg p h).answers
-on_its_side cfg h (pass.Sender s) l = sender_on_its_side cfg h s l
-on_its_side cfg h (pass.Receiver r) l = receiver_on_its_side cfg h r l
+on_its_side cfg h (Pass.Sender s) l = sender_on_its_side cfg h s l
+on_its_side cfg h (Pass.Receiver r) l = receiver_on_its_side cfg h r l

@@ -1,18 +1,11 @@
 -- The sends that a pass has begun are counted where it stands.
 use Rattle.std.proofs.Common.{◌≡◌, ℕ, ◌+◌, Bool, true, false, ◌==◌, cond, nat_lt, List, [], ◌∷◌, ◌++◌, refl, sym, ap, ◌∙◌, arith}
 use Rattle.std.proofs.lemmas.Bool.{eqb-true}
-use Rattle.cc_model.specs.declared.call.Call.{Call}
-use Rattle.cc_model.specs.declared.call.Call.TheVariants as call
-use Rattle.cc_model.specs.declared.call.Entry.{Entry}
-use Rattle.cc_runs.specs.declared.setting.Setting.{Setting}
-use Rattle.cc_runs.specs.declared.run.Move.{Move}
-use Rattle.cc_runs.specs.declared.place.Stand.{Stand}
-use Rattle.cc_runs.specs.declared.place.Place.TheVariants as place
+use Rattle.cc_queue.specs.Names.{Call, Entry, Setting, Move, Stand, Place}
 use Rattle.cc_runs.specs.State.{State, chain_of, pass_at, first_node, word_of}
 use Rattle.cc_runs.specs.Lines.{operation}
 use Rattle.cc_runs.specs.Step.{advanced}
 use Rattle.cc_runs.specs.CallsMade.{made}
-use Rattle.cc_runs.specs.declared.run.Move.TheVariants.{Begin, Step, Take}
 use Rattle.cc_runs.specs.Run.{begins, rests, begun_after, number_of, nowhere, passes, reached}
 use Rattle.cc_steps.specs.Seen.{stand_in, made_in}
 use Rattle.cc_steps.specs.Walk.{Walk, IsSound}
@@ -24,9 +17,9 @@ sends_more (d ∷ calls) e = omega (arith, sends_more calls e)
 
 -- one more where a send is begun
 after_begin : (what : Call) (begun : ℕ) → begun_after what begun ≡ begun + is_send what
-after_begin (call.Send body) begun = refl
-after_begin call.Close begun = omega arith
-after_begin call.Take begun = omega arith
+after_begin (Call.Send body) begun = refl
+after_begin Call.Close begun = omega arith
+after_begin Call.Take begun = omega arith
 
 abbrev begun_at : Stand → ℕ
 begun_at at = at.begun
@@ -47,16 +40,16 @@ none_yet true at is = is
 none_yet false at is = refl
 
 counted : (c : Setting) (moves : List Move) (p : ℕ) → ((reached c moves).stand p).begun ≡ sends_in (made c moves p)
-counted c [] p = none_yet (nat_lt p (passes c)) record { begun = 0; node = first_node c.config p; place = place.Idle } refl
-counted c (Begin q what known ∷ earlier) p =
+counted c [] p = none_yet (nat_lt p (passes c)) record { begun = 0; node = first_node c.config p; place = Place.Idle } refl
+counted c (Move.Begin q what known ∷ earlier) p =
     let s : State = reached c earlier in
     let e : Entry = record { pass = pass_at c.config q; call = what; number = number_of what (s.stand q).begun; known = known } in
     begin_counts (q == p) (begins c.config q what known (s.stand q)) (s.stand q) (s.stand p) (made c earlier p) e (λ t. ap s.stand (eqb-true q p t)) (after_begin what (s.stand q).begun) (counted c earlier p)
-counted c (Step q ∷ earlier) p =
+counted c (Move.Step q ∷ earlier) p =
     let s : State = reached c earlier in
     other (q == p) (advanced c (chain_of c.config q) (s.stand q) (s.mem (word_of (operation c (chain_of c.config q) (s.stand q).node (s.stand q).place)))) (s.stand q) (s.stand p) (λ t. ap s.stand (eqb-true q p t)) refl
     ∙ counted c earlier p
-counted c (Take q ∷ earlier) p =
+counted c (Move.Take q ∷ earlier) p =
     let s : State = reached c earlier in
     other (q == p) (rests (s.stand q)) (s.stand q) (s.stand p) (λ t. ap s.stand (eqb-true q p t)) refl ∙ counted c earlier p
 

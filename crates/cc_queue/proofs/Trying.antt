@@ -1,15 +1,7 @@
 -- Calls that a pass makes again until one has another answer.
 use Rattle.std.proofs.Common.{◌≡◌, ◌≢◌, ℕ, ◌<◌, ◌≤◌, inl, inr, List, [], ◌∷◌, ◌++◌, refl, sym, ap, subst}
 use Rattle.std.proofs.lemmas.Bool.{cases_lt}
-use Rattle.cc_model.specs.declared.call.Call.{Call}
-use Rattle.cc_model.specs.declared.call.Call.TheVariants as call
-use Rattle.cc_model.specs.declared.call.Answer.{Answer}
-use Rattle.cc_model.specs.declared.call.Answer.TheVariants as answer
-use Rattle.cc_model.specs.declared.call.Entry.{Entry}
-use Rattle.cc_model.specs.declared.call.SendAnswer.{SendAnswer}
-use Rattle.cc_model.specs.declared.call.SendAnswer.TheVariants as send
-use Rattle.cc_model.specs.declared.call.TakeAnswer.{TakeAnswer}
-use Rattle.cc_model.specs.declared.call.TakeAnswer.TheVariants as take
+use Rattle.cc_queue.specs.Names.{Call, Answer, Entry, SendAnswer, TakeAnswer}
 use Rattle.cc_steps.specs.Walk.{Walk}
 use Rattle.cc_queue.specs.Headline.{StandsInOne, entry_of}
 use Rattle.cc_queue.specs.Calls.{Completed, IsSettled, IsFinal, Repeated, Tried, last_of, entries_of, TakenUntil, SentUntil}
@@ -49,23 +41,23 @@ trying_more call told v w x t c =
     }
 
 -- the last take
-pub taken_so : (v w x : Walk) (told : TakeAnswer) → Tried call.Take (answer.Take take.Empty) v w → Completed w call.Take (answer.Take told) x → IsSettled told → TakenUntil v told x
+pub taken_so : (v w x : Walk) (told : TakeAnswer) → Tried Call.Take (Answer.Take TakeAnswer.Empty) v w → Completed w Call.Take (Answer.Take told) x → IsSettled told → TakenUntil v told x
 taken_so v w x told t c settled =
-    let one = one_more call.Take (answer.Take take.Empty) (answer.Take told) v w x t c in
+    let one = one_more Call.Take (Answer.Take TakeAnswer.Empty) (Answer.Take told) v w x t c in
     record { tried = t.tried; none = t.each; taken = one.0; stands = one.1; settled = settled }
 
 -- the last send
-pub sent_so : (v w x : Walk) (body : ℕ) (told : SendAnswer) → Tried (call.Send body) (answer.Send send.Full) v w → Completed w (call.Send body) (answer.Send told) x → IsFinal told → SentUntil v body told x
+pub sent_so : (v w x : Walk) (body : ℕ) (told : SendAnswer) → Tried (Call.Send body) (Answer.Send SendAnswer.Full) v w → Completed w (Call.Send body) (Answer.Send told) x → IsFinal told → SentUntil v body told x
 sent_so v w x body told t c final =
-    let one = one_more (call.Send body) (answer.Send send.Full) (answer.Send told) v w x t c in
+    let one = one_more (Call.Send body) (Answer.Send SendAnswer.Full) (Answer.Send told) v w x t c in
     record { tried = t.tried; full = t.each; sent = one.0; stands = one.1; final = final }
 
 -- an answer that isn't Full
-pub final_unless : (told : SendAnswer) → told ≢ send.Full → IsFinal told
-final_unless (send.Accepted place) ne = tt
-final_unless send.Full ne = absurd (ne refl)
-final_unless send.Closed ne = tt
-final_unless send.Spent ne = tt
+pub final_unless : (told : SendAnswer) → told ≢ SendAnswer.Full → IsFinal told
+final_unless (SendAnswer.Accepted place) ne = tt
+final_unless SendAnswer.Full ne = absurd (ne refl)
+final_unless SendAnswer.Closed ne = tt
+final_unless SendAnswer.Spent ne = tt
 
 -- a pass that may send now might have sent before it tried, where one that was worn then is where it was
 pub might_before : (v w : Walk) → (v.setting.config.per_sender ≤ v.stand.begun → w ≡ v) → w.stand.begun < w.setting.config.per_sender → v.stand.begun < v.setting.config.per_sender

@@ -1,11 +1,7 @@
 -- A loop over the words of a body: where a step on a word leads.
 use Rattle.std.proofs.Common.{◌≡◌, ℕ, ◌+◌, ◌<◌, Bool, true, false, cond, nat_lt, List, ◌∷◌, None, sym, ap, ◌∙◌, subst, arith}
 use Rattle.std.proofs.lemmas.Bool.{lt-ltb}
-use Rattle.cc_runs.specs.declared.place.Event.{Event}
-use Rattle.cc_runs.specs.declared.place.Event.TheVariants.{Did}
-use Rattle.cc_runs.specs.declared.place.Kind.{Kind}
-use Rattle.cc_runs.specs.declared.place.Place.{Place}
-use Rattle.cc_runs.specs.declared.place.Stand.{Stand}
+use Rattle.cc_queue.specs.Names.{Event, Kind, Place, Stand}
 use Rattle.cc_runs.specs.Codes.{behind}
 use Rattle.cc_runs.specs.Lines.{event_at}
 use Rattle.cc_runs.specs.Passes.{then_did}
@@ -29,7 +25,7 @@ IsUncounted k = (reads k ≡ 0) × (marks k ≡ 0) × (hands k ≡ 0) × (scans 
 
 -- one step, which isn't counted
 module _ (v s r : Walk) (k : Kind) (here to on : Place) (found : ℕ) (at : Serves v here 0 s) (step : r ≡ walked_to s None found r.seen) (later : Onward s.seen r.seen)
-    (event : event_at here ≡ Did k) (uncounted : IsUncounted k) (goes : (z : Stand) → advanced v.setting (chain_of v.setting.config v.number) (record z { place = here }) found ≡ record z { place = to }) (settles : Settles to on) where
+    (event : event_at here ≡ Event.Did k) (uncounted : IsUncounted k) (goes : (z : Stand) → advanced v.setting (chain_of v.setting.config v.number) (record z { place = here }) found ≡ record z { place = to }) (settles : Settles to on) where
   went : r ≡ walked_to (worked_to v here s) None found r.seen
   went = subst (λ (z : Walk). r ≡ walked_to z None found r.seen) at.worked step
 
@@ -59,7 +55,7 @@ module _ (v s r : Walk) (k : Kind) (here to on : Place) (found : ℕ) (at : Serv
 pub at_word : (v s : Walk) (here on : Place) (further i : ℕ) → Serves v (behind further i here on) 0 s → i < further → Serves v here 0 s
 at_word v s here on further i at less = subst (λ (b : Bool). Serves v (cond b here on) 0 s) (lt-ltb i further less) at
 
-pub next_word : (v s r : Walk) (k : Kind) (here before next last on : Place) (further i found : ℕ) → Serves v (behind further i here before) 0 s → i < further → r ≡ walked_to s None found r.seen → Onward s.seen r.seen → event_at here ≡ Did k → IsUncounted k
+pub next_word : (v s r : Walk) (k : Kind) (here before next last on : Place) (further i found : ℕ) → Serves v (behind further i here before) 0 s → i < further → r ≡ walked_to s None found r.seen → Onward s.seen r.seen → event_at here ≡ Event.Did k → IsUncounted k
     → ((z : Stand) → advanced v.setting (chain_of v.setting.config v.number) (record z { place = here }) found ≡ record z { place = behind further (i + 1) next last }) → Settles next next → Settles last on → Serves v (behind further (i + 1) next on) 0 r
 next_word v s r k here before next last on further i found at less step later event uncounted goes stays ends =
     stepped v s r k here (behind further (i + 1) next last) (behind further (i + 1) next on) found (at_word v s here before further i at less) step later event uncounted goes (settles_either (nat_lt (i + 1) further) next next last on stays ends)

@@ -1,25 +1,13 @@
 -- What the begin of a call and each of its turns tell.
 use Rattle.std.specs.Prelude.{◌≡◌, ℕ, ◌+◌, ◌*◌, ◌≤◌, ◌==◌, if◌then◌else◌, List, [], ◌∷◌, ◌++◌}
-use Rattle.cc_model.specs.declared.call.Call.{Call}
-use Rattle.cc_model.specs.declared.call.Call.TheVariants as call
-use Rattle.cc_model.specs.declared.call.Entry.{Entry}
-use Rattle.cc_model.specs.declared.call.SendAnswer.{SendAnswer}
-use Rattle.cc_model.specs.declared.call.SendAnswer.TheVariants as send
-use Rattle.cc_model.specs.declared.call.TakeAnswer.{TakeAnswer}
-use Rattle.cc_model.specs.declared.call.TakeAnswer.TheVariants as take
-use Rattle.cc_model.specs.declared.call.Answer.{Answer}
-use Rattle.cc_model.specs.declared.call.Answer.TheVariants as answer
-use Rattle.cc_runs.specs.declared.place.Kind.TheVariants as kind
+use Rattle.cc_queue.specs.Names.{Call, Entry, SendAnswer, TakeAnswer, Answer, Kind}
 use Rattle.cc_runs.specs.ChainLaws.{IsLastAnswer}
 use Rattle.cc_runs.specs.ChainLaws.{IsLastPending}
 use Rattle.cc_runs.specs.Run.{begun_after}
 use Rattle.cc_steps.specs.Walk.{Walk}
 use Rattle.cc_queue.specs.declared.passes.SendTurn.{SendTurn}
-use Rattle.cc_queue.specs.declared.passes.SendTurn.TheVariants as send_turn
 use Rattle.cc_queue.specs.declared.passes.CloseTurn.{CloseTurn}
-use Rattle.cc_queue.specs.declared.passes.CloseTurn.TheVariants as close_turn
 use Rattle.cc_queue.specs.declared.passes.TakeTurn.{TakeTurn}
-use Rattle.cc_queue.specs.declared.passes.TakeTurn.TheVariants as take_turn
 use Rattle.cc_queue.specs.Work.{tally, reads, marks, hands, scans}
 use Rattle.cc_queue.specs.Headline.{StandsInOne, entry_of, name, history}
 
@@ -35,7 +23,7 @@ pub record Begun (v : Walk) (call : Call) (w : Walk) : Type 0 where
 pub record Waited (v w : Walk) : Type 0 where
   pub stands : StandsInOne v [] w
   pub still : w.stand ≡ v.stand
-  pub did : w.did ≡ kind.ReadState ∷ v.did
+  pub did : w.did ≡ Kind.ReadState ∷ v.did
 
 -- A turn that is done read the state once. The answer is that of its pass's last call in one history. Where the state
 -- was 2 it served nobody; where it was 0 it served at least its own call and at most `bound` calls, reading at most
@@ -52,18 +40,18 @@ pub record Answered (v : Walk) (told : Answer) (served : ℕ) (w : Walk) : Type 
 
 -- a turn of a send waits, or is done with an answer of a send
 abbrev pub TurnedSend : Walk → SendTurn → Type 0
-TurnedSend v (send_turn.Waiting w) = Waited v w
-TurnedSend v (send_turn.Done w told served) = Answered v (answer.Send told) served w
+TurnedSend v (SendTurn.Waiting w) = Waited v w
+TurnedSend v (SendTurn.Done w told served) = Answered v (Answer.Send told) served w
 
 -- the same of a close
 abbrev pub TurnedClose : Walk → CloseTurn → Type 0
-TurnedClose v (close_turn.Waiting w) = Waited v w
-TurnedClose v (close_turn.Done w told served) = Answered v (answer.Close told) served w
+TurnedClose v (CloseTurn.Waiting w) = Waited v w
+TurnedClose v (CloseTurn.Done w told served) = Answered v (Answer.Close told) served w
 
 -- and of a take
 abbrev pub TurnedTake : Walk → TakeTurn → Type 0
-TurnedTake v (take_turn.Waiting w) = Waited v w
-TurnedTake v (take_turn.Done w told served) = Answered v (answer.Take told) served w
+TurnedTake v (TakeTurn.Waiting w) = Waited v w
+TurnedTake v (TakeTurn.Done w told served) = Answered v (Answer.Take told) served w
 
 -- A call that was waited for: the pass made it, and its answer is that of its pass's last call in one history.
 pub record Completed (v : Walk) (call : Call) (told : Answer) (w : Walk) : Type 0 where
@@ -77,12 +65,12 @@ pub record Ended (v : Walk) (told : Answer) (w : Walk) : Type 0 where
 
 -- a take gave an item, or the end
 abbrev pub IsSettled : TakeAnswer → Type 0
-IsSettled take.Empty = ⊥
+IsSettled TakeAnswer.Empty = ⊥
 IsSettled _ = Unit {0}
 
 -- a send was accepted, or never will be: the queue is closed, or has had all its items
 abbrev pub IsFinal : SendAnswer → Type 0
-IsFinal send.Full = ⊥
+IsFinal SendAnswer.Full = ⊥
 IsFinal _ = Unit {0}
 
 -- The same call, made again and again: the pass after each of them. Each was completed with this answer.
@@ -112,16 +100,16 @@ pub record Tried (call : Call) (told : Answer) (v w : Walk) : Type 0 where
 -- found nothing, and then the last one was completed so. All of them stand in one history.
 pub record TakenUntil (v : Walk) (told : TakeAnswer) (w : Walk) : Type 0 where
   pub tried : List Walk
-  pub none : Repeated call.Take (answer.Take take.Empty) v tried
-  pub taken : Completed (last_of v tried) call.Take (answer.Take told) w
-  pub stands : StandsInOne v (entries_of call.Take v tried ++ entry_of (last_of v tried) call.Take ∷ []) w
+  pub none : Repeated Call.Take (Answer.Take TakeAnswer.Empty) v tried
+  pub taken : Completed (last_of v tried) Call.Take (Answer.Take told) w
+  pub stands : StandsInOne v (entries_of Call.Take v tried ++ entry_of (last_of v tried) Call.Take ∷ []) w
   pub settled : IsSettled told
 
 -- Sends of this body that were made until one of them was accepted, or told that none will be: each of the earlier ones was
 -- completed as a send that found the queue full, and then the last one was completed so. All of them stand in one history.
 pub record SentUntil (v : Walk) (body : ℕ) (told : SendAnswer) (w : Walk) : Type 0 where
   pub tried : List Walk
-  pub full : Repeated (call.Send body) (answer.Send send.Full) v tried
-  pub sent : Completed (last_of v tried) (call.Send body) (answer.Send told) w
-  pub stands : StandsInOne v (entries_of (call.Send body) v tried ++ entry_of (last_of v tried) (call.Send body) ∷ []) w
+  pub full : Repeated (Call.Send body) (Answer.Send SendAnswer.Full) v tried
+  pub sent : Completed (last_of v tried) (Call.Send body) (Answer.Send told) w
+  pub stands : StandsInOne v (entries_of (Call.Send body) v tried ++ entry_of (last_of v tried) (Call.Send body) ∷ []) w
   pub final : IsFinal told

@@ -5,9 +5,7 @@ use Rattle.cc_model.specs.Record.{Record}
 use Rattle.cc_model.specs.Items.{HasAnswer, Begins, calls_of}
 use Rattle.cc_model.specs.Legal.{Legal}
 use Rattle.cc_model.specs.Fifo.{Fifo}
-use Rattle.cc_model.specs.declared.call.Call.{Call}
-use Rattle.cc_model.specs.declared.call.Entry.{Entry}
-use Rattle.cc_model.specs.declared.call.Pass.{Pass}
+use Rattle.cc_queue.specs.Names.{Call, Entry, Pass}
 use Rattle.cc_runs.specs.State.{pass_at}
 use Rattle.cc_runs.specs.Run.{IsRun, history_of, number_of}
 use Rattle.cc_steps.specs.Seen.{Onward, known_in}

@@ -2,55 +2,46 @@
 use Rattle.std.specs.Arc.{arc_value}
 use Rattle.std.specs.Prelude.{◌≡◌, ◌<◌, ◌≤◌, List, [], ◌∷◌, ◌++◌, Ok}
 use Rattle.cc_model.specs.Config.{config_fault}
-use Rattle.cc_model.specs.declared.config.Config.{Config}
-use Rattle.cc_model.specs.declared.call.Call.{Call}
-use Rattle.cc_model.specs.declared.call.Call.TheVariants as call
-use Rattle.cc_model.specs.declared.call.Entry.{Entry}
-use Rattle.cc_model.specs.declared.call.Pass.TheVariants as pass
-use Rattle.cc_runs.specs.declared.setting.Served.TheVariants as served
-use Rattle.cc_runs.specs.declared.word.Chain.TheVariants.{Send, Take}
-use Rattle.cc_runs.specs.declared.place.Place.{Place}
+use Rattle.cc_queue.specs.Names.{Config, Call, Entry, Pass, Served, Chain, Place, SenderSeat, ReceiverSeat}
 use Rattle.cc_steps.specs.Topic.{Topic}
 use Rattle.cc_steps.specs.Walk.{IsOf}
-use Rattle.cc_queue.specs.declared.passes.SenderSeat.{SenderSeat}
-use Rattle.cc_queue.specs.declared.passes.ReceiverSeat.{ReceiverSeat}
 use Rattle.cc_queue.specs.Work.{IsOn}
 use Rattle.cc_queue.specs.Headline.{name}
 
 -- the words of a queue are those of a list with this configuration, which was checked
 pub record KeepsQueue (z : Topic) (c : Config) : Type 0 where
-  pub list : z.setting ≡ record { served = served.List; config = c }
+  pub list : z.setting ≡ record { served = Served.List; config = c }
   pub checked : config_fault c ≡ Ok tt
   pub bound : 0 < c.bound
 
 -- The sender of this seat stands here. The seat is one of its queue's words.
 pub record KeepsSender (s : SenderSeat) (at : Place) : Type 0 where
   pub here : IsOf (arc_value s.words) s.seat
-  pub list : s.seat.setting.served ≡ served.List
-  pub chain : IsOn s.seat Send
+  pub list : s.seat.setting.served ≡ Served.List
+  pub chain : IsOn s.seat Chain.Send
   pub stand : s.seat.stand ≡ record { begun = s.begun; node = s.node; place = at }
   pub limit_is : s.limit ≡ s.seat.setting.config.per_sender
   pub few : s.begun ≤ s.limit
-  pub named : name s.seat ≡ pass.Sender s.number
+  pub named : name s.seat ≡ Pass.Sender s.number
   pub low : 1 ≤ s.number
   pub high : s.number ≤ 64
 
 -- The receiver of this seat stands here.
 pub record KeepsReceiver (r : ReceiverSeat) (at : Place) : Type 0 where
   pub here : IsOf (arc_value r.words) r.seat
-  pub list : r.seat.setting.served ≡ served.List
-  pub chain : IsOn r.seat (Take r.group)
+  pub list : r.seat.setting.served ≡ Served.List
+  pub chain : IsOn r.seat (Chain.Take r.group)
   pub few : r.group < 8
   pub stand : r.seat.stand ≡ record { begun = 0; node = r.node; place = at }
-  pub named : name r.seat ≡ pass.Receiver r.number
+  pub named : name r.seat ≡ Pass.Receiver r.number
 
 -- which calls are sends, and which are closes
 abbrev pub IsSend : Call → Type 0
-IsSend (call.Send body) = Unit {0}
+IsSend (Call.Send body) = Unit {0}
 IsSend _ = ⊥
 
 abbrev pub IsClose : Call → Type 0
-IsClose call.Close = Unit {0}
+IsClose Call.Close = Unit {0}
 IsClose _ = ⊥
 
 -- the last call that a pass made is such a one

@@ -1,3 +1,4 @@
+pub mod Names
 pub mod Headline
 pub mod Work
 pub mod Codes

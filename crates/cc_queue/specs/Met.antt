@@ -1,9 +1,7 @@
 -- What passes know that have met.
 use Rattle.std.specs.Prelude.{◌≡◌, ℕ, ◌<◌, List, [], length, slice_index_or}
 use Rattle.std.specs.List.{All}
-use Rattle.cc_runs.specs.declared.run.Move.{Move}
-use Rattle.cc_runs.specs.declared.setting.Served.TheVariants as served
-use Rattle.cc_runs.specs.declared.place.Place.TheVariants as place
+use Rattle.cc_queue.specs.Names.{Move, Served, Place}
 use Rattle.cc_steps.specs.Topic.{Topic}
 use Rattle.cc_steps.specs.Seen.{Onward, Later}
 use Rattle.cc_steps.specs.Walk.{Walk, IsOf, IsSound}
@@ -21,8 +19,8 @@ pub record AreOfOne (senders receivers : List Walk) : Type 0 where
 
 -- a pass that has no call, of a topic that is a list
 pub record IsIdle (w : Walk) : Type 0 where
-  pub list : w.setting.served ≡ served.List
-  pub stand : w.stand ≡ record { begun = w.stand.begun; node = w.stand.node; place = place.Idle }
+  pub list : w.setting.served ≡ Served.List
+  pub stand : w.stand ≡ record { begun = w.stand.begun; node = w.stand.node; place = Place.Idle }
 
 -- a seat has seen more, and its pass did nothing
 pub record Sees (v w : Walk) : Type 0 where

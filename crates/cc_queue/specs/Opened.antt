@@ -1,8 +1,7 @@
 -- A queue at its opening.
 use Rattle.std.specs.Prelude.{◌≡◌, ◌*◌, length, Ok}
 use Rattle.cc_model.specs.Config.{config_fault}
-use Rattle.cc_model.specs.declared.config.Config.{Config}
-use Rattle.cc_runs.specs.declared.setting.Served.TheVariants as served
+use Rattle.cc_queue.specs.Names.{Config, Served}
 use Rattle.cc_runs.specs.Words.{groups}
 use Rattle.cc_steps.specs.Walk.{fresh_from}
 use Rattle.cc_queue.specs.declared.queue.Opened.{Opened}
@@ -11,7 +10,7 @@ use Rattle.cc_queue.specs.declared.queue.Opened.{Opened}
 -- each numbered from 1, and none has begun a call or seen anything.
 pub record HasOpened (c : Config) (o : Opened) : Type 0 where
   pub lawful : config_fault c ≡ Ok tt
-  pub setting : o.queue.setting ≡ record { served = served.List; config = c }
+  pub setting : o.queue.setting ≡ record { served = Served.List; config = c }
   pub count_senders : length o.senders.items ≡ c.senders
   pub count_receivers : length o.receivers.items ≡ groups c * c.receivers
   pub senders : fresh_from o.queue 0 o.senders.items

@@ -3,12 +3,8 @@ use Rattle.std.specs.Prelude.{◌≡◌, ℕ, ◌+◌, ◌*◌, ◌-◌, ◌<◌
 use Rattle.std.specs.List.{All, AllByRecursion, Any}
 use Rattle.cc_model.specs.Record.{Record, empty, of_group}
 use Rattle.cc_model.specs.Items.{HasAnswer, accepted_item, calls_of}
-use Rattle.cc_model.specs.declared.call.Entry.{Entry}
-use Rattle.cc_model.specs.declared.call.Answer.{Answer}
+use Rattle.cc_queue.specs.Names.{Entry, Answer, SendReceipt, TakeReceipt, Config}
 use Rattle.cc_audit.specs.Receipts.{send_receipt, take_receipt}
-use Rattle.cc_audit.specs.declared.receipt.SendReceipt.{SendReceipt}
-use Rattle.cc_audit.specs.declared.receipt.TakeReceipt.{TakeReceipt}
-use Rattle.cc_model.specs.declared.config.Config.{Config}
 use Rattle.cc_runs.specs.Words.{groups}
 use Rattle.cc_steps.specs.Topic.{Topic}
 use Rattle.cc_steps.specs.Walk.{Walk, IsOf}

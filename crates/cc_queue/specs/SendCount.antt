@@ -1,13 +1,11 @@
 -- How many sends a pass has begun.
 use Rattle.std.specs.Prelude.{◌≡◌, ℕ, ◌+◌, List, [], ◌∷◌}
-use Rattle.cc_model.specs.declared.call.Call.{Call}
-use Rattle.cc_model.specs.declared.call.Call.TheVariants as call
-use Rattle.cc_model.specs.declared.call.Entry.{Entry}
+use Rattle.cc_queue.specs.Names.{Call, Entry}
 use Rattle.cc_steps.specs.Walk.{Walk}
 
 -- one for a send
 abbrev pub is_send : Call → ℕ
-is_send (call.Send body) = 1
+is_send (Call.Send body) = 1
 is_send _ = 0
 
 -- how many of these calls are sends

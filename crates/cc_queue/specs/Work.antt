@@ -1,14 +1,6 @@
 -- A part of a call, as its seat sees it: where its pass has come, and which steps it did.
 use Rattle.std.specs.Prelude.{◌≡◌, ℕ, ◌≤◌, ◌+◌, ◌==◌, if◌then◌else◌, ◌*◌, List, [], ◌∷◌, ◌++◌}
-use Rattle.cc_model.specs.declared.call.Call.{Call}
-use Rattle.cc_model.specs.declared.config.Config.{Config}
-use Rattle.cc_runs.specs.declared.setting.Served.TheVariants as served
-use Rattle.cc_runs.specs.declared.word.Chain.{Chain}
-use Rattle.cc_runs.specs.declared.place.Place.{Place}
-use Rattle.cc_runs.specs.declared.place.Place.TheVariants as place
-use Rattle.cc_runs.specs.declared.place.Stand.{Stand}
-use Rattle.cc_runs.specs.declared.place.Kind.{Kind}
-use Rattle.cc_runs.specs.declared.place.Kind.TheVariants as kind
+use Rattle.cc_queue.specs.Names.{Call, Config, Served, Chain, Place, Stand, Kind}
 use Rattle.cc_runs.specs.State.{chain_of}
 use Rattle.cc_steps.specs.Seen.{Onward}
 use Rattle.cc_steps.specs.Topic.{Topic}
@@ -21,12 +13,12 @@ IsOn w x = chain_of w.setting.config w.number ≡ x
 
 -- its topic is a list with this configuration
 abbrev pub IsListWith : Walk → Config → Type 0
-IsListWith w c = w.setting ≡ record { served = served.List; config = c }
+IsListWith w c = w.setting ≡ record { served = Served.List; config = c }
 
 -- the pass of this seat is on this chain of a list, whose words these are
 pub record IsOnList (z : Topic) (x : Chain) (w : Walk) : Type 0 where
   pub here : IsOf z w
-  pub list : w.setting.served ≡ served.List
+  pub list : w.setting.served ≡ Served.List
   pub chain : IsOn w x
 
 -- the same of a list with this configuration
@@ -42,22 +34,22 @@ tally f (k ∷ ks) = f k + tally f ks
 
 -- it read a state
 abbrev pub reads : Kind → ℕ
-reads kind.ReadState = 1
+reads Kind.ReadState = 1
 reads _ = 0
 
 -- it marked a request as done
 abbrev pub marks : Kind → ℕ
-marks kind.MarkDone = 1
+marks Kind.MarkDone = 1
 marks _ = 0
 
 -- it handed over
 abbrev pub hands : Kind → ℕ
-hands kind.HandOver = 1
+hands Kind.HandOver = 1
 hands _ = 0
 
 -- it read whether a list node is free
 abbrev pub scans : Kind → ℕ
-scans kind.ReadPassed = 1
+scans Kind.ReadPassed = 1
 scans _ = 0
 
 -- the pass has gone on in its call to this place, and has seen and done more
@@ -66,7 +58,7 @@ worked_to v at w = record v { seen = w.seen; did = w.did; stand = record v.stand
 
 -- where a combiner stands at the end of a round
 abbrev pub round_place : ℕ → ℕ → ℕ → Place
-round_place bound at served = if served == bound then place.HandOver at else place.ReadNext record { at = at; served = served }
+round_place bound at served = if served == bound then Place.HandOver at else Place.ReadNext record { at = at; served = served }
 
 -- Of the steps that are counted: how many states a pass read, requests it marked, hand-overs it made, and at most how often it
 -- looked whether a list node is free.
@@ -103,8 +95,8 @@ Serves v at most w = Works v at (looked most) w
 
 -- the pass read its state once, which says that its call waits
 pub record Waits (v w : Walk) : Type 0 where
-  pub worked : w ≡ worked_to v place.ReadState w
-  pub did : w.did ≡ kind.ReadState ∷ v.did
+  pub worked : w ≡ worked_to v Place.ReadState w
+  pub did : w.did ≡ Kind.ReadState ∷ v.did
   pub later : Onward v.seen w.seen
 
 -- the pass began this call, by which it came to stand here, and neither read a state nor marked a request

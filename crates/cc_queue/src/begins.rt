@@ -1,8 +1,6 @@
 //! The begin of a call, over its seat: from the reset of the own node to its link.
 ghost use Rattle.std.specs.Prelude.{◌≡◌, ◌+◌, ◌<◌, ◌≤◌, ◌^◌, ◌∷◌, ◌++◌, [], Some, None};
-ghost use Rattle.cc_model.specs.declared.call.Call.TheVariants as call;
-ghost use Rattle.cc_runs.specs.declared.word.Chain.TheVariants.{Send, Take};
-ghost use Rattle.cc_runs.specs.declared.place.Place.TheVariants as place;
+ghost use Rattle.cc_queue.specs.Names.{Call, Chain, Place};
 ghost use Rattle.cc_runs.specs.Codes.{request_in};
 ghost use Rattle.cc_runs.specs.Lines.{after_exchange};
 ghost use Rattle.cc_runs.specs.Run.{begun_after};
@@ -23,7 +21,7 @@ use cc_steps::words::Words;
 fn exchange(words: &Words, seat: &mut PassSeat, chain: Chain, node: u64, call: Call) -> u64
     requires here { IsOf words.now seat.old }
     requires chain { IsOn seat.old chain }
-    requires idle { seat.old.stand ≡ record { begun = seat.old.stand.begun; node = node; place = place.Idle } }
+    requires idle { seat.old.stand ≡ record { begun = seat.old.stand.begun; node = node; place = Place.Idle } }
     requires may { CanStart seat.old.setting seat.old.number (Some call) seat.old.stand }
     ensures entered { Enters seat.old call record { begun = begun_after call seat.old.stand.begun; node = result; place = after_exchange chain node (entry_of seat.old call) } seat.new }
     ensures ready { IsReadyToStep seat.new }
@@ -43,11 +41,11 @@ pub fn begin_request(
     request: Request,
 ) -> u64
     requires here { IsOf words.now seat.old }
-    requires chain { IsOn seat.old Send }
-    requires idle { seat.old.stand ≡ record { begun = seat.old.stand.begun; node = node; place = place.Idle } }
+    requires chain { IsOn seat.old Chain.Send }
+    requires idle { seat.old.stand ≡ record { begun = seat.old.stand.begun; node = node; place = Place.Idle } }
     requires may { CanStart seat.old.setting seat.old.number (Some call) seat.old.stand }
     requires request { request ≡ request_in (entry_of seat.old call) }
-    ensures entered { Enters seat.old call record { begun = begun_after call seat.old.stand.begun; node = result; place = place.ReadState } seat.new }
+    ensures entered { Enters seat.old call record { begun = begun_after call seat.old.stand.begun; node = result; place = Place.ReadState } seat.new }
     ensures pending { IsPendingIn seat.new }
 {
     let got = exchange(words, seat, Chain::Send, node, call);
@@ -59,10 +57,10 @@ pub fn begin_request(
 
 /// Begins a take: links the node that the exchange left, which is given, to the own one.
 pub fn begin_take(words: &Words, seat: &mut PassSeat, group: u32, node: u64) -> u64
-    requires here { IsOnList words.now (Take group) seat.old }
-    requires idle { seat.old.stand ≡ record { begun = seat.old.stand.begun; node = node; place = place.Idle } }
+    requires here { IsOnList words.now (Chain.Take group) seat.old }
+    requires idle { seat.old.stand ≡ record { begun = seat.old.stand.begun; node = node; place = Place.Idle } }
     requires few { seat.old.stand.begun ≤ seat.old.setting.config.per_sender }
-    ensures entered { Enters seat.old call.Take record { begun = seat.old.stand.begun; node = result; place = place.ReadState } seat.new }
+    ensures entered { Enters seat.old Call.Take record { begun = seat.old.stand.begun; node = result; place = Place.ReadState } seat.new }
     ensures pending { IsPendingIn seat.new }
 {
     let chain = Chain::Take(group);

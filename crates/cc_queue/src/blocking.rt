@@ -1,10 +1,8 @@
 //! Calls that wait for their answer: turns, with a back-off between them.
 ghost use Rattle.std.specs.Prelude.{◌≡◌, ◌<◌, ◌≤◌, [], IfOk, OnOk, IfErr, OnErr};
-ghost use Rattle.cc_model.specs.declared.call.Answer.TheVariants as answer;
-ghost use Rattle.cc_model.specs.declared.call.Call.TheVariants as call;
+ghost use Rattle.cc_queue.specs.Names.{Answer, Call, SendAnswer};
 ghost use Rattle.cc_steps.specs.Walk.{IsOf};
 ghost use Rattle.cc_queue.specs.Headline.{StandsInOne};
-ghost use Rattle.cc_model.specs.declared.call.SendAnswer.TheVariants as send_answer;
 ghost use Rattle.cc_queue.specs.Calls.{Completed, Ended, SentUntil, TakenUntil, Tried};
 
 use crate::passes::{
@@ -20,7 +18,7 @@ use std::sync::Wait;
 /// Waits for the answer of a send.
 fn await_send<R: Wait>(queue: &Queue, rt: &R, pending: PendingSend) -> (Sender, SendAnswer)
     requires { IsOf queue.now pending }
-    ensures { Ended pending (answer.Send result.1) result.0 }
+    ensures { Ended pending (Answer.Send result.1) result.0 }
 {
     let backoff = Backoff::new();
     let mut pending = pending;
@@ -42,7 +40,7 @@ fn await_send<R: Wait>(queue: &Queue, rt: &R, pending: PendingSend) -> (Sender, 
 /// Waits for the answer of a close.
 fn await_close<R: Wait>(queue: &Queue, rt: &R, pending: PendingClose) -> (Sender, CloseAnswer)
     requires { IsOf queue.now pending }
-    ensures { Ended pending (answer.Close result.1) result.0 }
+    ensures { Ended pending (Answer.Close result.1) result.0 }
 {
     let backoff = Backoff::new();
     let mut pending = pending;
@@ -64,7 +62,7 @@ fn await_close<R: Wait>(queue: &Queue, rt: &R, pending: PendingClose) -> (Sender
 /// Waits for the answer of a take.
 fn await_take<R: Wait>(queue: &Queue, rt: &R, pending: PendingTake) -> (Receiver, TakeAnswer)
     requires { IsOf queue.now pending }
-    ensures { Ended pending (answer.Take result.1) result.0 }
+    ensures { Ended pending (Answer.Take result.1) result.0 }
 {
     let backoff = Backoff::new();
     let mut pending = pending;
@@ -92,7 +90,7 @@ pub fn send<R: Wait>(
     body: u64,
 ) -> Result<(Sender, SendAnswer), Sender>
     requires { IsOf queue.now sender }
-    ensures completed { IfOk result (λ r. Completed sender (call.Send body) (answer.Send r.1) r.0) }
+    ensures completed { IfOk result (λ r. Completed sender (Call.Send body) (Answer.Send r.1) r.0) }
     ensures may { OnOk result (sender.stand.begun < sender.setting.config.per_sender) }
     ensures same { IfErr result (λ s. s ≡ sender) }
     ensures worn { OnErr result (sender.setting.config.per_sender ≤ sender.stand.begun) }
@@ -104,7 +102,7 @@ pub fn send<R: Wait>(
 /// Closes the queue, and waits for the answer.
 pub fn close<R: Wait>(queue: &Queue, rt: &R, sender: Sender) -> (Sender, CloseAnswer)
     requires { IsOf queue.now sender }
-    ensures { Completed sender call.Close (answer.Close result.1) result.0 }
+    ensures { Completed sender Call.Close (Answer.Close result.1) result.0 }
 {
     let pending = begin_close(queue, sender);
     await_close(queue, rt, pending)
@@ -113,7 +111,7 @@ pub fn close<R: Wait>(queue: &Queue, rt: &R, sender: Sender) -> (Sender, CloseAn
 /// Takes, and waits for the answer.
 pub fn take<R: Wait>(queue: &Queue, rt: &R, receiver: Receiver) -> (Receiver, TakeAnswer)
     requires { IsOf queue.now receiver }
-    ensures { Completed receiver call.Take (answer.Take result.1) result.0 }
+    ensures { Completed receiver Call.Take (Answer.Take result.1) result.0 }
 {
     let pending = begin_take(queue, receiver);
     await_take(queue, rt, pending)
@@ -157,7 +155,7 @@ pub fn send_until<R: Wait>(
     requires { IsOf queue.now sender }
     ensures sent { IfOk result (λ r. SentUntil sender body r.1 r.0) }
     ensures may { OnOk result (sender.stand.begun < sender.setting.config.per_sender) }
-    ensures full { IfErr result (λ s. Tried (call.Send body) (answer.Send send_answer.Full) sender s) }
+    ensures full { IfErr result (λ s. Tried (Call.Send body) (Answer.Send SendAnswer.Full) sender s) }
     ensures worn { IfErr result (λ s. s.setting.config.per_sender ≤ s.stand.begun) }
     ensures same { IfErr result (λ s. sender.setting.config.per_sender ≤ sender.stand.begun → s ≡ sender) }
 {

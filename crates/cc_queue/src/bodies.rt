@@ -1,11 +1,6 @@
 //! The words of a body, one after another: the first one, and those behind it that the tag tells of.
 ghost use Rattle.std.specs.Prelude.{◌≡◌};
-ghost use Rattle.cc_model.specs.declared.call.Answer.TheVariants as answer;
-ghost use Rattle.cc_model.specs.declared.call.TakeAnswer.TheVariants as take;
-ghost use Rattle.cc_runs.specs.declared.word.Chain.TheVariants.{Send, Take};
-ghost use Rattle.cc_runs.specs.declared.place.Place.TheVariants as place;
-ghost use Rattle.cc_runs.specs.declared.place.Sending.TheVariants as sending;
-ghost use Rattle.cc_runs.specs.declared.place.Taking.TheVariants as taking;
+ghost use Rattle.cc_queue.specs.Names.{Answer, TakeAnswer, Chain, Place, Sending, Taking};
 ghost use Rattle.cc_runs.specs.Codes as codes;
 ghost use Rattle.cc_steps.specs.Walk.{IsOf, IsReadyToStep, IsToldAt};
 ghost use Rattle.cc_queue.specs.Work.{IsOn, IsOnList, Serves};
@@ -22,9 +17,9 @@ use cc_steps::words::Words;
 #[inline(always)]
 pub fn write_request(words: &Words, seat: &mut PassSeat, node: u64, put: u64, request: Request)
     requires here { IsOf words.now seat.old }
-    requires chain { IsOn seat.old Send }
-    requires at { seat.old.stand ≡ record { begun = seat.old.stand.begun; node = node; place = place.WriteBody put request 0 } }
-    ensures written { Serves seat.old (place.Link put) 0 seat.new }
+    requires chain { IsOn seat.old Chain.Send }
+    requires at { seat.old.stand ≡ record { begun = seat.old.stand.begun; node = node; place = Place.WriteBody put request 0 } }
+    ensures written { Serves seat.old (Place.Link put) 0 seat.new }
     ensures ready { IsReadyToStep seat.new }
 {
     let _ = put;
@@ -44,9 +39,9 @@ pub fn write_request(words: &Words, seat: &mut PassSeat, node: u64, put: u64, re
 /// The senders' combiner reads the body of the request that it serves.
 #[inline(always)]
 pub fn read_request(words: &Words, seat: &mut PassSeat, job: Job, tag: u64) -> BodyWords
-    requires here { IsOnList words.now Send seat.old }
-    requires at { seat.old.stand.place ≡ place.Sending job (sending.ReadBody record { tag = tag; body = codes.no_words } 0) }
-    ensures read { Serves seat.old (place.Sending job (sending.ReadShut record { tag = tag; body = result })) 0 seat.new }
+    requires here { IsOnList words.now Chain.Send seat.old }
+    requires at { seat.old.stand.place ≡ Place.Sending job (Sending.ReadBody record { tag = tag; body = codes.no_words } 0) }
+    ensures read { Serves seat.old (Place.Sending job (Sending.ReadShut record { tag = tag; body = result })) 0 seat.new }
     ensures ready { IsReadyToStep seat.new }
 {
     let at = job.round.at;
@@ -62,9 +57,9 @@ pub fn read_request(words: &Words, seat: &mut PassSeat, job: Job, tag: u64) -> B
 /// The senders' combiner writes the body of an item into the node that it prepares. `job` is here for the clauses alone.
 #[inline(always)]
 pub fn write_item(words: &Words, seat: &mut PassSeat, job: Job, parcel: Parcel, node: u64)
-    requires here { IsOnList words.now Send seat.old }
-    requires at { seat.old.stand.place ≡ place.Sending job (sending.WriteItemBody parcel node 0) }
-    ensures written { Serves seat.old (place.Sending job (sending.ReadLast parcel.place node)) 0 seat.new }
+    requires here { IsOnList words.now Chain.Send seat.old }
+    requires at { seat.old.stand.place ≡ Place.Sending job (Sending.WriteItemBody parcel node 0) }
+    ensures written { Serves seat.old (Place.Sending job (Sending.ReadLast parcel.place node)) 0 seat.new }
     ensures ready { IsReadyToStep seat.new }
 {
     let _ = job;
@@ -93,9 +88,9 @@ pub fn read_item(
     at: u64,
     tag: u64,
 ) -> Parcel
-    requires here { IsOnList words.now (Take group) seat.old }
-    requires at { seat.old.stand.place ≡ place.Taking job (taking.ReadItemBody dummy node (codes.parcel at tag codes.no_words) 0) }
-    ensures read { Serves seat.old (place.Taking job (taking.WriteHead dummy node result)) 0 seat.new }
+    requires here { IsOnList words.now (Chain.Take group) seat.old }
+    requires at { seat.old.stand.place ≡ Place.Taking job (Taking.ReadItemBody dummy node (codes.parcel at tag codes.no_words) 0) }
+    ensures read { Serves seat.old (Place.Taking job (Taking.WriteHead dummy node result)) 0 seat.new }
     ensures ready { IsReadyToStep seat.new }
 {
     let _ = (group, job, dummy);
@@ -116,8 +111,8 @@ pub fn read_item(
 #[inline(always)]
 pub fn write_answer(words: &Words, seat: &mut PassSeat, chain: Chain, job: Job, item: Item)
     requires here { IsOnList words.now chain seat.old }
-    requires at { seat.old.stand.place ≡ place.WriteAnswerBody job item 0 }
-    ensures written { Serves seat.old (place.MarkDone job) 0 seat.new }
+    requires at { seat.old.stand.place ≡ Place.WriteAnswerBody job item 0 }
+    ensures written { Serves seat.old (Place.MarkDone job) 0 seat.new }
     ensures ready { IsReadyToStep seat.new }
 {
     let at = job.round.at;
@@ -146,10 +141,10 @@ pub fn read_answer(
     at: u64,
     tag: u64,
 ) -> BodyWords
-    requires here { IsOnList words.now (Take group) seat.old }
-    requires at { seat.old.stand ≡ record { begun = seat.old.stand.begun; node = node; place = place.ReadAnswerBody (codes.parcel at tag codes.no_words) 0 } }
-    ensures read { Serves seat.old place.Idle 0 seat.new }
-    ensures told { IsToldAt seat.new (place.Finished (answer.Take (take.Got (codes.item_of at tag result)))) }
+    requires here { IsOnList words.now (Chain.Take group) seat.old }
+    requires at { seat.old.stand ≡ record { begun = seat.old.stand.begun; node = node; place = Place.ReadAnswerBody (codes.parcel at tag codes.no_words) 0 } }
+    ensures read { Serves seat.old Place.Idle 0 seat.new }
+    ensures told { IsToldAt seat.new (Place.Finished (Answer.Take (TakeAnswer.Got (codes.item_of at tag result)))) }
 {
     let chain = Chain::Take(group);
     let found = steps::read_answer(words, seat, chain, node, NodeField::Body(0));

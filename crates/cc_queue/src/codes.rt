@@ -1,6 +1,6 @@
 //! What a turn reads of its answer word, narrowed to its side.
 ghost use Rattle.std.specs.Prelude.{◌≡◌};
-ghost use Rattle.cc_model.specs.declared.call.Answer.TheVariants as answer;
+ghost use Rattle.cc_queue.specs.Names.{Answer};
 ghost use Rattle.cc_runs.specs.Codes.{list_reads};
 ghost use Rattle.cc_queue.specs.Codes.{IsSendAnswer, IsCloseAnswer};
 
@@ -10,7 +10,7 @@ use cc_runs::list_reads;
 /// The answer of a send that an answer word is.
 pub fn send_answer(ret: u64) -> SendAnswer
     requires { IsSendAnswer (list_reads ret) }
-    ensures { list_reads ret ≡ answer.Send result }
+    ensures { list_reads ret ≡ Answer.Send result }
 {
     match list_reads(ret) {
         Answer::Send(answer) => answer,
@@ -21,7 +21,7 @@ pub fn send_answer(ret: u64) -> SendAnswer
 /// The answer of a close that an answer word is.
 pub fn close_answer(ret: u64) -> CloseAnswer
     requires { IsCloseAnswer (list_reads ret) }
-    ensures { list_reads ret ≡ answer.Close result }
+    ensures { list_reads ret ≡ Answer.Close result }
 {
     match list_reads(ret) {
         Answer::Close(answer) => answer,

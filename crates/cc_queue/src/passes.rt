@@ -1,6 +1,6 @@
 //! The passes of a queue: its senders and receivers, idle or with a pending call; and what a turn answers.
 ghost use Rattle.std.specs.Prelude.{◌≡◌, []};
-ghost use Rattle.cc_model.specs.declared.call.Pass.TheVariants as pass;
+ghost use Rattle.cc_queue.specs.Names.{Pass};
 ghost use Rattle.cc_queue.specs.SendCount.{HasBegunSends};
 ghost use Rattle.cc_queue.specs.Headline.{StandsInOne, IsAtRest, name};
 ghost use Rattle.cc_queue.specs.Met.{HasMet};
@@ -42,14 +42,14 @@ pub struct Sender {
 
 impl Model for Sender {
     ghost use Rattle.cc_steps.specs.Walk.{Walk};
-    ghost use Rattle.cc_runs.specs.declared.place.Place.TheVariants.{Idle};
+    ghost use Rattle.cc_queue.specs.Names.{Place};
     ghost use Rattle.cc_queue.specs.Kept.{KeepsSender};
 
     ghost Value = { Walk };
 
     ghost view = { λ s. s.at.seat };
 
-    ghost invariant = { λ s. KeepsSender s.at Idle };
+    ghost invariant = { λ s. KeepsSender s.at Place.Idle };
 }
 
 /// A sender whose send is pending. It must be spent, by a turn or by `abandon`.
@@ -59,14 +59,14 @@ pub struct PendingSend {
 
 impl Model for PendingSend {
     ghost use Rattle.cc_steps.specs.Walk.{Walk};
-    ghost use Rattle.cc_runs.specs.declared.place.Place.TheVariants.{ReadState};
+    ghost use Rattle.cc_queue.specs.Names.{Place};
     ghost use Rattle.cc_queue.specs.Kept.{KeepsSender, MadeLast, IsSend};
 
     ghost Value = { Walk };
 
     ghost view = { λ s. s.at.seat };
 
-    ghost invariant = { λ s. KeepsSender s.at ReadState × MadeLast IsSend s.at.seat.made };
+    ghost invariant = { λ s. KeepsSender s.at Place.ReadState × MadeLast IsSend s.at.seat.made };
 }
 
 /// A sender whose close is pending. It must be spent, by a turn or by `abandon`.
@@ -76,14 +76,14 @@ pub struct PendingClose {
 
 impl Model for PendingClose {
     ghost use Rattle.cc_steps.specs.Walk.{Walk};
-    ghost use Rattle.cc_runs.specs.declared.place.Place.TheVariants.{ReadState};
+    ghost use Rattle.cc_queue.specs.Names.{Place};
     ghost use Rattle.cc_queue.specs.Kept.{KeepsSender, MadeLast, IsClose};
 
     ghost Value = { Walk };
 
     ghost view = { λ s. s.at.seat };
 
-    ghost invariant = { λ s. KeepsSender s.at ReadState × MadeLast IsClose s.at.seat.made };
+    ghost invariant = { λ s. KeepsSender s.at Place.ReadState × MadeLast IsClose s.at.seat.made };
 }
 
 /// A receiver of a queue that has no call, numbered from 1.
@@ -94,14 +94,14 @@ pub struct Receiver {
 
 impl Model for Receiver {
     ghost use Rattle.cc_steps.specs.Walk.{Walk};
-    ghost use Rattle.cc_runs.specs.declared.place.Place.TheVariants.{Idle};
+    ghost use Rattle.cc_queue.specs.Names.{Place};
     ghost use Rattle.cc_queue.specs.Kept.{KeepsReceiver};
 
     ghost Value = { Walk };
 
     ghost view = { λ r. r.at.seat };
 
-    ghost invariant = { λ r. KeepsReceiver r.at Idle };
+    ghost invariant = { λ r. KeepsReceiver r.at Place.Idle };
 }
 
 /// A receiver whose take is pending. It must be spent, by a turn or by `abandon`.
@@ -111,14 +111,14 @@ pub struct PendingTake {
 
 impl Model for PendingTake {
     ghost use Rattle.cc_steps.specs.Walk.{Walk};
-    ghost use Rattle.cc_runs.specs.declared.place.Place.TheVariants.{ReadState};
+    ghost use Rattle.cc_queue.specs.Names.{Place};
     ghost use Rattle.cc_queue.specs.Kept.{KeepsReceiver};
 
     ghost Value = { Walk };
 
     ghost view = { λ r. r.at.seat };
 
-    ghost invariant = { λ r. KeepsReceiver r.at ReadState };
+    ghost invariant = { λ r. KeepsReceiver r.at Place.ReadState };
 }
 
 /// What a turn of a send answers. `served` is how many requests this turn served: 0 where another pass had served the
@@ -158,7 +158,7 @@ pub enum TakeTurn {
 impl Sender {
     /// The number by which the queue knows the sender, from 1.
     pub fn number(&self) -> u32
-        ensures { name self.now ≡ pass.Sender result }
+        ensures { name self.now ≡ Pass.Sender result }
     {
         self.at.number
     }

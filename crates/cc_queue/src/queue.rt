@@ -2,7 +2,7 @@
 ghost use Rattle.std.specs.Arc.{arc_value};
 ghost use Rattle.std.specs.Prelude.{◌≡◌, ◌+◌, ◌*◌, ◌-◌, ◌≤◌, ◌<◌, length, IfOk, MatchResult, Ok};
 ghost use Rattle.cc_model.specs.Config.{config_fault};
-ghost use Rattle.cc_runs.specs.declared.setting.Served.TheVariants as served;
+ghost use Rattle.cc_queue.specs.Names.{Served};
 ghost use Rattle.cc_runs.specs.Opening.{IsOpenFault};
 ghost use Rattle.cc_runs.specs.Words.{groups};
 ghost use Rattle.cc_steps.specs.Opened as opened_words;
@@ -48,7 +48,7 @@ pub struct Opened {
 
 /// A sender on the seat of its pass.
 fn sender_on(words: Arc<Words, Global>, seat: PassSeat, config: &Config, row: u32) -> Sender
-    requires setting { (arc_value words).setting ≡ record { served = served.List; config = config.now } }
+    requires setting { (arc_value words).setting ≡ record { served = Served.List; config = config.now } }
     requires checked { config_fault config.now ≡ Ok tt }
     requires row { row < config.now.senders }
     requires fresh { seat ≡ fresh (arc_value words) row }
@@ -68,7 +68,7 @@ fn sender_on(words: Arc<Words, Global>, seat: PassSeat, config: &Config, row: u3
 
 /// A receiver on the seat of its pass, which stands behind all senders in the row of passes.
 fn receiver_on(words: Arc<Words, Global>, seat: PassSeat, config: &Config, place: u32) -> Receiver
-    requires setting { (arc_value words).setting ≡ record { served = served.List; config = config.now } }
+    requires setting { (arc_value words).setting ≡ record { served = Served.List; config = config.now } }
     requires checked { config_fault config.now ≡ Ok tt }
     requires place { place < groups config.now * config.now.receivers }
     requires fresh { seat ≡ fresh (arc_value words) (config.now.senders + place) }
@@ -91,7 +91,7 @@ fn all_senders(
     mut seats: Vec<PassSeat>,
     config: &Config,
 ) -> Result<Vec<Sender>, AllocError>
-    requires setting { (arc_value words.now).setting ≡ record { served = served.List; config = config.now } }
+    requires setting { (arc_value words.now).setting ≡ record { served = Served.List; config = config.now } }
     requires checked { config_fault config.now ≡ Ok tt }
     requires count { length seats.items ≡ config.now.senders }
     requires fresh { fresh_from (arc_value words.now) 0 seats.items }
@@ -112,7 +112,7 @@ fn all_receivers(
     mut seats: Vec<PassSeat>,
     config: &Config,
 ) -> Result<Vec<Receiver>, AllocError>
-    requires setting { (arc_value words.now).setting ≡ record { served = served.List; config = config.now } }
+    requires setting { (arc_value words.now).setting ≡ record { served = Served.List; config = config.now } }
     requires checked { config_fault config.now ≡ Ok tt }
     requires count { length seats.items ≡ groups config.now * config.now.receivers }
     requires fresh { fresh_from (arc_value words.now) config.now.senders seats.items }

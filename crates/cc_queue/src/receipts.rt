@@ -3,7 +3,7 @@ ghost use Rattle.std.specs.Prelude.{◌≡◌, ◌≤◌, IfOk, IsPermutation};
 ghost use Rattle.std.specs.List.{All};
 ghost use Rattle.cc_audit.specs.Receipts.{total_of};
 ghost use Rattle.cc_audit.specs.Verdict.{IsVerdict};
-ghost use Rattle.cc_audit.specs.declared.receipt.Verdict.TheVariants.{Clean};
+ghost use Rattle.cc_queue.specs.Names.{Verdict};
 ghost use Rattle.cc_runs.specs.Words.{groups};
 ghost use Rattle.cc_queue.specs.Headline.{IsAtRest};
 ghost use Rattle.cc_queue.specs.Met.{HaveSeenOne};
@@ -54,8 +54,8 @@ pub fn audit_all(
     requires takes { IsPermutation (receipts_by got (in_group queue.now.setting.config group receivers.now)) takes.now }
     requires total { total ≡ total_of (seen_by senders.now) }
     ensures just { HasJustCallsOf senders.now receivers.now (seen_by senders.now) }
-    ensures clean { IsVerdict sends.now takes.now total Clean }
-    ensures told { IfOk result (λ v. v ≡ Clean) }
+    ensures clean { IsVerdict sends.now takes.now total Verdict.Clean }
+    ensures told { IfOk result (λ v. v ≡ Verdict.Clean) }
 {
     let _ = group;
     queue.stands();

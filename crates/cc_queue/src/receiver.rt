@@ -1,7 +1,6 @@
 //! The calls of a receiver.
 ghost use Rattle.std.specs.Prelude.{◌≡◌, ◌+◌, ◌<◌, ◌≤◌, ◌^◌, ◌∷◌, ◌++◌, []};
-ghost use Rattle.cc_model.specs.declared.call.Call.TheVariants as call;
-ghost use Rattle.cc_model.specs.declared.call.Pass.TheVariants as pass;
+ghost use Rattle.cc_queue.specs.Names.{Call, Pass};
 ghost use Rattle.cc_steps.specs.Walk.{IsOf};
 ghost use Rattle.cc_queue.specs.Calls.{Begun, TurnedTake};
 ghost use Rattle.cc_queue.specs.Group.{Ranked};
@@ -14,7 +13,7 @@ use crate::{begins, turns};
 /// Begins a take.
 pub fn begin_take(queue: &Queue, receiver: Receiver) -> PendingTake
     requires { IsOf queue.now receiver }
-    ensures { Begun receiver call.Take result }
+    ensures { Begun receiver Call.Take result }
 {
     let Receiver { mut at } = receiver;
     at.node = begins::begin_take(&queue.words, &mut at.seat, at.group, at.node);
@@ -44,7 +43,7 @@ pub fn turn_take(queue: &Queue, pending: PendingTake) -> TakeTurn
 impl Receiver {
     /// The number by which the queue knows the receiver, from 1, group by group.
     pub fn number(&self) -> u32
-        ensures { name self.now ≡ pass.Receiver result }
+        ensures { name self.now ≡ Pass.Receiver result }
     {
         self.at.number
     }

@@ -1,6 +1,6 @@
 //! The calls of a sender.
 ghost use Rattle.std.specs.Prelude.{◌≡◌, ◌+◌, ◌<◌, ◌≤◌, ◌^◌, ◌∷◌, ◌++◌, [], nat_le, IfOk, OnOk, IfErr, OnErr};
-ghost use Rattle.cc_model.specs.declared.call.Call.TheVariants as call;
+ghost use Rattle.cc_queue.specs.Names.{Call};
 ghost use Rattle.cc_steps.specs.Walk.{IsOf};
 ghost use Rattle.cc_queue.specs.Calls.{Begun, TurnedSend, TurnedClose};
 
@@ -15,7 +15,7 @@ use cc_runs::{BodyWords, Request};
 /// Begins a send of this body. Err hands the sender back unchanged, where it has begun as many sends as one sender may.
 pub fn begin_send(queue: &Queue, sender: Sender, body: u64) -> Result<PendingSend, Sender>
     requires { IsOf queue.now sender }
-    ensures begun { IfOk result (λ q. Begun sender (call.Send body) q) }
+    ensures begun { IfOk result (λ q. Begun sender (Call.Send body) q) }
     ensures may { OnOk result (sender.stand.begun < sender.setting.config.per_sender) }
     ensures same { IfErr result (λ s. s ≡ sender) }
     ensures worn { OnErr result (sender.setting.config.per_sender ≤ sender.stand.begun) }
@@ -43,7 +43,7 @@ pub fn begin_send(queue: &Queue, sender: Sender, body: u64) -> Result<PendingSen
 /// Begins a close.
 pub fn begin_close(queue: &Queue, sender: Sender) -> PendingClose
     requires { IsOf queue.now sender }
-    ensures { Begun sender call.Close result }
+    ensures { Begun sender Call.Close result }
 {
     let Sender { mut at } = sender;
     let request = Request {

@@ -1,10 +1,6 @@
 //! The service of a sender's request: CC-Queue's enqueue, by the combiner of the senders' chain.
 ghost use Rattle.std.specs.Prelude.{◌≡◌, ◌+◌, ◌<◌, ◌≤◌, ◌^◌, ◌==◌, if◌then◌else◌, Some, None};
-ghost use Rattle.cc_model.specs.declared.call.Answer.TheVariants as answer;
-ghost use Rattle.cc_model.specs.declared.call.SendAnswer.TheVariants as send;
-ghost use Rattle.cc_runs.specs.declared.word.Chain.TheVariants.{Send};
-ghost use Rattle.cc_runs.specs.declared.place.Place.TheVariants as place;
-ghost use Rattle.cc_runs.specs.declared.place.Sending.TheVariants as sending;
+ghost use Rattle.cc_queue.specs.Names.{Answer, SendAnswer, Chain, Place, Sending};
 ghost use Rattle.cc_steps.specs.Walk.{IsReadyToStep};
 ghost use Rattle.cc_queue.specs.Work.{IsOnList, IsServing, Serves};
 
@@ -18,9 +14,9 @@ use cc_steps::words::Words;
 
 /// Serves one request up to its mark: reads it, and closes the list, or looks for a free node, or tells why not.
 pub fn serve_request(words: &Words, seat: &mut PassSeat, config: &Config, job: Job)
-    requires here { IsServing words.now config.now Send seat.old }
-    requires at { seat.old.stand.place ≡ place.Sending job sending.ReadTag }
-    ensures { Serves seat.old (place.MarkDone job) (config.now.capacity + 1) seat.new }
+    requires here { IsServing words.now config.now Chain.Send seat.old }
+    requires at { seat.old.stand.place ≡ Place.Sending job Sending.ReadTag }
+    ensures { Serves seat.old (Place.MarkDone job) (config.now.capacity + 1) seat.new }
 {
     let tag = steps::read_request(words, seat, job.round.at, NodeField::Tag);
     let body = bodies::read_request(words, seat, job, tag);
@@ -52,10 +48,10 @@ pub fn serve_request(words: &Words, seat: &mut PassSeat, config: &Config, job: J
 
 /// Tells a send that the queue is closed, and a close that it was closed already and with how many items.
 fn refuse_after_close(words: &Words, seat: &mut PassSeat, job: Job, tag: u64)
-    requires here { IsOnList words.now Send seat.old }
-    requires at { seat.old.stand.place ≡ (if tag == 0 then place.Sending job sending.ReadTotal else place.WriteAnswer job (answer.Send send.Closed)) }
+    requires here { IsOnList words.now Chain.Send seat.old }
+    requires at { seat.old.stand.place ≡ (if tag == 0 then Place.Sending job Sending.ReadTotal else Place.WriteAnswer job (Answer.Send SendAnswer.Closed)) }
     requires ready { IsReadyToStep seat.old }
-    ensures { Serves seat.old (place.MarkDone job) 0 seat.new }
+    ensures { Serves seat.old (Place.MarkDone job) 0 seat.new }
 {
     let answer = if tag == 0 {
         let total = steps::read_object(words, seat, Object::Count);
@@ -68,9 +64,9 @@ fn refuse_after_close(words: &Words, seat: &mut PassSeat, job: Job, tag: u64)
 
 /// Closes: links the reserved node behind the last one, and sets `shut`.
 fn link_mark(words: &Words, seat: &mut PassSeat, config: &Config, job: Job, total: u64)
-    requires here { IsServing words.now config.now Send seat.old }
-    requires at { seat.old.stand.place ≡ place.Sending job (sending.ReadLastToClose total) }
-    ensures { Serves seat.old (place.MarkDone job) 0 seat.new }
+    requires here { IsServing words.now config.now Chain.Send seat.old }
+    requires at { seat.old.stand.place ≡ Place.Sending job (Sending.ReadLastToClose total) }
+    ensures { Serves seat.old (Place.MarkDone job) 0 seat.new }
 {
     let mark = config.capacity as u64 + 1;
     let last = steps::read_object(words, seat, Object::Last) - 1;
@@ -83,9 +79,9 @@ fn link_mark(words: &Words, seat: &mut PassSeat, config: &Config, job: Job, tota
 
 /// Looks for a free node from the cursor on, once round, and appends the item there, or tells that the queue is full.
 fn scan(words: &Words, seat: &mut PassSeat, config: &Config, job: Job, parcel: Parcel)
-    requires here { IsServing words.now config.now Send seat.old }
-    requires at { seat.old.stand.place ≡ place.Sending job (sending.ReadCursor parcel) }
-    ensures { Serves seat.old (place.MarkDone job) (config.now.capacity + 1) seat.new }
+    requires here { IsServing words.now config.now Chain.Send seat.old }
+    requires at { seat.old.stand.place ≡ Place.Sending job (Sending.ReadCursor parcel) }
+    ensures { Serves seat.old (Place.MarkDone job) (config.now.capacity + 1) seat.new }
 {
     let nodes = config.capacity as u64 + 1;
     let groups = config.groups as u64;
@@ -114,9 +110,9 @@ fn scan(words: &Words, seat: &mut PassSeat, config: &Config, job: Job, parcel: P
 /// Resets a free node, writes the item into it, and appends it.
 #[inline(always)]
 fn prepare(words: &Words, seat: &mut PassSeat, config: &Config, job: Job, parcel: Parcel, node: u64)
-    requires here { IsServing words.now config.now Send seat.old }
-    requires at { seat.old.stand.place ≡ place.Sending job (sending.ResetPassed parcel node) }
-    ensures { Serves seat.old (place.MarkDone job) 0 seat.new }
+    requires here { IsServing words.now config.now Chain.Send seat.old }
+    requires at { seat.old.stand.place ≡ Place.Sending job (Sending.ResetPassed parcel node) }
+    ensures { Serves seat.old (Place.MarkDone job) 0 seat.new }
 {
     steps::reset_list_node(words, seat, node, ItemField::Passed);
     steps::reset_list_node(words, seat, node, ItemField::Next);
@@ -128,9 +124,9 @@ fn prepare(words: &Words, seat: &mut PassSeat, config: &Config, job: Job, parcel
 /// Links the prepared node behind the last one: here the item is accepted.
 #[inline(always)]
 fn append(words: &Words, seat: &mut PassSeat, config: &Config, job: Job, count: u64, node: u64)
-    requires here { IsServing words.now config.now Send seat.old }
-    requires at { seat.old.stand.place ≡ place.Sending job (sending.ReadLast count node) }
-    ensures { Serves seat.old (place.MarkDone job) 0 seat.new }
+    requires here { IsServing words.now config.now Chain.Send seat.old }
+    requires at { seat.old.stand.place ≡ Place.Sending job (Sending.ReadLast count node) }
+    ensures { Serves seat.old (Place.MarkDone job) 0 seat.new }
 {
     let last = steps::read_object(words, seat, Object::Last) - 1;
     steps::link_last(words, seat, last, node + 1);

@@ -1,8 +1,6 @@
 //! The service of a take: CC-Queue's dequeue, by the combiner of a group's chain.
 ghost use Rattle.std.specs.Prelude.{◌≡◌, ◌+◌, ◌<◌, ◌^◌, Some, None};
-ghost use Rattle.cc_runs.specs.declared.word.Chain.TheVariants.{Take};
-ghost use Rattle.cc_runs.specs.declared.place.Place.TheVariants as place;
-ghost use Rattle.cc_runs.specs.declared.place.Taking.TheVariants as taking;
+ghost use Rattle.cc_queue.specs.Names.{Chain, Place, Taking};
 ghost use Rattle.cc_steps.specs.Walk.{IsReadyToStep};
 ghost use Rattle.cc_queue.specs.Work.{IsOnList, Serves};
 
@@ -16,9 +14,9 @@ use cc_steps::words::Words;
 
 /// Serves one take up to its mark: reads the dummy's next and the item there, or tells that there is none.
 pub fn serve_take(words: &Words, seat: &mut PassSeat, group: u32, job: Job)
-    requires here { IsOnList words.now (Take group) seat.old }
-    requires at { seat.old.stand.place ≡ place.Taking job taking.ReadHead }
-    ensures { Serves seat.old (place.MarkDone job) 0 seat.new }
+    requires here { IsOnList words.now (Chain.Take group) seat.old }
+    requires at { seat.old.stand.place ≡ Place.Taking job Taking.ReadHead }
+    ensures { Serves seat.old (Place.MarkDone job) 0 seat.new }
 {
     let chain = Chain::Take(group);
     let dummy = steps::read_object(words, seat, Object::Head(group)) - 1;
@@ -41,10 +39,10 @@ fn take_item(
     taken: u64,
     node: u64,
 )
-    requires here { IsOnList words.now (Take group) seat.old }
-    requires at { seat.old.stand.place ≡ place.Taking job (taking.ReadItemTag dummy taken node) }
+    requires here { IsOnList words.now (Chain.Take group) seat.old }
+    requires at { seat.old.stand.place ≡ Place.Taking job (Taking.ReadItemTag dummy taken node) }
     requires ready { IsReadyToStep seat.old }
-    ensures { Serves seat.old (place.MarkDone job) 0 seat.new }
+    ensures { Serves seat.old (Place.MarkDone job) 0 seat.new }
 {
     let tag = steps::read_item(words, seat, node, ItemField::Tag);
     if tag == 0 {
@@ -66,10 +64,10 @@ fn hand_out(
     node: u64,
     parcel: Parcel,
 )
-    requires here { IsOnList words.now (Take group) seat.old }
-    requires at { seat.old.stand.place ≡ place.Taking job (taking.WriteHead dummy node parcel) }
+    requires here { IsOnList words.now (Chain.Take group) seat.old }
+    requires at { seat.old.stand.place ≡ Place.Taking job (Taking.WriteHead dummy node parcel) }
     requires ready { IsReadyToStep seat.old }
-    ensures { Serves seat.old (place.MarkDone job) 0 seat.new }
+    ensures { Serves seat.old (Place.MarkDone job) 0 seat.new }
 {
     let chain = Chain::Take(group);
     let at = job.round.at;

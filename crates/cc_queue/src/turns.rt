@@ -1,9 +1,6 @@
 //! A turn, over its seat.
 ghost use Rattle.std.specs.Prelude.{◌≡◌, ◌≢◌, ◌+◌, ◌*◌, ◌<◌, ◌≤◌, ◌^◌, ◌∷◌, ◌==◌, if◌then◌else◌, IfSome, OnSome, IfNone, Some, None};
-ghost use Rattle.cc_runs.specs.declared.word.Chain.TheVariants.{Send, Take};
-ghost use Rattle.cc_runs.specs.declared.place.Place.TheVariants as place;
-ghost use Rattle.cc_runs.specs.declared.setting.Served.TheVariants as served;
-ghost use Rattle.cc_model.specs.declared.call.Answer.TheVariants as answer;
+ghost use Rattle.cc_queue.specs.Names.{Chain, Place, Served, Answer};
 ghost use Rattle.cc_runs.specs.Codes.{list_reads};
 ghost use Rattle.cc_steps.specs.Walk.{IsToldAt};
 ghost use Rattle.cc_queue.specs.Work.{IsOnList, IsServing, Works, Waits, looked, turned};
@@ -27,10 +24,10 @@ pub fn await_answer(
     node: u64,
 ) -> Option<u32>
     requires here { IsServing words.now config.now chain seat.old }
-    requires at { seat.old.stand ≡ record { begun = seat.old.stand.begun; node = node; place = place.ReadState } }
+    requires at { seat.old.stand ≡ record { begun = seat.old.stand.begun; node = node; place = Place.ReadState } }
     requires bound { 0 < config.now.bound }
     ensures waits { IfNone result (Waits seat.old seat.new) }
-    ensures done { IfSome result (λ n. Works seat.old place.ReadAnswer (turned config.now n) seat.new) }
+    ensures done { IfSome result (λ n. Works seat.old Place.ReadAnswer (turned config.now n) seat.new) }
     ensures few { IfSome result (λ n. n ≤ config.now.bound) }
 {
     match steps::read_state(words, seat, chain, node) {
@@ -42,20 +39,20 @@ pub fn await_answer(
 
 /// Reads the answer word of a send or a close.
 pub fn read_request_answer(words: &Words, seat: &mut PassSeat, node: u64) -> u64
-    requires here { IsOnList words.now Send seat.old }
-    requires at { seat.old.stand ≡ record { begun = seat.old.stand.begun; node = node; place = place.ReadAnswer } }
-    ensures worked { Works seat.old place.Idle (looked 0) seat.new }
-    ensures told { IsToldAt seat.new (place.Finished (list_reads result)) }
+    requires here { IsOnList words.now Chain.Send seat.old }
+    requires at { seat.old.stand ≡ record { begun = seat.old.stand.begun; node = node; place = Place.ReadAnswer } }
+    ensures worked { Works seat.old Place.Idle (looked 0) seat.new }
+    ensures told { IsToldAt seat.new (Place.Finished (list_reads result)) }
 {
     steps::read_answer(words, seat, Chain::Send, node, NodeField::Ret)
 }
 
 /// Reads the answer of a take, and of an item its tag and its body too.
 pub fn read_take_answer(words: &Words, seat: &mut PassSeat, group: u32, node: u64) -> TakeAnswer
-    requires here { IsOnList words.now (Take group) seat.old }
-    requires at { seat.old.stand ≡ record { begun = seat.old.stand.begun; node = node; place = place.ReadAnswer } }
-    ensures worked { Works seat.old place.Idle (looked 0) seat.new }
-    ensures told { IsToldAt seat.new (place.Finished (answer.Take result)) }
+    requires here { IsOnList words.now (Chain.Take group) seat.old }
+    requires at { seat.old.stand ≡ record { begun = seat.old.stand.begun; node = node; place = Place.ReadAnswer } }
+    ensures worked { Works seat.old Place.Idle (looked 0) seat.new }
+    ensures told { IsToldAt seat.new (Place.Finished (Answer.Take result)) }
 {
     let chain = Chain::Take(group);
     let ret = steps::read_answer(words, seat, chain, node, NodeField::Ret);
@@ -78,13 +75,13 @@ pub fn turn_request(
     config: &Config,
     node: u64,
 ) -> Option<(u64, u32)>
-    requires here { IsServing words.now config.now Send seat.old }
-    requires at { seat.old.stand ≡ record { begun = seat.old.stand.begun; node = node; place = place.ReadState } }
+    requires here { IsServing words.now config.now Chain.Send seat.old }
+    requires at { seat.old.stand ≡ record { begun = seat.old.stand.begun; node = node; place = Place.ReadState } }
     requires bound { 0 < config.now.bound }
     ensures waits { IfNone result (Waits seat.old seat.new) }
-    ensures done { IfSome result (λ r. Works seat.old place.Idle (turned config.now r.1) seat.new) }
+    ensures done { IfSome result (λ r. Works seat.old Place.Idle (turned config.now r.1) seat.new) }
     ensures few { IfSome result (λ r. r.1 ≤ config.now.bound) }
-    ensures told { IfSome result (λ r. IsToldAt seat.new (place.Finished (list_reads r.0))) }
+    ensures told { IfSome result (λ r. IsToldAt seat.new (Place.Finished (list_reads r.0))) }
 {
     let served = await_answer(words, seat, config, Chain::Send, node)?;
     Some((read_request_answer(words, seat, node), served))
@@ -98,13 +95,13 @@ pub fn turn_take(
     group: u32,
     node: u64,
 ) -> Option<(TakeAnswer, u32)>
-    requires here { IsServing words.now config.now (Take group) seat.old }
-    requires at { seat.old.stand ≡ record { begun = seat.old.stand.begun; node = node; place = place.ReadState } }
+    requires here { IsServing words.now config.now (Chain.Take group) seat.old }
+    requires at { seat.old.stand ≡ record { begun = seat.old.stand.begun; node = node; place = Place.ReadState } }
     requires bound { 0 < config.now.bound }
     ensures waits { IfNone result (Waits seat.old seat.new) }
-    ensures done { IfSome result (λ r. Works seat.old place.Idle (turned config.now r.1) seat.new) }
+    ensures done { IfSome result (λ r. Works seat.old Place.Idle (turned config.now r.1) seat.new) }
     ensures few { IfSome result (λ r. r.1 ≤ config.now.bound) }
-    ensures told { IfSome result (λ r. IsToldAt seat.new (place.Finished (answer.Take r.0))) }
+    ensures told { IfSome result (λ r. IsToldAt seat.new (Place.Finished (Answer.Take r.0))) }
 {
     let served = await_answer(words, seat, config, Chain::Take(group), node)?;
     Some((read_take_answer(words, seat, group, node), served))

@@ -2,23 +2,21 @@
 use Rattle.cc_steps.specs.Topic.{Topic}
 use Rattle.cc_steps.specs.Walk.{IsOf}
 use Rattle.cc_queue_tests.specs.declared.held.HeldSender.{HeldSender}
-use Rattle.cc_queue_tests.specs.declared.held.HeldSender.TheVariants as held_sender
 use Rattle.cc_queue_tests.specs.declared.held.HeldReceiver.{HeldReceiver}
-use Rattle.cc_queue_tests.specs.declared.held.HeldReceiver.TheVariants as held_receiver
 use Rattle.cc_queue_tests.specs.declared.held.Pair.{Pair}
 use Rattle.cc_queue_tests.specs.declared.held.Passes.{Passes}
 
 -- the sender is of this queue
 abbrev pub IsSenderOf : Topic → HeldSender → Type 0
-IsSenderOf q (held_sender.Idle w) = IsOf q w
-IsSenderOf q (held_sender.Sending w) = IsOf q w
-IsSenderOf q (held_sender.Closing w) = IsOf q w
+IsSenderOf q (HeldSender.Idle w) = IsOf q w
+IsSenderOf q (HeldSender.Sending w) = IsOf q w
+IsSenderOf q (HeldSender.Closing w) = IsOf q w
 
 -- the receiver is of this queue
 abbrev pub IsReceiverOf : Topic → HeldReceiver → Type 0
-IsReceiverOf q (held_receiver.Idle w) = IsOf q w
-IsReceiverOf q (held_receiver.Taking w) = IsOf q w
-IsReceiverOf q held_receiver.Absent = Unit {0}
+IsReceiverOf q (HeldReceiver.Idle w) = IsOf q w
+IsReceiverOf q (HeldReceiver.Taking w) = IsOf q w
+IsReceiverOf q HeldReceiver.Absent = Unit {0}
 
 -- both of a group are
 abbrev pub IsPairOf : Topic → Pair → Type 0

@@ -6,26 +6,7 @@ use Rattle.std.proofs.lemmas.List.{append-nil}
 use Rattle.std.proofs.lemmas.List.Elements.{filter-append}
 use Rattle.cc_model.specs.Record.{Side, Record}
 use Rattle.cc_model.specs.Items.{is_pass, calls_of}
-use Rattle.cc_model.specs.declared.call.Pass.{Pass}
-use Rattle.cc_model.specs.declared.call.Pass.TheVariants as pass
-use Rattle.cc_model.specs.declared.call.Call.{Call}
-use Rattle.cc_model.specs.declared.call.Entry.{Entry}
-use Rattle.cc_model.specs.declared.call.Answer.{Answer}
-use Rattle.cc_model.specs.declared.call.Answer.TheVariants as answer
-use Rattle.cc_model.specs.declared.call.TakeAnswer.TheVariants as take
-use Rattle.cc_runs.specs.declared.setting.Setting.{Setting}
-use Rattle.cc_runs.specs.declared.setting.Served.{Served}
-use Rattle.cc_runs.specs.declared.setting.Served.TheVariants as served
-use Rattle.cc_runs.specs.declared.word.Chain.{Chain}
-use Rattle.cc_runs.specs.declared.word.Chain.TheVariants.{Send, Take}
-use Rattle.cc_runs.specs.declared.place.Round.{Round}
-use Rattle.cc_runs.specs.declared.place.Job.{Job}
-use Rattle.cc_runs.specs.declared.place.Stand.{Stand}
-use Rattle.cc_runs.specs.declared.place.Counting.{Counting}
-use Rattle.cc_runs.specs.declared.place.Sending.{Sending}
-use Rattle.cc_runs.specs.declared.place.Taking.{Taking}
-use Rattle.cc_runs.specs.declared.place.Place.{Place}
-use Rattle.cc_runs.specs.declared.place.Place.TheVariants as place
+use Rattle.cc_runs.specs.Names.{Pass, Call, Entry, Answer, TakeAnswer, Setting, Served, Chain, Round, Job, Stand, Counting, Sending, Taking, Place, Move}
 use Rattle.cc_runs.specs.Words.{groups}
 use Rattle.cc_runs.specs.Codes.{code_of, value_of, tag_of, further_words, item_in, with_read}
 use Rattle.cc_runs.specs.State.{State, chain_of, pass_at, first_node, hold, noted, appended, word_of}
@@ -34,7 +15,7 @@ use Rattle.cc_runs.specs.SendLines as send_side
 use Rattle.cc_runs.specs.TakeLines as take_side
 use Rattle.cc_runs.specs.Lines.{operation, goes, enters, decides, after_exchange, after_state, after_next, after_answer, after_ret, serves}
 use Rattle.cc_runs.specs.Step.{stepped, advanced}
-use Rattle.cc_runs.specs.Run.{Move, Begin, Step, Take as Taken, IsRun, IsIdle, IsFinished, begins, rests, number_of, moved, opening, nowhere, reached, passes}
+use Rattle.cc_runs.specs.Run.{IsRun, IsIdle, IsFinished, begins, rests, number_of, moved, opening, nowhere, reached, passes}
 use Rattle.cc_runs.specs.Sides.{calls_on, answers_on}
 use Rattle.cc_runs.proofs.Ranges.{in_range}
 use Rattle.cc_runs.proofs.ChainRuns.{not_other}
@@ -58,24 +39,24 @@ none_state own (suc zero) = refl
 none_state own (suc (suc found)) = refl
 
 none_serves : (what : Served) (x : Chain) (job : Job) → to_exchange (serves what x job) ≡ []
-none_serves served.Counter x job = refl
-none_serves served.List Send job = refl
-none_serves served.List (Take g) job = refl
+none_serves Served.Counter x job = refl
+none_serves Served.List Chain.Send job = refl
+none_serves Served.List (Chain.Take g) job = refl
 
 none_next : (what : Served) (x : Chain) (round : Round) (found : ℕ) → to_exchange (after_next what x round found) ≡ []
 none_next what x round zero = refl
 none_next what x round (suc found) = none_serves what x record { round = round; next = found }
 
 none_exchanged : (x : Chain) (own : ℕ) (call : Entry) → to_exchange (after_exchange x own call) ≡ []
-none_exchanged Send own call = refl
-none_exchanged (Take g) own call = refl
+none_exchanged Chain.Send own call = refl
+none_exchanged (Chain.Take g) own call = refl
 
 none_answer : (job : Job) (told : Answer) → to_exchange (after_answer job told) ≡ []
-none_answer job (answer.Take (take.Got item)) = refl
-none_answer job (answer.Take take.Empty) = refl
-none_answer job (answer.Take (take.Ended total)) = refl
-none_answer job (answer.Send told) = refl
-none_answer job (answer.Close told) = refl
+none_answer job (Answer.Take (TakeAnswer.Got item)) = refl
+none_answer job (Answer.Take TakeAnswer.Empty) = refl
+none_answer job (Answer.Take (TakeAnswer.Ended total)) = refl
+none_answer job (Answer.Send told) = refl
+none_answer job (Answer.Close told) = refl
 
 -- either way there is none
 either : (b : Bool) (first second : Place) → to_exchange first ≡ [] → to_exchange second ≡ [] → to_exchange (cond b first second) ≡ []
@@ -83,10 +64,10 @@ either true first second a z = a
 either false first second a z = z
 
 none_ret : (what : Served) (x : Chain) (ret : ℕ) → to_exchange (after_ret what x ret) ≡ []
-none_ret what Send ret = refl
-none_ret what (Take g) ret =
-    either (code_of ret == 1) (place.ReadAnswerTag (value_of ret)) (cond (code_of ret == 2) (place.Finished (answer.Take take.Empty)) (place.Finished (answer.Take (take.Ended (value_of ret))))) refl
-    (either (code_of ret == 2) (place.Finished (answer.Take take.Empty)) (place.Finished (answer.Take (take.Ended (value_of ret)))) refl refl)
+none_ret what Chain.Send ret = refl
+none_ret what (Chain.Take g) ret =
+    either (code_of ret == 1) (Place.ReadAnswerTag (value_of ret)) (cond (code_of ret == 2) (Place.Finished (Answer.Take TakeAnswer.Empty)) (Place.Finished (Answer.Take (TakeAnswer.Ended (value_of ret))))) refl
+    (either (code_of ret == 2) (Place.Finished (Answer.Take TakeAnswer.Empty)) (Place.Finished (Answer.Take (TakeAnswer.Ended (value_of ret)))) refl refl)
 
 -- where a service leads there is none
 abbrev None' : Place → Type 0
@@ -104,39 +85,39 @@ none_take job service found = leads None' take_side.in_service job (λ s. refl) 
 -- ---- one step
 
 -- a step of the pass itself, whose calls are those of which f holds
-pub own_step : (c : Setting) (x : Chain) (own found : ℕ) (f : Entry → Bool) (calls began : List Entry) (at : Place) → began ≡ filter f calls ++ to_exchange at → ((call : Entry) → at ≡ place.Exchange call → f call ≡ true) →
+pub own_step : (c : Setting) (x : Chain) (own found : ℕ) (f : Entry → Bool) (calls began : List Entry) (at : Place) → began ≡ filter f calls ++ to_exchange at → ((call : Entry) → at ≡ Place.Exchange call → f call ≡ true) →
     began ≡ filter f (appended calls (enters at)) ++ to_exchange (goes c x own at found)
-own_step c x own found f calls began place.Idle e its = e
-own_step c x own found f calls began (place.ResetNext call) e its = e
-own_step c x own found f calls began (place.ResetState call) e its = e
-own_step c x own found f calls began (place.Exchange call) e its =
+own_step c x own found f calls began Place.Idle e its = e
+own_step c x own found f calls began (Place.ResetNext call) e its = e
+own_step c x own found f calls began (Place.ResetState call) e its = e
+own_step c x own found f calls began (Place.Exchange call) e its =
     let one : filter f (call ∷ []) ≡ call ∷ [] = ap (λ (b : Bool). cond b (call ∷ []) []) (its call refl) in
     let more : filter f (calls ++ call ∷ []) ≡ filter f calls ++ call ∷ [] = filter-append f calls (call ∷ []) ∙ ap (λ (l : List Entry). filter f calls ++ l) one in
     e ∙ sym more ∙ sym (append-nil (filter f (calls ++ call ∷ []))) ∙ ap (λ (l : List Entry). filter f (calls ++ call ∷ []) ++ l) (sym (none_exchanged x own call))
-own_step c x own found f calls began (place.WriteTag put request) e its = e
-own_step c x own found f calls began (place.WriteBody put request i) e its = e ∙ ap (λ (l : List Entry). filter f calls ++ l) (sym (either (nat_lt i (further_words request.tag)) (place.WriteBody put request (i + 1)) (place.Link put) refl refl))
-own_step c x own found f calls began (place.Link put) e its = e
-own_step c x own found f calls began place.ReadState e its = e ∙ ap (λ (l : List Entry). filter f calls ++ l) (sym (none_state own found))
-own_step c x own found f calls began (place.ReadNext round) e its = e ∙ ap (λ (l : List Entry). filter f calls ++ l) (sym (none_next c.served x round found))
-own_step c x own found f calls began (place.Counting job service) e its = e ∙ ap (λ (l : List Entry). filter f calls ++ l) (sym (none_count job service found))
-own_step c x own found f calls began (place.Sending job service) e its = e ∙ ap (λ (l : List Entry). filter f calls ++ l) (sym (none_send c job service found))
-own_step c x own found f calls began (place.Taking job service) e its = e ∙ ap (λ (l : List Entry). filter f calls ++ l) (sym (none_take job service found))
-own_step c x own found f calls began (place.WriteAnswer job told) e its = e ∙ ap (λ (l : List Entry). filter f calls ++ l) (sym (none_answer job told))
-own_step c x own found f calls began (place.WriteAnswerTag job item) e its = e
-own_step c x own found f calls began (place.WriteAnswerBody job item i) e its = e ∙ ap (λ (l : List Entry). filter f calls ++ l) (sym (either (nat_lt i (further_words (tag_of item))) (place.WriteAnswerBody job item (i + 1)) (place.MarkDone job) refl refl))
-own_step c x own found f calls began (place.MarkDone job) e its =
-    e ∙ ap (λ (l : List Entry). filter f calls ++ l) (sym (either (job.round.served + 1 == c.config.bound) (place.HandOver job.next) (place.ReadNext record { at = job.next; served = job.round.served + 1 }) refl refl))
-own_step c x own found f calls began (place.HandOver at) e its = e
-own_step c x own found f calls began place.ReadAnswer e its = e ∙ ap (λ (l : List Entry). filter f calls ++ l) (sym (none_ret c.served x found))
-own_step c x own found f calls began (place.ReadAnswerTag at) e its = e
-own_step c x own found f calls began (place.ReadAnswerBody at i) e its = e ∙ ap (λ (l : List Entry). filter f calls ++ l) (sym (either (nat_lt i (further_words at.tag)) (place.ReadAnswerBody (with_read at i found) (i + 1)) (place.Finished (answer.Take (take.Got (item_in (with_read at i found))))) refl refl))
-own_step c x own found f calls began (place.Finished told) e its = e
+own_step c x own found f calls began (Place.WriteTag put request) e its = e
+own_step c x own found f calls began (Place.WriteBody put request i) e its = e ∙ ap (λ (l : List Entry). filter f calls ++ l) (sym (either (nat_lt i (further_words request.tag)) (Place.WriteBody put request (i + 1)) (Place.Link put) refl refl))
+own_step c x own found f calls began (Place.Link put) e its = e
+own_step c x own found f calls began Place.ReadState e its = e ∙ ap (λ (l : List Entry). filter f calls ++ l) (sym (none_state own found))
+own_step c x own found f calls began (Place.ReadNext round) e its = e ∙ ap (λ (l : List Entry). filter f calls ++ l) (sym (none_next c.served x round found))
+own_step c x own found f calls began (Place.Counting job service) e its = e ∙ ap (λ (l : List Entry). filter f calls ++ l) (sym (none_count job service found))
+own_step c x own found f calls began (Place.Sending job service) e its = e ∙ ap (λ (l : List Entry). filter f calls ++ l) (sym (none_send c job service found))
+own_step c x own found f calls began (Place.Taking job service) e its = e ∙ ap (λ (l : List Entry). filter f calls ++ l) (sym (none_take job service found))
+own_step c x own found f calls began (Place.WriteAnswer job told) e its = e ∙ ap (λ (l : List Entry). filter f calls ++ l) (sym (none_answer job told))
+own_step c x own found f calls began (Place.WriteAnswerTag job item) e its = e
+own_step c x own found f calls began (Place.WriteAnswerBody job item i) e its = e ∙ ap (λ (l : List Entry). filter f calls ++ l) (sym (either (nat_lt i (further_words (tag_of item))) (Place.WriteAnswerBody job item (i + 1)) (Place.MarkDone job) refl refl))
+own_step c x own found f calls began (Place.MarkDone job) e its =
+    e ∙ ap (λ (l : List Entry). filter f calls ++ l) (sym (either (job.round.served + 1 == c.config.bound) (Place.HandOver job.next) (Place.ReadNext record { at = job.next; served = job.round.served + 1 }) refl refl))
+own_step c x own found f calls began (Place.HandOver at) e its = e
+own_step c x own found f calls began Place.ReadAnswer e its = e ∙ ap (λ (l : List Entry). filter f calls ++ l) (sym (none_ret c.served x found))
+own_step c x own found f calls began (Place.ReadAnswerTag at) e its = e
+own_step c x own found f calls began (Place.ReadAnswerBody at i) e its = e ∙ ap (λ (l : List Entry). filter f calls ++ l) (sym (either (nat_lt i (further_words at.tag)) (Place.ReadAnswerBody (with_read at i found) (i + 1)) (Place.Finished (Answer.Take (TakeAnswer.Got (item_in (with_read at i found))))) refl refl))
+own_step c x own found f calls began (Place.Finished told) e its = e
 
 -- a step of another pass
-other_step : (f : Entry → Bool) (calls : List Entry) (at : Place) → ((call : Entry) → at ≡ place.Exchange call → f call ≡ false) → filter f (appended calls (enters at)) ≡ filter f calls
-other_step f calls (place.Exchange call) its =
+other_step : (f : Entry → Bool) (calls : List Entry) (at : Place) → ((call : Entry) → at ≡ Place.Exchange call → f call ≡ false) → filter f (appended calls (enters at)) ≡ filter f calls
+other_step f calls (Place.Exchange call) its =
     filter-append f calls (call ∷ []) ∙ ap (λ (b : Bool). filter f calls ++ cond b (call ∷ []) []) (its call refl) ∙ append-nil (filter f calls)
-other_step f calls place.Idle its = refl
+other_step f calls Place.Idle its = refl
 other_step f calls _ its = refl
 
 -- the calls of a chain after a note
@@ -159,15 +140,15 @@ chosen_calls f (e ∷ calls) (a ∷ answers) = bare_more e (Some a) (chosen f ca
 -- ---- all runs
 
 pass_self : (who : Pass) → is_pass who who ≡ true
-pass_self (pass.Sender s) = eq-eqb s s refl
-pass_self (pass.Receiver r) = eq-eqb r r refl
+pass_self (Pass.Sender s) = eq-eqb s s refl
+pass_self (Pass.Receiver r) = eq-eqb r r refl
 
 idle_none : (at : Place) → IsIdle at → to_exchange at ≡ []
-idle_none place.Idle a = refl
+idle_none Place.Idle a = refl
 idle_none _ a = absurd a
 
 finished_none : (at : Place) → IsFinished at → to_exchange at ≡ []
-finished_none (place.Finished told) a = refl
+finished_none (Place.Finished told) a = refl
 finished_none _ a = absurd a
 
 -- two passes of one chain have two names
@@ -188,10 +169,10 @@ own_calls c s p less none =
     ∙ ap (λ (w : Pass). filter (λ (z : Entry). is_pass w z.pass) (calls_on (chain_of c.config p) s.history)) (sym name)
 
 -- a call that is about to exchange is of its pass
-exchange_pass : (c : Setting) (s : State) (k : Chains c s) (q : ℕ) → q < passes c → (call : Entry) → (s.stand q).place ≡ place.Exchange call → call.pass ≡ pass_at c.config q
+exchange_pass : (c : Setting) (s : State) (k : Chains c s) (q : ℕ) → q < passes c → (call : Entry) → (s.stand q).place ≡ Place.Exchange call → call.pass ≡ pass_at c.config q
 exchange_pass c s k q less call e =
     let on : IsOn c (chain_of c.config q) q = on_chain c q less in
-    let has : HasCall c (chain_of c.config q) on.number (place.Exchange call) =
+    let has : HasCall c (chain_of c.config q) on.number (Place.Exchange call) =
     subst (λ (z : Place). HasCall c (chain_of c.config q) on.number z) (ap (λ (z : ℕ). (s.stand z).place) (sym on.pass_is) ∙ e) ((k.holds (chain_of c.config q) (chain_is c q less)).ties.begun on.number on.inside) in
     has.pass_is ∙ ap (λ (z : ℕ). pass_at c.config z) (sym on.pass_is)
 
@@ -212,7 +193,7 @@ module _ (c : Setting) (some : 0 < c.config.bound) (p : ℕ) (less : p < passes 
       ap (λ (l : List Entry). l ++ record { pass = pass_at c.config p; call = call; number = number_of call (s.stand p).begun; known = known } ∷ []) none
 
   begin_keeps : (s : State) (began : List Entry) (q : ℕ) (call : Call) (known : ℕ) → IsIdle (s.stand q).place → Has began s → q ≡ p ⊎ q ≢ p →
-      Has (cond (q == p) (began ++ record { pass = pass_at c.config q; call = call; number = number_of call (s.stand q).begun; known = known } ∷ []) began) (moved c s (Begin q call known))
+      Has (cond (q == p) (began ++ record { pass = pass_at c.config q; call = call; number = number_of call (s.stand q).begun; known = known } ∷ []) began) (moved c s (Move.Begin q call known))
   begin_keeps s began q call known idle has (inl same) =
       ap (λ (b : Bool). cond b (began ++ record { pass = pass_at c.config q; call = call; number = number_of call (s.stand q).begun; known = known } ∷ []) began) (eq-eqb q p same)
       ∙ ap (λ (z : ℕ). began ++ record { pass = pass_at c.config z; call = call; number = number_of call (s.stand z).begun; known = known } ∷ []) same
@@ -222,7 +203,7 @@ module _ (c : Setting) (some : 0 < c.config.bound) (p : ℕ) (less : p < passes 
       ap (λ (b : Bool). cond b (began ++ record { pass = pass_at c.config q; call = call; number = number_of call (s.stand q).begun; known = known } ∷ []) began) (ne_eqb q p ne)
       ∙ has ∙ ap (λ (z : Stand). filter its (calls_on side s.history) ++ to_exchange z.place) (sym (hold_apart s.stand q p (begins c.config q call known (s.stand q)) (λ same. ne (sym same))))
 
-  take_keeps : (s : State) (began : List Entry) (q : ℕ) → IsFinished (s.stand q).place → Has began s → q ≡ p ⊎ q ≢ p → Has began (moved c s (Taken q))
+  take_keeps : (s : State) (began : List Entry) (q : ℕ) → IsFinished (s.stand q).place → Has began s → q ≡ p ⊎ q ≢ p → Has began (moved c s (Move.Take q))
   take_keeps s began q finished has (inl same) =
       has ∙ ap (λ (l : List Entry). filter its (calls_on side s.history) ++ l) (finished_none (s.stand p).place (subst (λ (z : ℕ). IsFinished (s.stand z).place) same finished))
       ∙ ap (λ (z : Stand). filter its (calls_on side s.history) ++ to_exchange z.place) (sym (ap (λ (z : ℕ). hold s.stand z (rests (s.stand z)) p) same ∙ hold_here s.stand p (rests (s.stand p))))
@@ -261,13 +242,13 @@ module _ (c : Setting) (some : 0 < c.config.bound) (p : ℕ) (less : p < passes 
       ∙ ap (λ (z : Stand). filter its (calls_on side (stepped c s q).history) ++ to_exchange z.place) (sym (same_stand s q ne))
 
   opened : Has [] (opening c)
-  opened = sym (ap (λ (l : List Entry). filter its l ++ to_exchange ((opening c).stand p).place) (ap (λ (z : Side). z.calls) (no_calls (groups c.config) side)) ∙ ap (λ (z : Stand). to_exchange z.place) (ap (λ (b : Bool). cond b record { begun = 0; node = first_node c.config p; place = place.Idle } nowhere) (lt-ltb p (passes c) less)))
+  opened = sym (ap (λ (l : List Entry). filter its l ++ to_exchange ((opening c).stand p).place) (ap (λ (z : Side). z.calls) (no_calls (groups c.config) side)) ∙ ap (λ (z : Stand). to_exchange z.place) (ap (λ (b : Bool). cond b record { begun = 0; node = first_node c.config p; place = Place.Idle } nowhere) (lt-ltb p (passes c) less)))
 
   pub has_made : (moves : List Move) → IsRun c moves → Has (made c moves p) (reached c moves)
   has_made [] run = opened
-  has_made (Begin q call known ∷ earlier) run = begin_keeps (reached c earlier) (made c earlier p) q call known run.1.2 (has_made earlier run.0) (cases_eq q p)
-  has_made (Taken q ∷ earlier) run = take_keeps (reached c earlier) (made c earlier p) q run.1.1 (has_made earlier run.0) (cases_eq q p)
-  has_made (Step q ∷ earlier) run = step_keeps (reached c earlier) (chains_hold c some earlier run.0) (made c earlier p) q run.1.0 (has_made earlier run.0) (cases_eq q p)
+  has_made (Move.Begin q call known ∷ earlier) run = begin_keeps (reached c earlier) (made c earlier p) q call known run.1.2 (has_made earlier run.0) (cases_eq q p)
+  has_made (Move.Take q ∷ earlier) run = take_keeps (reached c earlier) (made c earlier p) q run.1.1 (has_made earlier run.0) (cases_eq q p)
+  has_made (Move.Step q ∷ earlier) run = step_keeps (reached c earlier) (chains_hold c some earlier run.0) (made c earlier p) q run.1.0 (has_made earlier run.0) (cases_eq q p)
 
 pub calls_made : CallsOfRuns
 calls_made c checked moves run p less =

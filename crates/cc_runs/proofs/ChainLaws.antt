@@ -4,26 +4,7 @@ use Rattle.std.proofs.lemmas.Bool.{cases_lt, cases_eq}
 use Rattle.std.proofs.lemmas.Option.{slice_get-get_or, get_or_from_slice_get, slice_get_within}
 use Rattle.cc_model.specs.Config.{config_fault}
 use Rattle.cc_model.specs.Items.{calls_of}
-use Rattle.cc_model.specs.declared.call.Entry.{Entry}
-use Rattle.cc_model.specs.declared.call.Pass.{Pass}
-use Rattle.cc_model.specs.declared.call.Item.{Item}
-use Rattle.cc_model.specs.declared.call.Answer.{Answer}
-use Rattle.cc_model.specs.declared.call.Answer.TheVariants as answer
-use Rattle.cc_model.specs.declared.call.TakeAnswer.TheVariants as take
-use Rattle.cc_runs.specs.declared.setting.Setting.{Setting}
-use Rattle.cc_runs.specs.declared.setting.Served.{Served}
-use Rattle.cc_runs.specs.declared.setting.Served.TheVariants as served
-use Rattle.cc_runs.specs.declared.word.Chain.{Chain}
-use Rattle.cc_runs.specs.declared.word.Chain.TheVariants.{Send, Take}
-use Rattle.cc_runs.specs.declared.word.NodeField.{NodeField}
-use Rattle.cc_runs.specs.declared.word.NodeField.TheVariants as node
-use Rattle.cc_runs.specs.declared.word.Word.TheVariants.{Tail, Node}
-use Rattle.cc_runs.specs.declared.place.Job.{Job}
-use Rattle.cc_runs.specs.declared.place.Sending.{Sending}
-use Rattle.cc_runs.specs.declared.place.Sending.TheVariants as sending
-use Rattle.cc_runs.specs.declared.place.Stand.{Stand}
-use Rattle.cc_runs.specs.declared.place.Place.{Place}
-use Rattle.cc_runs.specs.declared.place.Place.TheVariants as place
+use Rattle.cc_runs.specs.Names.{Entry, Pass, Item, Answer, TakeAnswer, Setting, Served, Chain, NodeField, Word, Job, Sending, Stand, Place, Move}
 use Rattle.cc_runs.specs.Codes.{ret_of, code_of, request_in, further_words, word, tag_of}
 use Rattle.cc_runs.proofs.ReadWords.{few_further}
 use Rattle.cc_runs.proofs.Chains.Sides.{asks_word}
@@ -32,7 +13,7 @@ use Rattle.cc_runs.specs.Lines.{operation}
 use Rattle.cc_model.specs.Record.{Side, silent}
 use Rattle.cc_runs.specs.Words.{groups}
 use Rattle.std.proofs.lemmas.List.{get_or_past}
-use Rattle.cc_runs.specs.Run.{Move, IsRun, reached, passes}
+use Rattle.cc_runs.specs.Run.{IsRun, reached, passes}
 use Rattle.cc_runs.specs.Safe.{WhileUndecided}
 use Rattle.cc_runs.specs.Sides.{passes_on, calls_on, answers_on}
 use Rattle.cc_runs.specs.ChainLaws.{IsCombining, served_by, AreNodes, served_node, HoldsRequest, ServesNext, IsWithinBound, WasTold, IsReading, ReadsWord, IsToldBy, IsOut, ChainLaws, ChainLawsOfRuns, CounterLawsOfRuns}
@@ -55,49 +36,49 @@ use Rattle.cc_runs.proofs.CounterRuns.{counter_holds, counter_ready}
 use Rattle.cc_runs.proofs.ChainRuns.{has_told, not_other, silent_takes, sides_are}
 
 combining_rank : (x : Chain) (own : ℕ) (at : Place) → IsCombining at → (post_of x own at).rank ≡ 5
-combining_rank x own (place.ReadNext round) a = refl
-combining_rank x own (place.Counting job service) a = refl
-combining_rank x own (place.Sending job service) a = refl
-combining_rank x own (place.Taking job service) a = refl
-combining_rank x own (place.WriteAnswer job told) a = refl
-combining_rank x own (place.WriteAnswerTag job item) a = refl
-combining_rank x own (place.WriteAnswerBody job item i) a = refl
-combining_rank x own (place.MarkDone job) a = refl
-combining_rank x own (place.HandOver at) a = refl
+combining_rank x own (Place.ReadNext round) a = refl
+combining_rank x own (Place.Counting job service) a = refl
+combining_rank x own (Place.Sending job service) a = refl
+combining_rank x own (Place.Taking job service) a = refl
+combining_rank x own (Place.WriteAnswer job told) a = refl
+combining_rank x own (Place.WriteAnswerTag job item) a = refl
+combining_rank x own (Place.WriteAnswerBody job item i) a = refl
+combining_rank x own (Place.MarkDone job) a = refl
+combining_rank x own (Place.HandOver at) a = refl
 combining_rank x own _ a = absurd a
 
 -- the request's words, on either side
-holds_request : (s : State) (x : Chain) (at : ℕ) (e : Entry) → ((j : ℕ) → j < request_long x e → request_words x (λ (f : NodeField). s.mem (Node x at f)) j ≡ asked_words x e j) → HoldsRequest s x at e
-holds_request s Send at e words = (words 0 (omega arith), λ i most. words (suc i) (omega (arith, most)) ∙ asks_word (request_in e) i (omega (arith, most, few_further (request_in e).tag)))
-holds_request s (Take g) at e words = tt
+holds_request : (s : State) (x : Chain) (at : ℕ) (e : Entry) → ((j : ℕ) → j < request_long x e → request_words x (λ (f : NodeField). s.mem (Word.Node x at f)) j ≡ asked_words x e j) → HoldsRequest s x at e
+holds_request s Chain.Send at e words = (words 0 (omega arith), λ i most. words (suc i) (omega (arith, most)) ∙ asks_word (request_in e) i (omega (arith, most, few_further (request_in e).tag)))
+holds_request s (Chain.Take g) at e words = tt
 
 -- a pass that reads its answer
-reading_post : (x : Chain) (own : ℕ) (at : Place) → IsReading at → post_of x own at ≡ post_of x own place.ReadAnswer
-reading_post x own place.ReadAnswer a = refl
-reading_post x own (place.ReadAnswerTag at) a = refl
-reading_post x own (place.ReadAnswerBody at i) a = refl
+reading_post : (x : Chain) (own : ℕ) (at : Place) → IsReading at → post_of x own at ≡ post_of x own Place.ReadAnswer
+reading_post x own Place.ReadAnswer a = refl
+reading_post x own (Place.ReadAnswerTag at) a = refl
+reading_post x own (Place.ReadAnswerBody at i) a = refl
 reading_post x own _ a = absurd a
 
 -- after the first word of an answer there are further ones for an item alone
-item_read : (what : Served) (x : Chain) (a : Answer) (A : Type 0) → IsAnswer what x a → OnTake x A → (A → code_of (ret_of what a) ≡ 1) → (item : Item) × (a ≡ answer.Take (take.Got item))
-item_read what Send a A is had code = absurd had
-item_read what (Take g) a A is had code = got_item what g a is (code had)
+item_read : (what : Served) (x : Chain) (a : Answer) (A : Type 0) → IsAnswer what x a → OnTake x A → (A → code_of (ret_of what a) ≡ 1) → (item : Item) × (a ≡ Answer.Take (TakeAnswer.Got item))
+item_read what Chain.Send a A is had code = absurd had
+item_read what (Chain.Take g) a A is had code = got_item what g a is (code had)
 
-tag_read : (what : Served) (x : Chain) (a : Answer) (words : NodeField → ℕ) (A : Type 0) → OnTake x A → answer_words x words 1 ≡ coded_words what x a 1 → words node.Tag ≡ tag_word a
-tag_read what Send a words A had same = absurd had
-tag_read what (Take g) a words A had same = same
+tag_read : (what : Served) (x : Chain) (a : Answer) (words : NodeField → ℕ) (A : Type 0) → OnTake x A → answer_words x words 1 ≡ coded_words what x a 1 → words NodeField.Tag ≡ tag_word a
+tag_read what Chain.Send a words A had same = absurd had
+tag_read what (Chain.Take g) a words A had same = same
 
-body_read : (what : Served) (x : Chain) (a : Answer) (words : NodeField → ℕ) (i : ℕ) (A : Type 0) → OnTake x A → answer_words x words (suc (suc i)) ≡ coded_words what x a (suc (suc i)) → words (node.Body i) ≡ word (words_told a) i
-body_read what Send a words i A had same = absurd had
-body_read what (Take g) a words i A had same = same
+body_read : (what : Served) (x : Chain) (a : Answer) (words : NodeField → ℕ) (i : ℕ) (A : Type 0) → OnTake x A → answer_words x words (suc (suc i)) ≡ coded_words what x a (suc (suc i)) → words (NodeField.Body i) ≡ word (words_told a) i
+body_read what Chain.Send a words i A had same = absurd had
+body_read what (Chain.Take g) a words i A had same = same
 
 -- a pass out of its chain has none of its words
 pub out_rank : (x : Chain) (own : ℕ) (at : Place) → IsOut at → (post_of x own at).rank ≤ 2
-out_rank x own place.Idle a = omega arith
-out_rank x own (place.ResetNext call) a = omega arith
-out_rank x own (place.ResetState call) a = omega arith
-out_rank x own (place.Exchange call) a = omega arith
-out_rank x own (place.Finished told) a = omega arith
+out_rank x own Place.Idle a = omega arith
+out_rank x own (Place.ResetNext call) a = omega arith
+out_rank x own (Place.ResetState call) a = omega arith
+out_rank x own (Place.Exchange call) a = omega arith
+out_rank x own (Place.Finished told) a = omega arith
 out_rank x own _ a = absurd a
 
 -- a pass of a chain x, and its place
@@ -125,36 +106,36 @@ module _ (c : Setting) (r : InRange c.config) (s : State) (k : Chains c s) (x : 
       safe.next_in c x ok r s on.number own (s.stand p).begun on.inside (k.holds x ok) at job.next (there at e) five low high is
 
   bounded_at : (at : Place) → Here at → served_by at < c.config.bound
-  bounded_at (place.ReadNext round) e = served_at (place.ReadNext round) e refl (omega arith)
-  bounded_at (place.Counting job service) e = served_at (place.Counting job service) e refl (omega arith)
-  bounded_at (place.Sending job service) e = served_at (place.Sending job service) e refl (safe.send_low service)
-  bounded_at (place.Taking job service) e = served_at (place.Taking job service) e refl (omega arith)
-  bounded_at (place.WriteAnswer job told) e = served_at (place.WriteAnswer job told) e refl (omega arith)
-  bounded_at (place.WriteAnswerTag job item) e = served_at (place.WriteAnswerTag job item) e refl (omega arith)
-  bounded_at (place.WriteAnswerBody job item i) e = served_at (place.WriteAnswerBody job item i) e refl (omega arith)
-  bounded_at (place.MarkDone job) e = served_at (place.MarkDone job) e refl (omega arith)
+  bounded_at (Place.ReadNext round) e = served_at (Place.ReadNext round) e refl (omega arith)
+  bounded_at (Place.Counting job service) e = served_at (Place.Counting job service) e refl (omega arith)
+  bounded_at (Place.Sending job service) e = served_at (Place.Sending job service) e refl (safe.send_low service)
+  bounded_at (Place.Taking job service) e = served_at (Place.Taking job service) e refl (omega arith)
+  bounded_at (Place.WriteAnswer job told) e = served_at (Place.WriteAnswer job told) e refl (omega arith)
+  bounded_at (Place.WriteAnswerTag job item) e = served_at (Place.WriteAnswerTag job item) e refl (omega arith)
+  bounded_at (Place.WriteAnswerBody job item i) e = served_at (Place.WriteAnswerBody job item i) e refl (omega arith)
+  bounded_at (Place.MarkDone job) e = served_at (Place.MarkDone job) e refl (omega arith)
   bounded_at _ e = r.bound.0
 
   nodes_at : (at : Place) → Here at → AreNodes (passes_on c x) at
-  nodes_at (place.WriteTag put request) e = safe.put_in c x ok r s on.number own (s.stand p).begun on.inside (k.holds x ok) (place.WriteTag put request) (there (place.WriteTag put request) e) refl
-  nodes_at (place.WriteBody put request i) e = safe.put_in c x ok r s on.number own (s.stand p).begun on.inside (k.holds x ok) (place.WriteBody put request i) (there (place.WriteBody put request i) e) refl
-  nodes_at (place.Link put) e = safe.put_in c x ok r s on.number own (s.stand p).begun on.inside (k.holds x ok) (place.Link put) (there (place.Link put) e) refl
-  nodes_at (place.ReadNext round) e = target_at (place.ReadNext round) e refl
-  nodes_at (place.Counting job service) e = (target_at (place.Counting job service) e refl, next_at (place.Counting job service) job e refl (omega arith) (omega arith) refl)
-  nodes_at (place.Sending job service) e = (target_at (place.Sending job service) e refl, next_at (place.Sending job service) job e refl (safe.send_high service) (safe.send_low service) refl)
-  nodes_at (place.Taking job service) e = (target_at (place.Taking job service) e refl, next_at (place.Taking job service) job e refl (omega arith) (omega arith) refl)
-  nodes_at (place.WriteAnswer job told) e = (target_at (place.WriteAnswer job told) e refl, next_at (place.WriteAnswer job told) job e refl (omega arith) (omega arith) refl)
-  nodes_at (place.WriteAnswerTag job item) e = (target_at (place.WriteAnswerTag job item) e refl, next_at (place.WriteAnswerTag job item) job e refl (omega arith) (omega arith) refl)
-  nodes_at (place.WriteAnswerBody job item i) e = (target_at (place.WriteAnswerBody job item i) e refl, next_at (place.WriteAnswerBody job item i) job e refl (omega arith) (omega arith) refl)
-  nodes_at (place.MarkDone job) e = (target_at (place.MarkDone job) e refl, next_at (place.MarkDone job) job e refl (omega arith) (omega arith) refl)
-  nodes_at (place.HandOver at) e = target_at (place.HandOver at) e refl
+  nodes_at (Place.WriteTag put request) e = safe.put_in c x ok r s on.number own (s.stand p).begun on.inside (k.holds x ok) (Place.WriteTag put request) (there (Place.WriteTag put request) e) refl
+  nodes_at (Place.WriteBody put request i) e = safe.put_in c x ok r s on.number own (s.stand p).begun on.inside (k.holds x ok) (Place.WriteBody put request i) (there (Place.WriteBody put request i) e) refl
+  nodes_at (Place.Link put) e = safe.put_in c x ok r s on.number own (s.stand p).begun on.inside (k.holds x ok) (Place.Link put) (there (Place.Link put) e) refl
+  nodes_at (Place.ReadNext round) e = target_at (Place.ReadNext round) e refl
+  nodes_at (Place.Counting job service) e = (target_at (Place.Counting job service) e refl, next_at (Place.Counting job service) job e refl (omega arith) (omega arith) refl)
+  nodes_at (Place.Sending job service) e = (target_at (Place.Sending job service) e refl, next_at (Place.Sending job service) job e refl (safe.send_high service) (safe.send_low service) refl)
+  nodes_at (Place.Taking job service) e = (target_at (Place.Taking job service) e refl, next_at (Place.Taking job service) job e refl (omega arith) (omega arith) refl)
+  nodes_at (Place.WriteAnswer job told) e = (target_at (Place.WriteAnswer job told) e refl, next_at (Place.WriteAnswer job told) job e refl (omega arith) (omega arith) refl)
+  nodes_at (Place.WriteAnswerTag job item) e = (target_at (Place.WriteAnswerTag job item) e refl, next_at (Place.WriteAnswerTag job item) job e refl (omega arith) (omega arith) refl)
+  nodes_at (Place.WriteAnswerBody job item i) e = (target_at (Place.WriteAnswerBody job item i) e refl, next_at (Place.WriteAnswerBody job item i) job e refl (omega arith) (omega arith) refl)
+  nodes_at (Place.MarkDone job) e = (target_at (Place.MarkDone job) e refl, next_at (Place.MarkDone job) job e refl (omega arith) (omega arith) refl)
+  nodes_at (Place.HandOver at) e = target_at (Place.HandOver at) e refl
   nodes_at _ e = tt
 
-  link_at : (at served : ℕ) → Here (place.ReadNext record { at = at; served = served }) → s.mem (Node x at node.Next) ≤ passes_on c x + 1
-  link_at at served e = safe.link_in c x ok r s on.number own (s.stand p).begun on.inside (k.holds x ok) record { at = at; served = served } (there (place.ReadNext record { at = at; served = served }) e)
+  link_at : (at served : ℕ) → Here (Place.ReadNext record { at = at; served = served }) → s.mem (Word.Node x at NodeField.Next) ≤ passes_on c x + 1
+  link_at at served e = safe.link_in c x ok r s on.number own (s.stand p).begun on.inside (k.holds x ok) record { at = at; served = served } (there (Place.ReadNext record { at = at; served = served }) e)
 
-  own_link_at : (at : ℕ) → Here (place.ReadNext record { at = at; served = 0 }) → 0 < s.mem (Node x at node.Next)
-  own_link_at at e = safe.own_link_in c x ok r s on.number own (s.stand p).begun on.inside (k.holds x ok) at (there (place.ReadNext record { at = at; served = 0 }) e)
+  own_link_at : (at : ℕ) → Here (Place.ReadNext record { at = at; served = 0 }) → 0 < s.mem (Word.Node x at NodeField.Next)
+  own_link_at at e = safe.own_link_in c x ok r s on.number own (s.stand p).begun on.inside (k.holds x ok) at (there (Place.ReadNext record { at = at; served = 0 }) e)
 
   own_at : (at : Place) → Here at → own ≤ passes_on c x
   own_at at e = safe.own_in c x ok r s on.number own (s.stand p).begun on.inside (k.holds x ok) at (there at e)
@@ -162,10 +143,10 @@ module _ (c : Setting) (r : InRange c.config) (s : State) (k : Chains c s) (x : 
   post_node : (post_at x (s.stand (pass_on c x on.number))).node ≡ (s.stand p).node
   post_node = ap (λ (z : ℕ). (post_at x (s.stand z)).node) (sym on.pass_is) ∙ own_node x (s.stand p).node (s.stand p).place
 
-  free_at : s.mem (Tail x) ≢ (s.stand p).node + 1
+  free_at : s.mem (Word.Tail x) ≢ (s.stand p).node + 1
   free_at same = (k.holds x ok).inv.nodes.last_apart on.number on.inside (omega (arith, post_node, (k.holds x ok).inv.nodes.tail_is))
 
-  tail_at : (0 < s.mem (Tail x)) × (s.mem (Tail x) ≤ passes_on c x + 1)
+  tail_at : (0 < s.mem (Word.Tail x)) × (s.mem (Word.Tail x) ≤ passes_on c x + 1)
   tail_at = omega (arith, (k.holds x ok).inv.nodes.tail_is, (k.holds x ok).inv.nodes.last_in)
 
   serves_next : (at : Place) (job : Job) → (s.stand p).place ≡ at → ((own : ℕ) → post_of x own at ≡ serving own job 1 0) → ServesNext s x job.round.at
@@ -175,19 +156,19 @@ module _ (c : Setting) (r : InRange c.config) (s : State) (k : Chains c s) (x : 
     request = holds_request s x job.round.at (call_at (calls_on x s.history) (length (answers_on x s.history))) (next_words c s k x ok p on at job e undecided);
   }
 
-  serves_send : (job : Job) (service : Sending) → (s.stand p).place ≡ place.Sending job service → WhileUndecided (place.Sending job service) (ServesNext s x job.round.at)
-  serves_send job (sending.WriteLastMark total) e = tt
-  serves_send job (sending.WriteShut total) e = tt
-  serves_send job (sending.WriteLast at on) e = tt
-  serves_send job (sending.WriteCount at on) e = tt
-  serves_send job (sending.WriteCursor at on) e = tt
-  serves_send job sending.ReadTag e = serves_next (place.Sending job sending.ReadTag) job e (λ own. refl)
-  serves_send job service e = serves_next (place.Sending job service) job e (λ own. refl)
+  serves_send : (job : Job) (service : Sending) → (s.stand p).place ≡ Place.Sending job service → WhileUndecided (Place.Sending job service) (ServesNext s x job.round.at)
+  serves_send job (Sending.WriteLastMark total) e = tt
+  serves_send job (Sending.WriteShut total) e = tt
+  serves_send job (Sending.WriteLast at on) e = tt
+  serves_send job (Sending.WriteCount at on) e = tt
+  serves_send job (Sending.WriteCursor at on) e = tt
+  serves_send job Sending.ReadTag e = serves_next (Place.Sending job Sending.ReadTag) job e (λ own. refl)
+  serves_send job service e = serves_next (Place.Sending job service) job e (λ own. refl)
 
   serves_at : (at : Place) → (s.stand p).place ≡ at → WhileUndecided at (ServesNext s x (served_node at))
-  serves_at (place.Counting job service) e = serves_next (place.Counting job service) job e (λ own. refl)
-  serves_at (place.Sending job service) e = serves_send job service e
-  serves_at (place.Taking job service) e = serves_next (place.Taking job service) job e (λ own. refl)
+  serves_at (Place.Counting job service) e = serves_next (Place.Counting job service) job e (λ own. refl)
+  serves_at (Place.Sending job service) e = serves_send job service e
+  serves_at (Place.Taking job service) e = serves_next (Place.Taking job service) job e (λ own. refl)
   serves_at _ e = tt
 
   -- the word of its answer that the pass reads next
@@ -195,30 +176,30 @@ module _ (c : Setting) (r : InRange c.config) (s : State) (k : Chains c s) (x : 
   its_read at e = subst (λ (z : Stand). HasRead c.served x (answer_at (answers_on x s.history) ((k.holds x ok).ghost.at on.number)) z.place) (there at e) ((k.holds x ok).ties.read on.number on.inside)
 
   word_of_it : (at : Place) (j : ℕ) → Here at → IsReading at → j < answer_long (answer_at (answers_on x s.history) ((k.holds x ok).ghost.at on.number)) →
-      answer_words x (λ (f : NodeField). s.mem (Node x own f)) j ≡ coded_words c.served x (answer_at (answers_on x s.history) ((k.holds x ok).ghost.at on.number)) j
+      answer_words x (λ (f : NodeField). s.mem (Word.Node x own f)) j ≡ coded_words c.served x (answer_at (answers_on x s.history) ((k.holds x ok).ghost.at on.number)) j
   word_of_it at j e reading less = read.word_at c x ok r.bound.0 s on.number (s.stand p).begun own on.inside (k.holds x ok) at j (there at e) (reading_post x own at reading) less
 
   reads_word : (at : Place) → Here at → IsReading at → IsAnswer c.served x (answer_at (answers_on x s.history) ((k.holds x ok).ghost.at on.number)) →
       ReadsWord c.served s x own (answer_at (answers_on x s.history) ((k.holds x ok).ghost.at on.number)) at
-  reads_word place.ReadAnswer e reading sided =
-      sym (answer_first x (λ (f : NodeField). s.mem (Node x own f))) ∙ word_of_it place.ReadAnswer 0 e tt (omega (arith, some_words (answer_at (answers_on x s.history) ((k.holds x ok).ghost.at on.number))))
+  reads_word Place.ReadAnswer e reading sided =
+      sym (answer_first x (λ (f : NodeField). s.mem (Word.Node x own f))) ∙ word_of_it Place.ReadAnswer 0 e tt (omega (arith, some_words (answer_at (answers_on x s.history) ((k.holds x ok).ghost.at on.number))))
       ∙ coded_first c.served x (answer_at (answers_on x s.history) ((k.holds x ok).ghost.at on.number))
-  reads_word (place.ReadAnswerTag at) e reading sided =
-      let item = item_read c.served x (answer_at (answers_on x s.history) ((k.holds x ok).ghost.at on.number)) _ sided (its_read (place.ReadAnswerTag at) e) (λ h. h.0) in
+  reads_word (Place.ReadAnswerTag at) e reading sided =
+      let item = item_read c.served x (answer_at (answers_on x s.history) ((k.holds x ok).ghost.at on.number)) _ sided (its_read (Place.ReadAnswerTag at) e) (λ h. h.0) in
       let long : answer_long (answer_at (answers_on x s.history) ((k.holds x ok).ghost.at on.number)) ≡ further_words (tag_of item.0) + 3 = ap answer_long item.1 in (
         item.0,
         item.1,
-        tag_read c.served x (answer_at (answers_on x s.history) ((k.holds x ok).ghost.at on.number)) (λ (f : NodeField). s.mem (Node x own f)) _ (its_read (place.ReadAnswerTag at) e) (word_of_it (place.ReadAnswerTag at) 1 e tt (omega (arith, long)))
+        tag_read c.served x (answer_at (answers_on x s.history) ((k.holds x ok).ghost.at on.number)) (λ (f : NodeField). s.mem (Word.Node x own f)) _ (its_read (Place.ReadAnswerTag at) e) (word_of_it (Place.ReadAnswerTag at) 1 e tt (omega (arith, long)))
             ∙ ap tag_word item.1,
       )
-  reads_word (place.ReadAnswerBody at i) e reading sided =
-      let item = item_read c.served x (answer_at (answers_on x s.history) ((k.holds x ok).ghost.at on.number)) _ sided (its_read (place.ReadAnswerBody at i) e) (λ h. h.0) in
-      let had = safe.on_take x _ (its_read (place.ReadAnswerBody at i) e) in
+  reads_word (Place.ReadAnswerBody at i) e reading sided =
+      let item = item_read c.served x (answer_at (answers_on x s.history) ((k.holds x ok).ghost.at on.number)) _ sided (its_read (Place.ReadAnswerBody at i) e) (λ h. h.0) in
+      let had = safe.on_take x _ (its_read (Place.ReadAnswerBody at i) e) in
       let long : answer_long (answer_at (answers_on x s.history) ((k.holds x ok).ghost.at on.number)) ≡ further_words (tag_of item.0) + 3 = ap answer_long item.1 in
       let low : i ≤ further_words (tag_of item.0) = omega (arith, had.3, ap further_words (had.2 ∙ ap tag_word item.1)) in (
         item.0,
         item.1,
-        body_read c.served x (answer_at (answers_on x s.history) ((k.holds x ok).ghost.at on.number)) (λ (f : NodeField). s.mem (Node x own f)) i _ (its_read (place.ReadAnswerBody at i) e) (word_of_it (place.ReadAnswerBody at i) (suc (suc i)) e tt (omega (arith, long, low)))
+        body_read c.served x (answer_at (answers_on x s.history) ((k.holds x ok).ghost.at on.number)) (λ (f : NodeField). s.mem (Word.Node x own f)) i _ (its_read (Place.ReadAnswerBody at i) e) (word_of_it (Place.ReadAnswerBody at i) (suc (suc i)) e tt (omega (arith, long, low)))
             ∙ ap (λ (z : Answer). word (words_told z) i) item.1,
       )
   reads_word _ e reading sided = absurd reading
@@ -263,8 +244,8 @@ module _ (c : Setting) (r : InRange c.config) (s : State) (k : Chains c s) (x : 
       }
     where
       same_number : (y : Chain) (a b : ℕ) → named c y a ≡ named c y b → a ≡ b
-      same_number Send a b e = let next : a + 1 ≡ b + 1 = cc in omega arith
-      same_number (Take g) a b e = let next : g * c.config.receivers + a + 1 ≡ g * c.config.receivers + b + 1 = cc in omega arith
+      same_number Chain.Send a b e = let next : a + 1 ≡ b + 1 = cc in omega arith
+      same_number (Chain.Take g) a b e = let next : g * c.config.receivers + a + 1 ≡ g * c.config.receivers + b + 1 = cc in omega arith
 
       most : (v : Holds c x s) → v.ghost.server ≡ on.number + 1 → length (answers_on x s.history) ≤ v.ghost.at on.number + c.config.bound
       most v mine = elim (cases_eq (post_at x (s.stand (pass_on c x on.number))).stage 2) [
@@ -277,11 +258,11 @@ ordered_on : (c : Setting) (s : State) (k : Chains c s) (x : Chain) → IsChain 
 ordered_on c s k x ok = omega (arith, (k.holds x ok).ties.calls_are, (k.holds x ok).ties.answers_are, (k.holds x ok).inv.calls.in_order2, (k.holds x ok).inv.calls.in_order)
 
 -- every side's lists
-ordered_by : (c : Setting) (s : State) (k : Chains c s) (what : Served) → c.served ≡ what → (what ≡ served.Counter → (g : ℕ) → side (Take g) s.history ≡ silent) → length s.history.takes ≡ groups c.config → (x : Chain) → length (answers_on x s.history) ≤ length (calls_on x s.history)
-ordered_by c s k what e none many Send = ordered_on c s k Send tt
-ordered_by c s k served.Counter e none many (Take g) = omega (arith, ap (λ (z : Side). length z.answers) (none refl g))
-ordered_by c s k served.List e none many (Take g) = elim (cases_lt g (groups c.config)) [
-  | inl near ↦ ordered_on c s k (Take g) (subst (λ (z : Served). IsChainOf z (groups c.config) (Take g)) (sym e) near)
+ordered_by : (c : Setting) (s : State) (k : Chains c s) (what : Served) → c.served ≡ what → (what ≡ Served.Counter → (g : ℕ) → side (Chain.Take g) s.history ≡ silent) → length s.history.takes ≡ groups c.config → (x : Chain) → length (answers_on x s.history) ≤ length (calls_on x s.history)
+ordered_by c s k what e none many Chain.Send = ordered_on c s k Chain.Send tt
+ordered_by c s k Served.Counter e none many (Chain.Take g) = omega (arith, ap (λ (z : Side). length z.answers) (none refl g))
+ordered_by c s k Served.List e none many (Chain.Take g) = elim (cases_lt g (groups c.config)) [
+  | inl near ↦ ordered_on c s k (Chain.Take g) (subst (λ (z : Served). IsChainOf z (groups c.config) (Chain.Take g)) (sym e) near)
   | inr far ↦ omega (arith, ap (λ (z : Side). length z.answers) (get_or_past s.history.takes g silent (omega (arith, far, many))))
 ]
 
@@ -316,7 +297,7 @@ untouched_on c s k x ok p q i on_p on_q ne out is (inr its) =
     (λ more same. absurd (omega (arith, low, v.inv.calls.open_low v.ghost.marked (omega arith) more, ap (λ (z : ℕ). (post_at x (s.stand (pass_on c x z))).rank) same))) (sym head ∙ target ∙ sym its.1 ∙ is ∙ sym node_is)
 
 untouched_by : (c : Setting) (s : State) (k : Chains c s) (p q : ℕ) (f : NodeField) (pn : p < passes c) (qn : q < passes c) → p ≢ q → IsOut (s.stand p).place →
-    word_of (operation c (chain_of c.config q) (s.stand q).node (s.stand q).place) ≢ Node (chain_of c.config p) (s.stand p).node f
+    word_of (operation c (chain_of c.config q) (s.stand q).node (s.stand q).place) ≢ Word.Node (chain_of c.config p) (s.stand p).node f
 untouched_by c s k p q f pn qn ne out e =
     let t : Touches (chain_of c.config q) (chain_of c.config p) (s.stand q).node (s.stand p).node (s.stand q).place =
     touches c (chain_of c.config q) (chain_of c.config p) (s.stand q).node (s.stand p).node f (s.stand q).place (λ job service is. (counting_where c s k q job service qn is).1) (λ job service is. (sending_where c s k q job service qn is).1) e in
@@ -337,7 +318,7 @@ module _ (c : Setting) (checked : config_fault c.config ≡ Ok tt) (moves : List
 
   pub laws : ChainLaws c (reached c moves)
   laws = record {
-    one = λ p q pn qn same a b. one_combiner c (reached c moves) k p q pn qn same (combining_rank Send (s.stand p).node (s.stand p).place a) (combining_rank Send (s.stand q).node (s.stand q).place b);
+    one = λ p q pn qn same a b. one_combiner c (reached c moves) k p q pn qn same (combining_rank Chain.Send (s.stand p).node (s.stand p).place a) (combining_rank Chain.Send (s.stand q).node (s.stand q).place b);
     bounded = λ p pn. bounded_at c r (reached c moves) k (x p) (chain_is c p pn) p (on_chain c p pn) (s.stand p).place refl;
     within = λ p pn a. within_at c r (reached c moves) k (x p) (chain_is c p pn) p (on_chain c p pn) a;
     ordered = λ y. ordered_by c (reached c moves) k c.served refl (λ e. silent_takes c e moves run) (sides_are c moves) y;

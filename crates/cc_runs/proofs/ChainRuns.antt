@@ -6,22 +6,11 @@ use Rattle.cc_model.specs.Record.{Side, Record, silent}
 use Rattle.cc_runs.specs.Words.{groups}
 use Rattle.cc_model.specs.Items.{is_pass}
 use Rattle.cc_model.specs.Config.{config_fault}
-use Rattle.cc_model.specs.declared.call.Pass.{Pass}
-use Rattle.cc_model.specs.declared.call.Answer.{Answer}
-use Rattle.cc_model.specs.declared.call.Answer.TheVariants as answer
-use Rattle.cc_model.specs.declared.call.SendAnswer.TheVariants as send
-use Rattle.cc_runs.specs.declared.setting.Setting.{Setting}
-use Rattle.cc_runs.specs.declared.setting.Served.{Served}
-use Rattle.cc_runs.specs.declared.setting.Served.TheVariants as served
-use Rattle.cc_runs.specs.declared.word.Chain.{Chain}
-use Rattle.cc_runs.specs.declared.word.Chain.TheVariants.{Send, Take}
-use Rattle.cc_runs.specs.declared.place.Stand.{Stand}
-use Rattle.cc_runs.specs.declared.place.Place.{Place}
-use Rattle.cc_runs.specs.declared.place.Place.TheVariants as place
+use Rattle.cc_runs.specs.Names.{Pass, Answer, SendAnswer, Setting, Served, Chain, Stand, Place, Move}
 use Rattle.cc_runs.specs.Codes.{ret_of}
 use Rattle.cc_runs.specs.State.{State, side, with_side, chain_of, pass_at}
 use Rattle.cc_runs.specs.Step.{stepped_from}
-use Rattle.cc_runs.specs.Run.{Move, Begin, Step, Take as Taken, IsRun, reached, passes}
+use Rattle.cc_runs.specs.Run.{IsRun, reached, passes}
 use Rattle.cc_runs.specs.ChainLaws.{IsLastAnswer}
 use Rattle.cc_runs.specs.Safe.{IsStepSafe, IsReady}
 use Rattle.cc_runs.specs.ChainLaws.{IsEntering, IsLastPending, CallsWaitForTheirLink}
@@ -39,14 +28,14 @@ use Rattle.cc_runs.proofs.Chains.Told.{named, name_is, apart_names, NotOther, Ha
 use Rattle.cc_runs.proofs.Chains.Decoded.{FitsIn, reads_back}
 
 -- a counter has no calls of receivers
-pub silent_takes : (c : Setting) → c.served ≡ served.Counter → (moves : List Move) → IsRun c moves → (g : ℕ) → side (Take g) (reached c moves).history ≡ silent
-silent_takes c counter [] run g = no_calls (groups c.config) (Take g)
-silent_takes c counter (Begin p call known ∷ earlier) run g = silent_takes c counter earlier run.0 g
-silent_takes c counter (Taken p ∷ earlier) run g = silent_takes c counter earlier run.0 g
-silent_takes c counter (Step p ∷ earlier) run g =
+pub silent_takes : (c : Setting) → c.served ≡ Served.Counter → (moves : List Move) → IsRun c moves → (g : ℕ) → side (Chain.Take g) (reached c moves).history ≡ silent
+silent_takes c counter [] run g = no_calls (groups c.config) (Chain.Take g)
+silent_takes c counter (Move.Begin p call known ∷ earlier) run g = silent_takes c counter earlier run.0 g
+silent_takes c counter (Move.Take p ∷ earlier) run g = silent_takes c counter earlier run.0 g
+silent_takes c counter (Move.Step p ∷ earlier) run g =
     let less : p < passes c = run.1.0 in
-    let sends : chain_of c.config p ≡ Send = sender_chain c.config p (omega (arith, senders_only c.served c.config counter)) in
-    ap (λ (y : Chain). side (Take g) (stepped_from c (reached c earlier) y p ((reached c earlier).stand p)).history) sends ∙ silent_takes c counter earlier run.0 g
+    let sends : chain_of c.config p ≡ Chain.Send = sender_chain c.config p (omega (arith, senders_only c.served c.config counter)) in
+    ap (λ (y : Chain). side (Chain.Take g) (stepped_from c (reached c earlier) y p ((reached c earlier).stand p)).history) sends ∙ silent_takes c counter earlier run.0 g
 
 module _ (c : Setting) (s : State) (k : Chains c s) where
   -- of a chain that there is
@@ -57,30 +46,30 @@ module _ (c : Setting) (s : State) (k : Chains c s) where
       let within : (k.holds y ok).ghost.pass_of j < members c y = (k.holds y ok).ties.pass_in j below in
       ap (λ (z : Pass). is_pass (named c x p) z) (is.pass_is ∙ name_is c y ((k.holds y ok).ghost.pass_of j) within) ∙ apart_names c x y p ((k.holds y ok).ghost.pass_of j) o inside within
 
-  not_other_by : (what : Served) → c.served ≡ what → (what ≡ served.Counter → (g : ℕ) → side (Take g) s.history ≡ silent) → length s.history.takes ≡ groups c.config → (x : Chain) → NotOther c x s.history
-  not_other_by what e none many x p inside Send o j less = of_chain x Send o tt p j inside less
-  not_other_by served.Counter e none many x p inside (Take g) o j less = absurd (omega (arith, less, ap (λ (z : Side). length z.calls) (none refl g)))
-  not_other_by served.List e none many x p inside (Take g) o j less = elim (cases_lt g (groups c.config)) [
-    | inl near ↦ of_chain x (Take g) o (subst (λ (z : Served). IsChainOf z (groups c.config) (Take g)) (sym e) near) p j inside less
+  not_other_by : (what : Served) → c.served ≡ what → (what ≡ Served.Counter → (g : ℕ) → side (Chain.Take g) s.history ≡ silent) → length s.history.takes ≡ groups c.config → (x : Chain) → NotOther c x s.history
+  not_other_by what e none many x p inside Chain.Send o j less = of_chain x Chain.Send o tt p j inside less
+  not_other_by Served.Counter e none many x p inside (Chain.Take g) o j less = absurd (omega (arith, less, ap (λ (z : Side). length z.calls) (none refl g)))
+  not_other_by Served.List e none many x p inside (Chain.Take g) o j less = elim (cases_lt g (groups c.config)) [
+    | inl near ↦ of_chain x (Chain.Take g) o (subst (λ (z : Served). IsChainOf z (groups c.config) (Chain.Take g)) (sym e) near) p j inside less
     | inr far ↦ absurd (omega (arith, less, ap (λ (z : Side). length z.calls) (get_or_past s.history.takes g silent (omega (arith, far, many)))))
   ]
 
 -- a side for each group, at all times
 pub sides_are : (c : Setting) (moves : List Move) → length (reached c moves).history.takes ≡ groups c.config
 sides_are c [] = length-replicate (groups c.config) silent
-sides_are c (Begin p call known ∷ earlier) = sides_are c earlier
-sides_are c (Taken p ∷ earlier) = sides_are c earlier
-sides_are c (Step p ∷ earlier) = with_length (chain_of c.config p) (reached c earlier).history _ ∙ sides_are c earlier
+sides_are c (Move.Begin p call known ∷ earlier) = sides_are c earlier
+sides_are c (Move.Take p ∷ earlier) = sides_are c earlier
+sides_are c (Move.Step p ∷ earlier) = with_length (chain_of c.config p) (reached c earlier).history _ ∙ sides_are c earlier
   where
     with_length : (y : Chain) (h : Record) (now : Side) → length (with_side y h now).takes ≡ length h.takes
-    with_length Send h now = refl
-    with_length (Take g) h now = length-set h.takes g now
+    with_length Chain.Send h now = refl
+    with_length (Chain.Take g) h now = length-set h.takes g now
 
 pub not_other : (c : Setting) → 0 < c.config.bound → (moves : List Move) → IsRun c moves → (x : Chain) → NotOther c x (reached c moves).history
 not_other c some moves run x = not_other_by c (reached c moves) (chains_hold c some moves run) c.served refl (λ e. silent_takes c e moves run) (sides_are c moves) x
 
 -- what a call that is finished was told
-pub has_told : (c : Setting) → 0 < c.config.bound → (moves : List Move) → IsRun c moves → (p : ℕ) → p < passes c → (told : Answer) → ((reached c moves).stand p).place ≡ place.Finished told →
+pub has_told : (c : Setting) → 0 < c.config.bound → (moves : List Move) → IsRun c moves → (p : ℕ) → p < passes c → (told : Answer) → ((reached c moves).stand p).place ≡ Place.Finished told →
     HasTold c (chain_of c.config p) (reached c moves).history (pass_at c.config p) told
 has_told c some moves run p less told e =
     let k : Chains c (reached c moves) = chains_hold c some moves run in
@@ -91,9 +80,9 @@ has_told c some moves run p less told e =
     (ap (λ (z : ℕ). ((reached c moves).stand z).place) (sym on.pass_is) ∙ e))
 
 entering_rank : (x : Chain) (own : ℕ) (at : Place) → IsEntering at → (post_of x own at).rank ≡ 3
-entering_rank x own (place.WriteTag put request) a = refl
-entering_rank x own (place.WriteBody put request i) a = refl
-entering_rank x own (place.Link put) a = refl
+entering_rank x own (Place.WriteTag put request) a = refl
+entering_rank x own (Place.WriteBody put request i) a = refl
+entering_rank x own (Place.Link put) a = refl
 entering_rank x own _ a = absurd a
 
 -- a call that has exchanged and isn't linked is pending
@@ -108,7 +97,7 @@ calls_wait c checked moves run p less entering =
     subst (λ (z : ℕ). IsLastPending (pass_at c.config z) (reached c moves).history) (sym on.pass_is) record { before = ends.before; entry = _; last = ends.last }
 
 -- a call is told its answer in the history, where the numbers of the answers fit their words
-pub last_answer : (c : Setting) → 0 < c.config.bound → (moves : List Move) → IsRun c moves → (p : ℕ) → p < passes c → (told : Answer) → ((reached c moves).stand p).place ≡ place.Finished told →
+pub last_answer : (c : Setting) → 0 < c.config.bound → (moves : List Move) → IsRun c moves → (p : ℕ) → p < passes c → (told : Answer) → ((reached c moves).stand p).place ≡ Place.Finished told →
     ((n : ℕ) → n < length (answers_on (chain_of c.config p) (reached c moves).history) → FitsIn c.served (answer_at (answers_on (chain_of c.config p) (reached c moves).history) n)) →
     IsLastAnswer (pass_at c.config p) (reached c moves).history told
 last_answer c some moves run p less told e fits =
@@ -121,23 +110,23 @@ last_answer c some moves run p less told e fits =
       last = t.last ∙ ap (λ (z : Answer). t.before ++ (call_at (calls_on (chain_of c.config p) (reached c moves).history) t.number, Some z) ∷ []) same;
     }
 
-fits_counter : (what : Served) → what ≡ served.Counter → (a : Answer) → FitsIn what a
-fits_counter served.Counter e a = tt
-fits_counter served.List e a = absurd (cc)
+fits_counter : (what : Served) → what ≡ Served.Counter → (a : Answer) → FitsIn what a
+fits_counter Served.Counter e a = tt
+fits_counter Served.List e a = absurd (cc)
 
 -- for a counter no number is in the way
-pub counter_answer : (c : Setting) → c.served ≡ served.Counter → 0 < c.config.bound → (moves : List Move) → IsRun c moves → (p : ℕ) → p < passes c → (told : Answer) →
-    ((reached c moves).stand p).place ≡ place.Finished told → IsLastAnswer (pass_at c.config p) (reached c moves).history told
+pub counter_answer : (c : Setting) → c.served ≡ Served.Counter → 0 < c.config.bound → (moves : List Move) → IsRun c moves → (p : ℕ) → p < passes c → (told : Answer) →
+    ((reached c moves).stand p).place ≡ Place.Finished told → IsLastAnswer (pass_at c.config p) (reached c moves).history told
 counter_answer c counter some moves run p less told e = last_answer c some moves run p less told e (λ n within. fits_counter c.served counter _)
 
 -- and the answer is the number of its call among all calls, from 0 on
-pub counter_number : (c : Setting) → c.served ≡ served.Counter → 0 < c.config.bound → (moves : List Move) → IsRun c moves → (p : ℕ) → p < passes c → (told : Answer) →
-    ((reached c moves).stand p).place ≡ place.Finished told → (n : ℕ) × (n < length (reached c moves).history.sends.answers) × (told ≡ answer.Send (send.Accepted n))
+pub counter_number : (c : Setting) → c.served ≡ Served.Counter → 0 < c.config.bound → (moves : List Move) → IsRun c moves → (p : ℕ) → p < passes c → (told : Answer) →
+    ((reached c moves).stand p).place ≡ Place.Finished told → (n : ℕ) × (n < length (reached c moves).history.sends.answers) × (told ≡ Answer.Send (SendAnswer.Accepted n))
 counter_number c counter some moves run p less told e =
-    let sends : chain_of c.config p ≡ Send = sender_chain c.config p (omega (arith, senders_only c.served c.config counter)) in
-    let t : HasTold c Send (reached c moves).history (pass_at c.config p) told = subst (λ (y : Chain). HasTold c y (reached c moves).history (pass_at c.config p) told) sends (has_told c some moves run p less told e) in
+    let sends : chain_of c.config p ≡ Chain.Send = sender_chain c.config p (omega (arith, senders_only c.served c.config counter)) in
+    let t : HasTold c Chain.Send (reached c moves).history (pass_at c.config p) told = subst (λ (y : Chain). HasTold c y (reached c moves).history (pass_at c.config p) told) sends (has_told c some moves run p less told e) in
     let k : Counts c (reached c moves) = counter_holds c counter some moves run in
-    (t.number, t.within, t.read ∙ reads_back c.served Send (answer_at (reached c moves).history.sends.answers t.number) t.sided (fits_counter c.served counter (answer_at (reached c moves).history.sends.answers t.number)) ∙ k.kth t.number t.within)
+    (t.number, t.within, t.read ∙ reads_back c.served Chain.Send (answer_at (reached c moves).history.sends.answers t.number) t.sided (fits_counter c.served counter (answer_at (reached c moves).history.sends.answers t.number)) ∙ k.kth t.number t.within)
 
 -- each step can be done, where the answers fit their words and each step of a service can be done
 pub ready : (c : Setting) → config_fault c.config ≡ Ok tt → (moves : List Move) → IsRun c moves → (p : ℕ) → p < passes c →

@@ -2,26 +2,7 @@
 use Rattle.std.proofs.Common.{◌≡◌, ◌≢◌, ℕ, zero, suc, ◌+◌, ◌*◌, ◌-◌, ◌^◌, ◌<◌, ◌≤◌, Bool, true, false, ◌==◌, nat_lt, cond, refl, ap, sym, ◌∙◌, subst, arith, inl, inr, Option, None, List, [], ◌∷◌, ◌++◌, length}
 use Rattle.std.proofs.lemmas.Bool.{cases_eq}
 use Rattle.std.proofs.lemmas.List.{length_push, get_or_push, get_or_append_left}
-use Rattle.cc_model.specs.declared.config.Config.{Config}
-use Rattle.cc_model.specs.declared.call.Entry.{Entry}
-use Rattle.cc_model.specs.declared.call.Answer.{Answer}
-use Rattle.cc_model.specs.declared.call.Answer.TheVariants as answer
-use Rattle.cc_model.specs.declared.call.SendAnswer.TheVariants as send
-use Rattle.cc_model.specs.declared.call.TakeAnswer.TheVariants as take
-use Rattle.cc_runs.specs.declared.setting.Setting.{Setting}
-use Rattle.cc_runs.specs.declared.setting.Served.{Served}
-use Rattle.cc_runs.specs.declared.setting.Served.TheVariants as served
-use Rattle.cc_runs.specs.declared.word.Chain.TheVariants.{Send}
-use Rattle.cc_runs.specs.declared.word.Object.TheVariants as object
-use Rattle.cc_runs.specs.declared.word.Word.TheVariants.{Object}
-use Rattle.cc_runs.specs.declared.place.Event.TheVariants.{Idle}
-use Rattle.cc_runs.specs.declared.place.Job.{Job}
-use Rattle.cc_runs.specs.declared.place.Round.{Round}
-use Rattle.cc_runs.specs.declared.place.Stand.{Stand}
-use Rattle.cc_runs.specs.declared.place.Counting.{Counting}
-use Rattle.cc_runs.specs.declared.place.Counting.TheVariants as counting
-use Rattle.cc_runs.specs.declared.place.Place.{Place}
-use Rattle.cc_runs.specs.declared.place.Place.TheVariants as place
+use Rattle.cc_runs.specs.Names.{Config, Entry, Answer, SendAnswer, TakeAnswer, Setting, Served, Chain, Object, Word, Event, Job, Round, Stand, Counting, Place}
 use Rattle.cc_runs.specs.Codes.{tag_of, further_words}
 use Rattle.cc_runs.specs.State.{State, hold, appended, word_of}
 use Rattle.cc_runs.specs.Lines.{operation, goes, event_at, enters, decides, after_state, after_next, after_answer}
@@ -36,7 +17,7 @@ use Rattle.cc_runs.proofs.Chains.Own.{sends_where, takes_where}
 
 -- a combiner that has read the counter knows how many answers there are
 abbrev pub HasCount : ℕ → Place → Type 0
-HasCount n (place.Counting job (counting.WriteCount count)) = count ≡ n
+HasCount n (Place.Counting job (Counting.WriteCount count)) = count ≡ n
 HasCount n _ = Unit {0}
 
 -- where a step doesn't touch the counter, and comes neither from nor to a wait for the exchange
@@ -49,23 +30,23 @@ calm_state own zero = record { waits_not = refl; counts_not = λ n. tt }
 calm_state own (suc zero) = record { waits_not = refl; counts_not = λ n. tt }
 calm_state own (suc (suc found)) = record { waits_not = refl; counts_not = λ n. tt }
 
-calm_next : (s : Served) → s ≡ served.Counter → (round : Round) (found : ℕ) → IsCalm (after_next s Send round found)
+calm_next : (s : Served) → s ≡ Served.Counter → (round : Round) (found : ℕ) → IsCalm (after_next s Chain.Send round found)
 calm_next s e round zero = record { waits_not = refl; counts_not = λ n. tt }
-calm_next served.Counter e round (suc found) = record { waits_not = refl; counts_not = λ n. tt }
-calm_next served.List e round (suc found) = absurd (cc)
+calm_next Served.Counter e round (suc found) = record { waits_not = refl; counts_not = λ n. tt }
+calm_next Served.List e round (suc found) = absurd (cc)
 
 calm_answer : (job : Job) (told : Answer) → IsCalm (after_answer job told)
-calm_answer job (answer.Take (take.Got item)) = record { waits_not = refl; counts_not = λ n. tt }
-calm_answer job (answer.Take take.Empty) = record { waits_not = refl; counts_not = λ n. tt }
-calm_answer job (answer.Take (take.Ended total)) = record { waits_not = refl; counts_not = λ n. tt }
-calm_answer job (answer.Send told) = record { waits_not = refl; counts_not = λ n. tt }
-calm_answer job (answer.Close told) = record { waits_not = refl; counts_not = λ n. tt }
+calm_answer job (Answer.Take (TakeAnswer.Got item)) = record { waits_not = refl; counts_not = λ n. tt }
+calm_answer job (Answer.Take TakeAnswer.Empty) = record { waits_not = refl; counts_not = λ n. tt }
+calm_answer job (Answer.Take (TakeAnswer.Ended total)) = record { waits_not = refl; counts_not = λ n. tt }
+calm_answer job (Answer.Send told) = record { waits_not = refl; counts_not = λ n. tt }
+calm_answer job (Answer.Close told) = record { waits_not = refl; counts_not = λ n. tt }
 
-calm_done : (job : Job) (b : Bool) → IsCalm (cond b (place.HandOver job.next) (place.ReadNext record { at = job.next; served = job.round.served + 1 }))
+calm_done : (job : Job) (b : Bool) → IsCalm (cond b (Place.HandOver job.next) (Place.ReadNext record { at = job.next; served = job.round.served + 1 }))
 calm_done job true = record { waits_not = refl; counts_not = λ n. tt }
 calm_done job false = record { waits_not = refl; counts_not = λ n. tt }
 
-calm_words : (job : Job) (tag i : ℕ) (b : Bool) → IsCalm (place.Counting job (cond b (counting.ReadBody tag (i + 1)) counting.ReadCount))
+calm_words : (job : Job) (tag i : ℕ) (b : Bool) → IsCalm (Place.Counting job (cond b (Counting.ReadBody tag (i + 1)) Counting.ReadCount))
 calm_words job tag i true = record { waits_not = refl; counts_not = λ n. tt }
 calm_words job tag i false = record { waits_not = refl; counts_not = λ n. tt }
 
@@ -108,9 +89,9 @@ total_none stands zero none = refl
 total_none stands (suc n) none = omega (arith, none n (omega arith), total_none stands n (λ p less. none p (omega arith)))
 
 pub record Counts (c : Setting) (s : State) : Type 0 where
-  pub count : s.mem (Object object.Count) ≡ length s.history.sends.answers
+  pub count : s.mem (Word.Object Object.Count) ≡ length s.history.sends.answers
   pub counted : (p : ℕ) → p < passes c → HasCount (length s.history.sends.answers) (s.stand p).place
-  pub kth : (k : ℕ) → k < length s.history.sends.answers → answer_at s.history.sends.answers k ≡ answer.Send (send.Accepted k)
+  pub kth : (k : ℕ) → k < length s.history.sends.answers → answer_at s.history.sends.answers k ≡ Answer.Send (SendAnswer.Accepted k)
   pub begun_in : (p : ℕ) → p < passes c → (s.stand p).begun ≤ c.config.per_sender
   pub began : (p : ℕ) → p < passes c → before_exchange (s.stand p).place ≤ (s.stand p).begun
   pub calls : length s.history.sends.calls ≡ total s.stand (passes c)
@@ -135,13 +116,13 @@ module _ (c : Setting) (s : State) (p : ℕ) (inside : p < passes c) (k : Counts
   ]
 
   -- the pass goes there, and the history stays but for calls
-  pub counts_on : (t : State) → t.stand ≡ hold s.stand p there → t.mem (Object object.Count) ≡ s.mem (Object object.Count) → t.history.sends.answers ≡ s.history.sends.answers →
+  pub counts_on : (t : State) → t.stand ≡ hold s.stand p there → t.mem (Word.Object Object.Count) ≡ s.mem (Word.Object Object.Count) → t.history.sends.answers ≡ s.history.sends.answers →
       length t.history.sends.calls + gone (s.stand p) ≡ length s.history.sends.calls + gone there → HasCount (length s.history.sends.answers) there.place → there.begun ≤ c.config.per_sender → before_exchange there.place ≤ there.begun → Counts c t
   counts_on t stands mem answers calls counted begun began = record {
     count = mem ∙ k.count ∙ ap length (sym answers);
     counted = λ q qn. subst (λ (l : List Answer). HasCount (length l) (t.stand q).place) (sym answers)
         (subst (λ (f : ℕ → Stand). HasCount (length s.history.sends.answers) (f q).place) (sym stands) (counted_all (length s.history.sends.answers) counted (λ r rn ne. k.counted r rn) q qn));
-    kth = λ j l. subst (λ (z : List Answer). answer_at z j ≡ answer.Send (send.Accepted j)) (sym answers) (k.kth j (omega (arith, ap length answers)));
+    kth = λ j l. subst (λ (z : List Answer). answer_at z j ≡ Answer.Send (SendAnswer.Accepted j)) (sym answers) (k.kth j (omega (arith, ap length answers)));
     begun_in = λ q qn. subst (λ (f : ℕ → Stand). (f q).begun ≤ c.config.per_sender) (sym stands) (begun_after_all begun q qn);
     began = λ q qn. subst (λ (f : ℕ → Stand). before_exchange (f q).place ≤ (f q).begun) (sym stands) (began_all began q qn);
     calls = omega (arith, k.calls, total_near s.stand p (passes c) there inside, ap (λ (f : ℕ → Stand). total f (passes c)) stands);
@@ -149,17 +130,17 @@ module _ (c : Setting) (s : State) (p : ℕ) (inside : p < passes c) (k : Counts
 
   -- one answer more
   counts_more : (t : State) (others : (q : ℕ) → q < passes c → q ≢ p → (n : ℕ) → HasCount n (s.stand q).place) → t.stand ≡ hold s.stand p there →
-      t.mem (Object object.Count) ≡ length s.history.sends.answers + 1 → t.history.sends.answers ≡ s.history.sends.answers ++ answer.Send (send.Accepted (length s.history.sends.answers)) ∷ [] →
+      t.mem (Word.Object Object.Count) ≡ length s.history.sends.answers + 1 → t.history.sends.answers ≡ s.history.sends.answers ++ Answer.Send (SendAnswer.Accepted (length s.history.sends.answers)) ∷ [] →
       t.history.sends.calls ≡ s.history.sends.calls → gone there ≡ gone (s.stand p) → ((n : ℕ) → HasCount n there.place) → there.begun ≤ c.config.per_sender → before_exchange there.place ≤ there.begun → Counts c t
   counts_more t others stands mem answers calls same counted begun began =
-      let a : Answer = answer.Send (send.Accepted (length s.history.sends.answers)) in
+      let a : Answer = Answer.Send (SendAnswer.Accepted (length s.history.sends.answers)) in
       let long : length t.history.sends.answers ≡ length s.history.sends.answers + 1 = ap length answers ∙ length_push s.history.sends.answers a in
       record {
         count = mem ∙ sym long;
         counted = λ q qn. subst (λ (f : ℕ → Stand). HasCount (length t.history.sends.answers) (f q).place) (sym stands)
             (counted_all (length t.history.sends.answers) (counted (length t.history.sends.answers)) (λ r rn ne. others r rn ne (length t.history.sends.answers)) q qn);
-        kth = λ j l. subst (λ (z : List Answer). answer_at z j ≡ answer.Send (send.Accepted j)) (sym answers) (elim (cases_eq j (length s.history.sends.answers)) [
-          | inl is ↦ get_or_push s.history.sends.answers a no_answer j (sym is) ∙ ap (λ (z : ℕ). answer.Send (send.Accepted z)) (sym is)
+        kth = λ j l. subst (λ (z : List Answer). answer_at z j ≡ Answer.Send (SendAnswer.Accepted j)) (sym answers) (elim (cases_eq j (length s.history.sends.answers)) [
+          | inl is ↦ get_or_push s.history.sends.answers a no_answer j (sym is) ∙ ap (λ (z : ℕ). Answer.Send (SendAnswer.Accepted z)) (sym is)
           | inr ne ↦ let less : j < length s.history.sends.answers = omega (arith, long) in get_or_append_left s.history.sends.answers (a ∷ []) no_answer j less ∙ k.kth j less
         ]);
         begun_in = λ q qn. subst (λ (f : ℕ → Stand). (f q).begun ≤ c.config.per_sender) (sym stands) (begun_after_all begun q qn);
@@ -168,27 +149,27 @@ module _ (c : Setting) (s : State) (p : ℕ) (inside : p < passes c) (k : Counts
       }
 
 -- a counter has senders alone
-pub senders_only : (what : Served) (config : Config) → what ≡ served.Counter → passes_of what config ≡ config.senders
-senders_only served.Counter config e = refl
-senders_only served.List config e = absurd (cc)
+pub senders_only : (what : Served) (config : Config) → what ≡ Served.Counter → passes_of what config ≡ config.senders
+senders_only Served.Counter config e = refl
+senders_only Served.List config e = absurd (cc)
 
-pub not_both : served.Counter ≡ served.List → ⊥
+pub not_both : Served.Counter ≡ Served.List → ⊥
 not_both e = cc
 
 -- only a combiner has read the counter
-not_counting : (own : ℕ) (at : Place) → (post_of Send own at).rank ≢ 5 → (n : ℕ) → HasCount n at
-not_counting own (place.Counting job service) ne n = absurd (ne refl)
+not_counting : (own : ℕ) (at : Place) → (post_of Chain.Send own at).rank ≢ 5 → (n : ℕ) → HasCount n at
+not_counting own (Place.Counting job service) ne n = absurd (ne refl)
 not_counting own at ne n = tt
 
-module _ (c : Setting) (counter : c.served ≡ served.Counter) (s : State) (k : Counts c s) (w : Holds c Send s) (p begun own : ℕ) (inside : p < passes c) (member : p < c.config.senders) where
+module _ (c : Setting) (counter : c.served ≡ Served.Counter) (s : State) (k : Counts c s) (w : Holds c Chain.Send s) (p begun own : ℕ) (inside : p < passes c) (member : p < c.config.senders) where
   abbrev Here : Place → Type 0
   Here at = s.stand p ≡ record { begun = begun; node = own; place = at }
 
   abbrev next : Place → State
-  next at = stepped_from c s Send p record { begun = begun; node = own; place = at }
+  next at = stepped_from c s Chain.Send p record { begun = begun; node = own; place = at }
 
   abbrev found : Place → ℕ
-  found at = s.mem (word_of (operation c Send own at))
+  found at = s.mem (word_of (operation c Chain.Send own at))
 
   begun_is : (at : Place) → Here at → begun ≤ c.config.per_sender
   begun_is at e = subst (λ (z : Stand). z.begun ≤ c.config.per_sender) e (k.begun_in p inside)
@@ -196,67 +177,67 @@ module _ (c : Setting) (counter : c.served ≡ served.Counter) (s : State) (k : 
   waits_is : (at : Place) → Here at → before_exchange at ≤ begun
   waits_is at e = subst (λ (z : Stand). before_exchange z.place ≤ z.begun) e (k.began p inside)
 
-  quiet : (at there : Place) → Here at → goes c Send own at (found at) ≡ there → before_exchange there ≡ before_exchange at → HasCount (length s.history.sends.answers) there → (next at).mem (Object object.Count) ≡ s.mem (Object object.Count) →
+  quiet : (at there : Place) → Here at → goes c Chain.Send own at (found at) ≡ there → before_exchange there ≡ before_exchange at → HasCount (length s.history.sends.answers) there → (next at).mem (Word.Object Object.Count) ≡ s.mem (Word.Object Object.Count) →
       enters at ≡ None → decides c at (found at) ≡ None → Counts c (next at)
   quiet at there e go wait counted mem enter none =
       let old : gone (s.stand p) ≡ begun - before_exchange at = ap gone e in
-      let same : before_exchange (goes c Send own at (found at)) ≡ before_exchange at = ap before_exchange go ∙ wait in
-      counts_on c s p inside k (advanced c Send record { begun = begun; node = own; place = at } (found at)) (next at) refl mem (ap (λ (z : Option Answer). appended s.history.sends.answers z) none)
+      let same : before_exchange (goes c Chain.Send own at (found at)) ≡ before_exchange at = ap before_exchange go ∙ wait in
+      counts_on c s p inside k (advanced c Chain.Send record { begun = begun; node = own; place = at } (found at)) (next at) refl mem (ap (λ (z : Option Answer). appended s.history.sends.answers z) none)
       (omega (arith, old, same, ap (λ (z : Option Entry). length (appended s.history.sends.calls z)) enter))
       (subst (λ (z : Place). HasCount (length s.history.sends.answers) z) (sym go) counted) (begun_is at e) (omega (arith, same, waits_is at e))
 
-  calm : (at there : Place) → Here at → goes c Send own at (found at) ≡ there → before_exchange at ≡ 0 → IsCalm there → (next at).mem (Object object.Count) ≡ s.mem (Object object.Count) → enters at ≡ None → decides c at (found at) ≡ None → Counts c (next at)
+  calm : (at there : Place) → Here at → goes c Chain.Send own at (found at) ≡ there → before_exchange at ≡ 0 → IsCalm there → (next at).mem (Word.Object Object.Count) ≡ s.mem (Word.Object Object.Count) → enters at ≡ None → decides c at (found at) ≡ None → Counts c (next at)
   calm at there e go wait is mem enter none = quiet at there e go (is.waits_not ∙ sym wait) (is.counts_not (length s.history.sends.answers)) mem enter none
 
-  exchange : (call : Entry) → Here (place.Exchange call) → Counts c (next (place.Exchange call))
+  exchange : (call : Entry) → Here (Place.Exchange call) → Counts c (next (Place.Exchange call))
   exchange call e =
       let old : gone (s.stand p) ≡ begun - 1 = ap gone e in
-      counts_on c s p inside k (advanced c Send record { begun = begun; node = own; place = place.Exchange call } (found (place.Exchange call))) (next (place.Exchange call)) refl refl refl
-      (omega (arith, old, waits_is (place.Exchange call) e, length_push s.history.sends.calls call)) tt (begun_is (place.Exchange call) e) (omega arith)
+      counts_on c s p inside k (advanced c Chain.Send record { begun = begun; node = own; place = Place.Exchange call } (found (Place.Exchange call))) (next (Place.Exchange call)) refl refl refl
+      (omega (arith, old, waits_is (Place.Exchange call) e, length_push s.history.sends.calls call)) tt (begun_is (Place.Exchange call) e) (omega arith)
 
-  me : (at : Place) → Here at → (post_of Send own at).rank ≡ 5 → w.ghost.server ≡ p + 1
-  me at e five = w.inv.server.server_is p member (ap (λ (z : Stand). (post_at Send z).rank) e ∙ five)
+  me : (at : Place) → Here at → (post_of Chain.Send own at).rank ≡ 5 → w.ghost.server ≡ p + 1
+  me at e five = w.inv.server.server_is p member (ap (λ (z : Stand). (post_at Chain.Send z).rank) e ∙ five)
 
-  others : (at : Place) → Here at → (post_of Send own at).rank ≡ 5 → (q : ℕ) → q < passes c → q ≢ p → (n : ℕ) → HasCount n (s.stand q).place
+  others : (at : Place) → Here at → (post_of Chain.Send own at).rank ≡ 5 → (q : ℕ) → q < passes c → q ≢ p → (n : ℕ) → HasCount n (s.stand q).place
   others at e five q qn ne n =
       not_counting (s.stand q).node (s.stand q).place (λ same. ne (omega (arith, me at e five, w.inv.server.server_is q (omega (arith, senders_only c.served c.config counter)) same))) n
 
-  write_count : (job : Job) (count : ℕ) → Here (place.Counting job (counting.WriteCount count)) → Counts c (next (place.Counting job (counting.WriteCount count)))
+  write_count : (job : Job) (count : ℕ) → Here (Place.Counting job (Counting.WriteCount count)) → Counts c (next (Place.Counting job (Counting.WriteCount count)))
   write_count job count e =
       let is : count ≡ length s.history.sends.answers = subst (λ (z : Stand). HasCount (length s.history.sends.answers) z.place) e (k.counted p inside) in
-      counts_more c s p inside k (advanced c Send record { begun = begun; node = own; place = place.Counting job (counting.WriteCount count) } (found (place.Counting job (counting.WriteCount count)))) (next (place.Counting job (counting.WriteCount count)))
-      (others (place.Counting job (counting.WriteCount count)) e refl) refl (ap (λ (z : ℕ). z + 1) is) (ap (λ (z : ℕ). s.history.sends.answers ++ answer.Send (send.Accepted z) ∷ []) is) refl (sym (ap gone e)) (λ n. tt)
-      (begun_is (place.Counting job (counting.WriteCount count)) e) (omega arith)
+      counts_more c s p inside k (advanced c Chain.Send record { begun = begun; node = own; place = Place.Counting job (Counting.WriteCount count) } (found (Place.Counting job (Counting.WriteCount count)))) (next (Place.Counting job (Counting.WriteCount count)))
+      (others (Place.Counting job (Counting.WriteCount count)) e refl) refl (ap (λ (z : ℕ). z + 1) is) (ap (λ (z : ℕ). s.history.sends.answers ++ Answer.Send (SendAnswer.Accepted z) ∷ []) is) refl (sym (ap gone e)) (λ n. tt)
+      (begun_is (Place.Counting job (Counting.WriteCount count)) e) (omega arith)
 
-  serves_at : (at : Place) → Here at → (post_of Send own at).rank ≡ 5 → HasService c.served Send (call_at s.history.sends.calls w.ghost.marked) (answer_at s.history.sends.answers w.ghost.marked) at
-  serves_at at e five = subst (λ (z : Stand). HasService c.served Send (call_at s.history.sends.calls w.ghost.marked) (answer_at s.history.sends.answers w.ghost.marked) z.place) e (w.ties.served p (me at e five))
+  serves_at : (at : Place) → Here at → (post_of Chain.Send own at).rank ≡ 5 → HasService c.served Chain.Send (call_at s.history.sends.calls w.ghost.marked) (answer_at s.history.sends.answers w.ghost.marked) at
+  serves_at at e five = subst (λ (z : Stand). HasService c.served Chain.Send (call_at s.history.sends.calls w.ghost.marked) (answer_at s.history.sends.answers w.ghost.marked) z.place) e (w.ties.served p (me at e five))
 
-  counting_step : (job : Job) (service : Counting) → Here (place.Counting job service) → Counts c (next (place.Counting job service))
-  counting_step job counting.ReadTag e = quiet (place.Counting job counting.ReadTag) _ e refl refl tt refl refl refl
-  counting_step job (counting.ReadBody tag i) e = calm (place.Counting job (counting.ReadBody tag i)) _ e refl refl (calm_words job tag i (nat_lt i (further_words tag))) refl refl refl
-  counting_step job counting.ReadCount e = quiet (place.Counting job counting.ReadCount) (place.Counting job (counting.WriteCount (s.mem (Object object.Count)))) e refl refl k.count refl refl refl
-  counting_step job (counting.WriteCount count) e = write_count job count e
+  counting_step : (job : Job) (service : Counting) → Here (Place.Counting job service) → Counts c (next (Place.Counting job service))
+  counting_step job Counting.ReadTag e = quiet (Place.Counting job Counting.ReadTag) _ e refl refl tt refl refl refl
+  counting_step job (Counting.ReadBody tag i) e = calm (Place.Counting job (Counting.ReadBody tag i)) _ e refl refl (calm_words job tag i (nat_lt i (further_words tag))) refl refl refl
+  counting_step job Counting.ReadCount e = quiet (Place.Counting job Counting.ReadCount) (Place.Counting job (Counting.WriteCount (s.mem (Word.Object Object.Count)))) e refl refl k.count refl refl refl
+  counting_step job (Counting.WriteCount count) e = write_count job count e
 
-  pub counts_step : (at : Place) → Here at → event_at at ≢ Idle → Counts c (next at)
-  counts_step place.Idle e busy = absurd (busy refl)
-  counts_step (place.ResetNext call) e busy = quiet (place.ResetNext call) (place.ResetState call) e refl refl tt refl refl refl
-  counts_step (place.ResetState call) e busy = quiet (place.ResetState call) (place.Exchange call) e refl refl tt refl refl refl
-  counts_step (place.Exchange call) e busy = exchange call e
-  counts_step (place.WriteTag put request) e busy = quiet (place.WriteTag put request) (place.WriteBody put request 0) e refl refl tt refl refl refl
-  counts_step (place.WriteBody put request i) e busy = calm (place.WriteBody put request i) _ e refl refl (calm_either (nat_lt i (further_words request.tag)) (place.WriteBody put request (i + 1)) (place.Link put) record { waits_not = refl; counts_not = λ n. tt } record { waits_not = refl; counts_not = λ n. tt }) refl refl refl
-  counts_step (place.Link put) e busy = quiet (place.Link put) place.ReadState e refl refl tt refl refl refl
-  counts_step place.ReadState e busy = calm place.ReadState _ e refl refl (calm_state own (found place.ReadState)) refl refl refl
-  counts_step (place.ReadNext round) e busy = calm (place.ReadNext round) _ e refl refl (calm_next c.served counter round (found (place.ReadNext round))) refl refl refl
-  counts_step (place.Counting job service) e busy = counting_step job service e
-  counts_step (place.Sending job service) e busy =
-      let no : c.served ≡ served.List = (sends_where c.served Send _ (serves_at (place.Sending job service) e refl)).0 in absurd (not_both (sym counter ∙ no))
-  counts_step (place.Taking job service) e busy = let no : c.served ≡ served.List = (takes_where c.served Send (serves_at (place.Taking job service) e refl)).0 in absurd (not_both (sym counter ∙ no))
-  counts_step (place.WriteAnswer job told) e busy = calm (place.WriteAnswer job told) _ e refl refl (calm_answer job told) refl refl refl
-  counts_step (place.WriteAnswerTag job item) e busy = quiet (place.WriteAnswerTag job item) (place.WriteAnswerBody job item 0) e refl refl tt refl refl refl
-  counts_step (place.WriteAnswerBody job item i) e busy = calm (place.WriteAnswerBody job item i) _ e refl refl (calm_either (nat_lt i (further_words (tag_of item))) (place.WriteAnswerBody job item (i + 1)) (place.MarkDone job) record { waits_not = refl; counts_not = λ n. tt } record { waits_not = refl; counts_not = λ n. tt }) refl refl refl
-  counts_step (place.MarkDone job) e busy = calm (place.MarkDone job) _ e refl refl (calm_done job (job.round.served + 1 == c.config.bound)) refl refl refl
-  counts_step (place.HandOver at) e busy = quiet (place.HandOver at) place.ReadAnswer e refl refl tt refl refl refl
-  counts_step place.ReadAnswer e busy = quiet place.ReadAnswer _ e refl refl tt refl refl refl
-  counts_step (place.ReadAnswerTag at) e busy = quiet (place.ReadAnswerTag at) _ e refl refl tt refl refl refl
-  counts_step (place.ReadAnswerBody at i) e busy = calm (place.ReadAnswerBody at i) _ e refl refl (calm_either (nat_lt i (further_words at.tag)) _ _ record { waits_not = refl; counts_not = λ n. tt } record { waits_not = refl; counts_not = λ n. tt }) refl refl refl
-  counts_step (place.Finished told) e busy = absurd (busy refl)
+  pub counts_step : (at : Place) → Here at → event_at at ≢ Event.Idle → Counts c (next at)
+  counts_step Place.Idle e busy = absurd (busy refl)
+  counts_step (Place.ResetNext call) e busy = quiet (Place.ResetNext call) (Place.ResetState call) e refl refl tt refl refl refl
+  counts_step (Place.ResetState call) e busy = quiet (Place.ResetState call) (Place.Exchange call) e refl refl tt refl refl refl
+  counts_step (Place.Exchange call) e busy = exchange call e
+  counts_step (Place.WriteTag put request) e busy = quiet (Place.WriteTag put request) (Place.WriteBody put request 0) e refl refl tt refl refl refl
+  counts_step (Place.WriteBody put request i) e busy = calm (Place.WriteBody put request i) _ e refl refl (calm_either (nat_lt i (further_words request.tag)) (Place.WriteBody put request (i + 1)) (Place.Link put) record { waits_not = refl; counts_not = λ n. tt } record { waits_not = refl; counts_not = λ n. tt }) refl refl refl
+  counts_step (Place.Link put) e busy = quiet (Place.Link put) Place.ReadState e refl refl tt refl refl refl
+  counts_step Place.ReadState e busy = calm Place.ReadState _ e refl refl (calm_state own (found Place.ReadState)) refl refl refl
+  counts_step (Place.ReadNext round) e busy = calm (Place.ReadNext round) _ e refl refl (calm_next c.served counter round (found (Place.ReadNext round))) refl refl refl
+  counts_step (Place.Counting job service) e busy = counting_step job service e
+  counts_step (Place.Sending job service) e busy =
+      let no : c.served ≡ Served.List = (sends_where c.served Chain.Send _ (serves_at (Place.Sending job service) e refl)).0 in absurd (not_both (sym counter ∙ no))
+  counts_step (Place.Taking job service) e busy = let no : c.served ≡ Served.List = (takes_where c.served Chain.Send (serves_at (Place.Taking job service) e refl)).0 in absurd (not_both (sym counter ∙ no))
+  counts_step (Place.WriteAnswer job told) e busy = calm (Place.WriteAnswer job told) _ e refl refl (calm_answer job told) refl refl refl
+  counts_step (Place.WriteAnswerTag job item) e busy = quiet (Place.WriteAnswerTag job item) (Place.WriteAnswerBody job item 0) e refl refl tt refl refl refl
+  counts_step (Place.WriteAnswerBody job item i) e busy = calm (Place.WriteAnswerBody job item i) _ e refl refl (calm_either (nat_lt i (further_words (tag_of item))) (Place.WriteAnswerBody job item (i + 1)) (Place.MarkDone job) record { waits_not = refl; counts_not = λ n. tt } record { waits_not = refl; counts_not = λ n. tt }) refl refl refl
+  counts_step (Place.MarkDone job) e busy = calm (Place.MarkDone job) _ e refl refl (calm_done job (job.round.served + 1 == c.config.bound)) refl refl refl
+  counts_step (Place.HandOver at) e busy = quiet (Place.HandOver at) Place.ReadAnswer e refl refl tt refl refl refl
+  counts_step Place.ReadAnswer e busy = quiet Place.ReadAnswer _ e refl refl tt refl refl refl
+  counts_step (Place.ReadAnswerTag at) e busy = quiet (Place.ReadAnswerTag at) _ e refl refl tt refl refl refl
+  counts_step (Place.ReadAnswerBody at i) e busy = calm (Place.ReadAnswerBody at i) _ e refl refl (calm_either (nat_lt i (further_words at.tag)) _ _ record { waits_not = refl; counts_not = λ n. tt } record { waits_not = refl; counts_not = λ n. tt }) refl refl refl
+  counts_step (Place.Finished told) e busy = absurd (busy refl)

@@ -2,30 +2,12 @@
 use Rattle.std.proofs.Common.{◌≡◌, ◌≢◌, ℕ, ◌+◌, ◌*◌, ◌-◌, ◌^◌, ◌<◌, ◌≤◌, cond, Bool, refl, ap, sym, ◌∙◌, subst, arith, List, [], ◌∷◌, length, Ok}
 use Rattle.std.proofs.lemmas.Bool.{lt-ltb}
 use Rattle.cc_model.specs.Config.{config_fault}
-use Rattle.cc_model.specs.declared.call.Call.{Call}
-use Rattle.cc_model.specs.declared.call.Call.TheVariants as call
-use Rattle.cc_model.specs.declared.call.Answer.{Answer}
-use Rattle.cc_model.specs.declared.call.Answer.TheVariants as answer
-use Rattle.cc_model.specs.declared.call.SendAnswer.TheVariants as send
-use Rattle.cc_runs.specs.declared.setting.Setting.{Setting}
-use Rattle.cc_runs.specs.declared.setting.Served.{Served}
-use Rattle.cc_runs.specs.declared.setting.Served.TheVariants as served
-use Rattle.cc_runs.specs.declared.word.Chain.{Chain}
-use Rattle.cc_runs.specs.declared.word.Chain.TheVariants.{Send}
-use Rattle.cc_runs.specs.declared.word.Chain.TheVariants as chain
-use Rattle.cc_runs.specs.declared.word.NodeField.TheVariants as node
-use Rattle.cc_runs.specs.declared.place.Event.TheVariants.{Idle}
-use Rattle.cc_runs.specs.declared.place.Stand.{Stand}
-use Rattle.cc_runs.specs.declared.place.Job.{Job}
-use Rattle.cc_runs.specs.declared.place.Counting.{Counting}
-use Rattle.cc_runs.specs.declared.place.Counting.TheVariants as counting
-use Rattle.cc_runs.specs.declared.place.Place.{Place}
-use Rattle.cc_runs.specs.declared.place.Place.TheVariants as place
+use Rattle.cc_runs.specs.Names.{Call, Answer, SendAnswer, Setting, Served, Chain, NodeField, Event, Stand, Job, Counting, Place, Move}
 use Rattle.cc_runs.specs.Codes.{ret_of}
 use Rattle.cc_runs.specs.State.{State, chain_of, first_node}
 use Rattle.cc_runs.specs.Lines.{event_at}
 use Rattle.cc_runs.specs.Step.{stepped_from, stepped}
-use Rattle.cc_runs.specs.Run.{Move, Begin, Step, Take, May, IsRun, IsOn, IsIdle, IsFinished, reached, moved, passes, begun_after, begins, rests, opening, nowhere}
+use Rattle.cc_runs.specs.Run.{May, IsRun, IsOn, IsIdle, IsFinished, reached, moved, passes, begun_after, begins, rests, opening, nowhere}
 use Rattle.cc_runs.specs.Safe.{IsSafe, IsReady, IsOpenAt}
 use Rattle.cc_runs.specs.CallsMade.{before_exchange}
 use Rattle.cc_runs.proofs.Ranges.{InRange, in_range}
@@ -39,8 +21,8 @@ use Rattle.cc_runs.proofs.Chains.Safe as safe
 use Rattle.cc_runs.proofs.Chains.Safe.{IsService, node_exists, four_words}
 use Rattle.cc_runs.proofs.Chains.Runs.{chain_holds}
 
-opened_stand : (c : Setting) (p : ℕ) → p < passes c → (opening c).stand p ≡ record { begun = 0; node = first_node c.config p; place = place.Idle }
-opened_stand c p less = ap (λ (b : Bool). cond b record { begun = 0; node = first_node c.config p; place = place.Idle } nowhere) (lt-ltb p (passes c) less)
+opened_stand : (c : Setting) (p : ℕ) → p < passes c → (opening c).stand p ≡ record { begun = 0; node = first_node c.config p; place = Place.Idle }
+opened_stand c p less = ap (λ (b : Bool). cond b record { begun = 0; node = first_node c.config p; place = Place.Idle } nowhere) (lt-ltb p (passes c) less)
 
 counts_opened : (c : Setting) → Counts c (opening c)
 counts_opened c = record {
@@ -52,53 +34,53 @@ counts_opened c = record {
   calls = sym (total_none (opening c).stand (passes c) (λ p less. ap (λ (z : Stand). z.begun) (opened_stand c p less)));
 }
 
-only_sends : (what : Served) (x : Chain) (it : Call) → what ≡ served.Counter → IsOn what x it → (begun : ℕ) → begun_after it begun ≡ begun + 1
-only_sends what x (call.Send body) e on begun = refl
-only_sends served.Counter Send call.Close e on begun = absurd on
-only_sends served.Counter (chain.Take g) call.Close e on begun = absurd on
-only_sends served.Counter Send call.Take e on begun = absurd on
-only_sends served.Counter (chain.Take g) call.Take e on begun = absurd on
-only_sends served.List x it e on begun = absurd (cc)
+only_sends : (what : Served) (x : Chain) (it : Call) → what ≡ Served.Counter → IsOn what x it → (begun : ℕ) → begun_after it begun ≡ begun + 1
+only_sends what x (Call.Send body) e on begun = refl
+only_sends Served.Counter Chain.Send Call.Close e on begun = absurd on
+only_sends Served.Counter (Chain.Take g) Call.Close e on begun = absurd on
+only_sends Served.Counter Chain.Send Call.Take e on begun = absurd on
+only_sends Served.Counter (Chain.Take g) Call.Take e on begun = absurd on
+only_sends Served.List x it e on begun = absurd (cc)
 
 idle_waits : (at : Place) → IsIdle at → before_exchange at ≡ 0
-idle_waits place.Idle a = refl
+idle_waits Place.Idle a = refl
 idle_waits _ a = absurd a
 
 finished_waits : (at : Place) → IsFinished at → before_exchange at ≡ 0
-finished_waits (place.Finished told) a = refl
+finished_waits (Place.Finished told) a = refl
 finished_waits _ a = absurd a
 
-module _ (c : Setting) (counter : c.served ≡ served.Counter) (s : State) (k : Counts c s) where
+module _ (c : Setting) (counter : c.served ≡ Served.Counter) (s : State) (k : Counts c s) where
   sender : (p : ℕ) → p < passes c → p < c.config.senders
   sender p less = omega (arith, senders_only c.served c.config counter)
 
-  step_keeps : (w : Holds c Send s) (p : ℕ) → p < passes c → event_at (s.stand p).place ≢ Idle → Counts c (stepped c s p)
+  step_keeps : (w : Holds c Chain.Send s) (p : ℕ) → p < passes c → event_at (s.stand p).place ≢ Event.Idle → Counts c (stepped c s p)
   step_keeps w p less busy =
       subst (λ (y : Chain). Counts c (stepped_from c s y p (s.stand p))) (sym (sender_chain c.config p (sender p less)))
       (counts_step c counter s k w p (s.stand p).begun (s.stand p).node less (sender p less) (s.stand p).place refl busy)
 
-  begin_keeps : (p : ℕ) (it : Call) (known : ℕ) → May c s (Begin p it known) → Counts c (moved c s (Begin p it known))
+  begin_keeps : (p : ℕ) (it : Call) (known : ℕ) → May c s (Move.Begin p it known) → Counts c (moved c s (Move.Begin p it known))
   begin_keeps p it known may =
       let more : begun_after it (s.stand p).begun ≡ (s.stand p).begun + 1 = only_sends c.served (chain_of c.config p) it counter may.1 (s.stand p).begun in
       let old : gone (s.stand p) ≡ (s.stand p).begun - 0 = ap (λ (z : ℕ). (s.stand p).begun - z) (idle_waits (s.stand p).place may.2) in
       let new : gone (begins c.config p it known (s.stand p)) ≡ (s.stand p).begun + 1 - 1 = ap (λ (z : ℕ). z - 1) more in
-      counts_on c s p may.0 k (begins c.config p it known (s.stand p)) (moved c s (Begin p it known)) refl refl refl (omega (arith, old, new)) tt may.3 (omega (arith, more))
+      counts_on c s p may.0 k (begins c.config p it known (s.stand p)) (moved c s (Move.Begin p it known)) refl refl refl (omega (arith, old, new)) tt may.3 (omega (arith, more))
 
-  take_keeps : (p : ℕ) → May c s (Take p) → Counts c (moved c s (Take p))
+  take_keeps : (p : ℕ) → May c s (Move.Take p) → Counts c (moved c s (Move.Take p))
   take_keeps p may =
       let old : gone (s.stand p) ≡ (s.stand p).begun - 0 = ap (λ (z : ℕ). (s.stand p).begun - z) (finished_waits (s.stand p).place may.1) in
-      counts_on c s p may.0 k (rests (s.stand p)) (moved c s (Take p)) refl refl refl (omega (arith, old)) tt (k.begun_in p may.0) (omega arith)
+      counts_on c s p may.0 k (rests (s.stand p)) (moved c s (Move.Take p)) refl refl refl (omega (arith, old)) tt (k.begun_in p may.0) (omega arith)
 
-  move_keeps : (w : Holds c Send s) (m : Move) → May c s m → Counts c (moved c s m)
-  move_keeps w (Begin p it known) may = begin_keeps p it known may
-  move_keeps w (Step p) may = step_keeps w p may.0 may.1
-  move_keeps w (Take p) may = take_keeps p may
+  move_keeps : (w : Holds c Chain.Send s) (m : Move) → May c s m → Counts c (moved c s m)
+  move_keeps w (Move.Begin p it known) may = begin_keeps p it known may
+  move_keeps w (Move.Step p) may = step_keeps w p may.0 may.1
+  move_keeps w (Move.Take p) may = take_keeps p may
 
-pub counter_holds : (c : Setting) → c.served ≡ served.Counter → 0 < c.config.bound → (moves : List Move) → IsRun c moves → Counts c (reached c moves)
+pub counter_holds : (c : Setting) → c.served ≡ Served.Counter → 0 < c.config.bound → (moves : List Move) → IsRun c moves → Counts c (reached c moves)
 counter_holds c counter some [] run = counts_opened c
-counter_holds c counter some (m ∷ earlier) run = move_keeps c counter (reached c earlier) (counter_holds c counter some earlier run.0) (chain_holds c Send tt some earlier run.0) m run.1
+counter_holds c counter some (m ∷ earlier) run = move_keeps c counter (reached c earlier) (counter_holds c counter some earlier run.0) (chain_holds c Chain.Send tt some earlier run.0) m run.1
 
-module _ (c : Setting) (counter : c.served ≡ served.Counter) (r : InRange c.config) (s : State) (k : Counts c s) (w : Holds c Send s) where
+module _ (c : Setting) (counter : c.served ≡ Served.Counter) (r : InRange c.config) (s : State) (k : Counts c s) (w : Holds c Chain.Send s) where
   few_calls : length s.history.sends.calls ≤ 64 * 2 ^ 32
   few_calls =
       let all : total s.stand (passes c) ≤ passes c * 2 ^ 32 = total_most s.stand (passes c) (λ p less. omega (arith, k.begun_in p less, r.per_sender)) in
@@ -110,7 +92,7 @@ module _ (c : Setting) (counter : c.served ≡ served.Counter) (r : InRange c.co
   fit : (n : ℕ) → n < length s.history.sends.answers → ret_of c.served (answer_at s.history.sends.answers n) < 2 ^ 64
   fit n less =
       subst (λ (z : Answer). ret_of c.served z < 2 ^ 64) (sym (k.kth n less))
-      (subst (λ (what : Served). ret_of what (answer.Send (send.Accepted n)) < 2 ^ 64) (sym counter) (omega (arith, few_answers)))
+      (subst (λ (what : Served). ret_of what (Answer.Send (SendAnswer.Accepted n)) < 2 ^ 64) (sym counter) (omega (arith, few_answers)))
 
   module _ (p begun own : ℕ) (member : p < c.config.senders) where
     abbrev Here : Place → Type 0
@@ -119,38 +101,38 @@ module _ (c : Setting) (counter : c.served ≡ served.Counter) (r : InRange c.co
     inside : p < passes c
     inside = omega (arith, senders_only c.served c.config counter)
 
-    served_as : (at : Place) → Here at → (post_of Send own at).rank ≡ 5 → HasService c.served Send (call_at s.history.sends.calls w.ghost.marked) (answer_at s.history.sends.answers w.ghost.marked) at
-    served_as at e five = subst (λ (z : Stand). HasService c.served Send (call_at s.history.sends.calls w.ghost.marked) (answer_at s.history.sends.answers w.ghost.marked) z.place) e (w.ties.served p (safe.me c Send tt r s p own begun member w at e five))
+    served_as : (at : Place) → Here at → (post_of Chain.Send own at).rank ≡ 5 → HasService c.served Chain.Send (call_at s.history.sends.calls w.ghost.marked) (answer_at s.history.sends.answers w.ghost.marked) at
+    served_as at e five = subst (λ (z : Stand). HasService c.served Chain.Send (call_at s.history.sends.calls w.ghost.marked) (answer_at s.history.sends.answers w.ghost.marked) z.place) e (w.ties.served p (safe.me c Chain.Send tt r s p own begun member w at e five))
 
-    job_in : (job : Job) (service : Counting) → Here (place.Counting job service) → job.round.at ≤ c.config.senders
-    job_in job service e = safe.target_in c Send tt r s p own begun member w (place.Counting job service) e refl
+    job_in : (job : Job) (service : Counting) → Here (Place.Counting job service) → job.round.at ≤ c.config.senders
+    job_in job service e = safe.target_in c Chain.Send tt r s p own begun member w (Place.Counting job service) e refl
 
-    count_safe : (job : Job) (service : Counting) → Here (place.Counting job service) → IsSafe c s Send own (place.Counting job service)
-    count_safe job counting.ReadTag e = record { word = node_exists c Send tt job.round.at node.Tag refl (job_in job counting.ReadTag e); numbers = tt }
-    count_safe job (counting.ReadBody tag i) e = record { word = node_exists c Send tt job.round.at (node.Body i) (four_words i tag (served_as (place.Counting job (counting.ReadBody tag i)) e refl).1) (job_in job (counting.ReadBody tag i) e); numbers = tt }
-    count_safe job counting.ReadCount e = record { word = refl; numbers = tt }
-    count_safe job (counting.WriteCount count) e =
+    count_safe : (job : Job) (service : Counting) → Here (Place.Counting job service) → IsSafe c s Chain.Send own (Place.Counting job service)
+    count_safe job Counting.ReadTag e = record { word = node_exists c Chain.Send tt job.round.at NodeField.Tag refl (job_in job Counting.ReadTag e); numbers = tt }
+    count_safe job (Counting.ReadBody tag i) e = record { word = node_exists c Chain.Send tt job.round.at (NodeField.Body i) (four_words i tag (served_as (Place.Counting job (Counting.ReadBody tag i)) e refl).1) (job_in job (Counting.ReadBody tag i) e); numbers = tt }
+    count_safe job Counting.ReadCount e = record { word = refl; numbers = tt }
+    count_safe job (Counting.WriteCount count) e =
         let is : count ≡ length s.history.sends.answers = subst (λ (z : Stand). HasCount (length s.history.sends.answers) z.place) e (k.counted p inside) in record { word = refl; numbers = omega (arith, few_answers) }
 
-    service_safe : (at : Place) → Here at → IsService at → IsSafe c s Send own at
-    service_safe (place.Counting job service) e is = count_safe job service e
-    service_safe (place.Sending job service) e is = let no : c.served ≡ served.List = (sends_where c.served Send _ (served_as (place.Sending job service) e refl)).0 in absurd (not_both (sym counter ∙ no))
-    service_safe (place.Taking job service) e is = let no : c.served ≡ served.List = (takes_where c.served Send (served_as (place.Taking job service) e refl)).0 in absurd (not_both (sym counter ∙ no))
+    service_safe : (at : Place) → Here at → IsService at → IsSafe c s Chain.Send own at
+    service_safe (Place.Counting job service) e is = count_safe job service e
+    service_safe (Place.Sending job service) e is = let no : c.served ≡ Served.List = (sends_where c.served Chain.Send _ (served_as (Place.Sending job service) e refl)).0 in absurd (not_both (sym counter ∙ no))
+    service_safe (Place.Taking job service) e is = let no : c.served ≡ Served.List = (takes_where c.served Chain.Send (served_as (Place.Taking job service) e refl)).0 in absurd (not_both (sym counter ∙ no))
     service_safe _ e is = absurd is
 
-    ready_at : (at : Place) → Here at → IsSafe c s Send own at × IsOpenAt s.history Send at
-    ready_at at e = (safe.safe_at c Send tt r s p own begun member w at e fit (service_safe at e), safe.open_at c Send tt r s p own begun member w at e)
+    ready_at : (at : Place) → Here at → IsSafe c s Chain.Send own at × IsOpenAt s.history Chain.Send at
+    ready_at at e = (safe.safe_at c Chain.Send tt r s p own begun member w at e fit (service_safe at e), safe.open_at c Chain.Send tt r s p own begun member w at e)
 
 -- each step of a counter machine can be done
-pub counter_ready : (c : Setting) → c.served ≡ served.Counter → config_fault c.config ≡ Ok tt → (moves : List Move) → IsRun c moves → (p : ℕ) → p < passes c → IsReady c (reached c moves) p
+pub counter_ready : (c : Setting) → c.served ≡ Served.Counter → config_fault c.config ≡ Ok tt → (moves : List Move) → IsRun c moves → (p : ℕ) → p < passes c → IsReady c (reached c moves) p
 counter_ready c counter checked moves run p less =
     let r : InRange c.config = in_range c.config checked in
     let s : State = reached c moves in
     let member : p < c.config.senders = omega (arith, senders_only c.served c.config counter) in
     let k : Counts c (reached c moves) = counter_holds c counter r.bound.0 moves run in
-    let w : Holds c Send (reached c moves) = chain_holds c Send tt r.bound.0 moves run in
+    let w : Holds c Chain.Send (reached c moves) = chain_holds c Chain.Send tt r.bound.0 moves run in
     let ready = ready_at c counter r (reached c moves) k w p ((reached c moves).stand p).begun ((reached c moves).stand p).node member ((reached c moves).stand p).place refl in
-    let on : (y : Chain) → y ≡ Send → IsSafe c (reached c moves) y ((reached c moves).stand p).node ((reached c moves).stand p).place × IsOpenAt (reached c moves).history y ((reached c moves).stand p).place =
+    let on : (y : Chain) → y ≡ Chain.Send → IsSafe c (reached c moves) y ((reached c moves).stand p).node ((reached c moves).stand p).place × IsOpenAt (reached c moves).history y ((reached c moves).stand p).place =
     λ y e. subst (λ (z : Chain). IsSafe c (reached c moves) z ((reached c moves).stand p).node ((reached c moves).stand p).place × IsOpenAt (reached c moves).history z ((reached c moves).stand p).place) (sym e) ready in
     let both = on (chain_of c.config p) (sender_chain c.config p member) in
     record { safe = both.0; unanswered = both.1 }

@@ -2,14 +2,9 @@
 use Rattle.std.proofs.Common.{◌≡◌, ℕ, ◌+◌, ◌≤◌, Bool, true, false, ◌||◌, List, [], ◌∷◌, ◌++◌, length, map, get_or, zero, suc, sym, refl, ap, ◌∙◌, arith, length-append, if◌then◌else◌}
 use Rattle.std.specs.List.{list_any}
 use Rattle.std.proofs.lemmas.List.{length-map}
-use Rattle.cc_runs.specs.declared.word.Chain.TheVariants.{Send}
+use Rattle.cc_runs.specs.Names.{Chain, Pass, Item, Entry, Answer}
 use Rattle.cc_model.specs.Record.{Side, Record, silent, of_group}
 use Rattle.cc_model.specs.Items.{SideBegins, Begins, accepted_by, accepted_item, shuts, handed_by, least, known_at}
-use Rattle.cc_model.specs.declared.call.Pass.{Pass}
-use Rattle.cc_model.specs.declared.call.Pass.TheVariants as pass
-use Rattle.cc_model.specs.declared.call.Item.{Item}
-use Rattle.cc_model.specs.declared.call.Entry.{Entry}
-use Rattle.cc_model.specs.declared.call.Answer.{Answer}
 use Rattle.cc_model.proofs.Grows.{any-append, handed_by-append}
 use Rattle.cc_runs.specs.State.{pass_at}
 use Rattle.cc_runs.specs.Run.{history_of}
@@ -53,10 +48,10 @@ side_grows s later b =
     omega (arith, is)
 
 known_grow : (h later : Record) (who : Pass) → length h.sends.answers ≤ length h.sends.calls → Begins h later → known_at who h ≤ known_at who later
-known_grow h later (pass.Sender n) order b =
+known_grow h later (Pass.Sender n) order b =
     least_grows (map count h.takes) (map count later.takes) (length-map h.takes count ∙ b.groups ∙ sym (length-map later.takes count))
     (λ k. omega (arith, counts_get h.takes k, counts_get later.takes k, side_grows (of_group h k) (of_group later k) (b.takes k)))
-known_grow h later (pass.Receiver n) order b =
+known_grow h later (Pass.Receiver n) order b =
     let calls = b.sends.calls in
     let answers = b.sends.answers in
     let items : length (accepted_by later.sends.calls later.sends.answers) ≡ length (accepted_by (h.sends.calls ++ calls.0) (h.sends.answers ++ answers.0)) =
@@ -68,4 +63,4 @@ known_grow h later (pass.Receiver n) order b =
 
 pub fronts_know : FrontsKnowNoMore
 fronts_know c checked more seen r p =
-    let f = fronts_begin c more seen r in known_grow (history_of c seen) (history_of c (more ++ seen)) (pass_at c.config p) ((chain_laws c checked seen f.0).ordered Send) f.1
+    let f = fronts_begin c more seen r in known_grow (history_of c seen) (history_of c (more ++ seen)) (pass_at c.config p) ((chain_laws c checked seen f.0).ordered Chain.Send) f.1

@@ -1,12 +1,12 @@
 -- The moves of one pass, and that others' moves leave it alone.
 use Rattle.std.proofs.Common.{◌≡◌, ◌≢◌, ℕ, Bool, true, false, ◌==◌, List, [], ◌∷◌, ◌++◌, refl, ap, sym, ◌∙◌, eq-eqb, ne_eqb, if◌then◌else◌}
 use Rattle.std.proofs.lemmas.Bool.{eqb-false}
-use Rattle.cc_runs.specs.declared.setting.Setting.{Setting}
+use Rattle.cc_runs.specs.Names.{Setting, Move}
 use Rattle.cc_runs.specs.State.{State, pass_at}
 use Rattle.cc_runs.specs.Lines.{event_at}
 use Rattle.cc_runs.specs.CallsMade.{made}
 use Rattle.cc_runs.specs.Passes.{pass_of, by, then_did, kinds, OthersLeaveAPass}
-use Rattle.cc_runs.specs.Run.{Move, Begin, Step, Take, number_of, reached, moved, begins, rests}
+use Rattle.cc_runs.specs.Run.{number_of, reached, moved, begins, rests}
 use Rattle.cc_runs.proofs.Chains.Frame.{hold_apart}
 
 pub by-append : (p : ℕ) (xs ys : List Move) → by p (xs ++ ys) ≡ by p xs ++ by p ys
@@ -31,9 +31,9 @@ pub by-own : (p : ℕ) (m : Move) (ms : List Move) → pass_of m ≡ p → by p 
 by-own p m ms is = ap (λ (b : Bool). if b then m ∷ by p ms else by p ms) (eq-eqb (pass_of m) p is)
 
 moved_other : (c : Setting) (s : State) (m : Move) (p : ℕ) → (pass_of m == p) ≡ false → (moved c s m).stand p ≡ s.stand p
-moved_other c s (Begin q call known) p off = hold_apart s.stand q p (begins c.config q call known (s.stand q)) (λ same. eqb-false q p off (sym same))
-moved_other c s (Step q) p off = hold_apart s.stand q p _ (λ same. eqb-false q p off (sym same))
-moved_other c s (Take q) p off = hold_apart s.stand q p (rests (s.stand q)) (λ same. eqb-false q p off (sym same))
+moved_other c s (Move.Begin q call known) p off = hold_apart s.stand q p (begins c.config q call known (s.stand q)) (λ same. eqb-false q p off (sym same))
+moved_other c s (Move.Step q) p off = hold_apart s.stand q p _ (λ same. eqb-false q p off (sym same))
+moved_other c s (Move.Take q) p off = hold_apart s.stand q p (rests (s.stand q)) (λ same. eqb-false q p off (sym same))
 
 others_stand : (c : Setting) (more seen : List Move) (p : ℕ) → by p more ≡ [] → (reached c (more ++ seen)).stand p ≡ (reached c seen).stand p
 others_stand c [] seen p none = refl
@@ -43,19 +43,19 @@ others_stand c (m ∷ more) seen p none =
 
 others_made : (c : Setting) (more seen : List Move) (p : ℕ) → by p more ≡ [] → made c (more ++ seen) p ≡ made c seen p
 others_made c [] seen p none = refl
-others_made c (Begin q call known ∷ more) seen p none =
-    let t = others_move p (Begin q call known) more none in
+others_made c (Move.Begin q call known ∷ more) seen p none =
+    let t = others_move p (Move.Begin q call known) more none in
     ap (λ (b : Bool). if b then made c (more ++ seen) p ++ record { pass = pass_at c.config q; call = call; number = number_of call ((reached c (more ++ seen)).stand q).begun; known = known } ∷ [] else made c (more ++ seen) p) t.0 ∙ others_made c more seen p t.1
-others_made c (Step q ∷ more) seen p none = others_made c more seen p (others_move p (Step q) more none).1
-others_made c (Take q ∷ more) seen p none = others_made c more seen p (others_move p (Take q) more none).1
+others_made c (Move.Step q ∷ more) seen p none = others_made c more seen p (others_move p (Move.Step q) more none).1
+others_made c (Move.Take q ∷ more) seen p none = others_made c more seen p (others_move p (Move.Take q) more none).1
 
 others_did : (c : Setting) (more seen : List Move) (p : ℕ) → by p more ≡ [] → kinds c (more ++ seen) p ≡ kinds c seen p
 others_did c [] seen p none = refl
-others_did c (Step q ∷ more) seen p none =
-    let t = others_move p (Step q) more none in
+others_did c (Move.Step q ∷ more) seen p none =
+    let t = others_move p (Move.Step q) more none in
     ap (λ (b : Bool). if b then then_did (event_at ((reached c (more ++ seen)).stand p).place) (kinds c (more ++ seen) p) else kinds c (more ++ seen) p) t.0 ∙ others_did c more seen p t.1
-others_did c (Begin q call known ∷ more) seen p none = others_did c more seen p (others_move p (Begin q call known) more none).1
-others_did c (Take q ∷ more) seen p none = others_did c more seen p (others_move p (Take q) more none).1
+others_did c (Move.Begin q call known ∷ more) seen p none = others_did c more seen p (others_move p (Move.Begin q call known) more none).1
+others_did c (Move.Take q ∷ more) seen p none = others_did c more seen p (others_move p (Move.Take q) more none).1
 
 pub others_leave : OthersLeaveAPass
 others_leave c more seen p none = (others_stand c more seen p none, others_made c more seen p none, others_did c more seen p none)

@@ -2,8 +2,7 @@
 use Rattle.std.proofs.Common.{◌≡◌, ℕ, ◌-◌, ◌^◌, ◌≤◌, Bool, true, false, not, cond, refl, Result, Ok, Err, arith}
 use Rattle.cc_model.specs.Range.{within}
 use Rattle.cc_model.specs.Config.{config_fault}
-use Rattle.cc_model.specs.declared.config.Config.{Config}
-use Rattle.cc_model.specs.declared.config.ConfigFault.{ConfigFault}
+use Rattle.cc_runs.specs.Names.{Config, ConfigFault}
 
 pub record InRange (c : Config) : Type 0 where
   pub senders : (1 ≤ c.senders) × (c.senders ≤ 64)

@@ -1,8 +1,7 @@
 -- The words of a body, read one by one.
 use Rattle.std.proofs.Common.{◌≡◌, ◌≢◌, ℕ, zero, suc, ◌+◌, ◌/◌, ◌%◌, ◌^◌, ◌<◌, ◌≤◌, refl, ap, sym, ◌∙◌, arith, inl, inr}
 use Rattle.std.proofs.lemmas.Bool.{cases_eq}
-use Rattle.cc_runs.specs.declared.place.BodyWords.{BodyWords}
-use Rattle.cc_runs.specs.declared.place.Parcel.{Parcel}
+use Rattle.cc_runs.specs.Names.{BodyWords, Parcel}
 use Rattle.cc_runs.specs.Codes.{word, with_word, further_words, item_in, item_of}
 
 -- the word that was read

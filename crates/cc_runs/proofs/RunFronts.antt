@@ -5,14 +5,9 @@ use Rattle.std.proofs.lemmas.List.{length-set, get_or_past}
 use Rattle.cc_runs.proofs.ListRuns.Decided.{group_mine, group_other}
 use Rattle.cc_model.specs.Record.{Side, Record, silent, of_group, with_takes}
 use Rattle.cc_model.specs.Items.{IsFront, SideBegins, Begins}
-use Rattle.cc_model.specs.declared.call.Entry.{Entry}
-use Rattle.cc_model.specs.declared.call.Answer.{Answer}
-use Rattle.cc_runs.specs.declared.setting.Setting.{Setting}
-use Rattle.cc_runs.specs.declared.word.Chain.{Chain}
-use Rattle.cc_runs.specs.declared.word.Chain.TheVariants.{Send, Take}
+use Rattle.cc_runs.specs.Names.{Entry, Answer, Setting, Chain, Move}
 use Rattle.cc_runs.specs.State.{State, appended, noted, chain_of}
-use Rattle.cc_runs.specs.Run as run
-use Rattle.cc_runs.specs.Run.{Move, Begin, Step, moved, reached, history_of, IsRun}
+use Rattle.cc_runs.specs.Run.{moved, reached, history_of, IsRun}
 use Rattle.cc_runs.specs.MachineLaws.{FrontsBegin}
 
 front_self : {X : Type 0} (xs : List X) → IsFront xs xs
@@ -52,8 +47,8 @@ past h y x now far = elim (cases_eq x y) [
 ]
 
 begins_noted : (x : Chain) (h : Record) (call : Option Entry) (told : Option Answer) → Begins h (noted x h call told)
-begins_noted Send h call told = record { sends = side_appended h.sends call told; takes = λ y. side_self (of_group h y); groups = refl }
-begins_noted (Take g) h call told = record {
+begins_noted Chain.Send h call told = record { sends = side_appended h.sends call told; takes = λ y. side_self (of_group h y); groups = refl }
+begins_noted (Chain.Take g) h call told = record {
   sends = side_self h.sends;
   takes = λ y. elim (cases_lt g (length h.takes)) [
     | inl inside ↦ elim (cases_eq y g) [
@@ -71,9 +66,9 @@ begins_noted (Take g) h call told = record {
 
 -- one move
 begins_moved : (c : Setting) (s : State) (m : Move) → Begins s.history (moved c s m).history
-begins_moved c s (Begin p call known) = begins_self s.history
-begins_moved c s (run.Take p) = begins_self s.history
-begins_moved c s (Step p) = begins_noted (chain_of c.config p) s.history _ _
+begins_moved c s (Move.Begin p call known) = begins_self s.history
+begins_moved c s (Move.Take p) = begins_self s.history
+begins_moved c s (Move.Step p) = begins_noted (chain_of c.config p) s.history _ _
 
 pub fronts_begin : FrontsBegin
 fronts_begin c [] earlier r = (r, begins_self (history_of c earlier))

@@ -3,21 +3,12 @@ use Rattle.std.proofs.Common.{◌≡◌, ℕ, zero, suc, ◌≤◌, Bool, true, 
 use Rattle.std.specs.List.{AllByRecursion, filter}
 use Rattle.cc_model.specs.Record.{Side, Record, silent}
 use Rattle.cc_model.proofs.Grows.{all-append}
-use Rattle.cc_model.specs.declared.call.Call.{Call}
-use Rattle.cc_model.specs.declared.call.Call.TheVariants as call
-use Rattle.cc_model.specs.declared.call.Entry.{Entry}
-use Rattle.cc_model.specs.declared.call.Answer.{Answer}
-use Rattle.cc_runs.specs.declared.setting.Setting.{Setting}
-use Rattle.cc_runs.specs.declared.word.Chain.{Chain}
-use Rattle.cc_runs.specs.declared.word.Chain.TheVariants.{Send, Take}
-use Rattle.cc_runs.specs.declared.place.Stand.{Stand}
-use Rattle.cc_runs.specs.declared.place.Place.{Place}
-use Rattle.cc_runs.specs.declared.place.Place.TheVariants as place
+use Rattle.cc_runs.specs.Names.{Call, Entry, Answer, Setting, Chain, Stand, Place, Move}
 use Rattle.cc_runs.specs.Words.{groups}
 use Rattle.cc_runs.specs.State.{State, chain_of, first_node, noted, appended, word_of}
 use Rattle.cc_runs.specs.Lines.{operation, goes, enters, decides}
 use Rattle.cc_runs.specs.Step.{stepped, advanced}
-use Rattle.cc_runs.specs.Run.{Move, Begin, Step, Take as Taken, IsRun, begins, rests, begun_after, number_of, opening, nowhere, reached, passes}
+use Rattle.cc_runs.specs.Run.{IsRun, begins, rests, begun_after, number_of, opening, nowhere, reached, passes}
 use Rattle.cc_runs.specs.Sides.{calls_on}
 use Rattle.cc_runs.specs.CallsMade.{to_exchange, NumbersOfSends}
 use Rattle.cc_runs.proofs.Chains.Opening.{no_calls}
@@ -51,10 +42,10 @@ module _ (P : Entry → Type 0) where
 
   -- the calls of every chain after a note on one
   noted_all : (x y : Chain) (h : Record) (e : Option Entry) (a : Option Answer) → All (appended [] e) → ((z : Chain) → All (calls_on z h)) → All (calls_on y (noted x h e a))
-  noted_all Send Send h e a new all = all_appended P h.sends.calls e (all Send) new
-  noted_all Send (Take g) h e a new all = all (Take g)
-  noted_all (Take g) Send h e a new all = all Send
-  noted_all (Take g) (Take k) h e a new all = set_all (λ (s : Side). All s.calls) h.takes g k _ silent (all_appended P (calls_on (Take g) h) e (all (Take g)) new) (all (Take k))
+  noted_all Chain.Send Chain.Send h e a new all = all_appended P h.sends.calls e (all Chain.Send) new
+  noted_all Chain.Send (Chain.Take g) h e a new all = all (Chain.Take g)
+  noted_all (Chain.Take g) Chain.Send h e a new all = all Chain.Send
+  noted_all (Chain.Take g) (Chain.Take k) h e a new all = set_all (λ (s : Side). All s.calls) h.takes g k _ silent (all_appended P (calls_on (Chain.Take g) h) e (all (Chain.Take g)) new) (all (Chain.Take k))
 
   -- a step enters a call that was to exchange, and gives its pass no other
   goes_on : (c : Setting) (x : Chain) (own found : ℕ) (at : Place) → All (to_exchange at) → All (appended [] (enters at)) × All (to_exchange (goes c x own at found))
@@ -71,9 +62,9 @@ module _ (P : Entry → Type 0) where
 
 -- a begin that a sender may make has such a number
 few : (what : Call) (begun most : ℕ) → begun_after what begun ≤ most → number_of what begun ≤ most
-few (call.Send body) begun most less = less
-few call.Close begun most less = omega arith
-few call.Take begun most less = omega arith
+few (Call.Send body) begun most less = less
+few Call.Close begun most less = omega arith
+few Call.Take begun most less = omega arith
 
 module _ (c : Setting) where
   abbrev IsFew : Entry → Type 0
@@ -85,7 +76,7 @@ module _ (c : Setting) where
 
   first : Few (opening c)
   first = record {
-    coming = λ p. either IsFew (nat_lt p (passes c)) record { begun = 0; node = first_node c.config p; place = place.Idle } nowhere tt tt;
+    coming = λ p. either IsFew (nat_lt p (passes c)) record { begun = 0; node = first_node c.config p; place = Place.Idle } nowhere tt tt;
     come = λ x. subst (λ (z : Side). AllByRecursion IsFew z.calls) (sym (no_calls (groups c.config) x)) tt;
   }
 
@@ -101,15 +92,15 @@ module _ (c : Setting) where
 
   few_after : (moves : List Move) → IsRun c moves → Few (reached c moves)
   few_after [] run = first
-  few_after (Begin p what known ∷ earlier) run =
+  few_after (Move.Begin p what known ∷ earlier) run =
       let has : Few (reached c earlier) = few_after earlier run.0 in
       let s : State = reached c earlier in
       record {
         coming = λ q. either IsFew (p == q) (begins c.config p what known (s.stand p)) (s.stand q) (few what (s.stand p).begun c.config.per_sender run.1.3, tt) (has.coming q);
         come = has.come;
       }
-  few_after (Step p ∷ earlier) run = step (reached c earlier) p (few_after earlier run.0)
-  few_after (Taken p ∷ earlier) run =
+  few_after (Move.Step p ∷ earlier) run = step (reached c earlier) p (few_after earlier run.0)
+  few_after (Move.Take p ∷ earlier) run =
       let has : Few (reached c earlier) = few_after earlier run.0 in
       let s : State = reached c earlier in
       record { coming = λ q. either IsFew (p == q) (rests (s.stand p)) (s.stand q) tt (has.coming q); come = has.come }

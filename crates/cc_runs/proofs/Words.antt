@@ -3,16 +3,7 @@ use Rattle.std.proofs.Common.{◌≡◌, ◌≢◌, ◌⊎◌, ℕ, zero, suc, �
 use Rattle.std.proofs.Math.Nat.{mul-le-mul_left}
 use Rattle.std.proofs.lemmas.Bool.{cases_lt, eqb-true, eq-eqb, cases_Bool, false≢true}
 use Rattle.std.proofs.lemmas.List.{get_or-set_same, get_or-set_other}
-use Rattle.cc_runs.specs.declared.word.Chain.{Chain}
-use Rattle.cc_runs.specs.declared.word.Chain.TheVariants.{Send, Take}
-use Rattle.cc_runs.specs.declared.word.NodeField.{NodeField}
-use Rattle.cc_runs.specs.declared.word.NodeField.TheVariants as node
-use Rattle.cc_runs.specs.declared.word.ItemField.{ItemField}
-use Rattle.cc_runs.specs.declared.word.ItemField.TheVariants as item
-use Rattle.cc_runs.specs.declared.word.Object.{Object}
-use Rattle.cc_runs.specs.declared.word.Object.TheVariants as object
-use Rattle.cc_runs.specs.declared.word.Word.{Word}
-use Rattle.cc_runs.specs.declared.word.Word.TheVariants as word
+use Rattle.cc_runs.specs.Names.{Chain, NodeField, ItemField, Object, Word}
 use Rattle.cc_runs.specs.Words.{Layout, Spacing, IsRoomy, dense, node_field, item_field, is_node_field, is_item_field, same_field, same_part, lies, exists, same, same_chain, object_number, word_in_row, put, OneToOne}
 
 and_both : (a b : Bool) → a && b ≡ true → (a ≡ true) × (b ≡ true)
@@ -25,55 +16,55 @@ body_word i a = grind arith
 
 -- two fields that there are have two places
 field_same : (x : Chain) (f g : NodeField) → IsTrue (is_node_field f) → IsTrue (is_node_field g) → node_field x f ≡ node_field x g → f ≡ g
-field_same x node.Next node.Next a b e = refl
-field_same x node.State node.State a b e = refl
-field_same x node.Tag node.Tag a b e = refl
-field_same x node.Ret node.Ret a b e = refl
-field_same Send (node.Body i) (node.Body j) a b e = ap (λ (k : ℕ). node.Body k) (omega (arith, e))
-field_same (Take g) (node.Body i) (node.Body j) a b e = ap (λ (k : ℕ). node.Body k) (omega (arith, e))
-field_same Send (node.Body i) node.Ret a b e = absurd (omega (arith, e, body_word i a))
-field_same Send node.Ret (node.Body i) a b e = absurd (omega (arith, e, body_word i b))
-field_same Send _ _ a b e = absurd (omega (arith, e))
-field_same (Take g) _ _ a b e = absurd (omega (arith, e))
+field_same x NodeField.Next NodeField.Next a b e = refl
+field_same x NodeField.State NodeField.State a b e = refl
+field_same x NodeField.Tag NodeField.Tag a b e = refl
+field_same x NodeField.Ret NodeField.Ret a b e = refl
+field_same Chain.Send (NodeField.Body i) (NodeField.Body j) a b e = ap (λ (k : ℕ). NodeField.Body k) (omega (arith, e))
+field_same (Chain.Take g) (NodeField.Body i) (NodeField.Body j) a b e = ap (λ (k : ℕ). NodeField.Body k) (omega (arith, e))
+field_same Chain.Send (NodeField.Body i) NodeField.Ret a b e = absurd (omega (arith, e, body_word i a))
+field_same Chain.Send NodeField.Ret (NodeField.Body i) a b e = absurd (omega (arith, e, body_word i b))
+field_same Chain.Send _ _ a b e = absurd (omega (arith, e))
+field_same (Chain.Take g) _ _ a b e = absurd (omega (arith, e))
 
 pub field_small : (x : Chain) (f : NodeField) → IsTrue (is_node_field f) → node_field x f < 8
-field_small Send node.Next a = omega arith
-field_small Send node.State a = omega arith
-field_small Send node.Tag a = omega arith
-field_small Send (node.Body i) a = omega (arith, body_word i a)
-field_small Send node.Ret a = omega arith
-field_small (Take g) node.Next a = omega arith
-field_small (Take g) node.State a = omega arith
-field_small (Take g) node.Tag a = omega arith
-field_small (Take g) (node.Body i) a = omega (arith, body_word i a)
-field_small (Take g) node.Ret a = omega arith
+field_small Chain.Send NodeField.Next a = omega arith
+field_small Chain.Send NodeField.State a = omega arith
+field_small Chain.Send NodeField.Tag a = omega arith
+field_small Chain.Send (NodeField.Body i) a = omega (arith, body_word i a)
+field_small Chain.Send NodeField.Ret a = omega arith
+field_small (Chain.Take g) NodeField.Next a = omega arith
+field_small (Chain.Take g) NodeField.State a = omega arith
+field_small (Chain.Take g) NodeField.Tag a = omega arith
+field_small (Chain.Take g) (NodeField.Body i) a = omega (arith, body_word i a)
+field_small (Chain.Take g) NodeField.Ret a = omega arith
 
 -- the order of the fields is one for all groups
-field_fixed : (g h : ℕ) (f : NodeField) → node_field (Take g) f ≡ node_field (Take h) f
-field_fixed g h node.Next = refl
-field_fixed g h node.State = refl
-field_fixed g h node.Tag = refl
-field_fixed g h (node.Body i) = refl
-field_fixed g h node.Ret = refl
+field_fixed : (g h : ℕ) (f : NodeField) → node_field (Chain.Take g) f ≡ node_field (Chain.Take h) f
+field_fixed g h NodeField.Next = refl
+field_fixed g h NodeField.State = refl
+field_fixed g h NodeField.Tag = refl
+field_fixed g h (NodeField.Body i) = refl
+field_fixed g h NodeField.Ret = refl
 
 part_same : (f g : ItemField) → IsTrue (is_item_field f) → IsTrue (is_item_field g) → item_field f ≡ item_field g → f ≡ g
-part_same item.Tag item.Tag a b e = refl
-part_same item.Next item.Next a b e = refl
-part_same item.Passed item.Passed a b e = refl
-part_same (item.Body i) (item.Body j) a b e = ap (λ (k : ℕ). item.Body k) (omega (arith, e))
-part_same (item.Body i) item.Tag a b e = absurd (omega (arith, e))
-part_same (item.Body i) item.Next a b e = absurd (omega (arith, e, body_word i a))
-part_same (item.Body i) item.Passed a b e = absurd (omega (arith, e, body_word i a))
-part_same item.Tag (item.Body i) a b e = absurd (omega (arith, e))
-part_same item.Next (item.Body i) a b e = absurd (omega (arith, e, body_word i b))
-part_same item.Passed (item.Body i) a b e = absurd (omega (arith, e, body_word i b))
+part_same ItemField.Tag ItemField.Tag a b e = refl
+part_same ItemField.Next ItemField.Next a b e = refl
+part_same ItemField.Passed ItemField.Passed a b e = refl
+part_same (ItemField.Body i) (ItemField.Body j) a b e = ap (λ (k : ℕ). ItemField.Body k) (omega (arith, e))
+part_same (ItemField.Body i) ItemField.Tag a b e = absurd (omega (arith, e))
+part_same (ItemField.Body i) ItemField.Next a b e = absurd (omega (arith, e, body_word i a))
+part_same (ItemField.Body i) ItemField.Passed a b e = absurd (omega (arith, e, body_word i a))
+part_same ItemField.Tag (ItemField.Body i) a b e = absurd (omega (arith, e))
+part_same ItemField.Next (ItemField.Body i) a b e = absurd (omega (arith, e, body_word i b))
+part_same ItemField.Passed (ItemField.Body i) a b e = absurd (omega (arith, e, body_word i b))
 part_same _ _ a b e = absurd (omega (arith, e))
 
 pub part_small : (f : ItemField) → IsTrue (is_item_field f) → item_field f < 7
-part_small item.Tag a = omega arith
-part_small (item.Body i) a = omega (arith, body_word i a)
-part_small item.Next a = omega arith
-part_small item.Passed a = omega arith
+part_small ItemField.Tag a = omega arith
+part_small (ItemField.Body i) a = omega (arith, body_word i a)
+part_small ItemField.Next a = omega arith
+part_small ItemField.Passed a = omega arith
 
 -- a later one of a kind begins after an earlier one's end
 steps_apart : (n i count : ℕ) → i < count → n * i + n ≤ n * count
@@ -94,198 +85,198 @@ groups_order n m g h = ⊎_elim (λ (lt : g < h). inr (inl (groups_apart n m g h
 
 -- the numbers of a word that there is
 abbrev Within : Spacing → Layout → Word → Type 0
-Within k l (word.Tail Send) = 0 < 1
-Within k l (word.Tail (Take g)) = k.end_step * g + k.end_step ≤ k.end_step * l.groups
-Within k l (word.Object (object.Head g)) = k.end_step * g + k.end_step ≤ k.end_step * l.groups
-Within k l (word.Object (object.Taken g)) = k.end_step * g + k.end_step ≤ k.end_step * l.groups
-Within k l (word.Object _) = 0 < 1
-Within k l (word.Node Send i f) = (k.node_step * i + k.node_step ≤ k.node_step * (l.senders + 1)) × (node_field Send f < 8)
-Within k l (word.Node (Take g) i f) = (k.node_step * i + k.node_step ≤ k.node_step * (l.receivers + 1)) × (node_field (Take g) f < 8) × (k.node_step * (g * (l.receivers + 1)) + k.node_step * (l.receivers + 1) ≤ k.node_step * (l.groups * (l.receivers + 1)))
-Within k l (word.Item i f) = (k.item_step * i + k.item_step ≤ k.item_step * (l.capacity + 2)) × (item_field f < 7)
+Within k l (Word.Tail Chain.Send) = 0 < 1
+Within k l (Word.Tail (Chain.Take g)) = k.end_step * g + k.end_step ≤ k.end_step * l.groups
+Within k l (Word.Object (Object.Head g)) = k.end_step * g + k.end_step ≤ k.end_step * l.groups
+Within k l (Word.Object (Object.Taken g)) = k.end_step * g + k.end_step ≤ k.end_step * l.groups
+Within k l (Word.Object _) = 0 < 1
+Within k l (Word.Node Chain.Send i f) = (k.node_step * i + k.node_step ≤ k.node_step * (l.senders + 1)) × (node_field Chain.Send f < 8)
+Within k l (Word.Node (Chain.Take g) i f) = (k.node_step * i + k.node_step ≤ k.node_step * (l.receivers + 1)) × (node_field (Chain.Take g) f < 8) × (k.node_step * (g * (l.receivers + 1)) + k.node_step * (l.receivers + 1) ≤ k.node_step * (l.groups * (l.receivers + 1)))
+Within k l (Word.Item i f) = (k.item_step * i + k.item_step ≤ k.item_step * (l.capacity + 2)) × (item_field f < 7)
 
 within : (k : Spacing) (l : Layout) (w : Word) → IsTrue (exists l w) → Within k l w
-within k l (word.Tail Send) a = omega arith
-within k l (word.Tail (Take g)) a = steps_apart k.end_step g l.groups (grind arith)
-within k l (word.Object object.Last) a = omega arith
-within k l (word.Object object.Shut) a = omega arith
-within k l (word.Object object.Count) a = omega arith
-within k l (word.Object object.Cursor) a = omega arith
-within k l (word.Object (object.Head g)) a = steps_apart k.end_step g l.groups (grind arith)
-within k l (word.Object (object.Taken g)) a = steps_apart k.end_step g l.groups (grind arith)
-within k l (word.Node Send i f) a =
+within k l (Word.Tail Chain.Send) a = omega arith
+within k l (Word.Tail (Chain.Take g)) a = steps_apart k.end_step g l.groups (grind arith)
+within k l (Word.Object Object.Last) a = omega arith
+within k l (Word.Object Object.Shut) a = omega arith
+within k l (Word.Object Object.Count) a = omega arith
+within k l (Word.Object Object.Cursor) a = omega arith
+within k l (Word.Object (Object.Head g)) a = steps_apart k.end_step g l.groups (grind arith)
+within k l (Word.Object (Object.Taken g)) a = steps_apart k.end_step g l.groups (grind arith)
+within k l (Word.Node Chain.Send i f) a =
     let t = and_both (nat_lt i (l.senders + 1)) (is_node_field f) a in
-    (steps_apart k.node_step i (l.senders + 1) (grind (arith, t.0)), field_small Send f t.1)
-within k l (word.Node (Take g) i f) a =
+    (steps_apart k.node_step i (l.senders + 1) (grind (arith, t.0)), field_small Chain.Send f t.1)
+within k l (Word.Node (Chain.Take g) i f) a =
     let t = and_both (nat_lt g l.groups && nat_lt i (l.receivers + 1)) (is_node_field f) a in
     let u = and_both (nat_lt g l.groups) (nat_lt i (l.receivers + 1)) t.0 in
-    (steps_apart k.node_step i (l.receivers + 1) (grind (arith, u.1)), field_small (Take g) f t.1, groups_apart k.node_step (l.receivers + 1) g l.groups (grind (arith, u.0)))
-within k l (word.Item i f) a =
+    (steps_apart k.node_step i (l.receivers + 1) (grind (arith, u.1)), field_small (Chain.Take g) f t.1, groups_apart k.node_step (l.receivers + 1) g l.groups (grind (arith, u.0)))
+within k l (Word.Item i f) a =
     let t = and_both (nat_lt i (l.capacity + 2)) (is_item_field f) a in
     (steps_apart k.item_step i (l.capacity + 2) (grind (arith, t.0)), part_small f t.1)
 
 -- the group whose word it is
 abbrev group_of : Object → ℕ
-group_of (object.Head g) = g
-group_of (object.Taken g) = g
+group_of (Object.Head g) = g
+group_of (Object.Taken g) = g
 group_of _ = 0
 
 -- the words of the object lie between the senders' tail and the nodes, and aren't a group's tail
-object_low : (k : Spacing) → IsRoomy k → (l : Layout) (a : Object) → IsTrue (exists l (word.Object a)) → (k.objects ≤ lies k l (word.Object a)) × (lies k l (word.Object a) < k.ends + k.end_step * l.groups)
-object_low k r l object.Last e = (omega arith, omega (arith, r))
-object_low k r l object.Shut e = (omega arith, omega (arith, r))
-object_low k r l object.Count e = (omega arith, omega (arith, r))
-object_low k r l object.Cursor e = (omega arith, omega (arith, r))
-object_low k r l (object.Head g) e = let m = within k l (word.Object (object.Head g)) e in (omega (arith, r), omega (arith, m, r))
-object_low k r l (object.Taken g) e = let m = within k l (word.Object (object.Taken g)) e in (omega (arith, r), omega (arith, m, r))
+object_low : (k : Spacing) → IsRoomy k → (l : Layout) (a : Object) → IsTrue (exists l (Word.Object a)) → (k.objects ≤ lies k l (Word.Object a)) × (lies k l (Word.Object a) < k.ends + k.end_step * l.groups)
+object_low k r l Object.Last e = (omega arith, omega (arith, r))
+object_low k r l Object.Shut e = (omega arith, omega (arith, r))
+object_low k r l Object.Count e = (omega arith, omega (arith, r))
+object_low k r l Object.Cursor e = (omega arith, omega (arith, r))
+object_low k r l (Object.Head g) e = let m = within k l (Word.Object (Object.Head g)) e in (omega (arith, r), omega (arith, m, r))
+object_low k r l (Object.Taken g) e = let m = within k l (Word.Object (Object.Taken g)) e in (omega (arith, r), omega (arith, m, r))
 
-object_tail : (k : Spacing) → IsRoomy k → (l : Layout) (a : Object) (g : ℕ) → lies k l (word.Object a) ≢ k.ends + k.end_step * g
-object_tail k r l object.Last g e = omega (arith, e, r)
-object_tail k r l object.Shut g e = omega (arith, e, r)
-object_tail k r l object.Count g e = omega (arith, e, r)
-object_tail k r l object.Cursor g e = omega (arith, e, r)
-object_tail k r l (object.Head h) g e = omega (arith, e, r, steps_order k.end_step h g)
-object_tail k r l (object.Taken h) g e = omega (arith, e, r, steps_order k.end_step h g)
+object_tail : (k : Spacing) → IsRoomy k → (l : Layout) (a : Object) (g : ℕ) → lies k l (Word.Object a) ≢ k.ends + k.end_step * g
+object_tail k r l Object.Last g e = omega (arith, e, r)
+object_tail k r l Object.Shut g e = omega (arith, e, r)
+object_tail k r l Object.Count g e = omega (arith, e, r)
+object_tail k r l Object.Cursor g e = omega (arith, e, r)
+object_tail k r l (Object.Head h) g e = omega (arith, e, r, steps_order k.end_step h g)
+object_tail k r l (Object.Taken h) g e = omega (arith, e, r, steps_order k.end_step h g)
 
 -- so there is in a dense row
 pub roomy : IsRoomy dense
 roomy = omega arith
 
 pub one_to_one : OneToOne
-one_to_one k r l (word.Tail Send) (word.Tail Send) a b e = refl
-one_to_one k r l (word.Tail (Take g)) (word.Tail (Take h)) a b e = ap (λ (z : ℕ). word.Tail (Take z)) (omega (arith, e, r, steps_order k.end_step g h))
-one_to_one k r l (word.Object object.Last) (word.Object object.Last) a b e = refl
-one_to_one k r l (word.Object object.Shut) (word.Object object.Shut) a b e = refl
-one_to_one k r l (word.Object object.Count) (word.Object object.Count) a b e = refl
-one_to_one k r l (word.Object object.Cursor) (word.Object object.Cursor) a b e = refl
-one_to_one k r l (word.Object (object.Head g)) (word.Object (object.Head h)) a b e = ap (λ (z : ℕ). word.Object (object.Head z)) (omega (arith, e, r, steps_order k.end_step g h))
-one_to_one k r l (word.Object (object.Taken g)) (word.Object (object.Taken h)) a b e = ap (λ (z : ℕ). word.Object (object.Taken z)) (omega (arith, e, r, steps_order k.end_step g h))
-one_to_one k r l (word.Node Send i f) (word.Node Send j g) a b e =
-    let m = within k l (word.Node Send i f) a in
-    let n = within k l (word.Node Send j g) b in
+one_to_one k r l (Word.Tail Chain.Send) (Word.Tail Chain.Send) a b e = refl
+one_to_one k r l (Word.Tail (Chain.Take g)) (Word.Tail (Chain.Take h)) a b e = ap (λ (z : ℕ). Word.Tail (Chain.Take z)) (omega (arith, e, r, steps_order k.end_step g h))
+one_to_one k r l (Word.Object Object.Last) (Word.Object Object.Last) a b e = refl
+one_to_one k r l (Word.Object Object.Shut) (Word.Object Object.Shut) a b e = refl
+one_to_one k r l (Word.Object Object.Count) (Word.Object Object.Count) a b e = refl
+one_to_one k r l (Word.Object Object.Cursor) (Word.Object Object.Cursor) a b e = refl
+one_to_one k r l (Word.Object (Object.Head g)) (Word.Object (Object.Head h)) a b e = ap (λ (z : ℕ). Word.Object (Object.Head z)) (omega (arith, e, r, steps_order k.end_step g h))
+one_to_one k r l (Word.Object (Object.Taken g)) (Word.Object (Object.Taken h)) a b e = ap (λ (z : ℕ). Word.Object (Object.Taken z)) (omega (arith, e, r, steps_order k.end_step g h))
+one_to_one k r l (Word.Node Chain.Send i f) (Word.Node Chain.Send j g) a b e =
+    let m = within k l (Word.Node Chain.Send i f) a in
+    let n = within k l (Word.Node Chain.Send j g) b in
     let index : i ≡ j = omega (arith, m, n, e, r, steps_order k.node_step i j) in
     let start : k.node_step * i ≡ k.node_step * j = ap (λ (z : ℕ). k.node_step * z) index in
-    let field : node_field Send f ≡ node_field Send g = omega (arith, e, start) in
-    λ q. word.Node Send (index q) (field_same Send f g (and_both (nat_lt i (l.senders + 1)) (is_node_field f) a).1 (and_both (nat_lt j (l.senders + 1)) (is_node_field g) b).1 field q)
-one_to_one k r l (word.Node (Take c) i f) (word.Node (Take d) j g) a b e =
-    let m = within k l (word.Node (Take c) i f) a in
-    let n = within k l (word.Node (Take d) j g) b in
+    let field : node_field Chain.Send f ≡ node_field Chain.Send g = omega (arith, e, start) in
+    λ q. Word.Node Chain.Send (index q) (field_same Chain.Send f g (and_both (nat_lt i (l.senders + 1)) (is_node_field f) a).1 (and_both (nat_lt j (l.senders + 1)) (is_node_field g) b).1 field q)
+one_to_one k r l (Word.Node (Chain.Take c) i f) (Word.Node (Chain.Take d) j g) a b e =
+    let m = within k l (Word.Node (Chain.Take c) i f) a in
+    let n = within k l (Word.Node (Chain.Take d) j g) b in
     let group : c ≡ d = omega (arith, m, n, e, r, groups_order k.node_step (l.receivers + 1) c d) in
     let before : k.node_step * (c * (l.receivers + 1)) ≡ k.node_step * (d * (l.receivers + 1)) = ap (λ (z : ℕ). k.node_step * (z * (l.receivers + 1))) group in
     let index : i ≡ j = omega (arith, m, n, e, r, before, steps_order k.node_step i j) in
     let start : k.node_step * i ≡ k.node_step * j = ap (λ (z : ℕ). k.node_step * z) index in
-    let field : node_field (Take c) f ≡ node_field (Take c) g = omega (arith, e, before, start, field_fixed c d g) in
-    λ q. word.Node (Take (group q)) (index q) (field_same (Take c) f g (and_both (nat_lt c l.groups && nat_lt i (l.receivers + 1)) (is_node_field f) a).1 (and_both (nat_lt d l.groups && nat_lt j (l.receivers + 1)) (is_node_field g) b).1 field q)
-one_to_one k r l (word.Item i f) (word.Item j g) a b e =
-    let m = within k l (word.Item i f) a in
-    let n = within k l (word.Item j g) b in
+    let field : node_field (Chain.Take c) f ≡ node_field (Chain.Take c) g = omega (arith, e, before, start, field_fixed c d g) in
+    λ q. Word.Node (Chain.Take (group q)) (index q) (field_same (Chain.Take c) f g (and_both (nat_lt c l.groups && nat_lt i (l.receivers + 1)) (is_node_field f) a).1 (and_both (nat_lt d l.groups && nat_lt j (l.receivers + 1)) (is_node_field g) b).1 field q)
+one_to_one k r l (Word.Item i f) (Word.Item j g) a b e =
+    let m = within k l (Word.Item i f) a in
+    let n = within k l (Word.Item j g) b in
     let index : i ≡ j = omega (arith, m, n, e, r, steps_order k.item_step i j) in
     let start : k.item_step * i ≡ k.item_step * j = ap (λ (z : ℕ). k.item_step * z) index in
     let field : item_field f ≡ item_field g = omega (arith, e, start) in
-    λ q. word.Item (index q) (part_same f g (and_both (nat_lt i (l.capacity + 2)) (is_item_field f) a).1 (and_both (nat_lt j (l.capacity + 2)) (is_item_field g) b).1 field q)
-one_to_one k r l (word.Tail Send) (word.Tail (Take h)) a b e = absurd (omega (arith, within k l (word.Tail Send) a, within k l (word.Tail (Take h)) b, e, r))
-one_to_one k r l (word.Tail Send) (word.Object d) a b e = absurd (omega (arith, within k l (word.Tail Send) a, object_low k r l d b, e, r))
-one_to_one k r l (word.Tail Send) (word.Node Send j q) a b e = absurd (omega (arith, within k l (word.Tail Send) a, within k l (word.Node Send j q) b, e, r))
-one_to_one k r l (word.Tail Send) (word.Node (Take h) j q) a b e = absurd (omega (arith, within k l (word.Tail Send) a, within k l (word.Node (Take h) j q) b, e, r))
-one_to_one k r l (word.Tail Send) (word.Item j q) a b e = absurd (omega (arith, within k l (word.Tail Send) a, within k l (word.Item j q) b, e, r))
-one_to_one k r l (word.Tail (Take g)) (word.Tail Send) a b e = absurd (omega (arith, within k l (word.Tail (Take g)) a, within k l (word.Tail Send) b, e, r))
-one_to_one k r l (word.Tail (Take g)) (word.Object d) a b e = absurd (omega (arith, within k l (word.Tail (Take g)) a, object_low k r l d b, object_tail k r l d g, e, r))
-one_to_one k r l (word.Tail (Take g)) (word.Node Send j q) a b e = absurd (omega (arith, within k l (word.Tail (Take g)) a, within k l (word.Node Send j q) b, e, r))
-one_to_one k r l (word.Tail (Take g)) (word.Node (Take h) j q) a b e = absurd (omega (arith, within k l (word.Tail (Take g)) a, within k l (word.Node (Take h) j q) b, e, r))
-one_to_one k r l (word.Tail (Take g)) (word.Item j q) a b e = absurd (omega (arith, within k l (word.Tail (Take g)) a, within k l (word.Item j q) b, e, r))
-one_to_one k r l (word.Object c) (word.Tail Send) a b e = absurd (omega (arith, object_low k r l c a, within k l (word.Tail Send) b, e, r))
-one_to_one k r l (word.Object c) (word.Tail (Take h)) a b e = absurd (omega (arith, object_low k r l c a, object_tail k r l c h, within k l (word.Tail (Take h)) b, e, r))
-one_to_one k r l (word.Object c) (word.Node Send j q) a b e = absurd (omega (arith, object_low k r l c a, within k l (word.Node Send j q) b, e, r))
-one_to_one k r l (word.Object c) (word.Node (Take h) j q) a b e = absurd (omega (arith, object_low k r l c a, within k l (word.Node (Take h) j q) b, e, r))
-one_to_one k r l (word.Object c) (word.Item j q) a b e = absurd (omega (arith, object_low k r l c a, within k l (word.Item j q) b, e, r))
-one_to_one k r l (word.Node Send i f) (word.Tail Send) a b e = absurd (omega (arith, within k l (word.Node Send i f) a, within k l (word.Tail Send) b, e, r))
-one_to_one k r l (word.Node Send i f) (word.Tail (Take h)) a b e = absurd (omega (arith, within k l (word.Node Send i f) a, within k l (word.Tail (Take h)) b, e, r))
-one_to_one k r l (word.Node Send i f) (word.Object d) a b e = absurd (omega (arith, within k l (word.Node Send i f) a, object_low k r l d b, e, r))
-one_to_one k r l (word.Node Send i f) (word.Node (Take h) j q) a b e = absurd (omega (arith, within k l (word.Node Send i f) a, within k l (word.Node (Take h) j q) b, e, r))
-one_to_one k r l (word.Node Send i f) (word.Item j q) a b e = absurd (omega (arith, within k l (word.Node Send i f) a, within k l (word.Item j q) b, e, r))
-one_to_one k r l (word.Node (Take g) i f) (word.Tail Send) a b e = absurd (omega (arith, within k l (word.Node (Take g) i f) a, within k l (word.Tail Send) b, e, r))
-one_to_one k r l (word.Node (Take g) i f) (word.Tail (Take h)) a b e = absurd (omega (arith, within k l (word.Node (Take g) i f) a, within k l (word.Tail (Take h)) b, e, r))
-one_to_one k r l (word.Node (Take g) i f) (word.Object d) a b e = absurd (omega (arith, within k l (word.Node (Take g) i f) a, object_low k r l d b, e, r))
-one_to_one k r l (word.Node (Take g) i f) (word.Node Send j q) a b e = absurd (omega (arith, within k l (word.Node (Take g) i f) a, within k l (word.Node Send j q) b, e, r))
-one_to_one k r l (word.Node (Take g) i f) (word.Item j q) a b e = absurd (omega (arith, within k l (word.Node (Take g) i f) a, within k l (word.Item j q) b, e, r))
-one_to_one k r l (word.Item i f) (word.Tail Send) a b e = absurd (omega (arith, within k l (word.Item i f) a, within k l (word.Tail Send) b, e, r))
-one_to_one k r l (word.Item i f) (word.Tail (Take h)) a b e = absurd (omega (arith, within k l (word.Item i f) a, within k l (word.Tail (Take h)) b, e, r))
-one_to_one k r l (word.Item i f) (word.Object d) a b e = absurd (omega (arith, within k l (word.Item i f) a, object_low k r l d b, e, r))
-one_to_one k r l (word.Item i f) (word.Node Send j q) a b e = absurd (omega (arith, within k l (word.Item i f) a, within k l (word.Node Send j q) b, e, r))
-one_to_one k r l (word.Item i f) (word.Node (Take h) j q) a b e = absurd (omega (arith, within k l (word.Item i f) a, within k l (word.Node (Take h) j q) b, e, r))
-one_to_one k r l (word.Object c) (word.Object d) a b e = absurd (omega (arith, steps_order k.end_step (group_of c) (group_of d), e, r))
+    λ q. Word.Item (index q) (part_same f g (and_both (nat_lt i (l.capacity + 2)) (is_item_field f) a).1 (and_both (nat_lt j (l.capacity + 2)) (is_item_field g) b).1 field q)
+one_to_one k r l (Word.Tail Chain.Send) (Word.Tail (Chain.Take h)) a b e = absurd (omega (arith, within k l (Word.Tail Chain.Send) a, within k l (Word.Tail (Chain.Take h)) b, e, r))
+one_to_one k r l (Word.Tail Chain.Send) (Word.Object d) a b e = absurd (omega (arith, within k l (Word.Tail Chain.Send) a, object_low k r l d b, e, r))
+one_to_one k r l (Word.Tail Chain.Send) (Word.Node Chain.Send j q) a b e = absurd (omega (arith, within k l (Word.Tail Chain.Send) a, within k l (Word.Node Chain.Send j q) b, e, r))
+one_to_one k r l (Word.Tail Chain.Send) (Word.Node (Chain.Take h) j q) a b e = absurd (omega (arith, within k l (Word.Tail Chain.Send) a, within k l (Word.Node (Chain.Take h) j q) b, e, r))
+one_to_one k r l (Word.Tail Chain.Send) (Word.Item j q) a b e = absurd (omega (arith, within k l (Word.Tail Chain.Send) a, within k l (Word.Item j q) b, e, r))
+one_to_one k r l (Word.Tail (Chain.Take g)) (Word.Tail Chain.Send) a b e = absurd (omega (arith, within k l (Word.Tail (Chain.Take g)) a, within k l (Word.Tail Chain.Send) b, e, r))
+one_to_one k r l (Word.Tail (Chain.Take g)) (Word.Object d) a b e = absurd (omega (arith, within k l (Word.Tail (Chain.Take g)) a, object_low k r l d b, object_tail k r l d g, e, r))
+one_to_one k r l (Word.Tail (Chain.Take g)) (Word.Node Chain.Send j q) a b e = absurd (omega (arith, within k l (Word.Tail (Chain.Take g)) a, within k l (Word.Node Chain.Send j q) b, e, r))
+one_to_one k r l (Word.Tail (Chain.Take g)) (Word.Node (Chain.Take h) j q) a b e = absurd (omega (arith, within k l (Word.Tail (Chain.Take g)) a, within k l (Word.Node (Chain.Take h) j q) b, e, r))
+one_to_one k r l (Word.Tail (Chain.Take g)) (Word.Item j q) a b e = absurd (omega (arith, within k l (Word.Tail (Chain.Take g)) a, within k l (Word.Item j q) b, e, r))
+one_to_one k r l (Word.Object c) (Word.Tail Chain.Send) a b e = absurd (omega (arith, object_low k r l c a, within k l (Word.Tail Chain.Send) b, e, r))
+one_to_one k r l (Word.Object c) (Word.Tail (Chain.Take h)) a b e = absurd (omega (arith, object_low k r l c a, object_tail k r l c h, within k l (Word.Tail (Chain.Take h)) b, e, r))
+one_to_one k r l (Word.Object c) (Word.Node Chain.Send j q) a b e = absurd (omega (arith, object_low k r l c a, within k l (Word.Node Chain.Send j q) b, e, r))
+one_to_one k r l (Word.Object c) (Word.Node (Chain.Take h) j q) a b e = absurd (omega (arith, object_low k r l c a, within k l (Word.Node (Chain.Take h) j q) b, e, r))
+one_to_one k r l (Word.Object c) (Word.Item j q) a b e = absurd (omega (arith, object_low k r l c a, within k l (Word.Item j q) b, e, r))
+one_to_one k r l (Word.Node Chain.Send i f) (Word.Tail Chain.Send) a b e = absurd (omega (arith, within k l (Word.Node Chain.Send i f) a, within k l (Word.Tail Chain.Send) b, e, r))
+one_to_one k r l (Word.Node Chain.Send i f) (Word.Tail (Chain.Take h)) a b e = absurd (omega (arith, within k l (Word.Node Chain.Send i f) a, within k l (Word.Tail (Chain.Take h)) b, e, r))
+one_to_one k r l (Word.Node Chain.Send i f) (Word.Object d) a b e = absurd (omega (arith, within k l (Word.Node Chain.Send i f) a, object_low k r l d b, e, r))
+one_to_one k r l (Word.Node Chain.Send i f) (Word.Node (Chain.Take h) j q) a b e = absurd (omega (arith, within k l (Word.Node Chain.Send i f) a, within k l (Word.Node (Chain.Take h) j q) b, e, r))
+one_to_one k r l (Word.Node Chain.Send i f) (Word.Item j q) a b e = absurd (omega (arith, within k l (Word.Node Chain.Send i f) a, within k l (Word.Item j q) b, e, r))
+one_to_one k r l (Word.Node (Chain.Take g) i f) (Word.Tail Chain.Send) a b e = absurd (omega (arith, within k l (Word.Node (Chain.Take g) i f) a, within k l (Word.Tail Chain.Send) b, e, r))
+one_to_one k r l (Word.Node (Chain.Take g) i f) (Word.Tail (Chain.Take h)) a b e = absurd (omega (arith, within k l (Word.Node (Chain.Take g) i f) a, within k l (Word.Tail (Chain.Take h)) b, e, r))
+one_to_one k r l (Word.Node (Chain.Take g) i f) (Word.Object d) a b e = absurd (omega (arith, within k l (Word.Node (Chain.Take g) i f) a, object_low k r l d b, e, r))
+one_to_one k r l (Word.Node (Chain.Take g) i f) (Word.Node Chain.Send j q) a b e = absurd (omega (arith, within k l (Word.Node (Chain.Take g) i f) a, within k l (Word.Node Chain.Send j q) b, e, r))
+one_to_one k r l (Word.Node (Chain.Take g) i f) (Word.Item j q) a b e = absurd (omega (arith, within k l (Word.Node (Chain.Take g) i f) a, within k l (Word.Item j q) b, e, r))
+one_to_one k r l (Word.Item i f) (Word.Tail Chain.Send) a b e = absurd (omega (arith, within k l (Word.Item i f) a, within k l (Word.Tail Chain.Send) b, e, r))
+one_to_one k r l (Word.Item i f) (Word.Tail (Chain.Take h)) a b e = absurd (omega (arith, within k l (Word.Item i f) a, within k l (Word.Tail (Chain.Take h)) b, e, r))
+one_to_one k r l (Word.Item i f) (Word.Object d) a b e = absurd (omega (arith, within k l (Word.Item i f) a, object_low k r l d b, e, r))
+one_to_one k r l (Word.Item i f) (Word.Node Chain.Send j q) a b e = absurd (omega (arith, within k l (Word.Item i f) a, within k l (Word.Node Chain.Send j q) b, e, r))
+one_to_one k r l (Word.Item i f) (Word.Node (Chain.Take h) j q) a b e = absurd (omega (arith, within k l (Word.Item i f) a, within k l (Word.Node (Chain.Take h) j q) b, e, r))
+one_to_one k r l (Word.Object c) (Word.Object d) a b e = absurd (omega (arith, steps_order k.end_step (group_of c) (group_of d), e, r))
 
 chain_is : (x y : Chain) → same_chain x y ≡ true → x ≡ y
-chain_is Send Send e = refl
-chain_is (Take g) (Take h) e = ap (λ (k : ℕ). Take k) (eqb-true g h e)
+chain_is Chain.Send Chain.Send e = refl
+chain_is (Chain.Take g) (Chain.Take h) e = ap (λ (k : ℕ). Chain.Take k) (eqb-true g h e)
 chain_is _ _ e = absurd (cc)
 
 object_is : (a b : Object) → object_number a ≡ object_number b → a ≡ b
-object_is object.Last object.Last e = refl
-object_is object.Shut object.Shut e = refl
-object_is object.Count object.Count e = refl
-object_is object.Cursor object.Cursor e = refl
-object_is (object.Head g) (object.Head h) e = ap (λ (k : ℕ). object.Head k) (omega arith)
-object_is (object.Taken g) (object.Taken h) e = ap (λ (k : ℕ). object.Taken k) (omega arith)
+object_is Object.Last Object.Last e = refl
+object_is Object.Shut Object.Shut e = refl
+object_is Object.Count Object.Count e = refl
+object_is Object.Cursor Object.Cursor e = refl
+object_is (Object.Head g) (Object.Head h) e = ap (λ (k : ℕ). Object.Head k) (omega arith)
+object_is (Object.Taken g) (Object.Taken h) e = ap (λ (k : ℕ). Object.Taken k) (omega arith)
 object_is _ _ e = absurd (omega (arith, e))
 
 field_is : (f g : NodeField) → same_field f g ≡ true → f ≡ g
-field_is node.Next node.Next e = refl
-field_is node.State node.State e = refl
-field_is node.Tag node.Tag e = refl
-field_is node.Ret node.Ret e = refl
-field_is (node.Body i) (node.Body j) e = ap (λ (k : ℕ). node.Body k) (eqb-true i j e)
+field_is NodeField.Next NodeField.Next e = refl
+field_is NodeField.State NodeField.State e = refl
+field_is NodeField.Tag NodeField.Tag e = refl
+field_is NodeField.Ret NodeField.Ret e = refl
+field_is (NodeField.Body i) (NodeField.Body j) e = ap (λ (k : ℕ). NodeField.Body k) (eqb-true i j e)
 field_is _ _ e = absurd (cc)
 
 part_is : (f g : ItemField) → same_part f g ≡ true → f ≡ g
-part_is item.Tag item.Tag e = refl
-part_is item.Next item.Next e = refl
-part_is item.Passed item.Passed e = refl
-part_is (item.Body i) (item.Body j) e = ap (λ (k : ℕ). item.Body k) (eqb-true i j e)
+part_is ItemField.Tag ItemField.Tag e = refl
+part_is ItemField.Next ItemField.Next e = refl
+part_is ItemField.Passed ItemField.Passed e = refl
+part_is (ItemField.Body i) (ItemField.Body j) e = ap (λ (k : ℕ). ItemField.Body k) (eqb-true i j e)
 part_is _ _ e = absurd (cc)
 
 pub same_is : (v w : Word) → same v w ≡ true → v ≡ w
-same_is (word.Tail x) (word.Tail y) e = ap (λ (z : Chain). word.Tail z) (chain_is x y e)
-same_is (word.Object a) (word.Object b) e = ap (λ (z : Object). word.Object z) (object_is a b (eqb-true (object_number a) (object_number b) e))
-same_is (word.Node x i f) (word.Node y j g) e =
+same_is (Word.Tail x) (Word.Tail y) e = ap (λ (z : Chain). Word.Tail z) (chain_is x y e)
+same_is (Word.Object a) (Word.Object b) e = ap (λ (z : Object). Word.Object z) (object_is a b (eqb-true (object_number a) (object_number b) e))
+same_is (Word.Node x i f) (Word.Node y j g) e =
     let t = and_both (same_field f g && same_chain x y) (i == j) e in
     let u = and_both (same_field f g) (same_chain x y) t.0 in
     let field = field_is f g u.0 in
     let chain = chain_is x y u.1 in
     let index = eqb-true i j t.1 in
-    λ k. word.Node (chain k) (index k) (field k)
-same_is (word.Item i f) (word.Item j g) e =
+    λ k. Word.Node (chain k) (index k) (field k)
+same_is (Word.Item i f) (Word.Item j g) e =
     let t = and_both (same_part f g) (i == j) e in
     let field = part_is f g t.0 in
     let index = eqb-true i j t.1 in
-    λ k. word.Item (index k) (field k)
+    λ k. Word.Item (index k) (field k)
 same_is _ _ e = absurd (cc)
 
 chain_self : (x : Chain) → same_chain x x ≡ true
-chain_self Send = refl
-chain_self (Take g) = eq-eqb g g refl
+chain_self Chain.Send = refl
+chain_self (Chain.Take g) = eq-eqb g g refl
 
 field_self : (f : NodeField) → same_field f f ≡ true
-field_self node.Next = refl
-field_self node.State = refl
-field_self node.Tag = refl
-field_self node.Ret = refl
-field_self (node.Body i) = eq-eqb i i refl
+field_self NodeField.Next = refl
+field_self NodeField.State = refl
+field_self NodeField.Tag = refl
+field_self NodeField.Ret = refl
+field_self (NodeField.Body i) = eq-eqb i i refl
 
 part_self : (f : ItemField) → same_part f f ≡ true
-part_self item.Tag = refl
-part_self item.Next = refl
-part_self item.Passed = refl
-part_self (item.Body i) = eq-eqb i i refl
+part_self ItemField.Tag = refl
+part_self ItemField.Next = refl
+part_self ItemField.Passed = refl
+part_self (ItemField.Body i) = eq-eqb i i refl
 
 both_and : (a b : Bool) → a ≡ true → b ≡ true → a && b ≡ true
 both_and true b e f = f
 both_and false b e f = absurd (cc)
 
 pub same_self : (w : Word) → same w w ≡ true
-same_self (word.Tail x) = chain_self x
-same_self (word.Object a) = eq-eqb (object_number a) (object_number a) refl
-same_self (word.Node x i f) = both_and (same_field f f && same_chain x x) (i == i) (both_and (same_field f f) (same_chain x x) (field_self f) (chain_self x)) (eq-eqb i i refl)
-same_self (word.Item i f) = both_and (same_part f f) (i == i) (part_self f) (eq-eqb i i refl)
+same_self (Word.Tail x) = chain_self x
+same_self (Word.Object a) = eq-eqb (object_number a) (object_number a) refl
+same_self (Word.Node x i f) = both_and (same_field f f && same_chain x x) (i == i) (both_and (same_field f f) (same_chain x x) (field_self f) (chain_self x)) (eq-eqb i i refl)
+same_self (Word.Item i f) = both_and (same_part f f) (i == i) (part_self f) (eq-eqb i i refl)
 
 pub stored_words : (k : Spacing) → IsRoomy k → (l : Layout) (words : List ℕ) (w : Word) (value : ℕ) → IsTrue (exists l w) → lies k l w < length words → word_in_row k l (slice_set words (lies k l w) value) ≡ put (word_in_row k l words) w value
 stored_words k r l words w value a below = λ i v. at v i

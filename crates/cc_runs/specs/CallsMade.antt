@@ -3,28 +3,24 @@ use Rattle.std.specs.Prelude.{◌≡◌, ℕ, ◌<◌, ◌≤◌, ◌==◌, if�
 use Rattle.std.specs.List.{AllByRecursion}
 use Rattle.cc_model.specs.Items.{calls_of}
 use Rattle.cc_model.specs.Config.{config_fault}
-use Rattle.cc_model.specs.declared.call.Entry.{Entry}
-use Rattle.cc_runs.specs.declared.setting.Setting.{Setting}
-use Rattle.cc_runs.specs.declared.word.Chain.{Chain}
-use Rattle.cc_runs.specs.declared.place.Place.{Place}
-use Rattle.cc_runs.specs.declared.place.Place.TheVariants as place
+use Rattle.cc_runs.specs.Names.{Entry, Setting, Chain, Place, Move}
 use Rattle.cc_runs.specs.State.{pass_at}
-use Rattle.cc_runs.specs.Run.{Move, Begin, IsRun, reached, passes, number_of, history_of}
+use Rattle.cc_runs.specs.Run.{IsRun, reached, passes, number_of, history_of}
 use Rattle.cc_runs.specs.Sides.{calls_on}
 
 -- the calls that pass p began, in order, each with its number and what it knew
 abbrev pub made : Setting → List Move → ℕ → List Entry
 made c [] p = []
-made c (Begin q call known ∷ earlier) p =
+made c (Move.Begin q call known ∷ earlier) p =
     if q == p then made c earlier p ++ record { pass = pass_at c.config q; call = call; number = number_of call ((reached c earlier).stand q).begun; known = known } ∷ []
     else made c earlier p
 made c (_ ∷ earlier) p = made c earlier p
 
 -- the call that hasn't exchanged yet, if there is one
 abbrev pub to_exchange : Place → List Entry
-to_exchange (place.ResetNext call) = call ∷ []
-to_exchange (place.ResetState call) = call ∷ []
-to_exchange (place.Exchange call) = call ∷ []
+to_exchange (Place.ResetNext call) = call ∷ []
+to_exchange (Place.ResetState call) = call ∷ []
+to_exchange (Place.Exchange call) = call ∷ []
 to_exchange _ = []
 
 -- after every run the history has of each pass just those calls, each once and in order, that have exchanged
@@ -38,7 +34,7 @@ NumbersOfSends = (c : Setting) (moves : List Move) → IsRun c moves → (x : Ch
 
 -- a call that was begun and hasn't exchanged
 abbrev pub before_exchange : Place → ℕ
-before_exchange (place.ResetNext call) = 1
-before_exchange (place.ResetState call) = 1
-before_exchange (place.Exchange call) = 1
+before_exchange (Place.ResetNext call) = 1
+before_exchange (Place.ResetState call) = 1
+before_exchange (Place.Exchange call) = 1
 before_exchange _ = 0

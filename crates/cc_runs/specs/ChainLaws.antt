@@ -4,83 +4,66 @@ use Rattle.std.specs.List.{AllByRecursion, slice_get}
 use Rattle.cc_model.specs.Record.{Record}
 use Rattle.cc_model.specs.Items.{HasAnswer, calls_of}
 use Rattle.cc_model.specs.Config.{config_fault}
-use Rattle.cc_model.specs.declared.call.Pass.{Pass}
-use Rattle.cc_model.specs.declared.call.Entry.{Entry}
-use Rattle.cc_model.specs.declared.call.Item.{Item}
-use Rattle.cc_model.specs.declared.call.Answer.{Answer}
-use Rattle.cc_model.specs.declared.call.Answer.TheVariants as answer
-use Rattle.cc_model.specs.declared.call.SendAnswer.TheVariants as send
-use Rattle.cc_model.specs.declared.call.TakeAnswer.TheVariants as take
-use Rattle.cc_runs.specs.declared.setting.Setting.{Setting}
-use Rattle.cc_runs.specs.declared.setting.Served.{Served}
-use Rattle.cc_runs.specs.declared.setting.Served.TheVariants as served
-use Rattle.cc_runs.specs.declared.word.Chain.{Chain}
-use Rattle.cc_runs.specs.declared.word.Chain.TheVariants.{Send, Take}
-use Rattle.cc_runs.specs.declared.word.NodeField.{NodeField}
-use Rattle.cc_runs.specs.declared.word.NodeField.TheVariants as node
-use Rattle.cc_runs.specs.declared.word.Object.TheVariants as object
-use Rattle.cc_runs.specs.declared.word.Word.TheVariants.{Tail, Node, Object}
-use Rattle.cc_runs.specs.declared.place.Place.{Place}
-use Rattle.cc_runs.specs.declared.place.Place.TheVariants as place
+use Rattle.cc_runs.specs.Names.{Pass, Entry, Item, Answer, SendAnswer, TakeAnswer, Setting, Served, Chain, NodeField, Object, Word, Place, Move}
 use Rattle.cc_runs.specs.Codes.{tag_of, body_words, further_words, word, request_in, ret_of}
 use Rattle.cc_runs.specs.State.{State, chain_of, pass_at, word_of}
 use Rattle.cc_runs.specs.Lines.{operation}
-use Rattle.cc_runs.specs.Run.{Move, IsRun, reached, passes, history_of}
+use Rattle.cc_runs.specs.Run.{IsRun, reached, passes, history_of}
 use Rattle.cc_runs.specs.Safe.{WhileUndecided, IsReady}
 use Rattle.cc_runs.specs.Sides.{passes_on, calls_on, answers_on, FitsIn}
 
 -- between its read of state 0 and its hand-over
 abbrev pub IsCombining : Place → Type 0
-IsCombining (place.ReadNext round) = Unit {0}
-IsCombining (place.Counting job service) = Unit {0}
-IsCombining (place.Sending job service) = Unit {0}
-IsCombining (place.Taking job service) = Unit {0}
-IsCombining (place.WriteAnswer job told) = Unit {0}
-IsCombining (place.WriteAnswerTag job item) = Unit {0}
-IsCombining (place.WriteAnswerBody job item i) = Unit {0}
-IsCombining (place.MarkDone job) = Unit {0}
-IsCombining (place.HandOver at) = Unit {0}
+IsCombining (Place.ReadNext round) = Unit {0}
+IsCombining (Place.Counting job service) = Unit {0}
+IsCombining (Place.Sending job service) = Unit {0}
+IsCombining (Place.Taking job service) = Unit {0}
+IsCombining (Place.WriteAnswer job told) = Unit {0}
+IsCombining (Place.WriteAnswerTag job item) = Unit {0}
+IsCombining (Place.WriteAnswerBody job item i) = Unit {0}
+IsCombining (Place.MarkDone job) = Unit {0}
+IsCombining (Place.HandOver at) = Unit {0}
 IsCombining _ = ⊥
 
 -- how many requests it has served since then
 abbrev pub served_by : Place → ℕ
-served_by (place.ReadNext round) = round.served
-served_by (place.Counting job service) = job.round.served
-served_by (place.Sending job service) = job.round.served
-served_by (place.Taking job service) = job.round.served
-served_by (place.WriteAnswer job told) = job.round.served
-served_by (place.WriteAnswerTag job item) = job.round.served
-served_by (place.WriteAnswerBody job item i) = job.round.served
-served_by (place.MarkDone job) = job.round.served
+served_by (Place.ReadNext round) = round.served
+served_by (Place.Counting job service) = job.round.served
+served_by (Place.Sending job service) = job.round.served
+served_by (Place.Taking job service) = job.round.served
+served_by (Place.WriteAnswer job told) = job.round.served
+served_by (Place.WriteAnswerTag job item) = job.round.served
+served_by (Place.WriteAnswerBody job item i) = job.round.served
+served_by (Place.MarkDone job) = job.round.served
 served_by _ = 0
 
 -- the nodes that it will touch, beside the pass's own, are among the chain's
 abbrev pub AreNodes : ℕ → Place → Type 0
-AreNodes n (place.WriteTag put request) = put ≤ n
-AreNodes n (place.WriteBody put request i) = put ≤ n
-AreNodes n (place.Link put) = put ≤ n
-AreNodes n (place.ReadNext round) = round.at ≤ n
-AreNodes n (place.Counting job service) = (job.round.at ≤ n) × (job.next ≤ n)
-AreNodes n (place.Sending job service) = (job.round.at ≤ n) × (job.next ≤ n)
-AreNodes n (place.Taking job service) = (job.round.at ≤ n) × (job.next ≤ n)
-AreNodes n (place.WriteAnswer job told) = (job.round.at ≤ n) × (job.next ≤ n)
-AreNodes n (place.WriteAnswerTag job item) = (job.round.at ≤ n) × (job.next ≤ n)
-AreNodes n (place.WriteAnswerBody job item i) = (job.round.at ≤ n) × (job.next ≤ n)
-AreNodes n (place.MarkDone job) = (job.round.at ≤ n) × (job.next ≤ n)
-AreNodes n (place.HandOver at) = at ≤ n
+AreNodes n (Place.WriteTag put request) = put ≤ n
+AreNodes n (Place.WriteBody put request i) = put ≤ n
+AreNodes n (Place.Link put) = put ≤ n
+AreNodes n (Place.ReadNext round) = round.at ≤ n
+AreNodes n (Place.Counting job service) = (job.round.at ≤ n) × (job.next ≤ n)
+AreNodes n (Place.Sending job service) = (job.round.at ≤ n) × (job.next ≤ n)
+AreNodes n (Place.Taking job service) = (job.round.at ≤ n) × (job.next ≤ n)
+AreNodes n (Place.WriteAnswer job told) = (job.round.at ≤ n) × (job.next ≤ n)
+AreNodes n (Place.WriteAnswerTag job item) = (job.round.at ≤ n) × (job.next ≤ n)
+AreNodes n (Place.WriteAnswerBody job item i) = (job.round.at ≤ n) × (job.next ≤ n)
+AreNodes n (Place.MarkDone job) = (job.round.at ≤ n) × (job.next ≤ n)
+AreNodes n (Place.HandOver at) = at ≤ n
 AreNodes n _ = Unit {0}
 
 -- the node whose request is in service
 abbrev pub served_node : Place → ℕ
-served_node (place.Counting job service) = job.round.at
-served_node (place.Sending job service) = job.round.at
-served_node (place.Taking job service) = job.round.at
+served_node (Place.Counting job service) = job.round.at
+served_node (Place.Sending job service) = job.round.at
+served_node (Place.Taking job service) = job.round.at
 served_node _ = 0
 
 -- a node of the chain holds the request of this call: a take has no request words
 abbrev pub HoldsRequest : State → Chain → ℕ → Entry → Type 0
-HoldsRequest s Send at e = (s.mem (Node Send at node.Tag) ≡ (request_in e).tag) × ((i : ℕ) → i ≤ further_words (request_in e).tag → s.mem (Node Send at (node.Body i)) ≡ word (request_in e).body i)
-HoldsRequest s (Take g) at e = Unit {0}
+HoldsRequest s Chain.Send at e = (s.mem (Word.Node Chain.Send at NodeField.Tag) ≡ (request_in e).tag) × ((i : ℕ) → i ≤ further_words (request_in e).tag → s.mem (Word.Node Chain.Send at (NodeField.Body i)) ≡ word (request_in e).body i)
+HoldsRequest s (Chain.Take g) at e = Unit {0}
 
 -- the request in this node is that of the first call without an answer
 pub record ServesNext (s : State) (x : Chain) (at : ℕ) : Type 0 where
@@ -112,16 +95,16 @@ pub record WasTold (what : Served) (h : Record) (who : Pass) (told : Answer) : T
 
 -- its answer is there, and it reads its words
 abbrev pub IsReading : Place → Type 0
-IsReading place.ReadAnswer = Unit {0}
-IsReading (place.ReadAnswerTag at) = Unit {0}
-IsReading (place.ReadAnswerBody p i) = Unit {0}
+IsReading Place.ReadAnswer = Unit {0}
+IsReading (Place.ReadAnswerTag at) = Unit {0}
+IsReading (Place.ReadAnswerBody p i) = Unit {0}
 IsReading _ = ⊥
 
 -- the word of this answer that it reads next, in its node own
 abbrev pub ReadsWord : Served → State → Chain → ℕ → Answer → Place → Type 0
-ReadsWord what s x own a place.ReadAnswer = s.mem (Node x own node.Ret) ≡ ret_of what a
-ReadsWord what s x own a (place.ReadAnswerTag at) = (item : Item) × (a ≡ answer.Take (take.Got item)) × (s.mem (Node x own node.Tag) ≡ tag_of item)
-ReadsWord what s x own a (place.ReadAnswerBody p i) = (item : Item) × (a ≡ answer.Take (take.Got item)) × (s.mem (Node x own (node.Body i)) ≡ word (body_words item) i)
+ReadsWord what s x own a Place.ReadAnswer = s.mem (Word.Node x own NodeField.Ret) ≡ ret_of what a
+ReadsWord what s x own a (Place.ReadAnswerTag at) = (item : Item) × (a ≡ Answer.Take (TakeAnswer.Got item)) × (s.mem (Word.Node x own NodeField.Tag) ≡ tag_of item)
+ReadsWord what s x own a (Place.ReadAnswerBody p i) = (item : Item) × (a ≡ Answer.Take (TakeAnswer.Got item)) × (s.mem (Word.Node x own (NodeField.Body i)) ≡ word (body_words item) i)
 ReadsWord what s x own a _ = Unit {0}
 
 -- the last call of this pass is answered in the history, and the word that it reads next is one of that answer
@@ -134,11 +117,11 @@ pub record IsToldBy (what : Served) (s : State) (x : Chain) (own : ℕ) (who : P
 
 -- out of its chain: from the last word of an answer that it reads to its next exchange
 abbrev pub IsOut : Place → Type 0
-IsOut place.Idle = Unit {0}
-IsOut (place.ResetNext call) = Unit {0}
-IsOut (place.ResetState call) = Unit {0}
-IsOut (place.Exchange call) = Unit {0}
-IsOut (place.Finished told) = Unit {0}
+IsOut Place.Idle = Unit {0}
+IsOut (Place.ResetNext call) = Unit {0}
+IsOut (Place.ResetState call) = Unit {0}
+IsOut (Place.Exchange call) = Unit {0}
+IsOut (Place.Finished told) = Unit {0}
 IsOut _ = ⊥
 
 -- the laws of the chains of a state
@@ -154,20 +137,20 @@ pub record ChainLaws (c : Setting) (s : State) : Type 0 where
   pub serves : (p : ℕ) → p < passes c → WhileUndecided (s.stand p).place (ServesNext s (chain_of c.config p) (served_node (s.stand p).place))
   -- what a call reads as its answer, word by word and in all, is its answer in the history
   pub reads : (p : ℕ) → p < passes c → IsReading (s.stand p).place → IsToldBy c.served s (chain_of c.config p) (s.stand p).node (pass_at c.config p) (s.stand p).place
-  pub told : (p : ℕ) (told : Answer) → p < passes c → (s.stand p).place ≡ place.Finished told → WasTold c.served s.history (pass_at c.config p) told
+  pub told : (p : ℕ) (told : Answer) → p < passes c → (s.stand p).place ≡ Place.Finished told → WasTold c.served s.history (pass_at c.config p) told
   -- each node that is named is one of the chain, and each link that is read is null or names one
   pub own : (p : ℕ) → p < passes c → (s.stand p).node ≤ passes_on c (chain_of c.config p)
   pub nodes : (p : ℕ) → p < passes c → AreNodes (passes_on c (chain_of c.config p)) (s.stand p).place
-  pub link : (p at served : ℕ) → p < passes c → (s.stand p).place ≡ place.ReadNext record { at = at; served = served } → s.mem (Node (chain_of c.config p) at node.Next) ≤ passes_on c (chain_of c.config p) + 1
+  pub link : (p at served : ℕ) → p < passes c → (s.stand p).place ≡ Place.ReadNext record { at = at; served = served } → s.mem (Word.Node (chain_of c.config p) at NodeField.Next) ≤ passes_on c (chain_of c.config p) + 1
   -- a combiner that has served nobody yet finds its own node linked, so it serves its own request first
-  pub own_link : (p at : ℕ) → p < passes c → (s.stand p).place ≡ place.ReadNext record { at = at; served = 0 } → 0 < s.mem (Node (chain_of c.config p) at node.Next)
-  pub tail : (p : ℕ) → p < passes c → (0 < s.mem (Tail (chain_of c.config p))) × (s.mem (Tail (chain_of c.config p)) ≤ passes_on c (chain_of c.config p) + 1)
+  pub own_link : (p at : ℕ) → p < passes c → (s.stand p).place ≡ Place.ReadNext record { at = at; served = 0 } → 0 < s.mem (Word.Node (chain_of c.config p) at NodeField.Next)
+  pub tail : (p : ℕ) → p < passes c → (0 < s.mem (Word.Tail (chain_of c.config p))) × (s.mem (Word.Tail (chain_of c.config p)) ≤ passes_on c (chain_of c.config p) + 1)
   -- no two passes of a chain own one node, and nobody owns the node in its tail: so a pass that resets its node resets nobody else's
   pub apart : (p q : ℕ) → p < passes c → q < passes c → chain_of c.config p ≡ chain_of c.config q → (s.stand p).node ≡ (s.stand q).node → p ≡ q
-  pub free : (p : ℕ) → p < passes c → s.mem (Tail (chain_of c.config p)) ≢ (s.stand p).node + 1
+  pub free : (p : ℕ) → p < passes c → s.mem (Word.Tail (chain_of c.config p)) ≢ (s.stand p).node + 1
   -- and while a pass is out of its chain, so also where it resets its node, no other pass's step touches that node
   pub untouched : (p q : ℕ) (f : NodeField) → p < passes c → q < passes c → p ≢ q → IsOut (s.stand p).place →
-      word_of (operation c (chain_of c.config q) (s.stand q).node (s.stand q).place) ≢ Node (chain_of c.config p) (s.stand p).node f
+      word_of (operation c (chain_of c.config q) (s.stand q).node (s.stand q).place) ≢ Word.Node (chain_of c.config p) (s.stand p).node f
 
 -- they hold after every run
 abbrev pub ChainLawsOfRuns : Type 0
@@ -175,9 +158,9 @@ ChainLawsOfRuns = (c : Setting) → config_fault c.config ≡ Ok tt → (moves :
 
 -- its call has exchanged, and isn't linked to the next node yet
 abbrev pub IsEntering : Place → Type 0
-IsEntering (place.WriteTag put request) = Unit {0}
-IsEntering (place.WriteBody put request i) = Unit {0}
-IsEntering (place.Link put) = Unit {0}
+IsEntering (Place.WriteTag put request) = Unit {0}
+IsEntering (Place.WriteBody put request i) = Unit {0}
+IsEntering (Place.Link put) = Unit {0}
 IsEntering _ = ⊥
 
 -- the last call of a pass in a history has no answer
@@ -199,14 +182,14 @@ CallsEndAnswered = (c : Setting) → config_fault c.config ≡ Ok tt → (moves 
 -- the laws of a counter: it hands out the numbers from 0 on, in the order of the exchanges
 pub record CounterLaws (c : Setting) (s : State) : Type 0 where
   pub chain : ChainLaws c s
-  pub count : s.mem (Object object.Count) ≡ length s.history.sends.answers
-  pub numbers : (k : ℕ) → k < length s.history.sends.answers → slice_get s.history.sends.answers k ≡ Some (answer.Send (send.Accepted k))
+  pub count : s.mem (Word.Object Object.Count) ≡ length s.history.sends.answers
+  pub numbers : (k : ℕ) → k < length s.history.sends.answers → slice_get s.history.sends.answers k ≡ Some (Answer.Send (SendAnswer.Accepted k))
   -- each step can be done, and leaves every number in its range
   pub ready : (p : ℕ) → p < passes c → IsReady c s p
 
 -- they hold after every run of a counter
 abbrev pub CounterLawsOfRuns : Type 0
-CounterLawsOfRuns = (c : Setting) → c.served ≡ served.Counter → config_fault c.config ≡ Ok tt → (moves : List Move) → IsRun c moves → CounterLaws c (reached c moves)
+CounterLawsOfRuns = (c : Setting) → c.served ≡ Served.Counter → config_fault c.config ≡ Ok tt → (moves : List Move) → IsRun c moves → CounterLaws c (reached c moves)
 
 -- the last call of a pass in a history has this answer
 pub record IsLastAnswer (pass : Pass) (h : Record) (told : Answer) : Type 0 where

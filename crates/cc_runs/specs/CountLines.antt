@@ -1,19 +1,7 @@
 -- The service of a request to the counter: a line for each place at which its combiner can stand. It hands out the number
 -- that the counter holds, and adds one.
 use Rattle.std.specs.Prelude.{ℕ, ◌+◌, Option}
-use Rattle.cc_model.specs.declared.call.Answer.{Answer}
-use Rattle.cc_model.specs.declared.call.Answer.TheVariants as answer
-use Rattle.cc_model.specs.declared.call.SendAnswer.TheVariants as send
-use Rattle.cc_runs.specs.declared.word.Chain.TheVariants.{Send}
-use Rattle.cc_runs.specs.declared.word.NodeField.TheVariants as node
-use Rattle.cc_runs.specs.declared.word.Object.TheVariants as object
-use Rattle.cc_runs.specs.declared.word.Word.TheVariants.{Object, Node}
-use Rattle.cc_runs.specs.declared.place.Kind.{Kind}
-use Rattle.cc_runs.specs.declared.place.Kind.TheVariants as kind
-use Rattle.cc_runs.specs.declared.place.Job.{Job}
-use Rattle.cc_runs.specs.declared.place.Place.{Place}
-use Rattle.cc_runs.specs.declared.place.Place.TheVariants.{Counting}
-use Rattle.cc_runs.specs.declared.place.Counting.{Counting as Service}
+use Rattle.cc_runs.specs.Names.{Answer, SendAnswer, Chain, NodeField, Object, Word, Kind, Job, Place, Counting as Service}
 use Rattle.cc_runs.specs.declared.place.Counting.TheVariants.{ReadTag, ReadBody, ReadCount, WriteCount}
 use Rattle.cc_runs.specs.Codes.{further_words, behind}
 use Rattle.cc_runs.specs.State.{Operation}
@@ -21,10 +9,10 @@ use Rattle.cc_runs.specs.ServiceLine.{ServiceLine, On, Decides, load, store, pla
 
 -- served is the node with the request
 abbrev pub line : ℕ → Service → ℕ → ServiceLine Service
-line served ReadTag tag = load kind.ReadRequest (Node Send served node.Tag) (On (ReadBody tag 0))
-line served (ReadBody tag i) _ = load kind.ReadRequest (Node Send served (node.Body i)) (On (behind (further_words tag) i (ReadBody tag (i + 1)) ReadCount))
-line served ReadCount count = load kind.ReadObject (Object object.Count) (On (WriteCount count))
-line served (WriteCount count) _ = store kind.WriteObject (Object object.Count) (count + 1) (Decides (answer.Send (send.Accepted count)))
+line served ReadTag tag = load Kind.ReadRequest (Word.Node Chain.Send served NodeField.Tag) (On (ReadBody tag 0))
+line served (ReadBody tag i) _ = load Kind.ReadRequest (Word.Node Chain.Send served (NodeField.Body i)) (On (behind (further_words tag) i (ReadBody tag (i + 1)) ReadCount))
+line served ReadCount count = load Kind.ReadObject (Word.Object Object.Count) (On (WriteCount count))
+line served (WriteCount count) _ = store Kind.WriteObject (Word.Object Object.Count) (count + 1) (Decides (Answer.Send (SendAnswer.Accepted count)))
 
 -- ---- what follows from the lines
 
@@ -35,7 +23,7 @@ abbrev pub operation : ℕ → Service → Operation
 operation served service = (line served service 0).does
 
 abbrev pub in_service : Job → Service → Place
-in_service job service = Counting job service
+in_service job service = Place.Counting job service
 
 abbrev pub goes : Job → Service → ℕ → Place
 goes job service found = place_of in_service job (line 0 service found).next

@@ -6,36 +6,18 @@ use Rattle.cc_model.specs.Record.{Record}
 use Rattle.cc_model.specs.Items.{Begins, accepted, handed_to_all}
 use Rattle.cc_model.specs.Legal.{Legal}
 use Rattle.cc_model.specs.Fifo.{Fifo}
-use Rattle.cc_model.specs.declared.config.Config.{Config}
-use Rattle.cc_model.specs.declared.call.Answer.{Answer}
-use Rattle.cc_model.specs.declared.call.Answer.TheVariants as answer
-use Rattle.cc_model.specs.declared.call.SendAnswer.TheVariants as send
-use Rattle.cc_model.specs.declared.call.CloseAnswer.TheVariants as close
-use Rattle.cc_model.specs.declared.call.TakeAnswer.TheVariants as take
-use Rattle.cc_runs.specs.declared.setting.Setting.{Setting}
-use Rattle.cc_runs.specs.declared.setting.Served.TheVariants as served
-use Rattle.cc_runs.specs.declared.word.ItemField.TheVariants as item
-use Rattle.cc_runs.specs.declared.word.Object.TheVariants as object
-use Rattle.cc_runs.specs.declared.word.Word.{Word}
-use Rattle.cc_runs.specs.declared.word.Word.TheVariants.{Item, Object}
-use Rattle.cc_runs.specs.declared.place.Place.{Place}
-use Rattle.cc_runs.specs.declared.place.Place.TheVariants as place
-use Rattle.cc_runs.specs.declared.place.Sending.{Sending}
-use Rattle.cc_runs.specs.declared.place.Sending.TheVariants as sending
-use Rattle.cc_runs.specs.declared.place.Taking.{Taking}
-use Rattle.cc_runs.specs.declared.place.Taking.TheVariants as taking
+use Rattle.cc_runs.specs.Names.{Config, Answer, SendAnswer, CloseAnswer, TakeAnswer, Setting, Served, ItemField, Object, Word, Place, Sending, Taking, Chain, Move}
 use Rattle.cc_runs.specs.Words.{groups}
 use Rattle.cc_runs.specs.State.{State, chain_of, pass_at}
 use Rattle.cc_runs.specs.Lines.{group_of}
 use Rattle.cc_runs.specs.Sides.{answers_on}
-use Rattle.cc_runs.specs.declared.word.Chain.{Chain}
 use Rattle.cc_runs.specs.Safe.{IsReady}
 use Rattle.cc_runs.specs.ChainLaws.{IsLastAnswer}
-use Rattle.cc_runs.specs.Run.{Move, Begin, Step, Take, passes, reached, history_of, IsRun}
+use Rattle.cc_runs.specs.Run.{passes, reached, history_of, IsRun}
 
 -- of every run of such a machine, whose configuration was checked
 abbrev pub AfterEveryRun : (Setting → List Move → Type 0) → Type 0
-AfterEveryRun P = (c : Setting) (moves : List Move) → c.served ≡ served.List → config_fault c.config ≡ Ok tt → IsRun c moves → P c moves
+AfterEveryRun P = (c : Setting) (moves : List Move) → c.served ≡ Served.List → config_fault c.config ≡ Ok tt → IsRun c moves → P c moves
 
 -- ---- the history
 
@@ -51,7 +33,7 @@ HistoryIsFifo = AfterEveryRun (λ c moves. Fifo (history_of c moves))
 
 -- a list node is busy until every group has passed it
 abbrev pub is_busy : Config → (Word → ℕ) → ℕ → ℕ
-is_busy c mem i = if mem (Item i item.Passed) == groups c then 0 else 1
+is_busy c mem i = if mem (Word.Item i ItemField.Passed) == groups c then 0 else 1
 
 -- how many of the first nodes are busy
 abbrev pub busy_below : Config → (Word → ℕ) → ℕ → ℕ
@@ -60,16 +42,16 @@ busy_below c mem (suc n) = is_busy c mem n + busy_below c mem n
 
 -- a send's service prepares a node, from the reset of its count of groups up to its link
 abbrev pub IsPreparing : Sending → ℕ → Type 0
-IsPreparing (sending.ResetItemNext parcel at) x = at ≡ x
-IsPreparing (sending.WriteItemTag parcel at) x = at ≡ x
-IsPreparing (sending.WriteItemBody parcel at i) x = at ≡ x
-IsPreparing (sending.ReadLast count at) x = at ≡ x
-IsPreparing (sending.LinkItem count at last) x = at ≡ x
+IsPreparing (Sending.ResetItemNext parcel at) x = at ≡ x
+IsPreparing (Sending.WriteItemTag parcel at) x = at ≡ x
+IsPreparing (Sending.WriteItemBody parcel at i) x = at ≡ x
+IsPreparing (Sending.ReadLast count at) x = at ≡ x
+IsPreparing (Sending.LinkItem count at last) x = at ≡ x
 IsPreparing _ x = ⊥
 
 -- a pass that stands here does
 abbrev pub Prepares : Place → ℕ → Type 0
-Prepares (place.Sending job service) x = IsPreparing service x
+Prepares (Place.Sending job service) x = IsPreparing service x
 Prepares _ x = ⊥
 
 -- outside the preparation of a node the items that wait have a busy node each, and the dummy is one more
@@ -88,25 +70,25 @@ PreparedNodeIsBusy = AfterEveryRun (λ c moves. let s : State = reached c moves 
 
 -- the node that a step links into the list
 abbrev pub links : Sending → List ℕ
-links (sending.LinkItem count at last) = at ∷ []
+links (Sending.LinkItem count at last) = at ∷ []
 links _ = []
 
 -- and a step of a pass that stands here
 abbrev pub links_at : Place → List ℕ
-links_at (place.Sending job service) = links service
+links_at (Place.Sending job service) = links service
 links_at _ = []
 
 -- the nodes of the list in order, the first dummy and then the node of each accepted item
 abbrev pub linked_nodes : Setting → List Move → List ℕ
 linked_nodes c [] = 0 ∷ []
-linked_nodes c (Step p ∷ earlier) = linked_nodes c earlier ++ links_at ((reached c earlier).stand p).place
-linked_nodes c (Begin p call known ∷ earlier) = linked_nodes c earlier
-linked_nodes c (Take p ∷ earlier) = linked_nodes c earlier
+linked_nodes c (Move.Step p ∷ earlier) = linked_nodes c earlier ++ links_at ((reached c earlier).stand p).place
+linked_nodes c (Move.Begin p call known ∷ earlier) = linked_nodes c earlier
+linked_nodes c (Move.Take p ∷ earlier) = linked_nodes c earlier
 
 -- the node that is reset now: its count of groups, or its link
 abbrev pub Resets : Place → ℕ → Type 0
-Resets (place.Sending job (sending.ResetPassed parcel at)) x = at ≡ x
-Resets (place.Sending job (sending.ResetItemNext parcel at)) x = at ≡ x
+Resets (Place.Sending job (Sending.ResetPassed parcel at)) x = at ≡ x
+Resets (Place.Sending job (Sending.ResetItemNext parcel at)) x = at ≡ x
 Resets _ x = ⊥
 
 -- A node that was in the list is reset only after the take that went past it was decided: the take with number k goes
@@ -117,18 +99,18 @@ ResetAfterTheTake = AfterEveryRun (λ c moves. let s : State = reached c moves i
 
 -- a take's service holds the dummy for steps to come, and the node after it once its link was read
 abbrev pub Holds : Taking → ℕ → Type 0
-Holds taking.ReadHead x = ⊥
-Holds (taking.ReadTaken dummy) x = dummy ≡ x
-Holds (taking.ReadDummyNext dummy taken) x = dummy ≡ x
-Holds (taking.ReadItemTag dummy taken at) x = (dummy ≡ x) ⊎ (at ≡ x)
-Holds (taking.ReadItemBody dummy at p i) x = (dummy ≡ x) ⊎ (at ≡ x)
-Holds (taking.WriteHead dummy at parcel) x = (dummy ≡ x) ⊎ (at ≡ x)
-Holds (taking.WriteTaken dummy parcel) x = dummy ≡ x
-Holds (taking.AddPassed dummy parcel) x = dummy ≡ x
+Holds Taking.ReadHead x = ⊥
+Holds (Taking.ReadTaken dummy) x = dummy ≡ x
+Holds (Taking.ReadDummyNext dummy taken) x = dummy ≡ x
+Holds (Taking.ReadItemTag dummy taken at) x = (dummy ≡ x) ⊎ (at ≡ x)
+Holds (Taking.ReadItemBody dummy at p i) x = (dummy ≡ x) ⊎ (at ≡ x)
+Holds (Taking.WriteHead dummy at parcel) x = (dummy ≡ x) ⊎ (at ≡ x)
+Holds (Taking.WriteTaken dummy parcel) x = dummy ≡ x
+Holds (Taking.AddPassed dummy parcel) x = dummy ≡ x
 
 -- a pass that stands here does
 abbrev pub HoldsAt : Place → ℕ → Type 0
-HoldsAt (place.Taking job service) x = Holds service x
+HoldsAt (Place.Taking job service) x = Holds service x
 HoldsAt _ x = ⊥
 
 -- from its reset up to its link no take holds a node
@@ -145,20 +127,20 @@ NamesNode c link = (1 ≤ link) × (link ≤ c.capacity + 1)
 -- closing mark. The scan starts at an ordinary node, and from there on up to the last word of its send the node that is
 -- looked at, or was found, is an ordinary one.
 abbrev pub FindsNode : Config → State → Chain → Place → Type 0
-FindsNode c s x (place.Sending job (sending.ReadLastToClose total)) = NamesNode c (s.mem (Object object.Last))
-FindsNode c s x (place.Sending job (sending.ReadCursor parcel)) = s.mem (Object object.Cursor) ≤ c.capacity
-FindsNode c s x (place.Sending job (sending.ReadPassed parcel at reads)) = at ≤ c.capacity
-FindsNode c s x (place.Sending job (sending.ResetPassed parcel at)) = at ≤ c.capacity
-FindsNode c s x (place.Sending job (sending.ResetItemNext parcel at)) = at ≤ c.capacity
-FindsNode c s x (place.Sending job (sending.WriteItemTag parcel at)) = at ≤ c.capacity
-FindsNode c s x (place.Sending job (sending.WriteItemBody parcel at i)) = at ≤ c.capacity
-FindsNode c s x (place.Sending job (sending.ReadLast count at)) = NamesNode c (s.mem (Object object.Last)) × (at ≤ c.capacity)
-FindsNode c s x (place.Sending job (sending.LinkItem count at last)) = at ≤ c.capacity
-FindsNode c s x (place.Sending job (sending.WriteLast count at)) = at ≤ c.capacity
-FindsNode c s x (place.Sending job (sending.WriteCount count at)) = at ≤ c.capacity
-FindsNode c s x (place.Sending job (sending.WriteCursor count at)) = at ≤ c.capacity
-FindsNode c s x (place.Taking job taking.ReadHead) = NamesNode c (s.mem (Object (object.Head (group_of x))))
-FindsNode c s x (place.Taking job (taking.ReadDummyNext dummy taken)) = s.mem (Item dummy item.Next) ≤ c.capacity + 2
+FindsNode c s x (Place.Sending job (Sending.ReadLastToClose total)) = NamesNode c (s.mem (Word.Object Object.Last))
+FindsNode c s x (Place.Sending job (Sending.ReadCursor parcel)) = s.mem (Word.Object Object.Cursor) ≤ c.capacity
+FindsNode c s x (Place.Sending job (Sending.ReadPassed parcel at reads)) = at ≤ c.capacity
+FindsNode c s x (Place.Sending job (Sending.ResetPassed parcel at)) = at ≤ c.capacity
+FindsNode c s x (Place.Sending job (Sending.ResetItemNext parcel at)) = at ≤ c.capacity
+FindsNode c s x (Place.Sending job (Sending.WriteItemTag parcel at)) = at ≤ c.capacity
+FindsNode c s x (Place.Sending job (Sending.WriteItemBody parcel at i)) = at ≤ c.capacity
+FindsNode c s x (Place.Sending job (Sending.ReadLast count at)) = NamesNode c (s.mem (Word.Object Object.Last)) × (at ≤ c.capacity)
+FindsNode c s x (Place.Sending job (Sending.LinkItem count at last)) = at ≤ c.capacity
+FindsNode c s x (Place.Sending job (Sending.WriteLast count at)) = at ≤ c.capacity
+FindsNode c s x (Place.Sending job (Sending.WriteCount count at)) = at ≤ c.capacity
+FindsNode c s x (Place.Sending job (Sending.WriteCursor count at)) = at ≤ c.capacity
+FindsNode c s x (Place.Taking job Taking.ReadHead) = NamesNode c (s.mem (Word.Object (Object.Head (group_of x))))
+FindsNode c s x (Place.Taking job (Taking.ReadDummyNext dummy taken)) = s.mem (Word.Item dummy ItemField.Next) ≤ c.capacity + 2
 FindsNode c s x _ = Unit {0}
 
 -- each link that is read is one, and a scan reads ordinary nodes alone
@@ -167,7 +149,7 @@ LinksNameNodes = AfterEveryRun (λ c moves. (p : ℕ) → FindsNode c.config (re
 
 -- a scan that stands here has read so many nodes, the next one counted in
 abbrev pub scan_reads : Place → ℕ
-scan_reads (place.Sending job (sending.ReadPassed parcel at reads)) = reads
+scan_reads (Place.Sending job (Sending.ReadPassed parcel at reads)) = reads
 scan_reads _ = 0
 
 -- a scan reads at most as many nodes as there are ordinary ones
@@ -176,11 +158,11 @@ ScansAreShort = AfterEveryRun (λ c moves. (p : ℕ) → scan_reads ((reached c 
 
 -- a place is below this number, and a count of items at most so great
 abbrev pub AnswerWithin : ℕ → Answer → Type 0
-AnswerWithin most (answer.Send (send.Accepted at)) = at < most
-AnswerWithin most (answer.Close (close.Shut total)) = total ≤ most
-AnswerWithin most (answer.Close (close.Already total)) = total ≤ most
-AnswerWithin most (answer.Take (take.Got item)) = (item.place < most) × (item.number < 2 ^ 32)
-AnswerWithin most (answer.Take (take.Ended total)) = total ≤ most
+AnswerWithin most (Answer.Send (SendAnswer.Accepted at)) = at < most
+AnswerWithin most (Answer.Close (CloseAnswer.Shut total)) = total ≤ most
+AnswerWithin most (Answer.Close (CloseAnswer.Already total)) = total ≤ most
+AnswerWithin most (Answer.Take (TakeAnswer.Got item)) = (item.place < most) × (item.number < 2 ^ 32)
+AnswerWithin most (Answer.Take (TakeAnswer.Ended total)) = total ≤ most
 AnswerWithin most _ = Unit {0}
 
 -- at most `life` items are accepted; each place in an answer is below that, each total at most that, and each send's number
@@ -203,7 +185,7 @@ StepsAreReady = AfterEveryRun (λ c moves. (p : ℕ) → p < passes c → IsRead
 
 -- what a call has read as its answer is the answer of its pass's last call in the history
 abbrev pub AnswersAreTold : Type 0
-AnswersAreTold = AfterEveryRun (λ c moves. (p : ℕ) (told : Answer) → p < passes c → ((reached c moves).stand p).place ≡ place.Finished told → IsLastAnswer (pass_at c.config p) (history_of c moves) told)
+AnswersAreTold = AfterEveryRun (λ c moves. (p : ℕ) (told : Answer) → p < passes c → ((reached c moves).stand p).place ≡ Place.Finished told → IsLastAnswer (pass_at c.config p) (history_of c moves) told)
 
 -- ---- fronts of runs, whatever is served
 

@@ -2,20 +2,17 @@
 use Rattle.std.specs.Prelude.{◌≡◌, ℕ, ◌≤◌, ◌==◌, if◌then◌else◌, List, [], ◌∷◌, ◌++◌, Ok}
 use Rattle.cc_model.specs.Config.{config_fault}
 use Rattle.cc_model.specs.Items.{known_at}
-use Rattle.cc_runs.specs.declared.setting.Setting.{Setting}
-use Rattle.cc_runs.specs.declared.place.Kind.{Kind}
-use Rattle.cc_runs.specs.declared.place.Event.{Event}
-use Rattle.cc_runs.specs.declared.place.Event.TheVariants.{Did, Idle}
+use Rattle.cc_runs.specs.Names.{Setting, Kind, Event, Move}
 use Rattle.cc_runs.specs.State.{pass_at}
 use Rattle.cc_runs.specs.Lines.{event_at}
 use Rattle.cc_runs.specs.CallsMade.{made}
-use Rattle.cc_runs.specs.Run.{Move, Begin, Step, Take, IsRun, reached, history_of}
+use Rattle.cc_runs.specs.Run.{IsRun, reached, history_of}
 
 -- the pass whose move it is
 abbrev pub pass_of : Move → ℕ
-pass_of (Begin p call known) = p
-pass_of (Step p) = p
-pass_of (Take p) = p
+pass_of (Move.Begin p call known) = p
+pass_of (Move.Step p) = p
+pass_of (Move.Take p) = p
 
 -- the moves of one pass
 abbrev pub by : ℕ → List Move → List Move
@@ -24,13 +21,13 @@ by p (m ∷ earlier) = if pass_of m == p then m ∷ by p earlier else by p earli
 
 -- one step more
 abbrev pub then_did : Event → List Kind → List Kind
-then_did (Did kind) before = kind ∷ before
-then_did Idle before = before
+then_did (Event.Did kind) before = kind ∷ before
+then_did Event.Idle before = before
 
 -- the kinds of a pass's steps in a run, the newest first
 abbrev pub kinds : Setting → List Move → ℕ → List Kind
 kinds c [] p = []
-kinds c (Step q ∷ earlier) p = if q == p then then_did (event_at ((reached c earlier).stand p).place) (kinds c earlier p) else kinds c earlier p
+kinds c (Move.Step q ∷ earlier) p = if q == p then then_did (event_at ((reached c earlier).stand p).place) (kinds c earlier p) else kinds c earlier p
 kinds c (_ ∷ earlier) p = kinds c earlier p
 
 -- moves of others alone leave a pass where it stands, with the calls that it began and the steps that it did

@@ -1,25 +1,8 @@
 -- A run: begins, steps and answers taken, the newest first; where it leads, and its history.
 use Rattle.std.specs.Prelude.{◌≢◌, ℕ, ◌+◌, ◌*◌, ◌<◌, ◌≤◌, ◌==◌, nat_lt, if◌then◌else◌, List, [], ◌∷◌}
-use Rattle.cc_model.specs.declared.config.Config.{Config}
-use Rattle.cc_runs.specs.declared.setting.Setting.{Setting}
-use Rattle.cc_runs.specs.declared.setting.Served.{Served}
-use Rattle.cc_runs.specs.declared.setting.Served.TheVariants as served
+use Rattle.cc_runs.specs.Names.{Config, Setting, Served, Call, Word, Object, ItemField, Chain, Event, Stand, Place, Move}
 use Rattle.cc_model.specs.Record.{Record, empty}
 use Rattle.cc_model.specs.Items.{known_at}
-use Rattle.cc_model.specs.declared.call.Call.{Call}
-use Rattle.cc_model.specs.declared.call.Call.TheVariants as call
-use Rattle.cc_runs.specs.declared.word.Word.{Word}
-use Rattle.cc_runs.specs.declared.word.Word.TheVariants as word
-use Rattle.cc_runs.specs.declared.word.Object.TheVariants as object
-use Rattle.cc_runs.specs.declared.word.ItemField.TheVariants as item
-use Rattle.cc_runs.specs.declared.word.Chain.{Chain}
-use Rattle.cc_runs.specs.declared.word.Chain.TheVariants as chain
-use Rattle.cc_runs.specs.declared.place.Event.TheVariants.{Idle}
-use Rattle.cc_runs.specs.declared.place.Stand.{Stand}
-use Rattle.cc_runs.specs.declared.place.Place.{Place}
-use Rattle.cc_runs.specs.declared.place.Place.TheVariants as place
-pub use Rattle.cc_runs.specs.declared.run.Move.{Move}
-pub use Rattle.cc_runs.specs.declared.run.Move.TheVariants.{Begin, Step, Take}
 use Rattle.cc_runs.specs.Words.{groups}
 use Rattle.cc_runs.specs.State.{State, chain_of, pass_at, first_node, hold}
 use Rattle.cc_runs.specs.Lines.{event_at}
@@ -27,8 +10,8 @@ use Rattle.cc_runs.specs.Step.{stepped}
 
 -- how many passes there are: the counter has senders alone
 abbrev pub passes_of : Served → Config → ℕ
-passes_of served.Counter c = c.senders
-passes_of served.List c = c.senders + groups c * c.receivers
+passes_of Served.Counter c = c.senders
+passes_of Served.List c = c.senders + groups c * c.receivers
 
 -- how many passes a machine has
 abbrev pub passes : Setting → ℕ
@@ -37,34 +20,34 @@ passes c = passes_of c.served c.config
 -- The words at the opening. Each tail names node 0 of its chain, with state 0 and next null. The list is its dummy, node
 -- 0; nodes 1 to capacity are free.
 abbrev pub first_word : Config → Word → ℕ
-first_word c (word.Tail (chain.Take g)) = if nat_lt g (groups c) then 1 else 0
-first_word c (word.Tail chain.Send) = 1
-first_word c (word.Object object.Last) = 1
-first_word c (word.Object object.Cursor) = 1
-first_word c (word.Object (object.Head g)) = if nat_lt g (groups c) then 1 else 0
-first_word c (word.Item i item.Passed) = if i == 0 then 0 else if nat_lt i (c.capacity + 1) then groups c else 0
+first_word c (Word.Tail (Chain.Take g)) = if nat_lt g (groups c) then 1 else 0
+first_word c (Word.Tail Chain.Send) = 1
+first_word c (Word.Object Object.Last) = 1
+first_word c (Word.Object Object.Cursor) = 1
+first_word c (Word.Object (Object.Head g)) = if nat_lt g (groups c) then 1 else 0
+first_word c (Word.Item i ItemField.Passed) = if i == 0 then 0 else if nat_lt i (c.capacity + 1) then groups c else 0
 first_word c _ = 0
 
 -- no pass stands here: what a list of places shows past its end
 abbrev pub nowhere : Stand
-nowhere = record { begun = 0; node = 0; place = place.Idle }
+nowhere = record { begun = 0; node = 0; place = Place.Idle }
 
 -- the state at the opening: every pass is idle
 abbrev pub opening : Setting → State
 opening c = record {
   mem = first_word c.config;
-  stand = λ p. if nat_lt p (passes c) then record { begun = 0; node = first_node c.config p; place = place.Idle } else nowhere;
+  stand = λ p. if nat_lt p (passes c) then record { begun = 0; node = first_node c.config p; place = Place.Idle } else nowhere;
   history = empty (groups c.config);
 }
 
 -- a send has the next number of its sender, a close and a take have none
 abbrev pub begun_after : Call → ℕ → ℕ
-begun_after (call.Send body) begun = begun + 1
+begun_after (Call.Send body) begun = begun + 1
 begun_after _ begun = begun
 
 -- the number of a call
 abbrev pub number_of : Call → ℕ → ℕ
-number_of (call.Send body) begun = begun + 1
+number_of (Call.Send body) begun = begun + 1
 number_of _ begun = 0
 
 -- a pass that begins a call
@@ -72,18 +55,18 @@ abbrev pub begins : Config → ℕ → Call → ℕ → Stand → Stand
 begins c p call known at = record {
   begun = begun_after call at.begun;
   node = at.node;
-  place = place.ResetNext record { pass = pass_at c p; call = call; number = number_of call at.begun; known = known };
+  place = Place.ResetNext record { pass = pass_at c p; call = call; number = number_of call at.begun; known = known };
 }
 
 -- a pass whose answer was taken
 abbrev pub rests : Stand → Stand
-rests at = record { begun = at.begun; node = at.node; place = place.Idle }
+rests at = record { begun = at.begun; node = at.node; place = Place.Idle }
 
 -- the state after a move
 abbrev pub moved : Setting → State → Move → State
-moved c s (Begin p call known) = record { mem = s.mem; stand = hold s.stand p (begins c.config p call known (s.stand p)); history = s.history }
-moved c s (Step p) = stepped c s p
-moved c s (Take p) = record { mem = s.mem; stand = hold s.stand p (rests (s.stand p)); history = s.history }
+moved c s (Move.Begin p call known) = record { mem = s.mem; stand = hold s.stand p (begins c.config p call known (s.stand p)); history = s.history }
+moved c s (Move.Step p) = stepped c s p
+moved c s (Move.Take p) = record { mem = s.mem; stand = hold s.stand p (rests (s.stand p)); history = s.history }
 
 -- where a run leads
 abbrev pub reached : Setting → List Move → State
@@ -92,28 +75,28 @@ reached c (m ∷ earlier) = moved c (reached c earlier) m
 
 -- a call that can be made on this chain: the counter has no close
 abbrev pub IsOn : Served → Chain → Call → Type 0
-IsOn _ chain.Send (call.Send body) = Unit {0}
-IsOn served.List chain.Send call.Close = Unit {0}
-IsOn served.List (chain.Take g) call.Take = Unit {0}
+IsOn _ Chain.Send (Call.Send body) = Unit {0}
+IsOn Served.List Chain.Send Call.Close = Unit {0}
+IsOn Served.List (Chain.Take g) Call.Take = Unit {0}
 IsOn _ _ _ = ⊥
 
 -- the pass has no call
 abbrev pub IsIdle : Place → Type 0
-IsIdle place.Idle = Unit {0}
+IsIdle Place.Idle = Unit {0}
 IsIdle _ = ⊥
 
 -- its call has read its answer
 abbrev pub IsFinished : Place → Type 0
-IsFinished (place.Finished answer) = Unit {0}
+IsFinished (Place.Finished answer) = Unit {0}
 IsFinished _ = ⊥
 
 -- A move that can be made. A pass begins no call while it has one, at most per_sender sends in all, and knows at most
 -- what there is to be known; it steps where it has a step.
 abbrev pub May : Setting → State → Move → Type 0
-May c s (Begin p call known) =
+May c s (Move.Begin p call known) =
     (p < passes c) × IsOn c.served (chain_of c.config p) call × IsIdle (s.stand p).place × (begun_after call (s.stand p).begun ≤ c.config.per_sender) × (known ≤ known_at (pass_at c.config p) s.history)
-May c s (Step p) = (p < passes c) × (event_at (s.stand p).place ≢ Idle)
-May c s (Take p) = (p < passes c) × IsFinished (s.stand p).place
+May c s (Move.Step p) = (p < passes c) × (event_at (s.stand p).place ≢ Event.Idle)
+May c s (Move.Take p) = (p < passes c) × IsFinished (s.stand p).place
 
 -- each move could be made where the earlier ones led
 abbrev pub IsRun : Setting → List Move → Type 0

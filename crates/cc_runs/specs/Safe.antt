@@ -1,16 +1,7 @@
 -- What a step needs: its word is there, and no number leaves its range.
 use Rattle.std.specs.Prelude.{ℕ, ◌+◌, ◌<◌, ◌^◌, length, IsTrue}
 use Rattle.cc_model.specs.Record.{Record}
-use Rattle.cc_runs.specs.declared.setting.Setting.{Setting}
-use Rattle.cc_runs.specs.declared.word.Chain.{Chain}
-use Rattle.cc_runs.specs.declared.place.Place.{Place}
-use Rattle.cc_runs.specs.declared.place.Place.TheVariants as place
-use Rattle.cc_runs.specs.declared.place.Counting.{Counting}
-use Rattle.cc_runs.specs.declared.place.Counting.TheVariants as counting
-use Rattle.cc_runs.specs.declared.place.Sending.{Sending}
-use Rattle.cc_runs.specs.declared.place.Sending.TheVariants as sending
-use Rattle.cc_runs.specs.declared.place.Taking.{Taking}
-use Rattle.cc_runs.specs.declared.place.Taking.TheVariants as taking
+use Rattle.cc_runs.specs.Names.{Setting, Chain, Place, Counting, Sending, Taking}
 use Rattle.cc_runs.specs.Words.{layout_of, exists}
 use Rattle.cc_runs.specs.State.{State, side, word_of, chain_of}
 use Rattle.cc_runs.specs.Codes.{ret_of}
@@ -18,37 +9,37 @@ use Rattle.cc_runs.specs.Lines.{operation}
 
 -- a count stays in a word
 abbrev pub IsCountSafe : Counting → Type 0
-IsCountSafe (counting.WriteCount count) = count + 1 < 2 ^ 64
+IsCountSafe (Counting.WriteCount count) = count + 1 < 2 ^ 64
 IsCountSafe _ = Unit {0}
 
 -- a link that is found isn't null, and links and counts stay in words
 abbrev pub IsSendSafe : ℕ → Sending → Type 0
-IsSendSafe found (sending.ReadLastToClose total) = 0 < found
-IsSendSafe found (sending.ReadPassed parcel at reads) = reads + 1 < 2 ^ 32
-IsSendSafe found (sending.ReadLast place at) = 0 < found
-IsSendSafe found (sending.LinkItem place at last) = at + 1 < 2 ^ 64
-IsSendSafe found (sending.WriteLast place at) = at + 1 < 2 ^ 64
-IsSendSafe found (sending.WriteCount place at) = place + 1 < 2 ^ 64
-IsSendSafe found (sending.WriteCursor place at) = at + 1 < 2 ^ 64
+IsSendSafe found (Sending.ReadLastToClose total) = 0 < found
+IsSendSafe found (Sending.ReadPassed parcel at reads) = reads + 1 < 2 ^ 32
+IsSendSafe found (Sending.ReadLast place at) = 0 < found
+IsSendSafe found (Sending.LinkItem place at last) = at + 1 < 2 ^ 64
+IsSendSafe found (Sending.WriteLast place at) = at + 1 < 2 ^ 64
+IsSendSafe found (Sending.WriteCount place at) = place + 1 < 2 ^ 64
+IsSendSafe found (Sending.WriteCursor place at) = at + 1 < 2 ^ 64
 IsSendSafe found _ = Unit {0}
 
 -- the same of a take
 abbrev pub IsTakeSafe : ℕ → Taking → Type 0
-IsTakeSafe found taking.ReadHead = 0 < found
-IsTakeSafe found (taking.WriteHead dummy at parcel) = at + 1 < 2 ^ 64
-IsTakeSafe found (taking.WriteTaken dummy parcel) = parcel.place + 1 < 2 ^ 64
-IsTakeSafe found (taking.AddPassed dummy parcel) = found + 1 < 2 ^ 64
+IsTakeSafe found Taking.ReadHead = 0 < found
+IsTakeSafe found (Taking.WriteHead dummy at parcel) = at + 1 < 2 ^ 64
+IsTakeSafe found (Taking.WriteTaken dummy parcel) = parcel.place + 1 < 2 ^ 64
+IsTakeSafe found (Taking.AddPassed dummy parcel) = found + 1 < 2 ^ 64
 IsTakeSafe found _ = Unit {0}
 
 -- of what the step at this place finds
 abbrev pub IsPlaceSafe : Setting → ℕ → ℕ → Place → Type 0
-IsPlaceSafe c own found (place.Exchange call) = (0 < found) × (own + 1 < 2 ^ 64)
-IsPlaceSafe c own found (place.Link put) = put + 1 < 2 ^ 64
-IsPlaceSafe c own found (place.Counting job service) = IsCountSafe service
-IsPlaceSafe c own found (place.Sending job service) = IsSendSafe found service
-IsPlaceSafe c own found (place.Taking job service) = IsTakeSafe found service
-IsPlaceSafe c own found (place.WriteAnswer job told) = ret_of c.served told < 2 ^ 64
-IsPlaceSafe c own found (place.MarkDone job) = job.round.served + 1 < 2 ^ 32
+IsPlaceSafe c own found (Place.Exchange call) = (0 < found) × (own + 1 < 2 ^ 64)
+IsPlaceSafe c own found (Place.Link put) = put + 1 < 2 ^ 64
+IsPlaceSafe c own found (Place.Counting job service) = IsCountSafe service
+IsPlaceSafe c own found (Place.Sending job service) = IsSendSafe found service
+IsPlaceSafe c own found (Place.Taking job service) = IsTakeSafe found service
+IsPlaceSafe c own found (Place.WriteAnswer job told) = ret_of c.served told < 2 ^ 64
+IsPlaceSafe c own found (Place.MarkDone job) = job.round.served + 1 < 2 ^ 32
 IsPlaceSafe c own found _ = Unit {0}
 
 -- what a step of a pass of chain x finds
@@ -70,14 +61,14 @@ HasOpenCall h x = length (side x h).answers < length (side x h).calls
 
 -- a fact of the places of a service up to the step that decides its answer
 abbrev pub WhileUndecided : Place → Type 0 → Type 0
-WhileUndecided (place.Counting job service) P = P
-WhileUndecided (place.Sending job (sending.WriteLastMark total)) P = Unit {0}
-WhileUndecided (place.Sending job (sending.WriteShut total)) P = Unit {0}
-WhileUndecided (place.Sending job (sending.WriteLast at node)) P = Unit {0}
-WhileUndecided (place.Sending job (sending.WriteCount at node)) P = Unit {0}
-WhileUndecided (place.Sending job (sending.WriteCursor at node)) P = Unit {0}
-WhileUndecided (place.Sending job service) P = P
-WhileUndecided (place.Taking job service) P = P
+WhileUndecided (Place.Counting job service) P = P
+WhileUndecided (Place.Sending job (Sending.WriteLastMark total)) P = Unit {0}
+WhileUndecided (Place.Sending job (Sending.WriteShut total)) P = Unit {0}
+WhileUndecided (Place.Sending job (Sending.WriteLast at node)) P = Unit {0}
+WhileUndecided (Place.Sending job (Sending.WriteCount at node)) P = Unit {0}
+WhileUndecided (Place.Sending job (Sending.WriteCursor at node)) P = Unit {0}
+WhileUndecided (Place.Sending job service) P = P
+WhileUndecided (Place.Taking job service) P = P
 WhileUndecided _ P = Unit {0}
 
 -- there a call has no answer yet

@@ -1,23 +1,6 @@
 -- The service of a send or a close to the list: a line for each place at which its combiner can stand.
 use Rattle.std.specs.Prelude.{ℕ, zero, suc, ◌+◌, ◌-◌, ◌%◌, ◌==◌, if◌then◌else◌, Option}
-use Rattle.cc_model.specs.declared.config.Config.{Config}
-use Rattle.cc_model.specs.declared.call.Answer.{Answer}
-use Rattle.cc_model.specs.declared.call.Answer.TheVariants as answer
-use Rattle.cc_model.specs.declared.call.SendAnswer.TheVariants as send
-use Rattle.cc_model.specs.declared.call.CloseAnswer.TheVariants as close
-use Rattle.cc_runs.specs.declared.word.Chain.TheVariants.{Send}
-use Rattle.cc_runs.specs.declared.word.NodeField.TheVariants as node
-use Rattle.cc_runs.specs.declared.word.ItemField.TheVariants as item
-use Rattle.cc_runs.specs.declared.word.Object.TheVariants as object
-use Rattle.cc_runs.specs.declared.word.Word.TheVariants.{Object, Node, Item}
-use Rattle.cc_runs.specs.declared.place.Kind.{Kind}
-use Rattle.cc_runs.specs.declared.place.Kind.TheVariants as kind
-use Rattle.cc_runs.specs.declared.place.Parcel.{Parcel}
-use Rattle.cc_runs.specs.declared.place.Request.{Request}
-use Rattle.cc_runs.specs.declared.place.Job.{Job}
-use Rattle.cc_runs.specs.declared.place.Place.{Place}
-use Rattle.cc_runs.specs.declared.place.Place.TheVariants.{Sending}
-use Rattle.cc_runs.specs.declared.place.Sending.{Sending as Service}
+use Rattle.cc_runs.specs.Names.{Config, Answer, SendAnswer, CloseAnswer, Chain, NodeField, ItemField, Object, Word, Kind, Parcel, Request, Job, Place, Sending as Service}
 use Rattle.cc_runs.specs.declared.place.Sending.TheVariants.{ReadTag, ReadBody, ReadShut, ReadTotal, ReadCount, ReadLastToClose, LinkMark, WriteLastMark, WriteShut, ReadCursor, ReadPassed, ResetPassed, ResetItemNext, WriteItemTag, WriteItemBody, ReadLast, LinkItem, WriteLast, WriteCount, WriteCursor}
 use Rattle.cc_runs.specs.Words.{groups}
 use Rattle.cc_runs.specs.Codes.{further_words, word, no_words, with_asked, behind}
@@ -35,47 +18,47 @@ after c at = (at + 1) % (c.capacity + 1)
 -- once it is shut, a send is told so, and a close how many items were accepted
 abbrev pub by_shut : Request → ℕ → Next Service
 by_shut request zero = On (ReadCount request)
-by_shut request (suc _) = if request.tag == 0 then On ReadTotal else Decides (answer.Send send.Closed)
+by_shut request (suc _) = if request.tag == 0 then On ReadTotal else Decides (Answer.Send SendAnswer.Closed)
 
 -- a send is refused once as many items were accepted as the queue takes in its life
 abbrev pub by_count : Config → Request → ℕ → Next Service
 by_count c request count =
     if request.tag == 0 then On (ReadLastToClose count)
-    else if count == c.life then Decides (answer.Send send.Spent)
+    else if count == c.life then Decides (Answer.Send SendAnswer.Spent)
     else On (ReadCursor record { place = count; tag = request.tag; body = request.body })
 
 -- a node is free when every group has passed it; each ordinary node is read once at most
 abbrev pub by_passed : Config → Parcel → ℕ → ℕ → ℕ → Next Service
 by_passed c parcel at reads passed =
     if passed == groups c then On (ResetPassed parcel at)
-    else if reads == c.capacity + 1 then Decides (answer.Send send.Full)
+    else if reads == c.capacity + 1 then Decides (Answer.Send SendAnswer.Full)
     else On (ReadPassed parcel (after c at) (reads + 1))
 
 -- served is the node with the request
 abbrev pub line : Config → ℕ → Service → ℕ → ServiceLine Service
-line c served ReadTag tag = load kind.ReadRequest (Node Send served node.Tag) (On (ReadBody record { tag = tag; body = no_words } 0))
-line c served (ReadBody request i) found = load kind.ReadRequest (Node Send served (node.Body i)) (On (behind (further_words request.tag) i (ReadBody (with_asked request i found) (i + 1)) (ReadShut (with_asked request i found))))
-line c served (ReadShut request) shut = load kind.ReadObject (Object object.Shut) (by_shut request shut)
-line c served ReadTotal count = load kind.ReadObject (Object object.Count) (Decides (answer.Close (close.Already count)))
-line c served (ReadCount request) count = load kind.ReadObject (Object object.Count) (by_count c request count)
+line c served ReadTag tag = load Kind.ReadRequest (Word.Node Chain.Send served NodeField.Tag) (On (ReadBody record { tag = tag; body = no_words } 0))
+line c served (ReadBody request i) found = load Kind.ReadRequest (Word.Node Chain.Send served (NodeField.Body i)) (On (behind (further_words request.tag) i (ReadBody (with_asked request i found) (i + 1)) (ReadShut (with_asked request i found))))
+line c served (ReadShut request) shut = load Kind.ReadObject (Word.Object Object.Shut) (by_shut request shut)
+line c served ReadTotal count = load Kind.ReadObject (Word.Object Object.Count) (Decides (Answer.Close (CloseAnswer.Already count)))
+line c served (ReadCount request) count = load Kind.ReadObject (Word.Object Object.Count) (by_count c request count)
 -- a close
-line c served (ReadLastToClose total) last = load kind.ReadObject (Object object.Last) (On (LinkMark total (last - 1)))
-line c served (LinkMark total last) _ = store kind.LinkLast (Item last item.Next) (mark c + 1) (DecidesAndOn (answer.Close (close.Shut total)) (WriteLastMark total))
-line c served (WriteLastMark total) _ = store kind.WriteObject (Object object.Last) (mark c + 1) (On (WriteShut total))
-line c served (WriteShut total) _ = store kind.WriteObject (Object object.Shut) 1 (Tells (answer.Close (close.Shut total)))
+line c served (ReadLastToClose total) last = load Kind.ReadObject (Word.Object Object.Last) (On (LinkMark total (last - 1)))
+line c served (LinkMark total last) _ = store Kind.LinkLast (Word.Item last ItemField.Next) (mark c + 1) (DecidesAndOn (Answer.Close (CloseAnswer.Shut total)) (WriteLastMark total))
+line c served (WriteLastMark total) _ = store Kind.WriteObject (Word.Object Object.Last) (mark c + 1) (On (WriteShut total))
+line c served (WriteShut total) _ = store Kind.WriteObject (Word.Object Object.Shut) 1 (Tells (Answer.Close (CloseAnswer.Shut total)))
 -- the scan for a free node
-line c served (ReadCursor parcel) cursor = load kind.ReadObject (Object object.Cursor) (On (ReadPassed parcel cursor 1))
-line c served (ReadPassed parcel at reads) passed = load kind.ReadPassed (Item at item.Passed) (by_passed c parcel at reads passed)
+line c served (ReadCursor parcel) cursor = load Kind.ReadObject (Word.Object Object.Cursor) (On (ReadPassed parcel cursor 1))
+line c served (ReadPassed parcel at reads) passed = load Kind.ReadPassed (Word.Item at ItemField.Passed) (by_passed c parcel at reads passed)
 -- the node is prepared, and linked behind the last one
-line c served (ResetPassed parcel at) _ = store kind.ResetListNode (Item at item.Passed) 0 (On (ResetItemNext parcel at))
-line c served (ResetItemNext parcel at) _ = store kind.ResetListNode (Item at item.Next) 0 (On (WriteItemTag parcel at))
-line c served (WriteItemTag parcel at) _ = store kind.WriteItem (Item at item.Tag) parcel.tag (On (WriteItemBody parcel at 0))
-line c served (WriteItemBody parcel at i) _ = store kind.WriteItem (Item at (item.Body i)) (word parcel.body i) (On (behind (further_words parcel.tag) i (WriteItemBody parcel at (i + 1)) (ReadLast parcel.place at)))
-line c served (ReadLast place at) last = load kind.ReadObject (Object object.Last) (On (LinkItem place at (last - 1)))
-line c served (LinkItem place at last) _ = store kind.LinkLast (Item last item.Next) (at + 1) (DecidesAndOn (answer.Send (send.Accepted place)) (WriteLast place at))
-line c served (WriteLast place at) _ = store kind.WriteObject (Object object.Last) (at + 1) (On (WriteCount place at))
-line c served (WriteCount place at) _ = store kind.WriteObject (Object object.Count) (place + 1) (On (WriteCursor place at))
-line c served (WriteCursor place at) _ = store kind.WriteObject (Object object.Cursor) (after c at) (Tells (answer.Send (send.Accepted place)))
+line c served (ResetPassed parcel at) _ = store Kind.ResetListNode (Word.Item at ItemField.Passed) 0 (On (ResetItemNext parcel at))
+line c served (ResetItemNext parcel at) _ = store Kind.ResetListNode (Word.Item at ItemField.Next) 0 (On (WriteItemTag parcel at))
+line c served (WriteItemTag parcel at) _ = store Kind.WriteItem (Word.Item at ItemField.Tag) parcel.tag (On (WriteItemBody parcel at 0))
+line c served (WriteItemBody parcel at i) _ = store Kind.WriteItem (Word.Item at (ItemField.Body i)) (word parcel.body i) (On (behind (further_words parcel.tag) i (WriteItemBody parcel at (i + 1)) (ReadLast parcel.place at)))
+line c served (ReadLast place at) last = load Kind.ReadObject (Word.Object Object.Last) (On (LinkItem place at (last - 1)))
+line c served (LinkItem place at last) _ = store Kind.LinkLast (Word.Item last ItemField.Next) (at + 1) (DecidesAndOn (Answer.Send (SendAnswer.Accepted place)) (WriteLast place at))
+line c served (WriteLast place at) _ = store Kind.WriteObject (Word.Object Object.Last) (at + 1) (On (WriteCount place at))
+line c served (WriteCount place at) _ = store Kind.WriteObject (Word.Object Object.Count) (place + 1) (On (WriteCursor place at))
+line c served (WriteCursor place at) _ = store Kind.WriteObject (Word.Object Object.Cursor) (after c at) (Tells (Answer.Send (SendAnswer.Accepted place)))
 
 -- ---- what follows from the lines
 
@@ -90,7 +73,7 @@ abbrev pub operation : Config → ℕ → Service → Operation
 operation c served service = (line c served service 0).does
 
 abbrev pub in_service : Job → Service → Place
-in_service job service = Sending job service
+in_service job service = Place.Sending job service
 
 abbrev pub goes : Config → Job → Service → ℕ → Place
 goes c job service found = place_of in_service job (line c 0 service found).next

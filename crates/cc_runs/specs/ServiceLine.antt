@@ -1,11 +1,6 @@
 -- What a service's step leads to, and one line of the table of steps.
 use Rattle.std.specs.Prelude.{ℕ, Option, Some, None}
-use Rattle.cc_model.specs.declared.call.Answer.{Answer}
-use Rattle.cc_runs.specs.declared.place.Kind.{Kind}
-use Rattle.cc_runs.specs.declared.place.Job.{Job}
-use Rattle.cc_runs.specs.declared.place.Place.{Place}
-use Rattle.cc_runs.specs.declared.place.Place.TheVariants.{WriteAnswer}
-use Rattle.cc_runs.specs.declared.word.Word.{Word}
+use Rattle.cc_runs.specs.Names.{Answer, Kind, Job, Place, Word}
 use Rattle.cc_runs.specs.State.{Operation, Load, Store, Add}
 
 -- A step of a service leads on in the service; or it decides the answer, which is told next; or both; or it leads to the
@@ -19,9 +14,9 @@ pub data Next (S : Type 0) : Type 0 where
 -- the place afterwards
 abbrev pub place_of : {S : Type 0} → (Job → S → Place) → Job → Next S → Place
 place_of in_service job (On service) = in_service job service
-place_of in_service job (Decides told) = WriteAnswer job told
+place_of in_service job (Decides told) = Place.WriteAnswer job told
 place_of in_service job (DecidesAndOn told service) = in_service job service
-place_of in_service job (Tells told) = WriteAnswer job told
+place_of in_service job (Tells told) = Place.WriteAnswer job told
 
 -- the answer that is decided
 abbrev pub answer_of : {S : Type 0} → Next S → Option Answer

@@ -1,15 +1,7 @@
 -- The state of the machine, as functions of the names of words and the numbers of passes; and the history.
 use Rattle.std.specs.Prelude.{ℕ, ◌+◌, ◌-◌, ◌/◌, ◌%◌, ◌==◌, nat_lt, if◌then◌else◌, List, [], ◌∷◌, ◌++◌, Option, Some, None}
-use Rattle.cc_model.specs.declared.config.Config.{Config}
-use Rattle.cc_model.specs.declared.call.Entry.{Entry}
-use Rattle.cc_model.specs.declared.call.Answer.{Answer}
-use Rattle.cc_model.specs.declared.call.Pass.{Pass}
-use Rattle.cc_model.specs.declared.call.Pass.TheVariants.{Sender, Receiver}
+use Rattle.cc_runs.specs.Names.{Config, Entry, Answer, Pass, Chain, Word, Stand}
 use Rattle.cc_model.specs.Record.{Side, Record, of_group, with_sends, with_takes}
-use Rattle.cc_runs.specs.declared.word.Chain.{Chain}
-use Rattle.cc_runs.specs.declared.word.Chain.TheVariants.{Send, Take}
-use Rattle.cc_runs.specs.declared.word.Word.{Word}
-use Rattle.cc_runs.specs.declared.place.Stand.{Stand}
 use Rattle.cc_runs.specs.Words.{put}
 
 -- what each word holds, where each pass stands, and the calls that have exchanged with the answers decided so far
@@ -20,11 +12,11 @@ pub record State : Type 0 where
 
 -- passes stand in one row, the senders first, then the receivers, group by group
 abbrev pub chain_of : Config → ℕ → Chain
-chain_of c p = if nat_lt p c.senders then Send else Take ((p - c.senders) / c.receivers)
+chain_of c p = if nat_lt p c.senders then Chain.Send else Chain.Take ((p - c.senders) / c.receivers)
 
 -- by what name the caller knows pass p
 abbrev pub pass_at : Config → ℕ → Pass
-pass_at c p = if nat_lt p c.senders then Sender (p + 1) else Receiver (p - c.senders + 1)
+pass_at c p = if nat_lt p c.senders then Pass.Sender (p + 1) else Pass.Receiver (p - c.senders + 1)
 
 -- the node that a pass owns at the opening: node 0 of each chain is nobody's
 abbrev pub first_node : Config → ℕ → ℕ
@@ -41,12 +33,12 @@ appended xs (Some x) = xs ++ x ∷ []
 
 -- the side of a chain in a history, and a history with another side of it
 abbrev pub side : Chain → Record → Side
-side Send h = h.sends
-side (Take g) h = of_group h g
+side Chain.Send h = h.sends
+side (Chain.Take g) h = of_group h g
 
 abbrev pub with_side : Chain → Record → Side → Record
-with_side Send h s = with_sends h s
-with_side (Take g) h s = with_takes h g s
+with_side Chain.Send h s = with_sends h s
+with_side (Chain.Take g) h s = with_takes h g s
 
 -- the history with a call of this chain more, or an answer
 abbrev pub noted : Chain → Record → Option Entry → Option Answer → Record

@@ -1,8 +1,6 @@
 -- One atomic step of one pass. Nothing else changes.
 use Rattle.std.specs.Prelude.{ℕ}
-use Rattle.cc_runs.specs.declared.setting.Setting.{Setting}
-use Rattle.cc_runs.specs.declared.word.Chain.{Chain}
-use Rattle.cc_runs.specs.declared.place.Stand.{Stand}
+use Rattle.cc_runs.specs.Names.{Setting, Chain, Stand}
 use Rattle.cc_runs.specs.State.{State, chain_of, hold, noted, word_of, stored}
 use Rattle.cc_runs.specs.Lines.{operation, node_after, goes, enters, decides}
 

@@ -1,17 +1,6 @@
 -- The service of a take in group g: a line for each place at which its combiner can stand.
 use Rattle.std.specs.Prelude.{ℕ, zero, suc, ◌+◌, ◌-◌, Option}
-use Rattle.cc_model.specs.declared.call.Answer.{Answer}
-use Rattle.cc_model.specs.declared.call.Answer.TheVariants as answer
-use Rattle.cc_model.specs.declared.call.TakeAnswer.TheVariants as take
-use Rattle.cc_runs.specs.declared.word.ItemField.TheVariants as item
-use Rattle.cc_runs.specs.declared.word.Object.TheVariants as object
-use Rattle.cc_runs.specs.declared.word.Word.TheVariants.{Object, Item}
-use Rattle.cc_runs.specs.declared.place.Kind.{Kind}
-use Rattle.cc_runs.specs.declared.place.Kind.TheVariants as kind
-use Rattle.cc_runs.specs.declared.place.Job.{Job}
-use Rattle.cc_runs.specs.declared.place.Place.{Place}
-use Rattle.cc_runs.specs.declared.place.Place.TheVariants.{Taking}
-use Rattle.cc_runs.specs.declared.place.Taking.{Taking as Service}
+use Rattle.cc_runs.specs.Names.{Answer, TakeAnswer, ItemField, Object, Word, Kind, Job, Place, Taking as Service}
 use Rattle.cc_runs.specs.declared.place.Taking.TheVariants.{ReadHead, ReadTaken, ReadDummyNext, ReadItemTag, ReadItemBody, WriteHead, WriteTaken, AddPassed}
 use Rattle.cc_runs.specs.Codes.{item_in, further_words, no_words, parcel, with_read, behind}
 use Rattle.cc_runs.specs.State.{Operation}
@@ -19,23 +8,23 @@ use Rattle.cc_runs.specs.ServiceLine.{ServiceLine, Next, On, Decides, load, stor
 
 -- where no node is after the dummy the list is empty
 abbrev pub by_next : ℕ → ℕ → ℕ → Next Service
-by_next dummy taken zero = Decides (answer.Take take.Empty)
+by_next dummy taken zero = Decides (Answer.Take TakeAnswer.Empty)
 by_next dummy taken (suc at) = On (ReadItemTag dummy taken at)
 
 -- the closing mark's tag is 0
 abbrev pub by_tag : ℕ → ℕ → ℕ → ℕ → Next Service
-by_tag dummy taken at zero = Decides (answer.Take (take.Ended taken))
+by_tag dummy taken at zero = Decides (Answer.Take (TakeAnswer.Ended taken))
 by_tag dummy taken at (suc tag) = On (ReadItemBody dummy at (parcel taken (suc tag) no_words) 0)
 
 abbrev pub line : ℕ → Service → ℕ → ServiceLine Service
-line g ReadHead head = load kind.ReadObject (Object (object.Head g)) (On (ReadTaken (head - 1)))
-line g (ReadTaken dummy) taken = load kind.ReadObject (Object (object.Taken g)) (On (ReadDummyNext dummy taken))
-line g (ReadDummyNext dummy taken) next = load kind.ReadDummyNext (Item dummy item.Next) (by_next dummy taken next)
-line g (ReadItemTag dummy taken at) tag = load kind.ReadItem (Item at item.Tag) (by_tag dummy taken at tag)
-line g (ReadItemBody dummy at p i) found = load kind.ReadItem (Item at (item.Body i)) (On (behind (further_words p.tag) i (ReadItemBody dummy at (with_read p i found) (i + 1)) (WriteHead dummy at (with_read p i found))))
-line g (WriteHead dummy at parcel) _ = store kind.WriteObject (Object (object.Head g)) (at + 1) (On (WriteTaken dummy parcel))
-line g (WriteTaken dummy parcel) _ = store kind.WriteObject (Object (object.Taken g)) (parcel.place + 1) (On (AddPassed dummy parcel))
-line g (AddPassed dummy parcel) _ = add kind.AddPassed (Item dummy item.Passed) 1 (Decides (answer.Take (take.Got (item_in parcel))))
+line g ReadHead head = load Kind.ReadObject (Word.Object (Object.Head g)) (On (ReadTaken (head - 1)))
+line g (ReadTaken dummy) taken = load Kind.ReadObject (Word.Object (Object.Taken g)) (On (ReadDummyNext dummy taken))
+line g (ReadDummyNext dummy taken) next = load Kind.ReadDummyNext (Word.Item dummy ItemField.Next) (by_next dummy taken next)
+line g (ReadItemTag dummy taken at) tag = load Kind.ReadItem (Word.Item at ItemField.Tag) (by_tag dummy taken at tag)
+line g (ReadItemBody dummy at p i) found = load Kind.ReadItem (Word.Item at (ItemField.Body i)) (On (behind (further_words p.tag) i (ReadItemBody dummy at (with_read p i found) (i + 1)) (WriteHead dummy at (with_read p i found))))
+line g (WriteHead dummy at parcel) _ = store Kind.WriteObject (Word.Object (Object.Head g)) (at + 1) (On (WriteTaken dummy parcel))
+line g (WriteTaken dummy parcel) _ = store Kind.WriteObject (Word.Object (Object.Taken g)) (parcel.place + 1) (On (AddPassed dummy parcel))
+line g (AddPassed dummy parcel) _ = add Kind.AddPassed (Word.Item dummy ItemField.Passed) 1 (Decides (Answer.Take (TakeAnswer.Got (item_in parcel))))
 
 -- ---- what follows from the lines
 
@@ -46,7 +35,7 @@ abbrev pub operation : ℕ → Service → Operation
 operation g service = (line g service 0).does
 
 abbrev pub in_service : Job → Service → Place
-in_service job service = Taking job service
+in_service job service = Place.Taking job service
 
 abbrev pub goes : Job → Service → ℕ → Place
 goes job service found = place_of in_service job (line 0 service found).next

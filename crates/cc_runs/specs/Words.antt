@@ -1,16 +1,6 @@
 -- The words of one topic's table: their names, where they lie, and what a store changes.
 use Rattle.std.specs.Prelude.{◌≡◌, ℕ, ◌+◌, ◌*◌, ◌<◌, ◌≤◌, Bool, true, false, ◌==◌, ◌&&◌, nat_lt, if◌then◌else◌, List, slice_index_or, IsTrue}
-use Rattle.cc_model.specs.declared.config.Config.{Config}
-use Rattle.cc_runs.specs.declared.word.Chain.{Chain}
-use Rattle.cc_runs.specs.declared.word.Chain.TheVariants.{Send, Take}
-use Rattle.cc_runs.specs.declared.word.NodeField.{NodeField}
-use Rattle.cc_runs.specs.declared.word.NodeField.TheVariants as node
-use Rattle.cc_runs.specs.declared.word.ItemField.{ItemField}
-use Rattle.cc_runs.specs.declared.word.ItemField.TheVariants as item
-use Rattle.cc_runs.specs.declared.word.Object.{Object}
-use Rattle.cc_runs.specs.declared.word.Object.TheVariants as object
-use Rattle.cc_runs.specs.declared.word.Word.{Word}
-use Rattle.cc_runs.specs.declared.word.Word.TheVariants as word
+use Rattle.cc_runs.specs.Names.{Config, Chain, NodeField, ItemField, Object, Word}
 
 -- the sizes that say where a word lies
 pub record Layout : Type 0 where
@@ -37,29 +27,29 @@ pub record IsSmall (l : Layout) : Type 0 where
 
 -- the fields of a node in their order, which isn't the same on both sides
 abbrev pub node_field : Chain → NodeField → ℕ
-node_field x node.Next = 0
-node_field x node.State = 1
-node_field Send node.Tag = 2
-node_field Send (node.Body i) = 3 + i
-node_field Send node.Ret = 7
-node_field (Take g) node.Ret = 2
-node_field (Take g) node.Tag = 3
-node_field (Take g) (node.Body i) = 4 + i
+node_field x NodeField.Next = 0
+node_field x NodeField.State = 1
+node_field Chain.Send NodeField.Tag = 2
+node_field Chain.Send (NodeField.Body i) = 3 + i
+node_field Chain.Send NodeField.Ret = 7
+node_field (Chain.Take g) NodeField.Ret = 2
+node_field (Chain.Take g) NodeField.Tag = 3
+node_field (Chain.Take g) (NodeField.Body i) = 4 + i
 
 -- and those of a list node
 abbrev pub item_field : ItemField → ℕ
-item_field item.Tag = 0
-item_field (item.Body i) = 1 + i
-item_field item.Next = 5
-item_field item.Passed = 6
+item_field ItemField.Tag = 0
+item_field (ItemField.Body i) = 1 + i
+item_field ItemField.Next = 5
+item_field ItemField.Passed = 6
 
 -- a body has four words
 abbrev pub is_node_field : NodeField → Bool
-is_node_field (node.Body i) = nat_lt i 4
+is_node_field (NodeField.Body i) = nat_lt i 4
 is_node_field _ = true
 
 abbrev pub is_item_field : ItemField → Bool
-is_item_field (item.Body i) = nat_lt i 4
+is_item_field (ItemField.Body i) = nat_lt i 4
 is_item_field _ = true
 
 -- Where words lie in one row. Words 0 to 7 are kept for the configuration: the machine of one thread leaves them 0, and a
@@ -101,17 +91,17 @@ row_size k l = items k l + k.item_step * (l.capacity + 2)
 
 -- where a word lies in it
 abbrev pub lies : Spacing → Layout → Word → ℕ
-lies k l (word.Tail Send) = k.tail
-lies k l (word.Tail (Take g)) = k.ends + k.end_step * g
-lies k l (word.Object object.Last) = k.objects
-lies k l (word.Object object.Shut) = k.objects + 1
-lies k l (word.Object object.Count) = k.objects + 2
-lies k l (word.Object object.Cursor) = k.objects + 3
-lies k l (word.Object (object.Head g)) = k.ends + k.end_step * g + k.end_words
-lies k l (word.Object (object.Taken g)) = k.ends + k.end_step * g + k.end_words + 1
-lies k l (word.Node Send i f) = send_nodes k l + k.node_step * i + node_field Send f
-lies k l (word.Node (Take g) i f) = take_nodes k l g + k.node_step * i + node_field (Take g) f
-lies k l (word.Item i f) = items k l + k.item_step * i + item_field f
+lies k l (Word.Tail Chain.Send) = k.tail
+lies k l (Word.Tail (Chain.Take g)) = k.ends + k.end_step * g
+lies k l (Word.Object Object.Last) = k.objects
+lies k l (Word.Object Object.Shut) = k.objects + 1
+lies k l (Word.Object Object.Count) = k.objects + 2
+lies k l (Word.Object Object.Cursor) = k.objects + 3
+lies k l (Word.Object (Object.Head g)) = k.ends + k.end_step * g + k.end_words
+lies k l (Word.Object (Object.Taken g)) = k.ends + k.end_step * g + k.end_words + 1
+lies k l (Word.Node Chain.Send i f) = send_nodes k l + k.node_step * i + node_field Chain.Send f
+lies k l (Word.Node (Chain.Take g) i f) = take_nodes k l g + k.node_step * i + node_field (Chain.Take g) f
+lies k l (Word.Item i f) = items k l + k.item_step * i + item_field f
 
 -- how many words there are
 abbrev pub size : Layout → ℕ
@@ -123,51 +113,51 @@ address l w = lies dense l w
 
 -- the words that there are
 abbrev pub exists : Layout → Word → Bool
-exists l (word.Tail Send) = true
-exists l (word.Tail (Take g)) = nat_lt g l.groups
-exists l (word.Object (object.Head g)) = nat_lt g l.groups
-exists l (word.Object (object.Taken g)) = nat_lt g l.groups
-exists l (word.Object _) = true
-exists l (word.Node Send i f) = nat_lt i (l.senders + 1) && is_node_field f
-exists l (word.Node (Take g) i f) = nat_lt g l.groups && nat_lt i (l.receivers + 1) && is_node_field f
-exists l (word.Item i f) = nat_lt i (l.capacity + 2) && is_item_field f
+exists l (Word.Tail Chain.Send) = true
+exists l (Word.Tail (Chain.Take g)) = nat_lt g l.groups
+exists l (Word.Object (Object.Head g)) = nat_lt g l.groups
+exists l (Word.Object (Object.Taken g)) = nat_lt g l.groups
+exists l (Word.Object _) = true
+exists l (Word.Node Chain.Send i f) = nat_lt i (l.senders + 1) && is_node_field f
+exists l (Word.Node (Chain.Take g) i f) = nat_lt g l.groups && nat_lt i (l.receivers + 1) && is_node_field f
+exists l (Word.Item i f) = nat_lt i (l.capacity + 2) && is_item_field f
 
 -- whether two names are one
 abbrev pub same_chain : Chain → Chain → Bool
-same_chain Send Send = true
-same_chain (Take g) (Take h) = g == h
+same_chain Chain.Send Chain.Send = true
+same_chain (Chain.Take g) (Chain.Take h) = g == h
 same_chain _ _ = false
 
 -- object words are told apart by a number
 abbrev pub object_number : Object → ℕ
-object_number object.Last = 0
-object_number object.Shut = 1
-object_number object.Count = 2
-object_number object.Cursor = 3
-object_number (object.Head g) = 4 + 2 * g
-object_number (object.Taken g) = 5 + 2 * g
+object_number Object.Last = 0
+object_number Object.Shut = 1
+object_number Object.Count = 2
+object_number Object.Cursor = 3
+object_number (Object.Head g) = 4 + 2 * g
+object_number (Object.Taken g) = 5 + 2 * g
 
 abbrev pub same_field : NodeField → NodeField → Bool
-same_field node.Next node.Next = true
-same_field node.State node.State = true
-same_field node.Tag node.Tag = true
-same_field node.Ret node.Ret = true
-same_field (node.Body i) (node.Body j) = i == j
+same_field NodeField.Next NodeField.Next = true
+same_field NodeField.State NodeField.State = true
+same_field NodeField.Tag NodeField.Tag = true
+same_field NodeField.Ret NodeField.Ret = true
+same_field (NodeField.Body i) (NodeField.Body j) = i == j
 same_field _ _ = false
 
 abbrev pub same_part : ItemField → ItemField → Bool
-same_part item.Tag item.Tag = true
-same_part item.Next item.Next = true
-same_part item.Passed item.Passed = true
-same_part (item.Body i) (item.Body j) = i == j
+same_part ItemField.Tag ItemField.Tag = true
+same_part ItemField.Next ItemField.Next = true
+same_part ItemField.Passed ItemField.Passed = true
+same_part (ItemField.Body i) (ItemField.Body j) = i == j
 same_part _ _ = false
 
 -- whether two names of words are one
 abbrev pub same : Word → Word → Bool
-same (word.Tail x) (word.Tail y) = same_chain x y
-same (word.Object a) (word.Object b) = object_number a == object_number b
-same (word.Node x i f) (word.Node y j g) = same_field f g && same_chain x y && (i == j)
-same (word.Item i f) (word.Item j g) = same_part f g && (i == j)
+same (Word.Tail x) (Word.Tail y) = same_chain x y
+same (Word.Object a) (Word.Object b) = object_number a == object_number b
+same (Word.Node x i f) (Word.Node y j g) = same_field f g && same_chain x y && (i == j)
+same (Word.Item i f) (Word.Item j g) = same_part f g && (i == j)
 same _ _ = false
 
 -- the word of this name in a row of words; there are no others

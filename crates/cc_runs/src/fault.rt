@@ -1,5 +1,5 @@
 ghost use Rattle.std.specs.Prelude.{◌≡◌};
-ghost use Rattle.cc_runs.specs.declared.fault.OpenFault.TheVariants as fault;
+ghost use Rattle.cc_runs.specs.Names.{OpenFault};
 
 use cc_model::ConfigFault;
 use std::alloc::AllocError;
@@ -14,7 +14,7 @@ pub enum OpenFault {
 }
 
 impl From<AllocError> for OpenFault {
-    ghost from_gives = { λ _ f. f ≡ fault.NoMemory };
+    ghost from_gives = { λ _ f. f ≡ OpenFault.NoMemory };
 
     fn from(_: AllocError) -> OpenFault {
         OpenFault::NoMemory

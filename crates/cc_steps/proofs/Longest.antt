@@ -1,11 +1,7 @@
 -- The pass that has just stepped has seen the longest run: all moves of a pass are covered by what it has seen.
 use Rattle.std.proofs.Common.{◌≡◌, ℕ, ◌+◌, ◌*◌, ◌<◌, ◌≤◌, Bool, ◌&&◌, nat_lt, cond, List, [], ◌∷◌, ◌++◌, length, IsTrue, refl, sym, ap, ◌∙◌, subst, arith}
 use Rattle.std.proofs.lemmas.Bool.{and_parts, eq-eqb}
-use Rattle.cc_runs.specs.declared.run.Move.{Move}
-use Rattle.cc_runs.specs.declared.word.Chain.TheVariants.{Send, Take}
-use Rattle.cc_runs.specs.declared.word.Object.TheVariants as object
-use Rattle.cc_runs.specs.declared.word.Word.{Word}
-use Rattle.cc_runs.specs.declared.word.Word.TheVariants as word
+use Rattle.cc_steps.specs.Names.{Move, Chain, Object, Word, Role}
 use Rattle.cc_runs.specs.Words.{Layout, layout_of, exists, is_node_field, is_item_field}
 use Rattle.cc_runs.specs.State.{word_of}
 use Rattle.cc_runs.specs.Passes.{pass_of, by}
@@ -13,8 +9,6 @@ use Rattle.cc_runs.proofs.Words.{field_small, part_small}
 use Rattle.cc_steps.specs.Slots.{slot, slot_count}
 use Rattle.cc_steps.specs.Shown.{Knows, passing, does}
 use Rattle.cc_steps.specs.Longest.{MovedLast, LastMoverHasSeenAll, slot_of, StepperHasSeenAll}
-use Rattle.cc_steps.specs.declared.seats.Role.{Role}
-use Rattle.cc_steps.specs.declared.seats.Role.TheVariants.{Pass}
 use Rattle.cc_steps.proofs.Keeps.{Next, safe, shown_after, log_after, steps_so}
 
 -- what is newer than all moves of the last mover is nothing
@@ -26,7 +20,7 @@ none_newer p seen (m ∷ more) none last =
 
 pub last_mover : LastMoverHasSeenAll
 last_mover c s rule j v at role last =
-    let knows : Knows c rule.log rule.next rule.owner rule.top j Pass v = subst (λ (r : Role). Knows c rule.log rule.next rule.owner rule.top j r v) role (rule.views j v at) in
+    let knows : Knows c rule.log rule.next rule.owner rule.top j Role.Pass v = subst (λ (r : Role). Knows c rule.log rule.next rule.owner rule.top j r v) role (rule.views j v at) in
     let none : knows.3.0 ≡ [] = none_newer v.number v.seen knows.3.0 knows.3.2 (subst (MovedLast v.number) knows.3.1 last) in
     sym (knows.3.1 ∙ ap (λ (l : List Move). l ++ v.seen) none)
 
@@ -36,25 +30,25 @@ groups_in : (g groups m : ℕ) → g < groups → g * m + m ≤ groups * m
 groups_in g groups m less = grind arith
 
 slot_in : (l : Layout) (w : Word) → IsTrue (exists l w) → slot l w < slot_count l
-slot_in l (word.Tail Send) a = omega arith
-slot_in l (word.Tail (Take g)) a = let less : g < l.groups = grind arith in omega (arith, less)
-slot_in l (word.Object object.Last) a = omega arith
-slot_in l (word.Object object.Shut) a = omega arith
-slot_in l (word.Object object.Count) a = omega arith
-slot_in l (word.Object object.Cursor) a = omega arith
-slot_in l (word.Object (object.Head g)) a = let less : g < l.groups = grind arith in omega (arith, less)
-slot_in l (word.Object (object.Taken g)) a = let less : g < l.groups = grind arith in omega (arith, less)
-slot_in l (word.Node Send i f) a =
+slot_in l (Word.Tail Chain.Send) a = omega arith
+slot_in l (Word.Tail (Chain.Take g)) a = let less : g < l.groups = grind arith in omega (arith, less)
+slot_in l (Word.Object Object.Last) a = omega arith
+slot_in l (Word.Object Object.Shut) a = omega arith
+slot_in l (Word.Object Object.Count) a = omega arith
+slot_in l (Word.Object Object.Cursor) a = omega arith
+slot_in l (Word.Object (Object.Head g)) a = let less : g < l.groups = grind arith in omega (arith, less)
+slot_in l (Word.Object (Object.Taken g)) a = let less : g < l.groups = grind arith in omega (arith, less)
+slot_in l (Word.Node Chain.Send i f) a =
     let t = and_parts (nat_lt i (l.senders + 1)) (is_node_field f) a in
     let less : i < l.senders + 1 = grind (arith, t.0) in
-    omega (arith, less, field_small Send f t.1)
-slot_in l (word.Node (Take g) i f) a =
+    omega (arith, less, field_small Chain.Send f t.1)
+slot_in l (Word.Node (Chain.Take g) i f) a =
     let t = and_parts (nat_lt g l.groups && nat_lt i (l.receivers + 1)) (is_node_field f) a in
     let u = and_parts (nat_lt g l.groups) (nat_lt i (l.receivers + 1)) t.0 in
     let low : g < l.groups = grind (arith, u.0) in
     let less : i < l.receivers + 1 = grind (arith, u.1) in
-    omega (arith, less, groups_in g l.groups (l.receivers + 1) low, field_small (Take g) f t.1)
-slot_in l (word.Item i f) a =
+    omega (arith, less, groups_in g l.groups (l.receivers + 1) low, field_small (Chain.Take g) f t.1)
+slot_in l (Word.Item i f) a =
     let t = and_parts (nat_lt i (l.capacity + 2)) (is_item_field f) a in
     let less : i < l.capacity + 2 = grind (arith, t.0) in
     omega (arith, less, part_small f t.1)

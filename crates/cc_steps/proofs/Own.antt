@@ -1,10 +1,6 @@
 -- A combiner that has served nobody yet finds its own node linked.
 use Rattle.std.proofs.Common.{◌≡◌, ℕ, ◌<◌, List, ◌++◌, None, refl, sym, ap, ◌∙◌, subst}
-use Rattle.cc_runs.specs.declared.run.Move.{Move}
-use Rattle.cc_runs.specs.declared.setting.Setting.{Setting}
-use Rattle.cc_runs.specs.declared.place.Stand.{Stand}
-use Rattle.cc_runs.specs.declared.place.Place.{Place}
-use Rattle.cc_runs.specs.declared.place.Place.TheVariants as place
+use Rattle.cc_steps.specs.Names.{Move, Setting, Stand, Place}
 use Rattle.cc_runs.specs.State.{word_of}
 use Rattle.cc_runs.proofs.ChainLaws.{chain_laws}
 use Rattle.cc_steps.specs.Seen.{stand_in, word_in, does_at}
@@ -23,9 +19,9 @@ module _ (v : Walk) (found : ℕ) (w : Walk) (f : Found v None found w) (step : 
 
   own_at : (at : Place) → v.stand.place ≡ at → LinksOwn at found
   unfolding stand_in word_in
-  own_at (place.ReadNext round) e = λ none.
-      let here : (stand_in C Log P).place ≡ place.ReadNext record { at = round.at; served = 0 } =
-      ap (λ (x : Stand). x.place) (stands v w None found f.walked step) ∙ e ∙ (λ i. place.ReadNext record { at = round.at; served = none i }) in
+  own_at (Place.ReadNext round) e = λ none.
+      let here : (stand_in C Log P).place ≡ Place.ReadNext record { at = round.at; served = 0 } =
+      ap (λ (x : Stand). x.place) (stands v w None found f.walked step) ∙ e ∙ (λ i. Place.ReadNext record { at = round.at; served = none i }) in
       let law = (chain_laws C (checked v w None found f.walked step) Log (run_here v w None found f.walked step)).own_link P round.at (below v w None found f.walked step) here in
       subst (λ (n : ℕ). 0 < n) (sym (f.found_is ∙ (λ i. word_in C Log (word_of (does_at C P record { begun = v.stand.begun; node = v.stand.node; place = e i }))))) law
   own_at _ e = tt

@@ -2,15 +2,7 @@
 use Rattle.std.proofs.Common.{◌≡◌, ◌≢◌, ℕ, ◌<◌, ◌≤◌, Bool, List, [], ◌∷◌, ◌++◌, IsTrue, Option, Some, None, Ok, refl, sym, ap, ◌∙◌, subst, eq-eqb, append_assoc, if◌then◌else◌}
 use Rattle.cc_model.specs.Config.{config_fault}
 use Rattle.cc_model.specs.Items.{Begins}
-use Rattle.cc_model.specs.declared.call.Call.{Call}
-use Rattle.cc_runs.specs.declared.run.Move.{Move}
-use Rattle.cc_runs.specs.declared.run.Move.TheVariants.{Begin, Step, Take}
-use Rattle.cc_runs.specs.declared.setting.Setting.{Setting}
-use Rattle.cc_runs.specs.declared.word.Word.{Word}
-use Rattle.cc_runs.specs.declared.place.Stand.{Stand}
-use Rattle.cc_runs.specs.declared.place.Place.{Place}
-use Rattle.cc_runs.specs.declared.place.Place.TheVariants as place
-use Rattle.cc_runs.specs.declared.place.Event.TheVariants.{Idle}
+use Rattle.cc_steps.specs.Names.{Call, Move, Setting, Word, Stand, Place, Event}
 use Rattle.cc_runs.specs.Words.{layout_of, exists}
 use Rattle.cc_runs.specs.State.{chain_of, pass_at, word_of, stored}
 use Rattle.cc_runs.specs.Lines.{event_at}
@@ -43,26 +35,26 @@ begun_words c p seen log None = refl
 begun_words c p seen log (Some call) = refl
 
 -- a step
-pub stepped_stand : (c : Setting) (p : ℕ) (log : List Move) → stand_in c (Step p ∷ log) p ≡ advanced c (chain_of c.config p) (stand_in c log p) (word_in c log (word_of (does_at c p (stand_in c log p))))
+pub stepped_stand : (c : Setting) (p : ℕ) (log : List Move) → stand_in c (Move.Step p ∷ log) p ≡ advanced c (chain_of c.config p) (stand_in c log p) (word_in c log (word_of (does_at c p (stand_in c log p))))
 unfolding stand_in word_in
 stepped_stand c p log = hold_here (reached c log).stand p _
 
-stepped_words : (c : Setting) (p : ℕ) (log : List Move) → (reached c (Step p ∷ log)).mem ≡ stored (reached c log).mem (does_at c p (stand_in c log p))
+stepped_words : (c : Setting) (p : ℕ) (log : List Move) → (reached c (Move.Step p ∷ log)).mem ≡ stored (reached c log).mem (does_at c p (stand_in c log p))
 unfolding stand_in
 stepped_words c p log = refl
 
 -- the answer taken, if there is one
 taken_stand : (c : Setting) (p : ℕ) (log : List Move) (at : Place) → stand_in c (taken p at log) p ≡ rested at (stand_in c log p)
 unfolding stand_in
-taken_stand c p log (place.Finished told) = hold_here (reached c log).stand p (rests ((reached c log).stand p))
+taken_stand c p log (Place.Finished told) = hold_here (reached c log).stand p (rests ((reached c log).stand p))
 taken_stand c p log _ = refl
 
 taken_words : (c : Setting) (p : ℕ) (log : List Move) (at : Place) → (reached c (taken p at log)).mem ≡ (reached c log).mem
-taken_words c p log (place.Finished told) = refl
+taken_words c p log (Place.Finished told) = refl
 taken_words c p log _ = refl
 
 pub taken_history : (c : Setting) (p : ℕ) (log : List Move) (at : Place) → history_of c (taken p at log) ≡ history_of c log
-taken_history c p log (place.Finished told) = refl
+taken_history c p log (Place.Finished told) = refl
 taken_history c p log _ = refl
 
 -- ---- all of one step on the table
@@ -80,14 +72,14 @@ module _ (c : Setting) (p : ℕ) (seen log : List Move) (call : Option Call) whe
 
   pub added_stand : stand_in c (added c p seen call log) p ≡ after_step c p at_step (word_in c log (word_of (does_at c p at_step)))
   added_stand =
-      taken_stand c p (Step p ∷ first) (stand_in c (Step p ∷ first) p).place
+      taken_stand c p (Move.Step p ∷ first) (stand_in c (Move.Step p ∷ first) p).place
       ∙ ap settled (stepped_stand c p first)
       ∙ ap (λ (at : Stand). settled (advanced c (chain_of c.config p) at (word_in c first (word_of (does_at c p at))))) (entered_stand c p seen log call)
       ∙ ap (λ (n : ℕ). settled (advanced c (chain_of c.config p) at_step n)) first_found
 
   pub added_words : (reached c (added c p seen call log)).mem ≡ stored (reached c log).mem (does_at c p at_step)
   added_words =
-      taken_words c p (Step p ∷ first) (stand_in c (Step p ∷ first) p).place
+      taken_words c p (Move.Step p ∷ first) (stand_in c (Move.Step p ∷ first) p).place
       ∙ stepped_words c p first
       ∙ ap (λ (at : Stand). stored (reached c first).mem (does_at c p at)) (entered_stand c p seen log call)
       ∙ ap (λ (m : Word → ℕ). stored m (does_at c p at_step)) (begun_words c p seen log call)
@@ -104,12 +96,12 @@ did-others c more seen p none = (others_leave c more seen p none).2
 
 taken_made : (c : Setting) (p : ℕ) (log : List Move) (at : Place) → made_in c (taken p at log) p ≡ made_in c log p
 unfolding made_in
-taken_made c p log (place.Finished told) = refl
+taken_made c p log (Place.Finished told) = refl
 taken_made c p log _ = refl
 
 taken_did : (c : Setting) (p : ℕ) (log : List Move) (at : Place) → did_in c (taken p at log) p ≡ did_in c log p
 unfolding did_in
-taken_did c p log (place.Finished told) = refl
+taken_did c p log (Place.Finished told) = refl
 taken_did c p log _ = refl
 
 begun_made : (c : Setting) (p : ℕ) (seen log : List Move) (call : Option Call) → made_in c (begun c p seen call log) p ≡ with_begun c p seen call (stand_in c log p) (made_in c log p)
@@ -123,23 +115,23 @@ unfolding did_in
 begun_did c p seen log None = refl
 begun_did c p seen log (Some call) = refl
 
-step_made : (c : Setting) (p : ℕ) (log : List Move) → made_in c (Step p ∷ log) p ≡ made_in c log p
+step_made : (c : Setting) (p : ℕ) (log : List Move) → made_in c (Move.Step p ∷ log) p ≡ made_in c log p
 unfolding made_in
 step_made c p log = refl
 
-step_did : (c : Setting) (p : ℕ) (log : List Move) → did_in c (Step p ∷ log) p ≡ then_did (event_at (stand_in c log p).place) (did_in c log p)
+step_did : (c : Setting) (p : ℕ) (log : List Move) → did_in c (Move.Step p ∷ log) p ≡ then_did (event_at (stand_in c log p).place) (did_in c log p)
 unfolding did_in stand_in
 step_did c p log = ap (λ (b : Bool). if b then then_did (event_at (stand_in c log p).place) (kinds c log p) else kinds c log p) (eq-eqb p p refl)
 
 module _ (c : Setting) (p : ℕ) (seen log : List Move) (call : Option Call) where
   pub added_made : made_in c (added c p seen call log) p ≡ with_begun c p seen call (stand_in c log p) (made_in c log p)
   added_made =
-      taken_made c p (Step p ∷ begun c p seen call log) (stand_in c (Step p ∷ begun c p seen call log) p).place
+      taken_made c p (Move.Step p ∷ begun c p seen call log) (stand_in c (Move.Step p ∷ begun c p seen call log) p).place
       ∙ step_made c p (begun c p seen call log) ∙ begun_made c p seen log call
 
   pub added_did : did_in c (added c p seen call log) p ≡ then_did (event_at (entered c p seen call (stand_in c log p)).place) (did_in c log p)
   added_did =
-      taken_did c p (Step p ∷ begun c p seen call log) (stand_in c (Step p ∷ begun c p seen call log) p).place
+      taken_did c p (Move.Step p ∷ begun c p seen call log) (stand_in c (Move.Step p ∷ begun c p seen call log) p).place
       ∙ step_did c p (begun c p seen call log)
       ∙ (λ i. then_did (event_at (entered_stand c p seen log call i).place) (begun_did c p seen log call i))
 
@@ -151,17 +143,17 @@ pub record Own (p : ℕ) (log longer : List Move) : Type 0 where
 
 begun_own : (c : Setting) (p : ℕ) (seen log : List Move) (call : Option Call) → Own p log (begun c p seen call log)
 begun_own c p seen log None = record { more = []; is = refl; own = λ q ne. refl }
-begun_own c p seen log (Some call) = record { more = Begin p call (known_in c p seen) ∷ []; is = refl; own = λ q ne. by-other p q (Begin p call (known_in c p seen)) [] refl ne refl }
+begun_own c p seen log (Some call) = record { more = Move.Begin p call (known_in c p seen) ∷ []; is = refl; own = λ q ne. by-other p q (Move.Begin p call (known_in c p seen)) [] refl ne refl }
 
-step_own : (p : ℕ) (log longer : List Move) → Own p log longer → Own p log (Step p ∷ longer)
-step_own p log longer o = record { more = Step p ∷ o.more; is = ap (λ (l : List Move). Step p ∷ l) o.is; own = λ q ne. by-other p q (Step p) o.more refl ne (o.own q ne) }
+step_own : (p : ℕ) (log longer : List Move) → Own p log longer → Own p log (Move.Step p ∷ longer)
+step_own p log longer o = record { more = Move.Step p ∷ o.more; is = ap (λ (l : List Move). Move.Step p ∷ l) o.is; own = λ q ne. by-other p q (Move.Step p) o.more refl ne (o.own q ne) }
 
 taken_own : (p : ℕ) (log longer : List Move) (at : Place) → Own p log longer → Own p log (taken p at longer)
-taken_own p log longer (place.Finished told) o = record { more = Take p ∷ o.more; is = ap (λ (l : List Move). Take p ∷ l) o.is; own = λ q ne. by-other p q (Take p) o.more refl ne (o.own q ne) }
+taken_own p log longer (Place.Finished told) o = record { more = Move.Take p ∷ o.more; is = ap (λ (l : List Move). Move.Take p ∷ l) o.is; own = λ q ne. by-other p q (Move.Take p) o.more refl ne (o.own q ne) }
 taken_own p log longer _ o = o
 
 pub added_own : (c : Setting) (p : ℕ) (seen log : List Move) (call : Option Call) → Own p log (added c p seen call log)
-added_own c p seen log call = taken_own p log (Step p ∷ begun c p seen call log) _ (step_own p log (begun c p seen call log) (begun_own c p seen log call))
+added_own c p seen log call = taken_own p log (Move.Step p ∷ begun c p seen call log) _ (step_own p log (begun c p seen call log) (begun_own c p seen log call))
 
 -- ---- the run goes on
 
@@ -172,14 +164,14 @@ pub history_more : (c : Setting) (more seen : List Move) → IsRun c (more ++ se
 history_more c more seen r = (fronts_begin c more seen r).1
 
 taken_run : (c : Setting) (p : ℕ) (log : List Move) (at : Place) → p < passes c → ((reached c log).stand p).place ≡ at → IsRun c log → IsRun c (taken p at log)
-taken_run c p log (place.Finished told) less is r = (r, (less, subst (λ (x : Place). IsFinished x) (sym is) tt))
+taken_run c p log (Place.Finished told) less is r = (r, (less, subst (λ (x : Place). IsFinished x) (sym is) tt))
 taken_run c p log _ less is r = r
 
 begun_run : (c : Setting) (p : ℕ) (seen log : List Move) (call : Option Call) → p < passes c → CanStart c p call ((reached c log).stand p) → IsRun c log → ((known_in c p seen) ≤ known_in c p log) → IsRun c (begun c p seen call log)
 begun_run c p seen log None less can r known = r
 begun_run c p seen log (Some call) less can r known = (r, (less, can.0, can.1, can.2, known))
 
-step_can : (c : Setting) (p : ℕ) (seen log : List Move) (call : Option Call) (at : Stand) → CanStart c p call at → event_at (entered c p seen call at).place ≢ Idle
+step_can : (c : Setting) (p : ℕ) (seen log : List Move) (call : Option Call) (at : Stand) → CanStart c p call at → event_at (entered c p seen call at).place ≢ Event.Idle
 step_can c p seen log None at can = can
 step_can c p seen log (Some call) at can = λ e. absurd (cc e)
 
@@ -187,9 +179,9 @@ pub added_run : (c : Setting) (p : ℕ) (seen log : List Move) (call : Option Ca
 unfolding stand_in
 added_run c p seen log call less can r known =
     let a : IsRun c (begun c p seen call log) = begun_run c p seen log call less can r known in
-    let b : event_at ((reached c (begun c p seen call log)).stand p).place ≢ Idle =
-    subst (λ (at : Stand). event_at at.place ≢ Idle) (sym (entered_stand c p seen log call)) (step_can c p seen log call ((reached c log).stand p) can) in
-    (taken_run c p (Step p ∷ begun c p seen call log) _ less refl (a, (less, b)), a)
+    let b : event_at ((reached c (begun c p seen call log)).stand p).place ≢ Event.Idle =
+    subst (λ (at : Stand). event_at at.place ≢ Event.Idle) (sym (entered_stand c p seen log call)) (step_can c p seen log call ((reached c log).stand p) can) in
+    (taken_run c p (Move.Step p ∷ begun c p seen call log) _ less refl (a, (less, b)), a)
 
 -- ---- each step is ready
 
@@ -205,11 +197,11 @@ step_safe c checked p seen log call at less r stands =
     (safe.word, subst (λ (m : Word → ℕ). IsPlaceSafe c (entered c p seen call at).node (m (word_of (does_at c p (entered c p seen call at)))) (entered c p seen call at).place) (begun_words c p seen log call) safe.numbers)
 
 pub of_taken : (c : Setting) (p : ℕ) (log : List Move) (at : Place) → IsRun c (taken p at log) → IsRun c log
-of_taken c p log (place.Finished told) r = r.0
+of_taken c p log (Place.Finished told) r = r.0
 of_taken c p log _ r = r
 
 pub of_added : (c : Setting) (p : ℕ) (seen log : List Move) (call : Option Call) → IsRun c (added c p seen call log) → IsRun c (begun c p seen call log)
-of_added c p seen log call r = (of_taken c p (Step p ∷ begun c p seen call log) _ r).0
+of_added c p seen log call r = (of_taken c p (Move.Step p ∷ begun c p seen call log) _ r).0
 
 pub later_on : (xs ys zs : List Move) → GoesOn ys zs → GoesOn xs ys → GoesOn xs zs
 later_on xs ys zs b a = record { more = b.more ++ a.more; is = b.is ∙ ap (λ (l : List Move). b.more ++ l) a.is ∙ sym (append_assoc b.more a.more xs) }

@@ -1,9 +1,7 @@
 -- What a step's clauses say of the run that its pass has seen: before the step, with others' moves, and after it.
 use Rattle.std.proofs.Common.{◌≡◌, ℕ, ◌<◌, List, ◌++◌, Option, Some, None, Ok, sym, ap, ◌∙◌, subst}
 use Rattle.cc_model.specs.Config.{config_fault}
-use Rattle.cc_model.specs.declared.call.Call.{Call}
-use Rattle.cc_runs.specs.declared.run.Move.{Move}
-use Rattle.cc_runs.specs.declared.setting.Setting.{Setting}
+use Rattle.cc_steps.specs.Names.{Call, Move, Setting}
 use Rattle.cc_runs.specs.Run.{IsRun, passes}
 use Rattle.cc_steps.specs.Seen.{stand_in, begun}
 use Rattle.cc_steps.specs.Walk.{Walk, Walked, walked_to, next_stand}

@@ -1,24 +1,7 @@
 -- What the laws of every run say of one step: nodes that are used again, and calls that wait for their link.
 use Rattle.std.proofs.Common.{◌≡◌, ℕ, List, ◌∷◌, ◌++◌, Option, Some, None, refl, sym, ap, ◌∙◌, subst}
 use Rattle.cc_model.specs.Record.{Record}
-use Rattle.cc_model.specs.declared.call.Call.{Call}
-use Rattle.cc_runs.specs.declared.run.Move.{Move}
-use Rattle.cc_runs.specs.declared.run.Move.TheVariants.{Step}
-use Rattle.cc_runs.specs.declared.setting.Setting.{Setting}
-use Rattle.cc_runs.specs.declared.setting.Served.TheVariants as served
-use Rattle.cc_runs.specs.declared.word.Chain.{Chain}
-use Rattle.cc_runs.specs.declared.word.Chain.TheVariants.{Send, Take}
-use Rattle.cc_runs.specs.declared.word.ItemField.{ItemField}
-use Rattle.cc_runs.specs.declared.word.NodeField.TheVariants as node
-use Rattle.cc_runs.specs.declared.word.Word.TheVariants.{Item, Node}
-use Rattle.cc_runs.specs.declared.place.Kind.TheVariants as kind
-use Rattle.cc_runs.specs.declared.place.Event.TheVariants.{Did}
-use Rattle.cc_runs.specs.declared.place.Place.{Place}
-use Rattle.cc_runs.specs.declared.place.Place.TheVariants as place
-use Rattle.cc_runs.specs.declared.place.Counting.TheVariants as counting
-use Rattle.cc_runs.specs.declared.place.Sending.TheVariants as sending
-use Rattle.cc_runs.specs.declared.place.Taking.TheVariants as taking
-use Rattle.cc_runs.specs.declared.place.Stand.{Stand}
+use Rattle.cc_steps.specs.Names.{Call, Move, Setting, Served, Chain, ItemField, NodeField, Word, Kind, Event, Place, Counting, Sending, Taking, Stand}
 use Rattle.cc_runs.proofs.Chains.Facts.{noted_none}
 use Rattle.cc_runs.specs.State.{Operation, Store, chain_of, pass_at, word_of, noted}
 use Rattle.cc_runs.specs.Lines.{operation, event_at, goes, enters, decides}
@@ -36,31 +19,31 @@ use Rattle.cc_steps.proofs.Runs.{taken_history}
 use Rattle.cc_steps.proofs.StepFacts.{same, number, checked, below, run_then, run_here, stands, stands_then}
 
 -- the step is a reset of this node, and leads on to its preparation
-resets_at : (c : Setting) (x : Chain) (b own n : ℕ) (f : ItemField) (at : Place) → event_at at ≡ Did kind.ResetListNode → operation c x own at ≡ Store (Item n f) 0 → Resets at n × Prepares (goes c x own at 0) n
-resets_at c x b own n f (place.Sending job (sending.ResetPassed parcel at)) e o = let is : at ≡ n = cc o in (is, is)
-resets_at c x b own n f (place.Sending job (sending.ResetItemNext parcel at)) e o = let is : at ≡ n = cc o in (is, is)
-resets_at c x b own n f (place.Counting job counting.ReadTag) e o = absurd (cc e)
-resets_at c x b own n f (place.Taking job taking.ReadHead) e o = absurd (cc e)
+resets_at : (c : Setting) (x : Chain) (b own n : ℕ) (f : ItemField) (at : Place) → event_at at ≡ Event.Did Kind.ResetListNode → operation c x own at ≡ Store (Word.Item n f) 0 → Resets at n × Prepares (goes c x own at 0) n
+resets_at c x b own n f (Place.Sending job (Sending.ResetPassed parcel at)) e o = let is : at ≡ n = cc o in (is, is)
+resets_at c x b own n f (Place.Sending job (Sending.ResetItemNext parcel at)) e o = let is : at ≡ n = cc o in (is, is)
+resets_at c x b own n f (Place.Counting job Counting.ReadTag) e o = absurd (cc e)
+resets_at c x b own n f (Place.Taking job Taking.ReadHead) e o = absurd (cc e)
 resets_at c x b own n f _ e o = absurd (cc e)
 
 -- the node that is reset is the pass's own
-owns_at : (c : Setting) (x y : Chain) (own n : ℕ) (at : Place) → event_at at ≡ Did kind.ResetState → operation c x own at ≡ Store (Node y n node.State) 1 → (x ≡ y) × (own ≡ n)
-owns_at c x y own n (place.ResetState call) e o = (cc o, cc o)
-owns_at c x y own n (place.Counting job counting.ReadTag) e o = absurd (cc e)
-owns_at c x y own n (place.Sending job sending.ReadTag) e o = absurd (cc e)
-owns_at c x y own n (place.Taking job taking.ReadHead) e o = absurd (cc e)
+owns_at : (c : Setting) (x y : Chain) (own n : ℕ) (at : Place) → event_at at ≡ Event.Did Kind.ResetState → operation c x own at ≡ Store (Word.Node y n NodeField.State) 1 → (x ≡ y) × (own ≡ n)
+owns_at c x y own n (Place.ResetState call) e o = (cc o, cc o)
+owns_at c x y own n (Place.Counting job Counting.ReadTag) e o = absurd (cc e)
+owns_at c x y own n (Place.Sending job Sending.ReadTag) e o = absurd (cc e)
+owns_at c x y own n (Place.Taking job Taking.ReadHead) e o = absurd (cc e)
 owns_at c x y own n _ e o = absurd (cc e)
 
 -- a link puts nothing into the history, and its call has exchanged
-links_at : (c : Setting) (x : Chain) (h : Record) (at : Place) (found : ℕ) → event_at at ≡ Did kind.Link → IsEntering at × (noted x h (enters at) (decides c at found) ≡ h)
-links_at c x h (place.Link put) found e = (tt, noted_none x h)
-links_at c x h (place.Counting job counting.ReadTag) found e = absurd (cc e)
-links_at c x h (place.Sending job sending.ReadTag) found e = absurd (cc e)
-links_at c x h (place.Taking job taking.ReadHead) found e = absurd (cc e)
+links_at : (c : Setting) (x : Chain) (h : Record) (at : Place) (found : ℕ) → event_at at ≡ Event.Did Kind.Link → IsEntering at × (noted x h (enters at) (decides c at found) ≡ h)
+links_at c x h (Place.Link put) found e = (tt, noted_none x h)
+links_at c x h (Place.Counting job Counting.ReadTag) found e = absurd (cc e)
+links_at c x h (Place.Sending job Sending.ReadTag) found e = absurd (cc e)
+links_at c x h (Place.Taking job Taking.ReadHead) found e = absurd (cc e)
 links_at c x h _ found e = absurd (cc e)
 
 still_prepares : (n : ℕ) (pl : Place) (at : Stand) → at.place ≡ pl → Prepares pl n → Prepares (rested pl at).place n
-still_prepares n (place.Finished told) at is p = absurd p
+still_prepares n (Place.Finished told) at is p = absurd p
 still_prepares n _ at is p = subst (λ (x : Place). Prepares x n) (sym is) p
 
 -- a store, which may be the first step of a call
@@ -80,7 +63,7 @@ module _ (v w : Walk) (call : Option Call) (k : Walked v call w) (step : w ≡ w
 
 -- the first step of a call
 module _ (v w : Walk) (call : Call) (k : Walked v (Some call) w) (step : w ≡ walked_to v (Some call) 0 w.seen) where
-  pub begun_owned : (y : Chain) (n : ℕ) → CanBegin v call (Store (Node y n node.Next) 0) → HasOwned v (Some call) y n w
+  pub begun_owned : (y : Chain) (n : ℕ) → CanBegin v call (Store (Word.Node y n NodeField.Next) 0) → HasOwned v (Some call) y n w
   begun_owned y n can = owned_as v w (Some call) k step y n (cc can.1, cc can.1)
 
 -- a later one
@@ -91,10 +74,10 @@ module _ (v w : Walk) (k : Walked v None w) (step : w ≡ walked_to v None 0 w.s
   abbrev Before : List Move
   Before = k.between ++ v.seen
 
-  pub owned : (y : Chain) (n : ℕ) → Steps v kind.ResetState (Store (Node y n node.State) 1) → HasOwned v None y n w
+  pub owned : (y : Chain) (n : ℕ) → Steps v Kind.ResetState (Store (Word.Node y n NodeField.State) 1) → HasOwned v None y n w
   owned y n can = owned_as v w None k step y n (owns_at D (chain_of D.config v.number) y v.stand.node n v.stand.place can.0 can.1)
 
-  pub reused : (n : ℕ) (f : ItemField) → D.served ≡ served.List → Steps v kind.ResetListNode (Store (Item n f) 0) → HasReused v n w
+  pub reused : (n : ℕ) (f : ItemField) → D.served ≡ Served.List → Steps v Kind.ResetListNode (Store (Word.Item n f) 0) → HasReused v n w
   unfolding stand_in
   reused n f list can =
       let r = resets_at D (chain_of D.config v.number) v.stand.begun v.stand.node n f v.stand.place can.0 can.1 in
@@ -107,11 +90,11 @@ module _ (v w : Walk) (k : Walked v None w) (step : w ≡ walked_to v None 0 w.s
             (subst (λ (x : Stand). Prepares x.place n) (sym (stands_then v w None 0 k step)) (still_prepares n _ (advanced D (chain_of D.config v.number) v.stand 0) refl r.1)) holds;
       }
 
-  pub pending : (op : Operation) → Steps v kind.Link op → IsPendingIn w
+  pub pending : (op : Operation) → Steps v Kind.Link op → IsPendingIn w
   unfolding stand_in word_in
   pending op can =
-      let link : event_at (stand_in D Before v.number).place ≡ Did kind.Link = subst (λ (x : Stand). event_at x.place ≡ Did kind.Link) (sym (stands v w None 0 k step)) can.0 in
+      let link : event_at (stand_in D Before v.number).place ≡ Event.Did Kind.Link = subst (λ (x : Stand). event_at x.place ≡ Event.Did Kind.Link) (sym (stands v w None 0 k step)) can.0 in
       let l = links_at D (chain_of D.config v.number) (history_of D Before) (stand_in D Before v.number).place (word_in D Before (word_of (does_at D v.number (stand_in D Before v.number)))) link in
-      let history : history_of D w.seen ≡ history_of D Before = ap (history_of D) k.seen ∙ taken_history D v.number (Step v.number ∷ Before) (stand_in D (Step v.number ∷ Before) v.number).place ∙ l.1 in
+      let history : history_of D w.seen ≡ history_of D Before = ap (history_of D) k.seen ∙ taken_history D v.number (Move.Step v.number ∷ Before) (stand_in D (Move.Step v.number ∷ Before) v.number).place ∙ l.1 in
       subst (λ (x : Setting × ℕ × Record). IsLastPending (pass_at x.0.config x.1) x.2) (λ i. (sym (same v w None 0 k step) i, sym (number v w None 0 k step) i, (sym history ∙ (λ j. history_of (sym (same v w None 0 k step) j) w.seen)) i))
       (calls_wait D (checked v w None 0 k step) Before (run_here v w None 0 k step) v.number (below v w None 0 k step) l.0)

@@ -3,17 +3,13 @@ use Rattle.std.specs.Prelude.{◌≡◌, ℕ, List, [], ◌∷◌, slice_index_o
 use mathlib.Core.Option.{some}
 use lib.ListN.{get_elem?}
 use Rattle.atomic_table.specs.Table.{State}
-use Rattle.cc_model.specs.declared.call.Call.{Call}
-use Rattle.cc_runs.specs.declared.setting.Setting.{Setting}
-use Rattle.cc_runs.specs.declared.run.Move.{Move}
+use Rattle.cc_steps.specs.Names.{Call, Setting, Move, View, Role}
 use Rattle.cc_runs.specs.Words.{layout_of}
 use Rattle.cc_runs.specs.State.{word_of}
 use Rattle.cc_runs.specs.Passes.{pass_of}
 use Rattle.cc_steps.specs.Slots.{slot}
 use Rattle.cc_steps.specs.Seen.{left}
 use Rattle.cc_steps.specs.Shown.{Shown, Stepped, IsAt, does}
-use Rattle.cc_steps.specs.declared.seats.View.{View}
-use Rattle.cc_steps.specs.declared.seats.Role.TheVariants.{Pass}
 
 -- the newest move of a run is this pass's
 abbrev pub MovedLast : ℕ → List Move → Type 0
@@ -23,7 +19,7 @@ MovedLast p (m ∷ earlier) = pass_of m ≡ p
 -- under the rule, the pass whose move is the newest of the longest run has seen all of that run
 abbrev pub LastMoverHasSeenAll : Type 0
 LastMoverHasSeenAll = (c : Setting) (s : State (Unit {0}) View) (rule : Shown c s) (j : ℕ) (v : View) →
-    get_elem? s.views j ≡ some v → v.role ≡ Pass → MovedLast v.number rule.log → v.seen ≡ rule.log
+    get_elem? s.views j ≡ some v → v.role ≡ Role.Pass → MovedLast v.number rule.log → v.seen ≡ rule.log
 
 -- the slot of the word that the next step of this view's pass touches, and what it finds there
 abbrev pub slot_of : View → Option Call → ℕ

@@ -1,13 +1,8 @@
 -- Where the words of a topic lie in its table: those that different threads write stand on different lines.
 use Rattle.std.specs.Prelude.{◌≡◌, ℕ, ◌/◌, ◌<◌, List, length, slice_index_or, IsTrue}
-use Rattle.cc_runs.specs.declared.word.NodeField.TheVariants.{Next}
-use Rattle.cc_runs.specs.declared.word.ItemField.TheVariants.{Tag}
-use Rattle.cc_runs.specs.declared.word.Object.TheVariants as object
-use Rattle.cc_runs.specs.declared.word.Word.{Word}
-use Rattle.cc_runs.specs.declared.word.Word.TheVariants as word
+use Rattle.cc_steps.specs.Names.{NodeField, ItemField, Object, Word, Starts}
 use Rattle.cc_runs.specs.Words as laid
 use Rattle.cc_runs.specs.Words.{Layout, Spacing, exists, lies, row_size, word_in_row}
-use Rattle.cc_steps.specs.declared.layout.Starts.{Starts}
 
 -- A slot holds one word of 64 bits, a line 8 slots. Processors fetch lines in pairs, so what many threads wait for stands 16
 -- slots apart: each tail, the words of each side, each node of a chain. List nodes stand 8 apart.
@@ -35,12 +30,12 @@ held l slots w = word_in_row spread l slots w
 
 -- the first of the words that lie beside this one, which the same threads write
 abbrev pub first_beside : Word → Word
-first_beside (word.Tail x) = word.Tail x
-first_beside (word.Object (object.Head g)) = word.Object (object.Head g)
-first_beside (word.Object (object.Taken g)) = word.Object (object.Head g)
-first_beside (word.Object _) = word.Object object.Last
-first_beside (word.Node x i f) = word.Node x i Next
-first_beside (word.Item i f) = word.Item i Tag
+first_beside (Word.Tail x) = Word.Tail x
+first_beside (Word.Object (Object.Head g)) = Word.Object (Object.Head g)
+first_beside (Word.Object (Object.Taken g)) = Word.Object (Object.Head g)
+first_beside (Word.Object _) = Word.Object Object.Last
+first_beside (Word.Node x i f) = Word.Node x i NodeField.Next
+first_beside (Word.Item i f) = Word.Item i ItemField.Tag
 
 -- two words on one line lie beside one another
 abbrev pub LinesApart : Type 0

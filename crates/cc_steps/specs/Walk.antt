@@ -3,28 +3,18 @@ use Rattle.std.specs.Prelude.{◌≡◌, ◌≢◌, ℕ, ◌+◌, ◌<◌, List,
 use Rattle.atomic_table.specs.Seated.{TableId}
 use Rattle.atomic_table.specs.declared.shared.Seat.{Seat}
 use Rattle.cc_model.specs.Config.{config_fault}
-use Rattle.cc_model.specs.declared.call.Call.{Call}
-use Rattle.cc_model.specs.declared.call.Entry.{Entry}
-use Rattle.cc_runs.specs.declared.setting.Setting.{Setting}
-use Rattle.cc_runs.specs.declared.place.Stand.{Stand}
-use Rattle.cc_runs.specs.declared.place.Place.TheVariants as place
-use Rattle.cc_runs.specs.declared.place.Kind.{Kind}
-use Rattle.cc_runs.specs.declared.place.Event.TheVariants.{Did, Idle}
+use Rattle.cc_steps.specs.Names.{Call, Entry, Setting, Stand, Place, Kind, Event, Move, View, Role}
 use Rattle.cc_runs.specs.Words.{layout_of, exists}
 use Rattle.cc_runs.specs.State.{Operation, chain_of, pass_at, first_node, word_of}
 use Rattle.cc_runs.specs.Lines.{event_at, goes}
 use Rattle.cc_runs.specs.ChainLaws.{IsLastAnswer}
 use Rattle.cc_runs.specs.ChainLaws.{IsLastPending}
-use Rattle.cc_runs.specs.declared.place.Place.{Place}
 use Rattle.cc_runs.specs.Safe.{IsPlaceSafe}
-use Rattle.cc_runs.specs.declared.run.Move.{Move}
 use Rattle.cc_runs.specs.Passes.{by, then_did}
 use Rattle.cc_runs.specs.Run.{IsRun, passes, history_of}
 use Rattle.cc_steps.specs.Topic.{Topic}
 use Rattle.cc_steps.specs.Seen.{Onward, Later, Covers, stand_in, word_in, entered, added, after_step, does_at, made_in, did_in, with_begun}
 use Rattle.cc_steps.specs.Shown.{CanStart, stand_of, longer}
-use Rattle.cc_steps.specs.declared.seats.View.{View}
-use Rattle.cc_steps.specs.declared.seats.Role.TheVariants.{Pass}
 
 -- A pass as plain data: its table and setting, its number in the row of all passes (senders first, from 0), the run that it
 -- has seen, where it stands with its registers, the calls that it began, and the kinds of its steps, the newest first.
@@ -55,7 +45,7 @@ walk s = walk_of s.table_id s.me.0
 
 -- what holds of the view of each seat of a pass
 pub record Sound (v : View) : Type 0 where
-  pub pass : v.role ≡ Pass
+  pub pass : v.role ≡ Role.Pass
   pub alone : v.other ≡ []
   pub below : v.number < passes v.setting
   pub checked : config_fault v.setting.config ≡ Ok tt
@@ -76,7 +66,7 @@ fresh z p = record {
   setting = z.setting;
   number = p;
   seen = [];
-  stand = record { begun = 0; node = first_node z.setting.config p; place = place.Idle };
+  stand = record { begun = 0; node = first_node z.setting.config p; place = Place.Idle };
   made = [];
   did = [];
 }
@@ -88,11 +78,11 @@ fresh_from z p (w ∷ ws) = (w ≡ fresh z p) × fresh_from z (p + 1) ws
 
 -- the next step of the pass does this
 abbrev pub CanDo : Walk → Operation → Type 0
-CanDo v op = (event_at v.stand.place ≢ Idle) × (does_at v.setting v.number v.stand ≡ op)
+CanDo v op = (event_at v.stand.place ≢ Event.Idle) × (does_at v.setting v.number v.stand ≡ op)
 
 -- the next step of the pass is of this kind, and does this
 abbrev pub Steps : Walk → Kind → Operation → Type 0
-Steps v kind op = (event_at v.stand.place ≡ Did kind) × (does_at v.setting v.number v.stand ≡ op)
+Steps v kind op = (event_at v.stand.place ≡ Event.Did kind) × (does_at v.setting v.number v.stand ≡ op)
 
 -- where the pass stands in its step
 abbrev pub stepping : Walk → Option Call → Stand
@@ -160,7 +150,7 @@ IsPendingIn w = IsLastPending (pass_at w.setting.config w.number) (history_of w.
 
 -- an answer that was read and taken is the answer of the pass's last call, in the history of what it has seen
 abbrev pub IsToldAt : Walk → Place → Type 0
-IsToldAt w (place.Finished told) = IsLastAnswer (pass_at w.setting.config w.number) (history_of w.setting w.seen) told
+IsToldAt w (Place.Finished told) = IsLastAnswer (pass_at w.setting.config w.number) (history_of w.setting w.seen) told
 IsToldAt w _ = Unit {0}
 
 -- where the step leads, before an answer is taken
@@ -169,7 +159,7 @@ leads_to v found = goes v.setting (chain_of v.setting.config v.number) v.stand.n
 
 -- a combiner that has served nobody yet finds its own node linked
 abbrev pub LinksOwn : Place → ℕ → Type 0
-LinksOwn (place.ReadNext round) found = round.served ≡ 0 → 0 < found
+LinksOwn (Place.ReadNext round) found = round.served ≡ 0 → 0 < found
 LinksOwn _ found = Unit {0}
 
 -- What holds of every seat of a pass: its topic's configuration was checked, it is one of the topic's passes, what it has

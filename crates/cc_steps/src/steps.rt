@@ -12,16 +12,10 @@
 //! - `later`: what was seen before begins what is seen now.
 ghost use Rattle.std.specs.Prelude.{◌≡◌, ◌+◌, ◌<◌, ◌^◌, Some, None};
 ghost use Rattle.cc_runs.specs.State.{Load, Store, Swap, Add};
-ghost use Rattle.cc_runs.specs.declared.word.Chain.TheVariants.{Send};
-ghost use Rattle.cc_runs.specs.declared.word.Word.TheVariants as word;
-ghost use Rattle.cc_runs.specs.declared.word.Word.TheVariants.{Tail, Node, Item};
-ghost use Rattle.cc_runs.specs.declared.word.NodeField.TheVariants.{Next, State};
-ghost use Rattle.cc_runs.specs.declared.word.ItemField.TheVariants as item;
-ghost use Rattle.cc_runs.specs.declared.place.Kind.TheVariants as kind;
+ghost use Rattle.cc_steps.specs.Names.{Chain, Word, NodeField, ItemField, Kind, Served};
 ghost use Rattle.cc_steps.specs.Seen.{Onward};
 ghost use Rattle.cc_steps.specs.Reuse.{HasReused, HasOwned};
 ghost use Rattle.cc_steps.specs.Walk.{IsOf, Steps, CanBegin, Found, Walked, walked_to, IsPendingIn, IsToldAt, leads_to, LinksOwn};
-ghost use Rattle.cc_runs.specs.declared.setting.Served.TheVariants as served;
 
 use crate::moves;
 use crate::seats::PassSeat;
@@ -35,7 +29,7 @@ use cc_runs::{Chain, ItemField, NodeField, Object, Word};
 #[inline(always)]
 pub fn reset_next(words: &Words, seat: &mut PassSeat, chain: Chain, node: u64, call: Call)
     requires here { IsOf words.now seat.old }
-    requires at { CanBegin seat.old call (Store (Node chain node Next) 0) }
+    requires at { CanBegin seat.old call (Store (Word.Node chain node NodeField.Next) 0) }
     ensures walked { Walked seat.old (Some call) seat.new }
     ensures step { seat.new ≡ walked_to seat.old (Some call) 0 seat.new.seen }
     ensures later { Onward seat.old.seen seat.new.seen }
@@ -49,7 +43,7 @@ pub fn reset_next(words: &Words, seat: &mut PassSeat, chain: Chain, node: u64, c
 #[inline(always)]
 pub fn reset_state(words: &Words, seat: &mut PassSeat, chain: Chain, node: u64)
     requires here { IsOf words.now seat.old }
-    requires at { Steps seat.old kind.ResetState (Store (Node chain node State) 1) }
+    requires at { Steps seat.old Kind.ResetState (Store (Word.Node chain node NodeField.State) 1) }
     ensures walked { Walked seat.old None seat.new }
     ensures step { seat.new ≡ walked_to seat.old None 0 seat.new.seen }
     ensures later { Onward seat.old.seen seat.new.seen }
@@ -64,7 +58,7 @@ pub fn reset_state(words: &Words, seat: &mut PassSeat, chain: Chain, node: u64)
 #[inline(always)]
 pub fn exchange_tail(words: &Words, seat: &mut PassSeat, chain: Chain, link: u64) -> u64
     requires here { IsOf words.now seat.old }
-    requires at { Steps seat.old kind.Exchange (Swap (Tail chain) link) }
+    requires at { Steps seat.old Kind.Exchange (Swap (Word.Tail chain) link) }
     ensures found { Found seat.old None result seat.new }
     ensures step { seat.new ≡ walked_to seat.old None result seat.new.seen }
     ensures later { Onward seat.old.seen seat.new.seen }
@@ -78,7 +72,7 @@ pub fn exchange_tail(words: &Words, seat: &mut PassSeat, chain: Chain, link: u64
 #[inline(always)]
 pub fn write_request(words: &Words, seat: &mut PassSeat, node: u64, field: NodeField, value: u64)
     requires here { IsOf words.now seat.old }
-    requires at { Steps seat.old kind.WriteRequest (Store (Node Send node field) value) }
+    requires at { Steps seat.old Kind.WriteRequest (Store (Word.Node Chain.Send node field) value) }
     ensures walked { Walked seat.old None seat.new }
     ensures step { seat.new ≡ walked_to seat.old None 0 seat.new.seen }
     ensures later { Onward seat.old.seen seat.new.seen }
@@ -92,7 +86,7 @@ pub fn write_request(words: &Words, seat: &mut PassSeat, node: u64, field: NodeF
 #[inline(always)]
 pub fn link_next(words: &Words, seat: &mut PassSeat, chain: Chain, node: u64, link: u64)
     requires here { IsOf words.now seat.old }
-    requires at { Steps seat.old kind.Link (Store (Node chain node Next) link) }
+    requires at { Steps seat.old Kind.Link (Store (Word.Node chain node NodeField.Next) link) }
     ensures walked { Walked seat.old None seat.new }
     ensures step { seat.new ≡ walked_to seat.old None 0 seat.new.seen }
     ensures later { Onward seat.old.seen seat.new.seen }
@@ -106,7 +100,7 @@ pub fn link_next(words: &Words, seat: &mut PassSeat, chain: Chain, node: u64, li
 #[inline(always)]
 pub fn read_state(words: &Words, seat: &mut PassSeat, chain: Chain, node: u64) -> u64
     requires here { IsOf words.now seat.old }
-    requires at { Steps seat.old kind.ReadState (Load (Node chain node State)) }
+    requires at { Steps seat.old Kind.ReadState (Load (Word.Node chain node NodeField.State)) }
     ensures found { Found seat.old None result seat.new }
     ensures step { seat.new ≡ walked_to seat.old None result seat.new.seen }
     ensures later { Onward seat.old.seen seat.new.seen }
@@ -119,7 +113,7 @@ pub fn read_state(words: &Words, seat: &mut PassSeat, chain: Chain, node: u64) -
 #[inline(always)]
 pub fn read_next(words: &Words, seat: &mut PassSeat, chain: Chain, node: u64) -> u64
     requires here { IsOf words.now seat.old }
-    requires at { Steps seat.old kind.ReadNext (Load (Node chain node Next)) }
+    requires at { Steps seat.old Kind.ReadNext (Load (Word.Node chain node NodeField.Next)) }
     ensures found { Found seat.old None result seat.new }
     ensures step { seat.new ≡ walked_to seat.old None result seat.new.seen }
     ensures later { Onward seat.old.seen seat.new.seen }
@@ -133,7 +127,7 @@ pub fn read_next(words: &Words, seat: &mut PassSeat, chain: Chain, node: u64) ->
 #[inline(always)]
 pub fn read_request(words: &Words, seat: &mut PassSeat, node: u64, field: NodeField) -> u64
     requires here { IsOf words.now seat.old }
-    requires at { Steps seat.old kind.ReadRequest (Load (Node Send node field)) }
+    requires at { Steps seat.old Kind.ReadRequest (Load (Word.Node Chain.Send node field)) }
     ensures found { Found seat.old None result seat.new }
     ensures step { seat.new ≡ walked_to seat.old None result seat.new.seen }
     ensures later { Onward seat.old.seen seat.new.seen }
@@ -146,7 +140,7 @@ pub fn read_request(words: &Words, seat: &mut PassSeat, node: u64, field: NodeFi
 #[inline(always)]
 pub fn read_object(words: &Words, seat: &mut PassSeat, object: Object) -> u64
     requires here { IsOf words.now seat.old }
-    requires at { Steps seat.old kind.ReadObject (Load (word.Object object)) }
+    requires at { Steps seat.old Kind.ReadObject (Load (Word.Object object)) }
     ensures found { Found seat.old None result seat.new }
     ensures step { seat.new ≡ walked_to seat.old None result seat.new.seen }
     ensures later { Onward seat.old.seen seat.new.seen }
@@ -159,7 +153,7 @@ pub fn read_object(words: &Words, seat: &mut PassSeat, object: Object) -> u64
 #[inline(always)]
 pub fn write_object(words: &Words, seat: &mut PassSeat, object: Object, value: u64)
     requires here { IsOf words.now seat.old }
-    requires at { Steps seat.old kind.WriteObject (Store (word.Object object) value) }
+    requires at { Steps seat.old Kind.WriteObject (Store (Word.Object object) value) }
     ensures walked { Walked seat.old None seat.new }
     ensures step { seat.new ≡ walked_to seat.old None 0 seat.new.seen }
     ensures later { Onward seat.old.seen seat.new.seen }
@@ -180,7 +174,7 @@ pub fn write_answer(
     value: u64,
 )
     requires here { IsOf words.now seat.old }
-    requires at { Steps seat.old kind.WriteAnswer (Store (Node chain node field) value) }
+    requires at { Steps seat.old Kind.WriteAnswer (Store (Word.Node chain node field) value) }
     ensures walked { Walked seat.old None seat.new }
     ensures step { seat.new ≡ walked_to seat.old None 0 seat.new.seen }
     ensures later { Onward seat.old.seen seat.new.seen }
@@ -193,7 +187,7 @@ pub fn write_answer(
 #[inline(always)]
 pub fn mark_done(words: &Words, seat: &mut PassSeat, chain: Chain, node: u64)
     requires here { IsOf words.now seat.old }
-    requires at { Steps seat.old kind.MarkDone (Store (Node chain node State) 2) }
+    requires at { Steps seat.old Kind.MarkDone (Store (Word.Node chain node NodeField.State) 2) }
     ensures walked { Walked seat.old None seat.new }
     ensures step { seat.new ≡ walked_to seat.old None 0 seat.new.seen }
     ensures later { Onward seat.old.seen seat.new.seen }
@@ -206,7 +200,7 @@ pub fn mark_done(words: &Words, seat: &mut PassSeat, chain: Chain, node: u64)
 #[inline(always)]
 pub fn hand_over(words: &Words, seat: &mut PassSeat, chain: Chain, node: u64)
     requires here { IsOf words.now seat.old }
-    requires at { Steps seat.old kind.HandOver (Store (Node chain node State) 0) }
+    requires at { Steps seat.old Kind.HandOver (Store (Word.Node chain node NodeField.State) 0) }
     ensures walked { Walked seat.old None seat.new }
     ensures step { seat.new ≡ walked_to seat.old None 0 seat.new.seen }
     ensures later { Onward seat.old.seen seat.new.seen }
@@ -227,11 +221,11 @@ pub fn read_answer(
     field: NodeField,
 ) -> u64
     requires here { IsOf words.now seat.old }
-    requires at { Steps seat.old kind.ReadAnswer (Load (Node chain node field)) }
+    requires at { Steps seat.old Kind.ReadAnswer (Load (Word.Node chain node field)) }
     ensures found { Found seat.old None result seat.new }
     ensures step { seat.new ≡ walked_to seat.old None result seat.new.seen }
     ensures later { Onward seat.old.seen seat.new.seen }
-    ensures told { seat.old.setting.served ≡ served.List → IsToldAt seat.new (leads_to seat.old result) }
+    ensures told { seat.old.setting.served ≡ Served.List → IsToldAt seat.new (leads_to seat.old result) }
 {
     moves::load(words, seat, Word::Node(chain, node, field))
 }
@@ -241,7 +235,7 @@ pub fn read_answer(
 #[inline(always)]
 pub fn read_passed(words: &Words, seat: &mut PassSeat, node: u64) -> u64
     requires here { IsOf words.now seat.old }
-    requires at { Steps seat.old kind.ReadPassed (Load (Item node item.Passed)) }
+    requires at { Steps seat.old Kind.ReadPassed (Load (Word.Item node ItemField.Passed)) }
     ensures found { Found seat.old None result seat.new }
     ensures step { seat.new ≡ walked_to seat.old None result seat.new.seen }
     ensures later { Onward seat.old.seen seat.new.seen }
@@ -255,11 +249,11 @@ pub fn read_passed(words: &Words, seat: &mut PassSeat, node: u64) -> u64
 #[inline(always)]
 pub fn reset_list_node(words: &Words, seat: &mut PassSeat, node: u64, field: ItemField)
     requires here { IsOf words.now seat.old }
-    requires at { Steps seat.old kind.ResetListNode (Store (Item node field) 0) }
+    requires at { Steps seat.old Kind.ResetListNode (Store (Word.Item node field) 0) }
     ensures walked { Walked seat.old None seat.new }
     ensures step { seat.new ≡ walked_to seat.old None 0 seat.new.seen }
     ensures later { Onward seat.old.seen seat.new.seen }
-    ensures reuse { seat.old.setting.served ≡ served.List → HasReused seat.old node seat.new }
+    ensures reuse { seat.old.setting.served ≡ Served.List → HasReused seat.old node seat.new }
 {
     moves::store(words, seat, Word::Item(node, field), 0);
 }
@@ -270,7 +264,7 @@ pub fn reset_list_node(words: &Words, seat: &mut PassSeat, node: u64, field: Ite
 #[inline(always)]
 pub fn write_item(words: &Words, seat: &mut PassSeat, node: u64, field: ItemField, value: u64)
     requires here { IsOf words.now seat.old }
-    requires at { Steps seat.old kind.WriteItem (Store (Item node field) value) }
+    requires at { Steps seat.old Kind.WriteItem (Store (Word.Item node field) value) }
     ensures walked { Walked seat.old None seat.new }
     ensures step { seat.new ≡ walked_to seat.old None 0 seat.new.seen }
     ensures later { Onward seat.old.seen seat.new.seen }
@@ -284,7 +278,7 @@ pub fn write_item(words: &Words, seat: &mut PassSeat, node: u64, field: ItemFiel
 #[inline(always)]
 pub fn link_last(words: &Words, seat: &mut PassSeat, last: u64, link: u64)
     requires here { IsOf words.now seat.old }
-    requires at { Steps seat.old kind.LinkLast (Store (Item last item.Next) link) }
+    requires at { Steps seat.old Kind.LinkLast (Store (Word.Item last ItemField.Next) link) }
     ensures walked { Walked seat.old None seat.new }
     ensures step { seat.new ≡ walked_to seat.old None 0 seat.new.seen }
     ensures later { Onward seat.old.seen seat.new.seen }
@@ -297,7 +291,7 @@ pub fn link_last(words: &Words, seat: &mut PassSeat, last: u64, link: u64)
 #[inline(always)]
 pub fn read_dummy_next(words: &Words, seat: &mut PassSeat, dummy: u64) -> u64
     requires here { IsOf words.now seat.old }
-    requires at { Steps seat.old kind.ReadDummyNext (Load (Item dummy item.Next)) }
+    requires at { Steps seat.old Kind.ReadDummyNext (Load (Word.Item dummy ItemField.Next)) }
     ensures found { Found seat.old None result seat.new }
     ensures step { seat.new ≡ walked_to seat.old None result seat.new.seen }
     ensures later { Onward seat.old.seen seat.new.seen }
@@ -310,7 +304,7 @@ pub fn read_dummy_next(words: &Words, seat: &mut PassSeat, dummy: u64) -> u64
 #[inline(always)]
 pub fn read_item(words: &Words, seat: &mut PassSeat, node: u64, field: ItemField) -> u64
     requires here { IsOf words.now seat.old }
-    requires at { Steps seat.old kind.ReadItem (Load (Item node field)) }
+    requires at { Steps seat.old Kind.ReadItem (Load (Word.Item node field)) }
     ensures found { Found seat.old None result seat.new }
     ensures step { seat.new ≡ walked_to seat.old None result seat.new.seen }
     ensures later { Onward seat.old.seen seat.new.seen }
@@ -324,7 +318,7 @@ pub fn read_item(words: &Words, seat: &mut PassSeat, node: u64, field: ItemField
 #[inline(always)]
 pub fn add_passed(words: &Words, seat: &mut PassSeat, dummy: u64) -> u64
     requires here { IsOf words.now seat.old }
-    requires at { Steps seat.old kind.AddPassed (Add (Item dummy item.Passed) 1) }
+    requires at { Steps seat.old Kind.AddPassed (Add (Word.Item dummy ItemField.Passed) 1) }
     ensures found { Found seat.old None result seat.new }
     ensures step { seat.new ≡ walked_to seat.old None result seat.new.seen }
     ensures later { Onward seat.old.seen seat.new.seen }

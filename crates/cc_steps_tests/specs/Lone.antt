@@ -1,7 +1,7 @@
 -- The topic of the tests, and a pass of it at some step.
 use Rattle.std.specs.Prelude.{◌≡◌, ℕ, ◌+◌, ◌*◌}
 use Rattle.cc_model.specs.declared.config.Config.{Config}
-use Rattle.cc_runs.specs.declared.setting.Served.TheVariants as served
+use Rattle.cc_runs.specs.declared.setting.Served.{Served}
 use Rattle.cc_runs.specs.declared.place.Place.{Place}
 use Rattle.cc_steps.specs.Topic.{Topic}
 use Rattle.cc_steps.specs.Walk.{Walk, IsOf}
@@ -28,7 +28,7 @@ first_of group = 1 + group * 2
 -- the seat is of this pass, of these words with this configuration, and stands there
 abbrev pub IsIn : Config → Topic → Walk → ℕ → ℕ → ℕ → Place → Type 0
 IsIn config words w pass begun node at =
-    IsOf words w × (w.setting ≡ record { served = served.List; config = config }) × (w.number ≡ pass) × (w.stand ≡ record { begun = begun; node = node; place = at })
+    IsOf words w × (w.setting ≡ record { served = Served.List; config = config }) × (w.number ≡ pass) × (w.stand ≡ record { begun = begun; node = node; place = at })
 
 abbrev pub IsAt : Topic → Walk → ℕ → ℕ → ℕ → Place → Type 0
 IsAt = IsIn small

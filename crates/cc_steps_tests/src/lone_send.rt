@@ -1,8 +1,8 @@
 //! The 28 steps of a send that is alone and accepted, six at most in a function, with what each of them reads.
 ghost use Rattle.std.specs.Prelude.{◌≡◌, ◌∷◌, []};
-ghost use Rattle.cc_runs.specs.declared.place.Place.TheVariants as place;
-ghost use Rattle.cc_runs.specs.declared.place.Kind.TheVariants as kind;
-ghost use Rattle.cc_runs.specs.declared.place.Sending.TheVariants as sending;
+ghost use Rattle.cc_runs.specs.declared.place.Place.{Place};
+ghost use Rattle.cc_runs.specs.declared.place.Kind.{Kind};
+ghost use Rattle.cc_runs.specs.declared.place.Sending.{Sending};
 ghost use Rattle.cc_runs.specs.Codes.{one_word};
 ghost use Rattle.cc_steps_tests.specs.Lone.{IsAt, sender};
 
@@ -21,9 +21,9 @@ const ACCEPTED: u64 = 72_057_594_037_927_936;
 
 /// Steps 1 to 6: the call has its place in the chain, and waits.
 pub fn begin(rt: &impl Abort, words: &Words, seat: &mut PassSeat)
-    requires at { IsAt words.now seat.old sender 0 1 place.Idle }
-    ensures at { IsAt words.now seat.new sender 1 0 place.ReadState }
-    ensures did { seat.new.did ≡ kind.Link ∷ kind.WriteRequest ∷ kind.WriteRequest ∷ kind.Exchange ∷ kind.ResetState ∷ kind.ResetNext ∷ seat.old.did }
+    requires at { IsAt words.now seat.old sender 0 1 Place.Idle }
+    ensures at { IsAt words.now seat.new sender 1 0 Place.ReadState }
+    ensures did { seat.new.did ≡ Kind.Link ∷ Kind.WriteRequest ∷ Kind.WriteRequest ∷ Kind.Exchange ∷ Kind.ResetState ∷ Kind.ResetNext ∷ seat.old.did }
 {
     steps::reset_next(words, seat, Chain::Send, 1, Call::Send(7));
     steps::reset_state(words, seat, Chain::Send, 1);
@@ -35,9 +35,9 @@ pub fn begin(rt: &impl Abort, words: &Words, seat: &mut PassSeat)
 
 /// Steps 7 to 12: it has to serve, and reads its own request.
 pub fn read(rt: &impl Abort, words: &Words, seat: &mut PassSeat)
-    requires at { IsAt words.now seat.old sender 1 0 place.ReadState }
-    ensures at { IsAt words.now seat.new sender 1 0 (place.Sending record { round = record { at = 0; served = 0 }; next = 1 } (sending.ReadCursor record { place = 0; tag = 4294967297; body = one_word 7 })) }
-    ensures did { seat.new.did ≡ kind.ReadObject ∷ kind.ReadObject ∷ kind.ReadRequest ∷ kind.ReadRequest ∷ kind.ReadNext ∷ kind.ReadState ∷ seat.old.did }
+    requires at { IsAt words.now seat.old sender 1 0 Place.ReadState }
+    ensures at { IsAt words.now seat.new sender 1 0 (Place.Sending record { round = record { at = 0; served = 0 }; next = 1 } (Sending.ReadCursor record { place = 0; tag = 4294967297; body = one_word 7 })) }
+    ensures did { seat.new.did ≡ Kind.ReadObject ∷ Kind.ReadObject ∷ Kind.ReadRequest ∷ Kind.ReadRequest ∷ Kind.ReadNext ∷ Kind.ReadState ∷ seat.old.did }
 {
     assert!(rt; steps::read_state(words, seat, Chain::Send, 0) == 0);
     assert!(rt; steps::read_next(words, seat, Chain::Send, 0) == 2);
@@ -49,9 +49,9 @@ pub fn read(rt: &impl Abort, words: &Words, seat: &mut PassSeat)
 
 /// Steps 13 to 18: node 1 is free, and is prepared.
 pub fn prepare(rt: &impl Abort, words: &Words, seat: &mut PassSeat)
-    requires at { IsAt words.now seat.old sender 1 0 (place.Sending record { round = record { at = 0; served = 0 }; next = 1 } (sending.ReadCursor record { place = 0; tag = 4294967297; body = one_word 7 })) }
-    ensures at { IsAt words.now seat.new sender 1 0 (place.Sending record { round = record { at = 0; served = 0 }; next = 1 } (sending.ReadLast 0 1)) }
-    ensures did { seat.new.did ≡ kind.WriteItem ∷ kind.WriteItem ∷ kind.ResetListNode ∷ kind.ResetListNode ∷ kind.ReadPassed ∷ kind.ReadObject ∷ seat.old.did }
+    requires at { IsAt words.now seat.old sender 1 0 (Place.Sending record { round = record { at = 0; served = 0 }; next = 1 } (Sending.ReadCursor record { place = 0; tag = 4294967297; body = one_word 7 })) }
+    ensures at { IsAt words.now seat.new sender 1 0 (Place.Sending record { round = record { at = 0; served = 0 }; next = 1 } (Sending.ReadLast 0 1)) }
+    ensures did { seat.new.did ≡ Kind.WriteItem ∷ Kind.WriteItem ∷ Kind.ResetListNode ∷ Kind.ResetListNode ∷ Kind.ReadPassed ∷ Kind.ReadObject ∷ seat.old.did }
 {
     assert!(rt; steps::read_object(words, seat, Object::Cursor) == 1);
     assert!(rt; steps::read_passed(words, seat, 1) == 1);
@@ -63,9 +63,9 @@ pub fn prepare(rt: &impl Abort, words: &Words, seat: &mut PassSeat)
 
 /// Steps 19 to 24: the item is linked, which accepts the send, and the answer is written.
 pub fn link(rt: &impl Abort, words: &Words, seat: &mut PassSeat)
-    requires at { IsAt words.now seat.old sender 1 0 (place.Sending record { round = record { at = 0; served = 0 }; next = 1 } (sending.ReadLast 0 1)) }
-    ensures at { IsAt words.now seat.new sender 1 0 (place.MarkDone record { round = record { at = 0; served = 0 }; next = 1 }) }
-    ensures did { seat.new.did ≡ kind.WriteAnswer ∷ kind.WriteObject ∷ kind.WriteObject ∷ kind.WriteObject ∷ kind.LinkLast ∷ kind.ReadObject ∷ seat.old.did }
+    requires at { IsAt words.now seat.old sender 1 0 (Place.Sending record { round = record { at = 0; served = 0 }; next = 1 } (Sending.ReadLast 0 1)) }
+    ensures at { IsAt words.now seat.new sender 1 0 (Place.MarkDone record { round = record { at = 0; served = 0 }; next = 1 }) }
+    ensures did { seat.new.did ≡ Kind.WriteAnswer ∷ Kind.WriteObject ∷ Kind.WriteObject ∷ Kind.WriteObject ∷ Kind.LinkLast ∷ Kind.ReadObject ∷ seat.old.did }
 {
     assert!(rt; steps::read_object(words, seat, Object::Last) == 1);
     steps::link_last(words, seat, 0, 2);
@@ -77,9 +77,9 @@ pub fn link(rt: &impl Abort, words: &Words, seat: &mut PassSeat)
 
 /// Steps 25 to 28: nobody else waits, so it hands over and reads its answer.
 pub fn end(rt: &impl Abort, words: &Words, seat: &mut PassSeat)
-    requires at { IsAt words.now seat.old sender 1 0 (place.MarkDone record { round = record { at = 0; served = 0 }; next = 1 }) }
-    ensures at { IsAt words.now seat.new sender 1 0 place.Idle }
-    ensures did { seat.new.did ≡ kind.ReadAnswer ∷ kind.HandOver ∷ kind.ReadNext ∷ kind.MarkDone ∷ seat.old.did }
+    requires at { IsAt words.now seat.old sender 1 0 (Place.MarkDone record { round = record { at = 0; served = 0 }; next = 1 }) }
+    ensures at { IsAt words.now seat.new sender 1 0 Place.Idle }
+    ensures did { seat.new.did ≡ Kind.ReadAnswer ∷ Kind.HandOver ∷ Kind.ReadNext ∷ Kind.MarkDone ∷ seat.old.did }
 {
     steps::mark_done(words, seat, Chain::Send, 0);
     assert!(rt; steps::read_next(words, seat, Chain::Send, 1) == 0);

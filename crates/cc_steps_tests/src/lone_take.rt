@@ -1,8 +1,8 @@
 //! The 23 steps of a take that is alone and gets the first item, six at most in a function, with what each of them reads.
 ghost use Rattle.std.specs.Prelude.{◌≡◌, ◌∷◌, []};
-ghost use Rattle.cc_runs.specs.declared.place.Place.TheVariants as place;
-ghost use Rattle.cc_runs.specs.declared.place.Kind.TheVariants as kind;
-ghost use Rattle.cc_runs.specs.declared.place.Taking.TheVariants as taking;
+ghost use Rattle.cc_runs.specs.declared.place.Place.{Place};
+ghost use Rattle.cc_runs.specs.declared.place.Kind.{Kind};
+ghost use Rattle.cc_runs.specs.declared.place.Taking.{Taking};
 ghost use Rattle.cc_runs.specs.Codes.{one_word};
 ghost use Rattle.cc_steps_tests.specs.Lone.{IsAt, receiver};
 
@@ -23,9 +23,9 @@ const GROUP: Chain = Chain::Take(0);
 
 /// Steps 1 to 6: the call has its place in the chain, has to serve, and reads that its own node is linked.
 pub fn begin(rt: &impl Abort, words: &Words, seat: &mut PassSeat)
-    requires at { IsAt words.now seat.old receiver 0 1 place.Idle }
-    ensures at { IsAt words.now seat.new receiver 0 0 (place.Taking record { round = record { at = 0; served = 0 }; next = 1 } taking.ReadHead) }
-    ensures did { seat.new.did ≡ kind.ReadNext ∷ kind.ReadState ∷ kind.Link ∷ kind.Exchange ∷ kind.ResetState ∷ kind.ResetNext ∷ seat.old.did }
+    requires at { IsAt words.now seat.old receiver 0 1 Place.Idle }
+    ensures at { IsAt words.now seat.new receiver 0 0 (Place.Taking record { round = record { at = 0; served = 0 }; next = 1 } Taking.ReadHead) }
+    ensures did { seat.new.did ≡ Kind.ReadNext ∷ Kind.ReadState ∷ Kind.Link ∷ Kind.Exchange ∷ Kind.ResetState ∷ Kind.ResetNext ∷ seat.old.did }
 {
     steps::reset_next(words, seat, GROUP, 1, Call::Take);
     steps::reset_state(words, seat, GROUP, 1);
@@ -37,9 +37,9 @@ pub fn begin(rt: &impl Abort, words: &Words, seat: &mut PassSeat)
 
 /// Steps 7 to 12: the node behind the dummy has the item, and is the dummy from now on.
 pub fn take(rt: &impl Abort, words: &Words, seat: &mut PassSeat)
-    requires at { IsAt words.now seat.old receiver 0 0 (place.Taking record { round = record { at = 0; served = 0 }; next = 1 } taking.ReadHead) }
-    ensures at { IsAt words.now seat.new receiver 0 0 (place.Taking record { round = record { at = 0; served = 0 }; next = 1 } (taking.WriteTaken 0 record { place = 0; tag = 4294967297; body = one_word 7 })) }
-    ensures did { seat.new.did ≡ kind.WriteObject ∷ kind.ReadItem ∷ kind.ReadItem ∷ kind.ReadDummyNext ∷ kind.ReadObject ∷ kind.ReadObject ∷ seat.old.did }
+    requires at { IsAt words.now seat.old receiver 0 0 (Place.Taking record { round = record { at = 0; served = 0 }; next = 1 } Taking.ReadHead) }
+    ensures at { IsAt words.now seat.new receiver 0 0 (Place.Taking record { round = record { at = 0; served = 0 }; next = 1 } (Taking.WriteTaken 0 record { place = 0; tag = 4294967297; body = one_word 7 })) }
+    ensures did { seat.new.did ≡ Kind.WriteObject ∷ Kind.ReadItem ∷ Kind.ReadItem ∷ Kind.ReadDummyNext ∷ Kind.ReadObject ∷ Kind.ReadObject ∷ seat.old.did }
 {
     assert!(rt; steps::read_object(words, seat, Object::Head(0)) == 1);
     assert!(rt; steps::read_object(words, seat, Object::Taken(0)) == 0);
@@ -51,9 +51,9 @@ pub fn take(rt: &impl Abort, words: &Words, seat: &mut PassSeat)
 
 /// Steps 13 to 18: the old dummy is passed, which decides the take, and the answer is written.
 pub fn answer(rt: &impl Abort, words: &Words, seat: &mut PassSeat)
-    requires at { IsAt words.now seat.old receiver 0 0 (place.Taking record { round = record { at = 0; served = 0 }; next = 1 } (taking.WriteTaken 0 record { place = 0; tag = 4294967297; body = one_word 7 })) }
-    ensures at { IsAt words.now seat.new receiver 0 0 (place.ReadNext record { at = 1; served = 1 }) }
-    ensures did { seat.new.did ≡ kind.MarkDone ∷ kind.WriteAnswer ∷ kind.WriteAnswer ∷ kind.WriteAnswer ∷ kind.AddPassed ∷ kind.WriteObject ∷ seat.old.did }
+    requires at { IsAt words.now seat.old receiver 0 0 (Place.Taking record { round = record { at = 0; served = 0 }; next = 1 } (Taking.WriteTaken 0 record { place = 0; tag = 4294967297; body = one_word 7 })) }
+    ensures at { IsAt words.now seat.new receiver 0 0 (Place.ReadNext record { at = 1; served = 1 }) }
+    ensures did { seat.new.did ≡ Kind.MarkDone ∷ Kind.WriteAnswer ∷ Kind.WriteAnswer ∷ Kind.WriteAnswer ∷ Kind.AddPassed ∷ Kind.WriteObject ∷ seat.old.did }
 {
     steps::write_object(words, seat, Object::Taken(0), 1);
     assert!(rt; steps::add_passed(words, seat, 0) == 0);
@@ -65,9 +65,9 @@ pub fn answer(rt: &impl Abort, words: &Words, seat: &mut PassSeat)
 
 /// Steps 19 to 23: nobody else waits, so it hands over and reads its answer.
 pub fn end(rt: &impl Abort, words: &Words, seat: &mut PassSeat)
-    requires at { IsAt words.now seat.old receiver 0 0 (place.ReadNext record { at = 1; served = 1 }) }
-    ensures at { IsAt words.now seat.new receiver 0 0 place.Idle }
-    ensures did { seat.new.did ≡ kind.ReadAnswer ∷ kind.ReadAnswer ∷ kind.ReadAnswer ∷ kind.HandOver ∷ kind.ReadNext ∷ seat.old.did }
+    requires at { IsAt words.now seat.old receiver 0 0 (Place.ReadNext record { at = 1; served = 1 }) }
+    ensures at { IsAt words.now seat.new receiver 0 0 Place.Idle }
+    ensures did { seat.new.did ≡ Kind.ReadAnswer ∷ Kind.ReadAnswer ∷ Kind.ReadAnswer ∷ Kind.HandOver ∷ Kind.ReadNext ∷ seat.old.did }
 {
     assert!(rt; steps::read_next(words, seat, GROUP, 1) == 0);
     steps::hand_over(words, seat, GROUP, 1);

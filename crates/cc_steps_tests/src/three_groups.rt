@@ -1,9 +1,9 @@
 //! What the words of three groups hold at their opening, as each pass finds them in its first steps.
 ghost use Rattle.std.specs.Prelude.{◌≡◌, ◌+◌, ◌<◌};
-ghost use Rattle.cc_runs.specs.declared.place.Place.TheVariants as place;
-ghost use Rattle.cc_runs.specs.declared.place.Sending.TheVariants as sending;
-ghost use Rattle.cc_runs.specs.declared.place.Taking.TheVariants as taking;
-ghost use Rattle.cc_runs.specs.declared.setting.Served.TheVariants as served;
+ghost use Rattle.cc_runs.specs.declared.place.Place.{Place};
+ghost use Rattle.cc_runs.specs.declared.place.Sending.{Sending};
+ghost use Rattle.cc_runs.specs.declared.place.Taking.{Taking};
+ghost use Rattle.cc_runs.specs.declared.setting.Served.{Served};
 ghost use Rattle.cc_steps.specs.Walk.{fresh, fresh_from};
 ghost use Rattle.cc_runs.specs.Codes.{one_word};
 ghost use Rattle.cc_steps_tests.specs.Lone.{IsIn, triple, sender, first_of};
@@ -33,8 +33,8 @@ const TRIPLE: Config = Config {
 /// A take up to the read of its group's `head`: the tail had node 0, whose state is 0.
 fn enter_group(rt: &impl Abort, words: &Words, seat: &mut PassSeat, group: u32)
     requires group { group < 3 }
-    requires at { IsIn triple words.now seat.old (first_of group) 0 1 place.Idle }
-    ensures at { IsIn triple words.now seat.new (first_of group) 0 0 (place.Taking record { round = record { at = 0; served = 0 }; next = 1 } taking.ReadHead) }
+    requires at { IsIn triple words.now seat.old (first_of group) 0 1 Place.Idle }
+    ensures at { IsIn triple words.now seat.new (first_of group) 0 0 (Place.Taking record { round = record { at = 0; served = 0 }; next = 1 } Taking.ReadHead) }
 {
     let chain = Chain::Take(group);
     steps::reset_next(words, seat, chain, 1, Call::Take);
@@ -48,7 +48,7 @@ fn enter_group(rt: &impl Abort, words: &Words, seat: &mut PassSeat, group: u32)
 /// The group has taken nothing, and its dummy is node 0, behind which there is no other.
 fn find_nothing(rt: &impl Abort, words: &Words, seat: &mut PassSeat, group: u32)
     requires group { group < 3 }
-    requires at { IsIn triple words.now seat.old (first_of group) 0 0 (place.Taking record { round = record { at = 0; served = 0 }; next = 1 } taking.ReadHead) }
+    requires at { IsIn triple words.now seat.old (first_of group) 0 0 (Place.Taking record { round = record { at = 0; served = 0 }; next = 1 } Taking.ReadHead) }
 {
     assert!(rt; steps::read_object(words, seat, Object::Head(group)) == 1);
     assert!(rt; steps::read_object(words, seat, Object::Taken(group)) == 0);
@@ -57,8 +57,8 @@ fn find_nothing(rt: &impl Abort, words: &Words, seat: &mut PassSeat, group: u32)
 
 /// A send up to its combiner's reads: the tail had node 0, whose state is 0.
 fn enter_sends(rt: &impl Abort, words: &Words, seat: &mut PassSeat)
-    requires at { IsIn triple words.now seat.old sender 0 1 place.Idle }
-    ensures at { IsIn triple words.now seat.new sender 1 0 place.ReadState }
+    requires at { IsIn triple words.now seat.old sender 0 1 Place.Idle }
+    ensures at { IsIn triple words.now seat.new sender 1 0 Place.ReadState }
 {
     steps::reset_next(words, seat, Chain::Send, 1, Call::Send(7));
     steps::reset_state(words, seat, Chain::Send, 1);
@@ -70,8 +70,8 @@ fn enter_sends(rt: &impl Abort, words: &Words, seat: &mut PassSeat)
 
 /// Nothing was accepted, and the topic is open.
 fn read_objects(rt: &impl Abort, words: &Words, seat: &mut PassSeat)
-    requires at { IsIn triple words.now seat.old sender 1 0 place.ReadState }
-    ensures at { IsIn triple words.now seat.new sender 1 0 (place.Sending record { round = record { at = 0; served = 0 }; next = 1 } (sending.ReadCursor record { place = 0; tag = 4294967297; body = one_word 7 })) }
+    requires at { IsIn triple words.now seat.old sender 1 0 Place.ReadState }
+    ensures at { IsIn triple words.now seat.new sender 1 0 (Place.Sending record { round = record { at = 0; served = 0 }; next = 1 } (Sending.ReadCursor record { place = 0; tag = 4294967297; body = one_word 7 })) }
 {
     assert!(rt; steps::read_state(words, seat, Chain::Send, 0) == 0);
     assert!(rt; steps::read_next(words, seat, Chain::Send, 0) == 2);
@@ -83,7 +83,7 @@ fn read_objects(rt: &impl Abort, words: &Words, seat: &mut PassSeat)
 
 /// Node 1, the only one beside the dummy, is free: it counts as passed by all three groups. The dummy is the last one.
 fn prepare(rt: &impl Abort, words: &Words, seat: &mut PassSeat)
-    requires at { IsIn triple words.now seat.old sender 1 0 (place.Sending record { round = record { at = 0; served = 0 }; next = 1 } (sending.ReadCursor record { place = 0; tag = 4294967297; body = one_word 7 })) }
+    requires at { IsIn triple words.now seat.old sender 1 0 (Place.Sending record { round = record { at = 0; served = 0 }; next = 1 } (Sending.ReadCursor record { place = 0; tag = 4294967297; body = one_word 7 })) }
 {
     assert!(rt; steps::read_object(words, seat, Object::Cursor) == 1);
     assert!(rt; steps::read_passed(words, seat, 1) == 3);
@@ -107,7 +107,7 @@ fn next_seat(rt: &impl Abort, words: &Words, number: u64, seats: &mut Vec<PassSe
 
 /// Takes the seats of a group out of the list, and reads its words by the first of them.
 fn read_group(rt: &impl Abort, words: &Words, group: u32, seats: &mut Vec<PassSeat>)
-    requires setting { words.now.setting ≡ record { served = served.List; config = triple } }
+    requires setting { words.now.setting ≡ record { served = Served.List; config = triple } }
     requires group { group < 3 }
     requires seats { fresh_from words.now (first_of group) seats.old.items }
     ensures seats { fresh_from words.now (first_of (group + 1)) seats.new.items }

@@ -1,20 +1,7 @@
 -- A step of a call on its chain is a step of the abstract chain.
 use Rattle.std.proofs.Common.{◌≡◌, ◌≢◌, ℕ, suc, ◌+◌, ◌-◌, ◌<◌, ◌≤◌, Bool, true, false, ◌==◌, cond, refl, ap, sym, ◌∙◌, arith, inl, inr}
 use Rattle.std.proofs.lemmas.Bool.{cases_eq, eqb-true, eqb-false}
-use Rattle.cc_model.specs.declared.call.Entry.{Entry}
-use Rattle.cc_model.specs.declared.call.Answer.{Answer}
-use Rattle.cc_model.specs.declared.call.Answer.TheVariants as answer
-use Rattle.cc_model.specs.declared.call.TakeAnswer.TheVariants as take
-use Rattle.cc_runs.specs.declared.setting.Setting.{Setting}
-use Rattle.cc_runs.specs.declared.word.Chain.{Chain}
-use Rattle.cc_runs.specs.declared.word.NodeField.{NodeField}
-use Rattle.cc_runs.specs.declared.word.NodeField.TheVariants as node
-use Rattle.cc_runs.specs.declared.word.Word.TheVariants.{Tail, Node}
-use Rattle.cc_runs.specs.declared.place.Round.{Round}
-use Rattle.cc_runs.specs.declared.place.Job.{Job}
-use Rattle.cc_runs.specs.declared.place.Stand.{Stand}
-use Rattle.cc_runs.specs.declared.place.Place.{Place}
-use Rattle.cc_runs.specs.declared.place.Place.TheVariants as place
+use Rattle.cc_runs.specs.Names.{Entry, Answer, TakeAnswer, Setting, Chain, NodeField, Word, Round, Job, Stand, Place}
 use Rattle.cc_runs.specs.Codes.{ret_of}
 use Rattle.cc_runs.specs.State.{State, word_of}
 use Rattle.cc_runs.specs.Lines.{operation, after_state, after_next}
@@ -58,14 +45,14 @@ module _ (c : Setting) (x : Chain) (s : State) (p begun own : ℕ) where
 
   -- the words of node i before and afterwards
   abbrev pub before_at : ℕ → NodeField → ℕ
-  before_at i f = s.mem (Node x i f)
+  before_at i f = s.mem (Word.Node x i f)
 
   abbrev pub words_at : Place → ℕ → NodeField → ℕ
-  words_at at i f = (after at).mem (Node x i f)
+  words_at at i f = (after at).mem (Word.Node x i f)
 
   -- a step that the chain doesn't see
   pub stays : (n : ℕ) (at : Place) → s.stand (pass_on c x p) ≡ standing at → post_at x (advanced c x (standing at) (found at)) ≡ post_of x own at →
-      (after at).mem (Tail x) ≡ s.mem (Tail x) → ((i : ℕ) (f : NodeField) → (after at).mem (Node x i f) ≡ s.mem (Node x i f)) → Stays n (view c x s) (view c x (after at))
+      (after at).mem (Word.Tail x) ≡ s.mem (Word.Tail x) → ((i : ℕ) (f : NodeField) → (after at).mem (Word.Node x i f) ≡ s.mem (Word.Node x i f)) → Stays n (view c x s) (view c x (after at))
   stays n at e same tail words =
       let own_post : post_at x ((after at).stand (pass_on c x p)) ≡ post_at x (s.stand (pass_on c x p)) = is_at at ∙ same ∙ sym (was_at at e) in
       record {
@@ -77,76 +64,76 @@ module _ (c : Setting) (x : Chain) (s : State) (p begun own : ℕ) where
         ];
       }
 
-  pub reset_next : (call : Entry) → s.stand (pass_on c x p) ≡ standing (place.ResetNext call) → Resets (view c x s) (view c x (after (place.ResetNext call))) p
+  pub reset_next : (call : Entry) → s.stand (pass_on c x p) ≡ standing (Place.ResetNext call) → Resets (view c x s) (view c x (after (Place.ResetNext call))) p
   reset_next call e =
-      let was = was_at (place.ResetNext call) e in
-      let is : post_at x ((after (place.ResetNext call)).stand (pass_on c x p)) ≡ post_of x own (place.ResetState call) = is_at (place.ResetNext call) in
-      let cell : (after (place.ResetNext call)).mem (Node x own node.Next) ≡ 0 = put_here s.mem (Node x own node.Next) 0 in
-      let cells : (i : ℕ) → i ≢ own → cell_of x (words_at (place.ResetNext call) i) ≡ cell_of x (before_at i) = λ i ne. cell_apart s.mem x own i node.Next 0 ne in
-      grind (arith, others (place.ResetNext call))
+      let was = was_at (Place.ResetNext call) e in
+      let is : post_at x ((after (Place.ResetNext call)).stand (pass_on c x p)) ≡ post_of x own (Place.ResetState call) = is_at (Place.ResetNext call) in
+      let cell : (after (Place.ResetNext call)).mem (Word.Node x own NodeField.Next) ≡ 0 = put_here s.mem (Word.Node x own NodeField.Next) 0 in
+      let cells : (i : ℕ) → i ≢ own → cell_of x (words_at (Place.ResetNext call) i) ≡ cell_of x (before_at i) = λ i ne. cell_apart s.mem x own i NodeField.Next 0 ne in
+      grind (arith, others (Place.ResetNext call))
 
-  pub reset_state : (call : Entry) → s.stand (pass_on c x p) ≡ standing (place.ResetState call) → s.mem (Node x own node.Next) ≡ 0 → Resets (view c x s) (view c x (after (place.ResetState call))) p
+  pub reset_state : (call : Entry) → s.stand (pass_on c x p) ≡ standing (Place.ResetState call) → s.mem (Word.Node x own NodeField.Next) ≡ 0 → Resets (view c x s) (view c x (after (Place.ResetState call))) p
   reset_state call e clear =
-      let was = was_at (place.ResetState call) e in
-      let is : post_at x ((after (place.ResetState call)).stand (pass_on c x p)) ≡ post_of x own (place.Exchange call) = is_at (place.ResetState call) in
-      let cell : (after (place.ResetState call)).mem (Node x own node.State) ≡ 1 = put_here s.mem (Node x own node.State) 1 in
-      let cells : (i : ℕ) → i ≢ own → cell_of x (words_at (place.ResetState call) i) ≡ cell_of x (before_at i) = λ i ne. cell_apart s.mem x own i node.State 1 ne in
-      grind (arith, others (place.ResetState call))
+      let was = was_at (Place.ResetState call) e in
+      let is : post_at x ((after (Place.ResetState call)).stand (pass_on c x p)) ≡ post_of x own (Place.Exchange call) = is_at (Place.ResetState call) in
+      let cell : (after (Place.ResetState call)).mem (Word.Node x own NodeField.State) ≡ 1 = put_here s.mem (Word.Node x own NodeField.State) 1 in
+      let cells : (i : ℕ) → i ≢ own → cell_of x (words_at (Place.ResetState call) i) ≡ cell_of x (before_at i) = λ i ne. cell_apart s.mem x own i NodeField.State 1 ne in
+      grind (arith, others (Place.ResetState call))
 
-  pub exchange : (call : Entry) → s.stand (pass_on c x p) ≡ standing (place.Exchange call) → 0 < s.mem (Tail x) → Exchanges (view c x s) (view c x (after (place.Exchange call))) p
+  pub exchange : (call : Entry) → s.stand (pass_on c x p) ≡ standing (Place.Exchange call) → 0 < s.mem (Word.Tail x) → Exchanges (view c x s) (view c x (after (Place.Exchange call))) p
   exchange call e some =
-      let was = was_at (place.Exchange call) e in
-      let is : post_at x ((after (place.Exchange call)).stand (pass_on c x p)) ≡ entering (s.mem (Tail x) - 1) own (asked_words x call) 0 =
-      is_at (place.Exchange call) ∙ exchanged_post x (s.mem (Tail x) - 1) own call in
-      let tail : (after (place.Exchange call)).mem (Tail x) ≡ own + 1 = put_here s.mem (Tail x) (own + 1) in
-      grind (arith, others (place.Exchange call))
+      let was = was_at (Place.Exchange call) e in
+      let is : post_at x ((after (Place.Exchange call)).stand (pass_on c x p)) ≡ entering (s.mem (Word.Tail x) - 1) own (asked_words x call) 0 =
+      is_at (Place.Exchange call) ∙ exchanged_post x (s.mem (Word.Tail x) - 1) own call in
+      let tail : (after (Place.Exchange call)).mem (Word.Tail x) ≡ own + 1 = put_here s.mem (Word.Tail x) (own + 1) in
+      grind (arith, others (Place.Exchange call))
 
-  pub asks : (call : Entry) → (j : ℕ) → asked_words x call j ≡ (post_at x ((after (place.Exchange call)).stand (pass_on c x p))).asks j
-  asks call j = sym (ap (λ (z : Post). z.asks j) (is_at (place.Exchange call) ∙ exchanged_post x (s.mem (Tail x) - 1) own call))
+  pub asks : (call : Entry) → (j : ℕ) → asked_words x call j ≡ (post_at x ((after (Place.Exchange call)).stand (pass_on c x p))).asks j
+  asks call j = sym (ap (λ (z : Post). z.asks j) (is_at (Place.Exchange call) ∙ exchanged_post x (s.mem (Word.Tail x) - 1) own call))
 
-  pub link : (long put : ℕ) → long ≤ all_wrote x → s.stand (pass_on c x p) ≡ standing (place.Link put) → Links long (view c x s) (view c x (after (place.Link put))) p
+  pub link : (long put : ℕ) → long ≤ all_wrote x → s.stand (pass_on c x p) ≡ standing (Place.Link put) → Links long (view c x s) (view c x (after (Place.Link put))) p
   link long put most e =
-      let was = was_at (place.Link put) e in
-      let is : post_at x ((after (place.Link put)).stand (pass_on c x p)) ≡ post_of x own place.ReadState = is_at (place.Link put) in
-      let cell : (after (place.Link put)).mem (Node x own node.Next) ≡ put + 1 = put_here s.mem (Node x own node.Next) (put + 1) in
-      let words : (j : ℕ) → request_words x (words_at (place.Link put) own) j ≡ request_words x (before_at own) j = λ j. request_same x _ _ j refl (λ i. refl) in
-      let cells : (i : ℕ) → i ≢ own → cell_of x (words_at (place.Link put) i) ≡ cell_of x (before_at i) = λ i ne. cell_apart s.mem x own i node.Next (put + 1) ne in
-      grind (arith, others (place.Link put))
+      let was = was_at (Place.Link put) e in
+      let is : post_at x ((after (Place.Link put)).stand (pass_on c x p)) ≡ post_of x own Place.ReadState = is_at (Place.Link put) in
+      let cell : (after (Place.Link put)).mem (Word.Node x own NodeField.Next) ≡ put + 1 = put_here s.mem (Word.Node x own NodeField.Next) (put + 1) in
+      let words : (j : ℕ) → request_words x (words_at (Place.Link put) own) j ≡ request_words x (before_at own) j = λ j. request_same x _ _ j refl (λ i. refl) in
+      let cells : (i : ℕ) → i ≢ own → cell_of x (words_at (Place.Link put) i) ≡ cell_of x (before_at i) = λ i ne. cell_apart s.mem x own i NodeField.Next (put + 1) ne in
+      grind (arith, others (Place.Link put))
 
-  state_at : (w : ℕ) → s.mem (Node x own node.State) ≡ w → post_at x ((after place.ReadState).stand (pass_on c x p)) ≡ post_of x own (after_state own w)
-  state_at w saw = is_at place.ReadState ∙ ap (λ (z : ℕ). post_of x own (after_state own z)) saw
+  state_at : (w : ℕ) → s.mem (Word.Node x own NodeField.State) ≡ w → post_at x ((after Place.ReadState).stand (pass_on c x p)) ≡ post_of x own (after_state own w)
+  state_at w saw = is_at Place.ReadState ∙ ap (λ (z : ℕ). post_of x own (after_state own z)) saw
 
-  pub collect : (w : ℕ) → s.stand (pass_on c x p) ≡ standing place.ReadState → s.mem (Node x own node.State) ≡ suc (suc w) → Collects (view c x s) (view c x (after place.ReadState)) p
+  pub collect : (w : ℕ) → s.stand (pass_on c x p) ≡ standing Place.ReadState → s.mem (Word.Node x own NodeField.State) ≡ suc (suc w) → Collects (view c x s) (view c x (after Place.ReadState)) p
   collect w e saw =
-      let was = was_at place.ReadState e in
-      let is : post_at x ((after place.ReadState).stand (pass_on c x p)) ≡ post_of x own place.ReadAnswer = state_at (suc (suc w)) saw in
-      grind (arith, others place.ReadState)
+      let was = was_at Place.ReadState e in
+      let is : post_at x ((after Place.ReadState).stand (pass_on c x p)) ≡ post_of x own Place.ReadAnswer = state_at (suc (suc w)) saw in
+      grind (arith, others Place.ReadState)
 
-  pub start : s.stand (pass_on c x p) ≡ standing place.ReadState → s.mem (Node x own node.State) ≡ 0 → Starts (view c x s) (view c x (after place.ReadState)) p
+  pub start : s.stand (pass_on c x p) ≡ standing Place.ReadState → s.mem (Word.Node x own NodeField.State) ≡ 0 → Starts (view c x s) (view c x (after Place.ReadState)) p
   start e saw =
-      let was = was_at place.ReadState e in
-      let is : post_at x ((after place.ReadState).stand (pass_on c x p)) ≡ resting own own 0 0 = state_at 0 saw in
-      grind (arith, others place.ReadState)
+      let was = was_at Place.ReadState e in
+      let is : post_at x ((after Place.ReadState).stand (pass_on c x p)) ≡ resting own own 0 0 = state_at 0 saw in
+      grind (arith, others Place.ReadState)
 
-  next_at : (round : Round) (w : ℕ) → s.mem (Node x round.at node.Next) ≡ w → post_at x ((after (place.ReadNext round)).stand (pass_on c x p)) ≡ post_of x own (after_next c.served x round w)
-  next_at round w saw = is_at (place.ReadNext round) ∙ ap (λ (z : ℕ). post_of x own (after_next c.served x round z)) saw
+  next_at : (round : Round) (w : ℕ) → s.mem (Word.Node x round.at NodeField.Next) ≡ w → post_at x ((after (Place.ReadNext round)).stand (pass_on c x p)) ≡ post_of x own (after_next c.served x round w)
+  next_at round w saw = is_at (Place.ReadNext round) ∙ ap (λ (z : ℕ). post_of x own (after_next c.served x round z)) saw
 
-  pub stop : (round : Round) → s.stand (pass_on c x p) ≡ standing (place.ReadNext round) → s.mem (Node x round.at node.Next) ≡ 0 → Stops (view c x s) (view c x (after (place.ReadNext round))) p
+  pub stop : (round : Round) → s.stand (pass_on c x p) ≡ standing (Place.ReadNext round) → s.mem (Word.Node x round.at NodeField.Next) ≡ 0 → Stops (view c x s) (view c x (after (Place.ReadNext round))) p
   stop round e saw =
-      let was = was_at (place.ReadNext round) e in
-      let is : post_at x ((after (place.ReadNext round)).stand (pass_on c x p)) ≡ resting own round.at 0 3 = next_at round 0 saw in
-      grind (arith, others (place.ReadNext round))
+      let was = was_at (Place.ReadNext round) e in
+      let is : post_at x ((after (Place.ReadNext round)).stand (pass_on c x p)) ≡ resting own round.at 0 3 = next_at round 0 saw in
+      grind (arith, others (Place.ReadNext round))
 
-  pub pick : (round : Round) (w : ℕ) → s.stand (pass_on c x p) ≡ standing (place.ReadNext round) → s.mem (Node x round.at node.Next) ≡ suc w → Picks (view c x s) (view c x (after (place.ReadNext round))) p
+  pub pick : (round : Round) (w : ℕ) → s.stand (pass_on c x p) ≡ standing (Place.ReadNext round) → s.mem (Word.Node x round.at NodeField.Next) ≡ suc w → Picks (view c x s) (view c x (after (Place.ReadNext round))) p
   pick round w e saw =
-      let was = was_at (place.ReadNext round) e in
-      let is : post_at x ((after (place.ReadNext round)).stand (pass_on c x p)) ≡ serving own record { round = round; next = w } 1 0 =
+      let was = was_at (Place.ReadNext round) e in
+      let is : post_at x ((after (Place.ReadNext round)).stand (pass_on c x p)) ≡ serving own record { round = round; next = w } 1 0 =
       next_at round (suc w) saw ∙ serves_post c.served x own record { round = round; next = w } in
-      grind (arith, others (place.ReadNext round))
+      grind (arith, others (Place.ReadNext round))
 
   -- a step of a service that decides the answer
   pub decide : (at : Place) (job : Job) → s.stand (pass_on c x p) ≡ standing at → post_of x own at ≡ serving own job 1 0 → post_at x (advanced c x (standing at) (found at)) ≡ serving own job 2 0 →
-      (after at).mem (Tail x) ≡ s.mem (Tail x) → ((i : ℕ) (f : NodeField) → (after at).mem (Node x i f) ≡ s.mem (Node x i f)) → Decides (view c x s) (view c x (after at)) p
+      (after at).mem (Word.Tail x) ≡ s.mem (Word.Tail x) → ((i : ℕ) (f : NodeField) → (after at).mem (Word.Node x i f) ≡ s.mem (Word.Node x i f)) → Decides (view c x s) (view c x (after at)) p
   decide at job e first second tail words =
       let was : post_at x (s.stand (pass_on c x p)) ≡ serving own job 1 0 = was_at at e ∙ first in
       let is : post_at x ((after at).stand (pass_on c x p)) ≡ serving own job 2 0 = is_at at ∙ second in
@@ -154,68 +141,68 @@ module _ (c : Setting) (x : Chain) (s : State) (p begun own : ℕ) where
       grind (arith, others at)
 
   told_in : (told : Answer) (j : ℕ) → j < told_next told → j < answer_long told → j ≤ 0
-  told_in (answer.Take (take.Got item)) j a b = omega arith
-  told_in (answer.Take take.Empty) j a b = omega arith
-  told_in (answer.Take (take.Ended total)) j a b = omega arith
-  told_in (answer.Send told) j a b = omega arith
-  told_in (answer.Close told) j a b = omega arith
+  told_in (Answer.Take (TakeAnswer.Got item)) j a b = omega arith
+  told_in (Answer.Take TakeAnswer.Empty) j a b = omega arith
+  told_in (Answer.Take (TakeAnswer.Ended total)) j a b = omega arith
+  told_in (Answer.Send told) j a b = omega arith
+  told_in (Answer.Close told) j a b = omega arith
 
-  pub write_answer : (job : Job) (told : Answer) → s.stand (pass_on c x p) ≡ standing (place.WriteAnswer job told) →
-      Tells (answer_long told) (view c x s) (view c x (after (place.WriteAnswer job told))) p (ret_of c.served told)
+  pub write_answer : (job : Job) (told : Answer) → s.stand (pass_on c x p) ≡ standing (Place.WriteAnswer job told) →
+      Tells (answer_long told) (view c x s) (view c x (after (Place.WriteAnswer job told))) p (ret_of c.served told)
   write_answer job told e =
-      let was = was_at (place.WriteAnswer job told) e in
-      let is : post_at x ((after (place.WriteAnswer job told)).stand (pass_on c x p)) ≡ serving own job 2 (told_next told) = is_at (place.WriteAnswer job told) ∙ after_answer_post x own job told in
-      let cell : answer_words x (words_at (place.WriteAnswer job told) job.round.at) 0 ≡ ret_of c.served told =
-      answer_first x (words_at (place.WriteAnswer job told) job.round.at) ∙ put_here s.mem (Node x job.round.at node.Ret) (ret_of c.served told) in
-      let later : (j : ℕ) → j ≢ 0 → answer_words x (words_at (place.WriteAnswer job told) job.round.at) j ≡ answer_words x (before_at job.round.at) j = λ j ne. answer_later x _ _ j ne refl (λ i. refl) in
-      let words : (j : ℕ) → request_words x (words_at (place.WriteAnswer job told) job.round.at) j ≡ request_words x (before_at job.round.at) j = λ j. request_same x _ _ j refl (λ i. refl) in
-      let cells : (i : ℕ) → i ≢ job.round.at → cell_of x (words_at (place.WriteAnswer job told) i) ≡ cell_of x (before_at i) = λ i ne. cell_apart s.mem x job.round.at i node.Ret (ret_of c.served told) ne in
-      grind (arith, others (place.WriteAnswer job told), told_in told)
+      let was = was_at (Place.WriteAnswer job told) e in
+      let is : post_at x ((after (Place.WriteAnswer job told)).stand (pass_on c x p)) ≡ serving own job 2 (told_next told) = is_at (Place.WriteAnswer job told) ∙ after_answer_post x own job told in
+      let cell : answer_words x (words_at (Place.WriteAnswer job told) job.round.at) 0 ≡ ret_of c.served told =
+      answer_first x (words_at (Place.WriteAnswer job told) job.round.at) ∙ put_here s.mem (Word.Node x job.round.at NodeField.Ret) (ret_of c.served told) in
+      let later : (j : ℕ) → j ≢ 0 → answer_words x (words_at (Place.WriteAnswer job told) job.round.at) j ≡ answer_words x (before_at job.round.at) j = λ j ne. answer_later x _ _ j ne refl (λ i. refl) in
+      let words : (j : ℕ) → request_words x (words_at (Place.WriteAnswer job told) job.round.at) j ≡ request_words x (before_at job.round.at) j = λ j. request_same x _ _ j refl (λ i. refl) in
+      let cells : (i : ℕ) → i ≢ job.round.at → cell_of x (words_at (Place.WriteAnswer job told) i) ≡ cell_of x (before_at i) = λ i ne. cell_apart s.mem x job.round.at i NodeField.Ret (ret_of c.served told) ne in
+      grind (arith, others (Place.WriteAnswer job told), told_in told)
 
-  full : (job : Job) → job.round.served + 1 ≡ c.config.bound → s.stand (pass_on c x p) ≡ standing (place.MarkDone job) → post_at x ((after (place.MarkDone job)).stand (pass_on c x p)) ≡ resting own job.next 0 3 →
-      (w : ℕ) → w ≤ all_told → Marks c.config.bound w (view c x s) (view c x (after (place.MarkDone job))) p
+  full : (job : Job) → job.round.served + 1 ≡ c.config.bound → s.stand (pass_on c x p) ≡ standing (Place.MarkDone job) → post_at x ((after (Place.MarkDone job)).stand (pass_on c x p)) ≡ resting own job.next 0 3 →
+      (w : ℕ) → w ≤ all_told → Marks c.config.bound w (view c x s) (view c x (after (Place.MarkDone job))) p
   full job bound e is w few =
-      let was = was_at (place.MarkDone job) e in
-      let cell : (after (place.MarkDone job)).mem (Node x job.round.at node.State) ≡ 2 = put_here s.mem (Node x job.round.at node.State) 2 in
-      let words : (j : ℕ) → request_words x (words_at (place.MarkDone job) job.round.at) j ≡ request_words x (before_at job.round.at) j = λ j. request_same x _ _ j refl (λ i. refl) in
-      let told : (j : ℕ) → answer_words x (words_at (place.MarkDone job) job.round.at) j ≡ answer_words x (before_at job.round.at) j = λ j. answer_same x _ _ j refl refl (λ i. refl) in
-      let cells : (i : ℕ) → i ≢ job.round.at → cell_of x (words_at (place.MarkDone job) i) ≡ cell_of x (before_at i) = λ i ne. cell_apart s.mem x job.round.at i node.State 2 ne in
-      grind (arith, others (place.MarkDone job))
+      let was = was_at (Place.MarkDone job) e in
+      let cell : (after (Place.MarkDone job)).mem (Word.Node x job.round.at NodeField.State) ≡ 2 = put_here s.mem (Word.Node x job.round.at NodeField.State) 2 in
+      let words : (j : ℕ) → request_words x (words_at (Place.MarkDone job) job.round.at) j ≡ request_words x (before_at job.round.at) j = λ j. request_same x _ _ j refl (λ i. refl) in
+      let told : (j : ℕ) → answer_words x (words_at (Place.MarkDone job) job.round.at) j ≡ answer_words x (before_at job.round.at) j = λ j. answer_same x _ _ j refl refl (λ i. refl) in
+      let cells : (i : ℕ) → i ≢ job.round.at → cell_of x (words_at (Place.MarkDone job) i) ≡ cell_of x (before_at i) = λ i ne. cell_apart s.mem x job.round.at i NodeField.State 2 ne in
+      grind (arith, others (Place.MarkDone job))
 
-  again : (job : Job) → job.round.served + 1 ≢ c.config.bound → s.stand (pass_on c x p) ≡ standing (place.MarkDone job) → post_at x ((after (place.MarkDone job)).stand (pass_on c x p)) ≡ resting own job.next (job.round.served + 1) 0 →
-      (w : ℕ) → w ≤ all_told → Marks c.config.bound w (view c x s) (view c x (after (place.MarkDone job))) p
+  again : (job : Job) → job.round.served + 1 ≢ c.config.bound → s.stand (pass_on c x p) ≡ standing (Place.MarkDone job) → post_at x ((after (Place.MarkDone job)).stand (pass_on c x p)) ≡ resting own job.next (job.round.served + 1) 0 →
+      (w : ℕ) → w ≤ all_told → Marks c.config.bound w (view c x s) (view c x (after (Place.MarkDone job))) p
   again job bound e is w few =
-      let was = was_at (place.MarkDone job) e in
-      let cell : (after (place.MarkDone job)).mem (Node x job.round.at node.State) ≡ 2 = put_here s.mem (Node x job.round.at node.State) 2 in
-      let words : (j : ℕ) → request_words x (words_at (place.MarkDone job) job.round.at) j ≡ request_words x (before_at job.round.at) j = λ j. request_same x _ _ j refl (λ i. refl) in
-      let told : (j : ℕ) → answer_words x (words_at (place.MarkDone job) job.round.at) j ≡ answer_words x (before_at job.round.at) j = λ j. answer_same x _ _ j refl refl (λ i. refl) in
-      let cells : (i : ℕ) → i ≢ job.round.at → cell_of x (words_at (place.MarkDone job) i) ≡ cell_of x (before_at i) = λ i ne. cell_apart s.mem x job.round.at i node.State 2 ne in
-      grind (arith, others (place.MarkDone job))
+      let was = was_at (Place.MarkDone job) e in
+      let cell : (after (Place.MarkDone job)).mem (Word.Node x job.round.at NodeField.State) ≡ 2 = put_here s.mem (Word.Node x job.round.at NodeField.State) 2 in
+      let words : (j : ℕ) → request_words x (words_at (Place.MarkDone job) job.round.at) j ≡ request_words x (before_at job.round.at) j = λ j. request_same x _ _ j refl (λ i. refl) in
+      let told : (j : ℕ) → answer_words x (words_at (Place.MarkDone job) job.round.at) j ≡ answer_words x (before_at job.round.at) j = λ j. answer_same x _ _ j refl refl (λ i. refl) in
+      let cells : (i : ℕ) → i ≢ job.round.at → cell_of x (words_at (Place.MarkDone job) i) ≡ cell_of x (before_at i) = λ i ne. cell_apart s.mem x job.round.at i NodeField.State 2 ne in
+      grind (arith, others (Place.MarkDone job))
 
-  mark_by : (job : Job) (b : Bool) → (job.round.served + 1 == c.config.bound) ≡ b → s.stand (pass_on c x p) ≡ standing (place.MarkDone job) → (w : ℕ) → w ≤ all_told → Marks c.config.bound w (view c x s) (view c x (after (place.MarkDone job))) p
+  mark_by : (job : Job) (b : Bool) → (job.round.served + 1 == c.config.bound) ≡ b → s.stand (pass_on c x p) ≡ standing (Place.MarkDone job) → (w : ℕ) → w ≤ all_told → Marks c.config.bound w (view c x s) (view c x (after (Place.MarkDone job))) p
   mark_by job true is e w few =
-      full job (eqb-true (job.round.served + 1) c.config.bound is) e (is_at (place.MarkDone job) ∙ ap (λ (b : Bool). post_of x own (cond b (place.HandOver job.next) (place.ReadNext record { at = job.next; served = job.round.served + 1 }))) is) w few
+      full job (eqb-true (job.round.served + 1) c.config.bound is) e (is_at (Place.MarkDone job) ∙ ap (λ (b : Bool). post_of x own (cond b (Place.HandOver job.next) (Place.ReadNext record { at = job.next; served = job.round.served + 1 }))) is) w few
   mark_by job false is e w few =
-      again job (eqb-false (job.round.served + 1) c.config.bound is) e (is_at (place.MarkDone job) ∙ ap (λ (b : Bool). post_of x own (cond b (place.HandOver job.next) (place.ReadNext record { at = job.next; served = job.round.served + 1 }))) is) w few
+      again job (eqb-false (job.round.served + 1) c.config.bound is) e (is_at (Place.MarkDone job) ∙ ap (λ (b : Bool). post_of x own (cond b (Place.HandOver job.next) (Place.ReadNext record { at = job.next; served = job.round.served + 1 }))) is) w few
 
-  pub mark : (job : Job) → s.stand (pass_on c x p) ≡ standing (place.MarkDone job) → (w : ℕ) → w ≤ all_told → Marks c.config.bound w (view c x s) (view c x (after (place.MarkDone job))) p
+  pub mark : (job : Job) → s.stand (pass_on c x p) ≡ standing (Place.MarkDone job) → (w : ℕ) → w ≤ all_told → Marks c.config.bound w (view c x s) (view c x (after (Place.MarkDone job))) p
   mark job e w few = mark_by job (job.round.served + 1 == c.config.bound) refl e w few
 
-  pub hand_over : (at : ℕ) → s.stand (pass_on c x p) ≡ standing (place.HandOver at) → Hands (view c x s) (view c x (after (place.HandOver at))) p
+  pub hand_over : (at : ℕ) → s.stand (pass_on c x p) ≡ standing (Place.HandOver at) → Hands (view c x s) (view c x (after (Place.HandOver at))) p
   hand_over at e =
-      let was = was_at (place.HandOver at) e in
-      let is : post_at x ((after (place.HandOver at)).stand (pass_on c x p)) ≡ post_of x own place.ReadAnswer = is_at (place.HandOver at) in
-      let cell : (after (place.HandOver at)).mem (Node x at node.State) ≡ 0 = put_here s.mem (Node x at node.State) 0 in
-      let words : (j : ℕ) → request_words x (words_at (place.HandOver at) at) j ≡ request_words x (before_at at) j = λ j. request_same x _ _ j refl (λ i. refl) in
-      let told : (j : ℕ) → answer_words x (words_at (place.HandOver at) at) j ≡ answer_words x (before_at at) j = λ j. answer_same x _ _ j refl refl (λ i. refl) in
-      let cells : (i : ℕ) → i ≢ at → cell_of x (words_at (place.HandOver at) i) ≡ cell_of x (before_at i) = λ i ne. cell_apart s.mem x at i node.State 0 ne in
-      grind (arith, others (place.HandOver at))
+      let was = was_at (Place.HandOver at) e in
+      let is : post_at x ((after (Place.HandOver at)).stand (pass_on c x p)) ≡ post_of x own Place.ReadAnswer = is_at (Place.HandOver at) in
+      let cell : (after (Place.HandOver at)).mem (Word.Node x at NodeField.State) ≡ 0 = put_here s.mem (Word.Node x at NodeField.State) 0 in
+      let words : (j : ℕ) → request_words x (words_at (Place.HandOver at) at) j ≡ request_words x (before_at at) j = λ j. request_same x _ _ j refl (λ i. refl) in
+      let told : (j : ℕ) → answer_words x (words_at (Place.HandOver at) at) j ≡ answer_words x (before_at at) j = λ j. answer_same x _ _ j refl refl (λ i. refl) in
+      let cells : (i : ℕ) → i ≢ at → cell_of x (words_at (Place.HandOver at) i) ≡ cell_of x (before_at i) = λ i ne. cell_apart s.mem x at i NodeField.State 0 ne in
+      grind (arith, others (Place.HandOver at))
 
   -- the last word of an answer is read
-  pub end : (at : Place) → s.stand (pass_on c x p) ≡ standing at → (post_of x own at) ≡ post_of x own place.ReadAnswer → post_at x (advanced c x (standing at) (found at)) ≡ post_of x own place.Idle →
-      (after at).mem (Tail x) ≡ s.mem (Tail x) → ((i : ℕ) (f : NodeField) → (after at).mem (Node x i f) ≡ s.mem (Node x i f)) → Ends (view c x s) (view c x (after at)) p
+  pub end : (at : Place) → s.stand (pass_on c x p) ≡ standing at → (post_of x own at) ≡ post_of x own Place.ReadAnswer → post_at x (advanced c x (standing at) (found at)) ≡ post_of x own Place.Idle →
+      (after at).mem (Word.Tail x) ≡ s.mem (Word.Tail x) → ((i : ℕ) (f : NodeField) → (after at).mem (Word.Node x i f) ≡ s.mem (Word.Node x i f)) → Ends (view c x s) (view c x (after at)) p
   end at e first second tail words =
-      let was : post_at x (s.stand (pass_on c x p)) ≡ post_of x own place.ReadAnswer = was_at at e ∙ first in
-      let is : post_at x ((after at).stand (pass_on c x p)) ≡ post_of x own place.Idle = is_at at ∙ second in
+      let was : post_at x (s.stand (pass_on c x p)) ≡ post_of x own Place.ReadAnswer = was_at at e ∙ first in
+      let is : post_at x ((after at).stand (pass_on c x p)) ≡ post_of x own Place.Idle = is_at at ∙ second in
       let cells : (i : ℕ) → cell_of x (words_at at i) ≡ cell_of x (before_at i) = λ i j. cell_of x (λ f. words i f j) in
       grind (arith, others at)

@@ -3,19 +3,7 @@ use Rattle.std.proofs.Common.{◌≡◌, ◌⊎◌, ℕ, ◌+◌, ◌≤◌, Boo
 use Rattle.std.proofs.lemmas.Bool.{eqb-true, eq-eqb}
 use Rattle.std.proofs.lemmas.List.{set-get_or, get_or-set_same, length-set}
 use Rattle.cc_model.specs.Record.{Side, Record, silent}
-use Rattle.cc_model.specs.declared.call.Entry.{Entry}
-use Rattle.cc_model.specs.declared.call.Item.{Item}
-use Rattle.cc_model.specs.declared.call.Answer.{Answer}
-use Rattle.cc_model.specs.declared.call.Answer.TheVariants as answer
-use Rattle.cc_model.specs.declared.call.TakeAnswer.TheVariants as take
-use Rattle.cc_runs.specs.declared.setting.Setting.{Setting}
-use Rattle.cc_runs.specs.declared.setting.Served.{Served}
-use Rattle.cc_runs.specs.declared.setting.Served.TheVariants as served
-use Rattle.cc_runs.specs.declared.word.Chain.{Chain}
-use Rattle.cc_runs.specs.declared.word.Chain.TheVariants.{Send, Take}
-use Rattle.cc_runs.specs.declared.place.Job.{Job}
-use Rattle.cc_runs.specs.declared.place.Place.{Place}
-use Rattle.cc_runs.specs.declared.place.Place.TheVariants as place
+use Rattle.cc_runs.specs.Names.{Entry, Item, Answer, TakeAnswer, Setting, Served, Chain, Job, Place}
 use Rattle.cc_runs.specs.Codes.{item_of, tag_of, further_words, request_in, ret_of, code_of, value_of}
 use Rattle.cc_runs.specs.State.{side, with_side, noted}
 use Rattle.cc_runs.specs.Lines.{serves, after_exchange, after_answer, after_ret}
@@ -25,17 +13,17 @@ use Rattle.cc_runs.proofs.Chains.View.{post_of, out, request_long, answer_long, 
 use Rattle.cc_runs.proofs.Chains.Registers.{IsChainOf, HasSide, HasCall, IsAnswer, HasService, coded_words, HasRead, reads, tag_word, words_told}
 
 pub noted_none : (x : Chain) (h : Record) → noted x h None None ≡ h
-noted_none Send h = refl
-noted_none (Take g) h = ap (λ (l : List Side). record h { takes = l }) (set-get_or h.takes g silent)
+noted_none Chain.Send h = refl
+noted_none (Chain.Take g) h = ap (λ (l : List Side). record h { takes = l }) (set-get_or h.takes g silent)
 
 pub side_same : (x : Chain) (h : Record) (now : Side) → HasSide x h → side x (with_side x h now) ≡ now
-side_same Send h now i = refl
-side_same (Take g) h now i = get_or-set_same h.takes g now silent i
+side_same Chain.Send h now i = refl
+side_same (Chain.Take g) h now i = get_or-set_same h.takes g now silent i
 
 pub keeps_side : (x y : Chain) (h : Record) (now : Side) → HasSide x h → HasSide x (with_side y h now)
-keeps_side Send y h now i = tt
-keeps_side (Take g) Send h now i = i
-keeps_side (Take g) (Take k) h now i = omega (arith, i, length-set h.takes k now)
+keeps_side Chain.Send y h now i = tt
+keeps_side (Chain.Take g) Chain.Send h now i = i
+keeps_side (Chain.Take g) (Chain.Take k) h now i = omega (arith, i, length-set h.takes k now)
 
 -- a place with no register but a combiner's
 pub record IsFree (c : Setting) (x : Chain) (p : ℕ) (at : Place) : Type 0 where
@@ -44,108 +32,108 @@ pub record IsFree (c : Setting) (x : Chain) (p : ℕ) (at : Place) : Type 0 wher
   pub unfinished : IsFinished at → ⊥
 
 pub free_at : (c : Setting) (x : Chain) (p own : ℕ) (at : Place) → (post_of x own at).rank ≡ 5 → IsFree c x p at
-free_at c x p own (place.ReadNext round) e = record { call = tt; read = λ a. tt; unfinished = λ f. f }
-free_at c x p own (place.Counting job service) e = record { call = tt; read = λ a. tt; unfinished = λ f. f }
-free_at c x p own (place.Sending job service) e = record { call = tt; read = λ a. tt; unfinished = λ f. f }
-free_at c x p own (place.Taking job service) e = record { call = tt; read = λ a. tt; unfinished = λ f. f }
-free_at c x p own (place.WriteAnswer job told) e = record { call = tt; read = λ a. tt; unfinished = λ f. f }
-free_at c x p own (place.WriteAnswerTag job item) e = record { call = tt; read = λ a. tt; unfinished = λ f. f }
-free_at c x p own (place.WriteAnswerBody job item i) e = record { call = tt; read = λ a. tt; unfinished = λ f. f }
-free_at c x p own (place.MarkDone job) e = record { call = tt; read = λ a. tt; unfinished = λ f. f }
-free_at c x p own (place.HandOver at) e = record { call = tt; read = λ a. tt; unfinished = λ f. f }
+free_at c x p own (Place.ReadNext round) e = record { call = tt; read = λ a. tt; unfinished = λ f. f }
+free_at c x p own (Place.Counting job service) e = record { call = tt; read = λ a. tt; unfinished = λ f. f }
+free_at c x p own (Place.Sending job service) e = record { call = tt; read = λ a. tt; unfinished = λ f. f }
+free_at c x p own (Place.Taking job service) e = record { call = tt; read = λ a. tt; unfinished = λ f. f }
+free_at c x p own (Place.WriteAnswer job told) e = record { call = tt; read = λ a. tt; unfinished = λ f. f }
+free_at c x p own (Place.WriteAnswerTag job item) e = record { call = tt; read = λ a. tt; unfinished = λ f. f }
+free_at c x p own (Place.WriteAnswerBody job item i) e = record { call = tt; read = λ a. tt; unfinished = λ f. f }
+free_at c x p own (Place.MarkDone job) e = record { call = tt; read = λ a. tt; unfinished = λ f. f }
+free_at c x p own (Place.HandOver at) e = record { call = tt; read = λ a. tt; unfinished = λ f. f }
 free_at c x p own _ e = absurd (omega arith)
 
 -- after an exchange
 pub exchanged_free : (c : Setting) (x : Chain) (p own : ℕ) (call : Entry) → IsFree c x p (after_exchange x own call)
-exchanged_free c Send p own call = record { call = tt; read = λ a. tt; unfinished = λ f. f }
-exchanged_free c (Take g) p own call = record { call = tt; read = λ a. tt; unfinished = λ f. f }
+exchanged_free c Chain.Send p own call = record { call = tt; read = λ a. tt; unfinished = λ f. f }
+exchanged_free c (Chain.Take g) p own call = record { call = tt; read = λ a. tt; unfinished = λ f. f }
 
 -- a service begins
 pub serves_it : (s : Served) (n : ℕ) (x : Chain) (e : Entry) (a : Answer) (job : Job) → IsChainOf s n x → HasService s x e a (serves s x job)
-serves_it served.Counter n Send e a job ok = (tt, tt)
-serves_it served.Counter n (Take g) e a job ok = absurd ok
-serves_it served.List n Send e a job ok = tt
-serves_it served.List n (Take g) e a job ok = tt
+serves_it Served.Counter n Chain.Send e a job ok = (tt, tt)
+serves_it Served.Counter n (Chain.Take g) e a job ok = absurd ok
+serves_it Served.List n Chain.Send e a job ok = tt
+serves_it Served.List n (Chain.Take g) e a job ok = tt
 
 -- the first word of an answer is written
 pub answers_it : (s : Served) (x : Chain) (e : Entry) (a told : Answer) (job : Job) → a ≡ told → IsAnswer s x told → HasService s x e a (after_answer job told)
-answers_it served.List (Take g) e a (answer.Take (take.Got item)) job same is = same
-answers_it served.List Send e a (answer.Take (take.Got item)) job same is = absurd is
-answers_it served.Counter Send e a (answer.Take (take.Got item)) job same is = absurd is
-answers_it served.Counter (Take g) e a (answer.Take (take.Got item)) job same is = absurd is
-answers_it s x e a (answer.Take take.Empty) job same is = tt
-answers_it s x e a (answer.Take (take.Ended total)) job same is = tt
-answers_it s x e a (answer.Send told) job same is = tt
-answers_it s x e a (answer.Close told) job same is = tt
+answers_it Served.List (Chain.Take g) e a (Answer.Take (TakeAnswer.Got item)) job same is = same
+answers_it Served.List Chain.Send e a (Answer.Take (TakeAnswer.Got item)) job same is = absurd is
+answers_it Served.Counter Chain.Send e a (Answer.Take (TakeAnswer.Got item)) job same is = absurd is
+answers_it Served.Counter (Chain.Take g) e a (Answer.Take (TakeAnswer.Got item)) job same is = absurd is
+answers_it s x e a (Answer.Take TakeAnswer.Empty) job same is = tt
+answers_it s x e a (Answer.Take (TakeAnswer.Ended total)) job same is = tt
+answers_it s x e a (Answer.Send told) job same is = tt
+answers_it s x e a (Answer.Close told) job same is = tt
 
 -- a request is marked
-pub done_it : (s : Served) (x : Chain) (e : Entry) (a : Answer) (job : Job) (b : Bool) → HasService s x e a (cond b (place.HandOver job.next) (place.ReadNext record { at = job.next; served = job.round.served + 1 }))
+pub done_it : (s : Served) (x : Chain) (e : Entry) (a : Answer) (job : Job) (b : Bool) → HasService s x e a (cond b (Place.HandOver job.next) (Place.ReadNext record { at = job.next; served = job.round.served + 1 }))
 done_it s x e a job true = tt
 done_it s x e a job false = tt
 
-pub done_rank : (x : Chain) (own : ℕ) (job : Job) (b : Bool) → (post_of x own (cond b (place.HandOver job.next) (place.ReadNext record { at = job.next; served = job.round.served + 1 }))).rank ≡ 5
+pub done_rank : (x : Chain) (own : ℕ) (job : Job) (b : Bool) → (post_of x own (cond b (Place.HandOver job.next) (Place.ReadNext record { at = job.next; served = job.round.served + 1 }))).rank ≡ 5
 done_rank x own job true = refl
 done_rank x own job false = refl
 
 pub some_words : (a : Answer) → (1 ≤ answer_long a) × (answer_long a ≤ all_told)
-some_words (answer.Take (take.Got item)) = omega (arith, few_further (tag_of item))
-some_words (answer.Take take.Empty) = omega arith
-some_words (answer.Take (take.Ended total)) = omega arith
-some_words (answer.Send told) = omega arith
-some_words (answer.Close told) = omega arith
+some_words (Answer.Take (TakeAnswer.Got item)) = omega (arith, few_further (tag_of item))
+some_words (Answer.Take TakeAnswer.Empty) = omega arith
+some_words (Answer.Take (TakeAnswer.Ended total)) = omega arith
+some_words (Answer.Send told) = omega arith
+some_words (Answer.Close told) = omega arith
 
 -- nor has a request more words than all
 pub few_asked : (x : Chain) (e : Entry) → request_long x e ≤ all_wrote x
-few_asked Send e = omega (arith, few_further (request_in e).tag)
-few_asked (Take g) e = omega arith
+few_asked Chain.Send e = omega (arith, few_further (request_in e).tag)
+few_asked (Chain.Take g) e = omega arith
 
 pub coded_first : (s : Served) (x : Chain) (a : Answer) → coded_words s x a 0 ≡ ret_of s a
-coded_first s Send a = refl
-coded_first s (Take g) a = refl
+coded_first s Chain.Send a = refl
+coded_first s (Chain.Take g) a = refl
 
 -- an answer word of code 1 on a receivers' chain is that of an item
-pub got_long : (s : Served) (g : ℕ) (a : Answer) → IsAnswer s (Take g) a → code_of (ret_of s a) ≡ 1 → answer_long a ≡ further_words (tag_word a) + 3
-got_long served.List g (answer.Take (take.Got item)) is code = refl
-got_long served.List g (answer.Take take.Empty) is code = absurd (omega (arith, code))
-got_long served.List g (answer.Take (take.Ended total)) is code = absurd (omega (arith, code))
-got_long served.List g (answer.Send told) is code = absurd is
-got_long served.List g (answer.Close told) is code = absurd is
-got_long served.Counter g a is code = absurd is
+pub got_long : (s : Served) (g : ℕ) (a : Answer) → IsAnswer s (Chain.Take g) a → code_of (ret_of s a) ≡ 1 → answer_long a ≡ further_words (tag_word a) + 3
+got_long Served.List g (Answer.Take (TakeAnswer.Got item)) is code = refl
+got_long Served.List g (Answer.Take TakeAnswer.Empty) is code = absurd (omega (arith, code))
+got_long Served.List g (Answer.Take (TakeAnswer.Ended total)) is code = absurd (omega (arith, code))
+got_long Served.List g (Answer.Send told) is code = absurd is
+got_long Served.List g (Answer.Close told) is code = absurd is
+got_long Served.Counter g a is code = absurd is
 
-pub got_item : (s : Served) (g : ℕ) (a : Answer) → IsAnswer s (Take g) a → code_of (ret_of s a) ≡ 1 → (item : Item) × (a ≡ answer.Take (take.Got item))
-got_item served.List g (answer.Take (take.Got item)) is code = (item, refl)
-got_item served.List g (answer.Take take.Empty) is code = absurd (omega (arith, code))
-got_item served.List g (answer.Take (take.Ended total)) is code = absurd (omega (arith, code))
-got_item served.List g (answer.Send told) is code = absurd is
-got_item served.List g (answer.Close told) is code = absurd is
-got_item served.Counter g a is code = absurd is
+pub got_item : (s : Served) (g : ℕ) (a : Answer) → IsAnswer s (Chain.Take g) a → code_of (ret_of s a) ≡ 1 → (item : Item) × (a ≡ Answer.Take (TakeAnswer.Got item))
+got_item Served.List g (Answer.Take (TakeAnswer.Got item)) is code = (item, refl)
+got_item Served.List g (Answer.Take TakeAnswer.Empty) is code = absurd (omega (arith, code))
+got_item Served.List g (Answer.Take (TakeAnswer.Ended total)) is code = absurd (omega (arith, code))
+got_item Served.List g (Answer.Send told) is code = absurd is
+got_item Served.List g (Answer.Close told) is code = absurd is
+got_item Served.Counter g a is code = absurd is
 
 -- what is read after the first word: the end, or an item to come
 pub record ReadsOn (c : Setting) (s : Served) (g p own : ℕ) (a : Answer) (at : Place) : Type 0 where
-  pub call : HasCall c (Take g) p at
-  pub post : post_of (Take g) own at ≡ out 6 own
-  pub read : HasRead s (Take g) a at
+  pub call : HasCall c (Chain.Take g) p at
+  pub post : post_of (Chain.Take g) own at ≡ out 6 own
+  pub read : HasRead s (Chain.Take g) a at
   pub unfinished : IsFinished at → ⊥
 
 pub record ReadsAll (c : Setting) (s : Served) (g p own : ℕ) (a : Answer) (at : Place) : Type 0 where
-  pub call : HasCall c (Take g) p at
-  pub post : post_of (Take g) own at ≡ out 0 own
-  pub read : HasRead s (Take g) a at
+  pub call : HasCall c (Chain.Take g) p at
+  pub post : post_of (Chain.Take g) own at ≡ out 0 own
+  pub read : HasRead s (Chain.Take g) a at
 
 reads_by : (c : Setting) (s : Served) (g p own : ℕ) (a : Answer) (one two : Bool) → (code_of (ret_of s a) == 1) ≡ one → (code_of (ret_of s a) == 2) ≡ two →
-    ReadsOn c s g p own a (cond one (place.ReadAnswerTag (value_of (ret_of s a))) (cond two (place.Finished (answer.Take take.Empty)) (place.Finished (answer.Take (take.Ended (value_of (ret_of s a)))))))
-    ⊎ ReadsAll c s g p own a (cond one (place.ReadAnswerTag (value_of (ret_of s a))) (cond two (place.Finished (answer.Take take.Empty)) (place.Finished (answer.Take (take.Ended (value_of (ret_of s a)))))))
+    ReadsOn c s g p own a (cond one (Place.ReadAnswerTag (value_of (ret_of s a))) (cond two (Place.Finished (Answer.Take TakeAnswer.Empty)) (Place.Finished (Answer.Take (TakeAnswer.Ended (value_of (ret_of s a)))))))
+    ⊎ ReadsAll c s g p own a (cond one (Place.ReadAnswerTag (value_of (ret_of s a))) (cond two (Place.Finished (Answer.Take TakeAnswer.Empty)) (Place.Finished (Answer.Take (TakeAnswer.Ended (value_of (ret_of s a)))))))
 reads_by c s g p own a true two is_one is_two = inl record { call = tt; post = refl; read = (eqb-true (code_of (ret_of s a)) 1 is_one, refl); unfinished = λ f. f }
-reads_by c s g p own a false true is_one is_two = inr record { call = tt; post = refl; read = sym (λ i. cond (is_one i) (answer.Take (take.Got (item_of (value_of (ret_of s a)) (tag_word a) (words_told a)))) (cond (is_two i) (answer.Take take.Empty) (answer.Take (take.Ended (value_of (ret_of s a)))))) }
-reads_by c s g p own a false false is_one is_two = inr record { call = tt; post = refl; read = sym (λ i. cond (is_one i) (answer.Take (take.Got (item_of (value_of (ret_of s a)) (tag_word a) (words_told a)))) (cond (is_two i) (answer.Take take.Empty) (answer.Take (take.Ended (value_of (ret_of s a)))))) }
+reads_by c s g p own a false true is_one is_two = inr record { call = tt; post = refl; read = sym (λ i. cond (is_one i) (Answer.Take (TakeAnswer.Got (item_of (value_of (ret_of s a)) (tag_word a) (words_told a)))) (cond (is_two i) (Answer.Take TakeAnswer.Empty) (Answer.Take (TakeAnswer.Ended (value_of (ret_of s a)))))) }
+reads_by c s g p own a false false is_one is_two = inr record { call = tt; post = refl; read = sym (λ i. cond (is_one i) (Answer.Take (TakeAnswer.Got (item_of (value_of (ret_of s a)) (tag_word a) (words_told a)))) (cond (is_two i) (Answer.Take TakeAnswer.Empty) (Answer.Take (TakeAnswer.Ended (value_of (ret_of s a)))))) }
 
-pub reads_first : (c : Setting) (s : Served) (g p own : ℕ) (a : Answer) → ReadsOn c s g p own a (after_ret s (Take g) (ret_of s a)) ⊎ ReadsAll c s g p own a (after_ret s (Take g) (ret_of s a))
+pub reads_first : (c : Setting) (s : Served) (g p own : ℕ) (a : Answer) → ReadsOn c s g p own a (after_ret s (Chain.Take g) (ret_of s a)) ⊎ ReadsAll c s g p own a (after_ret s (Chain.Take g) (ret_of s a))
 reads_first c s g p own a = reads_by c s g p own a (code_of (ret_of s a) == 1) (code_of (ret_of s a) == 2) refl refl
 
-pub reads_item : (s : Served) (g : ℕ) (a : Answer) → code_of (ret_of s a) ≡ 1 → reads s (Take g) a ≡ answer.Take (take.Got (item_of (value_of (ret_of s a)) (tag_word a) (words_told a)))
-reads_item s g a code = ap (λ (b : Bool). cond b (answer.Take (take.Got (item_of (value_of (ret_of s a)) (tag_word a) (words_told a)))) (cond (code_of (ret_of s a) == 2) (answer.Take take.Empty) (answer.Take (take.Ended (value_of (ret_of s a)))))) (eq-eqb (code_of (ret_of s a)) 1 code)
+pub reads_item : (s : Served) (g : ℕ) (a : Answer) → code_of (ret_of s a) ≡ 1 → reads s (Chain.Take g) a ≡ Answer.Take (TakeAnswer.Got (item_of (value_of (ret_of s a)) (tag_word a) (words_told a)))
+reads_item s g a code = ap (λ (b : Bool). cond b (Answer.Take (TakeAnswer.Got (item_of (value_of (ret_of s a)) (tag_word a) (words_told a)))) (cond (code_of (ret_of s a) == 2) (Answer.Take TakeAnswer.Empty) (Answer.Take (TakeAnswer.Ended (value_of (ret_of s a)))))) (eq-eqb (code_of (ret_of s a)) 1 code)
 
 -- each pass has one node
 pub own_node : (x : Chain) (own : ℕ) (at : Place) → (post_of x own at).node ≡ own
-own_node x own (place.Exchange call) = refl
+own_node x own (Place.Exchange call) = refl
 own_node x own _ = refl

@@ -1,19 +1,7 @@
 -- What the list has from its two chains: one service of a side at most, of the first call without an answer.
 use Rattle.std.proofs.Common.{◌≡◌, ℕ, suc, ◌<◌, ◌≤◌, refl, ap, ◌∙◌, subst, arith, Some, length}
 use Rattle.std.specs.List.{slice_get}
-use Rattle.cc_model.specs.declared.call.Entry.{Entry}
-use Rattle.cc_runs.specs.declared.setting.Setting.{Setting}
-use Rattle.cc_runs.specs.declared.setting.Served.{Served}
-use Rattle.cc_runs.specs.declared.setting.Served.TheVariants as served
-use Rattle.cc_runs.specs.declared.word.Chain.{Chain}
-use Rattle.cc_runs.specs.declared.word.Chain.TheVariants.{Send, Take}
-use Rattle.cc_runs.specs.declared.word.NodeField.TheVariants as node
-use Rattle.cc_runs.specs.declared.word.Word.TheVariants.{Node}
-use Rattle.cc_runs.specs.declared.place.Job.{Job}
-use Rattle.cc_runs.specs.declared.place.Sending.TheVariants as sending
-use Rattle.cc_runs.specs.declared.place.Taking.{Taking}
-use Rattle.cc_runs.specs.declared.place.Place.TheVariants as place
-use Rattle.cc_runs.specs.declared.place.Request.{Request}
+use Rattle.cc_runs.specs.Names.{Entry, Setting, Served, Chain, NodeField, Word, Job, Sending, Taking, Place, Request}
 use Rattle.cc_runs.specs.Codes.{request_in, further_words, word}
 use Rattle.cc_runs.specs.State.{State, chain_of}
 use Rattle.cc_runs.specs.Run.{passes}
@@ -24,29 +12,29 @@ use Rattle.cc_runs.proofs.Chains.Others.{IsOn}
 use Rattle.cc_runs.proofs.Chains.Serving.{Chains, chain_is, on_chain, sending_where, next_call, next_service, next_words}
 
 sends_it : (what : Served) (x : Chain) (A : Type 0) → Sends what x A → A
-sends_it served.List Send A a = a
-sends_it served.List (Take g) A a = absurd a
-sends_it served.Counter Send A a = absurd a
-sends_it served.Counter (Take g) A a = absurd a
+sends_it Served.List Chain.Send A a = a
+sends_it Served.List (Chain.Take g) A a = absurd a
+sends_it Served.Counter Chain.Send A a = absurd a
+sends_it Served.Counter (Chain.Take g) A a = absurd a
 
 module _ (c : Setting) (s : State) (k : Chains c s) (p : ℕ) (job : Job) (less : p < passes c) where
   -- the request's tag is read, and words of its body, and another one is about to be
-  pub read_body : (request : Request) (i : ℕ) → (s.stand p).place ≡ place.Sending job (sending.ReadBody request i) →
-      (e : Entry) × (slice_get s.history.sends.calls (length s.history.sends.answers) ≡ Some e) × HasAsked e request.tag request.body i × (i ≤ further_words request.tag) × (s.mem (Node Send job.round.at (node.Body i)) ≡ word (request_in e).body i)
+  pub read_body : (request : Request) (i : ℕ) → (s.stand p).place ≡ Place.Sending job (Sending.ReadBody request i) →
+      (e : Entry) × (slice_get s.history.sends.calls (length s.history.sends.answers) ≡ Some e) × HasAsked e request.tag request.body i × (i ≤ further_words request.tag) × (s.mem (Word.Node Chain.Send job.round.at (NodeField.Body i)) ≡ word (request_in e).body i)
   read_body request i is =
-      let on : IsOn c Send p = subst (λ (y : Chain). IsOn c y p) (sending_where c s k p job (sending.ReadBody request i) less is).1 (on_chain c p less) in
+      let on : IsOn c Chain.Send p = subst (λ (y : Chain). IsOn c y p) (sending_where c s k p job (Sending.ReadBody request i) less is).1 (on_chain c p less) in
       let e : Entry = call_at s.history.sends.calls (length s.history.sends.answers) in
       let has : HasAsked e request.tag request.body i × (i ≤ further_words request.tag) =
-      sends_it c.served Send (HasAsked e request.tag request.body i × (i ≤ further_words request.tag)) (next_service c s k Send tt p on (place.Sending job (sending.ReadBody request i)) job is (λ own. refl) e refl) in
+      sends_it c.served Chain.Send (HasAsked e request.tag request.body i × (i ≤ further_words request.tag)) (next_service c s k Chain.Send tt p on (Place.Sending job (Sending.ReadBody request i)) job is (λ own. refl) e refl) in
       let low : i ≤ further_words (request_in e).tag = omega (arith, has.1, ap further_words has.0.0) in (
         e,
-        next_call c s k Send tt p on (place.Sending job (sending.ReadBody request i)) job is (λ own. refl),
+        next_call c s k Chain.Send tt p on (Place.Sending job (Sending.ReadBody request i)) job is (λ own. refl),
         has.0,
         has.1,
-        next_words c s k Send tt p on (place.Sending job (sending.ReadBody request i)) job is (λ own. refl) (suc i) (omega (arith, low)) ∙ asks_word (request_in e) i (omega (arith, low, few_further (request_in e).tag)),
+        next_words c s k Chain.Send tt p on (Place.Sending job (Sending.ReadBody request i)) job is (λ own. refl) (suc i) (omega (arith, low)) ∙ asks_word (request_in e) i (omega (arith, low, few_further (request_in e).tag)),
       )
 
   -- a take is in service
-  pub serves_take : (service : Taking) → (s.stand p).place ≡ place.Taking job service → (e : Entry) × (slice_get (calls_on (chain_of c.config p) s.history) (length (answers_on (chain_of c.config p) s.history)) ≡ Some e)
+  pub serves_take : (service : Taking) → (s.stand p).place ≡ Place.Taking job service → (e : Entry) × (slice_get (calls_on (chain_of c.config p) s.history) (length (answers_on (chain_of c.config p) s.history)) ≡ Some e)
   serves_take service is =
-      (call_at (calls_on (chain_of c.config p) s.history) (length (answers_on (chain_of c.config p) s.history)), next_call c s k (chain_of c.config p) (chain_is c p less) p (on_chain c p less) (place.Taking job service) job is (λ own. refl))
+      (call_at (calls_on (chain_of c.config p) s.history) (length (answers_on (chain_of c.config p) s.history)), next_call c s k (chain_of c.config p) (chain_is c p less) p (on_chain c p less) (Place.Taking job service) job is (λ own. refl))

@@ -2,8 +2,7 @@
 use Rattle.std.proofs.Common.{◌≡◌, ℕ, zero, suc, ◌<◌, ◌≤◌, Bool, true, false, cond, refl, ap, ◌∙◌, arith, Option, Some, None, List, [], ◌∷◌, ◌++◌, length}
 use Rattle.std.specs.List.{filter}
 use Rattle.cc_model.specs.Items.{answered}
-use Rattle.cc_model.specs.declared.call.Entry.{Entry}
-use Rattle.cc_model.specs.declared.call.Answer.{Answer}
+use Rattle.cc_runs.specs.Names.{Entry, Answer}
 use Rattle.cc_runs.proofs.Chains.Registers.{call_at, answer_at}
 
 -- the calls of which f holds, each with its answer

@@ -5,15 +5,7 @@ use Rattle.std.proofs.lemmas.Nat.{mod-mul-add, mul-add-lt}
 use Rattle.std.proofs.Math.Nat.{mul_comm}
 use Rattle.std.proofs.lemmas.List.{length-replicate}
 use Rattle.cc_model.specs.Record.{Side, silent, empty}
-use Rattle.cc_model.specs.declared.config.Config.{Config}
-use Rattle.cc_runs.specs.declared.setting.Setting.{Setting}
-use Rattle.cc_runs.specs.declared.setting.Served.{Served}
-use Rattle.cc_runs.specs.declared.setting.Served.TheVariants as served
-use Rattle.cc_runs.specs.declared.word.Chain.{Chain}
-use Rattle.cc_runs.specs.declared.word.Chain.TheVariants.{Send, Take}
-use Rattle.cc_runs.specs.declared.word.Word.TheVariants.{Tail}
-use Rattle.cc_runs.specs.declared.place.Stand.{Stand}
-use Rattle.cc_runs.specs.declared.place.Place.TheVariants as place
+use Rattle.cc_runs.specs.Names.{Config, Setting, Served, Chain, Word, Stand, Place}
 use Rattle.cc_runs.specs.Words.{groups}
 use Rattle.cc_runs.specs.State.{side, first_node}
 use Rattle.cc_runs.specs.Run.{first_word, opening, passes, passes_of, nowhere, IsFinished}
@@ -26,7 +18,7 @@ use Rattle.cc_runs.proofs.Chains.Others.{group_in}
 
 -- where a pass of the chain stands
 abbrev placed : Setting → ℕ → ℕ → Stand
-placed c p node = record { begun = 0; node = node; place = place.Idle }
+placed c p node = record { begun = 0; node = node; place = Place.Idle }
 
 stood : (c : Setting) (p : ℕ) → p < passes c → (opening c).stand p ≡ placed c p (first_node c.config p)
 stood c p less = ap (λ (b : Bool). cond b (placed c p (first_node c.config p)) nowhere) (lt-ltb p (passes c) less)
@@ -42,24 +34,24 @@ receiver_node config g p less =
     ∙ ap (λ (z : ℕ). z % config.receivers + 1) back ∙ ap (λ (z : ℕ). z + 1) (mod-mul-add g config.receivers p less)
 
 all_senders : (s : Served) (config : Config) (p : ℕ) → p < config.senders → p < passes_of s config
-all_senders served.Counter config p less = less
-all_senders served.List config p less = omega arith
+all_senders Served.Counter config p less = less
+all_senders Served.List config p less = omega arith
 
-all_receivers : (s : Served) (config : Config) (g p : ℕ) → IsChainOf s (groups config) (Take g) → p < config.receivers → config.senders + (g * config.receivers + p) < passes_of s config
-all_receivers served.List config g p ok less = omega (arith, mul-add-lt g config.receivers p (groups config) ok less, mul_comm config.receivers (groups config))
-all_receivers served.Counter config g p ok less = absurd ok
+all_receivers : (s : Served) (config : Config) (g p : ℕ) → IsChainOf s (groups config) (Chain.Take g) → p < config.receivers → config.senders + (g * config.receivers + p) < passes_of s config
+all_receivers Served.List config g p ok less = omega (arith, mul-add-lt g config.receivers p (groups config) ok less, mul_comm config.receivers (groups config))
+all_receivers Served.Counter config g p ok less = absurd ok
 
 pub member_in : (c : Setting) (x : Chain) → IsChain c x → (p : ℕ) → p < members c x → pass_on c x p < passes c
-member_in c Send ok p less = all_senders c.served c.config p less
-member_in c (Take g) ok p less = all_receivers c.served c.config g p ok less
+member_in c Chain.Send ok p less = all_senders c.served c.config p less
+member_in c (Chain.Take g) ok p less = all_receivers c.served c.config g p ok less
 
 first_at : (c : Setting) (x : Chain) (p : ℕ) → p < members c x → first_node c.config (pass_on c x p) ≡ p + 1
-first_at c Send p less = sender_node c.config p less
-first_at c (Take g) p less = receiver_node c.config g p less
+first_at c Chain.Send p less = sender_node c.config p less
+first_at c (Chain.Take g) p less = receiver_node c.config g p less
 
-first_tail : (c : Setting) (x : Chain) → IsChain c x → first_word c.config (Tail x) ≡ 1
-first_tail c Send ok = refl
-first_tail c (Take g) ok = ap (λ (b : Bool). cond b 1 0) (lt-ltb g (groups c.config) (group_in c.served (groups c.config) g ok))
+first_tail : (c : Setting) (x : Chain) → IsChain c x → first_word c.config (Word.Tail x) ≡ 1
+first_tail c Chain.Send ok = refl
+first_tail c (Chain.Take g) ok = ap (λ (b : Bool). cond b 1 0) (lt-ltb g (groups c.config) (group_in c.served (groups c.config) g ok))
 
 abbrev first : Chain → Ghost
 first x = record { calls = 0; answers = 0; marked = 0; server = 0; pass_of = λ k. 0; asked = λ k j. 0; told = λ k j. 0; asks_long = λ k. 0; told_long = λ k. 1; chain = λ k. 0; at = λ p. 0 }
@@ -71,7 +63,7 @@ module _ (c : Setting) (x : Chain) (ok : IsChain c x) where
   post : (p : ℕ) → p < members c x → post_at x ((opening c).stand (pass_on c x p)) ≡ out 0 (p + 1)
   post p pn = ap (λ (z : Stand). post_at x z) (stands p pn)
 
-  tail : first_word c.config (Tail x) ≡ 1
+  tail : first_word c.config (Word.Tail x) ≡ 1
   tail = first_tail c x ok
 
   inv : Inv (members c x) c.config.bound (view c x (opening c)) (first x)
@@ -121,8 +113,8 @@ module _ (c : Setting) (x : Chain) (ok : IsChain c x) where
 
 -- nothing is called at the opening
 pub no_calls : (groups : ℕ) (x : Chain) → side x (empty groups) ≡ silent
-no_calls n Send = refl
-no_calls n (Take g) = all_silent n g
+no_calls n Chain.Send = refl
+no_calls n (Chain.Take g) = all_silent n g
   where
     all_silent : (n g : ℕ) → get_or (replicate n silent) g silent ≡ silent
     all_silent zero g = refl
@@ -130,8 +122,8 @@ no_calls n (Take g) = all_silent n g
     all_silent (suc n) (suc g) = all_silent n g
 
 has_side : (c : Setting) (x : Chain) → IsChain c x → HasSide x (empty (groups c.config))
-has_side c Send ok = tt
-has_side c (Take g) ok = omega (arith, group_in c.served (groups c.config) g ok, length-replicate (groups c.config) silent)
+has_side c Chain.Send ok = tt
+has_side c (Chain.Take g) ok = omega (arith, group_in c.served (groups c.config) g ok, length-replicate (groups c.config) silent)
 
 pub opened : (c : Setting) (x : Chain) → IsChain c x → Holds c x (opening c)
 opened c x ok = record {

@@ -6,21 +6,7 @@ use Rattle.std.proofs.lemmas.List.{get_or-set_other}
 use Rattle.std.proofs.lemmas.Nat.{div-mul-add, div-add-mod'}
 use Rattle.std.proofs.Math.Nat.{mod-lt, div-lt_iff_lt-mul}
 use Rattle.cc_model.specs.Record.{Side, Record, silent}
-use Rattle.cc_model.specs.declared.config.Config.{Config}
-use Rattle.cc_model.specs.declared.call.Entry.{Entry}
-use Rattle.cc_model.specs.declared.call.Answer.{Answer}
-use Rattle.cc_runs.specs.declared.setting.Setting.{Setting}
-use Rattle.cc_runs.specs.declared.setting.Served.{Served}
-use Rattle.cc_runs.specs.declared.setting.Served.TheVariants as served
-use Rattle.cc_runs.specs.declared.word.Chain.{Chain}
-use Rattle.cc_runs.specs.declared.word.Chain.TheVariants.{Send, Take}
-use Rattle.cc_runs.specs.declared.word.NodeField.{NodeField}
-use Rattle.cc_runs.specs.declared.word.NodeField.TheVariants as node
-use Rattle.cc_runs.specs.declared.word.Word.{Word}
-use Rattle.cc_runs.specs.declared.word.Word.TheVariants.{Tail, Node}
-use Rattle.cc_runs.specs.declared.place.Stand.{Stand}
-use Rattle.cc_runs.specs.declared.place.Place.{Place}
-use Rattle.cc_runs.specs.declared.place.Place.TheVariants as place
+use Rattle.cc_runs.specs.Names.{Config, Entry, Answer, Setting, Served, Chain, NodeField, Word, Stand, Place}
 use Rattle.cc_runs.specs.Words.{groups, put, same, same_chain, same_field}
 use Rattle.cc_runs.specs.Codes.{tag_of, body_words, word, ret_of}
 use Rattle.cc_runs.specs.State.{State, chain_of, side, with_side, hold, stored, word_of}
@@ -39,59 +25,59 @@ use Rattle.cc_runs.proofs.Chains.Facts.{keeps_side}
 
 -- a senders' chain and a receivers' chain, or those of two groups
 abbrev pub IsOther : Chain → Chain → Type 0
-IsOther Send (Take g) = Unit {0}
-IsOther (Take g) Send = Unit {0}
-IsOther (Take g) (Take h) = g ≢ h
-IsOther Send Send = ⊥
+IsOther Chain.Send (Chain.Take g) = Unit {0}
+IsOther (Chain.Take g) Chain.Send = Unit {0}
+IsOther (Chain.Take g) (Chain.Take h) = g ≢ h
+IsOther Chain.Send Chain.Send = ⊥
 
 other_off : (x y : Chain) → IsOther x y → same_chain y x ≡ false
-other_off Send (Take g) o = refl
-other_off (Take g) Send o = refl
-other_off Send Send o = absurd o
-other_off (Take g) (Take h) o = ne_eqb h g (λ e. o (sym e))
+other_off Chain.Send (Chain.Take g) o = refl
+other_off (Chain.Take g) Chain.Send o = refl
+other_off Chain.Send Chain.Send o = absurd o
+other_off (Chain.Take g) (Chain.Take h) o = ne_eqb h g (λ e. o (sym e))
 
-put_other : (mem : Word → ℕ) (x y : Chain) (k i : ℕ) (f g : NodeField) (value : ℕ) → IsOther x y → put mem (Node y k f) value (Node x i g) ≡ mem (Node x i g)
+put_other : (mem : Word → ℕ) (x y : Chain) (k i : ℕ) (f g : NodeField) (value : ℕ) → IsOther x y → put mem (Word.Node y k f) value (Word.Node x i g) ≡ mem (Word.Node x i g)
 put_other mem x y k i f g value o =
-    let off : same (Node y k f) (Node x i g) ≡ false =
+    let off : same (Word.Node y k f) (Word.Node x i g) ≡ false =
     ap (λ (b : Bool). (same_field f g && b) && (k == i)) (other_off x y o) ∙ ap (λ (b : Bool). b && (k == i)) (and-false (same_field f g)) in
-    ap (λ (b : Bool). cond b value (mem (Node x i g))) off
+    ap (λ (b : Bool). cond b value (mem (Word.Node x i g))) off
 
-put_tail : (mem : Word → ℕ) (x y : Chain) (value : ℕ) → IsOther x y → put mem (Tail y) value (Tail x) ≡ mem (Tail x)
-put_tail mem x y value o = ap (λ (b : Bool). cond b value (mem (Tail x))) (other_off x y o)
+put_tail : (mem : Word → ℕ) (x y : Chain) (value : ℕ) → IsOther x y → put mem (Word.Tail y) value (Word.Tail x) ≡ mem (Word.Tail x)
+put_tail mem x y value o = ap (λ (b : Bool). cond b value (mem (Word.Tail x))) (other_off x y o)
 
 module _ (c : Setting) (mem : Word → ℕ) (x y : Chain) (o : IsOther x y) (own : ℕ) where
-  other_tail : (at : Place) → stored mem (operation c y own at) (Tail x) ≡ mem (Tail x)
-  other_tail (place.Exchange call) = put_tail mem x y (own + 1) o
-  other_tail (place.Counting job service) = count_tail c mem x job.round.at service
-  other_tail (place.Sending job service) = send_tail c mem x job.round.at service
-  other_tail (place.Taking job service) = take_tail c mem x (group_of y) service
+  other_tail : (at : Place) → stored mem (operation c y own at) (Word.Tail x) ≡ mem (Word.Tail x)
+  other_tail (Place.Exchange call) = put_tail mem x y (own + 1) o
+  other_tail (Place.Counting job service) = count_tail c mem x job.round.at service
+  other_tail (Place.Sending job service) = send_tail c mem x job.round.at service
+  other_tail (Place.Taking job service) = take_tail c mem x (group_of y) service
   other_tail _ = refl
 
-  other_words : (i : ℕ) (f : NodeField) (at : Place) → stored mem (operation c y own at) (Node x i f) ≡ mem (Node x i f)
-  other_words i f (place.ResetNext call) = put_other mem x y own i node.Next f 0 o
-  other_words i f (place.ResetState call) = put_other mem x y own i node.State f 1 o
-  other_words i f (place.WriteTag put request) = put_other mem x y own i node.Tag f request.tag o
-  other_words i f (place.WriteBody put request j) = put_other mem x y own i (node.Body j) f (word request.body j) o
-  other_words i f (place.Link put) = put_other mem x y own i node.Next f (put + 1) o
-  other_words i f (place.Counting job service) = count_words c mem x job.round.at i f service
-  other_words i f (place.Sending job service) = send_words c mem x job.round.at i f service
-  other_words i f (place.Taking job service) = take_words c mem x (group_of y) i f service
-  other_words i f (place.WriteAnswer job told) = put_other mem x y job.round.at i node.Ret f (ret_of c.served told) o
-  other_words i f (place.WriteAnswerTag job item) = put_other mem x y job.round.at i node.Tag f (tag_of item) o
-  other_words i f (place.WriteAnswerBody job item j) = put_other mem x y job.round.at i (node.Body j) f (word (body_words item) j) o
-  other_words i f (place.MarkDone job) = put_other mem x y job.round.at i node.State f 2 o
-  other_words i f (place.HandOver at) = put_other mem x y at i node.State f 0 o
+  other_words : (i : ℕ) (f : NodeField) (at : Place) → stored mem (operation c y own at) (Word.Node x i f) ≡ mem (Word.Node x i f)
+  other_words i f (Place.ResetNext call) = put_other mem x y own i NodeField.Next f 0 o
+  other_words i f (Place.ResetState call) = put_other mem x y own i NodeField.State f 1 o
+  other_words i f (Place.WriteTag put request) = put_other mem x y own i NodeField.Tag f request.tag o
+  other_words i f (Place.WriteBody put request j) = put_other mem x y own i (NodeField.Body j) f (word request.body j) o
+  other_words i f (Place.Link put) = put_other mem x y own i NodeField.Next f (put + 1) o
+  other_words i f (Place.Counting job service) = count_words c mem x job.round.at i f service
+  other_words i f (Place.Sending job service) = send_words c mem x job.round.at i f service
+  other_words i f (Place.Taking job service) = take_words c mem x (group_of y) i f service
+  other_words i f (Place.WriteAnswer job told) = put_other mem x y job.round.at i NodeField.Ret f (ret_of c.served told) o
+  other_words i f (Place.WriteAnswerTag job item) = put_other mem x y job.round.at i NodeField.Tag f (tag_of item) o
+  other_words i f (Place.WriteAnswerBody job item j) = put_other mem x y job.round.at i (NodeField.Body j) f (word (body_words item) j) o
+  other_words i f (Place.MarkDone job) = put_other mem x y job.round.at i NodeField.State f 2 o
+  other_words i f (Place.HandOver at) = put_other mem x y at i NodeField.State f 0 o
   other_words i f _ = refl
 
 -- the history of a chain doesn't get the other's calls and answers
 pub side_other : (x y : Chain) (h : Record) (now : Side) → IsOther x y → side x (with_side y h now) ≡ side x h
-side_other Send (Take g) h now o = refl
-side_other (Take g) Send h now o = refl
-side_other Send Send h now o = absurd o
-side_other (Take g) (Take k) h now o = get_or-set_other h.takes k g now silent o
+side_other Chain.Send (Chain.Take g) h now o = refl
+side_other (Chain.Take g) Chain.Send h now o = refl
+side_other Chain.Send Chain.Send h now o = absurd o
+side_other (Chain.Take g) (Chain.Take k) h now o = get_or-set_other h.takes k g now silent o
 
 -- a state in which the chain's words, history and passes are as they were
-unseen : (c : Setting) (x : Chain) (s t : State) → Holds c x s → t.mem (Tail x) ≡ s.mem (Tail x) → ((i : ℕ) (f : NodeField) → t.mem (Node x i f) ≡ s.mem (Node x i f)) →
+unseen : (c : Setting) (x : Chain) (s t : State) → Holds c x s → t.mem (Word.Tail x) ≡ s.mem (Word.Tail x) → ((i : ℕ) (f : NodeField) → t.mem (Word.Node x i f) ≡ s.mem (Word.Node x i f)) →
     side x t.history ≡ side x s.history → HasSide x t.history → ((q : ℕ) → q < members c x → t.stand (pass_on c x q) ≡ s.stand (pass_on c x q)) → Holds c x t
 unseen c x s t w tail words same there stands =
     let stays : Stays (members c x) (view c x s) (view c x t) = record { tail = tail; nodes = λ i j. cell_of x (λ f. words i f j); posts = λ q qn. ap (λ (z : Stand). post_at x z) (stands q qn) } in
@@ -148,9 +134,9 @@ pub record IsOff (c : Setting) (x : Chain) (p : ℕ) : Type 0 where
   pub other : IsOther x (chain_of c.config p)
   pub away : (q : ℕ) → q < members c x → pass_on c x q ≢ p
 
-pub group_in : (s : Served) (n g : ℕ) → IsChainOf s n (Take g) → g < n
-group_in served.List n g ok = ok
-group_in served.Counter n g ok = absurd ok
+pub group_in : (s : Served) (n g : ℕ) → IsChainOf s n (Chain.Take g) → g < n
+group_in Served.List n g ok = ok
+group_in Served.Counter n g ok = absurd ok
 
 -- a receiver, by its group and its number in it
 pub record InGroup (config : Config) (p : ℕ) : Type 0 where
@@ -158,14 +144,14 @@ pub record InGroup (config : Config) (p : ℕ) : Type 0 where
   pub number : ℕ
   pub inside : number < config.receivers
   pub pass_is : p ≡ config.senders + (group * config.receivers + number)
-  pub chain_is : chain_of config p ≡ Take group
+  pub chain_is : chain_of config p ≡ Chain.Take group
   pub group_in : p < config.senders + groups config * config.receivers → group < groups config
 
-pub sender_chain : (config : Config) (p : ℕ) → p < config.senders → chain_of config p ≡ Send
-sender_chain config p less = ap (λ (b : Bool). cond b Send (Take ((p - config.senders) / config.receivers))) (lt-ltb p config.senders less)
+pub sender_chain : (config : Config) (p : ℕ) → p < config.senders → chain_of config p ≡ Chain.Send
+sender_chain config p less = ap (λ (b : Bool). cond b Chain.Send (Chain.Take ((p - config.senders) / config.receivers))) (lt-ltb p config.senders less)
 
-pub receiver_chain : (config : Config) (p : ℕ) → config.senders ≤ p → chain_of config p ≡ Take ((p - config.senders) / config.receivers)
-receiver_chain config p far = ap (λ (b : Bool). cond b Send (Take ((p - config.senders) / config.receivers))) (le-ltb p config.senders far)
+pub receiver_chain : (config : Config) (p : ℕ) → config.senders ≤ p → chain_of config p ≡ Chain.Take ((p - config.senders) / config.receivers)
+receiver_chain config p far = ap (λ (b : Bool). cond b Chain.Send (Chain.Take ((p - config.senders) / config.receivers))) (le-ltb p config.senders far)
 
 pub in_group : (config : Config) (p : ℕ) → 0 < config.receivers → config.senders ≤ p → InGroup config p
 in_group config p some far =
@@ -185,37 +171,37 @@ group_is config g number less =
     let back : config.senders + (g * config.receivers + number) - config.senders ≡ g * config.receivers + number = omega arith in
     ap (λ (k : ℕ). k / config.receivers) back ∙ div-mul-add g config.receivers number less
 
-some_receivers : (s : Served) (config : Config) (p g : ℕ) → IsChainOf s (groups config) (Take g) → p < passes_of s config → config.senders ≤ p → 0 < config.receivers
-some_receivers served.List config p g ok less far = elim (cases_eq config.receivers 0) [
+some_receivers : (s : Served) (config : Config) (p g : ℕ) → IsChainOf s (groups config) (Chain.Take g) → p < passes_of s config → config.senders ≤ p → 0 < config.receivers
+some_receivers Served.List config p g ok less far = elim (cases_eq config.receivers 0) [
   | inl none ↦ absurd (omega (arith, less, far, ap (λ (k : ℕ). groups config * k) none))
   | inr some ↦ omega (arith, some)
 ]
-some_receivers served.Counter config p g ok less far = absurd ok
+some_receivers Served.Counter config p g ok less far = absurd ok
 
-list_passes : (s : Served) (config : Config) (p g : ℕ) → IsChainOf s (groups config) (Take g) → p < passes_of s config → p < config.senders + groups config * config.receivers
-list_passes served.List config p g ok less = less
-list_passes served.Counter config p g ok less = absurd ok
+list_passes : (s : Served) (config : Config) (p g : ℕ) → IsChainOf s (groups config) (Chain.Take g) → p < passes_of s config → p < config.senders + groups config * config.receivers
+list_passes Served.List config p g ok less = less
+list_passes Served.Counter config p g ok less = absurd ok
 
 pub which : (c : Setting) (x : Chain) → IsChain c x → (p : ℕ) → p < passes c → IsOn c x p ⊎ IsOff c x p
-which c Send ok p less = elim (cases_lt p c.config.senders) [
+which c Chain.Send ok p less = elim (cases_lt p c.config.senders) [
   | inl near ↦ inl record { number = p; inside = near; pass_is = refl; chain_is = sender_chain c.config p near }
-  | inr far ↦ inr record { other = subst (λ (y : Chain). IsOther Send y) (sym (receiver_chain c.config p far)) tt; away = λ q qn same. omega arith }
+  | inr far ↦ inr record { other = subst (λ (y : Chain). IsOther Chain.Send y) (sym (receiver_chain c.config p far)) tt; away = λ q qn same. omega arith }
 ]
-which c (Take g) ok p less = elim (cases_lt p c.config.senders) [
-  | inl near ↦ inr record { other = subst (λ (y : Chain). IsOther (Take g) y) (sym (sender_chain c.config p near)) tt; away = λ q qn same. omega arith }
+which c (Chain.Take g) ok p less = elim (cases_lt p c.config.senders) [
+  | inl near ↦ inr record { other = subst (λ (y : Chain). IsOther (Chain.Take g) y) (sym (sender_chain c.config p near)) tt; away = λ q qn same. omega arith }
   | inr far ↦ here (in_group c.config p (some_receivers c.served c.config p g ok less far) far)
 ]
   where
-    here : InGroup c.config p → IsOn c (Take g) p ⊎ IsOff c (Take g) p
+    here : InGroup c.config p → IsOn c (Chain.Take g) p ⊎ IsOff c (Chain.Take g) p
     here i = elim (cases_eq g i.group) [
       | inl same ↦ inl record {
         number = i.number;
         inside = i.inside;
         pass_is = i.pass_is ∙ ap (λ (k : ℕ). c.config.senders + (k * c.config.receivers + i.number)) (sym same);
-        chain_is = i.chain_is ∙ ap (λ (k : ℕ). Take k) (sym same);
+        chain_is = i.chain_is ∙ ap (λ (k : ℕ). Chain.Take k) (sym same);
       }
       | inr ne ↦ inr record {
-        other = subst (λ (y : Chain). IsOther (Take g) y) (sym i.chain_is) ne;
+        other = subst (λ (y : Chain). IsOther (Chain.Take g) y) (sym i.chain_is) ne;
         away = λ q qn same. ne (sym (group_is c.config g q qn) ∙ ap (λ (k : ℕ). (k - c.config.senders) / c.config.receivers) (same ∙ i.pass_is) ∙ group_is c.config i.group i.number i.inside);
       }
     ]

@@ -1,23 +1,7 @@
 -- The steps that one side alone has, and the reading of an answer, keep what holds of the chain.
 use Rattle.std.proofs.lemmas.Bool.{ltb-true, ltb-false}
 use Rattle.std.proofs.Common.{◌≡◌, ◌≢◌, ◌⊎◌, ℕ, suc, ◌+◌, ◌<◌, ◌≤◌, Bool, true, false, nat_lt, cond, refl, ap, sym, ◌∙◌, subst, arith, inl, inr, None}
-use Rattle.cc_model.specs.declared.call.Entry.{Entry}
-use Rattle.cc_model.specs.declared.call.Item.{Item}
-use Rattle.cc_model.specs.declared.call.Answer.{Answer}
-use Rattle.cc_model.specs.declared.call.Answer.TheVariants as answer
-use Rattle.cc_model.specs.declared.call.TakeAnswer.TheVariants as take
-use Rattle.cc_runs.specs.declared.setting.Setting.{Setting}
-use Rattle.cc_runs.specs.declared.word.Chain.{Chain}
-use Rattle.cc_runs.specs.declared.word.Chain.TheVariants.{Send, Take}
-use Rattle.cc_runs.specs.declared.word.NodeField.{NodeField}
-use Rattle.cc_runs.specs.declared.word.NodeField.TheVariants as node
-use Rattle.cc_runs.specs.declared.word.Word.TheVariants.{Tail, Node}
-use Rattle.cc_runs.specs.declared.place.Stand.{Stand}
-use Rattle.cc_runs.specs.declared.place.Job.{Job}
-use Rattle.cc_runs.specs.declared.place.Request.{Request}
-use Rattle.cc_runs.specs.declared.place.Parcel.{Parcel}
-use Rattle.cc_runs.specs.declared.place.Place.{Place}
-use Rattle.cc_runs.specs.declared.place.Place.TheVariants as place
+use Rattle.cc_runs.specs.Names.{Entry, Item, Answer, TakeAnswer, Setting, Chain, NodeField, Word, Stand, Job, Request, Parcel, Place}
 use Rattle.cc_runs.specs.Codes.{item_of, item_in, tag_of, body_words, parcel, no_words, with_read, further_words, word, request_in, ret_of, code_of, value_of, sender_reads}
 use Rattle.cc_runs.specs.State.{State}
 use Rattle.cc_runs.specs.Lines.{goes, node_after, enters, decides, after_ret}
@@ -36,40 +20,40 @@ use Rattle.cc_runs.proofs.Chains.Steps.{Moves, goes_on}
 use Rattle.cc_runs.proofs.Chains.Serve.{At, then, finds, seen, the_call, the_answer, serves_at, tells}
 
 -- a sender writes its request
-module _ (c : Setting) (some : 0 < c.config.bound) (s : State) (p begun own : ℕ) (inside : p < members c Send) (w : Holds c Send s) where
+module _ (c : Setting) (some : 0 < c.config.bound) (s : State) (p begun own : ℕ) (inside : p < members c Chain.Send) (w : Holds c Chain.Send s) where
   -- the call that it asks for
   abbrev its_call : Entry
-  its_call = call_at (calls_on Send s.history) (w.ghost.at p)
+  its_call = call_at (calls_on Chain.Send s.history) (w.ghost.at p)
 
-  long_is : (at : Place) → At c Send tt some s p begun own inside w at → (post_of Send own at).rank ≡ 3 → w.ghost.asks_long (w.ghost.at p) ≡ request_long Send its_call
-  long_is at e three = w.ties.asks_long (w.ghost.at p) (w.inv.passes.at_in p inside (omega (arith, ap (λ z. z.rank) (seen c Send tt some s p begun own inside w at e) ∙ three)))
+  long_is : (at : Place) → At c Chain.Send tt some s p begun own inside w at → (post_of Chain.Send own at).rank ≡ 3 → w.ghost.asks_long (w.ghost.at p) ≡ request_long Chain.Send its_call
+  long_is at e three = w.ties.asks_long (w.ghost.at p) (w.inv.passes.at_in p inside (omega (arith, ap (λ z. z.rank) (seen c Chain.Send tt some s p begun own inside w at e) ∙ three)))
 
   -- a word that it hasn't written yet, or how many there are
-  asks_is : (at : Place) (j : ℕ) → At c Send tt some s p begun own inside w at → (post_of Send own at).rank ≡ 3 → (post_of Send own at).wrote ≤ j → (post_of Send own at).asks j ≡ asked_words Send its_call j
+  asks_is : (at : Place) (j : ℕ) → At c Chain.Send tt some s p begun own inside w at → (post_of Chain.Send own at).rank ≡ 3 → (post_of Chain.Send own at).wrote ≤ j → (post_of Chain.Send own at).asks j ≡ asked_words Chain.Send its_call j
   asks_is at j e three low =
-      let is : post_at Send (s.stand (pass_on c Send p)) ≡ post_of Send own at = seen c Send tt some s p begun own inside w at e in
-      let rank : (post_at Send (s.stand (pass_on c Send p))).rank ≡ 3 = ap (λ z. z.rank) is ∙ three in
+      let is : post_at Chain.Send (s.stand (pass_on c Chain.Send p)) ≡ post_of Chain.Send own at = seen c Chain.Send tt some s p begun own inside w at e in
+      let rank : (post_at Chain.Send (s.stand (pass_on c Chain.Send p))).rank ≡ 3 = ap (λ z. z.rank) is ∙ three in
       sym (ap (λ z. z.asks j) is) ∙ w.inv.links.asks_is p j inside rank (omega (arith, ap (λ z. z.wrote) is)) ∙ w.ties.asked (w.ghost.at p) j (w.inv.passes.at_in p inside (omega (arith, rank)))
 
-  write_tag_send : (put : ℕ) (request : Request) → At c Send tt some s p begun own inside w (place.WriteTag put request) → Holds c Send (then c Send tt some s p begun own inside w (place.WriteTag put request))
+  write_tag_send : (put : ℕ) (request : Request) → At c Chain.Send tt some s p begun own inside w (Place.WriteTag put request) → Holds c Chain.Send (then c Chain.Send tt some s p begun own inside w (Place.WriteTag put request))
   write_tag_send put request e =
-      goes_on c Send tt some s p begun own inside w (place.WriteTag put request) (place.WriteBody put request 0) w.ghost.marked w.ghost.server refl refl refl
-      (by_writerequest.keeps (members c Send) c.config.bound (view c Send s) (view c Send (then c Send tt some s p begun own inside w (place.WriteTag put request))) w.ghost p inside w.inv
+      goes_on c Chain.Send tt some s p begun own inside w (Place.WriteTag put request) (Place.WriteBody put request 0) w.ghost.marked w.ghost.server refl refl refl
+      (by_writerequest.keeps (members c Chain.Send) c.config.bound (view c Chain.Send s) (view c Chain.Send (then c Chain.Send tt some s p begun own inside w (Place.WriteTag put request))) w.ghost p inside w.inv
       (sides.write_tag c s p begun own (w.ghost.asks_long (w.ghost.at p)) put request e))
       record { onward = omega arith; call = (tt, omega arith); read = tt; ended = λ f. absurd f; serves = λ a. tt; keep = λ q ne a. (a, refl) }
 
-  write_body_by : (put : ℕ) (request : Request) (i : ℕ) (b : Bool) → nat_lt i (further_words request.tag) ≡ b → At c Send tt some s p begun own inside w (place.WriteBody put request i) →
-      Holds c Send (then c Send tt some s p begun own inside w (place.WriteBody put request i))
+  write_body_by : (put : ℕ) (request : Request) (i : ℕ) (b : Bool) → nat_lt i (further_words request.tag) ≡ b → At c Chain.Send tt some s p begun own inside w (Place.WriteBody put request i) →
+      Holds c Chain.Send (then c Chain.Send tt some s p begun own inside w (Place.WriteBody put request i))
   write_body_by put request i b is e =
-      let has : OnSend Send × (i ≤ further_words request.tag) = subst (λ (z : Stand). HasCall c Send p z.place) e (w.ties.begun p inside) in
-      let many : further_words request.tag ≡ further_words (request_in its_call).tag = asks_is (place.WriteBody put request i) 5 e refl (omega (arith, has.1, few_further request.tag)) in
-      goes_on c Send tt some s p begun own inside w (place.WriteBody put request i) (cond b (place.WriteBody put request (i + 1)) (place.Link put)) w.ghost.marked w.ghost.server
-      (ap (λ (z : Bool). cond z (place.WriteBody put request (i + 1)) (place.Link put)) is) refl refl
-      (by_writerequest.keeps (members c Send) c.config.bound (view c Send s) (view c Send (then c Send tt some s p begun own inside w (place.WriteBody put request i))) w.ghost p inside w.inv
-      (sides.write_body c s p begun own (w.ghost.asks_long (w.ghost.at p)) put request i (long_is (place.WriteBody put request i) e refl ∙ ap (λ (z : ℕ). z + 2) (sym many)) has.1 e))
+      let has : OnSend Chain.Send × (i ≤ further_words request.tag) = subst (λ (z : Stand). HasCall c Chain.Send p z.place) e (w.ties.begun p inside) in
+      let many : further_words request.tag ≡ further_words (request_in its_call).tag = asks_is (Place.WriteBody put request i) 5 e refl (omega (arith, has.1, few_further request.tag)) in
+      goes_on c Chain.Send tt some s p begun own inside w (Place.WriteBody put request i) (cond b (Place.WriteBody put request (i + 1)) (Place.Link put)) w.ghost.marked w.ghost.server
+      (ap (λ (z : Bool). cond z (Place.WriteBody put request (i + 1)) (Place.Link put)) is) refl refl
+      (by_writerequest.keeps (members c Chain.Send) c.config.bound (view c Chain.Send s) (view c Chain.Send (then c Chain.Send tt some s p begun own inside w (Place.WriteBody put request i))) w.ghost p inside w.inv
+      (sides.write_body c s p begun own (w.ghost.asks_long (w.ghost.at p)) put request i (long_is (Place.WriteBody put request i) e refl ∙ ap (λ (z : ℕ). z + 2) (sym many)) has.1 e))
       (moves b is)
     where
-      moves : (b : Bool) → nat_lt i (further_words request.tag) ≡ b → Moves c Send s w.ghost p w.ghost.marked w.ghost.server (cond b (place.WriteBody put request (i + 1)) (place.Link put))
+      moves : (b : Bool) → nat_lt i (further_words request.tag) ≡ b → Moves c Chain.Send s w.ghost p w.ghost.marked w.ghost.server (cond b (Place.WriteBody put request (i + 1)) (Place.Link put))
       moves true is = record { onward = omega arith; call = (tt, omega (arith, ltb-true i (further_words request.tag) is)); read = tt; ended = λ f. absurd f; serves = λ a. tt; keep = λ q ne a. (a, refl) }
       moves false is = record { onward = omega arith; call = tt; read = tt; ended = λ f. absurd f; serves = λ a. tt; keep = λ q ne a. (a, refl) }
 
@@ -85,24 +69,24 @@ module _ (c : Setting) (x : Chain) (ok : IsChain c x) (some : 0 < c.config.bound
   answer_is at e six = w.ties.answered (w.ghost.at p) (done_before at e six)
 
   -- word j of it
-  pub word_at : (at : Place) (j : ℕ) → At c x ok some s p begun own inside w at → post_of x own at ≡ post_of x own place.ReadAnswer → j < answer_long its_answer →
-      answer_words x (λ (f : NodeField). s.mem (Node x own f)) j ≡ coded_words c.served x its_answer j
+  pub word_at : (at : Place) (j : ℕ) → At c x ok some s p begun own inside w at → post_of x own at ≡ post_of x own Place.ReadAnswer → j < answer_long its_answer →
+      answer_words x (λ (f : NodeField). s.mem (Word.Node x own f)) j ≡ coded_words c.served x its_answer j
   word_at at j e six less =
-      let is : post_at x (s.stand (pass_on c x p)) ≡ post_of x own place.ReadAnswer = seen c x ok some s p begun own inside w at e ∙ six in
+      let is : post_at x (s.stand (pass_on c x p)) ≡ post_of x own Place.ReadAnswer = seen c x ok some s p begun own inside w at e ∙ six in
       let rank : (post_at x (s.stand (pass_on c x p))).rank ≡ 6 = ap (λ z. z.rank) is in
       let node_is : (post_at x (s.stand (pass_on c x p))).node ≡ own = ap (λ z. z.node) is in
       let below : w.ghost.at p < w.ghost.answers = done_before at e (ap (λ z. z.rank) six) in
-      let told : answer_words x (λ (f : NodeField). s.mem (Node x (post_at x (s.stand (pass_on c x p))).node f)) j ≡ w.ghost.told (w.ghost.at p) j =
+      let told : answer_words x (λ (f : NodeField). s.mem (Word.Node x (post_at x (s.stand (pass_on c x p))).node f)) j ≡ w.ghost.told (w.ghost.at p) j =
       w.inv.words.done_told p j inside (omega (arith, rank)) (w.inv.passes.late p inside rank) (omega (arith, w.ties.told_long (w.ghost.at p) below)) in
-      ap (λ (z : ℕ). answer_words x (λ (f : NodeField). s.mem (Node x z f)) j) (sym node_is) ∙ told ∙ w.ties.told (w.ghost.at p) j below
+      ap (λ (z : ℕ). answer_words x (λ (f : NodeField). s.mem (Word.Node x z f)) j) (sym node_is) ∙ told ∙ w.ties.told (w.ghost.at p) j below
 
   idle_server : (at : Place) → At c x ok some s p begun own inside w at → (post_of x own at).rank ≡ 6 → w.ghost.server ≢ p + 1
   idle_server at e six a = absurd (omega (arith, w.inv.server.server_rank p a, ap (λ z. z.rank) (seen c x ok some s p begun own inside w at e) ∙ six))
 
   -- not all of it is read yet
-  reads_more : (at there : Place) → At c x ok some s p begun own inside w at → post_of x own at ≡ post_of x own place.ReadAnswer → post_of x own there ≡ post_of x own place.ReadAnswer →
+  reads_more : (at there : Place) → At c x ok some s p begun own inside w at → post_of x own at ≡ post_of x own Place.ReadAnswer → post_of x own there ≡ post_of x own Place.ReadAnswer →
       goes c x own at (finds c x ok some s p begun own inside w at) ≡ there → enters at ≡ None → decides c at (finds c x ok some s p begun own inside w at) ≡ None → node_after own at (finds c x ok some s p begun own inside w at) ≡ own →
-      (then c x ok some s p begun own inside w at).mem (Tail x) ≡ s.mem (Tail x) → ((i : ℕ) (f : NodeField) → (then c x ok some s p begun own inside w at).mem (Node x i f) ≡ s.mem (Node x i f)) →
+      (then c x ok some s p begun own inside w at).mem (Word.Tail x) ≡ s.mem (Word.Tail x) → ((i : ℕ) (f : NodeField) → (then c x ok some s p begun own inside w at).mem (Word.Node x i f) ≡ s.mem (Word.Node x i f)) →
       HasCall c x p there → HasRead c.served x its_answer there → (IsFinished there → ⊥) → Holds c x (then c x ok some s p begun own inside w at)
   reads_more at there e six next_six go enter none keeps_node tail words call read unfinished =
       goes_on c x ok some s p begun own inside w at there w.ghost.marked w.ghost.server go enter none
@@ -111,9 +95,9 @@ module _ (c : Setting) (x : Chain) (ok : IsChain c x) (some : 0 < c.config.bound
       record { onward = omega arith; call = call; read = read; ended = λ f. absurd (unfinished f); serves = λ a. absurd (idle_server at e (ap (λ z. z.rank) six) a); keep = λ q ne a. (a, refl) }
 
   -- all of it is read
-  reads_end : (at there : Place) → At c x ok some s p begun own inside w at → post_of x own at ≡ post_of x own place.ReadAnswer → post_of x own there ≡ post_of x own place.Idle →
+  reads_end : (at there : Place) → At c x ok some s p begun own inside w at → post_of x own at ≡ post_of x own Place.ReadAnswer → post_of x own there ≡ post_of x own Place.Idle →
       goes c x own at (finds c x ok some s p begun own inside w at) ≡ there → enters at ≡ None → decides c at (finds c x ok some s p begun own inside w at) ≡ None → node_after own at (finds c x ok some s p begun own inside w at) ≡ own →
-      (then c x ok some s p begun own inside w at).mem (Tail x) ≡ s.mem (Tail x) → ((i : ℕ) (f : NodeField) → (then c x ok some s p begun own inside w at).mem (Node x i f) ≡ s.mem (Node x i f)) →
+      (then c x ok some s p begun own inside w at).mem (Word.Tail x) ≡ s.mem (Word.Tail x) → ((i : ℕ) (f : NodeField) → (then c x ok some s p begun own inside w at).mem (Word.Node x i f) ≡ s.mem (Word.Node x i f)) →
       HasCall c x p there → HasRead c.served x its_answer there → Holds c x (then c x ok some s p begun own inside w at)
   reads_end at there e six next_out go enter none keeps_node tail words call read =
       let rank : (post_at x (s.stand (pass_on c x p))).rank ≡ 6 = ap (λ z. z.rank) (seen c x ok some s p begun own inside w at e ∙ six) in
@@ -130,121 +114,121 @@ module _ (c : Setting) (x : Chain) (ok : IsChain c x) (some : 0 < c.config.bound
       }
 
 -- a receiver is told an item, and reads it
-module _ (c : Setting) (g : ℕ) (ok : IsChain c (Take g)) (some : 0 < c.config.bound) (s : State) (p begun own : ℕ) (inside : p < members c (Take g)) (w : Holds c (Take g) s) where
-  write_answer_tag_take : (job : Job) (item : Item) → At c (Take g) ok some s p begun own inside w (place.WriteAnswerTag job item) → Holds c (Take g) (then c (Take g) ok some s p begun own inside w (place.WriteAnswerTag job item))
+module _ (c : Setting) (g : ℕ) (ok : IsChain c (Chain.Take g)) (some : 0 < c.config.bound) (s : State) (p begun own : ℕ) (inside : p < members c (Chain.Take g)) (w : Holds c (Chain.Take g) s) where
+  write_answer_tag_take : (job : Job) (item : Item) → At c (Chain.Take g) ok some s p begun own inside w (Place.WriteAnswerTag job item) → Holds c (Chain.Take g) (then c (Chain.Take g) ok some s p begun own inside w (Place.WriteAnswerTag job item))
   write_answer_tag_take job item e =
-      let is : the_answer c (Take g) ok some s p begun own inside w ≡ answer.Take (take.Got item) = serves_at c (Take g) ok some s p begun own inside w (place.WriteAnswerTag job item) e refl in
-      tells c (Take g) ok some s p begun own inside w (place.WriteAnswerTag job item) (place.WriteAnswerBody job item 0) (further_words (tag_of item) + 3) (tag_of item) 1 e refl refl refl refl refl refl refl
-      (sides.write_answer_tag c g s p begun own job item e) (sym (ap answer_long is)) (sym (ap (λ (z : Answer). coded_words c.served (Take g) z 1) is)) (is, omega arith)
+      let is : the_answer c (Chain.Take g) ok some s p begun own inside w ≡ Answer.Take (TakeAnswer.Got item) = serves_at c (Chain.Take g) ok some s p begun own inside w (Place.WriteAnswerTag job item) e refl in
+      tells c (Chain.Take g) ok some s p begun own inside w (Place.WriteAnswerTag job item) (Place.WriteAnswerBody job item 0) (further_words (tag_of item) + 3) (tag_of item) 1 e refl refl refl refl refl refl refl
+      (sides.write_answer_tag c g s p begun own job item e) (sym (ap answer_long is)) (sym (ap (λ (z : Answer). coded_words c.served (Chain.Take g) z 1) is)) (is, omega arith)
 
-  write_answer_by : (job : Job) (item : Item) (i : ℕ) (b : Bool) → nat_lt i (further_words (tag_of item)) ≡ b → At c (Take g) ok some s p begun own inside w (place.WriteAnswerBody job item i) →
-      Holds c (Take g) (then c (Take g) ok some s p begun own inside w (place.WriteAnswerBody job item i))
+  write_answer_by : (job : Job) (item : Item) (i : ℕ) (b : Bool) → nat_lt i (further_words (tag_of item)) ≡ b → At c (Chain.Take g) ok some s p begun own inside w (Place.WriteAnswerBody job item i) →
+      Holds c (Chain.Take g) (then c (Chain.Take g) ok some s p begun own inside w (Place.WriteAnswerBody job item i))
   write_answer_by job item i b is e =
-      let has = serves_at c (Take g) ok some s p begun own inside w (place.WriteAnswerBody job item i) e refl in
-      tells c (Take g) ok some s p begun own inside w (place.WriteAnswerBody job item i) (cond b (place.WriteAnswerBody job item (i + 1)) (place.MarkDone job)) (further_words (tag_of item) + 3) (word (body_words item) i) (suc (suc i)) e refl refl refl
-      (ap (λ (z : Bool). cond z (place.WriteAnswerBody job item (i + 1)) (place.MarkDone job)) is) refl refl (rank b)
-      (sides.write_answer_body c g s p begun own job item i e) (sym (ap answer_long has.0)) (sym (ap (λ (z : Answer). coded_words c.served (Take g) z (suc (suc i))) has.0)) (serves b is has.0)
+      let has = serves_at c (Chain.Take g) ok some s p begun own inside w (Place.WriteAnswerBody job item i) e refl in
+      tells c (Chain.Take g) ok some s p begun own inside w (Place.WriteAnswerBody job item i) (cond b (Place.WriteAnswerBody job item (i + 1)) (Place.MarkDone job)) (further_words (tag_of item) + 3) (word (body_words item) i) (suc (suc i)) e refl refl refl
+      (ap (λ (z : Bool). cond z (Place.WriteAnswerBody job item (i + 1)) (Place.MarkDone job)) is) refl refl (rank b)
+      (sides.write_answer_body c g s p begun own job item i e) (sym (ap answer_long has.0)) (sym (ap (λ (z : Answer). coded_words c.served (Chain.Take g) z (suc (suc i))) has.0)) (serves b is has.0)
     where
-      rank : (b : Bool) → (post_of (Take g) own (cond b (place.WriteAnswerBody job item (i + 1)) (place.MarkDone job))).rank ≡ 5
+      rank : (b : Bool) → (post_of (Chain.Take g) own (cond b (Place.WriteAnswerBody job item (i + 1)) (Place.MarkDone job))).rank ≡ 5
       rank true = refl
       rank false = refl
 
-      serves : (b : Bool) → nat_lt i (further_words (tag_of item)) ≡ b → the_answer c (Take g) ok some s p begun own inside w ≡ answer.Take (take.Got item) →
-          HasService c.served (Take g) (the_call c (Take g) ok some s p begun own inside w) (the_answer c (Take g) ok some s p begun own inside w) (cond b (place.WriteAnswerBody job item (i + 1)) (place.MarkDone job))
+      serves : (b : Bool) → nat_lt i (further_words (tag_of item)) ≡ b → the_answer c (Chain.Take g) ok some s p begun own inside w ≡ Answer.Take (TakeAnswer.Got item) →
+          HasService c.served (Chain.Take g) (the_call c (Chain.Take g) ok some s p begun own inside w) (the_answer c (Chain.Take g) ok some s p begun own inside w) (cond b (Place.WriteAnswerBody job item (i + 1)) (Place.MarkDone job))
       serves true is same = (same, omega (arith, ltb-true i (further_words (tag_of item)) is))
       serves false is same = tt
 
   abbrev item_answer : Answer
-  item_answer = answer_at (answers_on (Take g) s.history) (w.ghost.at p)
+  item_answer = answer_at (answers_on (Chain.Take g) s.history) (w.ghost.at p)
 
-  first_is : At c (Take g) ok some s p begun own inside w place.ReadAnswer → s.mem (Node (Take g) own node.Ret) ≡ ret_of c.served item_answer
-  first_is e = word_at c (Take g) ok some s p begun own inside w place.ReadAnswer 0 e refl (omega (arith, some_words item_answer))
+  first_is : At c (Chain.Take g) ok some s p begun own inside w Place.ReadAnswer → s.mem (Word.Node (Chain.Take g) own NodeField.Ret) ≡ ret_of c.served item_answer
+  first_is e = word_at c (Chain.Take g) ok some s p begun own inside w Place.ReadAnswer 0 e refl (omega (arith, some_words item_answer))
 
-  read_answer_by : At c (Take g) ok some s p begun own inside w place.ReadAnswer →
-      ReadsOn c c.served g p own item_answer (after_ret c.served (Take g) (ret_of c.served item_answer)) ⊎ ReadsAll c c.served g p own item_answer (after_ret c.served (Take g) (ret_of c.served item_answer)) →
-      Holds c (Take g) (then c (Take g) ok some s p begun own inside w place.ReadAnswer)
+  read_answer_by : At c (Chain.Take g) ok some s p begun own inside w Place.ReadAnswer →
+      ReadsOn c c.served g p own item_answer (after_ret c.served (Chain.Take g) (ret_of c.served item_answer)) ⊎ ReadsAll c c.served g p own item_answer (after_ret c.served (Chain.Take g) (ret_of c.served item_answer)) →
+      Holds c (Chain.Take g) (then c (Chain.Take g) ok some s p begun own inside w Place.ReadAnswer)
   read_answer_by e (inl on) =
-      reads_more c (Take g) ok some s p begun own inside w place.ReadAnswer (after_ret c.served (Take g) (ret_of c.served item_answer)) e refl on.post (ap (λ (z : ℕ). after_ret c.served (Take g) z) (first_is e)) refl refl refl refl
+      reads_more c (Chain.Take g) ok some s p begun own inside w Place.ReadAnswer (after_ret c.served (Chain.Take g) (ret_of c.served item_answer)) e refl on.post (ap (λ (z : ℕ). after_ret c.served (Chain.Take g) z) (first_is e)) refl refl refl refl
       (λ i f. refl) on.call on.read on.unfinished
   read_answer_by e (inr all) =
-      reads_end c (Take g) ok some s p begun own inside w place.ReadAnswer (after_ret c.served (Take g) (ret_of c.served item_answer)) e refl all.post (ap (λ (z : ℕ). after_ret c.served (Take g) z) (first_is e)) refl refl refl refl
+      reads_end c (Chain.Take g) ok some s p begun own inside w Place.ReadAnswer (after_ret c.served (Chain.Take g) (ret_of c.served item_answer)) e refl all.post (ap (λ (z : ℕ). after_ret c.served (Chain.Take g) z) (first_is e)) refl refl refl refl
       (λ i f. refl) all.call all.read
 
-  read_answer_take : At c (Take g) ok some s p begun own inside w place.ReadAnswer → Holds c (Take g) (then c (Take g) ok some s p begun own inside w place.ReadAnswer)
+  read_answer_take : At c (Chain.Take g) ok some s p begun own inside w Place.ReadAnswer → Holds c (Chain.Take g) (then c (Chain.Take g) ok some s p begun own inside w Place.ReadAnswer)
   read_answer_take e = read_answer_by e (reads_first c c.served g p own item_answer)
 
-  read_tag_take : (at : ℕ) → At c (Take g) ok some s p begun own inside w (place.ReadAnswerTag at) → Holds c (Take g) (then c (Take g) ok some s p begun own inside w (place.ReadAnswerTag at))
+  read_tag_take : (at : ℕ) → At c (Chain.Take g) ok some s p begun own inside w (Place.ReadAnswerTag at) → Holds c (Chain.Take g) (then c (Chain.Take g) ok some s p begun own inside w (Place.ReadAnswerTag at))
   read_tag_take at e =
-      let had : (code_of (ret_of c.served item_answer) ≡ 1) × (at ≡ value_of (ret_of c.served item_answer)) = subst (λ (z : Stand). HasRead c.served (Take g) item_answer z.place) e (w.ties.read p inside) in
-      let long : answer_long item_answer ≡ further_words (tag_word item_answer) + 3 = got_long c.served g item_answer (answer_is c (Take g) ok some s p begun own inside w (place.ReadAnswerTag at) e refl) had.0 in
-      let tag : s.mem (Node (Take g) own node.Tag) ≡ tag_word item_answer = word_at c (Take g) ok some s p begun own inside w (place.ReadAnswerTag at) 1 e refl (omega (arith, long)) in
-      reads_more c (Take g) ok some s p begun own inside w (place.ReadAnswerTag at) (place.ReadAnswerBody (parcel at (s.mem (Node (Take g) own node.Tag)) no_words) 0) e refl refl refl refl refl refl refl (λ i f. refl) tt
+      let had : (code_of (ret_of c.served item_answer) ≡ 1) × (at ≡ value_of (ret_of c.served item_answer)) = subst (λ (z : Stand). HasRead c.served (Chain.Take g) item_answer z.place) e (w.ties.read p inside) in
+      let long : answer_long item_answer ≡ further_words (tag_word item_answer) + 3 = got_long c.served g item_answer (answer_is c (Chain.Take g) ok some s p begun own inside w (Place.ReadAnswerTag at) e refl) had.0 in
+      let tag : s.mem (Word.Node (Chain.Take g) own NodeField.Tag) ≡ tag_word item_answer = word_at c (Chain.Take g) ok some s p begun own inside w (Place.ReadAnswerTag at) 1 e refl (omega (arith, long)) in
+      reads_more c (Chain.Take g) ok some s p begun own inside w (Place.ReadAnswerTag at) (Place.ReadAnswerBody (parcel at (s.mem (Word.Node (Chain.Take g) own NodeField.Tag)) no_words) 0) e refl refl refl refl refl refl refl (λ i f. refl) tt
       (had.0, had.1, tag, omega arith, (λ j low. absurd (omega arith))) (λ f. f)
 
   -- the words of the item so far, and one more
   abbrev Had : Parcel → ℕ → Type 0
   Had at i = (code_of (ret_of c.served item_answer) ≡ 1) × (at.place ≡ value_of (ret_of c.served item_answer)) × (at.tag ≡ tag_word item_answer) × (i ≤ further_words at.tag) × ((j : ℕ) → j < i → word at.body j ≡ word (words_told item_answer) j)
 
-  read_word : (at : Parcel) (i : ℕ) → At c (Take g) ok some s p begun own inside w (place.ReadAnswerBody at i) → Had at i → s.mem (Node (Take g) own (node.Body i)) ≡ word (words_told item_answer) i
+  read_word : (at : Parcel) (i : ℕ) → At c (Chain.Take g) ok some s p begun own inside w (Place.ReadAnswerBody at i) → Had at i → s.mem (Word.Node (Chain.Take g) own (NodeField.Body i)) ≡ word (words_told item_answer) i
   read_word at i e had =
-      word_at c (Take g) ok some s p begun own inside w (place.ReadAnswerBody at i) (suc (suc i)) e refl
-      (omega (arith, had.3, ap further_words had.2, got_long c.served g item_answer (answer_is c (Take g) ok some s p begun own inside w (place.ReadAnswerBody at i) e refl) had.0))
+      word_at c (Chain.Take g) ok some s p begun own inside w (Place.ReadAnswerBody at i) (suc (suc i)) e refl
+      (omega (arith, had.3, ap further_words had.2, got_long c.served g item_answer (answer_is c (Chain.Take g) ok some s p begun own inside w (Place.ReadAnswerBody at i) e refl) had.0))
 
   words_more : (at : Parcel) (i found : ℕ) → found ≡ word (words_told item_answer) i → Had at i → (j : ℕ) → j ≤ i → word (with_read at i found).body j ≡ word (words_told item_answer) j
   words_more at i found is had = next_word at.body (word (words_told item_answer)) i found (omega (arith, had.3, few_further at.tag)) is had.4
 
-  read_body_by : (at : Parcel) (i : ℕ) (b : Bool) → nat_lt i (further_words at.tag) ≡ b → At c (Take g) ok some s p begun own inside w (place.ReadAnswerBody at i) → Holds c (Take g) (then c (Take g) ok some s p begun own inside w (place.ReadAnswerBody at i))
+  read_body_by : (at : Parcel) (i : ℕ) (b : Bool) → nat_lt i (further_words at.tag) ≡ b → At c (Chain.Take g) ok some s p begun own inside w (Place.ReadAnswerBody at i) → Holds c (Chain.Take g) (then c (Chain.Take g) ok some s p begun own inside w (Place.ReadAnswerBody at i))
   read_body_by at i true is e =
-      let had : Had at i = subst (λ (z : Stand). HasRead c.served (Take g) item_answer z.place) e (w.ties.read p inside) in
-      let found : ℕ = s.mem (Node (Take g) own (node.Body i)) in
+      let had : Had at i = subst (λ (z : Stand). HasRead c.served (Chain.Take g) item_answer z.place) e (w.ties.read p inside) in
+      let found : ℕ = s.mem (Word.Node (Chain.Take g) own (NodeField.Body i)) in
       let more = words_more at i found (read_word at i e had) had in
-      reads_more c (Take g) ok some s p begun own inside w (place.ReadAnswerBody at i) (place.ReadAnswerBody (with_read at i found) (i + 1)) e refl refl
-      (ap (λ (z : Bool). cond z (place.ReadAnswerBody (with_read at i found) (i + 1)) (place.Finished (answer.Take (take.Got (item_in (with_read at i found)))))) is) refl refl refl refl (λ i f. refl) tt
+      reads_more c (Chain.Take g) ok some s p begun own inside w (Place.ReadAnswerBody at i) (Place.ReadAnswerBody (with_read at i found) (i + 1)) e refl refl
+      (ap (λ (z : Bool). cond z (Place.ReadAnswerBody (with_read at i found) (i + 1)) (Place.Finished (Answer.Take (TakeAnswer.Got (item_in (with_read at i found)))))) is) refl refl refl refl (λ i f. refl) tt
       (had.0, had.1, had.2, omega (arith, ltb-true i (further_words at.tag) is), (λ j low. more j (omega arith))) (λ f. f)
   read_body_by at i false is e =
-      let had : Had at i = subst (λ (z : Stand). HasRead c.served (Take g) item_answer z.place) e (w.ties.read p inside) in
-      let found : ℕ = s.mem (Node (Take g) own (node.Body i)) in
+      let had : Had at i = subst (λ (z : Stand). HasRead c.served (Chain.Take g) item_answer z.place) e (w.ties.read p inside) in
+      let found : ℕ = s.mem (Word.Node (Chain.Take g) own (NodeField.Body i)) in
       let more = words_more at i found (read_word at i e had) had in
       let same : item_in (with_read at i found) ≡ item_of (value_of (ret_of c.served item_answer)) (tag_word item_answer) (words_told item_answer) = one_item (with_read at i found) (words_told item_answer) had.1 had.2 (λ j low. more j (omega (arith, ltb-false i (further_words at.tag) is))) in
-      reads_end c (Take g) ok some s p begun own inside w (place.ReadAnswerBody at i) (place.Finished (answer.Take (take.Got (item_in (with_read at i found))))) e refl refl
-      (ap (λ (z : Bool). cond z (place.ReadAnswerBody (with_read at i found) (i + 1)) (place.Finished (answer.Take (take.Got (item_in (with_read at i found)))))) is) refl refl refl refl (λ i f. refl) tt
-      (ap (λ (z : Item). answer.Take (take.Got z)) same ∙ sym (reads_item c.served g item_answer had.0))
+      reads_end c (Chain.Take g) ok some s p begun own inside w (Place.ReadAnswerBody at i) (Place.Finished (Answer.Take (TakeAnswer.Got (item_in (with_read at i found))))) e refl refl
+      (ap (λ (z : Bool). cond z (Place.ReadAnswerBody (with_read at i found) (i + 1)) (Place.Finished (Answer.Take (TakeAnswer.Got (item_in (with_read at i found)))))) is) refl refl refl refl (λ i f. refl) tt
+      (ap (λ (z : Item). Answer.Take (TakeAnswer.Got z)) same ∙ sym (reads_item c.served g item_answer had.0))
 
 -- each of these on any chain
 module _ (c : Setting) (some : 0 < c.config.bound) (s : State) (p begun own : ℕ) where
-  pub write_tag : (x : Chain) (ok : IsChain c x) (inside : p < members c x) (w : Holds c x s) (put : ℕ) (request : Request) → At c x ok some s p begun own inside w (place.WriteTag put request) →
-      Holds c x (then c x ok some s p begun own inside w (place.WriteTag put request))
-  write_tag Send ok inside w put request e = write_tag_send c some s p begun own inside w put request e
-  write_tag (Take g) ok inside w put request e = absurd (subst (λ (z : Stand). HasCall c (Take g) p z.place) e (w.ties.begun p inside))
+  pub write_tag : (x : Chain) (ok : IsChain c x) (inside : p < members c x) (w : Holds c x s) (put : ℕ) (request : Request) → At c x ok some s p begun own inside w (Place.WriteTag put request) →
+      Holds c x (then c x ok some s p begun own inside w (Place.WriteTag put request))
+  write_tag Chain.Send ok inside w put request e = write_tag_send c some s p begun own inside w put request e
+  write_tag (Chain.Take g) ok inside w put request e = absurd (subst (λ (z : Stand). HasCall c (Chain.Take g) p z.place) e (w.ties.begun p inside))
 
-  pub write_body : (x : Chain) (ok : IsChain c x) (inside : p < members c x) (w : Holds c x s) (put : ℕ) (request : Request) (i : ℕ) → At c x ok some s p begun own inside w (place.WriteBody put request i) →
-      Holds c x (then c x ok some s p begun own inside w (place.WriteBody put request i))
-  write_body Send ok inside w put request i e = write_body_by c some s p begun own inside w put request i (nat_lt i (further_words request.tag)) refl e
-  write_body (Take g) ok inside w put request i e = absurd (subst (λ (z : Stand). HasCall c (Take g) p z.place) e (w.ties.begun p inside)).0
+  pub write_body : (x : Chain) (ok : IsChain c x) (inside : p < members c x) (w : Holds c x s) (put : ℕ) (request : Request) (i : ℕ) → At c x ok some s p begun own inside w (Place.WriteBody put request i) →
+      Holds c x (then c x ok some s p begun own inside w (Place.WriteBody put request i))
+  write_body Chain.Send ok inside w put request i e = write_body_by c some s p begun own inside w put request i (nat_lt i (further_words request.tag)) refl e
+  write_body (Chain.Take g) ok inside w put request i e = absurd (subst (λ (z : Stand). HasCall c (Chain.Take g) p z.place) e (w.ties.begun p inside)).0
 
-  pub write_answer_tag : (x : Chain) (ok : IsChain c x) (inside : p < members c x) (w : Holds c x s) (job : Job) (item : Item) → At c x ok some s p begun own inside w (place.WriteAnswerTag job item) →
-      Holds c x (then c x ok some s p begun own inside w (place.WriteAnswerTag job item))
-  write_answer_tag Send ok inside w job item e = absurd (serves_at c Send ok some s p begun own inside w (place.WriteAnswerTag job item) e refl)
-  write_answer_tag (Take g) ok inside w job item e = write_answer_tag_take c g ok some s p begun own inside w job item e
+  pub write_answer_tag : (x : Chain) (ok : IsChain c x) (inside : p < members c x) (w : Holds c x s) (job : Job) (item : Item) → At c x ok some s p begun own inside w (Place.WriteAnswerTag job item) →
+      Holds c x (then c x ok some s p begun own inside w (Place.WriteAnswerTag job item))
+  write_answer_tag Chain.Send ok inside w job item e = absurd (serves_at c Chain.Send ok some s p begun own inside w (Place.WriteAnswerTag job item) e refl)
+  write_answer_tag (Chain.Take g) ok inside w job item e = write_answer_tag_take c g ok some s p begun own inside w job item e
 
-  pub write_answer_body : (x : Chain) (ok : IsChain c x) (inside : p < members c x) (w : Holds c x s) (job : Job) (item : Item) (i : ℕ) → At c x ok some s p begun own inside w (place.WriteAnswerBody job item i) →
-      Holds c x (then c x ok some s p begun own inside w (place.WriteAnswerBody job item i))
-  write_answer_body Send ok inside w job item i e = absurd (serves_at c Send ok some s p begun own inside w (place.WriteAnswerBody job item i) e refl)
-  write_answer_body (Take g) ok inside w job item i e = write_answer_by c g ok some s p begun own inside w job item i (nat_lt i (further_words (tag_of item))) refl e
+  pub write_answer_body : (x : Chain) (ok : IsChain c x) (inside : p < members c x) (w : Holds c x s) (job : Job) (item : Item) (i : ℕ) → At c x ok some s p begun own inside w (Place.WriteAnswerBody job item i) →
+      Holds c x (then c x ok some s p begun own inside w (Place.WriteAnswerBody job item i))
+  write_answer_body Chain.Send ok inside w job item i e = absurd (serves_at c Chain.Send ok some s p begun own inside w (Place.WriteAnswerBody job item i) e refl)
+  write_answer_body (Chain.Take g) ok inside w job item i e = write_answer_by c g ok some s p begun own inside w job item i (nat_lt i (further_words (tag_of item))) refl e
 
-  pub read_answer : (x : Chain) (ok : IsChain c x) (inside : p < members c x) (w : Holds c x s) → At c x ok some s p begun own inside w place.ReadAnswer → Holds c x (then c x ok some s p begun own inside w place.ReadAnswer)
-  read_answer Send ok inside w e =
-      let first : s.mem (Node Send own node.Ret) ≡ ret_of c.served (its_answer c Send ok some s p begun own inside w) =
-      word_at c Send ok some s p begun own inside w place.ReadAnswer 0 e refl (omega (arith, some_words (its_answer c Send ok some s p begun own inside w))) in
-      reads_end c Send ok some s p begun own inside w place.ReadAnswer (place.Finished (sender_reads c.served (s.mem (Node Send own node.Ret)))) e refl refl refl refl refl refl refl (λ i f. refl) tt
+  pub read_answer : (x : Chain) (ok : IsChain c x) (inside : p < members c x) (w : Holds c x s) → At c x ok some s p begun own inside w Place.ReadAnswer → Holds c x (then c x ok some s p begun own inside w Place.ReadAnswer)
+  read_answer Chain.Send ok inside w e =
+      let first : s.mem (Word.Node Chain.Send own NodeField.Ret) ≡ ret_of c.served (its_answer c Chain.Send ok some s p begun own inside w) =
+      word_at c Chain.Send ok some s p begun own inside w Place.ReadAnswer 0 e refl (omega (arith, some_words (its_answer c Chain.Send ok some s p begun own inside w))) in
+      reads_end c Chain.Send ok some s p begun own inside w Place.ReadAnswer (Place.Finished (sender_reads c.served (s.mem (Word.Node Chain.Send own NodeField.Ret)))) e refl refl refl refl refl refl refl (λ i f. refl) tt
       (ap (λ (z : ℕ). sender_reads c.served z) first)
-  read_answer (Take g) ok inside w e = read_answer_take c g ok some s p begun own inside w e
+  read_answer (Chain.Take g) ok inside w e = read_answer_take c g ok some s p begun own inside w e
 
-  pub read_tag : (x : Chain) (ok : IsChain c x) (inside : p < members c x) (w : Holds c x s) (at : ℕ) → At c x ok some s p begun own inside w (place.ReadAnswerTag at) → Holds c x (then c x ok some s p begun own inside w (place.ReadAnswerTag at))
-  read_tag Send ok inside w at e = absurd (subst (λ (z : Stand). HasRead c.served Send (its_answer c Send ok some s p begun own inside w) z.place) e (w.ties.read p inside))
-  read_tag (Take g) ok inside w at e = read_tag_take c g ok some s p begun own inside w at e
+  pub read_tag : (x : Chain) (ok : IsChain c x) (inside : p < members c x) (w : Holds c x s) (at : ℕ) → At c x ok some s p begun own inside w (Place.ReadAnswerTag at) → Holds c x (then c x ok some s p begun own inside w (Place.ReadAnswerTag at))
+  read_tag Chain.Send ok inside w at e = absurd (subst (λ (z : Stand). HasRead c.served Chain.Send (its_answer c Chain.Send ok some s p begun own inside w) z.place) e (w.ties.read p inside))
+  read_tag (Chain.Take g) ok inside w at e = read_tag_take c g ok some s p begun own inside w at e
 
-  pub read_body : (x : Chain) (ok : IsChain c x) (inside : p < members c x) (w : Holds c x s) (at : Parcel) (i : ℕ) → At c x ok some s p begun own inside w (place.ReadAnswerBody at i) →
-      Holds c x (then c x ok some s p begun own inside w (place.ReadAnswerBody at i))
-  read_body Send ok inside w at i e = absurd (subst (λ (z : Stand). HasRead c.served Send (its_answer c Send ok some s p begun own inside w) z.place) e (w.ties.read p inside))
-  read_body (Take g) ok inside w at i e = read_body_by c g ok some s p begun own inside w at i (nat_lt i (further_words at.tag)) refl e
+  pub read_body : (x : Chain) (ok : IsChain c x) (inside : p < members c x) (w : Holds c x s) (at : Parcel) (i : ℕ) → At c x ok some s p begun own inside w (Place.ReadAnswerBody at i) →
+      Holds c x (then c x ok some s p begun own inside w (Place.ReadAnswerBody at i))
+  read_body Chain.Send ok inside w at i e = absurd (subst (λ (z : Stand). HasRead c.served Chain.Send (its_answer c Chain.Send ok some s p begun own inside w) z.place) e (w.ties.read p inside))
+  read_body (Chain.Take g) ok inside w at i e = read_body_by c g ok some s p begun own inside w at i (nat_lt i (further_words at.tag)) refl e

@@ -1,26 +1,6 @@
 -- What the places of a chain's passes keep, and what it has to do with the history.
 use Rattle.std.proofs.Common.{◌≡◌, ◌≤◌, ◌<◌, ◌+◌, ℕ, length, ◌==◌, if◌then◌else◌, List, get_or}
-use Rattle.cc_model.specs.declared.call.Entry.{Entry}
-use Rattle.cc_model.specs.declared.call.Item.{Item}
-use Rattle.cc_model.specs.declared.call.Pass.TheVariants as pass
-use Rattle.cc_model.specs.declared.call.Call.TheVariants as call
-use Rattle.cc_model.specs.declared.call.Answer.{Answer}
-use Rattle.cc_model.specs.declared.call.Answer.TheVariants as answer
-use Rattle.cc_model.specs.declared.call.SendAnswer.TheVariants as send
-use Rattle.cc_model.specs.declared.call.CloseAnswer.TheVariants as close
-use Rattle.cc_model.specs.declared.call.TakeAnswer.TheVariants as take
-use Rattle.cc_runs.specs.declared.setting.Setting.{Setting}
-use Rattle.cc_runs.specs.declared.setting.Served.{Served}
-use Rattle.cc_runs.specs.declared.setting.Served.TheVariants as served
-use Rattle.cc_runs.specs.declared.word.Chain.{Chain}
-use Rattle.cc_runs.specs.declared.word.Chain.TheVariants.{Send, Take}
-use Rattle.cc_runs.specs.declared.place.BodyWords.{BodyWords}
-use Rattle.cc_runs.specs.declared.place.Counting.{Counting}
-use Rattle.cc_runs.specs.declared.place.Counting.TheVariants as counting
-use Rattle.cc_runs.specs.declared.place.Sending.{Sending}
-use Rattle.cc_runs.specs.declared.place.Sending.TheVariants as sending
-use Rattle.cc_runs.specs.declared.place.Place.{Place}
-use Rattle.cc_runs.specs.declared.place.Place.TheVariants as place
+use Rattle.cc_runs.specs.Names.{Entry, Item, Pass, Call, Answer, SendAnswer, CloseAnswer, TakeAnswer, Setting, Served, Chain, BodyWords, Counting, Sending, Place}
 use Rattle.cc_runs.specs.Codes.{item_of, tag_of, body_words, no_words, further_words, word, request_in, ret_of, code_of, value_of, sender_reads}
 use Rattle.cc_model.specs.Record.{Record}
 use Rattle.cc_runs.specs.Words.{groups}
@@ -31,23 +11,23 @@ use Rattle.cc_runs.proofs.Chains.View.{pass_on, told_words, no_word}
 
 -- the chains that there are: the counter has the senders' alone
 abbrev pub IsChainOf : Served → (groups : ℕ) → Chain → Type 0
-IsChainOf _ n Send = Unit {0}
-IsChainOf served.List n (Take g) = g < n
-IsChainOf served.Counter n (Take g) = ⊥
+IsChainOf _ n Chain.Send = Unit {0}
+IsChainOf Served.List n (Chain.Take g) = g < n
+IsChainOf Served.Counter n (Chain.Take g) = ⊥
 
 abbrev pub IsChain : Setting → Chain → Type 0
 IsChain c x = IsChainOf c.served (groups c.config) x
 
 -- the history has a side for it
 abbrev pub HasSide : Chain → Record → Type 0
-HasSide Send h = Unit {0}
-HasSide (Take g) h = g < length h.takes
+HasSide Chain.Send h = Unit {0}
+HasSide (Chain.Take g) h = g < length h.takes
 
 abbrev pub no_call : Entry
-no_call = record { pass = pass.Sender 0; call = call.Close; number = 0; known = 0 }
+no_call = record { pass = Pass.Sender 0; call = Call.Close; number = 0; known = 0 }
 
 abbrev pub no_answer : Answer
-no_answer = answer.Take take.Empty
+no_answer = Answer.Take TakeAnswer.Empty
 
 abbrev pub call_at : List Entry → ℕ → Entry
 call_at calls k = get_or calls k no_call
@@ -63,40 +43,40 @@ pub record IsCall (c : Setting) (x : Chain) (p : ℕ) (e : Entry) : Type 0 where
 
 -- what holds of senders, of receivers, and where this is served
 abbrev pub OnSend : Chain → Type 0
-OnSend Send = Unit {0}
-OnSend (Take g) = ⊥
+OnSend Chain.Send = Unit {0}
+OnSend (Chain.Take g) = ⊥
 
 abbrev pub OnTake : Chain → Type 0 → Type 0
-OnTake Send A = ⊥
-OnTake (Take g) A = A
+OnTake Chain.Send A = ⊥
+OnTake (Chain.Take g) A = A
 
 abbrev pub Counts : Served → Chain → Type 0
-Counts served.Counter Send = Unit {0}
+Counts Served.Counter Chain.Send = Unit {0}
 Counts _ _ = ⊥
 
 abbrev pub Sends : Served → Chain → Type 0 → Type 0
-Sends served.List Send A = A
+Sends Served.List Chain.Send A = A
 Sends _ _ A = ⊥
 
 abbrev pub Takes : Served → Chain → Type 0
-Takes served.List (Take g) = Unit {0}
+Takes Served.List (Chain.Take g) = Unit {0}
 Takes _ _ = ⊥
 
 -- a pass with a call that hasn't exchanged keeps it, and only a sender writes a request
 abbrev pub HasCall : Setting → Chain → ℕ → Place → Type 0
-HasCall c x p (place.ResetNext call) = IsCall c x p call
-HasCall c x p (place.ResetState call) = IsCall c x p call
-HasCall c x p (place.Exchange call) = IsCall c x p call
-HasCall c x p (place.WriteTag put request) = OnSend x
-HasCall c x p (place.WriteBody put request i) = OnSend x × (i ≤ further_words request.tag)
+HasCall c x p (Place.ResetNext call) = IsCall c x p call
+HasCall c x p (Place.ResetState call) = IsCall c x p call
+HasCall c x p (Place.Exchange call) = IsCall c x p call
+HasCall c x p (Place.WriteTag put request) = OnSend x
+HasCall c x p (Place.WriteBody put request i) = OnSend x × (i ≤ further_words request.tag)
 HasCall c x p _ = Unit {0}
 
 -- what a call of this chain can be answered
 abbrev pub IsAnswer : Served → Chain → Answer → Type 0
-IsAnswer served.Counter Send (answer.Send (send.Accepted place)) = Unit {0}
-IsAnswer served.List Send (answer.Send told) = Unit {0}
-IsAnswer served.List Send (answer.Close told) = Unit {0}
-IsAnswer served.List (Take g) (answer.Take told) = Unit {0}
+IsAnswer Served.Counter Chain.Send (Answer.Send (SendAnswer.Accepted place)) = Unit {0}
+IsAnswer Served.List Chain.Send (Answer.Send told) = Unit {0}
+IsAnswer Served.List Chain.Send (Answer.Close told) = Unit {0}
+IsAnswer Served.List (Chain.Take g) (Answer.Take told) = Unit {0}
 IsAnswer _ _ _ = ⊥
 
 -- a tag, and the first words of a body: those that were read of the request of a call
@@ -109,65 +89,65 @@ HasRequest e tag body = HasAsked e tag body (further_words tag + 1)
 
 -- the senders' combiner keeps words of the request that it serves, and then the answer that it has decided
 abbrev pub HasSend : Entry → Answer → Sending → Type 0
-HasSend e a (sending.ReadBody request i) = HasAsked e request.tag request.body i × (i ≤ further_words request.tag)
-HasSend e a (sending.ReadShut request) = HasRequest e request.tag request.body
-HasSend e a (sending.ReadCount request) = HasRequest e request.tag request.body
-HasSend e a (sending.ReadCursor parcel) = HasRequest e parcel.tag parcel.body
-HasSend e a (sending.ReadPassed parcel at reads) = HasRequest e parcel.tag parcel.body
-HasSend e a (sending.ResetPassed parcel at) = HasRequest e parcel.tag parcel.body
-HasSend e a (sending.ResetItemNext parcel at) = HasRequest e parcel.tag parcel.body
-HasSend e a (sending.WriteItemTag parcel at) = HasRequest e parcel.tag parcel.body
-HasSend e a (sending.WriteItemBody parcel at i) = HasRequest e parcel.tag parcel.body × (i ≤ further_words parcel.tag)
-HasSend e a (sending.WriteLastMark total) = a ≡ answer.Close (close.Shut total)
-HasSend e a (sending.WriteShut total) = a ≡ answer.Close (close.Shut total)
-HasSend e a (sending.WriteLast place at) = a ≡ answer.Send (send.Accepted place)
-HasSend e a (sending.WriteCount place at) = a ≡ answer.Send (send.Accepted place)
-HasSend e a (sending.WriteCursor place at) = a ≡ answer.Send (send.Accepted place)
+HasSend e a (Sending.ReadBody request i) = HasAsked e request.tag request.body i × (i ≤ further_words request.tag)
+HasSend e a (Sending.ReadShut request) = HasRequest e request.tag request.body
+HasSend e a (Sending.ReadCount request) = HasRequest e request.tag request.body
+HasSend e a (Sending.ReadCursor parcel) = HasRequest e parcel.tag parcel.body
+HasSend e a (Sending.ReadPassed parcel at reads) = HasRequest e parcel.tag parcel.body
+HasSend e a (Sending.ResetPassed parcel at) = HasRequest e parcel.tag parcel.body
+HasSend e a (Sending.ResetItemNext parcel at) = HasRequest e parcel.tag parcel.body
+HasSend e a (Sending.WriteItemTag parcel at) = HasRequest e parcel.tag parcel.body
+HasSend e a (Sending.WriteItemBody parcel at i) = HasRequest e parcel.tag parcel.body × (i ≤ further_words parcel.tag)
+HasSend e a (Sending.WriteLastMark total) = a ≡ Answer.Close (CloseAnswer.Shut total)
+HasSend e a (Sending.WriteShut total) = a ≡ Answer.Close (CloseAnswer.Shut total)
+HasSend e a (Sending.WriteLast place at) = a ≡ Answer.Send (SendAnswer.Accepted place)
+HasSend e a (Sending.WriteCount place at) = a ≡ Answer.Send (SendAnswer.Accepted place)
+HasSend e a (Sending.WriteCursor place at) = a ≡ Answer.Send (SendAnswer.Accepted place)
 HasSend e a _ = Unit {0}
 
 -- that of the counter reads the words of a body that there are
 abbrev pub HasCount : Counting → Type 0
-HasCount (counting.ReadBody tag i) = i ≤ further_words tag
+HasCount (Counting.ReadBody tag i) = i ≤ further_words tag
 HasCount _ = Unit {0}
 
 -- a combiner serves what its chain serves, here the call e, which is answered a
 abbrev pub HasService : Served → Chain → Entry → Answer → Place → Type 0
-HasService served x e a (place.Counting job service) = Counts served x × HasCount service
-HasService served x e a (place.Sending job service) = Sends served x (HasSend e a service)
-HasService served x e a (place.Taking job service) = Takes served x
-HasService served x e a (place.WriteAnswer job told) = a ≡ told
-HasService served x e a (place.WriteAnswerTag job item) = OnTake x (a ≡ answer.Take (take.Got item))
-HasService served x e a (place.WriteAnswerBody job item i) = OnTake x ((a ≡ answer.Take (take.Got item)) × (i ≤ further_words (tag_of item)))
+HasService served x e a (Place.Counting job service) = Counts served x × HasCount service
+HasService served x e a (Place.Sending job service) = Sends served x (HasSend e a service)
+HasService served x e a (Place.Taking job service) = Takes served x
+HasService served x e a (Place.WriteAnswer job told) = a ≡ told
+HasService served x e a (Place.WriteAnswerTag job item) = OnTake x (a ≡ Answer.Take (TakeAnswer.Got item))
+HasService served x e a (Place.WriteAnswerBody job item i) = OnTake x ((a ≡ Answer.Take (TakeAnswer.Got item)) × (i ≤ further_words (tag_of item)))
 HasService served x e a _ = Unit {0}
 
 -- the words of an answer
 abbrev pub tag_word : Answer → ℕ
-tag_word (answer.Take (take.Got item)) = tag_of item
+tag_word (Answer.Take (TakeAnswer.Got item)) = tag_of item
 tag_word _ = 0
 
 abbrev pub words_told : Answer → BodyWords
-words_told (answer.Take (take.Got item)) = body_words item
+words_told (Answer.Take (TakeAnswer.Got item)) = body_words item
 words_told _ = no_words
 
 abbrev pub coded_words : Served → Chain → Answer → ℕ → ℕ
-coded_words served Send a j = told_words (ret_of served a) 0 no_word j
-coded_words served (Take g) a j = told_words (ret_of served a) (tag_word a) (word (words_told a)) j
+coded_words served Chain.Send a j = told_words (ret_of served a) 0 no_word j
+coded_words served (Chain.Take g) a j = told_words (ret_of served a) (tag_word a) (word (words_told a)) j
 
 -- what a call makes of them
 abbrev pub take_reads : ℕ → ℕ → BodyWords → Answer
 take_reads ret tag body =
-    if code_of ret == 1 then answer.Take (take.Got (item_of (value_of ret) tag body))
-    else if code_of ret == 2 then answer.Take take.Empty
-    else answer.Take (take.Ended (value_of ret))
+    if code_of ret == 1 then Answer.Take (TakeAnswer.Got (item_of (value_of ret) tag body))
+    else if code_of ret == 2 then Answer.Take TakeAnswer.Empty
+    else Answer.Take (TakeAnswer.Ended (value_of ret))
 
 abbrev pub reads : Served → Chain → Answer → Answer
-reads served Send a = sender_reads served (ret_of served a)
-reads served (Take g) a = take_reads (ret_of served a) (tag_word a) (words_told a)
+reads served Chain.Send a = sender_reads served (ret_of served a)
+reads served (Chain.Take g) a = take_reads (ret_of served a) (tag_word a) (words_told a)
 
 -- a call that is answered a has read so much of it
 abbrev pub HasRead : Served → Chain → Answer → Place → Type 0
-HasRead served x a (place.ReadAnswerTag at) = OnTake x ((code_of (ret_of served a) ≡ 1) × (at ≡ value_of (ret_of served a)))
-HasRead served x a (place.ReadAnswerBody p i) =
+HasRead served x a (Place.ReadAnswerTag at) = OnTake x ((code_of (ret_of served a) ≡ 1) × (at ≡ value_of (ret_of served a)))
+HasRead served x a (Place.ReadAnswerBody p i) =
     OnTake x ((code_of (ret_of served a) ≡ 1) × (p.place ≡ value_of (ret_of served a)) × (p.tag ≡ tag_word a) × (i ≤ further_words p.tag) × ((j : ℕ) → j < i → word p.body j ≡ word (words_told a) j))
-HasRead served x a (place.Finished told) = told ≡ reads served x a
+HasRead served x a (Place.Finished told) = told ≡ reads served x a
 HasRead served x a _ = Unit {0}

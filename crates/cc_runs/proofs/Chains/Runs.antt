@@ -1,17 +1,10 @@
 -- What holds of a chain after every run.
 use Rattle.std.proofs.Common.{◌≡◌, ◌≢◌, ◌⊎◌, ℕ, ◌<◌, ◌≤◌, refl, ap, sym, subst, arith, inl, inr, List, [], ◌∷◌}
-use Rattle.cc_model.specs.declared.call.Call.{Call}
-use Rattle.cc_model.specs.declared.call.Call.TheVariants as call
-use Rattle.cc_runs.specs.declared.setting.Setting.{Setting}
-use Rattle.cc_runs.specs.declared.word.Chain.{Chain}
-use Rattle.cc_runs.specs.declared.place.Stand.{Stand}
-use Rattle.cc_runs.specs.declared.place.Place.{Place}
-use Rattle.cc_runs.specs.declared.place.Place.TheVariants as place
-use Rattle.cc_runs.specs.declared.place.Event.TheVariants.{Idle}
+use Rattle.cc_runs.specs.Names.{Call, Setting, Chain, Stand, Place, Event, Move}
 use Rattle.cc_runs.specs.State.{State, chain_of}
 use Rattle.cc_runs.specs.Lines.{event_at}
 use Rattle.cc_runs.specs.Step.{stepped_from, stepped}
-use Rattle.cc_runs.specs.Run.{Move, Begin, Step, Take, May, IsRun, IsOn as CanBeOn, IsIdle, IsFinished, begins, rests, begun_after, number_of, reached, moved}
+use Rattle.cc_runs.specs.Run.{May, IsRun, IsOn as CanBeOn, IsIdle, IsFinished, begins, rests, begun_after, number_of, reached, moved}
 use Rattle.cc_runs.proofs.Chains.View.{pass_on, post_of, out}
 use Rattle.cc_runs.proofs.Chains.Registers.{IsChain}
 use Rattle.cc_runs.proofs.Chains.Ties.{Holds}
@@ -19,28 +12,28 @@ use Rattle.cc_runs.proofs.Chains.Own as own
 use Rattle.cc_runs.proofs.Chains.Others.{IsOn, IsOff, which, other_step, other_put, own_put, put_there}
 use Rattle.cc_runs.proofs.Chains.Opening.{opened}
 
-idle_is : (at : Place) → IsIdle at → at ≡ place.Idle
-idle_is place.Idle a = refl
+idle_is : (at : Place) → IsIdle at → at ≡ Place.Idle
+idle_is Place.Idle a = refl
 idle_is _ a = absurd a
 
 finished_post : (x : Chain) (node : ℕ) (at : Place) → IsFinished at → post_of x node at ≡ out 0 node
-finished_post x node (place.Finished told) a = refl
+finished_post x node (Place.Finished told) a = refl
 finished_post x node _ a = absurd a
 
 number_in : (call : Call) (begun limit : ℕ) → begun_after call begun ≤ limit → number_of call begun ≤ limit
-number_in (call.Send body) begun limit less = less
-number_in call.Close begun limit less = omega arith
-number_in call.Take begun limit less = omega arith
+number_in (Call.Send body) begun limit less = less
+number_in Call.Close begun limit less = omega arith
+number_in Call.Take begun limit less = omega arith
 
 module _ (c : Setting) (x : Chain) (ok : IsChain c x) (some : 0 < c.config.bound) (s : State) (w : Holds c x s) where
-  step_own : (p : ℕ) → IsOn c x p → event_at (s.stand p).place ≢ Idle → Holds c x (stepped c s p)
+  step_own : (p : ℕ) → IsOn c x p → event_at (s.stand p).place ≢ Event.Idle → Holds c x (stepped c s p)
   step_own p on busy =
-      let there : event_at (s.stand (pass_on c x on.number)).place ≢ Idle = subst (λ (z : ℕ). event_at (s.stand z).place ≢ Idle) on.pass_is busy in
+      let there : event_at (s.stand (pass_on c x on.number)).place ≢ Event.Idle = subst (λ (z : ℕ). event_at (s.stand z).place ≢ Event.Idle) on.pass_is busy in
       let at : Stand = s.stand (pass_on c x on.number) in
       let here : Holds c x (stepped_from c s x (pass_on c x on.number) (s.stand (pass_on c x on.number))) = own.step c some s on.number at.begun at.node x ok on.inside w at.place refl there in
       subst (λ (y : Chain). Holds c x (stepped_from c s y p (s.stand p))) (sym on.chain_is) (subst (λ (z : ℕ). Holds c x (stepped_from c s x z (s.stand z))) (sym on.pass_is) here)
 
-  step_keeps : (p : ℕ) → IsOn c x p ⊎ IsOff c x p → event_at (s.stand p).place ≢ Idle → Holds c x (stepped c s p)
+  step_keeps : (p : ℕ) → IsOn c x p ⊎ IsOff c x p → event_at (s.stand p).place ≢ Event.Idle → Holds c x (stepped c s p)
   step_keeps p (inl on) busy = step_own p on busy
   step_keeps p (inr off) busy = other_step c x (chain_of c.config p) off.other s p (s.stand p) off.away w
 
@@ -75,9 +68,9 @@ module _ (c : Setting) (x : Chain) (ok : IsChain c x) (some : 0 < c.config.bound
   take_keeps p (inr off) finished = other_put c x s p (rests (s.stand p)) off.away w
 
   pub move_keeps : (m : Move) → May c s m → Holds c x (moved c s m)
-  move_keeps (Begin p call known) may = begin_keeps p call known (which c x ok p may.0) may.1 may.2 may.3
-  move_keeps (Step p) may = step_keeps p (which c x ok p may.0) may.1
-  move_keeps (Take p) may = take_keeps p (which c x ok p may.0) may.1
+  move_keeps (Move.Begin p call known) may = begin_keeps p call known (which c x ok p may.0) may.1 may.2 may.3
+  move_keeps (Move.Step p) may = step_keeps p (which c x ok p may.0) may.1
+  move_keeps (Move.Take p) may = take_keeps p (which c x ok p may.0) may.1
 
 -- the chain after every run
 pub chain_holds : (c : Setting) (x : Chain) → IsChain c x → 0 < c.config.bound → (moves : List Move) → IsRun c moves → Holds c x (reached c moves)

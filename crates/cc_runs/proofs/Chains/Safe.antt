@@ -2,20 +2,7 @@
 use Rattle.std.proofs.Common.{◌≡◌, ℕ, ◌+◌, ◌^◌, ◌<◌, ◌≤◌, ◌&&◌, nat_lt, refl, ap, sym, ◌∙◌, subst, arith, length, IsTrue, true, Bool}
 use Rattle.std.proofs.lemmas.Bool.{cases_eq, lt-ltb}
 use Rattle.cc_model.specs.Record.{Record}
-use Rattle.cc_model.specs.declared.call.Answer.{Answer}
-use Rattle.cc_runs.specs.declared.setting.Setting.{Setting}
-use Rattle.cc_runs.specs.declared.word.Chain.{Chain}
-use Rattle.cc_runs.specs.declared.word.Chain.TheVariants.{Send, Take}
-use Rattle.cc_runs.specs.declared.word.NodeField.{NodeField}
-use Rattle.cc_runs.specs.declared.word.NodeField.TheVariants as node
-use Rattle.cc_runs.specs.declared.word.Word.TheVariants.{Tail, Node}
-use Rattle.cc_runs.specs.declared.place.Stand.{Stand}
-use Rattle.cc_runs.specs.declared.place.Round.{Round}
-use Rattle.cc_runs.specs.declared.place.Job.{Job}
-use Rattle.cc_runs.specs.declared.place.Sending.{Sending}
-use Rattle.cc_runs.specs.declared.place.Sending.TheVariants as sending
-use Rattle.cc_runs.specs.declared.place.Place.{Place}
-use Rattle.cc_runs.specs.declared.place.Place.TheVariants as place
+use Rattle.cc_runs.specs.Names.{Answer, Setting, Chain, NodeField, Word, Stand, Round, Job, Sending, Place}
 use Rattle.cc_runs.specs.Codes.{tag_of, further_words, ret_of}
 use Rattle.cc_runs.specs.Words.{groups, layout_of, is_node_field, exists}
 use Rattle.cc_runs.specs.State.{State}
@@ -29,9 +16,9 @@ use Rattle.cc_runs.proofs.Chains.Facts.{own_node}
 use Rattle.cc_runs.proofs.Chains.Others.{group_in}
 
 -- the words of a chain that there are
-pub node_exists : (c : Setting) (x : Chain) → IsChain c x → (i : ℕ) (f : NodeField) → IsTrue (is_node_field f) → i ≤ members c x → IsTrue (exists (layout_of c.config) (Node x i f))
-node_exists c Send ok i f field low = ap (λ (b : Bool). b && is_node_field f) (lt-ltb i (c.config.senders + 1) (omega arith)) ∙ field
-node_exists c (Take g) ok i f field low =
+pub node_exists : (c : Setting) (x : Chain) → IsChain c x → (i : ℕ) (f : NodeField) → IsTrue (is_node_field f) → i ≤ members c x → IsTrue (exists (layout_of c.config) (Word.Node x i f))
+node_exists c Chain.Send ok i f field low = ap (λ (b : Bool). b && is_node_field f) (lt-ltb i (c.config.senders + 1) (omega arith)) ∙ field
+node_exists c (Chain.Take g) ok i f field low =
     let group : nat_lt g (groups c.config) ≡ true = lt-ltb g (groups c.config) (group_in c.served (groups c.config) g ok) in
     ap (λ (b : Bool). (b && nat_lt i (c.config.receivers + 1)) && is_node_field f) group ∙ ap (λ (b : Bool). b && is_node_field f) (lt-ltb i (c.config.receivers + 1) (omega arith)) ∙ field
 
@@ -40,27 +27,27 @@ pub four_words : (i tag : ℕ) → i ≤ further_words tag → IsTrue (nat_lt i 
 four_words i tag most = lt-ltb i 4 (omega (arith, few_further tag))
 
 pub on_take : (x : Chain) (A : Type 0) → OnTake x A → A
-on_take Send A a = absurd a
-on_take (Take g) A a = a
+on_take Chain.Send A a = absurd a
+on_take (Chain.Take g) A a = a
 
-pub tail_exists : (c : Setting) (x : Chain) → IsChain c x → IsTrue (exists (layout_of c.config) (Tail x))
-tail_exists c Send ok = refl
-tail_exists c (Take g) ok = lt-ltb g (groups c.config) (group_in c.served (groups c.config) g ok)
+pub tail_exists : (c : Setting) (x : Chain) → IsChain c x → IsTrue (exists (layout_of c.config) (Word.Tail x))
+tail_exists c Chain.Send ok = refl
+tail_exists c (Chain.Take g) ok = lt-ltb g (groups c.config) (group_in c.served (groups c.config) g ok)
 
 pub few_members : (c : Setting) (x : Chain) → InRange c.config → members c x ≤ 64
-few_members c Send r = r.senders.1
-few_members c (Take g) r = r.receivers.1
+few_members c Chain.Send r = r.senders.1
+few_members c (Chain.Take g) r = r.receivers.1
 
 -- a place of a service, where the served object has a word in it
 abbrev pub IsService : Place → Type 0
-IsService (place.Counting job service) = Unit {0}
-IsService (place.Sending job service) = Unit {0}
-IsService (place.Taking job service) = Unit {0}
+IsService (Place.Counting job service) = Unit {0}
+IsService (Place.Sending job service) = Unit {0}
+IsService (Place.Taking job service) = Unit {0}
 IsService _ = ⊥
 
 open_call : (x : Chain) (h : Record) → length (answers_on x h) < length (calls_on x h) → HasOpenCall h x
-open_call Send h less = less
-open_call (Take g) h less = less
+open_call Chain.Send h less = less
+open_call (Chain.Take g) h less = less
 
 pub send_high : (service : Sending) → 1 ≤ send_stage service
 send_high service = (send_in service).0
@@ -106,10 +93,10 @@ module _ (c : Setting) (x : Chain) (ok : IsChain c x) (r : InRange c.config) (s 
       omega (arith, ap (λ z. z.next) (seen at e), w.inv.serving.serving_next p mine (omega (arith, stage)) (omega (arith, stage)), chain_in (w.ghost.marked + 1) (omega arith) (omega arith))
 
   -- the link that a combiner reads
-  pub link_in : (round : Round) → At (place.ReadNext round) → s.mem (Node x round.at node.Next) ≤ members c x + 1
+  pub link_in : (round : Round) → At (Place.ReadNext round) → s.mem (Word.Node x round.at NodeField.Next) ≤ members c x + 1
   link_in round e =
-      let is : post_at x (s.stand (pass_on c x p)) ≡ post_of x own (place.ReadNext round) = seen (place.ReadNext round) e in
-      let mine : w.ghost.server ≡ p + 1 = me (place.ReadNext round) e refl in
+      let is : post_at x (s.stand (pass_on c x p)) ≡ post_of x own (Place.ReadNext round) = seen (Place.ReadNext round) e in
+      let mine : w.ghost.server ≡ p + 1 = me (Place.ReadNext round) e refl in
       let target : round.at ≡ w.ghost.chain w.ghost.marked = sym (ap (λ z. z.target) is) ∙ w.inv.server.server_target p mine in
       grind (
         arith,
@@ -129,17 +116,17 @@ module _ (c : Setting) (x : Chain) (ok : IsChain c x) (r : InRange c.config) (s 
       )
 
   -- a combiner that has served nobody yet finds its own node linked
-  pub own_link_in : (at : ℕ) → At (place.ReadNext record { at = at; served = 0 }) → 0 < s.mem (Node x at node.Next)
+  pub own_link_in : (at : ℕ) → At (Place.ReadNext record { at = at; served = 0 }) → 0 < s.mem (Word.Node x at NodeField.Next)
   own_link_in at e =
-      let is : post_at x (s.stand (pass_on c x p)) ≡ post_of x own (place.ReadNext record { at = at; served = 0 }) = seen (place.ReadNext record { at = at; served = 0 }) e in
-      let mine : w.ghost.server ≡ p + 1 = me (place.ReadNext record { at = at; served = 0 }) e refl in
+      let is : post_at x (s.stand (pass_on c x p)) ≡ post_of x own (Place.ReadNext record { at = at; served = 0 }) = seen (Place.ReadNext record { at = at; served = 0 }) e in
+      let mine : w.ghost.server ≡ p + 1 = me (Place.ReadNext record { at = at; served = 0 }) e refl in
       let rank : (post_at x (s.stand (pass_on c x p))).rank ≡ 5 = ap (λ z. z.rank) is in
       let first : w.ghost.at p ≡ w.ghost.marked = omega (arith, ap (λ z. z.served) is, w.inv.server.server_at p mine (omega (arith, ap (λ z. z.stage) is))) in
       let more : w.ghost.marked < w.ghost.calls = omega (arith, w.inv.passes.at_in p inside (omega (arith, rank))) in
       let its : w.ghost.pass_of w.ghost.marked ≡ p = ap w.ghost.pass_of (sym first) ∙ w.inv.passes.at_is p inside (omega (arith, rank)) in
       let node_is : (post_at x (s.stand (pass_on c x p))).node ≡ at =
       ap (λ (z : ℕ). (post_at x (s.stand (pass_on c x z))).node) (sym its) ∙ w.inv.calls.open_node w.ghost.marked (omega arith) more ∙ sym (w.inv.server.server_target p mine) ∙ ap (λ z. z.target) is in
-      omega (arith, w.inv.links.linked p inside (omega (arith, rank)) (omega arith), ap (λ (z : ℕ). s.mem (Node x z node.Next)) node_is)
+      omega (arith, w.inv.links.linked p inside (omega (arith, rank)) (omega arith), ap (λ (z : ℕ). s.mem (Word.Node x z NodeField.Next)) node_is)
 
   -- the request in service has no answer before the step that decides it
   pub unanswered : (at : Place) → At at → (post_of x own at).rank ≡ 5 → (post_of x own at).stage ≡ 1 → length (answers_on x s.history) < length (calls_on x s.history)
@@ -155,51 +142,51 @@ module _ (c : Setting) (x : Chain) (ok : IsChain c x) (r : InRange c.config) (s 
   abbrev Fit : Type 0
   Fit = (k : ℕ) → k < length (answers_on x s.history) → ret_of c.served (answer_at (answers_on x s.history) k) < 2 ^ 64
 
-  told_fits : (job : Job) (told : Answer) → At (place.WriteAnswer job told) → Fit → ret_of c.served told < 2 ^ 64
+  told_fits : (job : Job) (told : Answer) → At (Place.WriteAnswer job told) → Fit → ret_of c.served told < 2 ^ 64
   told_fits job told e fit =
-      let is : answer_at (answers_on x s.history) w.ghost.marked ≡ told = subst (λ (z : Stand). HasService c.served x (call_at (calls_on x s.history) w.ghost.marked) (answer_at (answers_on x s.history) w.ghost.marked) z.place) e (w.ties.served p (me (place.WriteAnswer job told) e refl)) in
-      subst (λ (z : Answer). ret_of c.served z < 2 ^ 64) is (fit w.ghost.marked (answer_in (place.WriteAnswer job told) e refl refl))
+      let is : answer_at (answers_on x s.history) w.ghost.marked ≡ told = subst (λ (z : Stand). HasService c.served x (call_at (calls_on x s.history) w.ghost.marked) (answer_at (answers_on x s.history) w.ghost.marked) z.place) e (w.ties.served p (me (Place.WriteAnswer job told) e refl)) in
+      subst (λ (z : Answer). ret_of c.served z < 2 ^ 64) is (fit w.ghost.marked (answer_in (Place.WriteAnswer job told) e refl refl))
 
   pub safe_at : (at : Place) → At at → Fit → (IsService at → IsSafe c s x own at) → IsSafe c s x own at
-  safe_at place.Idle e fit served = record { word = tail_exists c x ok; numbers = tt }
-  safe_at (place.ResetNext call) e fit served = record { word = node_exists c x ok own node.Next refl (own_in (place.ResetNext call) e); numbers = tt }
-  safe_at (place.ResetState call) e fit served = record { word = node_exists c x ok own node.State refl (own_in (place.ResetState call) e); numbers = tt }
-  safe_at (place.Exchange call) e fit served = record { word = tail_exists c x ok; numbers = (omega (arith, w.inv.nodes.tail_is), omega (arith, own_in (place.Exchange call) e, few_members c x r)) }
-  safe_at (place.WriteTag put request) e fit served = record { word = node_exists c x ok own node.Tag refl (own_in (place.WriteTag put request) e); numbers = tt }
-  safe_at (place.WriteBody put request i) e fit served =
+  safe_at Place.Idle e fit served = record { word = tail_exists c x ok; numbers = tt }
+  safe_at (Place.ResetNext call) e fit served = record { word = node_exists c x ok own NodeField.Next refl (own_in (Place.ResetNext call) e); numbers = tt }
+  safe_at (Place.ResetState call) e fit served = record { word = node_exists c x ok own NodeField.State refl (own_in (Place.ResetState call) e); numbers = tt }
+  safe_at (Place.Exchange call) e fit served = record { word = tail_exists c x ok; numbers = (omega (arith, w.inv.nodes.tail_is), omega (arith, own_in (Place.Exchange call) e, few_members c x r)) }
+  safe_at (Place.WriteTag put request) e fit served = record { word = node_exists c x ok own NodeField.Tag refl (own_in (Place.WriteTag put request) e); numbers = tt }
+  safe_at (Place.WriteBody put request i) e fit served =
       let has : OnSend x × (i ≤ further_words request.tag) = subst (λ (z : Stand). HasCall c x p z.place) e (w.ties.begun p inside) in
-      record { word = node_exists c x ok own (node.Body i) (four_words i request.tag has.1) (own_in (place.WriteBody put request i) e); numbers = tt }
-  safe_at (place.Link put) e fit served = record { word = node_exists c x ok own node.Next refl (own_in (place.Link put) e); numbers = omega (arith, put_in (place.Link put) e refl, few_members c x r) }
-  safe_at place.ReadState e fit served = record { word = node_exists c x ok own node.State refl (own_in place.ReadState e); numbers = tt }
-  safe_at (place.ReadNext round) e fit served = record { word = node_exists c x ok round.at node.Next refl (target_in (place.ReadNext round) e refl); numbers = tt }
-  safe_at (place.Counting job service) e fit served = served tt
-  safe_at (place.Sending job service) e fit served = served tt
-  safe_at (place.Taking job service) e fit served = served tt
-  safe_at (place.WriteAnswer job told) e fit served = record { word = node_exists c x ok job.round.at node.Ret refl (target_in (place.WriteAnswer job told) e refl); numbers = told_fits job told e fit }
-  safe_at (place.WriteAnswerTag job item) e fit served = record { word = node_exists c x ok job.round.at node.Tag refl (target_in (place.WriteAnswerTag job item) e refl); numbers = tt }
-  safe_at (place.WriteAnswerBody job item i) e fit served =
-      let has = on_take x _ (subst (λ (z : Stand). HasService c.served x (call_at (calls_on x s.history) w.ghost.marked) (answer_at (answers_on x s.history) w.ghost.marked) z.place) e (w.ties.served p (me (place.WriteAnswerBody job item i) e refl))) in
-      record { word = node_exists c x ok job.round.at (node.Body i) (four_words i (tag_of item) has.1) (target_in (place.WriteAnswerBody job item i) e refl); numbers = tt }
-  safe_at (place.MarkDone job) e fit served = record { word = node_exists c x ok job.round.at node.State refl (target_in (place.MarkDone job) e refl); numbers = omega (arith, served_in (place.MarkDone job) e refl (omega arith), r.bound) }
-  safe_at (place.HandOver at) e fit served = record { word = node_exists c x ok at node.State refl (target_in (place.HandOver at) e refl); numbers = tt }
-  safe_at place.ReadAnswer e fit served = record { word = node_exists c x ok own node.Ret refl (own_in place.ReadAnswer e); numbers = tt }
-  safe_at (place.ReadAnswerTag at) e fit served = record { word = node_exists c x ok own node.Tag refl (own_in (place.ReadAnswerTag at) e); numbers = tt }
-  safe_at (place.ReadAnswerBody at i) e fit served =
+      record { word = node_exists c x ok own (NodeField.Body i) (four_words i request.tag has.1) (own_in (Place.WriteBody put request i) e); numbers = tt }
+  safe_at (Place.Link put) e fit served = record { word = node_exists c x ok own NodeField.Next refl (own_in (Place.Link put) e); numbers = omega (arith, put_in (Place.Link put) e refl, few_members c x r) }
+  safe_at Place.ReadState e fit served = record { word = node_exists c x ok own NodeField.State refl (own_in Place.ReadState e); numbers = tt }
+  safe_at (Place.ReadNext round) e fit served = record { word = node_exists c x ok round.at NodeField.Next refl (target_in (Place.ReadNext round) e refl); numbers = tt }
+  safe_at (Place.Counting job service) e fit served = served tt
+  safe_at (Place.Sending job service) e fit served = served tt
+  safe_at (Place.Taking job service) e fit served = served tt
+  safe_at (Place.WriteAnswer job told) e fit served = record { word = node_exists c x ok job.round.at NodeField.Ret refl (target_in (Place.WriteAnswer job told) e refl); numbers = told_fits job told e fit }
+  safe_at (Place.WriteAnswerTag job item) e fit served = record { word = node_exists c x ok job.round.at NodeField.Tag refl (target_in (Place.WriteAnswerTag job item) e refl); numbers = tt }
+  safe_at (Place.WriteAnswerBody job item i) e fit served =
+      let has = on_take x _ (subst (λ (z : Stand). HasService c.served x (call_at (calls_on x s.history) w.ghost.marked) (answer_at (answers_on x s.history) w.ghost.marked) z.place) e (w.ties.served p (me (Place.WriteAnswerBody job item i) e refl))) in
+      record { word = node_exists c x ok job.round.at (NodeField.Body i) (four_words i (tag_of item) has.1) (target_in (Place.WriteAnswerBody job item i) e refl); numbers = tt }
+  safe_at (Place.MarkDone job) e fit served = record { word = node_exists c x ok job.round.at NodeField.State refl (target_in (Place.MarkDone job) e refl); numbers = omega (arith, served_in (Place.MarkDone job) e refl (omega arith), r.bound) }
+  safe_at (Place.HandOver at) e fit served = record { word = node_exists c x ok at NodeField.State refl (target_in (Place.HandOver at) e refl); numbers = tt }
+  safe_at Place.ReadAnswer e fit served = record { word = node_exists c x ok own NodeField.Ret refl (own_in Place.ReadAnswer e); numbers = tt }
+  safe_at (Place.ReadAnswerTag at) e fit served = record { word = node_exists c x ok own NodeField.Tag refl (own_in (Place.ReadAnswerTag at) e); numbers = tt }
+  safe_at (Place.ReadAnswerBody at i) e fit served =
       let has = on_take x _ (subst (λ (z : Stand). HasRead c.served x (answer_at (answers_on x s.history) (w.ghost.at p)) z.place) e (w.ties.read p inside)) in
-      record { word = node_exists c x ok own (node.Body i) (four_words i at.tag has.3) (own_in (place.ReadAnswerBody at i) e); numbers = tt }
-  safe_at (place.Finished told) e fit served = record { word = tail_exists c x ok; numbers = tt }
+      record { word = node_exists c x ok own (NodeField.Body i) (four_words i at.tag has.3) (own_in (Place.ReadAnswerBody at i) e); numbers = tt }
+  safe_at (Place.Finished told) e fit served = record { word = tail_exists c x ok; numbers = tt }
 
-  send_open : (job : Job) (service : Sending) → At (place.Sending job service) → WhileUndecided (place.Sending job service) (HasOpenCall s.history x)
-  send_open job (sending.WriteLastMark total) e = tt
-  send_open job (sending.WriteShut total) e = tt
-  send_open job (sending.WriteLast at on) e = tt
-  send_open job (sending.WriteCount at on) e = tt
-  send_open job (sending.WriteCursor at on) e = tt
-  send_open job sending.ReadTag e = open_call x s.history (unanswered (place.Sending job sending.ReadTag) e refl refl)
-  send_open job service e = open_call x s.history (unanswered (place.Sending job service) e refl refl)
+  send_open : (job : Job) (service : Sending) → At (Place.Sending job service) → WhileUndecided (Place.Sending job service) (HasOpenCall s.history x)
+  send_open job (Sending.WriteLastMark total) e = tt
+  send_open job (Sending.WriteShut total) e = tt
+  send_open job (Sending.WriteLast at on) e = tt
+  send_open job (Sending.WriteCount at on) e = tt
+  send_open job (Sending.WriteCursor at on) e = tt
+  send_open job Sending.ReadTag e = open_call x s.history (unanswered (Place.Sending job Sending.ReadTag) e refl refl)
+  send_open job service e = open_call x s.history (unanswered (Place.Sending job service) e refl refl)
 
   pub open_at : (at : Place) → At at → IsOpenAt s.history x at
-  open_at (place.Counting job service) e = open_call x s.history (unanswered (place.Counting job service) e refl refl)
-  open_at (place.Sending job service) e = send_open job service e
-  open_at (place.Taking job service) e = open_call x s.history (unanswered (place.Taking job service) e refl refl)
+  open_at (Place.Counting job service) e = open_call x s.history (unanswered (Place.Counting job service) e refl refl)
+  open_at (Place.Sending job service) e = send_open job service e
+  open_at (Place.Taking job service) e = open_call x s.history (unanswered (Place.Taking job service) e refl refl)
   open_at _ e = tt

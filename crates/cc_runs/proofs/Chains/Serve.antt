@@ -1,16 +1,7 @@
 -- Each step of a combiner, and of a call that reads its answer, keeps what holds of the chain.
 use Rattle.std.proofs.Common.{◌≡◌, ℕ, ◌+◌, ◌<◌, ◌≤◌, ◌==◌, refl, ap, sym, ◌∙◌, subst, arith, Some, None, List}
 use Rattle.cc_model.specs.Record.{Side, Record}
-use Rattle.cc_model.specs.declared.call.Entry.{Entry}
-use Rattle.cc_model.specs.declared.call.Answer.{Answer}
-use Rattle.cc_runs.specs.declared.setting.Setting.{Setting}
-use Rattle.cc_runs.specs.declared.word.Chain.{Chain}
-use Rattle.cc_runs.specs.declared.word.NodeField.{NodeField}
-use Rattle.cc_runs.specs.declared.word.Word.TheVariants.{Tail, Node}
-use Rattle.cc_runs.specs.declared.place.Stand.{Stand}
-use Rattle.cc_runs.specs.declared.place.Job.{Job}
-use Rattle.cc_runs.specs.declared.place.Place.{Place}
-use Rattle.cc_runs.specs.declared.place.Place.TheVariants as place
+use Rattle.cc_runs.specs.Names.{Entry, Answer, Setting, Chain, NodeField, Word, Stand, Job, Place}
 use Rattle.cc_runs.specs.Codes.{ret_of}
 use Rattle.cc_runs.specs.State.{State, noted}
 use Rattle.cc_runs.specs.Lines.{goes, node_after, enters, decides, after_answer, after_done}
@@ -62,7 +53,7 @@ module _ (c : Setting) (x : Chain) (ok : IsChain c x) (some : 0 < c.config.bound
 
   -- the words of the request that is served
   pub request_at : (at : Place) (job : Job) (j : ℕ) → At at → post_of x own at ≡ serving own job 1 0 → j < request_long x the_call →
-      request_words x (λ (f : NodeField). s.mem (Node x job.round.at f)) j ≡ asked_words x the_call j
+      request_words x (λ (f : NodeField). s.mem (Word.Node x job.round.at f)) j ≡ asked_words x the_call j
   request_at at job j e is less =
       let now : post_at x (s.stand (pass_on c x p)) ≡ serving own job 1 0 = seen at e ∙ is in
       let mine : w.ghost.server ≡ p + 1 = me at e (ap (λ z. z.rank) is) in
@@ -71,15 +62,15 @@ module _ (c : Setting) (x : Chain) (ok : IsChain c x) (some : 0 < c.config.bound
       let at_is : w.ghost.at (w.ghost.pass_of w.ghost.marked) ≡ w.ghost.marked = w.inv.calls.open_at w.ghost.marked (omega arith) busy in
       let node_is : (post_at x (s.stand (pass_on c x (w.ghost.pass_of w.ghost.marked)))).node ≡ w.ghost.chain w.ghost.marked = w.inv.calls.open_node w.ghost.marked (omega arith) busy in
       let target : job.round.at ≡ w.ghost.chain w.ghost.marked = sym (ap (λ z. z.target) now) ∙ w.inv.server.server_target p mine in
-      let written : request_words x (λ (f : NodeField). s.mem (Node x (post_at x (s.stand (pass_on c x (w.ghost.pass_of w.ghost.marked)))).node f)) j ≡ w.ghost.asked (w.ghost.at (w.ghost.pass_of w.ghost.marked)) j =
+      let written : request_words x (λ (f : NodeField). s.mem (Word.Node x (post_at x (s.stand (pass_on c x (w.ghost.pass_of w.ghost.marked)))).node f)) j ≡ w.ghost.asked (w.ghost.at (w.ghost.pass_of w.ghost.marked)) j =
       w.inv.words.linked_written (w.ghost.pass_of w.ghost.marked) j (w.inv.calls.open_pass w.ghost.marked (omega arith) busy) linked (omega arith)
       (omega (arith, less, ap (λ (z : ℕ). w.ghost.asks_long z) at_is, w.ties.asks_long w.ghost.marked busy)) in
-      ap (λ (z : ℕ). request_words x (λ (f : NodeField). s.mem (Node x z f)) j) (target ∙ sym node_is) ∙ written ∙ ap (λ (z : ℕ). w.ghost.asked z j) at_is ∙ w.ties.asked w.ghost.marked j busy
+      ap (λ (z : ℕ). request_words x (λ (f : NodeField). s.mem (Word.Node x z f)) j) (target ∙ sym node_is) ∙ written ∙ ap (λ (z : ℕ). w.ghost.asked z j) at_is ∙ w.ties.asked w.ghost.marked j busy
 
   -- a step of a service
   quietly : (at : Place) (job : Job) → At at → (post_of x own at).rank ≡ 5 → enters at ≡ None → decides c at (finds at) ≡ None → node_after own at (finds at) ≡ own →
       post_of x own (goes c x own at (finds at)) ≡ post_of x own at → (HasService c.served x the_call the_answer at → HasService c.served x the_call the_answer (goes c x own at (finds at))) →
-      (then at).mem (Tail x) ≡ s.mem (Tail x) → ((i : ℕ) (f : NodeField) → (then at).mem (Node x i f) ≡ s.mem (Node x i f)) → Holds c x (then at)
+      (then at).mem (Word.Tail x) ≡ s.mem (Word.Tail x) → ((i : ℕ) (f : NodeField) → (then at).mem (Word.Node x i f) ≡ s.mem (Word.Node x i f)) → Holds c x (then at)
   quietly at job e five enter none keeps_node same serve tail words =
       goes_on c x ok some s p begun own inside w at (goes c x own at (finds at)) w.ghost.marked w.ghost.server refl enter none
       (by_stay.keeps (members c x) c.config.bound (view c x s) (view c x (then at)) w.ghost w.inv
@@ -88,7 +79,7 @@ module _ (c : Setting) (x : Chain) (ok : IsChain c x) (some : 0 < c.config.bound
 
   decides_now : (at : Place) (job : Job) (a : Answer) → At at → enters at ≡ None → decides c at (finds at) ≡ Some a → node_after own at (finds at) ≡ own →
       post_of x own at ≡ serving own job 1 0 → post_of x own (goes c x own at (finds at)) ≡ serving own job 2 0 → IsAnswer c.served x a → HasService c.served x the_call a (goes c x own at (finds at)) →
-      (then at).mem (Tail x) ≡ s.mem (Tail x) → ((i : ℕ) (f : NodeField) → (then at).mem (Node x i f) ≡ s.mem (Node x i f)) → Holds c x (then at)
+      (then at).mem (Word.Tail x) ≡ s.mem (Word.Tail x) → ((i : ℕ) (f : NodeField) → (then at).mem (Word.Node x i f) ≡ s.mem (Word.Node x i f)) → Holds c x (then at)
   decides_now at job a e enter tells keeps_node first second is serve tail words =
       let mine_is : w.ghost.server ≡ p + 1 = me at e (ap (λ z. z.rank) first) in
       let stage : (post_at x (s.stand (pass_on c x p))).stage ≡ 1 = ap (λ z. z.stage) (seen at e ∙ first) in
@@ -109,7 +100,7 @@ module _ (c : Setting) (x : Chain) (ok : IsChain c x) (some : 0 < c.config.bound
       }
 
   pub service : (at : Place) (job : Job) → At at → (post_of x own at).rank ≡ 5 → enters at ≡ None → node_after own at (finds at) ≡ own → Outcome c.served x job the_call at (goes c x own at (finds at)) (decides c at (finds at)) →
-      (then at).mem (Tail x) ≡ s.mem (Tail x) → ((i : ℕ) (f : NodeField) → (then at).mem (Node x i f) ≡ s.mem (Node x i f)) → Holds c x (then at)
+      (then at).mem (Word.Tail x) ≡ s.mem (Word.Tail x) → ((i : ℕ) (f : NodeField) → (then at).mem (Word.Node x i f) ≡ s.mem (Word.Node x i f)) → Holds c x (then at)
   service at job e five enter keeps_node (quiet none same serve) tail words = quietly at job e five enter none keeps_node (same own) (serve the_answer) tail words
   service at job e five enter keeps_node (decided a tells first second is serve) tail words = decides_now at job a e enter tells keeps_node (first own) (second own) is serve tail words
 
@@ -134,23 +125,23 @@ module _ (c : Setting) (x : Chain) (ok : IsChain c x) (some : 0 < c.config.bound
       (subst (λ (z : ℕ). Tells long (view c x s) (view c x (then at)) p z) word_now t)))
       (stays_in c x ok some s p begun own inside w there (free_at c x p own there next_five) (λ a. serve))
 
-  pub write_answer : (job : Job) (told : Answer) → At (place.WriteAnswer job told) → Holds c x (then (place.WriteAnswer job told))
+  pub write_answer : (job : Job) (told : Answer) → At (Place.WriteAnswer job told) → Holds c x (then (Place.WriteAnswer job told))
   write_answer job told e =
-      let is : the_answer ≡ told = serves_at (place.WriteAnswer job told) e refl in
-      let k = told_of (place.WriteAnswer job told) e refl refl in
-      tells (place.WriteAnswer job told) (after_answer job told) (answer_long told) (ret_of c.served told) 0 e refl refl refl refl refl refl (ap (λ z. z.rank) (after_answer_post x own job told))
+      let is : the_answer ≡ told = serves_at (Place.WriteAnswer job told) e refl in
+      let k = told_of (Place.WriteAnswer job told) e refl refl in
+      tells (Place.WriteAnswer job told) (after_answer job told) (answer_long told) (ret_of c.served told) 0 e refl refl refl refl refl refl (ap (λ z. z.rank) (after_answer_post x own job told))
       (bridge.write_answer c x s p begun own job told e) (ap answer_long (sym is)) (sym (coded_first c.served x told) ∙ ap (λ (z : Answer). coded_words c.served x z 0) (sym is))
       (answers_it c.served x the_call the_answer told job is (subst (λ (z : Answer). IsAnswer c.served x z) is k.3))
 
-  pub mark : (job : Job) → At (place.MarkDone job) → Holds c x (then (place.MarkDone job))
+  pub mark : (job : Job) → At (Place.MarkDone job) → Holds c x (then (Place.MarkDone job))
   mark job e =
-      let k = told_of (place.MarkDone job) e refl refl in
+      let k = told_of (Place.MarkDone job) e refl refl in
       let few : w.ghost.told_long w.ghost.marked ≤ all_told = omega (arith, k.1, some_words the_answer) in
       let rank : (post_of x own (after_done c.config.bound job)).rank ≡ 5 = done_rank x own job (job.round.served + 1 == c.config.bound) in
       let free : IsFree c x p (after_done c.config.bound job) = free_at c x p own (after_done c.config.bound job) rank in
-      let mine_is : w.ghost.server ≡ p + 1 = me (place.MarkDone job) e refl in
-      goes_on c x ok some s p begun own inside w (place.MarkDone job) (after_done c.config.bound job) (w.ghost.marked + 1) w.ghost.server refl refl refl
-      (by_mark.keeps (members c x) c.config.bound (view c x s) (view c x (then (place.MarkDone job))) w.ghost (record w.ghost { marked = w.ghost.marked + 1 }) p inside w.inv
+      let mine_is : w.ghost.server ≡ p + 1 = me (Place.MarkDone job) e refl in
+      goes_on c x ok some s p begun own inside w (Place.MarkDone job) (after_done c.config.bound job) (w.ghost.marked + 1) w.ghost.server refl refl refl
+      (by_mark.keeps (members c x) c.config.bound (view c x s) (view c x (then (Place.MarkDone job))) w.ghost (record w.ghost { marked = w.ghost.marked + 1 }) p inside w.inv
       (bridge.mark c x s p begun own job e (w.ghost.told_long w.ghost.marked) few)
       record { calls = refl; answers = refl; marked = refl; server = refl; told = λ k j. refl; pass_of = λ k. refl; asked = λ k j. refl; asks_long = λ k. refl; told_long = λ k. refl; chain = λ k. refl; at = λ q. refl })
       record {
@@ -162,9 +153,9 @@ module _ (c : Setting) (x : Chain) (ok : IsChain c x) (some : 0 < c.config.bound
         keep = λ q ne a. absurd (ne (omega (arith, mine_is)));
       }
 
-  pub hand_over : (at : ℕ) → At (place.HandOver at) → Holds c x (then (place.HandOver at))
+  pub hand_over : (at : ℕ) → At (Place.HandOver at) → Holds c x (then (Place.HandOver at))
   hand_over at e =
-      goes_on c x ok some s p begun own inside w (place.HandOver at) place.ReadAnswer w.ghost.marked 0 refl refl refl
-      (by_handover.keeps (members c x) c.config.bound (view c x s) (view c x (then (place.HandOver at))) w.ghost (record w.ghost { server = 0 }) p inside w.inv (bridge.hand_over c x s p begun own at e)
+      goes_on c x ok some s p begun own inside w (Place.HandOver at) Place.ReadAnswer w.ghost.marked 0 refl refl refl
+      (by_handover.keeps (members c x) c.config.bound (view c x s) (view c x (then (Place.HandOver at))) w.ghost (record w.ghost { server = 0 }) p inside w.inv (bridge.hand_over c x s p begun own at e)
       record { calls = refl; answers = refl; marked = refl; server_now = refl; pass_of = λ k. refl; asked = λ k j. refl; asks_long = λ k. refl; told_long = λ k. refl; told = λ k j. refl; chain = λ k. refl; at = λ q. refl })
       record { onward = omega arith; call = tt; read = tt; ended = λ f. absurd f; serves = λ a. absurd (omega arith); keep = λ q ne a. absurd (omega arith) }

@@ -1,31 +1,7 @@
 -- A step of a service: it goes on, or decides the answer.
 use Rattle.std.proofs.Common.{◌≡◌, ℕ, zero, suc, ◌+◌, ◌≤◌, ◌<◌, Bool, true, false, ◌==◌, nat_lt, cond, refl, ap, arith, Option, Some, None}
 use Rattle.std.proofs.lemmas.Bool.{ltb-true, ltb-false}
-use Rattle.cc_model.specs.declared.call.Entry.{Entry}
-use Rattle.cc_model.specs.declared.call.Answer.{Answer}
-use Rattle.cc_model.specs.declared.call.Answer.TheVariants as answer
-use Rattle.cc_model.specs.declared.call.SendAnswer.TheVariants as send
-use Rattle.cc_model.specs.declared.call.CloseAnswer.TheVariants as close
-use Rattle.cc_model.specs.declared.call.TakeAnswer.TheVariants as take
-use Rattle.cc_runs.specs.declared.setting.Setting.{Setting}
-use Rattle.cc_runs.specs.declared.setting.Served.{Served}
-use Rattle.cc_runs.specs.declared.setting.Served.TheVariants as served
-use Rattle.cc_runs.specs.declared.word.Chain.{Chain}
-use Rattle.cc_runs.specs.declared.word.Chain.TheVariants.{Send, Take}
-use Rattle.cc_runs.specs.declared.word.NodeField.{NodeField}
-use Rattle.cc_runs.specs.declared.word.Word.{Word}
-use Rattle.cc_runs.specs.declared.word.Word.TheVariants.{Tail, Node}
-use Rattle.cc_runs.specs.declared.place.Job.{Job}
-use Rattle.cc_runs.specs.declared.place.Request.{Request}
-use Rattle.cc_runs.specs.declared.place.Parcel.{Parcel}
-use Rattle.cc_runs.specs.declared.place.Counting.{Counting}
-use Rattle.cc_runs.specs.declared.place.Counting.TheVariants as counting
-use Rattle.cc_runs.specs.declared.place.Sending.{Sending}
-use Rattle.cc_runs.specs.declared.place.Sending.TheVariants as sending
-use Rattle.cc_runs.specs.declared.place.Taking.{Taking}
-use Rattle.cc_runs.specs.declared.place.Taking.TheVariants as taking
-use Rattle.cc_runs.specs.declared.place.Place.{Place}
-use Rattle.cc_runs.specs.declared.place.Place.TheVariants as place
+use Rattle.cc_runs.specs.Names.{Entry, Answer, SendAnswer, CloseAnswer, TakeAnswer, Setting, Served, Chain, NodeField, Word, Job, Request, Parcel, Counting, Sending, Taking, Place}
 use Rattle.cc_runs.specs.Codes.{request_in, further_words, word, with_asked, with_read}
 use Rattle.cc_runs.specs.Words.{groups}
 use Rattle.cc_runs.specs.State.{stored}
@@ -45,32 +21,32 @@ pub data Outcome (served : Served) (x : Chain) (job : Job) (e : Entry) (here the
 
 -- the word of a request that a service reads
 abbrev pub FindsRequest : Entry → Sending → ℕ → Type 0
-FindsRequest e sending.ReadTag found = found ≡ (request_in e).tag
-FindsRequest e (sending.ReadBody request i) found = found ≡ word (request_in e).body i
+FindsRequest e Sending.ReadTag found = found ≡ (request_in e).tag
+FindsRequest e (Sending.ReadBody request i) found = found ≡ word (request_in e).body i
 FindsRequest e _ found = Unit {0}
 
 module _ (c : Setting) (job : Job) (e : Entry) where
   abbrev Sends : Sending → Next Sending → Type 0
-  Sends service next = Outcome served.List Send job e (place.Sending job service) (place_of send_side.in_service job next) (answer_of next)
+  Sends service next = Outcome Served.List Chain.Send job e (Place.Sending job service) (place_of send_side.in_service job next) (answer_of next)
 
-  shut_closed : (request : Request) (b : Bool) → Sends (sending.ReadShut request) (cond b (On sending.ReadTotal) (Decides (answer.Send send.Closed)))
+  shut_closed : (request : Request) (b : Bool) → Sends (Sending.ReadShut request) (cond b (On Sending.ReadTotal) (Decides (Answer.Send SendAnswer.Closed)))
   shut_closed request true = quiet refl (λ own. refl) (λ a r. tt)
-  shut_closed request false = decides (answer.Send send.Closed) refl (λ own. refl) (λ own. refl) tt refl
+  shut_closed request false = decides (Answer.Send SendAnswer.Closed) refl (λ own. refl) (λ own. refl) tt refl
 
-  shut_read : (request : Request) (found : ℕ) → Sends (sending.ReadShut request) (send_side.by_shut request found)
+  shut_read : (request : Request) (found : ℕ) → Sends (Sending.ReadShut request) (send_side.by_shut request found)
   shut_read request zero = quiet refl (λ own. refl) (λ a r. r)
   shut_read request (suc found) = shut_closed request (request.tag == 0)
 
   count_read : (request : Request) (count : ℕ) (life b : Bool) →
-      Sends (sending.ReadCount request) (cond b (On (sending.ReadLastToClose count)) (cond life (Decides (answer.Send send.Spent)) (On (sending.ReadCursor record { place = count; tag = request.tag; body = request.body }))))
+      Sends (Sending.ReadCount request) (cond b (On (Sending.ReadLastToClose count)) (cond life (Decides (Answer.Send SendAnswer.Spent)) (On (Sending.ReadCursor record { place = count; tag = request.tag; body = request.body }))))
   count_read request count life true = quiet refl (λ own. refl) (λ a r. tt)
-  count_read request count true false = decides (answer.Send send.Spent) refl (λ own. refl) (λ own. refl) tt refl
+  count_read request count true false = decides (Answer.Send SendAnswer.Spent) refl (λ own. refl) (λ own. refl) tt refl
   count_read request count false false = quiet refl (λ own. refl) (λ a r. r)
 
   passed_read : (parcel : Parcel) (at reads : ℕ) (last b : Bool) →
-      Sends (sending.ReadPassed parcel at reads) (cond b (On (sending.ResetPassed parcel at)) (cond last (Decides (answer.Send send.Full)) (On (sending.ReadPassed parcel (after c.config at) (reads + 1)))))
+      Sends (Sending.ReadPassed parcel at reads) (cond b (On (Sending.ResetPassed parcel at)) (cond last (Decides (Answer.Send SendAnswer.Full)) (On (Sending.ReadPassed parcel (after c.config at) (reads + 1)))))
   passed_read parcel at reads last true = quiet refl (λ own. refl) (λ a r. r)
-  passed_read parcel at reads true false = decides (answer.Send send.Full) refl (λ own. refl) (λ own. refl) tt refl
+  passed_read parcel at reads true false = decides (Answer.Send SendAnswer.Full) refl (λ own. refl) (λ own. refl) tt refl
   passed_read parcel at reads false false = quiet refl (λ own. refl) (λ a r. r)
 
   -- the first words of a request, and one more
@@ -78,90 +54,90 @@ module _ (c : Setting) (job : Job) (e : Entry) where
   asked_more request i found f r = (r.0.0, λ j low. next_word request.body (word (request_in e).body) i found (omega (arith, r.1, few_further request.tag)) f r.0.1 j (omega arith))
 
   body_read : (request : Request) (i found : ℕ) → found ≡ word (request_in e).body i → (b : Bool) → nat_lt i (further_words request.tag) ≡ b →
-      Sends (sending.ReadBody request i) (On (cond b (sending.ReadBody (with_asked request i found) (i + 1)) (sending.ReadShut (with_asked request i found))))
+      Sends (Sending.ReadBody request i) (On (cond b (Sending.ReadBody (with_asked request i found) (i + 1)) (Sending.ReadShut (with_asked request i found))))
   body_read request i found f true is = quiet refl (λ own. refl) (λ a r. (asked_more request i found f r, omega (arith, ltb-true i (further_words request.tag) is)))
   body_read request i found f false is = quiet refl (λ own. refl) (λ a r. (r.0.0, λ j low. (asked_more request i found f r).1 j (omega (arith, ltb-false i (further_words request.tag) is))))
 
   body_written : (parcel : Parcel) (at i : ℕ) (b : Bool) → nat_lt i (further_words parcel.tag) ≡ b →
-      Sends (sending.WriteItemBody parcel at i) (On (cond b (sending.WriteItemBody parcel at (i + 1)) (sending.ReadLast parcel.place at)))
+      Sends (Sending.WriteItemBody parcel at i) (On (cond b (Sending.WriteItemBody parcel at (i + 1)) (Sending.ReadLast parcel.place at)))
   body_written parcel at i true is = quiet refl (λ own. refl) (λ a r. (r.0, omega (arith, ltb-true i (further_words parcel.tag) is)))
   body_written parcel at i false is = quiet refl (λ own. refl) (λ a r. tt)
 
   pub sends : (service : Sending) (found : ℕ) → FindsRequest e service found → Sends service (send_side.line c.config 0 service found).next
-  sends sending.ReadTag found f = quiet refl (λ own. refl) (λ a r. ((f, λ j low. absurd (omega arith)), omega arith))
-  sends (sending.ReadBody request i) found f = body_read request i found f (nat_lt i (further_words request.tag)) refl
-  sends (sending.ReadShut request) found f = shut_read request found
-  sends sending.ReadTotal found f = decides (answer.Close (close.Already found)) refl (λ own. refl) (λ own. refl) tt refl
-  sends (sending.ReadCount request) found f = count_read request found (found == c.config.life) (request.tag == 0)
-  sends (sending.ReadLastToClose total) found f = quiet refl (λ own. refl) (λ a r. tt)
-  sends (sending.LinkMark total last) found f = decides (answer.Close (close.Shut total)) refl (λ own. refl) (λ own. refl) tt refl
-  sends (sending.WriteLastMark total) found f = quiet refl (λ own. refl) (λ a r. r)
-  sends (sending.WriteShut total) found f = quiet refl (λ own. refl) (λ a r. r)
-  sends (sending.ReadCursor parcel) found f = quiet refl (λ own. refl) (λ a r. r)
-  sends (sending.ReadPassed parcel at reads) found f = passed_read parcel at reads (reads == c.config.capacity + 1) (found == groups c.config)
-  sends (sending.ResetPassed parcel at) found f = quiet refl (λ own. refl) (λ a r. r)
-  sends (sending.ResetItemNext parcel at) found f = quiet refl (λ own. refl) (λ a r. r)
-  sends (sending.WriteItemTag parcel at) found f = quiet refl (λ own. refl) (λ a r. (r, omega arith))
-  sends (sending.WriteItemBody parcel at i) found f = body_written parcel at i (nat_lt i (further_words parcel.tag)) refl
-  sends (sending.ReadLast place at) found f = quiet refl (λ own. refl) (λ a r. tt)
-  sends (sending.LinkItem place at last) found f = decides (answer.Send (send.Accepted place)) refl (λ own. refl) (λ own. refl) tt refl
-  sends (sending.WriteLast place at) found f = quiet refl (λ own. refl) (λ a r. r)
-  sends (sending.WriteCount place at) found f = quiet refl (λ own. refl) (λ a r. r)
-  sends (sending.WriteCursor place at) found f = quiet refl (λ own. refl) (λ a r. r)
+  sends Sending.ReadTag found f = quiet refl (λ own. refl) (λ a r. ((f, λ j low. absurd (omega arith)), omega arith))
+  sends (Sending.ReadBody request i) found f = body_read request i found f (nat_lt i (further_words request.tag)) refl
+  sends (Sending.ReadShut request) found f = shut_read request found
+  sends Sending.ReadTotal found f = decides (Answer.Close (CloseAnswer.Already found)) refl (λ own. refl) (λ own. refl) tt refl
+  sends (Sending.ReadCount request) found f = count_read request found (found == c.config.life) (request.tag == 0)
+  sends (Sending.ReadLastToClose total) found f = quiet refl (λ own. refl) (λ a r. tt)
+  sends (Sending.LinkMark total last) found f = decides (Answer.Close (CloseAnswer.Shut total)) refl (λ own. refl) (λ own. refl) tt refl
+  sends (Sending.WriteLastMark total) found f = quiet refl (λ own. refl) (λ a r. r)
+  sends (Sending.WriteShut total) found f = quiet refl (λ own. refl) (λ a r. r)
+  sends (Sending.ReadCursor parcel) found f = quiet refl (λ own. refl) (λ a r. r)
+  sends (Sending.ReadPassed parcel at reads) found f = passed_read parcel at reads (reads == c.config.capacity + 1) (found == groups c.config)
+  sends (Sending.ResetPassed parcel at) found f = quiet refl (λ own. refl) (λ a r. r)
+  sends (Sending.ResetItemNext parcel at) found f = quiet refl (λ own. refl) (λ a r. r)
+  sends (Sending.WriteItemTag parcel at) found f = quiet refl (λ own. refl) (λ a r. (r, omega arith))
+  sends (Sending.WriteItemBody parcel at i) found f = body_written parcel at i (nat_lt i (further_words parcel.tag)) refl
+  sends (Sending.ReadLast place at) found f = quiet refl (λ own. refl) (λ a r. tt)
+  sends (Sending.LinkItem place at last) found f = decides (Answer.Send (SendAnswer.Accepted place)) refl (λ own. refl) (λ own. refl) tt refl
+  sends (Sending.WriteLast place at) found f = quiet refl (λ own. refl) (λ a r. r)
+  sends (Sending.WriteCount place at) found f = quiet refl (λ own. refl) (λ a r. r)
+  sends (Sending.WriteCursor place at) found f = quiet refl (λ own. refl) (λ a r. r)
 
   abbrev Takes : ℕ → Taking → ℕ → Type 0
-  Takes g service found = Outcome served.List (Take g) job e (place.Taking job service) (take_side.goes job service found) (take_side.decides service found)
+  Takes g service found = Outcome Served.List (Chain.Take g) job e (Place.Taking job service) (take_side.goes job service found) (take_side.decides service found)
 
   item_read : (g dummy at : ℕ) (p : Parcel) (i found : ℕ) (b : Bool) →
-      Outcome served.List (Take g) job e (place.Taking job (taking.ReadItemBody dummy at p i)) (place.Taking job (cond b (taking.ReadItemBody dummy at (with_read p i found) (i + 1)) (taking.WriteHead dummy at (with_read p i found)))) None
+      Outcome Served.List (Chain.Take g) job e (Place.Taking job (Taking.ReadItemBody dummy at p i)) (Place.Taking job (cond b (Taking.ReadItemBody dummy at (with_read p i found) (i + 1)) (Taking.WriteHead dummy at (with_read p i found)))) None
   item_read g dummy at p i found true = quiet refl (λ own. refl) (λ a r. tt)
   item_read g dummy at p i found false = quiet refl (λ own. refl) (λ a r. tt)
 
   pub takes : (g : ℕ) (service : Taking) (found : ℕ) → Takes g service found
-  takes g taking.ReadHead found = quiet refl (λ own. refl) (λ a r. tt)
-  takes g (taking.ReadTaken dummy) found = quiet refl (λ own. refl) (λ a r. tt)
-  takes g (taking.ReadDummyNext dummy taken) zero = decides (answer.Take take.Empty) refl (λ own. refl) (λ own. refl) tt refl
-  takes g (taking.ReadDummyNext dummy taken) (suc found) = quiet refl (λ own. refl) (λ a r. tt)
-  takes g (taking.ReadItemTag dummy taken at) zero = decides (answer.Take (take.Ended taken)) refl (λ own. refl) (λ own. refl) tt refl
-  takes g (taking.ReadItemTag dummy taken at) (suc found) = quiet refl (λ own. refl) (λ a r. tt)
-  takes g (taking.ReadItemBody dummy at p i) found = item_read g dummy at p i found (nat_lt i (further_words p.tag))
-  takes g (taking.WriteHead dummy at parcel) found = quiet refl (λ own. refl) (λ a r. tt)
-  takes g (taking.WriteTaken dummy parcel) found = quiet refl (λ own. refl) (λ a r. tt)
-  takes g (taking.AddPassed dummy parcel) found = decides _ refl (λ own. refl) (λ own. refl) tt refl
+  takes g Taking.ReadHead found = quiet refl (λ own. refl) (λ a r. tt)
+  takes g (Taking.ReadTaken dummy) found = quiet refl (λ own. refl) (λ a r. tt)
+  takes g (Taking.ReadDummyNext dummy taken) zero = decides (Answer.Take TakeAnswer.Empty) refl (λ own. refl) (λ own. refl) tt refl
+  takes g (Taking.ReadDummyNext dummy taken) (suc found) = quiet refl (λ own. refl) (λ a r. tt)
+  takes g (Taking.ReadItemTag dummy taken at) zero = decides (Answer.Take (TakeAnswer.Ended taken)) refl (λ own. refl) (λ own. refl) tt refl
+  takes g (Taking.ReadItemTag dummy taken at) (suc found) = quiet refl (λ own. refl) (λ a r. tt)
+  takes g (Taking.ReadItemBody dummy at p i) found = item_read g dummy at p i found (nat_lt i (further_words p.tag))
+  takes g (Taking.WriteHead dummy at parcel) found = quiet refl (λ own. refl) (λ a r. tt)
+  takes g (Taking.WriteTaken dummy parcel) found = quiet refl (λ own. refl) (λ a r. tt)
+  takes g (Taking.AddPassed dummy parcel) found = decides _ refl (λ own. refl) (λ own. refl) tt refl
 
   words_read : (tag i : ℕ) (b : Bool) → nat_lt i (further_words tag) ≡ b →
-      Outcome served.Counter Send job e (place.Counting job (counting.ReadBody tag i)) (place.Counting job (cond b (counting.ReadBody tag (i + 1)) counting.ReadCount)) None
+      Outcome Served.Counter Chain.Send job e (Place.Counting job (Counting.ReadBody tag i)) (Place.Counting job (cond b (Counting.ReadBody tag (i + 1)) Counting.ReadCount)) None
   words_read tag i true is = quiet refl (λ own. refl) (λ a r. (tt, omega (arith, ltb-true i (further_words tag) is)))
   words_read tag i false is = quiet refl (λ own. refl) (λ a r. (tt, tt))
 
-  pub counts : (service : Counting) (found : ℕ) → Outcome served.Counter Send job e (place.Counting job service) (count_side.goes job service found) (count_side.decides service found)
-  counts counting.ReadTag found = quiet refl (λ own. refl) (λ a r. (tt, omega arith))
-  counts (counting.ReadBody tag i) found = words_read tag i (nat_lt i (further_words tag)) refl
-  counts counting.ReadCount found = quiet refl (λ own. refl) (λ a r. (tt, tt))
-  counts (counting.WriteCount count) found = decides (answer.Send (send.Accepted count)) refl (λ own. refl) (λ own. refl) tt refl
+  pub counts : (service : Counting) (found : ℕ) → Outcome Served.Counter Chain.Send job e (Place.Counting job service) (count_side.goes job service found) (count_side.decides service found)
+  counts Counting.ReadTag found = quiet refl (λ own. refl) (λ a r. (tt, omega arith))
+  counts (Counting.ReadBody tag i) found = words_read tag i (nat_lt i (further_words tag)) refl
+  counts Counting.ReadCount found = quiet refl (λ own. refl) (λ a r. (tt, tt))
+  counts (Counting.WriteCount count) found = decides (Answer.Send (SendAnswer.Accepted count)) refl (λ own. refl) (λ own. refl) tt refl
 
 -- a service changes no word of a chain
 module _ (c : Setting) (mem : Word → ℕ) where
-  pub send_tail : (x : Chain) (at : ℕ) (service : Sending) → stored mem (send_side.operation c.config at service) (Tail x) ≡ mem (Tail x)
-  send_tail x at sending.ReadTag = refl
+  pub send_tail : (x : Chain) (at : ℕ) (service : Sending) → stored mem (send_side.operation c.config at service) (Word.Tail x) ≡ mem (Word.Tail x)
+  send_tail x at Sending.ReadTag = refl
   send_tail x at _ = refl
 
-  pub send_words : (x : Chain) (at i : ℕ) (f : NodeField) (service : Sending) → stored mem (send_side.operation c.config at service) (Node x i f) ≡ mem (Node x i f)
-  send_words x at i f sending.ReadTag = refl
+  pub send_words : (x : Chain) (at i : ℕ) (f : NodeField) (service : Sending) → stored mem (send_side.operation c.config at service) (Word.Node x i f) ≡ mem (Word.Node x i f)
+  send_words x at i f Sending.ReadTag = refl
   send_words x at i f _ = refl
 
-  pub take_tail : (x : Chain) (g : ℕ) (service : Taking) → stored mem (take_side.operation g service) (Tail x) ≡ mem (Tail x)
-  take_tail x g taking.ReadHead = refl
+  pub take_tail : (x : Chain) (g : ℕ) (service : Taking) → stored mem (take_side.operation g service) (Word.Tail x) ≡ mem (Word.Tail x)
+  take_tail x g Taking.ReadHead = refl
   take_tail x g _ = refl
 
-  pub take_words : (x : Chain) (g i : ℕ) (f : NodeField) (service : Taking) → stored mem (take_side.operation g service) (Node x i f) ≡ mem (Node x i f)
-  take_words x g i f taking.ReadHead = refl
+  pub take_words : (x : Chain) (g i : ℕ) (f : NodeField) (service : Taking) → stored mem (take_side.operation g service) (Word.Node x i f) ≡ mem (Word.Node x i f)
+  take_words x g i f Taking.ReadHead = refl
   take_words x g i f _ = refl
 
-  pub count_tail : (x : Chain) (at : ℕ) (service : Counting) → stored mem (count_side.operation at service) (Tail x) ≡ mem (Tail x)
-  count_tail x at counting.ReadTag = refl
+  pub count_tail : (x : Chain) (at : ℕ) (service : Counting) → stored mem (count_side.operation at service) (Word.Tail x) ≡ mem (Word.Tail x)
+  count_tail x at Counting.ReadTag = refl
   count_tail x at _ = refl
 
-  pub count_words : (x : Chain) (at i : ℕ) (f : NodeField) (service : Counting) → stored mem (count_side.operation at service) (Node x i f) ≡ mem (Node x i f)
-  count_words x at i f counting.ReadTag = refl
+  pub count_words : (x : Chain) (at i : ℕ) (f : NodeField) (service : Counting) → stored mem (count_side.operation at service) (Word.Node x i f) ≡ mem (Word.Node x i f)
+  count_words x at i f Counting.ReadTag = refl
   count_words x at i f _ = refl

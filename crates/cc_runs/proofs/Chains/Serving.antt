@@ -4,25 +4,10 @@ use Rattle.std.specs.List.{slice_get}
 use Rattle.std.proofs.lemmas.Bool.{cases_lt, cases_eq}
 use Rattle.std.proofs.lemmas.Option.{slice_get-get_or}
 use Rattle.std.proofs.Math.Nat.{div-lt_iff_lt-mul}
-use Rattle.cc_model.specs.declared.config.Config.{Config}
-use Rattle.cc_model.specs.declared.call.Entry.{Entry}
-use Rattle.cc_runs.specs.declared.setting.Setting.{Setting}
-use Rattle.cc_runs.specs.declared.setting.Served.{Served}
-use Rattle.cc_runs.specs.declared.setting.Served.TheVariants as served
-use Rattle.cc_runs.specs.declared.word.Chain.{Chain}
-use Rattle.cc_runs.specs.declared.word.Chain.TheVariants.{Send, Take}
-use Rattle.cc_runs.specs.declared.word.NodeField.{NodeField}
-use Rattle.cc_runs.specs.declared.word.Word.TheVariants.{Node}
-use Rattle.cc_runs.specs.declared.place.Job.{Job}
-use Rattle.cc_runs.specs.declared.place.Stand.{Stand}
-use Rattle.cc_runs.specs.declared.place.Counting.{Counting}
-use Rattle.cc_runs.specs.declared.place.Sending.{Sending}
-use Rattle.cc_runs.specs.declared.place.Taking.{Taking}
-use Rattle.cc_runs.specs.declared.place.Place.{Place}
-use Rattle.cc_runs.specs.declared.place.Place.TheVariants as place
+use Rattle.cc_runs.specs.Names.{Config, Entry, Setting, Served, Chain, NodeField, Word, Job, Stand, Counting, Sending, Taking, Place, Move}
 use Rattle.cc_runs.specs.State.{State, chain_of}
 use Rattle.cc_runs.specs.Words.{groups}
-use Rattle.cc_runs.specs.Run.{Move, IsRun, reached, passes, passes_of}
+use Rattle.cc_runs.specs.Run.{IsRun, reached, passes, passes_of}
 use Rattle.cc_runs.proofs.Chains.View.{pass_on, post_of, post_at, serving, asked_words, request_words, request_long}
 use Rattle.cc_runs.proofs.Chains.Registers.{IsChainOf, IsChain, calls_on, answers_on, call_at, answer_at, no_call, HasSend, HasService}
 use Rattle.cc_runs.proofs.Chains.Ties.{Holds}
@@ -40,15 +25,15 @@ pub chains_hold : (c : Setting) → 0 < c.config.bound → (moves : List Move) �
 chains_hold c some moves run = record { some = some; holds = λ x ok. chain_holds c x ok some moves run }
 
 not_other : (x : Chain) → IsOther x x → ⊥
-not_other Send o = o
-not_other (Take g) o = o refl
+not_other Chain.Send o = o
+not_other (Chain.Take g) o = o refl
 
-pub taken_chain : (what : Served) (config : Config) (p : ℕ) → p < passes_of what config → config.senders ≤ p → IsChainOf what (groups config) (Take ((p - config.senders) / config.receivers))
-taken_chain served.List config p less far = elim (cases_eq config.receivers 0) [
+pub taken_chain : (what : Served) (config : Config) (p : ℕ) → p < passes_of what config → config.senders ≤ p → IsChainOf what (groups config) (Chain.Take ((p - config.senders) / config.receivers))
+taken_chain Served.List config p less far = elim (cases_eq config.receivers 0) [
   | inl none ↦ absurd (omega (arith, less, far, ap (λ (k : ℕ). groups config * k) none))
   | inr some ↦ (div-lt_iff_lt-mul (omega (arith, some))).1 (omega (arith, less, far))
 ]
-taken_chain served.Counter config p less far = absurd (omega arith)
+taken_chain Served.Counter config p less far = absurd (omega arith)
 
 -- the chain of a pass
 pub chain_is : (c : Setting) (p : ℕ) → p < passes c → IsChain c (chain_of c.config p)
@@ -66,10 +51,10 @@ on_chain c p less = on_by c p (which c (chain_of c.config p) (chain_is c p less)
 
 -- the stand of a combiner
 abbrev pub Combines : Stand → Type 0
-Combines at = (post_at Send at).rank ≡ 5
+Combines at = (post_at Chain.Send at).rank ≡ 5
 
 same_rank : (x y : Chain) (own : ℕ) (at : Place) → (post_of x own at).rank ≡ (post_of y own at).rank
-same_rank x y own (place.Link put) = refl
+same_rank x y own (Place.Link put) = refl
 same_rank x y own _ = refl
 
 module _ (c : Setting) (s : State) (k : Chains c s) where
@@ -77,8 +62,8 @@ module _ (c : Setting) (s : State) (k : Chains c s) where
   pub one_on : (x : Chain) → IsChain c x → (p q : ℕ) → IsOn c x p → IsOn c x q → Combines (s.stand p) → Combines (s.stand q) → p ≡ q
   one_on x ok p q on_p on_q a b =
       let w : Holds c x s = k.holds x ok in
-      let first : (post_at x (s.stand (pass_on c x on_p.number))).rank ≡ 5 = subst (λ (z : ℕ). (post_at x (s.stand z)).rank ≡ 5) on_p.pass_is (same_rank x Send (s.stand p).node (s.stand p).place ∙ a) in
-      let second : (post_at x (s.stand (pass_on c x on_q.number))).rank ≡ 5 = subst (λ (z : ℕ). (post_at x (s.stand z)).rank ≡ 5) on_q.pass_is (same_rank x Send (s.stand q).node (s.stand q).place ∙ b) in
+      let first : (post_at x (s.stand (pass_on c x on_p.number))).rank ≡ 5 = subst (λ (z : ℕ). (post_at x (s.stand z)).rank ≡ 5) on_p.pass_is (same_rank x Chain.Send (s.stand p).node (s.stand p).place ∙ a) in
+      let second : (post_at x (s.stand (pass_on c x on_q.number))).rank ≡ 5 = subst (λ (z : ℕ). (post_at x (s.stand z)).rank ≡ 5) on_q.pass_is (same_rank x Chain.Send (s.stand q).node (s.stand q).place ∙ b) in
       let same : on_p.number ≡ on_q.number = omega (arith, w.inv.server.server_is on_p.number on_p.inside first, w.inv.server.server_is on_q.number on_q.inside second) in
       on_p.pass_is ∙ ap (λ (z : ℕ). pass_on c x z) same ∙ sym on_q.pass_is
 
@@ -97,44 +82,44 @@ module _ (c : Setting) (s : State) (k : Chains c s) where
       let w : Holds c (chain_of c.config p) s = the_holds p less in
       let on : IsOn c (chain_of c.config p) p = on_chain c p less in
       let rank : (post_at (chain_of c.config p) (s.stand (pass_on c (chain_of c.config p) on.number))).rank ≡ 5 =
-      subst (λ (z : ℕ). (post_at (chain_of c.config p) (s.stand z)).rank ≡ 5) on.pass_is (same_rank (chain_of c.config p) Send (s.stand p).node (s.stand p).place ∙ five) in
+      subst (λ (z : ℕ). (post_at (chain_of c.config p) (s.stand z)).rank ≡ 5) on.pass_is (same_rank (chain_of c.config p) Chain.Send (s.stand p).node (s.stand p).place ∙ five) in
       let mine : w.ghost.server ≡ on.number + 1 = w.inv.server.server_is on.number on.inside rank in
       subst (λ (z : ℕ). HasService c.served (chain_of c.config p) (call_at (calls_on (chain_of c.config p) s.history) w.ghost.marked) (answer_at (answers_on (chain_of c.config p) s.history) w.ghost.marked) (s.stand z).place)
       (sym on.pass_is) (w.ties.served on.number mine)
 
-  pub sending_where : (p : ℕ) (job : Job) (service : Sending) → p < passes c → (s.stand p).place ≡ place.Sending job service → (c.served ≡ served.List) × (chain_of c.config p ≡ Send)
+  pub sending_where : (p : ℕ) (job : Job) (service : Sending) → p < passes c → (s.stand p).place ≡ Place.Sending job service → (c.served ≡ Served.List) × (chain_of c.config p ≡ Chain.Send)
   sending_where p job service less e =
       sends_where c.served (chain_of c.config p) (HasSend (call_at (calls_on (chain_of c.config p) s.history) (the_holds p less).ghost.marked) (answer_at (answers_on (chain_of c.config p) s.history) (the_holds p less).ghost.marked) service)
       (subst (λ (z : Place). HasService c.served (chain_of c.config p) (call_at (calls_on (chain_of c.config p) s.history) (the_holds p less).ghost.marked) (answer_at (answers_on (chain_of c.config p) s.history) (the_holds p less).ghost.marked) z) e
-      (serves_what p less (ap (λ (z : Place). (post_of Send (s.stand p).node z).rank) e)))
+      (serves_what p less (ap (λ (z : Place). (post_of Chain.Send (s.stand p).node z).rank) e)))
 
-  pub counting_where : (p : ℕ) (job : Job) (service : Counting) → p < passes c → (s.stand p).place ≡ place.Counting job service → (c.served ≡ served.Counter) × (chain_of c.config p ≡ Send)
+  pub counting_where : (p : ℕ) (job : Job) (service : Counting) → p < passes c → (s.stand p).place ≡ Place.Counting job service → (c.served ≡ Served.Counter) × (chain_of c.config p ≡ Chain.Send)
   counting_where p job service less e =
       counts_where c.served (chain_of c.config p)
       (subst (λ (z : Place). HasService c.served (chain_of c.config p) (call_at (calls_on (chain_of c.config p) s.history) (the_holds p less).ghost.marked) (answer_at (answers_on (chain_of c.config p) s.history) (the_holds p less).ghost.marked) z) e
-      (serves_what p less (ap (λ (z : Place). (post_of Send (s.stand p).node z).rank) e))).0
+      (serves_what p less (ap (λ (z : Place). (post_of Chain.Send (s.stand p).node z).rank) e))).0
 
-  pub taking_where : (p : ℕ) (job : Job) (service : Taking) → p < passes c → (s.stand p).place ≡ place.Taking job service → (c.served ≡ served.List) × (c.config.senders ≤ p)
+  pub taking_where : (p : ℕ) (job : Job) (service : Taking) → p < passes c → (s.stand p).place ≡ Place.Taking job service → (c.served ≡ Served.List) × (c.config.senders ≤ p)
   taking_where p job service less e =
       let where_it_is = takes_where c.served (chain_of c.config p)
       (subst (λ (z : Place). HasService c.served (chain_of c.config p) (call_at (calls_on (chain_of c.config p) s.history) (the_holds p less).ghost.marked) (answer_at (answers_on (chain_of c.config p) s.history) (the_holds p less).ghost.marked) z) e
-      (serves_what p less (ap (λ (z : Place). (post_of Send (s.stand p).node z).rank) e))) in (
+      (serves_what p less (ap (λ (z : Place). (post_of Chain.Send (s.stand p).node z).rank) e))) in (
         where_it_is.0,
         elim (cases_lt p c.config.senders) [
-          | inl near ↦ let no : Send ≡ Take _ = sym (sender_chain c.config p near) ∙ where_it_is.1 in absurd (cc)
+          | inl near ↦ let no : Chain.Send ≡ Chain.Take _ = sym (sender_chain c.config p near) ∙ where_it_is.1 in absurd (cc)
           | inr far ↦ far
         ],
       )
 
   -- one service of a side at most
-  pub one_sending : (p q : ℕ) (job job2 : Job) (service service2 : Sending) → p < passes c → q < passes c → (s.stand p).place ≡ place.Sending job service → (s.stand q).place ≡ place.Sending job2 service2 → p ≡ q
+  pub one_sending : (p q : ℕ) (job job2 : Job) (service service2 : Sending) → p < passes c → q < passes c → (s.stand p).place ≡ Place.Sending job service → (s.stand q).place ≡ Place.Sending job2 service2 → p ≡ q
   one_sending p q job job2 service service2 pn qn a b =
-      one_combiner p q pn qn ((sending_where p job service pn a).1 ∙ sym (sending_where q job2 service2 qn b).1) (ap (λ (z : Place). (post_of Send (s.stand p).node z).rank) a) (ap (λ (z : Place). (post_of Send (s.stand q).node z).rank) b)
+      one_combiner p q pn qn ((sending_where p job service pn a).1 ∙ sym (sending_where q job2 service2 qn b).1) (ap (λ (z : Place). (post_of Chain.Send (s.stand p).node z).rank) a) (ap (λ (z : Place). (post_of Chain.Send (s.stand q).node z).rank) b)
 
-  pub one_taking : (p q : ℕ) (job job2 : Job) (service service2 : Taking) → p < passes c → q < passes c → chain_of c.config p ≡ chain_of c.config q → (s.stand p).place ≡ place.Taking job service → (s.stand q).place ≡ place.Taking job2 service2 → p ≡ q
+  pub one_taking : (p q : ℕ) (job job2 : Job) (service service2 : Taking) → p < passes c → q < passes c → chain_of c.config p ≡ chain_of c.config q → (s.stand p).place ≡ Place.Taking job service → (s.stand q).place ≡ Place.Taking job2 service2 → p ≡ q
   one_taking p q job job2 service service2 pn qn same a b =
       one_combiner p q pn qn same
-      (ap (λ (z : Place). (post_of Send (s.stand p).node z).rank) a) (ap (λ (z : Place). (post_of Send (s.stand q).node z).rank) b)
+      (ap (λ (z : Place). (post_of Chain.Send (s.stand p).node z).rank) a) (ap (λ (z : Place). (post_of Chain.Send (s.stand q).node z).rank) b)
 
   -- the request in service is that of the first call without an answer
   module _ (x : Chain) (ok : IsChain c x) (p : ℕ) (on : IsOn c x p) (at : Place) (job : Job) (e : (s.stand p).place ≡ at) (undecided : (own : ℕ) → post_of x own at ≡ serving own job 1 0) where
@@ -167,7 +152,7 @@ module _ (c : Setting) (s : State) (k : Chains c s) where
         (subst (λ (n : ℕ). HasService c.served x (call_at (calls_on x s.history) n) (answer_at (answers_on x s.history) n) at) (sym even)
         (subst (λ (z : Stand). HasService c.served x (call_at (calls_on x s.history) (k.holds x ok).ghost.marked) (answer_at (answers_on x s.history) (k.holds x ok).ghost.marked) z.place) here ((k.holds x ok).ties.served on.number mine)))
 
-    pub next_words : (j : ℕ) → j < request_long x (call_at (calls_on x s.history) (length (answers_on x s.history))) → request_words x (λ (f : NodeField). s.mem (Node x job.round.at f)) j ≡ asked_words x (call_at (calls_on x s.history) (length (answers_on x s.history))) j
+    pub next_words : (j : ℕ) → j < request_long x (call_at (calls_on x s.history) (length (answers_on x s.history))) → request_words x (λ (f : NodeField). s.mem (Word.Node x job.round.at f)) j ≡ asked_words x (call_at (calls_on x s.history) (length (answers_on x s.history))) j
     next_words j less =
         serve.request_at c x ok k.some s on.number (s.stand (pass_on c x on.number)).begun (s.stand (pass_on c x on.number)).node on.inside (k.holds x ok) at job j here (undecided (s.stand (pass_on c x on.number)).node) (omega (arith, less, ap (λ (n : ℕ). request_long x (call_at (calls_on x s.history) n)) even))
         ∙ ap (λ (n : ℕ). asked_words x (call_at (calls_on x s.history) n) j) (sym even)

@@ -1,14 +1,7 @@
 -- The steps that one side alone has: a sender writes its request, and a receiver is told an item.
 use Rattle.std.proofs.Common.{◌≡◌, ◌≢◌, ℕ, zero, suc, ◌+◌, ◌≤◌, ◌<◌, Bool, true, false, nat_lt, cond, refl, ap, sym, ◌∙◌, arith}
-use Rattle.cc_model.specs.declared.call.Item.{Item}
+use Rattle.cc_runs.specs.Names.{Item, Setting, Chain, NodeField, Word, Job, Request, Place}
 use Rattle.std.proofs.lemmas.Bool.{ltb-false}
-use Rattle.cc_runs.specs.declared.setting.Setting.{Setting}
-use Rattle.cc_runs.specs.declared.word.Chain.TheVariants.{Send, Take}
-use Rattle.cc_runs.specs.declared.word.NodeField.TheVariants as node
-use Rattle.cc_runs.specs.declared.word.Word.TheVariants.{Node}
-use Rattle.cc_runs.specs.declared.place.Job.{Job}
-use Rattle.cc_runs.specs.declared.place.Request.{Request}
-use Rattle.cc_runs.specs.declared.place.Place.TheVariants as place
 use Rattle.cc_runs.specs.Codes.{tag_of, body_words, further_words, word}
 use Rattle.cc_runs.specs.State.{State}
 use Rattle.cc_runs.proofs.ReadWords.{few_further}
@@ -36,7 +29,7 @@ asks_word r (suc (suc (suc zero))) most = refl
 asks_word r (suc (suc (suc (suc i)))) most = absurd (omega arith)
 
 -- and behind all of them nothing
-asks_late : (r : Request) (j : ℕ) → all_wrote Send ≤ j → asks_in r j ≡ 0
+asks_late : (r : Request) (j : ℕ) → all_wrote Chain.Send ≤ j → asks_in r j ≡ 0
 asks_late r zero far = absurd (omega arith)
 asks_late r (suc zero) far = absurd (omega arith)
 asks_late r (suc (suc zero)) far = absurd (omega arith)
@@ -46,40 +39,40 @@ asks_late r (suc (suc (suc (suc (suc zero))))) far = absurd (omega arith)
 asks_late r (suc (suc (suc (suc (suc (suc j)))))) far = refl
 
 module _ (c : Setting) (s : State) (p begun own : ℕ) where
-  pub write_tag : (long put : ℕ) (request : Request) → s.stand (pass_on c Send p) ≡ standing c Send s p begun own (place.WriteTag put request) →
-      Writes long (view c Send s) (view c Send (after c Send s p begun own (place.WriteTag put request))) p
+  pub write_tag : (long put : ℕ) (request : Request) → s.stand (pass_on c Chain.Send p) ≡ standing c Chain.Send s p begun own (Place.WriteTag put request) →
+      Writes long (view c Chain.Send s) (view c Chain.Send (after c Chain.Send s p begun own (Place.WriteTag put request))) p
   write_tag long put request e =
-      let was = was_at c Send s p begun own (place.WriteTag put request) e in
-      let is : post_at Send ((after c Send s p begun own (place.WriteTag put request)).stand (pass_on c Send p)) ≡ post_of Send own (place.WriteBody put request 0) = is_at c Send s p begun own (place.WriteTag put request) in
-      let cell : (after c Send s p begun own (place.WriteTag put request)).mem (Node Send own node.Tag) ≡ request.tag = put_here s.mem (Node Send own node.Tag) request.tag in
-      let later : (j : ℕ) → j ≢ 0 → request_words Send (words_at c Send s p begun own (place.WriteTag put request) own) j ≡ request_words Send (before_at c Send s p begun own own) j = λ j ne. words_later _ _ (λ i. s.mem (Node Send own (node.Body i))) j ne in
-      let cells : (i : ℕ) → i ≢ own → cell_of Send (words_at c Send s p begun own (place.WriteTag put request) i) ≡ cell_of Send (before_at c Send s p begun own i) = λ i ne. cell_apart s.mem Send own i node.Tag request.tag ne in
-      grind (arith, others c Send s p begun own (place.WriteTag put request))
+      let was = was_at c Chain.Send s p begun own (Place.WriteTag put request) e in
+      let is : post_at Chain.Send ((after c Chain.Send s p begun own (Place.WriteTag put request)).stand (pass_on c Chain.Send p)) ≡ post_of Chain.Send own (Place.WriteBody put request 0) = is_at c Chain.Send s p begun own (Place.WriteTag put request) in
+      let cell : (after c Chain.Send s p begun own (Place.WriteTag put request)).mem (Word.Node Chain.Send own NodeField.Tag) ≡ request.tag = put_here s.mem (Word.Node Chain.Send own NodeField.Tag) request.tag in
+      let later : (j : ℕ) → j ≢ 0 → request_words Chain.Send (words_at c Chain.Send s p begun own (Place.WriteTag put request) own) j ≡ request_words Chain.Send (before_at c Chain.Send s p begun own own) j = λ j ne. words_later _ _ (λ i. s.mem (Word.Node Chain.Send own (NodeField.Body i))) j ne in
+      let cells : (i : ℕ) → i ≢ own → cell_of Chain.Send (words_at c Chain.Send s p begun own (Place.WriteTag put request) i) ≡ cell_of Chain.Send (before_at c Chain.Send s p begun own i) = λ i ne. cell_apart s.mem Chain.Send own i NodeField.Tag request.tag ne in
+      grind (arith, others c Chain.Send s p begun own (Place.WriteTag put request))
 
   -- a word of the body, and the next step is there
-  write_word : (long put : ℕ) (request : Request) (i wrote : ℕ) (asked : ℕ → ℕ) → s.stand (pass_on c Send p) ≡ standing c Send s p begun own (place.WriteBody put request i) →
-      post_at Send ((after c Send s p begun own (place.WriteBody put request i)).stand (pass_on c Send p)) ≡ entering own put asked wrote →
+  write_word : (long put : ℕ) (request : Request) (i wrote : ℕ) (asked : ℕ → ℕ) → s.stand (pass_on c Chain.Send p) ≡ standing c Chain.Send s p begun own (Place.WriteBody put request i) →
+      post_at Chain.Send ((after c Chain.Send s p begun own (Place.WriteBody put request i)).stand (pass_on c Chain.Send p)) ≡ entering own put asked wrote →
       suc i < wrote → ((j : ℕ) → j < wrote → j < long → j ≤ suc i) → ((j : ℕ) → wrote ≤ j → asked j ≡ asks_in request j) → i ≤ 3 →
-      Writes long (view c Send s) (view c Send (after c Send s p begun own (place.WriteBody put request i))) p
+      Writes long (view c Chain.Send s) (view c Chain.Send (after c Chain.Send s p begun own (Place.WriteBody put request i))) p
   write_word long put request i wrote asked e is more told asks few =
       let word_is : asks_in request (suc i) ≡ word request.body i = asks_word request i few in
-      let was = was_at c Send s p begun own (place.WriteBody put request i) e in
-      let cell : (after c Send s p begun own (place.WriteBody put request i)).mem (Node Send own (node.Body i)) ≡ word request.body i = put_here s.mem (Node Send own (node.Body i)) (word request.body i) in
-      let later : (j : ℕ) → j ≢ suc i → request_words Send (words_at c Send s p begun own (place.WriteBody put request i) own) j ≡ request_words Send (before_at c Send s p begun own own) j =
-      λ j ne. words_but (s.mem (Node Send own node.Tag)) _ _ i j (λ k other. word_apart s.mem Send own i k (word request.body i) other) ne in
-      let cells : (k : ℕ) → k ≢ own → cell_of Send (words_at c Send s p begun own (place.WriteBody put request i) k) ≡ cell_of Send (before_at c Send s p begun own k) = λ k ne. cell_apart s.mem Send own k (node.Body i) (word request.body i) ne in
-      grind (arith, others c Send s p begun own (place.WriteBody put request i))
+      let was = was_at c Chain.Send s p begun own (Place.WriteBody put request i) e in
+      let cell : (after c Chain.Send s p begun own (Place.WriteBody put request i)).mem (Word.Node Chain.Send own (NodeField.Body i)) ≡ word request.body i = put_here s.mem (Word.Node Chain.Send own (NodeField.Body i)) (word request.body i) in
+      let later : (j : ℕ) → j ≢ suc i → request_words Chain.Send (words_at c Chain.Send s p begun own (Place.WriteBody put request i) own) j ≡ request_words Chain.Send (before_at c Chain.Send s p begun own own) j =
+      λ j ne. words_but (s.mem (Word.Node Chain.Send own NodeField.Tag)) _ _ i j (λ k other. word_apart s.mem Chain.Send own i k (word request.body i) other) ne in
+      let cells : (k : ℕ) → k ≢ own → cell_of Chain.Send (words_at c Chain.Send s p begun own (Place.WriteBody put request i) k) ≡ cell_of Chain.Send (before_at c Chain.Send s p begun own k) = λ k ne. cell_apart s.mem Chain.Send own k (NodeField.Body i) (word request.body i) ne in
+      grind (arith, others c Chain.Send s p begun own (Place.WriteBody put request i))
 
-  pub write_body : (long put : ℕ) (request : Request) (i : ℕ) → long ≡ further_words request.tag + 2 → i ≤ further_words request.tag → s.stand (pass_on c Send p) ≡ standing c Send s p begun own (place.WriteBody put request i) →
-      Writes long (view c Send s) (view c Send (after c Send s p begun own (place.WriteBody put request i))) p
+  pub write_body : (long put : ℕ) (request : Request) (i : ℕ) → long ≡ further_words request.tag + 2 → i ≤ further_words request.tag → s.stand (pass_on c Chain.Send p) ≡ standing c Chain.Send s p begun own (Place.WriteBody put request i) →
+      Writes long (view c Chain.Send s) (view c Chain.Send (after c Chain.Send s p begun own (Place.WriteBody put request i))) p
   write_body long put request i long_is most e = by_case (nat_lt i (further_words request.tag)) refl
     where
-      there : (b : Bool) → nat_lt i (further_words request.tag) ≡ b → post_at Send ((after c Send s p begun own (place.WriteBody put request i)).stand (pass_on c Send p)) ≡ post_of Send own (cond b (place.WriteBody put request (i + 1)) (place.Link put))
-      there b is = is_at c Send s p begun own (place.WriteBody put request i) ∙ ap (λ (z : Bool). post_of Send own (cond z (place.WriteBody put request (i + 1)) (place.Link put))) is
+      there : (b : Bool) → nat_lt i (further_words request.tag) ≡ b → post_at Chain.Send ((after c Chain.Send s p begun own (Place.WriteBody put request i)).stand (pass_on c Chain.Send p)) ≡ post_of Chain.Send own (cond b (Place.WriteBody put request (i + 1)) (Place.Link put))
+      there b is = is_at c Chain.Send s p begun own (Place.WriteBody put request i) ∙ ap (λ (z : Bool). post_of Chain.Send own (cond z (Place.WriteBody put request (i + 1)) (Place.Link put))) is
 
-      by_case : (b : Bool) → nat_lt i (further_words request.tag) ≡ b → Writes long (view c Send s) (view c Send (after c Send s p begun own (place.WriteBody put request i))) p
+      by_case : (b : Bool) → nat_lt i (further_words request.tag) ≡ b → Writes long (view c Chain.Send s) (view c Chain.Send (after c Chain.Send s p begun own (Place.WriteBody put request i))) p
       by_case true is = write_word long put request i (suc (i + 1)) (asks_in request) e (there true is) (omega arith) (λ j a b. omega (arith, a)) (λ j far. refl) (omega (arith, most, few_further request.tag))
-      by_case false is = write_word long put request i (all_wrote Send) no_word e (there false is) (omega (arith, most, few_further request.tag)) (λ j a b. omega (arith, b, long_is, ltb-false i (further_words request.tag) is)) (λ j far. sym (asks_late request j far)) (omega (arith, most, few_further request.tag))
+      by_case false is = write_word long put request i (all_wrote Chain.Send) no_word e (there false is) (omega (arith, most, few_further request.tag)) (λ j a b. omega (arith, b, long_is, ltb-false i (further_words request.tag) is)) (λ j far. sym (asks_late request j far)) (omega (arith, most, few_further request.tag))
 
 -- an item's tag, and a word of its body
 told_but_one : (ret tag a : ℕ) (body : ℕ → ℕ) (j : ℕ) → j ≢ 1 → told_words ret a body j ≡ told_words ret tag body j
@@ -91,36 +84,36 @@ told_but ret tag a b i zero same ne = refl
 told_but ret tag a b i (suc j) same ne = words_but tag a b i j same (λ one. ne (ap suc one))
 
 module _ (c : Setting) (g : ℕ) (s : State) (p begun own : ℕ) where
-  pub write_answer_tag : (job : Job) (item : Item) → s.stand (pass_on c (Take g) p) ≡ standing c (Take g) s p begun own (place.WriteAnswerTag job item) →
-      Tells (further_words (tag_of item) + 3) (view c (Take g) s) (view c (Take g) (after c (Take g) s p begun own (place.WriteAnswerTag job item))) p (tag_of item)
+  pub write_answer_tag : (job : Job) (item : Item) → s.stand (pass_on c (Chain.Take g) p) ≡ standing c (Chain.Take g) s p begun own (Place.WriteAnswerTag job item) →
+      Tells (further_words (tag_of item) + 3) (view c (Chain.Take g) s) (view c (Chain.Take g) (after c (Chain.Take g) s p begun own (Place.WriteAnswerTag job item))) p (tag_of item)
   write_answer_tag job item e =
-      let was = was_at c (Take g) s p begun own (place.WriteAnswerTag job item) e in
-      let is : post_at (Take g) ((after c (Take g) s p begun own (place.WriteAnswerTag job item)).stand (pass_on c (Take g) p)) ≡ post_of (Take g) own (place.WriteAnswerBody job item 0) = is_at c (Take g) s p begun own (place.WriteAnswerTag job item) in
-      let cell : (after c (Take g) s p begun own (place.WriteAnswerTag job item)).mem (Node (Take g) job.round.at node.Tag) ≡ tag_of item = put_here s.mem (Node (Take g) job.round.at node.Tag) (tag_of item) in
-      let later : (j : ℕ) → j ≢ 1 → answer_words (Take g) (words_at c (Take g) s p begun own (place.WriteAnswerTag job item) job.round.at) j ≡ answer_words (Take g) (before_at c (Take g) s p begun own job.round.at) j = λ j ne. told_but_one (s.mem (Node (Take g) job.round.at node.Ret)) _ _ (λ i. s.mem (Node (Take g) job.round.at (node.Body i))) j ne in
-      let cells : (i : ℕ) → i ≢ job.round.at → cell_of (Take g) (words_at c (Take g) s p begun own (place.WriteAnswerTag job item) i) ≡ cell_of (Take g) (before_at c (Take g) s p begun own i) = λ i ne. cell_apart s.mem (Take g) job.round.at i node.Tag (tag_of item) ne in
-      grind (arith, others c (Take g) s p begun own (place.WriteAnswerTag job item))
+      let was = was_at c (Chain.Take g) s p begun own (Place.WriteAnswerTag job item) e in
+      let is : post_at (Chain.Take g) ((after c (Chain.Take g) s p begun own (Place.WriteAnswerTag job item)).stand (pass_on c (Chain.Take g) p)) ≡ post_of (Chain.Take g) own (Place.WriteAnswerBody job item 0) = is_at c (Chain.Take g) s p begun own (Place.WriteAnswerTag job item) in
+      let cell : (after c (Chain.Take g) s p begun own (Place.WriteAnswerTag job item)).mem (Word.Node (Chain.Take g) job.round.at NodeField.Tag) ≡ tag_of item = put_here s.mem (Word.Node (Chain.Take g) job.round.at NodeField.Tag) (tag_of item) in
+      let later : (j : ℕ) → j ≢ 1 → answer_words (Chain.Take g) (words_at c (Chain.Take g) s p begun own (Place.WriteAnswerTag job item) job.round.at) j ≡ answer_words (Chain.Take g) (before_at c (Chain.Take g) s p begun own job.round.at) j = λ j ne. told_but_one (s.mem (Word.Node (Chain.Take g) job.round.at NodeField.Ret)) _ _ (λ i. s.mem (Word.Node (Chain.Take g) job.round.at (NodeField.Body i))) j ne in
+      let cells : (i : ℕ) → i ≢ job.round.at → cell_of (Chain.Take g) (words_at c (Chain.Take g) s p begun own (Place.WriteAnswerTag job item) i) ≡ cell_of (Chain.Take g) (before_at c (Chain.Take g) s p begun own i) = λ i ne. cell_apart s.mem (Chain.Take g) job.round.at i NodeField.Tag (tag_of item) ne in
+      grind (arith, others c (Chain.Take g) s p begun own (Place.WriteAnswerTag job item))
 
   -- a word of the body, and the next step is there
-  write_answer_word : (long : ℕ) (job : Job) (item : Item) (i told : ℕ) → s.stand (pass_on c (Take g) p) ≡ standing c (Take g) s p begun own (place.WriteAnswerBody job item i) →
-      post_at (Take g) ((after c (Take g) s p begun own (place.WriteAnswerBody job item i)).stand (pass_on c (Take g) p)) ≡ serving own job 2 told →
+  write_answer_word : (long : ℕ) (job : Job) (item : Item) (i told : ℕ) → s.stand (pass_on c (Chain.Take g) p) ≡ standing c (Chain.Take g) s p begun own (Place.WriteAnswerBody job item i) →
+      post_at (Chain.Take g) ((after c (Chain.Take g) s p begun own (Place.WriteAnswerBody job item i)).stand (pass_on c (Chain.Take g) p)) ≡ serving own job 2 told →
       ((j : ℕ) → j < told → j < long → j ≤ suc (suc i)) →
-      Tells long (view c (Take g) s) (view c (Take g) (after c (Take g) s p begun own (place.WriteAnswerBody job item i))) p (word (body_words item) i)
+      Tells long (view c (Chain.Take g) s) (view c (Chain.Take g) (after c (Chain.Take g) s p begun own (Place.WriteAnswerBody job item i))) p (word (body_words item) i)
   write_answer_word long job item i told e is most =
-      let was = was_at c (Take g) s p begun own (place.WriteAnswerBody job item i) e in
-      let cell : (after c (Take g) s p begun own (place.WriteAnswerBody job item i)).mem (Node (Take g) job.round.at (node.Body i)) ≡ word (body_words item) i = put_here s.mem (Node (Take g) job.round.at (node.Body i)) (word (body_words item) i) in
-      let later : (j : ℕ) → j ≢ suc (suc i) → answer_words (Take g) (words_at c (Take g) s p begun own (place.WriteAnswerBody job item i) job.round.at) j ≡ answer_words (Take g) (before_at c (Take g) s p begun own job.round.at) j =
-      λ j ne. told_but (s.mem (Node (Take g) job.round.at node.Ret)) (s.mem (Node (Take g) job.round.at node.Tag)) _ _ i j (λ k other. word_apart s.mem (Take g) job.round.at i k (word (body_words item) i) other) ne in
-      let cells : (k : ℕ) → k ≢ job.round.at → cell_of (Take g) (words_at c (Take g) s p begun own (place.WriteAnswerBody job item i) k) ≡ cell_of (Take g) (before_at c (Take g) s p begun own k) = λ k ne. cell_apart s.mem (Take g) job.round.at k (node.Body i) (word (body_words item) i) ne in
-      grind (arith, others c (Take g) s p begun own (place.WriteAnswerBody job item i))
+      let was = was_at c (Chain.Take g) s p begun own (Place.WriteAnswerBody job item i) e in
+      let cell : (after c (Chain.Take g) s p begun own (Place.WriteAnswerBody job item i)).mem (Word.Node (Chain.Take g) job.round.at (NodeField.Body i)) ≡ word (body_words item) i = put_here s.mem (Word.Node (Chain.Take g) job.round.at (NodeField.Body i)) (word (body_words item) i) in
+      let later : (j : ℕ) → j ≢ suc (suc i) → answer_words (Chain.Take g) (words_at c (Chain.Take g) s p begun own (Place.WriteAnswerBody job item i) job.round.at) j ≡ answer_words (Chain.Take g) (before_at c (Chain.Take g) s p begun own job.round.at) j =
+      λ j ne. told_but (s.mem (Word.Node (Chain.Take g) job.round.at NodeField.Ret)) (s.mem (Word.Node (Chain.Take g) job.round.at NodeField.Tag)) _ _ i j (λ k other. word_apart s.mem (Chain.Take g) job.round.at i k (word (body_words item) i) other) ne in
+      let cells : (k : ℕ) → k ≢ job.round.at → cell_of (Chain.Take g) (words_at c (Chain.Take g) s p begun own (Place.WriteAnswerBody job item i) k) ≡ cell_of (Chain.Take g) (before_at c (Chain.Take g) s p begun own k) = λ k ne. cell_apart s.mem (Chain.Take g) job.round.at k (NodeField.Body i) (word (body_words item) i) ne in
+      grind (arith, others c (Chain.Take g) s p begun own (Place.WriteAnswerBody job item i))
 
-  pub write_answer_body : (job : Job) (item : Item) (i : ℕ) → s.stand (pass_on c (Take g) p) ≡ standing c (Take g) s p begun own (place.WriteAnswerBody job item i) →
-      Tells (further_words (tag_of item) + 3) (view c (Take g) s) (view c (Take g) (after c (Take g) s p begun own (place.WriteAnswerBody job item i))) p (word (body_words item) i)
+  pub write_answer_body : (job : Job) (item : Item) (i : ℕ) → s.stand (pass_on c (Chain.Take g) p) ≡ standing c (Chain.Take g) s p begun own (Place.WriteAnswerBody job item i) →
+      Tells (further_words (tag_of item) + 3) (view c (Chain.Take g) s) (view c (Chain.Take g) (after c (Chain.Take g) s p begun own (Place.WriteAnswerBody job item i))) p (word (body_words item) i)
   write_answer_body job item i e = by_case (nat_lt i (further_words (tag_of item))) refl
     where
-      there : (b : Bool) → nat_lt i (further_words (tag_of item)) ≡ b → post_at (Take g) ((after c (Take g) s p begun own (place.WriteAnswerBody job item i)).stand (pass_on c (Take g) p)) ≡ post_of (Take g) own (cond b (place.WriteAnswerBody job item (i + 1)) (place.MarkDone job))
-      there b is = is_at c (Take g) s p begun own (place.WriteAnswerBody job item i) ∙ ap (λ (z : Bool). post_of (Take g) own (cond z (place.WriteAnswerBody job item (i + 1)) (place.MarkDone job))) is
+      there : (b : Bool) → nat_lt i (further_words (tag_of item)) ≡ b → post_at (Chain.Take g) ((after c (Chain.Take g) s p begun own (Place.WriteAnswerBody job item i)).stand (pass_on c (Chain.Take g) p)) ≡ post_of (Chain.Take g) own (cond b (Place.WriteAnswerBody job item (i + 1)) (Place.MarkDone job))
+      there b is = is_at c (Chain.Take g) s p begun own (Place.WriteAnswerBody job item i) ∙ ap (λ (z : Bool). post_of (Chain.Take g) own (cond z (Place.WriteAnswerBody job item (i + 1)) (Place.MarkDone job))) is
 
-      by_case : (b : Bool) → nat_lt i (further_words (tag_of item)) ≡ b → Tells (further_words (tag_of item) + 3) (view c (Take g) s) (view c (Take g) (after c (Take g) s p begun own (place.WriteAnswerBody job item i))) p (word (body_words item) i)
+      by_case : (b : Bool) → nat_lt i (further_words (tag_of item)) ≡ b → Tells (further_words (tag_of item) + 3) (view c (Chain.Take g) s) (view c (Chain.Take g) (after c (Chain.Take g) s p begun own (Place.WriteAnswerBody job item i))) p (word (body_words item) i)
       by_case true is = write_answer_word (further_words (tag_of item) + 3) job item i (suc (suc (i + 1))) e (there true is) (λ j a b. omega (arith, a))
       by_case false is = write_answer_word (further_words (tag_of item) + 3) job item i all_told e (there false is) (λ j a b. omega (arith, b, ltb-false i (further_words (tag_of item)) is))

@@ -2,16 +2,7 @@
 use Rattle.std.proofs.Common.{◌≡◌, ◌≢◌, ℕ, zero, suc, ◌+◌, ◌<◌, ◌≤◌, refl, ap, sym, ◌∙◌, subst, arith, Some, None, List, [], ◌∷◌, ◌++◌}
 use Rattle.cc_model.specs.Record.{Side, Record, with_call}
 use Rattle.cc_runs.specs.Words.{groups}
-use Rattle.cc_model.specs.declared.call.Entry.{Entry}
-use Rattle.cc_model.specs.declared.call.Answer.{Answer}
-use Rattle.cc_runs.specs.declared.setting.Setting.{Setting}
-use Rattle.cc_runs.specs.declared.word.Chain.{Chain}
-use Rattle.cc_runs.specs.declared.word.NodeField.TheVariants as node
-use Rattle.cc_runs.specs.declared.word.Word.TheVariants.{Tail, Node}
-use Rattle.cc_runs.specs.declared.place.Stand.{Stand}
-use Rattle.cc_runs.specs.declared.place.Round.{Round}
-use Rattle.cc_runs.specs.declared.place.Place.{Place}
-use Rattle.cc_runs.specs.declared.place.Place.TheVariants as place
+use Rattle.cc_runs.specs.Names.{Entry, Answer, Setting, Chain, NodeField, Word, Stand, Round, Place}
 use Rattle.cc_runs.specs.State.{State, side, noted}
 use Rattle.cc_runs.specs.Lines.{goes, enters, decides, after_exchange, after_state, after_next, serves}
 use Rattle.cc_runs.specs.Step.{advanced}
@@ -92,97 +83,97 @@ module _ (c : Setting) (x : Chain) (ok : IsChain c x) (some : 0 < c.config.bound
       (w.ghost.server ≡ p + 1 → HasService c.served x (call_at (calls_on x s.history) w.ghost.marked) (answer_at (answers_on x s.history) w.ghost.marked) there) → Moves c x s w.ghost p w.ghost.marked w.ghost.server there
   stays_in there free serves = record { onward = omega arith; call = free.call; read = free.read _; ended = λ f. absurd (free.unfinished f); serves = serves; keep = λ q ne a. (a, refl) }
 
-  pub reset_next : (call : Entry) → Here (place.ResetNext call) → Holds c x (next (place.ResetNext call))
+  pub reset_next : (call : Entry) → Here (Place.ResetNext call) → Holds c x (next (Place.ResetNext call))
   reset_next call e =
-      goes_on (place.ResetNext call) (place.ResetState call) w.ghost.marked w.ghost.server refl refl refl
-      (by_reset.keeps (members c x) c.config.bound (view c x s) (view c x (next (place.ResetNext call))) w.ghost p inside w.inv (bridge.reset_next c x s p begun own call e))
+      goes_on (Place.ResetNext call) (Place.ResetState call) w.ghost.marked w.ghost.server refl refl refl
+      (by_reset.keeps (members c x) c.config.bound (view c x s) (view c x (next (Place.ResetNext call))) w.ghost p inside w.inv (bridge.reset_next c x s p begun own call e))
       record { onward = omega arith; call = subst (λ (z : Stand). HasCall c x p z.place) e (w.ties.begun p inside); read = tt; ended = λ f. absurd f; serves = λ a. tt; keep = λ q ne a. (a, refl) }
 
-  pub reset_state : (call : Entry) → Here (place.ResetState call) → Holds c x (next (place.ResetState call))
+  pub reset_state : (call : Entry) → Here (Place.ResetState call) → Holds c x (next (Place.ResetState call))
   reset_state call e =
-      let was : post_at x (s.stand (pass_on c x p)) ≡ post_of x own (place.ResetState call) = ap (λ (z : Stand). post_at x z) e in
-      let clear : s.mem (Node x own node.Next) ≡ 0 = grind (arith, w.inv.links.ready_next p) in
-      goes_on (place.ResetState call) (place.Exchange call) w.ghost.marked w.ghost.server refl refl refl
-      (by_reset.keeps (members c x) c.config.bound (view c x s) (view c x (next (place.ResetState call))) w.ghost p inside w.inv (bridge.reset_state c x s p begun own call e clear))
+      let was : post_at x (s.stand (pass_on c x p)) ≡ post_of x own (Place.ResetState call) = ap (λ (z : Stand). post_at x z) e in
+      let clear : s.mem (Word.Node x own NodeField.Next) ≡ 0 = grind (arith, w.inv.links.ready_next p) in
+      goes_on (Place.ResetState call) (Place.Exchange call) w.ghost.marked w.ghost.server refl refl refl
+      (by_reset.keeps (members c x) c.config.bound (view c x s) (view c x (next (Place.ResetState call))) w.ghost p inside w.inv (bridge.reset_state c x s p begun own call e clear))
       record { onward = omega arith; call = subst (λ (z : Stand). HasCall c x p z.place) e (w.ties.begun p inside); read = tt; ended = λ f. absurd f; serves = λ a. tt; keep = λ q ne a. (a, refl) }
 
-  pub link : (put : ℕ) → Here (place.Link put) → Holds c x (next (place.Link put))
+  pub link : (put : ℕ) → Here (Place.Link put) → Holds c x (next (Place.Link put))
   link put e =
       let rank : (post_at x (s.stand (pass_on c x p))).rank ≡ 3 = ap (λ (z : Stand). (post_at x z).rank) e in
       let called : w.ghost.at p < w.ghost.calls = w.inv.passes.at_in p inside (omega (arith, rank)) in
-      goes_on (place.Link put) place.ReadState w.ghost.marked w.ghost.server refl refl refl
-      (by_link.keeps (members c x) c.config.bound (view c x s) (view c x (next (place.Link put))) w.ghost p inside w.inv
+      goes_on (Place.Link put) Place.ReadState w.ghost.marked w.ghost.server refl refl refl
+      (by_link.keeps (members c x) c.config.bound (view c x s) (view c x (next (Place.Link put))) w.ghost p inside w.inv
       (bridge.link c x s p begun own (w.ghost.asks_long (w.ghost.at p)) put (omega (arith, w.ties.asks_long (w.ghost.at p) called, few_asked x (call_at (calls_on x s.history) (w.ghost.at p)))) e))
       record { onward = omega arith; call = tt; read = tt; ended = λ f. absurd f; serves = λ a. tt; keep = λ q ne a. (a, refl) }
 
-  wait : Here place.ReadState → s.mem (Node x own node.State) ≡ 1 → Holds c x (next place.ReadState)
+  wait : Here Place.ReadState → s.mem (Word.Node x own NodeField.State) ≡ 1 → Holds c x (next Place.ReadState)
   wait e saw =
-      goes_on place.ReadState place.ReadState w.ghost.marked w.ghost.server (ap (λ (z : ℕ). after_state own z) saw) refl refl
-      (by_stay.keeps (members c x) c.config.bound (view c x s) (view c x (next place.ReadState)) w.ghost w.inv
-      (bridge.stays c x s p begun own (members c x) place.ReadState e (ap (λ (z : ℕ). post_of x own (after_state own z)) saw) refl (λ i f. refl)))
+      goes_on Place.ReadState Place.ReadState w.ghost.marked w.ghost.server (ap (λ (z : ℕ). after_state own z) saw) refl refl
+      (by_stay.keeps (members c x) c.config.bound (view c x s) (view c x (next Place.ReadState)) w.ghost w.inv
+      (bridge.stays c x s p begun own (members c x) Place.ReadState e (ap (λ (z : ℕ). post_of x own (after_state own z)) saw) refl (λ i f. refl)))
       record { onward = omega arith; call = tt; read = tt; ended = λ f. absurd f; serves = λ a. tt; keep = λ q ne a. (a, refl) }
 
-  collect : (k : ℕ) → Here place.ReadState → s.mem (Node x own node.State) ≡ suc (suc k) → Holds c x (next place.ReadState)
+  collect : (k : ℕ) → Here Place.ReadState → s.mem (Word.Node x own NodeField.State) ≡ suc (suc k) → Holds c x (next Place.ReadState)
   collect k e saw =
-      goes_on place.ReadState place.ReadAnswer w.ghost.marked w.ghost.server (ap (λ (z : ℕ). after_state own z) saw) refl refl
-      (by_collect.keeps (members c x) c.config.bound (view c x s) (view c x (next place.ReadState)) w.ghost p inside w.inv (bridge.collect c x s p begun own k e saw))
+      goes_on Place.ReadState Place.ReadAnswer w.ghost.marked w.ghost.server (ap (λ (z : ℕ). after_state own z) saw) refl refl
+      (by_collect.keeps (members c x) c.config.bound (view c x s) (view c x (next Place.ReadState)) w.ghost p inside w.inv (bridge.collect c x s p begun own k e saw))
       record { onward = omega arith; call = tt; read = tt; ended = λ f. absurd f; serves = λ a. tt; keep = λ q ne a. (a, refl) }
 
-  start : Here place.ReadState → s.mem (Node x own node.State) ≡ 0 → Holds c x (next place.ReadState)
+  start : Here Place.ReadState → s.mem (Word.Node x own NodeField.State) ≡ 0 → Holds c x (next Place.ReadState)
   start e saw =
-      goes_on place.ReadState (place.ReadNext record { at = own; served = 0 }) w.ghost.marked (p + 1) (ap (λ (z : ℕ). after_state own z) saw) refl refl
-      (by_start.keeps (members c x) c.config.bound (view c x s) (view c x (next place.ReadState)) w.ghost (record w.ghost { server = p + 1 }) p inside w.inv (bridge.start c x s p begun own e saw) some
+      goes_on Place.ReadState (Place.ReadNext record { at = own; served = 0 }) w.ghost.marked (p + 1) (ap (λ (z : ℕ). after_state own z) saw) refl refl
+      (by_start.keeps (members c x) c.config.bound (view c x s) (view c x (next Place.ReadState)) w.ghost (record w.ghost { server = p + 1 }) p inside w.inv (bridge.start c x s p begun own e saw) some
       record { calls = refl; answers = refl; marked = refl; server_now = refl; pass_of = λ k. refl; asked = λ k j. refl; asks_long = λ k. refl; told_long = λ k. refl; told = λ k j. refl; chain = λ k. refl; at = λ q. refl })
       record { onward = omega arith; call = tt; read = tt; ended = λ f. absurd f; serves = λ a. tt; keep = λ q ne a. absurd (ne (omega arith)) }
 
-  read_state_by : (k : ℕ) → Here place.ReadState → s.mem (Node x own node.State) ≡ k → Holds c x (next place.ReadState)
+  read_state_by : (k : ℕ) → Here Place.ReadState → s.mem (Word.Node x own NodeField.State) ≡ k → Holds c x (next Place.ReadState)
   read_state_by zero e saw = start e saw
   read_state_by (suc zero) e saw = wait e saw
   read_state_by (suc (suc k)) e saw = collect k e saw
 
-  pub read_state : Here place.ReadState → Holds c x (next place.ReadState)
-  read_state e = read_state_by (s.mem (Node x own node.State)) e refl
+  pub read_state : Here Place.ReadState → Holds c x (next Place.ReadState)
+  read_state e = read_state_by (s.mem (Word.Node x own NodeField.State)) e refl
 
-  stop : (round : Round) → Here (place.ReadNext round) → s.mem (Node x round.at node.Next) ≡ 0 → Holds c x (next (place.ReadNext round))
+  stop : (round : Round) → Here (Place.ReadNext round) → s.mem (Word.Node x round.at NodeField.Next) ≡ 0 → Holds c x (next (Place.ReadNext round))
   stop round e saw =
-      goes_on (place.ReadNext round) (place.HandOver round.at) w.ghost.marked w.ghost.server (ap (λ (z : ℕ). after_next c.served x round z) saw) refl refl
-      (by_stop.keeps (members c x) c.config.bound (view c x s) (view c x (next (place.ReadNext round))) w.ghost p inside w.inv (bridge.stop c x s p begun own round e saw))
+      goes_on (Place.ReadNext round) (Place.HandOver round.at) w.ghost.marked w.ghost.server (ap (λ (z : ℕ). after_next c.served x round z) saw) refl refl
+      (by_stop.keeps (members c x) c.config.bound (view c x s) (view c x (next (Place.ReadNext round))) w.ghost p inside w.inv (bridge.stop c x s p begun own round e saw))
       record { onward = omega arith; call = tt; read = tt; ended = λ f. absurd f; serves = λ a. tt; keep = λ q ne a. (a, refl) }
 
-  pick : (round : Round) (k : ℕ) → Here (place.ReadNext round) → s.mem (Node x round.at node.Next) ≡ suc k → Holds c x (next (place.ReadNext round))
+  pick : (round : Round) (k : ℕ) → Here (Place.ReadNext round) → s.mem (Word.Node x round.at NodeField.Next) ≡ suc k → Holds c x (next (Place.ReadNext round))
   pick round k e saw =
-      goes_on (place.ReadNext round) (serves c.served x record { round = round; next = k }) w.ghost.marked w.ghost.server (ap (λ (z : ℕ). after_next c.served x round z) saw) refl refl
-      (by_pick.keeps (members c x) c.config.bound (view c x s) (view c x (next (place.ReadNext round))) w.ghost p inside w.inv (bridge.pick c x s p begun own round k e saw))
+      goes_on (Place.ReadNext round) (serves c.served x record { round = round; next = k }) w.ghost.marked w.ghost.server (ap (λ (z : ℕ). after_next c.served x round z) saw) refl refl
+      (by_pick.keeps (members c x) c.config.bound (view c x s) (view c x (next (Place.ReadNext round))) w.ghost p inside w.inv (bridge.pick c x s p begun own round k e saw))
       (stays_in (serves c.served x record { round = round; next = k }) (free_at c x p own _ (ap (λ z. z.rank) (serves_post c.served x own record { round = round; next = k })))
       (λ a. serves_it c.served (groups c.config) x (call_at (calls_on x s.history) w.ghost.marked) (answer_at (answers_on x s.history) w.ghost.marked) record { round = round; next = k } ok))
 
-  read_next_by : (round : Round) (k : ℕ) → Here (place.ReadNext round) → s.mem (Node x round.at node.Next) ≡ k → Holds c x (next (place.ReadNext round))
+  read_next_by : (round : Round) (k : ℕ) → Here (Place.ReadNext round) → s.mem (Word.Node x round.at NodeField.Next) ≡ k → Holds c x (next (Place.ReadNext round))
   read_next_by round zero e saw = stop round e saw
   read_next_by round (suc k) e saw = pick round k e saw
 
-  pub read_next : (round : Round) → Here (place.ReadNext round) → Holds c x (next (place.ReadNext round))
-  read_next round e = read_next_by round (s.mem (Node x round.at node.Next)) e refl
+  pub read_next : (round : Round) → Here (Place.ReadNext round) → Holds c x (next (Place.ReadNext round))
+  read_next round e = read_next_by round (s.mem (Word.Node x round.at NodeField.Next)) e refl
 
-  pub exchange : (call : Entry) → Here (place.Exchange call) → Holds c x (next (place.Exchange call))
+  pub exchange : (call : Entry) → Here (Place.Exchange call) → Holds c x (next (Place.Exchange call))
   exchange call e =
-      let was : post_at x (s.stand (pass_on c x p)) ≡ post_of x own (place.Exchange call) = ap (λ (z : Stand). post_at x z) e in
-      let tailed : 0 < s.mem (Tail x) = omega (arith, w.inv.nodes.tail_is) in
+      let was : post_at x (s.stand (pass_on c x p)) ≡ post_of x own (Place.Exchange call) = ap (λ (z : Stand). post_at x z) e in
+      let tailed : 0 < s.mem (Word.Tail x) = omega (arith, w.inv.nodes.tail_is) in
       let not_server : w.ghost.server ≢ p + 1 = λ a. absurd (grind (arith, w.inv.server.server_rank p)) in
       let free : IsFree c x p (after_exchange x own call) = exchanged_free c x p own call in
-      let more : calls_on x (next (place.Exchange call)).history ≡ calls_on x s.history ++ call ∷ [] = ap (λ (z : Side). z.calls) (entered x s.history call w.side_in) in
-      let same : answers_on x (next (place.Exchange call)).history ≡ answers_on x s.history = ap (λ (z : Side). z.answers) (entered x s.history call w.side_in) in
+      let more : calls_on x (next (Place.Exchange call)).history ≡ calls_on x s.history ++ call ∷ [] = ap (λ (z : Side). z.calls) (entered x s.history call w.side_in) in
+      let same : answers_on x (next (Place.Exchange call)).history ≡ answers_on x s.history = ap (λ (z : Side). z.answers) (entered x s.history call w.side_in) in
       record {
         ghost = grown.extended x w.ghost p call own;
-        inv = by_exchange.keeps (members c x) c.config.bound (view c x s) (view c x (next (place.Exchange call))) w.ghost
+        inv = by_exchange.keeps (members c x) c.config.bound (view c x s) (view c x (next (Place.Exchange call))) w.ghost
             (grown.extended x w.ghost p call own) p inside w.inv
             (bridge.exchange c x s p begun own call e tailed)
             (subst (λ (z : ℕ). by_exchange.Extends w.ghost (grown.extended x w.ghost p call own) p z
-            (post_at x ((next (place.Exchange call)).stand (pass_on c x p))).asks) (sym (ap (λ z. z.node) was))
-            (grown.extends c x (calls_on x s.history) (answers_on x s.history) (stands_on c x s) (stands_on c x (next (place.Exchange call))) w.ghost p inside w.ties call own _ (bridge.asks c x s p begun own call)));
-        ties = subst (λ (cs : List Entry). Ties c x cs (answers_on x (next (place.Exchange call)).history) (stands_on c x (next (place.Exchange call))) (grown.extended x w.ghost p call own)) (sym more)
-            (subst (λ (as_ : List Answer). Ties c x (calls_on x s.history ++ call ∷ []) as_ (stands_on c x (next (place.Exchange call))) (grown.extended x w.ghost p call own)) (sym same)
-            (grown.ties_entered c x (calls_on x s.history) (answers_on x s.history) (stands_on c x s) (stands_on c x (next (place.Exchange call))) w.ghost p inside w.ties call own _
-            (subst (λ (z : Stand). HasCall c x p z.place) e (w.ties.begun p inside)) (mine c x s p begun own (place.Exchange call)) (λ q ne. others c x s p begun own (place.Exchange call) q ne) not_server w.inv.server.server_in
+            (post_at x ((next (Place.Exchange call)).stand (pass_on c x p))).asks) (sym (ap (λ z. z.node) was))
+            (grown.extends c x (calls_on x s.history) (answers_on x s.history) (stands_on c x s) (stands_on c x (next (Place.Exchange call))) w.ghost p inside w.ties call own _ (bridge.asks c x s p begun own call)));
+        ties = subst (λ (cs : List Entry). Ties c x cs (answers_on x (next (Place.Exchange call)).history) (stands_on c x (next (Place.Exchange call))) (grown.extended x w.ghost p call own)) (sym more)
+            (subst (λ (as_ : List Answer). Ties c x (calls_on x s.history ++ call ∷ []) as_ (stands_on c x (next (Place.Exchange call))) (grown.extended x w.ghost p call own)) (sym same)
+            (grown.ties_entered c x (calls_on x s.history) (answers_on x s.history) (stands_on c x s) (stands_on c x (next (Place.Exchange call))) w.ghost p inside w.ties call own _
+            (subst (λ (z : Stand). HasCall c x p z.place) e (w.ties.begun p inside)) (mine c x s p begun own (Place.Exchange call)) (λ q ne. others c x s p begun own (Place.Exchange call) q ne) not_server w.inv.server.server_in
             w.inv.calls.in_order w.inv.calls.in_order2
             (λ q qn f. let old = w.ties.ended q qn f in omega (arith, old.0, w.inv.calls.in_order, w.inv.calls.in_order2))
             (λ q a low high. w.inv.serving.serving q a low high) free.call free.read free.unfinished));

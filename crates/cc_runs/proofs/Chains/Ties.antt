@@ -1,16 +1,7 @@
 -- What ties a chain to the history, and what of it a step keeps.
 use Rattle.std.proofs.Common.{◌≡◌, ◌≢◌, ℕ, ◌+◌, ◌<◌, ◌≤◌, cond, eqb, List, length, refl, ap, sym, ◌∙◌, subst, arith, inl, inr}
 use Rattle.std.proofs.lemmas.Bool.{cases_eq, eq-eqb, ne_eqb, cond-true, cond-false}
-use Rattle.cc_model.specs.declared.call.Entry.{Entry}
-use Rattle.cc_model.specs.declared.call.Answer.{Answer}
-use Rattle.cc_runs.specs.declared.setting.Setting.{Setting}
-use Rattle.cc_runs.specs.declared.setting.Served.{Served}
-use Rattle.cc_runs.specs.declared.word.Chain.{Chain}
-use Rattle.cc_runs.specs.declared.place.Stand.{Stand}
-use Rattle.cc_runs.specs.declared.place.Sending.{Sending}
-use Rattle.cc_runs.specs.declared.place.Sending.TheVariants as sending
-use Rattle.cc_runs.specs.declared.place.Place.{Place}
-use Rattle.cc_runs.specs.declared.place.Place.TheVariants as place
+use Rattle.cc_runs.specs.Names.{Entry, Answer, Setting, Served, Chain, Stand, Sending, Place}
 use Rattle.cc_runs.specs.State.{State}
 use Rattle.cc_runs.specs.Run.{IsFinished}
 use Rattle.cc_runs.proofs.Combining.Chain.{Ghost}
@@ -58,24 +49,24 @@ pub record Holds (c : Setting) (x : Chain) (s : State) : Type 0 where
   pub side_in : HasSide x s.history
 
 pub send_in : (service : Sending) → (1 ≤ send_stage service) × (send_stage service ≤ 2)
-send_in sending.ReadTag = omega arith
-send_in (sending.WriteLastMark total) = omega arith
-send_in (sending.WriteShut total) = omega arith
-send_in (sending.WriteLast place at) = omega arith
-send_in (sending.WriteCount place at) = omega arith
-send_in (sending.WriteCursor place at) = omega arith
+send_in Sending.ReadTag = omega arith
+send_in (Sending.WriteLastMark total) = omega arith
+send_in (Sending.WriteShut total) = omega arith
+send_in (Sending.WriteLast place at) = omega arith
+send_in (Sending.WriteCount place at) = omega arith
+send_in (Sending.WriteCursor place at) = omega arith
 send_in _ = omega arith
 
 -- only a service asks which call it serves
 pub service_call : (served : Served) (x : Chain) (own : ℕ) (e e' : Entry) (a : Answer) (at : Place) → (1 ≤ (post_of x own at).stage → (post_of x own at).stage ≤ 2 → e ≡ e') → HasService served x e a at → HasService served x e' a at
-service_call served x own e e' a (place.Sending job service) same h = let i = send_in service in subst (λ (z : Entry). Sends served x (HasSend z a service)) (same i.0 i.1) h
+service_call served x own e e' a (Place.Sending job service) same h = let i = send_in service in subst (λ (z : Entry). Sends served x (HasSend z a service)) (same i.0 i.1) h
 service_call served x own e e' a at same h = h
 
 -- only a reader asks for its answer
 pub reader_answer : (served : Served) (x : Chain) (own : ℕ) (a a' : Answer) (at : Place) → ((post_of x own at).rank ≡ 6 → a ≡ a') → (IsFinished at → a ≡ a') → HasRead served x a at → HasRead served x a' at
-reader_answer served x own a a' (place.ReadAnswerTag at) same ended h = subst (λ (z : Answer). HasRead served x z (place.ReadAnswerTag at)) (same refl) h
-reader_answer served x own a a' (place.ReadAnswerBody p i) same ended h = subst (λ (z : Answer). HasRead served x z (place.ReadAnswerBody p i)) (same refl) h
-reader_answer served x own a a' (place.Finished told) same ended h = subst (λ (z : Answer). HasRead served x z (place.Finished told)) (ended tt) h
+reader_answer served x own a a' (Place.ReadAnswerTag at) same ended h = subst (λ (z : Answer). HasRead served x z (Place.ReadAnswerTag at)) (same refl) h
+reader_answer served x own a a' (Place.ReadAnswerBody p i) same ended h = subst (λ (z : Answer). HasRead served x z (Place.ReadAnswerBody p i)) (same refl) h
+reader_answer served x own a a' (Place.Finished told) same ended h = subst (λ (z : Answer). HasRead served x z (Place.Finished told)) (ended tt) h
 reader_answer served x own a a' at same ended h = h
 
 module _ (c : Setting) (x : Chain) (calls : List Entry) (answers : List Answer) (stand stand' : ℕ → Stand) (g : Ghost) (p : ℕ) (ties : Ties c x calls answers stand g) where

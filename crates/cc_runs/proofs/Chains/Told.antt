@@ -7,15 +7,7 @@ use Rattle.std.specs.List.{filter, flat_map}
 use Rattle.std.proofs.lemmas.Nat.{div-mul-add}
 use Rattle.cc_model.specs.Record.{Side, Record, silent}
 use Rattle.cc_model.specs.Items.{is_pass, answered, calls_of}
-use Rattle.cc_model.specs.declared.call.Pass.{Pass}
-use Rattle.cc_model.specs.declared.call.Pass.TheVariants as pass
-use Rattle.cc_model.specs.declared.call.Entry.{Entry}
-use Rattle.cc_model.specs.declared.call.Answer.{Answer}
-use Rattle.cc_runs.specs.declared.setting.Setting.{Setting}
-use Rattle.cc_runs.specs.declared.word.Chain.{Chain}
-use Rattle.cc_runs.specs.declared.word.Chain.TheVariants.{Send, Take}
-use Rattle.cc_runs.specs.declared.place.Place.{Place}
-use Rattle.cc_runs.specs.declared.place.Place.TheVariants as place
+use Rattle.cc_runs.specs.Names.{Pass, Entry, Answer, Setting, Chain, Place}
 use Rattle.cc_runs.specs.State.{State, side, pass_at}
 use Rattle.cc_runs.proofs.Chains.Others.{IsOther}
 use Rattle.cc_runs.specs.Run.{IsFinished}
@@ -26,30 +18,30 @@ use Rattle.cc_runs.proofs.Chains.Last.{chosen, chosen_none, Ends, chosen_last, c
 
 -- the name of a pass of the chain
 abbrev pub named : Setting → Chain → ℕ → Pass
-named c Send p = pass.Sender (p + 1)
-named c (Take g) p = pass.Receiver (g * c.config.receivers + p + 1)
+named c Chain.Send p = Pass.Sender (p + 1)
+named c (Chain.Take g) p = Pass.Receiver (g * c.config.receivers + p + 1)
 
 pub name_is : (c : Setting) (x : Chain) (p : ℕ) → p < members c x → pass_at c.config (pass_on c x p) ≡ named c x p
-name_is c Send p less = ap (λ (b : Bool). cond b (pass.Sender (p + 1)) (pass.Receiver (p - c.config.senders + 1))) (lt-ltb p c.config.senders less)
-name_is c (Take g) p less =
+name_is c Chain.Send p less = ap (λ (b : Bool). cond b (Pass.Sender (p + 1)) (Pass.Receiver (p - c.config.senders + 1))) (lt-ltb p c.config.senders less)
+name_is c (Chain.Take g) p less =
     let q : ℕ = g * c.config.receivers + p in
     let back : c.config.senders + (g * c.config.receivers + p) - c.config.senders ≡ g * c.config.receivers + p = omega arith in
-    ap (λ (b : Bool). cond b (pass.Sender (c.config.senders + (g * c.config.receivers + p) + 1)) (pass.Receiver (c.config.senders + (g * c.config.receivers + p) - c.config.senders + 1))) (le-ltb (c.config.senders + (g * c.config.receivers + p)) c.config.senders (omega arith)) ∙ ap (λ (z : ℕ). pass.Receiver (z + 1)) back
+    ap (λ (b : Bool). cond b (Pass.Sender (c.config.senders + (g * c.config.receivers + p) + 1)) (Pass.Receiver (c.config.senders + (g * c.config.receivers + p) - c.config.senders + 1))) (le-ltb (c.config.senders + (g * c.config.receivers + p)) c.config.senders (omega arith)) ∙ ap (λ (z : ℕ). Pass.Receiver (z + 1)) back
 
 same_name : (c : Setting) (x : Chain) (p : ℕ) → is_pass (named c x p) (named c x p) ≡ true
-same_name c Send p = eq-eqb (p + 1) (p + 1) refl
-same_name c (Take g) p = eq-eqb (g * c.config.receivers + p + 1) (g * c.config.receivers + p + 1) refl
+same_name c Chain.Send p = eq-eqb (p + 1) (p + 1) refl
+same_name c (Chain.Take g) p = eq-eqb (g * c.config.receivers + p + 1) (g * c.config.receivers + p + 1) refl
 
 pub other_name : (c : Setting) (x : Chain) (p q : ℕ) → q ≢ p → is_pass (named c x p) (named c x q) ≡ false
-other_name c Send p q ne = ne_eqb (p + 1) (q + 1) (λ e. ne (omega arith))
-other_name c (Take g) p q ne = ne_eqb (g * c.config.receivers + p + 1) (g * c.config.receivers + q + 1) (λ e. ne (omega arith))
+other_name c Chain.Send p q ne = ne_eqb (p + 1) (q + 1) (λ e. ne (omega arith))
+other_name c (Chain.Take g) p q ne = ne_eqb (g * c.config.receivers + p + 1) (g * c.config.receivers + q + 1) (λ e. ne (omega arith))
 
 -- passes of two chains have two names
 pub apart_names : (c : Setting) (x y : Chain) (p q : ℕ) → IsOther x y → p < members c x → q < members c y → is_pass (named c x p) (named c y q) ≡ false
-apart_names c Send (Take g) p q o pn qn = refl
-apart_names c (Take g) Send p q o pn qn = refl
-apart_names c Send Send p q o pn qn = absurd o
-apart_names c (Take g) (Take h) p q o pn qn =
+apart_names c Chain.Send (Chain.Take g) p q o pn qn = refl
+apart_names c (Chain.Take g) Chain.Send p q o pn qn = refl
+apart_names c Chain.Send Chain.Send p q o pn qn = absurd o
+apart_names c (Chain.Take g) (Chain.Take h) p q o pn qn =
     ne_eqb (g * c.config.receivers + p + 1) (h * c.config.receivers + q + 1)
     (λ e. o (sym (div-mul-add g c.config.receivers p pn) ∙ ap (λ (k : ℕ). k / c.config.receivers) (omega (arith, e)) ∙ div-mul-add h c.config.receivers q qn))
 
@@ -91,10 +83,10 @@ calls_one c x h p inside none =
     other y o = chosen_none f (calls_on y h) (answers_on y h) (none p inside y o)
 
     by : (y : Chain) → x ≡ y → picked f h.sends ++ flat_map (picked f) h.takes ≡ picked f (side y h)
-    by Send e = ap (λ (l : List (Entry × Option Answer)). picked f h.sends ++ l) (flat-none f h.takes (λ k. other (Take k) (subst (λ (z : Chain). IsOther z (Take k)) (sym e) tt))) ∙ append-nil (picked f h.sends)
-    by (Take g) e =
-        ap (λ (l : List (Entry × Option Answer)). l ++ flat_map (picked f) h.takes) (other Send (subst (λ (z : Chain). IsOther z Send) (sym e) tt))
-        ∙ flat-one f h.takes g (λ k ne. other (Take k) (subst (λ (z : Chain). IsOther z (Take k)) (sym e) (λ same. ne (sym same))))
+    by Chain.Send e = ap (λ (l : List (Entry × Option Answer)). picked f h.sends ++ l) (flat-none f h.takes (λ k. other (Chain.Take k) (subst (λ (z : Chain). IsOther z (Chain.Take k)) (sym e) tt))) ∙ append-nil (picked f h.sends)
+    by (Chain.Take g) e =
+        ap (λ (l : List (Entry × Option Answer)). l ++ flat_map (picked f) h.takes) (other Chain.Send (subst (λ (z : Chain). IsOther z Chain.Send) (sym e) tt))
+        ∙ flat-one f h.takes g (λ k ne. other (Chain.Take k) (subst (λ (z : Chain). IsOther z (Chain.Take k)) (sym e) (λ same. ne (sym same))))
 
 -- the last call of a pass is answered
 pub record HasAnswer (c : Setting) (x : Chain) (h : Record) (who : Pass) (number : ℕ) : Type 0 where
@@ -182,7 +174,7 @@ pub record HasTold (c : Setting) (x : Chain) (h : Record) (who : Pass) (told : A
   pub sided : IsAnswer c.served x (answer_at (answers_on x h) number)
   pub read : told ≡ reads c.served x (answer_at (answers_on x h) number)
 
-pub told_on : (c : Setting) (x : Chain) (s : State) (w : Holds c x s) → NotOther c x s.history → (n : ℕ) → n < members c x → (told : Answer) → (s.stand (pass_on c x n)).place ≡ place.Finished told →
+pub told_on : (c : Setting) (x : Chain) (s : State) (w : Holds c x s) → NotOther c x s.history → (n : ℕ) → n < members c x → (told : Answer) → (s.stand (pass_on c x n)).place ≡ Place.Finished told →
     HasTold c x s.history (pass_at c.config (pass_on c x n)) told
 told_on c x s w none n inside told e =
     let ended : (w.ghost.at n < w.ghost.marked) × (w.ghost.pass_of (w.ghost.at n) ≡ n) = w.ties.ended n inside (subst (λ (z : Place). IsFinished z) (sym e) tt) in

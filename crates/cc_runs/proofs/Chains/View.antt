@@ -1,22 +1,6 @@
 -- A chain of a state, as the abstract chain sees it.
 use Rattle.std.proofs.Common.{ℕ, zero, suc, ◌+◌, ◌*◌}
-use Rattle.cc_runs.specs.declared.setting.Setting.{Setting}
-use Rattle.cc_runs.specs.declared.word.Chain.{Chain}
-use Rattle.cc_runs.specs.declared.word.Chain.TheVariants.{Send, Take}
-use Rattle.cc_runs.specs.declared.word.NodeField.{NodeField}
-use Rattle.cc_runs.specs.declared.word.NodeField.TheVariants as node
-use Rattle.cc_runs.specs.declared.word.Word.TheVariants.{Tail, Node}
-use Rattle.cc_runs.specs.declared.place.Job.{Job}
-use Rattle.cc_runs.specs.declared.place.Request.{Request}
-use Rattle.cc_runs.specs.declared.place.Stand.{Stand}
-use Rattle.cc_runs.specs.declared.place.Sending.{Sending}
-use Rattle.cc_runs.specs.declared.place.Sending.TheVariants as sending
-use Rattle.cc_runs.specs.declared.place.Place.{Place}
-use Rattle.cc_runs.specs.declared.place.Place.TheVariants as place
-use Rattle.cc_model.specs.declared.call.Entry.{Entry}
-use Rattle.cc_model.specs.declared.call.Answer.{Answer}
-use Rattle.cc_model.specs.declared.call.Answer.TheVariants as answer
-use Rattle.cc_model.specs.declared.call.TakeAnswer.TheVariants as take
+use Rattle.cc_runs.specs.Names.{Setting, Chain, NodeField, Word, Job, Request, Stand, Sending, Place, Entry, Answer, TakeAnswer}
 use Rattle.cc_runs.specs.Codes.{request_in, further_words, tag_of}
 use Rattle.cc_runs.specs.State.{State}
 pub use Rattle.cc_runs.specs.Sides.{passes_on as members}
@@ -24,8 +8,8 @@ use Rattle.cc_runs.proofs.Combining.Chain.{Post, Cell, Chain as Seen}
 
 -- the pass of this number on its chain
 abbrev pub pass_on : Setting → Chain → ℕ → ℕ
-pass_on c Send p = p
-pass_on c (Take g) p = c.config.senders + (g * c.config.receivers + p)
+pass_on c Chain.Send p = p
+pass_on c (Chain.Take g) p = c.config.senders + (g * c.config.receivers + p)
 
 -- the words of a request: its tag, and those of its body; a take has none
 abbrev pub words_of : ℕ → (ℕ → ℕ) → ℕ → ℕ
@@ -33,8 +17,8 @@ words_of tag body zero = tag
 words_of tag body (suc i) = body i
 
 abbrev pub request_words : Chain → (NodeField → ℕ) → ℕ → ℕ
-request_words Send w j = words_of (w node.Tag) (λ i. w (node.Body i)) j
-request_words (Take g) w j = 0
+request_words Chain.Send w j = words_of (w NodeField.Tag) (λ i. w (NodeField.Body i)) j
+request_words (Chain.Take g) w j = 0
 
 -- the words of a request as its sender has them, and behind all of them how many of the body's there are
 abbrev pub asks_in : Request → ℕ → ℕ
@@ -48,12 +32,12 @@ asks_in r (suc (suc (suc (suc (suc (suc _)))))) = 0
 
 -- what a call asks for, and in how many words
 abbrev pub asked_words : Chain → Entry → ℕ → ℕ
-asked_words Send e j = asks_in (request_in e) j
-asked_words (Take g) e j = 0
+asked_words Chain.Send e j = asks_in (request_in e) j
+asked_words (Chain.Take g) e j = 0
 
 abbrev pub request_long : Chain → Entry → ℕ
-request_long Send e = further_words (request_in e).tag + 2
-request_long (Take g) e = 0
+request_long Chain.Send e = further_words (request_in e).tag + 2
+request_long (Chain.Take g) e = 0
 
 -- the words of an answer: a take is told an item's tag and its body too
 abbrev pub told_words : ℕ → ℕ → (ℕ → ℕ) → ℕ → ℕ
@@ -64,12 +48,12 @@ abbrev pub no_word : ℕ → ℕ
 no_word i = 0
 
 abbrev pub answer_words : Chain → (NodeField → ℕ) → ℕ → ℕ
-answer_words Send w j = told_words (w node.Ret) 0 no_word j
-answer_words (Take g) w j = told_words (w node.Ret) (w node.Tag) (λ i. w (node.Body i)) j
+answer_words Chain.Send w j = told_words (w NodeField.Ret) 0 no_word j
+answer_words (Chain.Take g) w j = told_words (w NodeField.Ret) (w NodeField.Tag) (λ i. w (NodeField.Body i)) j
 
 -- how many words an answer has
 abbrev pub answer_long : Answer → ℕ
-answer_long (answer.Take (take.Got item)) = further_words (tag_of item) + 3
+answer_long (Answer.Take (TakeAnswer.Got item)) = further_words (tag_of item) + 3
 answer_long _ = 1
 
 -- as many words as no answer and no request has more
@@ -77,16 +61,16 @@ abbrev pub all_told : ℕ
 all_told = 6
 
 abbrev pub all_wrote : Chain → ℕ
-all_wrote Send = 6
-all_wrote (Take g) = 0
+all_wrote Chain.Send = 6
+all_wrote (Chain.Take g) = 0
 
 -- how many words of an answer are told once its first is written
 abbrev pub told_next : Answer → ℕ
-told_next (answer.Take (take.Got item)) = 1
+told_next (Answer.Take (TakeAnswer.Got item)) = 1
 told_next _ = all_told
 
 abbrev pub cell_of : Chain → (NodeField → ℕ) → Cell
-cell_of x w = record { next = w node.Next; state = w node.State; request = request_words x w; answer = answer_words x w }
+cell_of x w = record { next = w NodeField.Next; state = w NodeField.State; request = request_words x w; answer = answer_words x w }
 
 -- out of the chain, or with no register in it
 abbrev pub out : ℕ → ℕ → Post
@@ -106,38 +90,38 @@ serving own job stage told = record { rank = 5; node = own; put = 0; asks = λ j
 
 -- 1 before the answer is decided, 2 from then on
 abbrev pub send_stage : Sending → ℕ
-send_stage (sending.WriteLastMark total) = 2
-send_stage (sending.WriteShut total) = 2
-send_stage (sending.WriteLast place at) = 2
-send_stage (sending.WriteCount place at) = 2
-send_stage (sending.WriteCursor place at) = 2
+send_stage (Sending.WriteLastMark total) = 2
+send_stage (Sending.WriteShut total) = 2
+send_stage (Sending.WriteLast place at) = 2
+send_stage (Sending.WriteCount place at) = 2
+send_stage (Sending.WriteCursor place at) = 2
 send_stage _ = 1
 
 abbrev pub post_of : Chain → ℕ → Place → Post
-post_of x own place.Idle = out 0 own
-post_of x own (place.ResetNext call) = out 0 own
-post_of x own (place.ResetState call) = out 1 own
-post_of x own (place.Exchange call) = out 2 own
-post_of x own (place.WriteTag put request) = entering own put (asks_in request) 0
-post_of x own (place.WriteBody put request i) = entering own put (asks_in request) (suc i)
-post_of x own (place.Link put) = entering own put no_word (all_wrote x)
-post_of x own place.ReadState = out 4 own
-post_of x own (place.ReadNext round) = resting own round.at round.served 0
-post_of x own (place.Counting job service) = serving own job 1 0
-post_of x own (place.Sending job service) = serving own job (send_stage service) 0
-post_of x own (place.Taking job service) = serving own job 1 0
-post_of x own (place.WriteAnswer job told) = serving own job 2 0
-post_of x own (place.WriteAnswerTag job item) = serving own job 2 1
-post_of x own (place.WriteAnswerBody job item i) = serving own job 2 (suc (suc i))
-post_of x own (place.MarkDone job) = serving own job 2 all_told
-post_of x own (place.HandOver at) = resting own at 0 3
-post_of x own place.ReadAnswer = out 6 own
-post_of x own (place.ReadAnswerTag at) = out 6 own
-post_of x own (place.ReadAnswerBody p i) = out 6 own
-post_of x own (place.Finished told) = out 0 own
+post_of x own Place.Idle = out 0 own
+post_of x own (Place.ResetNext call) = out 0 own
+post_of x own (Place.ResetState call) = out 1 own
+post_of x own (Place.Exchange call) = out 2 own
+post_of x own (Place.WriteTag put request) = entering own put (asks_in request) 0
+post_of x own (Place.WriteBody put request i) = entering own put (asks_in request) (suc i)
+post_of x own (Place.Link put) = entering own put no_word (all_wrote x)
+post_of x own Place.ReadState = out 4 own
+post_of x own (Place.ReadNext round) = resting own round.at round.served 0
+post_of x own (Place.Counting job service) = serving own job 1 0
+post_of x own (Place.Sending job service) = serving own job (send_stage service) 0
+post_of x own (Place.Taking job service) = serving own job 1 0
+post_of x own (Place.WriteAnswer job told) = serving own job 2 0
+post_of x own (Place.WriteAnswerTag job item) = serving own job 2 1
+post_of x own (Place.WriteAnswerBody job item i) = serving own job 2 (suc (suc i))
+post_of x own (Place.MarkDone job) = serving own job 2 all_told
+post_of x own (Place.HandOver at) = resting own at 0 3
+post_of x own Place.ReadAnswer = out 6 own
+post_of x own (Place.ReadAnswerTag at) = out 6 own
+post_of x own (Place.ReadAnswerBody p i) = out 6 own
+post_of x own (Place.Finished told) = out 0 own
 
 abbrev pub post_at : Chain → Stand → Post
 post_at x at = post_of x at.node at.place
 
 abbrev pub view : Setting → Chain → State → Seen
-view c x s = record { tail = s.mem (Tail x); node = λ i. cell_of x (λ f. s.mem (Node x i f)); post = λ p. post_at x (s.stand (pass_on c x p)) }
+view c x s = record { tail = s.mem (Word.Tail x); node = λ i. cell_of x (λ f. s.mem (Word.Node x i f)); post = λ p. post_at x (s.stand (pass_on c x p)) }

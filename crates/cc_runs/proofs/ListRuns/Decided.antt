@@ -6,15 +6,7 @@ use Rattle.std.specs.List.{slice_get}
 use Rattle.cc_model.specs.Record.{Side, Record, silent, of_group, with_answer, with_sends, with_takes}
 use Rattle.cc_model.specs.Items.{accepted, accepted_item, is_shut, shuts, handed, handed_by, handed_item}
 use Rattle.cc_model.specs.Legal.{EAnswer, EAnswers, DAnswer, DAnswers}
-use Rattle.cc_model.specs.declared.config.Config.{Config}
-use Rattle.cc_model.specs.declared.call.Call.{Call}
-use Rattle.cc_model.specs.declared.call.Call.TheVariants as call
-use Rattle.cc_model.specs.declared.call.Entry.{Entry}
-use Rattle.cc_model.specs.declared.call.Item.{Item}
-use Rattle.cc_model.specs.declared.call.Answer.{Answer}
-use Rattle.cc_model.specs.declared.call.Answer.TheVariants as answer
-use Rattle.cc_model.specs.declared.call.SendAnswer.TheVariants as send
-use Rattle.cc_model.specs.declared.call.CloseAnswer.TheVariants as close
+use Rattle.cc_runs.specs.Names.{Config, Call, Entry, Item, Answer, SendAnswer, CloseAnswer}
 use Rattle.cc_model.proofs.Grows.{any-append, accepted_more, e_answer_more, d_answer_more, d_items_more, handed_by-append}
 
 -- the answers of all sides are lawful
@@ -24,8 +16,8 @@ pub record Lawful (c : Config) (h : Record) : Type 0 where
 
 -- once shut, no answer accepts
 closed_item : (c : Config) (n known : ℕ) (k : Call) (e : Entry) (a : Answer) → EAnswer c n true known k a → accepted_item e a ≡ []
-closed_item c n known (call.Send body) e (answer.Send send.Closed) h = refl
-closed_item c n known call.Close e (answer.Close (close.Already total)) h = refl
+closed_item c n known (Call.Send body) e (Answer.Send SendAnswer.Closed) h = refl
+closed_item c n known Call.Close e (Answer.Close (CloseAnswer.Already total)) h = refl
 closed_item _ _ _ _ _ _ h = absurd h
 
 closed_none : (c : Config) (n known : ℕ) (k : Call) (e : Entry) (a : Answer) (shut : Bool) → EAnswer c n shut known k a → shut ≡ true → accepted_item e a ≡ []

@@ -2,19 +2,8 @@
 use Rattle.std.proofs.Common.{◌≡◌, ◌≢◌, ℕ, ◌+◌, ◌<◌, ◌≤◌, inl, inr, refl, sym, ap, ◌∙◌, subst, arith}
 use Rattle.std.proofs.lemmas.Bool.{cases_eq, cases_lt}
 use Rattle.cc_model.specs.Items.{handed_to_all}
-use Rattle.cc_model.specs.declared.config.Config.{Config}
-use Rattle.cc_model.specs.declared.call.Entry.{Entry}
-use Rattle.cc_runs.specs.declared.word.Chain.TheVariants.{Send, Take}
-use Rattle.cc_runs.specs.declared.word.NodeField.TheVariants as node
-use Rattle.cc_runs.specs.declared.word.Word.TheVariants.{Node}
-use Rattle.cc_runs.specs.declared.place.Job.{Job}
-use Rattle.cc_runs.specs.declared.place.Place.{Place}
-use Rattle.cc_runs.specs.declared.place.Place.TheVariants as place
-use Rattle.cc_runs.specs.declared.place.Sending.{Sending}
-use Rattle.cc_runs.specs.declared.place.Sending.TheVariants as sending
-use Rattle.cc_runs.specs.declared.place.Stand.{Stand}
+use Rattle.cc_runs.specs.Names.{Config, Entry, Chain, NodeField, Word, Job, Place, Sending, Stand, Request}
 use Rattle.cc_runs.specs.State.{State, chain_of, hold}
-use Rattle.cc_runs.specs.declared.place.Request.{Request}
 use Rattle.cc_runs.specs.Codes.{request_in, further_words, word, with_asked}
 use Rattle.cc_runs.proofs.ReadWords.{few_further, next_word}
 use Rattle.cc_runs.proofs.Chains.Registers.{HasAsked, HasRequest}
@@ -32,37 +21,37 @@ use Rattle.cc_runs.proofs.ListRuns.Least.{least_is}
 
 -- where nothing is served the stage is 0
 begun_or_none : (e : Entry) (from : ℕ) (service : Sending) → (IsBegun service → ⊥) → (enq_in e from service).stage ≡ 0
-begun_or_none e from sending.ReadTag not = refl
-begun_or_none e from (sending.ReadBody request i) not = refl
+begun_or_none e from Sending.ReadTag not = refl
+begun_or_none e from (Sending.ReadBody request i) not = refl
 begun_or_none e from _ not = absurd (not tt)
 
 stage_none : (e : Entry) (from : ℕ) (at : Place) → (IsServing at → ⊥) → (enq_at e from at).stage ≡ 0
-stage_none e from (place.Sending job service) not = begun_or_none e from service not
+stage_none e from (Place.Sending job service) not = begun_or_none e from service not
 stage_none e from _ not = refl
 
 serving_sends : (at : Place) → IsServing at → IsSending at
-serving_sends (place.Sending job service) u = tt
-serving_sends (place.ResetNext e) u = absurd u
-serving_sends (place.Taking job service) u = absurd u
+serving_sends (Place.Sending job service) u = tt
+serving_sends (Place.ResetNext e) u = absurd u
+serving_sends (Place.Taking job service) u = absurd u
 serving_sends _ u = absurd u
 
 idle_serves : (at : Place) → IsIdle at → IsServing at → ⊥
-idle_serves place.Idle idle u = u
+idle_serves Place.Idle idle u = u
 idle_serves _ idle u = idle
 
-module _ (c : Config) (s : State) (p begun own : ℕ) (job : Job) (request : Request) (i : ℕ) (last : further_words request.tag ≤ i) (stands : (s.stand p).place ≡ place.Sending job (sending.ReadBody request i)) (within : p < passes (lists c)) (facts : ChainFacts (lists c) s)
+module _ (c : Config) (s : State) (p begun own : ℕ) (job : Job) (request : Request) (i : ℕ) (last : further_words request.tag ≤ i) (stands : (s.stand p).place ≡ Place.Sending job (Sending.ReadBody request i)) (within : p < passes (lists c)) (facts : ChainFacts (lists c) s)
     (outside : (q : ℕ) → passes (lists c) ≤ q → IsIdle (s.stand q).place) (callers : (e : Entry) → IsNextSend s.history e → Caller c e × (e.known ≤ handed_to_all s.history)) (k : Parts c s) where
   abbrev d : Duty
   d = k.duty
 
   abbrev found : ℕ
-  found = s.mem (Node Send job.round.at (node.Body i))
+  found = s.mem (Word.Node Chain.Send job.round.at (NodeField.Body i))
 
   abbrev whole : Request
   whole = with_asked request i found
 
   abbrev there : Place
-  there = place.Sending job (sending.ReadShut whole)
+  there = Place.Sending job (Sending.ReadShut whole)
 
   abbrev now : Stand
   now = record { begun = begun; node = own; place = there }
@@ -130,7 +119,7 @@ module _ (c : Config) (s : State) (p begun own : ℕ) (job : Job) (request : Req
       serving = record {
         e_only = hold_all (λ (q : ℕ) (z : Stand). q ≢ p → IsServing z.place → ⊥) s.stand p now (λ ne u. ne refl) (λ q ne n u. alone q ne u);
         d_mine = k.serving.d_mine;
-        d_only = λ y. hold_all (λ (q : ℕ) (z : Stand). chain_of c q ≡ Take y → q ≢ d.d_pass y → IsTaking z.place → ⊥) s.stand p now (λ e ne u. u) (λ q ne e n u. k.serving.d_only y q e n u);
+        d_only = λ y. hold_all (λ (q : ℕ) (z : Stand). chain_of c q ≡ Chain.Take y → q ≢ d.d_pass y → IsTaking z.place → ⊥) s.stand p now (λ e ne u. u) (λ q ne e n u. k.serving.d_only y q e n u);
         caller = (callers read.0 read.1).0;
         reads = subst (λ (z : Place). ReadsAt c to.e_call to.from z) (sym here) asked;
         next_send = λ u. read.1;

@@ -2,16 +2,8 @@
 use Rattle.std.proofs.Common.{◌≡◌, ◌≢◌, ℕ, ◌+◌, ◌<◌, ◌≤◌, inl, inr, refl, sym, ap, ◌∙◌, subst, arith}
 use Rattle.std.proofs.lemmas.Bool.{cases_eq, cases_lt}
 use Rattle.cc_model.specs.Items.{entries}
-use Rattle.cc_model.specs.declared.config.Config.{Config}
-use Rattle.cc_model.specs.declared.call.Entry.{Entry}
-use Rattle.cc_runs.specs.declared.place.Job.{Job}
-use Rattle.cc_runs.specs.declared.place.Round.{Round}
-use Rattle.cc_runs.specs.declared.place.Place.{Place}
-use Rattle.cc_runs.specs.declared.place.Place.TheVariants as place
-use Rattle.cc_runs.specs.declared.place.Taking.TheVariants as taking
-use Rattle.cc_runs.specs.declared.place.Stand.{Stand}
+use Rattle.cc_runs.specs.Names.{Config, Entry, Job, Round, Place, Taking, Stand, Chain}
 use Rattle.cc_runs.specs.State.{State, chain_of, hold}
-use Rattle.cc_runs.specs.declared.word.Chain.TheVariants.{Take}
 use Rattle.cc_runs.specs.Words.{groups}
 use Rattle.cc_runs.specs.Lines.{group_of}
 use Rattle.cc_runs.specs.Run.{IsIdle, passes}
@@ -25,15 +17,15 @@ use Rattle.cc_runs.proofs.ListRuns.Facts.{lists, ChainFacts}
 use Rattle.cc_runs.proofs.ListRuns.Whole.{Parts, Onward}
 
 idle_takes : (at : Place) → IsIdle at → IsTaking at → ⊥
-idle_takes place.Idle idle u = u
+idle_takes Place.Idle idle u = u
 idle_takes _ idle u = idle
 
 -- where no take is served the stage is 0
 take_regs_none : (at : Place) → (IsTaking at → ⊥) → (regs_at at).stage ≡ 0
-take_regs_none (place.Taking job service) not = absurd (not tt)
+take_regs_none (Place.Taking job service) not = absurd (not tt)
 take_regs_none _ not = refl
 
-module _ (c : Config) (s : State) (p begun own y : ℕ) (chain : chain_of c p ≡ Take y) (inside : y < groups c) (round : Round) (next : ℕ) (stands : (s.stand p).place ≡ place.ReadNext round) (within : p < passes (lists c))
+module _ (c : Config) (s : State) (p begun own y : ℕ) (chain : chain_of c p ≡ Chain.Take y) (inside : y < groups c) (round : Round) (next : ℕ) (stands : (s.stand p).place ≡ Place.ReadNext round) (within : p < passes (lists c))
     (outside : (q : ℕ) → passes (lists c) ≤ q → IsIdle (s.stand q).place) (callers : (e : Entry) → IsNextTake s.history y e → e.known ≤ entries s.history) (k : Parts c s) where
   abbrev d : Duty
   d = k.duty
@@ -42,7 +34,7 @@ module _ (c : Config) (s : State) (p begun own y : ℕ) (chain : chain_of c p �
   job = record { round = round; next = next }
 
   abbrev there : Place
-  there = place.Taking job taking.ReadHead
+  there = Place.Taking job Taking.ReadHead
 
   abbrev now : Stand
   now = record { begun = begun; node = own; place = there }
@@ -64,7 +56,7 @@ module _ (c : Config) (s : State) (p begun own y : ℕ) (chain : chain_of c p �
     to = record { e_pass = d.e_pass; e_call = d.e_call; from = d.from; d_pass = with_group d.d_pass y p; d_call = with_group d.d_call y read.0 }
 
     -- no other pass of the group takes
-    alone : (q : ℕ) → chain_of c q ≡ Take y → p ≢ q → IsTaking (s.stand q).place → ⊥
+    alone : (q : ℕ) → chain_of c q ≡ Chain.Take y → p ≢ q → IsTaking (s.stand q).place → ⊥
     alone q on ne u = elim (cases_lt q (passes (lists c))) [
       | inl l ↦ ne (facts.one_taking p q within l (chain ∙ sym on) (subst (λ (z : Place). IsTaking z) (sym here) tt) (subst (λ (z : Stand). IsTaking z.place) (sym (hold_other s.stand p q now ne)) u))
       | inr l ↦ idle_takes (s.stand q).place (outside q l) u
@@ -116,11 +108,11 @@ module _ (c : Config) (s : State) (p begun own y : ℕ) (chain : chain_of c p �
       | inr ne ↦ λ u. subst (λ (e : Entry). IsNextTake s.history x e) (sym (group_away d.d_call y read.0 x ne)) (k.serving.next_take x (subst (λ (z : Stand). IsTaking z.place) (stand_away x ne) u))
     ]
 
-    only : (x q : ℕ) → chain_of c q ≡ Take x → q ≢ with_group d.d_pass y p x → IsTaking (t.stand q).place → ⊥
-    only x = hold_all (λ (q : ℕ) (z : Stand). chain_of c q ≡ Take x → q ≢ with_group d.d_pass y p x → IsTaking z.place → ⊥) s.stand p now
+    only : (x q : ℕ) → chain_of c q ≡ Chain.Take x → q ≢ with_group d.d_pass y p x → IsTaking (t.stand q).place → ⊥
+    only x = hold_all (λ (q : ℕ) (z : Stand). chain_of c q ≡ Chain.Take x → q ≢ with_group d.d_pass y p x → IsTaking z.place → ⊥) s.stand p now
         (λ e ne u. ne (sym mine ∙ ap (with_group d.d_pass y p) (ap group_of (sym chain ∙ e))))
         (λ q off e. elim (cases_eq x y) [
-          | inl same ↦ λ ne u. alone q (e ∙ ap Take same) off u
+          | inl same ↦ λ ne u. alone q (e ∙ ap Chain.Take same) off u
           | inr other ↦ λ ne u. k.serving.d_only x q e (λ z. ne (z ∙ sym (group_away d.d_pass y p x other))) u
         ])
 
@@ -132,7 +124,7 @@ module _ (c : Config) (s : State) (p begun own y : ℕ) (chain : chain_of c p �
         list = subst (λ (v : Queue). Held c.capacity c.life (further c) v k.told) (sym same_queue) (record { inv = enters; counted = k.list.counted });
         serving = record {
           e_only = hold_all (λ (q : ℕ) (z : Stand). q ≢ d.e_pass → IsServing z.place → ⊥) s.stand p now (λ ne u. u) (λ q ne n u. k.serving.e_only q n u);
-          d_mine = group_all (λ (x : ℕ) (q : ℕ). chain_of c q ≡ Take x) d.d_pass y p chain (λ x ne. k.serving.d_mine x);
+          d_mine = group_all (λ (x : ℕ) (q : ℕ). chain_of c q ≡ Chain.Take x) d.d_pass y p chain (λ x ne. k.serving.d_mine x);
           d_only = only;
           caller = k.serving.caller;
           reads = hold_all (λ (q : ℕ) (z : Stand). q ≡ d.e_pass → ReadsAt c d.e_call d.from z.place) s.stand p now (λ e. tt)

@@ -6,29 +6,13 @@ use Rattle.std.specs.List.{slice_get}
 use Rattle.cc_model.specs.Config.{config_fault}
 use Rattle.cc_model.specs.Items.{accepted, handed_to_all}
 use Rattle.cc_model.specs.Legal.{Legal}
-use Rattle.cc_model.specs.declared.config.Config.{Config}
-use Rattle.cc_model.specs.declared.call.Entry.{Entry}
+use Rattle.cc_runs.specs.Names.{Config, Entry, Setting, ItemField, Word, Job, Parcel, Place, Sending, Taking, Chain, Object, Move}
 use Rattle.cc_model.proofs.InOrder.{fifo}
-use Rattle.cc_runs.specs.declared.setting.Setting.{Setting}
-use Rattle.cc_runs.specs.declared.word.ItemField.TheVariants as item
-use Rattle.cc_runs.specs.declared.word.Word.{Word}
-use Rattle.cc_runs.specs.declared.word.Word.TheVariants.{Object, Item}
-use Rattle.cc_runs.specs.declared.place.Job.{Job}
-use Rattle.cc_runs.specs.declared.place.Parcel.{Parcel}
-use Rattle.cc_runs.specs.declared.place.Place.{Place}
-use Rattle.cc_runs.specs.declared.place.Place.TheVariants as place
-use Rattle.cc_runs.specs.declared.place.Sending.{Sending}
-use Rattle.cc_runs.specs.declared.place.Sending.TheVariants as sending
-use Rattle.cc_runs.specs.declared.place.Taking.{Taking}
-use Rattle.cc_runs.specs.declared.place.Taking.TheVariants as taking
 use Rattle.cc_runs.specs.Words.{groups}
 use Rattle.cc_runs.specs.State.{State, chain_of, pass_at}
 use Rattle.cc_runs.specs.Lines.{group_of}
-use Rattle.cc_runs.specs.declared.word.Chain.{Chain}
-use Rattle.cc_runs.specs.declared.word.Chain.TheVariants.{Take}
-use Rattle.cc_runs.specs.declared.word.Object.TheVariants as object
 use Rattle.cc_runs.proofs.ListRuns.Posts.{IsTakes, Well, of_side, group_in}
-use Rattle.cc_runs.specs.Run.{Move, passes, reached, history_of, IsRun, IsIdle}
+use Rattle.cc_runs.specs.Run.{passes, reached, history_of, IsRun, IsIdle}
 use Rattle.cc_runs.specs.MachineLaws.{HistoryIsLegal, HistoryIsFifo, is_busy, busy_below, IsPreparing, Prepares, BusyNodesAreItems, PreparedNodeIsBusy, linked_nodes, Resets, ResetAfterTheTake, Holds, HoldsAt, PreparedAlone, NamesNode, FindsNode, LinksNameNodes, scan_reads, ScansAreShort}
 use Rattle.cc_runs.proofs.Ranges.{in_range}
 use Rattle.cc_runs.proofs.LinkedList.Queue.{Told}
@@ -56,16 +40,16 @@ history_is_fifo c moves serves checked run = fifo c.config (history_of c moves) 
 
 -- ---- busy nodes
 
-one_busy : (c : Config) (mem : Word → ℕ) (i : ℕ) → 0 < groups c → mem (Item i item.Passed) ≤ further c + 1 → is_busy c mem i ≡ below (mem (Item i item.Passed)) (further c + 1)
-one_busy c mem i some most = by_case (mem (Item i item.Passed) == groups c) refl
+one_busy : (c : Config) (mem : Word → ℕ) (i : ℕ) → 0 < groups c → mem (Word.Item i ItemField.Passed) ≤ further c + 1 → is_busy c mem i ≡ below (mem (Word.Item i ItemField.Passed)) (further c + 1)
+one_busy c mem i some most = by_case (mem (Word.Item i ItemField.Passed) == groups c) refl
   where
-    by_case : (b : Bool) → (mem (Item i item.Passed) == groups c) ≡ b → (if b then 0 else 1) ≡ below (mem (Item i item.Passed)) (further c + 1)
-    by_case true e = sym (below_no (mem (Item i item.Passed)) (further c + 1) (omega (arith, some, eqb-true (mem (Item i item.Passed)) (groups c) e)))
-    by_case false e = sym (below_yes (mem (Item i item.Passed)) (further c + 1) (omega (arith, some, eqb-false (mem (Item i item.Passed)) (groups c) e, most)))
+    by_case : (b : Bool) → (mem (Word.Item i ItemField.Passed) == groups c) ≡ b → (if b then 0 else 1) ≡ below (mem (Word.Item i ItemField.Passed)) (further c + 1)
+    by_case true e = sym (below_no (mem (Word.Item i ItemField.Passed)) (further c + 1) (omega (arith, some, eqb-true (mem (Word.Item i ItemField.Passed)) (groups c) e)))
+    by_case false e = sym (below_yes (mem (Word.Item i ItemField.Passed)) (further c + 1) (omega (arith, some, eqb-false (mem (Word.Item i ItemField.Passed)) (groups c) e, most)))
 
-all_busy : (c : Config) (mem : Word → ℕ) (n : ℕ) → 0 < groups c → ((i : ℕ) → i < n → mem (Item i item.Passed) ≤ further c + 1) → busy_below c mem n ≡ total n (λ (i : ℕ). below (mem (Item i item.Passed)) (further c + 1))
-all_busy c mem zero some most = sym (total_zero (λ (i : ℕ). below (mem (Item i item.Passed)) (further c + 1)))
-all_busy c mem (suc n) some most = omega (arith, one_busy c mem n some (most n (omega arith)), all_busy c mem n some (λ i l. most i (omega (arith, l))), total_suc n (λ (i : ℕ). below (mem (Item i item.Passed)) (further c + 1)))
+all_busy : (c : Config) (mem : Word → ℕ) (n : ℕ) → 0 < groups c → ((i : ℕ) → i < n → mem (Word.Item i ItemField.Passed) ≤ further c + 1) → busy_below c mem n ≡ total n (λ (i : ℕ). below (mem (Word.Item i ItemField.Passed)) (further c + 1))
+all_busy c mem zero some most = sym (total_zero (λ (i : ℕ). below (mem (Word.Item i ItemField.Passed)) (further c + 1)))
+all_busy c mem (suc n) some most = omega (arith, one_busy c mem n some (most n (omega arith)), all_busy c mem n some (λ i l. most i (omega (arith, l))), total_suc n (λ (i : ℕ). below (mem (Word.Item i ItemField.Passed)) (further c + 1)))
 
 -- a node in preparation, by the step of the service
 record Preparing (e : Entry) (from : ℕ) (service : Sending) (x : ℕ) : Type 0 where
@@ -75,23 +59,23 @@ record Preparing (e : Entry) (from : ℕ) (service : Sending) (x : ℕ) : Type 0
   found_is : (enq_in e from service).found ≡ x
 
 preparing_is : (e : Entry) (from : ℕ) (service : Sending) (x : ℕ) → IsPreparing service x → Preparing e from service x
-preparing_is e from (sending.ResetItemNext parcel at) x h = record { begun = tt; low = omega arith; high = omega arith; found_is = h }
-preparing_is e from (sending.WriteItemTag parcel at) x h = record { begun = tt; low = omega arith; high = omega arith; found_is = h }
-preparing_is e from (sending.WriteItemBody parcel at i) x h = record { begun = tt; low = omega arith; high = omega arith; found_is = h }
-preparing_is e from (sending.ReadLast count at) x h = record { begun = tt; low = omega arith; high = omega arith; found_is = h }
-preparing_is e from (sending.LinkItem count at last) x h = record { begun = tt; low = omega arith; high = omega arith; found_is = h }
+preparing_is e from (Sending.ResetItemNext parcel at) x h = record { begun = tt; low = omega arith; high = omega arith; found_is = h }
+preparing_is e from (Sending.WriteItemTag parcel at) x h = record { begun = tt; low = omega arith; high = omega arith; found_is = h }
+preparing_is e from (Sending.WriteItemBody parcel at i) x h = record { begun = tt; low = omega arith; high = omega arith; found_is = h }
+preparing_is e from (Sending.ReadLast count at) x h = record { begun = tt; low = omega arith; high = omega arith; found_is = h }
+preparing_is e from (Sending.LinkItem count at last) x h = record { begun = tt; low = omega arith; high = omega arith; found_is = h }
 preparing_is e from _ x h = absurd h
 
 preparing_in : (e : Entry) (from : ℕ) (service : Sending) → 7 ≤ (enq_in e from service).stage → (enq_in e from service).stage ≤ 10 → IsPreparing service (enq_in e from service).found
-preparing_in e from (sending.ResetItemNext parcel at) low high = refl
-preparing_in e from (sending.WriteItemTag parcel at) low high = refl
-preparing_in e from (sending.WriteItemBody parcel at i) low high = refl
-preparing_in e from (sending.ReadLast count at) low high = refl
-preparing_in e from (sending.LinkItem count at last) low high = refl
+preparing_in e from (Sending.ResetItemNext parcel at) low high = refl
+preparing_in e from (Sending.WriteItemTag parcel at) low high = refl
+preparing_in e from (Sending.WriteItemBody parcel at i) low high = refl
+preparing_in e from (Sending.ReadLast count at) low high = refl
+preparing_in e from (Sending.LinkItem count at last) low high = refl
 preparing_in e from _ low high = absurd (omega (arith, low, high))
 
 preparing_at : (e : Entry) (from : ℕ) (at : Place) → 7 ≤ (enq_at e from at).stage → (enq_at e from at).stage ≤ 10 → Prepares at (enq_at e from at).found
-preparing_at e from (place.Sending job service) low high = preparing_in e from service low high
+preparing_at e from (Place.Sending job service) low high = preparing_in e from service low high
 preparing_at e from _ low high = absurd (omega (arith, low))
 
 module _ (c : Config) (moves : List Move) (a : AfterRun c moves) where
@@ -110,7 +94,7 @@ module _ (c : Config) (moves : List Move) (a : AfterRun c moves) where
   handed_least : handed_to_all s.history ≡ g.least
   handed_least = sym (parts_least c s k)
 
-  passed_most : (x : ℕ) → x < c.capacity + 1 → s.mem (Item x item.Passed) ≤ further c + 1
+  passed_most : (x : ℕ) → x < c.capacity + 1 → s.mem (Word.Item x ItemField.Passed) ≤ further c + 1
   passed_most x l = busy.passed_most c.capacity c.life (further c + 1) (queue_of s k.duty) g i x (omega (arith, l))
 
   busy_items : ((p x : ℕ) → Prepares (s.stand p).place x → ⊥) → busy_below c s.mem (c.capacity + 1) + handed_to_all s.history ≡ length (accepted s.history) + 1
@@ -119,7 +103,7 @@ module _ (c : Config) (moves : List Move) (a : AfterRun c moves) where
       omega (arith, all_busy c s.mem (c.capacity + 1) k.ties.some passed_most, busy.busy_nodes_are c.capacity c.life (further c + 1) (queue_of s k.duty) g i, busy.busy_count c.capacity c.life (further c + 1) (queue_of s k.duty) g i rest, handed_least, k.ties.accepted_is)
 
   -- while a node is in preparation
-  module _ (p : ℕ) (job : Job) (service : Sending) (x : ℕ) (stands : (s.stand p).place ≡ place.Sending job service) (prepares : IsPreparing service x) where
+  module _ (p : ℕ) (job : Job) (service : Sending) (x : ℕ) (stands : (s.stand p).place ≡ Place.Sending job service) (prepares : IsPreparing service x) where
     here : Preparing k.duty.e_call k.duty.from service x
     here = preparing_is k.duty.e_call k.duty.from service x prepares
 
@@ -135,20 +119,20 @@ module _ (c : Config) (moves : List Move) (a : AfterRun c moves) where
         omega (arith, all_busy c s.mem (c.capacity + 1) k.ties.some passed_most, busy.busy_nodes_are c.capacity c.life (further c + 1) (send_queue c s p job service stands here.begun k) g v, busy.busy_count_prep c.capacity c.life (further c + 1) (send_queue c s p job service stands here.begun k) g v here.low here.high, handed_least, k.ties.accepted_is)
 
   prepared_at : (at : Place) (p x : ℕ) → (s.stand p).place ≡ at → Prepares at x → (x ≤ c.capacity) × (g.role x ≡ 1)
-  prepared_at (place.Sending job service) p x stands h = prepared p job service x stands h
+  prepared_at (Place.Sending job service) p x stands h = prepared p job service x stands h
   prepared_at _ p x stands h = absurd h
 
   busy_at : (at : Place) (p x : ℕ) → (s.stand p).place ≡ at → Prepares at x → busy_below c s.mem (c.capacity + 1) + handed_to_all s.history ≡ length (accepted s.history) + 2
-  busy_at (place.Sending job service) p x stands h = busy_prepared p job service x stands h
+  busy_at (Place.Sending job service) p x stands h = busy_prepared p job service x stands h
   busy_at _ p x stands h = absurd h
 
   -- ---- reuse
 
-  module _ (p : ℕ) (job : Job) (parcel : Parcel) (x : ℕ) (stands : (s.stand p).place ≡ place.Sending job (sending.ResetPassed parcel x)) where
-    j : LInv c.capacity c.life (further c + 1) (send_queue c s p job (sending.ResetPassed parcel x) stands tt k) g
-    j = send_holds c s p job (sending.ResetPassed parcel x) stands tt k
+  module _ (p : ℕ) (job : Job) (parcel : Parcel) (x : ℕ) (stands : (s.stand p).place ≡ Place.Sending job (Sending.ResetPassed parcel x)) where
+    j : LInv c.capacity c.life (further c + 1) (send_queue c s p job (Sending.ResetPassed parcel x) stands tt k) g
+    j = send_holds c s p job (Sending.ResetPassed parcel x) stands tt k
 
-    free : s.mem (Item x item.Passed) ≡ further c + 1
+    free : s.mem (Word.Item x ItemField.Passed) ≡ further c + 1
     free = j.found.found_free refl
 
     reset_past : (n : ℕ) → slice_get (linked_nodes (lists c) moves) n ≡ Some x → n < handed_to_all s.history
@@ -164,9 +148,9 @@ module _ (c : Config) (moves : List Move) (a : AfterRun c moves) where
         live n high low same = grind (arith, same, free, j.live.live_in n, j.live.live_role n, j.live.live_pos n, j.nodes.passed_is x, j.hands.by_some n)
 
   -- a node in preparation has left the list
-  prepared_past : (job : Job) (p x n : ℕ) (parcel : Parcel) → (s.stand p).place ≡ place.Sending job (sending.ResetItemNext parcel x) → slice_get (linked_nodes (lists c) moves) n ≡ Some x → n < handed_to_all s.history
+  prepared_past : (job : Job) (p x n : ℕ) (parcel : Parcel) → (s.stand p).place ≡ Place.Sending job (Sending.ResetItemNext parcel x) → slice_get (linked_nodes (lists c) moves) n ≡ Some x → n < handed_to_all s.history
   prepared_past job p x n parcel stands is =
-      let role : g.role x ≡ 1 = (prepared p job (sending.ResetItemNext parcel x) x stands refl).1 in
+      let role : g.role x ≡ 1 = (prepared p job (Sending.ResetItemNext parcel x) x stands refl).1 in
       let within : n ≤ g.accepted = omega (arith, slice_get_within (linked_nodes (lists c) moves) n x is, a.linked.many) in
       let same : g.node n ≡ x = cc (a.linked.each n within, is) in
       elim (cases_lt n g.least) [
@@ -175,10 +159,10 @@ module _ (c : Config) (moves : List Move) (a : AfterRun c moves) where
       ]
 
   resets : (at : Place) (p x n : ℕ) → (s.stand p).place ≡ at → slice_get (linked_nodes (lists c) moves) n ≡ Some x → Resets at x → n < handed_to_all s.history
-  resets (place.Sending job (sending.ResetPassed parcel at)) p x n stands is same = reset_past p job parcel x (stands ∙ ap (λ (y : ℕ). place.Sending job (sending.ResetPassed parcel y)) same) n is
-  resets (place.Sending job (sending.ResetItemNext parcel at)) p x n stands is same =
-      prepared_past job p x n parcel (stands ∙ ap (λ (y : ℕ). place.Sending job (sending.ResetItemNext parcel y)) same) is
-  resets (place.Sending job _) p x n stands is same = absurd same
+  resets (Place.Sending job (Sending.ResetPassed parcel at)) p x n stands is same = reset_past p job parcel x (stands ∙ ap (λ (y : ℕ). Place.Sending job (Sending.ResetPassed parcel y)) same) n is
+  resets (Place.Sending job (Sending.ResetItemNext parcel at)) p x n stands is same =
+      prepared_past job p x n parcel (stands ∙ ap (λ (y : ℕ). Place.Sending job (Sending.ResetItemNext parcel y)) same) is
+  resets (Place.Sending job _) p x n stands is same = absurd same
   resets _ p x n stands is same = absurd same
 
   -- ---- what a take holds isn't in preparation
@@ -186,22 +170,22 @@ module _ (c : Config) (moves : List Move) (a : AfterRun c moves) where
   -- the group of a pass that takes
   pub record Taker (p : ℕ) : Type 0 where
     pub group : ℕ
-    pub chain : chain_of c p ≡ Take group
+    pub chain : chain_of c p ≡ Chain.Take group
     pub inside : group < groups c
 
-  not_idle : (p : ℕ) (job : Job) (service : Taking) → (s.stand p).place ≡ place.Taking job service → p < passes (lists c)
+  not_idle : (p : ℕ) (job : Job) (service : Taking) → (s.stand p).place ≡ Place.Taking job service → p < passes (lists c)
   not_idle p job service stands = elim (cases_lt p (passes (lists c))) [
     | inl l ↦ l
     | inr l ↦ absurd (subst (λ (z : Place). IsIdle z) stands (a.whole.posts.outside p l))
   ]
 
-  pub taker : (p : ℕ) (job : Job) (service : Taking) → (s.stand p).place ≡ place.Taking job service → Taker p
+  pub taker : (p : ℕ) (job : Job) (service : Taking) → (s.stand p).place ≡ Place.Taking job service → Taker p
   taker p job service stands = elim (of_side c p) [
     | inl of ↦ absurd (subst (λ (x : Chain). IsTakes x) of.chain_is (subst (λ (z : Place). Well s.history (chain_of c p) (pass_at c p) (s.stand p).begun z) stands (a.whole.posts.well p)))
     | inr of ↦ record { group = (p - c.senders) / c.receivers; chain = of.chain_is; inside = group_in c p (not_idle p job service stands) of }
   ]
 
-  module _ (p : ℕ) (job : Job) (service : Taking) (stands : (s.stand p).place ≡ place.Taking job service) where
+  module _ (p : ℕ) (job : Job) (service : Taking) (stands : (s.stand p).place ≡ Place.Taking job service) where
     abbrev y : ℕ
     y = (taker p job service stands).group
 
@@ -229,31 +213,31 @@ module _ (c : Config) (moves : List Move) (a : AfterRun c moves) where
           | inr less ↦ absurd (omega (arith, is, within, same', i.takes.after_mark y group_below low' (omega (arith, less, i.hands.order y group_below))))
         ]
 
-    head_in : service ≡ taking.ReadHead → NamesNode c (s.mem (Object (object.Head (group_of (chain_of c p)))))
+    head_in : service ≡ Taking.ReadHead → NamesNode c (s.mem (Word.Object (Object.Head (group_of (chain_of c p)))))
     head_in e =
-        let l : (0 < s.mem (Object (object.Head y))) × (s.mem (Object (object.Head y)) ≤ c.capacity + 1) = limits.head_link c.capacity c.life (further c + 1) (queue_of s k.duty) g i y group_below (stage ∙ ap (λ (z : Taking). (regs_in z).stage) e) in
-        subst (λ (z : Chain). NamesNode c (s.mem (Object (object.Head (group_of z))))) (sym (taker p job service stands).chain) (omega (arith, l.0), l.1)
+        let l : (0 < s.mem (Word.Object (Object.Head y))) × (s.mem (Word.Object (Object.Head y)) ≤ c.capacity + 1) = limits.head_link c.capacity c.life (further c + 1) (queue_of s k.duty) g i y group_below (stage ∙ ap (λ (z : Taking). (regs_in z).stage) e) in
+        subst (λ (z : Chain). NamesNode c (s.mem (Word.Object (Object.Head (group_of z))))) (sym (taker p job service stands).chain) (omega (arith, l.0), l.1)
 
-    next_in : (dummy taken : ℕ) → service ≡ taking.ReadDummyNext dummy taken → s.mem (Item dummy item.Next) ≤ c.capacity + 2
+    next_in : (dummy taken : ℕ) → service ≡ Taking.ReadDummyNext dummy taken → s.mem (Word.Item dummy ItemField.Next) ≤ c.capacity + 2
     next_in dummy taken e =
         let same : (regs_of s.stand k.duty y).dummy ≡ dummy = ap (λ (z : Regs). z.dummy) (regs ∙ ap regs_in e) in
-        subst (λ (z : ℕ). s.mem (Item z item.Next) ≤ c.capacity + 2) same (limits.next_link c.capacity c.life (further c + 1) (queue_of s k.duty) g i y group_below (stage ∙ ap (λ (z : Taking). (regs_in z).stage) e))
+        subst (λ (z : ℕ). s.mem (Word.Item z ItemField.Next) ≤ c.capacity + 2) same (limits.next_link c.capacity c.life (further c + 1) (queue_of s k.duty) g i y group_below (stage ∙ ap (λ (z : Taking). (regs_in z).stage) e))
 
-  held_linked : (service : Taking) (p : ℕ) (job : Job) (x : ℕ) → (s.stand p).place ≡ place.Taking job service → x ≤ c.capacity → Holds service x → g.role x ≡ 2
-  held_linked taking.ReadHead p job x stands within h = absurd h
-  held_linked (taking.ReadTaken dummy) p job x stands within h = ap g.role (sym h) ∙ dummy_linked p job (taking.ReadTaken dummy) stands (omega arith)
-  held_linked (taking.ReadDummyNext dummy taken) p job x stands within h = ap g.role (sym h) ∙ dummy_linked p job (taking.ReadDummyNext dummy taken) stands (omega arith)
-  held_linked (taking.ReadItemTag dummy taken at) p job x stands within (inl h) = ap g.role (sym h) ∙ dummy_linked p job (taking.ReadItemTag dummy taken at) stands (omega arith)
-  held_linked (taking.ReadItemTag dummy taken at) p job x stands within (inr h) = after_linked p job (taking.ReadItemTag dummy taken at) stands x (omega arith) (omega arith) (omega (arith, h)) within
-  held_linked (taking.ReadItemBody dummy at parcel i) p job x stands within (inl h) = ap g.role (sym h) ∙ dummy_linked p job (taking.ReadItemBody dummy at parcel i) stands (omega arith)
-  held_linked (taking.ReadItemBody dummy at parcel i) p job x stands within (inr h) = after_linked p job (taking.ReadItemBody dummy at parcel i) stands x (omega arith) (omega arith) (omega (arith, h)) within
-  held_linked (taking.WriteHead dummy at parcel) p job x stands within (inl h) = ap g.role (sym h) ∙ dummy_linked p job (taking.WriteHead dummy at parcel) stands (omega arith)
-  held_linked (taking.WriteHead dummy at parcel) p job x stands within (inr h) = after_linked p job (taking.WriteHead dummy at parcel) stands x (omega arith) (omega arith) (omega (arith, h)) within
-  held_linked (taking.WriteTaken dummy parcel) p job x stands within h = ap g.role (sym h) ∙ dummy_linked p job (taking.WriteTaken dummy parcel) stands (omega arith)
-  held_linked (taking.AddPassed dummy parcel) p job x stands within h = ap g.role (sym h) ∙ dummy_linked p job (taking.AddPassed dummy parcel) stands (omega arith)
+  held_linked : (service : Taking) (p : ℕ) (job : Job) (x : ℕ) → (s.stand p).place ≡ Place.Taking job service → x ≤ c.capacity → Holds service x → g.role x ≡ 2
+  held_linked Taking.ReadHead p job x stands within h = absurd h
+  held_linked (Taking.ReadTaken dummy) p job x stands within h = ap g.role (sym h) ∙ dummy_linked p job (Taking.ReadTaken dummy) stands (omega arith)
+  held_linked (Taking.ReadDummyNext dummy taken) p job x stands within h = ap g.role (sym h) ∙ dummy_linked p job (Taking.ReadDummyNext dummy taken) stands (omega arith)
+  held_linked (Taking.ReadItemTag dummy taken at) p job x stands within (inl h) = ap g.role (sym h) ∙ dummy_linked p job (Taking.ReadItemTag dummy taken at) stands (omega arith)
+  held_linked (Taking.ReadItemTag dummy taken at) p job x stands within (inr h) = after_linked p job (Taking.ReadItemTag dummy taken at) stands x (omega arith) (omega arith) (omega (arith, h)) within
+  held_linked (Taking.ReadItemBody dummy at parcel i) p job x stands within (inl h) = ap g.role (sym h) ∙ dummy_linked p job (Taking.ReadItemBody dummy at parcel i) stands (omega arith)
+  held_linked (Taking.ReadItemBody dummy at parcel i) p job x stands within (inr h) = after_linked p job (Taking.ReadItemBody dummy at parcel i) stands x (omega arith) (omega arith) (omega (arith, h)) within
+  held_linked (Taking.WriteHead dummy at parcel) p job x stands within (inl h) = ap g.role (sym h) ∙ dummy_linked p job (Taking.WriteHead dummy at parcel) stands (omega arith)
+  held_linked (Taking.WriteHead dummy at parcel) p job x stands within (inr h) = after_linked p job (Taking.WriteHead dummy at parcel) stands x (omega arith) (omega arith) (omega (arith, h)) within
+  held_linked (Taking.WriteTaken dummy parcel) p job x stands within h = ap g.role (sym h) ∙ dummy_linked p job (Taking.WriteTaken dummy parcel) stands (omega arith)
+  held_linked (Taking.AddPassed dummy parcel) p job x stands within h = ap g.role (sym h) ∙ dummy_linked p job (Taking.AddPassed dummy parcel) stands (omega arith)
 
   held_at : (at : Place) (p x : ℕ) → (s.stand p).place ≡ at → x ≤ c.capacity → HoldsAt at x → g.role x ≡ 2
-  held_at (place.Taking job service) p x stands within h = held_linked service p job x stands within h
+  held_at (Place.Taking job service) p x stands within h = held_linked service p job x stands within h
   held_at _ p x stands within h = absurd h
 
   alone : (p q x : ℕ) → Prepares (s.stand p).place x → HoldsAt (s.stand q).place x → ⊥
@@ -265,32 +249,32 @@ module _ (c : Config) (moves : List Move) (a : AfterRun c moves) where
   -- ---- links and scans
 
   finds : (at : Place) (p : ℕ) → (s.stand p).place ≡ at → FindsNode c s (chain_of c p) at
-  finds (place.Sending job (sending.ReadLastToClose total)) p stands =
-      let l : (0 < s.mem _) × (s.mem _ ≤ c.capacity + 1) = limits.lastc_link c.capacity c.life (further c + 1) _ g (send_holds c s p job (sending.ReadLastToClose total) stands tt k) refl in (omega (arith, l.0), l.1)
-  finds (place.Sending job (sending.ReadLast count at)) p stands =
-      let l : (0 < s.mem _) × (s.mem _ ≤ c.capacity + 1) = limits.last_link c.capacity c.life (further c + 1) _ g (send_holds c s p job (sending.ReadLast count at) stands tt k) refl in
-      ((omega (arith, l.0), l.1), (send_holds c s p job (sending.ReadLast count at) stands tt k).found.found_in (omega arith) (omega arith))
-  finds (place.Sending job (sending.ReadCursor parcel)) p stands = (send_holds c s p job (sending.ReadCursor parcel) stands tt k).words.cursor_in
-  finds (place.Sending job (sending.ReadPassed parcel at reads)) p stands =
-      let scanned : Scanned c k.duty.from at reads = (send_reads c s p job (sending.ReadPassed parcel at reads) stands tt k).1 in scanned.within
-  finds (place.Sending job (sending.ResetPassed parcel at)) p stands = (send_holds c s p job (sending.ResetPassed parcel at) stands tt k).found.found_in (omega arith) (omega arith)
-  finds (place.Sending job (sending.ResetItemNext parcel at)) p stands = (send_holds c s p job (sending.ResetItemNext parcel at) stands tt k).found.found_in (omega arith) (omega arith)
-  finds (place.Sending job (sending.WriteItemTag parcel at)) p stands = (send_holds c s p job (sending.WriteItemTag parcel at) stands tt k).found.found_in (omega arith) (omega arith)
-  finds (place.Sending job (sending.WriteItemBody parcel at i)) p stands = (send_holds c s p job (sending.WriteItemBody parcel at i) stands tt k).found.found_in (omega arith) (omega arith)
-  finds (place.Sending job (sending.LinkItem count at last)) p stands = (send_holds c s p job (sending.LinkItem count at last) stands tt k).found.found_in (omega arith) (omega arith)
-  finds (place.Sending job (sending.WriteLast count at)) p stands = (send_holds c s p job (sending.WriteLast count at) stands tt k).found.found_in (omega arith) (omega arith)
-  finds (place.Sending job (sending.WriteCount count at)) p stands = (send_holds c s p job (sending.WriteCount count at) stands tt k).found.found_in (omega arith) (omega arith)
-  finds (place.Sending job (sending.WriteCursor count at)) p stands = (send_holds c s p job (sending.WriteCursor count at) stands tt k).found.found_in (omega arith) (omega arith)
-  finds (place.Taking job taking.ReadHead) p stands = head_in p job taking.ReadHead stands refl
-  finds (place.Taking job (taking.ReadDummyNext dummy taken)) p stands = next_in p job (taking.ReadDummyNext dummy taken) stands dummy taken refl
-  finds (place.Sending job _) p stands = tt
-  finds (place.Taking job _) p stands = tt
+  finds (Place.Sending job (Sending.ReadLastToClose total)) p stands =
+      let l : (0 < s.mem _) × (s.mem _ ≤ c.capacity + 1) = limits.lastc_link c.capacity c.life (further c + 1) _ g (send_holds c s p job (Sending.ReadLastToClose total) stands tt k) refl in (omega (arith, l.0), l.1)
+  finds (Place.Sending job (Sending.ReadLast count at)) p stands =
+      let l : (0 < s.mem _) × (s.mem _ ≤ c.capacity + 1) = limits.last_link c.capacity c.life (further c + 1) _ g (send_holds c s p job (Sending.ReadLast count at) stands tt k) refl in
+      ((omega (arith, l.0), l.1), (send_holds c s p job (Sending.ReadLast count at) stands tt k).found.found_in (omega arith) (omega arith))
+  finds (Place.Sending job (Sending.ReadCursor parcel)) p stands = (send_holds c s p job (Sending.ReadCursor parcel) stands tt k).words.cursor_in
+  finds (Place.Sending job (Sending.ReadPassed parcel at reads)) p stands =
+      let scanned : Scanned c k.duty.from at reads = (send_reads c s p job (Sending.ReadPassed parcel at reads) stands tt k).1 in scanned.within
+  finds (Place.Sending job (Sending.ResetPassed parcel at)) p stands = (send_holds c s p job (Sending.ResetPassed parcel at) stands tt k).found.found_in (omega arith) (omega arith)
+  finds (Place.Sending job (Sending.ResetItemNext parcel at)) p stands = (send_holds c s p job (Sending.ResetItemNext parcel at) stands tt k).found.found_in (omega arith) (omega arith)
+  finds (Place.Sending job (Sending.WriteItemTag parcel at)) p stands = (send_holds c s p job (Sending.WriteItemTag parcel at) stands tt k).found.found_in (omega arith) (omega arith)
+  finds (Place.Sending job (Sending.WriteItemBody parcel at i)) p stands = (send_holds c s p job (Sending.WriteItemBody parcel at i) stands tt k).found.found_in (omega arith) (omega arith)
+  finds (Place.Sending job (Sending.LinkItem count at last)) p stands = (send_holds c s p job (Sending.LinkItem count at last) stands tt k).found.found_in (omega arith) (omega arith)
+  finds (Place.Sending job (Sending.WriteLast count at)) p stands = (send_holds c s p job (Sending.WriteLast count at) stands tt k).found.found_in (omega arith) (omega arith)
+  finds (Place.Sending job (Sending.WriteCount count at)) p stands = (send_holds c s p job (Sending.WriteCount count at) stands tt k).found.found_in (omega arith) (omega arith)
+  finds (Place.Sending job (Sending.WriteCursor count at)) p stands = (send_holds c s p job (Sending.WriteCursor count at) stands tt k).found.found_in (omega arith) (omega arith)
+  finds (Place.Taking job Taking.ReadHead) p stands = head_in p job Taking.ReadHead stands refl
+  finds (Place.Taking job (Taking.ReadDummyNext dummy taken)) p stands = next_in p job (Taking.ReadDummyNext dummy taken) stands dummy taken refl
+  finds (Place.Sending job _) p stands = tt
+  finds (Place.Taking job _) p stands = tt
   finds _ p stands = tt
 
   scans : (at : Place) (p : ℕ) → (s.stand p).place ≡ at → scan_reads at ≤ c.capacity + 1
-  scans (place.Sending job (sending.ReadPassed parcel at reads)) p stands =
-      let scanned : Scanned c k.duty.from at reads = (send_reads c s p job (sending.ReadPassed parcel at reads) stands tt k).1 in scanned.most
-  scans (place.Sending job _) p stands = omega arith
+  scans (Place.Sending job (Sending.ReadPassed parcel at reads)) p stands =
+      let scanned : Scanned c k.duty.from at reads = (send_reads c s p job (Sending.ReadPassed parcel at reads) stands tt k).1 in scanned.most
+  scans (Place.Sending job _) p stands = omega arith
   scans _ p stands = omega arith
 
 -- ---- the laws

@@ -6,24 +6,8 @@ use Rattle.cc_model.specs.Items.{known_at, handed_to_all, entries}
 use Rattle.std.specs.List.{AllByRecursion}
 use Rattle.cc_model.specs.Config.{group_of}
 use Rattle.cc_model.specs.Legal.{IsSenders, IsReceivers, CountsFrom, send_number, send_numbers}
-use Rattle.cc_model.specs.declared.config.Config.{Config}
-use Rattle.cc_model.specs.declared.call.Pass.{Pass}
-use Rattle.cc_model.specs.declared.call.Pass.TheVariants.{Sender, Receiver}
-use Rattle.cc_model.specs.declared.call.Call.{Call}
-use Rattle.cc_model.specs.declared.call.Call.TheVariants as call
-use Rattle.cc_model.specs.declared.call.Entry.{Entry}
+use Rattle.cc_runs.specs.Names.{Config, Pass, Call, Entry, Served, Chain, Word, Job, Round, Place, Sending, Taking, Stand}
 use Rattle.cc_model.proofs.Grows.{all-append, counts_more, send_numbers-append}
-use Rattle.cc_runs.specs.declared.setting.Served.TheVariants as served
-use Rattle.cc_runs.specs.declared.word.Chain.{Chain}
-use Rattle.cc_runs.specs.declared.word.Chain.TheVariants.{Send, Take}
-use Rattle.cc_runs.specs.declared.word.Word.{Word}
-use Rattle.cc_runs.specs.declared.place.Job.{Job}
-use Rattle.cc_runs.specs.declared.place.Round.{Round}
-use Rattle.cc_runs.specs.declared.place.Place.{Place}
-use Rattle.cc_runs.specs.declared.place.Place.TheVariants as place
-use Rattle.cc_runs.specs.declared.place.Sending.{Sending}
-use Rattle.cc_runs.specs.declared.place.Taking.{Taking}
-use Rattle.cc_runs.specs.declared.place.Stand.{Stand}
 use Rattle.cc_runs.specs.Words.{groups}
 use Rattle.cc_runs.specs.State.{State, chain_of, pass_at, hold}
 use Rattle.cc_runs.specs.Lines.{goes, after_next, after_exchange}
@@ -43,57 +27,57 @@ record Kept (x : Chain) (at : Place) : Type 0 where
   well : (h : Record) (pass : Pass) (begun : ℕ) → Well h x pass begun at
   waits_none : waits at ≡ 0
 
-sends : (x : Chain) (job : Job) (service : Sending) → x ≡ Send → Kept x (place.Sending job service)
+sends : (x : Chain) (job : Job) (service : Sending) → x ≡ Chain.Send → Kept x (Place.Sending job service)
 sends x job service e = record { well = λ h pass begun. e; waits_none = refl }
 
-takes : (x : Chain) (job : Job) (service : Taking) → IsTakes x → Kept x (place.Taking job service)
+takes : (x : Chain) (job : Job) (service : Taking) → IsTakes x → Kept x (Place.Taking job service)
 takes x job service e = record { well = λ h pass begun. e; waits_none = refl }
 
-over : (x : Chain) (job : Job) (told : _) → Kept x (place.WriteAnswer job told)
+over : (x : Chain) (job : Job) (told : _) → Kept x (Place.WriteAnswer job told)
 over x job told = record { well = λ h pass begun. tt; waits_none = refl }
 
-send_kept : (c : Config) (x : Chain) (job : Job) (service : Sending) (found : ℕ) → x ≡ Send → Kept x (send_side.goes c job service found)
+send_kept : (c : Config) (x : Chain) (job : Job) (service : Sending) (found : ℕ) → x ≡ Chain.Send → Kept x (send_side.goes c job service found)
 send_kept c x job service found e = leads (Kept x) send_side.in_service job (λ s. sends x job s e) (over x job) (send_side.line c 0 service found).next
 
 take_kept : (x : Chain) (job : Job) (service : Taking) (found : ℕ) → IsTakes x → Kept x (take_side.goes job service found)
 take_kept x job service found e = leads (Kept x) take_side.in_service job (λ s. takes x job s e) (over x job) (take_side.line 0 service found).next
 
-next_kept : (x : Chain) (round : Round) (found : ℕ) → Kept x (after_next served.List x round found)
+next_kept : (x : Chain) (round : Round) (found : ℕ) → Kept x (after_next Served.List x round found)
 next_kept x round zero = record { well = λ h pass begun. tt; waits_none = refl }
-next_kept Send round (suc n) = sends Send _ _ refl
-next_kept (Take g) round (suc n) = takes (Take g) _ _ tt
+next_kept Chain.Send round (suc n) = sends Chain.Send _ _ refl
+next_kept (Chain.Take g) round (suc n) = takes (Chain.Take g) _ _ tt
 
 exchange_kept : (x : Chain) (own : ℕ) (e : Entry) → Kept x (after_exchange x own e)
-exchange_kept Send own e = record { well = λ h pass begun. tt; waits_none = refl }
-exchange_kept (Take g) own e = record { well = λ h pass begun. tt; waits_none = refl }
+exchange_kept Chain.Send own e = record { well = λ h pass begun. tt; waits_none = refl }
+exchange_kept (Chain.Take g) own e = record { well = λ h pass begun. tt; waits_none = refl }
 
 -- ---- where each step leads
 
 pub next_well : (c : Config) (x : Chain) (own : ℕ) (at : Place) (found : ℕ) (h later : Record) (pass : Pass) (begun : ℕ) → known_at pass h ≤ known_at pass later → Well h x pass begun at → Well later x pass begun (goes (lists c) x own at found)
-next_well c x own (place.ResetNext e) found h later pass begun up w = well_grows h later x pass begun (place.ResetState e) up w
-next_well c x own (place.ResetState e) found h later pass begun up w = well_grows h later x pass begun (place.Exchange e) up w
-next_well c x own (place.Exchange e) found h later pass begun up w = (exchange_kept x own e).well later pass begun
-next_well c x own (place.ReadNext round) found h later pass begun up w = (next_kept x round found).well later pass begun
-next_well c x own (place.Sending job service) found h later pass begun up w = (send_kept c x job service found w).well later pass begun
-next_well c x own (place.Taking job service) found h later pass begun up w = (take_kept x job service found w).well later pass begun
-next_well c x own (place.Counting job service) found h later pass begun up w = absurd w
-next_well c x own place.Idle found h later pass begun up w = tt
+next_well c x own (Place.ResetNext e) found h later pass begun up w = well_grows h later x pass begun (Place.ResetState e) up w
+next_well c x own (Place.ResetState e) found h later pass begun up w = well_grows h later x pass begun (Place.Exchange e) up w
+next_well c x own (Place.Exchange e) found h later pass begun up w = (exchange_kept x own e).well later pass begun
+next_well c x own (Place.ReadNext round) found h later pass begun up w = (next_kept x round found).well later pass begun
+next_well c x own (Place.Sending job service) found h later pass begun up w = (send_kept c x job service found w).well later pass begun
+next_well c x own (Place.Taking job service) found h later pass begun up w = (take_kept x job service found w).well later pass begun
+next_well c x own (Place.Counting job service) found h later pass begun up w = absurd w
+next_well c x own Place.Idle found h later pass begun up w = tt
 next_well c x own at found h later pass begun up w = (plain_goes c x own at found tt).well later x pass begun
 
 -- an exchange ends the wait
 abbrev pub waits_after : Place → ℕ
-waits_after (place.Exchange e) = 0
+waits_after (Place.Exchange e) = 0
 waits_after at = waits at
 
 pub next_waits : (c : Config) (x : Chain) (own : ℕ) (at : Place) (found : ℕ) (h : Record) (pass : Pass) (begun : ℕ) → Well h x pass begun at → waits (goes (lists c) x own at found) ≡ waits_after at
-next_waits c x own (place.ResetNext e) found h pass begun w = refl
-next_waits c x own (place.ResetState e) found h pass begun w = refl
-next_waits c x own (place.Exchange e) found h pass begun w = (exchange_kept x own e).waits_none
-next_waits c x own (place.ReadNext round) found h pass begun w = (next_kept x round found).waits_none
-next_waits c x own (place.Sending job service) found h pass begun w = (send_kept c x job service found w).waits_none
-next_waits c x own (place.Taking job service) found h pass begun w = (take_kept x job service found w).waits_none
-next_waits c x own (place.Counting job service) found h pass begun w = absurd w
-next_waits c x own place.Idle found h pass begun w = refl
+next_waits c x own (Place.ResetNext e) found h pass begun w = refl
+next_waits c x own (Place.ResetState e) found h pass begun w = refl
+next_waits c x own (Place.Exchange e) found h pass begun w = (exchange_kept x own e).waits_none
+next_waits c x own (Place.ReadNext round) found h pass begun w = (next_kept x round found).waits_none
+next_waits c x own (Place.Sending job service) found h pass begun w = (send_kept c x job service found w).waits_none
+next_waits c x own (Place.Taking job service) found h pass begun w = (take_kept x job service found w).waits_none
+next_waits c x own (Place.Counting job service) found h pass begun w = absurd w
+next_waits c x own Place.Idle found h pass begun w = refl
 next_waits c x own at found h pass begun w = (plain_goes c x own at found tt).waits_none
 
 -- ---- pass p goes on, in a history of which no less is known
@@ -129,46 +113,46 @@ calls_on c h later e d up_e up_d k = record {
 -- ---- one more call of a sender
 
 -- its numbers, by whose they are
-own_numbers : (s : ℕ) (k : Call) (number : ℕ) → length (send_number s (Sender s) k number) ≡ is_send k
-own_numbers s (call.Send body) number = ap (λ (b : Bool). length (if b then number ∷ [] else [])) (eq-eqb s s refl)
-own_numbers s call.Close number = refl
-own_numbers s call.Take number = refl
+own_numbers : (s : ℕ) (k : Call) (number : ℕ) → length (send_number s (Pass.Sender s) k number) ≡ is_send k
+own_numbers s (Call.Send body) number = ap (λ (b : Bool). length (if b then number ∷ [] else [])) (eq-eqb s s refl)
+own_numbers s Call.Close number = refl
+own_numbers s Call.Take number = refl
 
-other_numbers : (s q : ℕ) (k : Call) (number : ℕ) → s ≢ q → send_number q (Sender s) k number ≡ []
-other_numbers s q (call.Send body) number ne = by_case (s == q) refl
+other_numbers : (s q : ℕ) (k : Call) (number : ℕ) → s ≢ q → send_number q (Pass.Sender s) k number ≡ []
+other_numbers s q (Call.Send body) number ne = by_case (s == q) refl
   where
     by_case : (b : Bool) → (s == q) ≡ b → (if b then number ∷ [] else []) ≡ []
     by_case true e = absurd (ne (eqb-true s q e))
     by_case false e = refl
-other_numbers s q call.Close number ne = refl
-other_numbers s q call.Take number ne = refl
+other_numbers s q Call.Close number ne = refl
+other_numbers s q Call.Take number ne = refl
 
-counts_on : (s : ℕ) (k : Call) (number begun : ℕ) (xs : List ℕ) → CountsFrom 1 xs → HasNumber k number begun → length xs + is_send k ≡ begun → CountsFrom 1 (xs ++ send_number s (Sender s) k number)
-counts_on s (call.Send body) number begun xs all is long = by_case (s == s) (eq-eqb s s refl)
+counts_on : (s : ℕ) (k : Call) (number begun : ℕ) (xs : List ℕ) → CountsFrom 1 xs → HasNumber k number begun → length xs + is_send k ≡ begun → CountsFrom 1 (xs ++ send_number s (Pass.Sender s) k number)
+counts_on s (Call.Send body) number begun xs all is long = by_case (s == s) (eq-eqb s s refl)
   where
     by_case : (b : Bool) → b ≡ true → CountsFrom 1 (xs ++ (if b then number ∷ [] else []))
     by_case true e = counts_more 1 xs number all (omega (arith, is, long))
     by_case false e = cc
-counts_on s call.Close number begun xs all is long = rw append-nil all
-counts_on s call.Take number begun xs all is long = rw append-nil all
+counts_on s Call.Close number begun xs all is long = rw append-nil all
+counts_on s Call.Take number begun xs all is long = rw append-nil all
 
 small_number : (k : Call) (number begun : ℕ) → HasNumber k number begun → begun < 2 ^ 32 → number < 2 ^ 32
-small_number (call.Send body) number begun is l = omega (arith, is, l)
-small_number call.Close number begun is l = omega (arith, is)
-small_number call.Take number begun is l = omega (arith, is)
+small_number (Call.Send body) number begun is l = omega (arith, is, l)
+small_number Call.Close number begun is l = omega (arith, is)
+small_number Call.Take number begun is l = omega (arith, is)
 
-sender_makes : (c : Config) (s : ℕ) (k : Call) → 1 ≤ s → s ≤ c.senders → IsOn served.List Send k → IsSenders c (Sender s) k
-sender_makes c s (call.Send body) low high on = (low, high)
-sender_makes c s call.Close low high on = (low, high)
-sender_makes c s call.Take low high on = absurd on
+sender_makes : (c : Config) (s : ℕ) (k : Call) → 1 ≤ s → s ≤ c.senders → IsOn Served.List Chain.Send k → IsSenders c (Pass.Sender s) k
+sender_makes c s (Call.Send body) low high on = (low, high)
+sender_makes c s Call.Close low high on = (low, high)
+sender_makes c s Call.Take low high on = absurd on
 
-receiver_makes : (c : Config) (y r : ℕ) (k : Call) → 1 ≤ r → r ≤ groups c * c.receivers → group_of c r ≡ y → IsOn served.List (Take y) k → IsReceivers c y (Receiver r) k
-receiver_makes c y r call.Take low high is on = (low, high, is)
-receiver_makes c y r (call.Send body) low high is on = absurd on
-receiver_makes c y r call.Close low high is on = absurd on
+receiver_makes : (c : Config) (y r : ℕ) (k : Call) → 1 ≤ r → r ≤ groups c * c.receivers → group_of c r ≡ y → IsOn Served.List (Chain.Take y) k → IsReceivers c y (Pass.Receiver r) k
+receiver_makes c y r Call.Take low high is on = (low, high, is)
+receiver_makes c y r (Call.Send body) low high is on = absurd on
+receiver_makes c y r Call.Close low high is on = absurd on
 
 module _ (c : Config) (h later : Record) (p begun : ℕ) (e : Entry) (is : later.sends.calls ≡ h.sends.calls ++ e ∷ []) (same : (y : ℕ) → (of_group later y).calls ≡ (of_group h y).calls) (e_up : handed_to_all h ≤ handed_to_all later) (d_up : entries h ≤ entries later)
-    (within : p < c.senders) (b : Begun h Send (Sender (p + 1)) begun e) (most : begun ≤ c.per_sender) (fits : c.per_sender < 2 ^ 32) (sent : length (send_numbers (p + 1) h.sends.calls) + is_send e.call ≡ begun) (k : Calls c h) where
+    (within : p < c.senders) (b : Begun h Chain.Send (Pass.Sender (p + 1)) begun e) (most : begun ≤ c.per_sender) (fits : c.per_sender < 2 ^ 32) (sent : length (send_numbers (p + 1) h.sends.calls) + is_send e.call ≡ begun) (k : Calls c h) where
   abbrev numbers_now : ℕ → List ℕ
   numbers_now s = send_numbers s h.sends.calls ++ send_number s e.pass e.call e.number
 
@@ -204,7 +188,7 @@ module _ (c : Config) (h later : Record) (p begun : ℕ) (e : Entry) (is : later
 -- ---- one more take
 
 module _ (c : Config) (h later : Record) (y r begun : ℕ) (e : Entry) (same : later.sends.calls ≡ h.sends.calls) (is : (of_group later y).calls ≡ (of_group h y).calls ++ e ∷ []) (others : (x : ℕ) → x ≢ y → (of_group later x).calls ≡ (of_group h x).calls)
-    (e_up : handed_to_all h ≤ handed_to_all later) (d_up : entries h ≤ entries later) (low : 1 ≤ r) (high : r ≤ groups c * c.receivers) (of : group_of c r ≡ y) (b : Begun h (Take y) (Receiver r) begun e) (k : Calls c h) where
+    (e_up : handed_to_all h ≤ handed_to_all later) (d_up : entries h ≤ entries later) (low : 1 ≤ r) (high : r ≤ groups c * c.receivers) (of : group_of c r ≡ y) (b : Begun h (Chain.Take y) (Pass.Receiver r) begun e) (k : Calls c h) where
   known_more : (x : ℕ) → AllByRecursion (λ (z : Entry). z.known ≤ entries later) (of_group h x).calls
   known_more x = all_map (λ (z : Entry). z.known ≤ entries h) (λ (z : Entry). z.known ≤ entries later) (of_group h x).calls (λ z l. omega (arith, l, d_up)) (k.d_known x)
 

@@ -6,17 +6,7 @@ use Rattle.std.specs.List.{AllByRecursion, slice_get}
 use Rattle.cc_model.specs.Record.{Record, of_group}
 use Rattle.cc_model.specs.Items.{known_at, handed_to_all, entries}
 use Rattle.cc_model.specs.Legal.{IsSenders, IsReceivers, CountsFrom, send_numbers}
-use Rattle.cc_model.specs.declared.config.Config.{Config}
-use Rattle.cc_model.specs.declared.call.Pass.{Pass}
-use Rattle.cc_model.specs.declared.call.Pass.TheVariants.{Sender, Receiver}
-use Rattle.cc_model.specs.declared.call.Call.{Call}
-use Rattle.cc_model.specs.declared.call.Call.TheVariants as call
-use Rattle.cc_model.specs.declared.call.Entry.{Entry}
-use Rattle.cc_runs.specs.declared.setting.Served.TheVariants as served
-use Rattle.cc_runs.specs.declared.word.Chain.{Chain}
-use Rattle.cc_runs.specs.declared.word.Chain.TheVariants.{Send, Take}
-use Rattle.cc_runs.specs.declared.place.Place.{Place}
-use Rattle.cc_runs.specs.declared.place.Place.TheVariants as place
+use Rattle.cc_runs.specs.Names.{Config, Pass, Call, Entry, Served, Chain, Place}
 use Rattle.cc_runs.specs.State.{State, chain_of, pass_at}
 use Rattle.cc_runs.specs.Run.{passes, IsOn, IsIdle}
 use Rattle.cc_runs.specs.Words.{groups}
@@ -25,41 +15,41 @@ use Rattle.cc_runs.proofs.ListRuns.Facts.{lists}
 
 -- a send carries the number of sends that its pass began, another call carries 0
 abbrev pub HasNumber : Call → ℕ → ℕ → Type 0
-HasNumber (call.Send body) number begun = number ≡ begun
+HasNumber (Call.Send body) number begun = number ≡ begun
 HasNumber _ number begun = number ≡ 0
 
 -- a call that pass p of chain x has begun, and that hasn't exchanged
 pub record Begun (h : Record) (x : Chain) (pass : Pass) (begun : ℕ) (e : Entry) : Type 0 where
   pub pass_is : e.pass ≡ pass
-  pub on : IsOn served.List x e.call
+  pub on : IsOn Served.List x e.call
   pub number_is : HasNumber e.call e.number begun
   pub known_in : e.known ≤ known_at pass h
 
 -- a chain of receivers
 abbrev pub IsTakes : Chain → Type 0
-IsTakes Send = ⊥
-IsTakes (Take g) = Unit {0}
+IsTakes Chain.Send = ⊥
+IsTakes (Chain.Take g) = Unit {0}
 
 -- at each place
 abbrev pub Well : Record → Chain → Pass → ℕ → Place → Type 0
-Well h x pass begun (place.ResetNext e) = Begun h x pass begun e
-Well h x pass begun (place.ResetState e) = Begun h x pass begun e
-Well h x pass begun (place.Exchange e) = Begun h x pass begun e
-Well h x pass begun (place.Sending job service) = x ≡ Send
-Well h x pass begun (place.Taking job service) = IsTakes x
-Well h x pass begun (place.Counting job service) = ⊥
+Well h x pass begun (Place.ResetNext e) = Begun h x pass begun e
+Well h x pass begun (Place.ResetState e) = Begun h x pass begun e
+Well h x pass begun (Place.Exchange e) = Begun h x pass begun e
+Well h x pass begun (Place.Sending job service) = x ≡ Chain.Send
+Well h x pass begun (Place.Taking job service) = IsTakes x
+Well h x pass begun (Place.Counting job service) = ⊥
 Well h x pass begun _ = Unit {0}
 
 -- 1 for a send
 abbrev pub is_send : Call → ℕ
-is_send (call.Send body) = 1
+is_send (Call.Send body) = 1
 is_send _ = 0
 
 -- 1 where a send is begun and hasn't exchanged
 abbrev pub waits : Place → ℕ
-waits (place.ResetNext e) = is_send e.call
-waits (place.ResetState e) = is_send e.call
-waits (place.Exchange e) = is_send e.call
+waits (Place.ResetNext e) = is_send e.call
+waits (Place.ResetState e) = is_send e.call
+waits (Place.Exchange e) = is_send e.call
 waits _ = 0
 
 pub record Posts (c : Config) (s : State) : Type 0 where
@@ -79,32 +69,32 @@ pub record Calls (c : Config) (h : Record) : Type 0 where
 
 -- what each pass is
 pub record OfSend (c : Config) (p : ℕ) : Type 0 where
-  pub chain_is : chain_of c p ≡ Send
-  pub pass_is : pass_at c p ≡ Sender (p + 1)
+  pub chain_is : chain_of c p ≡ Chain.Send
+  pub pass_is : pass_at c p ≡ Pass.Sender (p + 1)
   pub within : p < c.senders
 
 pub record OfTake (c : Config) (p : ℕ) : Type 0 where
-  pub chain_is : chain_of c p ≡ Take ((p - c.senders) / c.receivers)
-  pub pass_is : pass_at c p ≡ Receiver (p - c.senders + 1)
+  pub chain_is : chain_of c p ≡ Chain.Take ((p - c.senders) / c.receivers)
+  pub pass_is : pass_at c p ≡ Pass.Receiver (p - c.senders + 1)
   pub low : c.senders ≤ p
 
 pub of_side : (c : Config) (p : ℕ) → OfSend c p ⊎ OfTake c p
 of_side c p = elim (cases_lt p c.senders) [
   | inl l ↦ let b : nat_lt p c.senders ≡ true = lt-ltb p c.senders l in inl (record {
-    chain_is = ap (λ (t : Bool). cond t Send (Take ((p - c.senders) / c.receivers))) b;
-    pass_is = ap (λ (t : Bool). cond t (Sender (p + 1)) (Receiver (p - c.senders + 1))) b;
+    chain_is = ap (λ (t : Bool). cond t Chain.Send (Chain.Take ((p - c.senders) / c.receivers))) b;
+    pass_is = ap (λ (t : Bool). cond t (Pass.Sender (p + 1)) (Pass.Receiver (p - c.senders + 1))) b;
     within = l;
   })
   | inr l ↦ let b : nat_lt p c.senders ≡ false = le-ltb p c.senders l in inr (record {
-    chain_is = ap (λ (t : Bool). cond t Send (Take ((p - c.senders) / c.receivers))) b;
-    pass_is = ap (λ (t : Bool). cond t (Sender (p + 1)) (Receiver (p - c.senders + 1))) b;
+    chain_is = ap (λ (t : Bool). cond t Chain.Send (Chain.Take ((p - c.senders) / c.receivers))) b;
+    pass_is = ap (λ (t : Bool). cond t (Pass.Sender (p + 1)) (Pass.Receiver (p - c.senders + 1))) b;
     low = l;
   })
 ]
 
 -- its group is one of the configuration's
 pub group_in : (c : Config) (p : ℕ) → p < passes (lists c) → OfTake c p → (p - c.senders) / c.receivers < groups c
-group_in c p less of = taken_chain served.List c p less of.low
+group_in c p less of = taken_chain Served.List c p less of.low
 
 pub all_get : {X : Type 0} (P : X → Type 0) (xs : List X) (k : ℕ) (x : X) → AllByRecursion P xs → slice_get xs k ≡ Some x → P x
 all_get P [] k x all is = cc
@@ -121,11 +111,11 @@ begun_grows : (h later : Record) (x : Chain) (pass : Pass) (begun : ℕ) (e : En
 begun_grows h later x pass begun e up b = record { pass_is = b.pass_is; on = b.on; number_is = b.number_is; known_in = omega (arith, b.known_in, up) }
 
 pub well_grows : (h later : Record) (x : Chain) (pass : Pass) (begun : ℕ) (at : Place) → known_at pass h ≤ known_at pass later → Well h x pass begun at → Well later x pass begun at
-well_grows h later x pass begun (place.ResetNext e) up w = begun_grows h later x pass begun e up w
-well_grows h later x pass begun (place.ResetState e) up w = begun_grows h later x pass begun e up w
-well_grows h later x pass begun (place.Exchange e) up w = begun_grows h later x pass begun e up w
+well_grows h later x pass begun (Place.ResetNext e) up w = begun_grows h later x pass begun e up w
+well_grows h later x pass begun (Place.ResetState e) up w = begun_grows h later x pass begun e up w
+well_grows h later x pass begun (Place.Exchange e) up w = begun_grows h later x pass begun e up w
 well_grows h later x pass begun _ up w = w
 
 pub known_grows : (h later : Record) (pass : Pass) → handed_to_all h ≤ handed_to_all later → entries h ≤ entries later → known_at pass h ≤ known_at pass later
-known_grows h later (Sender s) a b = a
-known_grows h later (Receiver r) a b = b
+known_grows h later (Pass.Sender s) a b = a
+known_grows h later (Pass.Receiver r) a b = b

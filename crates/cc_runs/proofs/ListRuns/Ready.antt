@@ -3,25 +3,10 @@ use Rattle.std.proofs.Common.{◌≡◌, ℕ, ◌^◌, ◌<◌, ◌≤◌, List,
 use Rattle.std.proofs.lemmas.Option.{slice_get-get_or}
 use Rattle.cc_model.specs.Config.{config_fault}
 use Rattle.cc_model.specs.Record.{Record}
-use Rattle.cc_model.specs.declared.config.Config.{Config}
-use Rattle.cc_model.specs.declared.call.Answer.{Answer}
-use Rattle.cc_model.specs.declared.call.Answer.TheVariants as answer
-use Rattle.cc_model.specs.declared.call.SendAnswer.TheVariants as send
-use Rattle.cc_model.specs.declared.call.CloseAnswer.TheVariants as close
-use Rattle.cc_model.specs.declared.call.TakeAnswer.TheVariants as take
-use Rattle.cc_runs.specs.declared.setting.Setting.{Setting}
-use Rattle.cc_runs.specs.declared.setting.Served.TheVariants as served
-use Rattle.cc_runs.specs.declared.word.Chain.{Chain}
-use Rattle.cc_runs.specs.declared.word.Chain.TheVariants.{Send}
-use Rattle.cc_runs.specs.declared.word.NodeField.TheVariants as node
-use Rattle.cc_runs.specs.declared.place.Job.{Job}
-use Rattle.cc_runs.specs.declared.place.Place.{Place}
-use Rattle.cc_runs.specs.declared.place.Place.TheVariants as place
-use Rattle.cc_runs.specs.declared.place.Sending.{Sending}
-use Rattle.cc_runs.specs.declared.place.Sending.TheVariants as sending
+use Rattle.cc_runs.specs.Names.{Config, Answer, SendAnswer, CloseAnswer, TakeAnswer, Setting, Served, Chain, NodeField, Job, Place, Sending, Move}
 use Rattle.cc_runs.specs.State.{State, chain_of, pass_at}
 use Rattle.cc_runs.specs.Safe.{IsSafe, IsReady}
-use Rattle.cc_runs.specs.Run.{Move, passes, reached, IsRun}
+use Rattle.cc_runs.specs.Run.{passes, reached, IsRun}
 use Rattle.cc_runs.specs.ChainLaws.{IsLastAnswer}
 use Rattle.cc_runs.specs.MachineLaws.{AnswerWithin, IsWithin, StepsAreReady, AnswersAreTold}
 use Rattle.cc_runs.proofs.Ranges.{InRange, in_range}
@@ -42,15 +27,15 @@ use Rattle.cc_runs.proofs.ListRuns.Laws.{taker}
 use Rattle.cc_runs.proofs.ListRuns.FromChains.{after_runs, chain_facts, of_setting}
 
 answer_fits : (most : ℕ) (a : Answer) → most < 2 ^ 56 → AnswerWithin most a → Fits a
-answer_fits most (answer.Send (send.Accepted at)) l w = omega (arith, l, w)
-answer_fits most (answer.Close (close.Shut total)) l w = omega (arith, l, w)
-answer_fits most (answer.Close (close.Already total)) l w = omega (arith, l, w)
-answer_fits most (answer.Take (take.Got item)) l w = (omega (arith, l, w.0), w.1)
-answer_fits most (answer.Take (take.Ended total)) l w = omega (arith, l, w)
-answer_fits most (answer.Take take.Empty) l w = tt
-answer_fits most (answer.Send send.Full) l w = tt
-answer_fits most (answer.Send send.Closed) l w = tt
-answer_fits most (answer.Send send.Spent) l w = tt
+answer_fits most (Answer.Send (SendAnswer.Accepted at)) l w = omega (arith, l, w)
+answer_fits most (Answer.Close (CloseAnswer.Shut total)) l w = omega (arith, l, w)
+answer_fits most (Answer.Close (CloseAnswer.Already total)) l w = omega (arith, l, w)
+answer_fits most (Answer.Take (TakeAnswer.Got item)) l w = (omega (arith, l, w.0), w.1)
+answer_fits most (Answer.Take (TakeAnswer.Ended total)) l w = omega (arith, l, w)
+answer_fits most (Answer.Take TakeAnswer.Empty) l w = tt
+answer_fits most (Answer.Send SendAnswer.Full) l w = tt
+answer_fits most (Answer.Send SendAnswer.Closed) l w = tt
+answer_fits most (Answer.Send SendAnswer.Spent) l w = tt
 
 -- every answer of a history fits its words
 pub answers_fit : (c : Config) → InRange c → (h : Record) → IsWithin c h → (x : Chain) (n : ℕ) → n < length (answers_on x h) → Fits (answer_at (answers_on x h) n)
@@ -69,32 +54,32 @@ module _ (c : Config) (fits : InRange c) (moves : List Move) (run : IsRun (lists
   x = chain_of c p
 
   -- the node that is served is one of the chain's
-  served_node : (job : Job) (service : Sending) → (s.stand p).place ≡ place.Sending job service → job.round.at ≤ members (lists c) x
+  served_node : (job : Job) (service : Sending) → (s.stand p).place ≡ Place.Sending job service → job.round.at ≤ members (lists c) x
   served_node job service stands =
       let k : Chains (lists c) s = chains_hold (lists c) (omega (arith, fits.bound)) moves run in
       let ok : IsChain (lists c) x = chain_is (lists c) p less in
       let on : IsOn (lists c) x p = on_chain (lists c) p less in
-      let here : s.stand (pass_on (lists c) x on.number) ≡ record { begun = (s.stand p).begun; node = (s.stand p).node; place = place.Sending job service } =
+      let here : s.stand (pass_on (lists c) x on.number) ≡ record { begun = (s.stand p).begun; node = (s.stand p).node; place = Place.Sending job service } =
       ap s.stand (sym on.pass_is) ∙ ap (λ (z : Place). record { begun = (s.stand p).begun; node = (s.stand p).node; place = z }) stands in
-      safe.target_in (lists c) x ok fits s on.number (s.stand p).node (s.stand p).begun on.inside (k.holds x ok) (place.Sending job service) here refl
+      safe.target_in (lists c) x ok fits s on.number (s.stand p).node (s.stand p).begun on.inside (k.holds x ok) (Place.Sending job service) here refl
 
   well_at : (at : Place) → (s.stand p).place ≡ at → Well s.history x (pass_at c p) (s.stand p).begun at
   well_at at stands = subst (λ (z : Place). Well s.history x (pass_at c p) (s.stand p).begun z) stands (a.whole.posts.well p)
 
   service_safe : (at : Place) → (s.stand p).place ≡ at → IsService at → IsSafe (lists c) s x (s.stand p).node at
-  service_safe (place.Sending job sending.ReadTag) stands u =
-      subst (λ (y : Chain). IsSafe (lists c) s y (s.stand p).node (place.Sending job sending.ReadTag)) (sym (well_at (place.Sending job sending.ReadTag) stands))
-      (record { word = safe.node_exists (lists c) Send tt job.round.at node.Tag refl (subst (λ (y : Chain). job.round.at ≤ members (lists c) y) (well_at (place.Sending job sending.ReadTag) stands) (served_node job sending.ReadTag stands)); numbers = tt })
-  service_safe (place.Sending job (sending.ReadBody request i)) stands u =
+  service_safe (Place.Sending job Sending.ReadTag) stands u =
+      subst (λ (y : Chain). IsSafe (lists c) s y (s.stand p).node (Place.Sending job Sending.ReadTag)) (sym (well_at (Place.Sending job Sending.ReadTag) stands))
+      (record { word = safe.node_exists (lists c) Chain.Send tt job.round.at NodeField.Tag refl (subst (λ (y : Chain). job.round.at ≤ members (lists c) y) (well_at (Place.Sending job Sending.ReadTag) stands) (served_node job Sending.ReadTag stands)); numbers = tt })
+  service_safe (Place.Sending job (Sending.ReadBody request i)) stands u =
       let low = ((chain_facts c fits moves run).read_body p job request i less stands).3 in
-      subst (λ (y : Chain). IsSafe (lists c) s y (s.stand p).node (place.Sending job (sending.ReadBody request i))) (sym (well_at (place.Sending job (sending.ReadBody request i)) stands))
-      (record { word = safe.node_exists (lists c) Send tt job.round.at (node.Body i) (safe.four_words i request.tag low) (subst (λ (y : Chain). job.round.at ≤ members (lists c) y) (well_at (place.Sending job (sending.ReadBody request i)) stands) (served_node job (sending.ReadBody request i) stands)); numbers = tt })
-  service_safe (place.Sending job service) stands u =
-      subst (λ (y : Chain). IsSafe (lists c) s y (s.stand p).node (place.Sending job service)) (sym (well_at (place.Sending job service) stands)) (send_safe c fits s p a.whole.parts (s.stand p).node job service stands tt)
-  service_safe (place.Taking job service) stands u =
+      subst (λ (y : Chain). IsSafe (lists c) s y (s.stand p).node (Place.Sending job (Sending.ReadBody request i))) (sym (well_at (Place.Sending job (Sending.ReadBody request i)) stands))
+      (record { word = safe.node_exists (lists c) Chain.Send tt job.round.at (NodeField.Body i) (safe.four_words i request.tag low) (subst (λ (y : Chain). job.round.at ≤ members (lists c) y) (well_at (Place.Sending job (Sending.ReadBody request i)) stands) (served_node job (Sending.ReadBody request i) stands)); numbers = tt })
+  service_safe (Place.Sending job service) stands u =
+      subst (λ (y : Chain). IsSafe (lists c) s y (s.stand p).node (Place.Sending job service)) (sym (well_at (Place.Sending job service) stands)) (send_safe c fits s p a.whole.parts (s.stand p).node job service stands tt)
+  service_safe (Place.Taking job service) stands u =
       let t = taker c moves a p job service stands in
-      subst (λ (y : Chain). IsSafe (lists c) s y (s.stand p).node (place.Taking job service)) (sym t.chain) (take_safe c fits s p a.whole.parts t.group t.chain t.inside (s.stand p).node job service stands)
-  service_safe (place.Counting job service) stands u = absurd (well_at (place.Counting job service) stands)
+      subst (λ (y : Chain). IsSafe (lists c) s y (s.stand p).node (Place.Taking job service)) (sym t.chain) (take_safe c fits s p a.whole.parts t.group t.chain t.inside (s.stand p).node job service stands)
+  service_safe (Place.Counting job service) stands u = absurd (well_at (Place.Counting job service) stands)
   service_safe _ stands u = absurd u
 
   told_fits : (n : ℕ) → n < length (answers_on x s.history) → Fits (answer_at (answers_on x s.history) n)
@@ -103,21 +88,21 @@ module _ (c : Config) (fits : InRange c) (moves : List Move) (run : IsRun (lists
   ready_here : config_fault c ≡ Ok tt → IsReady (lists c) s p
   ready_here checked = ready (lists c) checked moves run p less (λ n l. word_fits (answer_at (answers_on x s.history) n) (told_fits n l)) (service_safe (s.stand p).place refl)
 
-  answer_here : (told : Answer) → (s.stand p).place ≡ place.Finished told → IsLastAnswer (pass_at c p) s.history told
+  answer_here : (told : Answer) → (s.stand p).place ≡ Place.Finished told → IsLastAnswer (pass_at c p) s.history told
   answer_here told is = last_answer (lists c) (omega (arith, fits.bound)) moves run p less told is told_fits
 
 -- ---- for a setting
 
 -- each step of every run can be done
-pub list_ready : (c : Setting) → c.served ≡ served.List → config_fault c.config ≡ Ok tt → (moves : List Move) → IsRun c moves → (p : ℕ) → p < passes c → IsReady c (reached c moves) p
+pub list_ready : (c : Setting) → c.served ≡ Served.List → config_fault c.config ≡ Ok tt → (moves : List Move) → IsRun c moves → (p : ℕ) → p < passes c → IsReady c (reached c moves) p
 list_ready c serves checked moves run p less =
     of_setting (λ (z : Setting). config_fault z.config ≡ Ok tt → IsRun z moves → p < passes z → IsReady z (reached z moves) p) c serves
     (λ ok r l. ready_here c.config (in_range c.config ok) moves r p l ok) checked run less
 
 -- and a call that is finished was told its answer in the history
-pub list_answer : (c : Setting) → c.served ≡ served.List → config_fault c.config ≡ Ok tt → (moves : List Move) → IsRun c moves → (p : ℕ) → p < passes c → (told : Answer) → ((reached c moves).stand p).place ≡ place.Finished told → IsLastAnswer (pass_at c.config p) (reached c moves).history told
+pub list_answer : (c : Setting) → c.served ≡ Served.List → config_fault c.config ≡ Ok tt → (moves : List Move) → IsRun c moves → (p : ℕ) → p < passes c → (told : Answer) → ((reached c moves).stand p).place ≡ Place.Finished told → IsLastAnswer (pass_at c.config p) (reached c moves).history told
 list_answer c serves checked moves run p less told is =
-    of_setting (λ (z : Setting). config_fault z.config ≡ Ok tt → IsRun z moves → p < passes z → ((reached z moves).stand p).place ≡ place.Finished told → IsLastAnswer (pass_at z.config p) (reached z moves).history told) c serves
+    of_setting (λ (z : Setting). config_fault z.config ≡ Ok tt → IsRun z moves → p < passes z → ((reached z moves).stand p).place ≡ Place.Finished told → IsLastAnswer (pass_at z.config p) (reached z moves).history told) c serves
     (λ ok r l e. answer_here c.config (in_range c.config ok) moves r p l told e) checked run less is
 
 pub list_steps_ready : StepsAreReady

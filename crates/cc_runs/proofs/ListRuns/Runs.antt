@@ -6,26 +6,15 @@ use Rattle.std.proofs.lemmas.List.{length-replicate}
 use Rattle.cc_model.specs.Record.{Side, Record, silent, of_group}
 use Rattle.cc_model.specs.Items.{known_at, accepted, is_shut, handed_by, handed_to_all, entries}
 use Rattle.cc_model.specs.Legal.{Legal, DAnswers, IsReceivers, send_numbers}
-use Rattle.cc_model.specs.declared.config.Config.{Config}
-use Rattle.cc_model.specs.declared.call.Pass.{Pass}
-use Rattle.cc_model.specs.declared.call.Pass.TheVariants.{Sender, Receiver}
-use Rattle.cc_model.specs.declared.call.Call.{Call}
-use Rattle.cc_model.specs.declared.call.Call.TheVariants as call
-use Rattle.cc_runs.specs.declared.word.Chain.{Chain}
-use Rattle.cc_runs.specs.declared.word.Chain.TheVariants.{Send, Take}
-use Rattle.cc_runs.specs.declared.place.Place.{Place}
-use Rattle.cc_runs.specs.declared.place.Place.TheVariants as place
-use Rattle.cc_runs.specs.declared.place.Stand.{Stand}
+use Rattle.cc_runs.specs.Names.{Config, Pass, Call, Chain, Place, Stand, Move, Entry}
 use Rattle.cc_runs.specs.State.{State, appended, chain_of, pass_at, first_node, word_of}
 use Rattle.cc_runs.specs.Lines.{operation, goes, enters, decides}
 use Rattle.cc_runs.specs.Step.{stepped_from}
 use Rattle.cc_runs.specs.Words.{groups}
-use Rattle.cc_runs.specs.Run as run
-use Rattle.cc_model.specs.declared.call.Entry.{Entry}
 use Rattle.cc_runs.proofs.Chains.Opening.{no_calls}
 use Rattle.cc_runs.proofs.Chains.Others.{receiver_chain, group_is}
 use Rattle.cc_runs.proofs.ListRuns.Decided.{group_mine, group_other}
-use Rattle.cc_runs.specs.Run.{Move, Begin, Step, passes, nowhere, first_word, opening, begun_after, number_of, begins, rests, moved, reached, IsIdle, IsFinished, May, IsRun}
+use Rattle.cc_runs.specs.Run.{passes, nowhere, first_word, opening, begun_after, number_of, begins, rests, moved, reached, IsIdle, IsFinished, May, IsRun}
 use Rattle.cc_model.proofs.Grows.{get_front, get_last}
 use Rattle.cc_runs.specs.MachineLaws.{links_at, linked_nodes}
 use Rattle.cc_runs.proofs.Ranges.{InRange}
@@ -115,42 +104,42 @@ module _ (c : Config) (fits : InRange c) (s : State) (p begun own : ℕ) (within
   limit_at at stands = subst (λ (z : Stand). z.begun ≤ c.per_sender) stands (w.posts.limit p)
 
   module _ (of : OfSend c p) where
-    well_at : (at : Place) → s.stand p ≡ stand_at at → Well h Send (Sender (p + 1)) begun at
-    well_at at stands = subst (λ (x : Chain). Well h x (Sender (p + 1)) begun at) of.chain_is (subst (λ (z : Pass). Well h (chain_of c p) z begun at) of.pass_is (subst (λ (z : Stand). Well h (chain_of c p) (pass_at c p) z.begun z.place) stands (w.posts.well p)))
+    well_at : (at : Place) → s.stand p ≡ stand_at at → Well h Chain.Send (Pass.Sender (p + 1)) begun at
+    well_at at stands = subst (λ (x : Chain). Well h x (Pass.Sender (p + 1)) begun at) of.chain_is (subst (λ (z : Pass). Well h (chain_of c p) z begun at) of.pass_is (subst (λ (z : Stand). Well h (chain_of c p) (pass_at c p) z.begun z.place) stands (w.posts.well p)))
 
     sent_at : (at : Place) → s.stand p ≡ stand_at at → length (send_numbers (p + 1) h.sends.calls) + waits at ≡ begun
     sent_at at stands = subst (λ (z : Stand). length (send_numbers (p + 1) h.sends.calls) + waits z.place ≡ z.begun) stands (w.posts.sent p of.within)
 
-    send_well : (at : Place) (later : Record) → s.stand p ≡ stand_at at → ((pass : Pass) → known_at pass h ≤ known_at pass later) → Well later (chain_of c p) (pass_at c p) begun (goes (lists c) Send own at (finds Send at))
-    send_well at later stands up = subst (λ (x : Chain). Well later x (pass_at c p) begun (goes (lists c) Send own at (finds Send at))) (sym of.chain_is) (subst (λ (z : Pass). Well later Send z begun (goes (lists c) Send own at (finds Send at))) (sym of.pass_is)
-        (next_well c Send own at (finds Send at) h later (Sender (p + 1)) begun (up (Sender (p + 1))) (well_at at stands)))
+    send_well : (at : Place) (later : Record) → s.stand p ≡ stand_at at → ((pass : Pass) → known_at pass h ≤ known_at pass later) → Well later (chain_of c p) (pass_at c p) begun (goes (lists c) Chain.Send own at (finds Chain.Send at))
+    send_well at later stands up = subst (λ (x : Chain). Well later x (pass_at c p) begun (goes (lists c) Chain.Send own at (finds Chain.Send at))) (sym of.chain_is) (subst (λ (z : Pass). Well later Chain.Send z begun (goes (lists c) Chain.Send own at (finds Chain.Send at))) (sym of.pass_is)
+        (next_well c Chain.Send own at (finds Chain.Send at) h later (Pass.Sender (p + 1)) begun (up (Pass.Sender (p + 1))) (well_at at stands)))
 
-    send_rest : (at : Place) → s.stand p ≡ stand_at at → OnwardBy c s w.parts (to Send at) (links_at at) → Posts c (to Send at) × Calls c (to Send at).history
-    send_rest (place.Exchange e) stands on =
-        let later : Record = (to Send (place.Exchange e)).history in
-        let b : Begun h Send (Sender (p + 1)) begun e = well_at (place.Exchange e) stands in
-        let up = handed_up c s (to Send (place.Exchange e)) w.parts _ on in
-        let d_up = entries_up c s (to Send (place.Exchange e)) w.parts _ on in
-        let known = known_up c s (to Send (place.Exchange e)) w.parts _ on in
-        let limit = limit_at (place.Exchange e) stands in
-        let sent = sent_at (place.Exchange e) stands in (
-          posts_on c s p _ _ _ w.posts within known limit (send_well (place.Exchange e) _ stands known)
+    send_rest : (at : Place) → s.stand p ≡ stand_at at → OnwardBy c s w.parts (to Chain.Send at) (links_at at) → Posts c (to Chain.Send at) × Calls c (to Chain.Send at).history
+    send_rest (Place.Exchange e) stands on =
+        let later : Record = (to Chain.Send (Place.Exchange e)).history in
+        let b : Begun h Chain.Send (Pass.Sender (p + 1)) begun e = well_at (Place.Exchange e) stands in
+        let up = handed_up c s (to Chain.Send (Place.Exchange e)) w.parts _ on in
+        let d_up = entries_up c s (to Chain.Send (Place.Exchange e)) w.parts _ on in
+        let known = known_up c s (to Chain.Send (Place.Exchange e)) w.parts _ on in
+        let limit = limit_at (Place.Exchange e) stands in
+        let sent = sent_at (Place.Exchange e) stands in (
+          posts_on c s p _ _ _ w.posts within known limit (send_well (Place.Exchange e) _ stands known)
               (λ l. omega (arith, own_sent c h later p begun e refl (λ y. refl) up d_up of.within b limit few_sends sent w.calls))
               (other_sent c h later p begun e refl (λ y. refl) up d_up of.within b limit few_sends sent w.calls),
           e_calls_on c h later p begun e refl (λ y. refl) up d_up of.within b limit few_sends sent w.calls,
         )
     send_rest at stands on =
-        let known = known_up c s (to Send at) w.parts _ on in (
+        let known = known_up c s (to Chain.Send at) w.parts _ on in (
           posts_on c s p _ _ _ w.posts within known (limit_at at stands) (send_well at _ stands known)
-              (λ l. omega (arith, next_waits c Send own at (finds Send at) h (Sender (p + 1)) begun (well_at at stands), sent_at at stands))
+              (λ l. omega (arith, next_waits c Chain.Send own at (finds Chain.Send at) h (Pass.Sender (p + 1)) begun (well_at at stands), sent_at at stands))
               (λ q ne. refl),
-          calls_on c h _ refl (λ y. refl) (handed_up c s (to Send at) w.parts _ on) (entries_up c s (to Send at) w.parts _ on) w.calls,
+          calls_on c h _ refl (λ y. refl) (handed_up c s (to Chain.Send at) w.parts _ on) (entries_up c s (to Chain.Send at) w.parts _ on) w.calls,
         )
 
-    send_whole : (at : Place) → s.stand p ≡ stand_at at → ChainFacts (lists c) s → Goes c s w (to Send at) (links_at at)
+    send_whole : (at : Place) → s.stand p ≡ stand_at at → ChainFacts (lists c) s → Goes c s w (to Chain.Send at) (links_at at)
     send_whole at stands facts =
-        let on : OnwardBy c s w.parts (to Send at) (links_at at) = send_step c s p begun own within w.parts w.posts w.calls at stands (well_at at stands) facts in
-        let rest : Posts c (to Send at) × Calls c (to Send at).history = send_rest at stands on in
+        let on : OnwardBy c s w.parts (to Chain.Send at) (links_at at) = send_step c s p begun own within w.parts w.posts w.calls at stands (well_at at stands) facts in
+        let rest : Posts c (to Chain.Send at) × Calls c (to Chain.Send at).history = send_rest at stands on in
         record { whole = record { parts = on.parts; posts = rest.0; calls = rest.1 }; linked = on.linked }
 
   module _ (of : OfTake c p) where
@@ -163,51 +152,51 @@ module _ (c : Config) (fits : InRange c) (s : State) (p begun own : ℕ) (within
     side_in : y < length h.takes
     side_in = omega (arith, inside, w.parts.ties.many)
 
-    take_well_at : (at : Place) → s.stand p ≡ stand_at at → Well h (Take y) (pass_at c p) begun at
+    take_well_at : (at : Place) → s.stand p ≡ stand_at at → Well h (Chain.Take y) (pass_at c p) begun at
     take_well_at at stands = subst (λ (x : Chain). Well h x (pass_at c p) begun at) of.chain_is (subst (λ (z : Stand). Well h (chain_of c p) (pass_at c p) z.begun z.place) stands (w.posts.well p))
 
-    take_well : (at : Place) (later : Record) → s.stand p ≡ stand_at at → ((pass : Pass) → known_at pass h ≤ known_at pass later) → Well later (chain_of c p) (pass_at c p) begun (goes (lists c) (Take y) own at (finds (Take y) at))
-    take_well at later stands up = subst (λ (x : Chain). Well later x (pass_at c p) begun (goes (lists c) (Take y) own at (finds (Take y) at))) (sym of.chain_is)
-        (next_well c (Take y) own at (finds (Take y) at) h later (pass_at c p) begun (up (pass_at c p)) (take_well_at at stands))
+    take_well : (at : Place) (later : Record) → s.stand p ≡ stand_at at → ((pass : Pass) → known_at pass h ≤ known_at pass later) → Well later (chain_of c p) (pass_at c p) begun (goes (lists c) (Chain.Take y) own at (finds (Chain.Take y) at))
+    take_well at later stands up = subst (λ (x : Chain). Well later x (pass_at c p) begun (goes (lists c) (Chain.Take y) own at (finds (Chain.Take y) at))) (sym of.chain_is)
+        (next_well c (Chain.Take y) own at (finds (Chain.Take y) at) h later (pass_at c p) begun (up (pass_at c p)) (take_well_at at stands))
 
     -- a step that enters no call leaves the calls
-    same_calls : (at : Place) → enters at ≡ None → (x : ℕ) → (of_group (to (Take y) at).history x).calls ≡ (of_group h x).calls
+    same_calls : (at : Place) → enters at ≡ None → (x : ℕ) → (of_group (to (Chain.Take y) at).history x).calls ≡ (of_group h x).calls
     same_calls at none x =
-        let found : ℕ = finds (Take y) at in
+        let found : ℕ = finds (Chain.Take y) at in
         let now : Side = record { calls = appended (of_group h y).calls (enters at); answers = appended (of_group h y).answers (decides (lists c) at found) } in
         elim (cases_eq x y) [
-          | inl is ↦ subst (λ (z : ℕ). (of_group (to (Take y) at).history z).calls ≡ (of_group h z).calls) (sym is) (ap (λ (z : Side). z.calls) (group_mine h y now side_in) ∙ ap (λ (e : Option Entry). appended (of_group h y).calls e) none)
+          | inl is ↦ subst (λ (z : ℕ). (of_group (to (Chain.Take y) at).history z).calls ≡ (of_group h z).calls) (sym is) (ap (λ (z : Side). z.calls) (group_mine h y now side_in) ∙ ap (λ (e : Option Entry). appended (of_group h y).calls e) none)
           | inr ne ↦ ap (λ (z : Side). z.calls) (group_other h y x now ne)
         ]
 
-    take_still : (at : Place) → enters at ≡ None → s.stand p ≡ stand_at at → OnwardBy c s w.parts (to (Take y) at) (links_at at) → Posts c (to (Take y) at) × Calls c (to (Take y) at).history
+    take_still : (at : Place) → enters at ≡ None → s.stand p ≡ stand_at at → OnwardBy c s w.parts (to (Chain.Take y) at) (links_at at) → Posts c (to (Chain.Take y) at) × Calls c (to (Chain.Take y) at).history
     take_still at none stands on =
-        let known = known_up c s (to (Take y) at) w.parts _ on in (
+        let known = known_up c s (to (Chain.Take y) at) w.parts _ on in (
           posts_on c s p _ _ _ w.posts within known (limit_at at stands) (take_well at _ stands known)
               (λ l. absurd (omega (arith, l, of.low)))
               (λ q ne. refl),
-          calls_on c h _ refl (same_calls at none) (handed_up c s (to (Take y) at) w.parts _ on) (entries_up c s (to (Take y) at) w.parts _ on) w.calls,
+          calls_on c h _ refl (same_calls at none) (handed_up c s (to (Chain.Take y) at) w.parts _ on) (entries_up c s (to (Chain.Take y) at) w.parts _ on) w.calls,
         )
 
-    take_rest : (at : Place) → s.stand p ≡ stand_at at → OnwardBy c s w.parts (to (Take y) at) (links_at at) → Posts c (to (Take y) at) × Calls c (to (Take y) at).history
-    take_rest (place.Exchange e) stands on =
-        let later : Record = (to (Take y) (place.Exchange e)).history in
-        let b : Begun h (Take y) (Receiver (p - c.senders + 1)) begun e = subst (λ (z : Pass). Begun h (Take y) z begun e) of.pass_is (take_well_at (place.Exchange e) stands) in
-        let up = handed_up c s (to (Take y) (place.Exchange e)) w.parts _ on in
-        let d_up = entries_up c s (to (Take y) (place.Exchange e)) w.parts _ on in
-        let known = known_up c s (to (Take y) (place.Exchange e)) w.parts _ on in
+    take_rest : (at : Place) → s.stand p ≡ stand_at at → OnwardBy c s w.parts (to (Chain.Take y) at) (links_at at) → Posts c (to (Chain.Take y) at) × Calls c (to (Chain.Take y) at).history
+    take_rest (Place.Exchange e) stands on =
+        let later : Record = (to (Chain.Take y) (Place.Exchange e)).history in
+        let b : Begun h (Chain.Take y) (Pass.Receiver (p - c.senders + 1)) begun e = subst (λ (z : Pass). Begun h (Chain.Take y) z begun e) of.pass_is (take_well_at (Place.Exchange e) stands) in
+        let up = handed_up c s (to (Chain.Take y) (Place.Exchange e)) w.parts _ on in
+        let d_up = entries_up c s (to (Chain.Take y) (Place.Exchange e)) w.parts _ on in
+        let known = known_up c s (to (Chain.Take y) (Place.Exchange e)) w.parts _ on in
         let back : p - c.senders + 1 - 1 ≡ p - c.senders = omega arith in (
-          posts_on c s p _ _ _ w.posts within known (limit_at (place.Exchange e) stands) (take_well (place.Exchange e) _ stands known)
+          posts_on c s p _ _ _ w.posts within known (limit_at (Place.Exchange e) stands) (take_well (Place.Exchange e) _ stands known)
               (λ l. absurd (omega (arith, l, of.low)))
               (λ q ne. refl),
           d_calls_on c h later y (p - c.senders + 1) begun e refl (called_mine c h y e side_in) (called_others c h y e side_in) up d_up (omega arith) (omega (arith, within, of.low)) (ap (λ (k : ℕ). k / c.receivers) back) b w.calls,
         )
     take_rest at stands on = take_still at refl stands on
 
-    take_whole : (at : Place) → s.stand p ≡ stand_at at → ChainFacts (lists c) (to (Take y) at) → Goes c s w (to (Take y) at) (links_at at)
+    take_whole : (at : Place) → s.stand p ≡ stand_at at → ChainFacts (lists c) (to (Chain.Take y) at) → Goes c s w (to (Chain.Take y) at) (links_at at)
     take_whole at stands facts =
-        let on : OnwardBy c s w.parts (to (Take y) at) (links_at at) = take_step c s p begun own within w.parts w.posts w.calls y of.chain_is inside at stands (take_well_at at stands) facts in
-        let rest : Posts c (to (Take y) at) × Calls c (to (Take y) at).history = take_rest at stands on in
+        let on : OnwardBy c s w.parts (to (Chain.Take y) at) (links_at at) = take_step c s p begun own within w.parts w.posts w.calls y of.chain_is inside at stands (take_well_at at stands) facts in
+        let rest : Posts c (to (Chain.Take y) at) × Calls c (to (Chain.Take y) at).history = take_rest at stands on in
         record { whole = record { parts = on.parts; posts = rest.0; calls = rest.1 }; linked = on.linked }
 
   step_on : (at : Place) → s.stand p ≡ stand_at at → ChainFacts (lists c) s → ChainFacts (lists c) (to (chain_of c p) at) → Goes c s w (to (chain_of c p) at) (links_at at)
@@ -219,37 +208,37 @@ module _ (c : Config) (fits : InRange c) (s : State) (p begun own : ℕ) (within
 -- ---- a call is begun, or its answer taken
 
 idle_still : (at : Place) → IsIdle at → StillSend at × StillTake at
-idle_still place.Idle u = (still_send place.Idle tt, still_take place.Idle tt)
+idle_still Place.Idle u = (still_send Place.Idle tt, still_take Place.Idle tt)
 idle_still _ u = absurd u
 
 finished_still : (at : Place) → IsFinished at → StillSend at × StillTake at
-finished_still (place.Finished told) u = (still_send (place.Finished told) tt, still_take (place.Finished told) tt)
+finished_still (Place.Finished told) u = (still_send (Place.Finished told) tt, still_take (Place.Finished told) tt)
 finished_still _ u = absurd u
 
 idle_waits : (at : Place) → IsIdle at → waits at ≡ 0
-idle_waits place.Idle u = refl
+idle_waits Place.Idle u = refl
 idle_waits _ u = absurd u
 
 finished_waits : (at : Place) → IsFinished at → waits at ≡ 0
-finished_waits (place.Finished told) u = refl
+finished_waits (Place.Finished told) u = refl
 finished_waits _ u = absurd u
 
 numbered : (k : Call) (begun : ℕ) → HasNumber k (number_of k begun) (begun_after k begun)
-numbered (call.Send body) begun = refl
-numbered call.Close begun = refl
-numbered call.Take begun = refl
+numbered (Call.Send body) begun = refl
+numbered Call.Close begun = refl
+numbered Call.Take begun = refl
 
 one_more : (k : Call) (begun : ℕ) → begun_after k begun ≡ begun + is_send k
-one_more (call.Send body) begun = refl
-one_more call.Close begun = omega arith
-one_more call.Take begun = omega arith
+one_more (Call.Send body) begun = refl
+one_more Call.Close begun = omega arith
+one_more Call.Take begun = omega arith
 
-begin_on : (c : Config) (s : State) (p : ℕ) (k : Call) (known : ℕ) → May (lists c) s (Begin p k known) → (w : Whole c s) → Goes c s w (moved (lists c) s (Begin p k known)) []
+begin_on : (c : Config) (s : State) (p : ℕ) (k : Call) (known : ℕ) → May (lists c) s (Move.Begin p k known) → (w : Whole c s) → Goes c s w (moved (lists c) s (Move.Begin p k known)) []
 begin_on c s p k known may w =
     let now : Stand = begins c p k known (s.stand p) in
     let still : StillSend (s.stand p).place × StillTake (s.stand p).place = idle_still (s.stand p).place may.2 in
-    let on : Onward c s w.parts (moved (lists c) s (Begin p k known)) =
-    quiet c s p (begins c p k known (s.stand p)) s.mem s.history w.parts still.0 still.1 (still_send (place.ResetNext _) tt) (still_take (place.ResetNext _) tt) (λ d e r. refl) (λ e n. n) (λ y e n. n) (λ t. t) in
+    let on : Onward c s w.parts (moved (lists c) s (Move.Begin p k known)) =
+    quiet c s p (begins c p k known (s.stand p)) s.mem s.history w.parts still.0 still.1 (still_send (Place.ResetNext _) tt) (still_take (Place.ResetNext _) tt) (λ d e r. refl) (λ e n. n) (λ y e n. n) (λ t. t) in
     record {
       whole = record {
         parts = on.parts;
@@ -262,11 +251,11 @@ begin_on c s p k known may w =
       linked = on.linked;
     }
 
-answer_on : (c : Config) (s : State) (p : ℕ) → May (lists c) s (run.Take p) → (w : Whole c s) → Goes c s w (moved (lists c) s (run.Take p)) []
+answer_on : (c : Config) (s : State) (p : ℕ) → May (lists c) s (Move.Take p) → (w : Whole c s) → Goes c s w (moved (lists c) s (Move.Take p)) []
 answer_on c s p may w =
     let still : StillSend (s.stand p).place × StillTake (s.stand p).place = finished_still (s.stand p).place may.1 in
-    let on : Onward c s w.parts (moved (lists c) s (run.Take p)) =
-    quiet c s p (rests (s.stand p)) s.mem s.history w.parts still.0 still.1 (still_send place.Idle tt) (still_take place.Idle tt) (λ d e r. refl) (λ e n. n) (λ y e n. n) (λ t. t) in
+    let on : Onward c s w.parts (moved (lists c) s (Move.Take p)) =
+    quiet c s p (rests (s.stand p)) s.mem s.history w.parts still.0 still.1 (still_send Place.Idle tt) (still_take Place.Idle tt) (λ d e r. refl) (λ e n. n) (λ y e n. n) (λ t. t) in
     record {
       whole = record {
         parts = on.parts;
@@ -285,22 +274,22 @@ module _ (c : Config) (fits : InRange c) where
   s0 = opening (lists c)
 
   abbrev duty0 : Duty
-  duty0 = record { e_pass = 0; e_call = record { pass = Sender 1; call = call.Close; number = 0; known = 0 }; from = 0; d_pass = λ y. c.senders + (y * c.receivers + 0); d_call = λ y. record { pass = Sender 1; call = call.Close; number = 0; known = 0 } }
+  duty0 = record { e_pass = 0; e_call = record { pass = Pass.Sender 1; call = Call.Close; number = 0; known = 0 }; from = 0; d_pass = λ y. c.senders + (y * c.receivers + 0); d_call = λ y. record { pass = Pass.Sender 1; call = Call.Close; number = 0; known = 0 } }
 
   abbrev told0 : Told
   told0 = open_list.opening long_of
 
-  idle0 : (p : ℕ) → (s0.stand p).place ≡ place.Idle
+  idle0 : (p : ℕ) → (s0.stand p).place ≡ Place.Idle
   idle0 p = by_case (nat_lt p (passes (lists c)))
     where
-      by_case : (b : Bool) → (if b then record { begun = 0; node = first_node c p; place = place.Idle } else nowhere).place ≡ place.Idle
+      by_case : (b : Bool) → (if b then record { begun = 0; node = first_node c p; place = Place.Idle } else nowhere).place ≡ Place.Idle
       by_case true = refl
       by_case false = refl
 
   begun0 : (p : ℕ) → (s0.stand p).begun ≡ 0
   begun0 p = by_case (nat_lt p (passes (lists c)))
     where
-      by_case : (b : Bool) → (if b then record { begun = 0; node = first_node c p; place = place.Idle } else nowhere).begun ≡ 0
+      by_case : (b : Bool) → (if b then record { begun = 0; node = first_node c p; place = Place.Idle } else nowhere).begun ≡ 0
       by_case true = refl
       by_case false = refl
 
@@ -354,7 +343,7 @@ module _ (c : Config) (fits : InRange c) where
 
   -- nothing is called yet
   silent0 : (y : ℕ) → of_group s0.history y ≡ silent
-  silent0 y = no_calls (groups c) (Take y)
+  silent0 y = no_calls (groups c) (Chain.Take y)
 
   zero0 : open_list.Zero told0
   zero0 = open_list.zeros long_of
@@ -366,7 +355,7 @@ module _ (c : Config) (fits : InRange c) where
     list = subst (λ (v : Queue). Held c.capacity c.life (further c) v told0) (sym same_queue0) list0;
     serving = record {
       e_only = λ q ne u. subst (λ (z : Place). IsServing z) (idle0 q) u;
-      d_mine = λ y. receiver_chain c (c.senders + (y * c.receivers + 0)) (omega arith) ∙ ap Take (group_is c y 0 (omega (arith, fits.receivers)));
+      d_mine = λ y. receiver_chain c (c.senders + (y * c.receivers + 0)) (omega arith) ∙ ap Chain.Take (group_is c y 0 (omega (arith, fits.receivers)));
       d_only = λ y q on ne u. subst (λ (z : Place). IsTaking z) (idle0 q) u;
       caller = record { senders = (omega arith, fits.senders.0); small = omega arith };
       reads = subst (λ (z : Place). ReadsAt c duty0.e_call duty0.from z) (sym (idle0 0)) tt;
@@ -422,17 +411,17 @@ none_linked c m earlier r same g = record { whole = g.whole; linked = subst (λ 
 
 pub after_run : (c : Config) → InRange c → ((moves : List Move) → IsRun (lists c) moves → ChainFacts (lists c) (reached (lists c) moves)) → (moves : List Move) → IsRun (lists c) moves → AfterRun c moves
 after_run c fits facts [] r = record { whole = whole0 c fits; linked = linked0 c fits }
-after_run c fits facts (Begin p k known ∷ earlier) r =
+after_run c fits facts (Move.Begin p k known ∷ earlier) r =
     let before : AfterRun c earlier = after_run c fits facts earlier r.0 in
-    none_linked c (Begin p k known) earlier before refl (begin_on c (reached (lists c) earlier) p k known r.1 before.whole)
-after_run c fits facts (run.Take p ∷ earlier) r =
+    none_linked c (Move.Begin p k known) earlier before refl (begin_on c (reached (lists c) earlier) p k known r.1 before.whole)
+after_run c fits facts (Move.Take p ∷ earlier) r =
     let before : AfterRun c earlier = after_run c fits facts earlier r.0 in
-    none_linked c (run.Take p) earlier before refl (answer_on c (reached (lists c) earlier) p r.1 before.whole)
-after_run c fits facts (Step p ∷ earlier) r =
+    none_linked c (Move.Take p) earlier before refl (answer_on c (reached (lists c) earlier) p r.1 before.whole)
+after_run c fits facts (Move.Step p ∷ earlier) r =
     let before : AfterRun c earlier = after_run c fits facts earlier r.0 in
     let s : Stand = (reached (lists c) earlier).stand p in
-    let on : Goes c (reached (lists c) earlier) before.whole (reached (lists c) (Step p ∷ earlier)) (links_at ((reached (lists c) earlier).stand p).place) =
-    step_on c fits (reached (lists c) earlier) p ((reached (lists c) earlier).stand p).begun ((reached (lists c) earlier).stand p).node r.1.0 before.whole ((reached (lists c) earlier).stand p).place refl (facts earlier r.0) (facts (Step p ∷ earlier) r) in
+    let on : Goes c (reached (lists c) earlier) before.whole (reached (lists c) (Move.Step p ∷ earlier)) (links_at ((reached (lists c) earlier).stand p).place) =
+    step_on c fits (reached (lists c) earlier) p ((reached (lists c) earlier).stand p).begun ((reached (lists c) earlier).stand p).node r.1.0 before.whole ((reached (lists c) earlier).stand p).place refl (facts earlier r.0) (facts (Move.Step p ∷ earlier) r) in
     record { whole = on.whole; linked = linked_on (linked_nodes (lists c) earlier) (links_at ((reached (lists c) earlier).stand p).place) before.whole.parts.told on.whole.parts.told before.linked on.linked }
 
 -- ---- the history is lawful

@@ -1,15 +1,7 @@
 -- Each line of the service of a send or a close keeps the list's invariant.
 use Rattle.std.proofs.Common.{◌≡◌, ◌≢◌, ◌⊎◌, ℕ, zero, suc, ◌+◌, ◌<◌, ◌≤◌, Bool, true, false, nat_lt, cond, arith, refl, sym, ap, ◌∙◌, subst, inl, inr}
 use Rattle.std.proofs.lemmas.Bool.{cases_eq, ltb-true, ltb-false}
-use Rattle.cc_model.specs.declared.config.Config.{Config}
-use Rattle.cc_runs.specs.declared.word.ItemField.TheVariants as item
-use Rattle.cc_runs.specs.declared.word.Object.TheVariants as object
-use Rattle.cc_runs.specs.declared.word.Word.{Word}
-use Rattle.cc_runs.specs.declared.word.Word.TheVariants.{Object, Item}
-use Rattle.cc_runs.specs.declared.place.Parcel.{Parcel}
-use Rattle.cc_runs.specs.declared.place.Request.{Request}
-use Rattle.cc_runs.specs.declared.place.Sending.{Sending}
-use Rattle.cc_runs.specs.declared.place.Sending.TheVariants as sending
+use Rattle.cc_runs.specs.Names.{Config, ItemField, Object, Word, Parcel, Request, Sending}
 use Rattle.cc_runs.specs.State.{word_of, stored}
 use Rattle.cc_runs.specs.Words.{put}
 use Rattle.cc_runs.specs.Codes.{request_in, further_words, word, no_words, parcel as parcel_of}
@@ -40,55 +32,55 @@ module _ (mem : Word → ℕ) (d : Duty) (r : ℕ → Regs) (c : Config) (n : �
   abbrev LineKeeps : Sending → Type 0
   LineKeeps service = Keeps mem service → After (stored mem (operation c 0 service)) (line c 0 service (mem (word_of (operation c 0 service)))).next
 
-  pub write_last : (place at : ℕ) → LineKeeps (sending.WriteLast place at)
+  pub write_last : (place at : ℕ) → LineKeeps (Sending.WriteLast place at)
   write_last place at i = grind arith
 
-  pub write_count : (place at : ℕ) → LineKeeps (sending.WriteCount place at)
+  pub write_count : (place at : ℕ) → LineKeeps (Sending.WriteCount place at)
   write_count place at i = grind arith
 
-  pub write_cursor : (place at : ℕ) → LineKeeps (sending.WriteCursor place at)
+  pub write_cursor : (place at : ℕ) → LineKeeps (Sending.WriteCursor place at)
   write_cursor place at i = grind arith
 
-  pub write_last_mark : (total : ℕ) → LineKeeps (sending.WriteLastMark total)
+  pub write_last_mark : (total : ℕ) → LineKeeps (Sending.WriteLastMark total)
   write_last_mark total i = grind arith
 
-  pub write_shut : (total : ℕ) → LineKeeps (sending.WriteShut total)
+  pub write_shut : (total : ℕ) → LineKeeps (Sending.WriteShut total)
   write_shut total i = grind arith
 
-  pub read_total : LineKeeps sending.ReadTotal
+  pub read_total : LineKeeps Sending.ReadTotal
   read_total i = grind arith
 
-  pub read_last : (place at : ℕ) → 0 < mem (Object object.Last) → LineKeeps (sending.ReadLast place at)
+  pub read_last : (place at : ℕ) → 0 < mem (Word.Object Object.Last) → LineKeeps (Sending.ReadLast place at)
   read_last place at some i = grind arith
 
-  pub read_last_to_close : (total : ℕ) → 0 < mem (Object object.Last) → LineKeeps (sending.ReadLastToClose total)
+  pub read_last_to_close : (total : ℕ) → 0 < mem (Word.Object Object.Last) → LineKeeps (Sending.ReadLastToClose total)
   read_last_to_close total some i = grind arith
 
   -- the node that is prepared is at no place
   apart : (v : Queue) → LInv c.capacity c.life n v g → 7 ≤ v.enq.stage → v.enq.stage ≤ 10 → (k : ℕ) → g.least ≤ k → k ≤ g.accepted → g.node k ≢ v.enq.found
   apart v i low high k a b = grind (arith, i.live.live_role k, i.found.found_role)
 
-  pub reset_next : (parcel : Parcel) (at : ℕ) → LineKeeps (sending.ResetItemNext parcel at)
+  pub reset_next : (parcel : Parcel) (at : ℕ) → LineKeeps (Sending.ResetItemNext parcel at)
   reset_next parcel at i = grind (arith, cases_eq, apart _ i (omega arith) (omega arith))
 
-  pub write_tag : (parcel : Parcel) (at : ℕ) → parcel.tag ≡ (request_in d.e_call).tag → LineKeeps (sending.WriteItemTag parcel at)
+  pub write_tag : (parcel : Parcel) (at : ℕ) → parcel.tag ≡ (request_in d.e_call).tag → LineKeeps (Sending.WriteItemTag parcel at)
   write_tag parcel at same i = grind (arith, cases_eq, apart _ i (omega arith) (omega arith))
 
   -- a word of a body, and what the next step is then
   write_word : (parcel : Parcel) (at i : ℕ) (there : Sending) → HasRequest d.e_call parcel.tag parcel.body → i ≤ further_words parcel.tag
-      → (there ≡ sending.WriteItemBody parcel at (i + 1)) × (i < further_words parcel.tag) ⊎ (there ≡ sending.ReadLast parcel.place at) × (further_words parcel.tag ≤ i)
-      → Keeps mem (sending.WriteItemBody parcel at i) → Keeps (put mem (Item at (item.Body i)) (word parcel.body i)) there
-  write_word parcel at i there asked low (inl on) v = subst (Keeps (put mem (Item at (item.Body i)) (word parcel.body i))) (sym on.0) (grind (arith, cases_eq, apart _ v (omega arith) (omega arith), here, others, is))
+      → (there ≡ Sending.WriteItemBody parcel at (i + 1)) × (i < further_words parcel.tag) ⊎ (there ≡ Sending.ReadLast parcel.place at) × (further_words parcel.tag ≤ i)
+      → Keeps mem (Sending.WriteItemBody parcel at i) → Keeps (put mem (Word.Item at (ItemField.Body i)) (word parcel.body i)) there
+  write_word parcel at i there asked low (inl on) v = subst (Keeps (put mem (Word.Item at (ItemField.Body i)) (word parcel.body i))) (sym on.0) (grind (arith, cases_eq, apart _ v (omega arith) (omega arith), here, others, is))
     where
       is : word parcel.body i ≡ asks_of d.e_call (suc i)
       is = asked.1 i (omega arith)
 
-      here : item_word (put mem (Item at (item.Body i)) (word parcel.body i)) at (suc i) ≡ word parcel.body i
+      here : item_word (put mem (Word.Item at (ItemField.Body i)) (word parcel.body i)) at (suc i) ≡ word parcel.body i
       here = part_here mem at i (word parcel.body i)
 
-      others : (x j : ℕ) → (at ≡ x → j ≢ suc i) → item_word (put mem (Item at (item.Body i)) (word parcel.body i)) x j ≡ item_word mem x j
+      others : (x j : ℕ) → (at ≡ x → j ≢ suc i) → item_word (put mem (Word.Item at (ItemField.Body i)) (word parcel.body i)) x j ≡ item_word mem x j
       others x j ne = part_other mem at i (word parcel.body i) x j ne
-  write_word parcel at i there asked low (inr over) v = subst (Keeps (put mem (Item at (item.Body i)) (word parcel.body i))) (sym over.0) (grind (arith, cases_eq, apart _ v (omega arith) (omega arith), here, others, is, last))
+  write_word parcel at i there asked low (inr over) v = subst (Keeps (put mem (Word.Item at (ItemField.Body i)) (word parcel.body i))) (sym over.0) (grind (arith, cases_eq, apart _ v (omega arith) (omega arith), here, others, is, last))
     where
       is : word parcel.body i ≡ asks_of d.e_call (suc i)
       is = asked.1 i (omega arith)
@@ -96,61 +88,61 @@ module _ (mem : Word → ℕ) (d : Duty) (r : ℕ → Regs) (c : Config) (n : �
       last : long_of (request_in d.e_call).tag ≡ i + 2
       last = omega (arith, ap further_words asked.0, over.1, low)
 
-      here : item_word (put mem (Item at (item.Body i)) (word parcel.body i)) at (suc i) ≡ word parcel.body i
+      here : item_word (put mem (Word.Item at (ItemField.Body i)) (word parcel.body i)) at (suc i) ≡ word parcel.body i
       here = part_here mem at i (word parcel.body i)
 
-      others : (x j : ℕ) → (at ≡ x → j ≢ suc i) → item_word (put mem (Item at (item.Body i)) (word parcel.body i)) x j ≡ item_word mem x j
+      others : (x j : ℕ) → (at ≡ x → j ≢ suc i) → item_word (put mem (Word.Item at (ItemField.Body i)) (word parcel.body i)) x j ≡ item_word mem x j
       others x j ne = part_other mem at i (word parcel.body i) x j ne
 
-  pub write_body : (parcel : Parcel) (at i : ℕ) → HasRequest d.e_call parcel.tag parcel.body → i ≤ further_words parcel.tag → LineKeeps (sending.WriteItemBody parcel at i)
+  pub write_body : (parcel : Parcel) (at i : ℕ) → HasRequest d.e_call parcel.tag parcel.body → i ≤ further_words parcel.tag → LineKeeps (Sending.WriteItemBody parcel at i)
   write_body parcel at i asked low v = write_word parcel at i _ asked low (by_case (nat_lt i (further_words parcel.tag)) refl) v
     where
-      by_case : (b : Bool) → nat_lt i (further_words parcel.tag) ≡ b → (cond b (sending.WriteItemBody parcel at (i + 1)) (sending.ReadLast parcel.place at) ≡ sending.WriteItemBody parcel at (i + 1)) × (i < further_words parcel.tag) ⊎ (cond b (sending.WriteItemBody parcel at (i + 1)) (sending.ReadLast parcel.place at) ≡ sending.ReadLast parcel.place at) × (further_words parcel.tag ≤ i)
+      by_case : (b : Bool) → nat_lt i (further_words parcel.tag) ≡ b → (cond b (Sending.WriteItemBody parcel at (i + 1)) (Sending.ReadLast parcel.place at) ≡ Sending.WriteItemBody parcel at (i + 1)) × (i < further_words parcel.tag) ⊎ (cond b (Sending.WriteItemBody parcel at (i + 1)) (Sending.ReadLast parcel.place at) ≡ Sending.ReadLast parcel.place at) × (further_words parcel.tag ≤ i)
       by_case true is = inl (refl, ltb-true i (further_words parcel.tag) is)
       by_case false is = inr (refl, ltb-false i (further_words parcel.tag) is)
 
   -- ---- the loads that branch
 
-  pub read_shut_open : (q : Request) → mem (Object object.Shut) ≡ 0 → Keeps mem (sending.ReadShut q) → After mem (by_shut q zero)
+  pub read_shut_open : (q : Request) → mem (Word.Object Object.Shut) ≡ 0 → Keeps mem (Sending.ReadShut q) → After mem (by_shut q zero)
   read_shut_open q e i = grind arith
 
-  pub read_shut_close : (q : Request) → mem (Object object.Shut) ≢ 0 → asks_of d.e_call 0 ≡ 0 → Keeps mem (sending.ReadShut q) → Keeps mem sending.ReadTotal
+  pub read_shut_close : (q : Request) → mem (Word.Object Object.Shut) ≢ 0 → asks_of d.e_call 0 ≡ 0 → Keeps mem (Sending.ReadShut q) → Keeps mem Sending.ReadTotal
   read_shut_close q ne z i = grind arith
 
-  pub read_shut_send : (q : Request) → mem (Object object.Shut) ≢ 0 → asks_of d.e_call 0 ≢ 0 → Keeps mem (sending.ReadShut q) → Rests mem
+  pub read_shut_send : (q : Request) → mem (Word.Object Object.Shut) ≢ 0 → asks_of d.e_call 0 ≢ 0 → Keeps mem (Sending.ReadShut q) → Rests mem
   read_shut_send q ne nz i = grind arith
 
-  pub read_count_close : (q : Request) → asks_of d.e_call 0 ≡ 0 → Keeps mem (sending.ReadCount q) → Keeps mem (sending.ReadLastToClose (mem (Object object.Count)))
+  pub read_count_close : (q : Request) → asks_of d.e_call 0 ≡ 0 → Keeps mem (Sending.ReadCount q) → Keeps mem (Sending.ReadLastToClose (mem (Word.Object Object.Count)))
   read_count_close q z i = grind arith
 
-  pub read_count_spent : (q : Request) → Keeps mem (sending.ReadCount q) → Rests mem
+  pub read_count_spent : (q : Request) → Keeps mem (Sending.ReadCount q) → Rests mem
   read_count_spent q i = grind arith
 
-  pub read_count_on : (q : Request) (parcel : Parcel) → parcel.place ≡ mem (Object object.Count) → asks_of d.e_call 0 ≢ 0 → mem (Object object.Count) ≢ c.life → Keeps mem (sending.ReadCount q) → Keeps mem (sending.ReadCursor parcel)
+  pub read_count_on : (q : Request) (parcel : Parcel) → parcel.place ≡ mem (Word.Object Object.Count) → asks_of d.e_call 0 ≢ 0 → mem (Word.Object Object.Count) ≢ c.life → Keeps mem (Sending.ReadCount q) → Keeps mem (Sending.ReadCursor parcel)
   read_count_on q parcel same nz more i = grind arith
 
   -- ---- the scan
 
   -- the node that is looked at: the scan's first and those that were tried, round the end
   abbrev Looked : ℕ → ℕ → Type 0
-  Looked at reads = looked c.capacity (queue_from mem d (enq_in d.e_call d.from (sending.ReadPassed (parcel_of 0 0 no_words) at reads)) r) at
+  Looked at reads = looked c.capacity (queue_from mem d (enq_in d.e_call d.from (Sending.ReadPassed (parcel_of 0 0 no_words) at reads)) r) at
 
-  pub read_passed_free : (parcel : Parcel) (at reads : ℕ) → Looked at reads → mem (Item at item.Passed) ≡ n → Keeps mem (sending.ReadPassed parcel at reads) → Keeps mem (sending.ResetPassed parcel at)
+  pub read_passed_free : (parcel : Parcel) (at reads : ℕ) → Looked at reads → mem (Word.Item at ItemField.Passed) ≡ n → Keeps mem (Sending.ReadPassed parcel at reads) → Keeps mem (Sending.ResetPassed parcel at)
   read_passed_free parcel at reads here free i = grind (arith, here)
 
-  pub read_passed_full : (parcel : Parcel) (at reads : ℕ) → Keeps mem (sending.ReadPassed parcel at reads) → Rests mem
+  pub read_passed_full : (parcel : Parcel) (at reads : ℕ) → Keeps mem (Sending.ReadPassed parcel at reads) → Rests mem
   read_passed_full parcel at reads i = grind arith
 
-  pub read_passed_busy : (parcel : Parcel) (at to reads : ℕ) → Looked at reads → mem (Item at item.Passed) ≢ n → 1 ≤ reads → reads ≤ c.capacity → Keeps mem (sending.ReadPassed parcel at reads) → Keeps mem (sending.ReadPassed parcel to (reads + 1))
+  pub read_passed_busy : (parcel : Parcel) (at to reads : ℕ) → Looked at reads → mem (Word.Item at ItemField.Passed) ≢ n → 1 ≤ reads → reads ≤ c.capacity → Keeps mem (Sending.ReadPassed parcel at reads) → Keeps mem (Sending.ReadPassed parcel to (reads + 1))
   read_passed_busy parcel at to reads here busy low high i =
       let role = looked_role c.capacity c.life n at _ g i refl here busy in
       let known = looked_known c.capacity c.life n at _ g i refl here busy in
       grind (arith, cases_eq at, role, known, here)
 
 -- the cursor is where the scan begins
-pub read_cursor : (mem : Word → ℕ) (d : Duty) (r : ℕ → Regs) (c : Config) (n : ℕ) (g : Told) (parcel : Parcel) (from : ℕ) → mem (Object object.Cursor) ≡ from
-    → LInv c.capacity c.life n (queue_from mem d (enq_in d.e_call d.from (sending.ReadCursor parcel)) r) g
-    → LInv c.capacity c.life n (queue_from mem d (enq_in d.e_call from (sending.ReadPassed parcel from 1)) r) g
+pub read_cursor : (mem : Word → ℕ) (d : Duty) (r : ℕ → Regs) (c : Config) (n : ℕ) (g : Told) (parcel : Parcel) (from : ℕ) → mem (Word.Object Object.Cursor) ≡ from
+    → LInv c.capacity c.life n (queue_from mem d (enq_in d.e_call d.from (Sending.ReadCursor parcel)) r) g
+    → LInv c.capacity c.life n (queue_from mem d (enq_in d.e_call from (Sending.ReadPassed parcel from 1)) r) g
 read_cursor mem d r c n g parcel from e i = grind arith
 
 -- ---- the stores that move the ghosts
@@ -163,10 +155,10 @@ module _ (mem : Word → ℕ) (d : Duty) (r : ℕ → Regs) (c : Config) (n : �
   abbrev Step : Sending → Queue
   Step service = queue_from mem d (enq_in d.e_call d.from service) r
 
-  pub reset_passed : (parcel : Parcel) (at : ℕ) → Prepares (Step (sending.ResetPassed parcel at)) g g' → Moves (sending.ResetPassed parcel at)
+  pub reset_passed : (parcel : Parcel) (at : ℕ) → Prepares (Step (Sending.ResetPassed parcel at)) g g' → Moves (Sending.ResetPassed parcel at)
   reset_passed parcel at u i = grind (arith, cases_eq, free, found_in, apart_free)
     where
-      free : mem (Item at item.Passed) ≡ n
+      free : mem (Word.Item at ItemField.Passed) ≡ n
       free = grind arith
 
       found_in : at ≤ c.capacity
@@ -175,7 +167,7 @@ module _ (mem : Word → ℕ) (d : Duty) (r : ℕ → Regs) (c : Config) (n : �
       apart_free : (k : ℕ) → g.least ≤ k → k ≤ g.accepted → g.node k ≢ at
       apart_free k a b = grind (arith, free, i.live.live_role k, i.live.live_in k, i.live.live_pos k, i.nodes.passed_is (g.node k), i.hands.by_some k)
 
-  pub link_mark : (total last : ℕ) → Shuts g g' → Moves (sending.LinkMark total last)
+  pub link_mark : (total last : ℕ) → Shuts g g' → Moves (Sending.LinkMark total last)
   link_mark total last u i = grind (arith, cases_eq, is_last, unshut, next_same)
     where
       is_last : last ≡ g.node g.accepted
@@ -187,7 +179,7 @@ module _ (mem : Word → ℕ) (d : Duty) (r : ℕ → Regs) (c : Config) (n : �
       next_same : (k : ℕ) → g.least ≤ k → k < g.accepted → g.node k ≢ last
       next_same k a b = grind (arith, is_last, i.live.live_pos k, i.live.live_pos g.accepted)
 
-  pub link_item : (place at last : ℕ) → Accepts (Step (sending.LinkItem place at last)) g g' → Moves (sending.LinkItem place at last)
+  pub link_item : (place at last : ℕ) → Accepts (Step (Sending.LinkItem place at last)) g g' → Moves (Sending.LinkItem place at last)
   link_item place at last u i = grind (arith, cases_eq, apart_item, is_last, unshut, node_same, next_same, item_now, tag_now, long_now)
     where
       item_now : (j : ℕ) → j < g'.long g.accepted → item_word mem at j ≡ g'.items g.accepted j
@@ -216,5 +208,5 @@ module _ (mem : Word → ℕ) (d : Duty) (r : ℕ → Regs) (c : Config) (n : �
 
 -- a call enters the service
 pub enters : (mem : Word → ℕ) (d d' : Duty) (old : Enq) (r : ℕ → Regs) (c : Config) (n : ℕ) (g : Told) (q : Request) → old.stage ≡ 0 → g.tells ≡ long_of → d'.e_call.known ≤ g.least → d'.d_call ≡ d.d_call
-    → LInv c.capacity c.life n (queue_from mem d old r) g → LInv c.capacity c.life n (queue_from mem d' (enq_in d'.e_call d'.from (sending.ReadShut q)) r) g
+    → LInv c.capacity c.life n (queue_from mem d old r) g → LInv c.capacity c.life n (queue_from mem d' (enq_in d'.e_call d'.from (Sending.ReadShut q)) r) g
 enters mem d d' old r c n g q from tells known same i = let long = ap (λ (f : ℕ → ℕ). f (request_in d'.e_call).tag) tells in grind (arith, from, long, known, same)

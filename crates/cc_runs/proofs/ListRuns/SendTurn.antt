@@ -6,29 +6,10 @@ use Rattle.std.specs.List.{slice_get}
 use Rattle.cc_model.specs.Record.{Record}
 use Rattle.cc_model.specs.Items.{accepted, accepted_item, is_shut, shuts}
 use Rattle.cc_model.specs.Legal.{EAnswer, IsSenders}
-use Rattle.cc_model.specs.declared.config.Config.{Config}
-use Rattle.cc_model.specs.declared.call.Entry.{Entry}
-use Rattle.cc_model.specs.declared.call.Item.{Item}
-use Rattle.cc_model.specs.declared.call.Answer.{Answer}
-use Rattle.cc_model.specs.declared.call.Answer.TheVariants as answer
-use Rattle.cc_model.specs.declared.call.SendAnswer.TheVariants as send
-use Rattle.cc_model.specs.declared.call.CloseAnswer.TheVariants as close
+use Rattle.cc_runs.specs.Names.{Config, Entry, Item, Answer, SendAnswer, CloseAnswer, Chain, ItemField, Object, Word, Request, Parcel, Job, Place, Sending, BodyWords}
 use Rattle.cc_model.proofs.Grows.{get_front, get_last}
-use Rattle.cc_runs.specs.declared.word.Chain.TheVariants.{Send}
-use Rattle.cc_runs.specs.declared.word.ItemField.TheVariants as item
-use Rattle.cc_runs.specs.declared.word.Object.TheVariants as object
-use Rattle.cc_runs.specs.declared.word.Word.{Word}
-use Rattle.cc_runs.specs.declared.word.Word.TheVariants.{Object, Item as ItemWord}
-use Rattle.cc_runs.specs.declared.place.Request.{Request}
-use Rattle.cc_runs.specs.declared.place.Parcel.{Parcel}
-use Rattle.cc_runs.specs.declared.place.Job.{Job}
-use Rattle.cc_runs.specs.declared.place.Place.{Place}
-use Rattle.cc_runs.specs.declared.place.Place.TheVariants as place
-use Rattle.cc_runs.specs.declared.place.Sending.{Sending}
-use Rattle.cc_runs.specs.declared.place.Sending.TheVariants as sending
 use Rattle.cc_runs.specs.Words.{groups, put}
 use Rattle.cc_runs.specs.State.{noted, word_of, stored}
-use Rattle.cc_runs.specs.declared.place.BodyWords.{BodyWords}
 use Rattle.cc_runs.specs.Codes.{item_of, request_in, further_words}
 use Rattle.cc_runs.proofs.Chains.Registers.{HasRequest}
 use Rattle.cc_runs.specs.SendLines.{operation, goes, decides, after, mark, by_shut, by_count, by_passed, in_service}
@@ -104,13 +85,13 @@ module _ (c : Config) (mem : Word → ℕ) (d : Duty) (r : ℕ → Regs) (h : Re
   AtStep m service = queue_from m d (enq_in d.e_call d.from service) r
 
   abbrev AtRest : (Word → ℕ) → Queue
-  AtRest m = queue_from m d (enq_at d.e_call d.from place.Idle) r
+  AtRest m = queue_from m d (enq_at d.e_call d.from Place.Idle) r
 
   abbrev Has : Queue → Told → Type 0
   Has v told = Held c.capacity c.life (further c) v told
 
   -- on in the service, with no ghost moved
-  on : (m : Word → ℕ) (there : Sending) → grow.Counted (further c) g → LInv c.capacity c.life (further c + 1) (AtStep m there) g → Reads c d.e_call d.from there → (IsUndecided there → IsNextSend h d.e_call) → Turn c m d r h g (place.Sending job there)
+  on : (m : Word → ℕ) (there : Sending) → grow.Counted (further c) g → LInv c.capacity c.life (further c + 1) (AtStep m there) g → Reads c d.e_call d.from there → (IsUndecided there → IsNextSend h d.e_call) → Turn c m d r h g (Place.Sending job there)
   on m there counted inv reads asked = record {
     from = d.from;
     told = g;
@@ -124,7 +105,7 @@ module _ (c : Config) (mem : Word → ℕ) (d : Duty) (r : ℕ → Regs) (h : Re
   }
 
   -- to the end of the service, with no ghost moved
-  over : (m : Word → ℕ) (told : Answer) → grow.Counted (further c) g → LInv c.capacity c.life (further c + 1) (AtRest m) g → Turn c m d r h g (place.WriteAnswer job told)
+  over : (m : Word → ℕ) (told : Answer) → grow.Counted (further c) g → LInv c.capacity c.life (further c + 1) (AtRest m) g → Turn c m d r h g (Place.WriteAnswer job told)
   over m told counted inv = record {
     from = d.from;
     told = g;
@@ -139,7 +120,7 @@ module _ (c : Config) (mem : Word → ℕ) (d : Duty) (r : ℕ → Regs) (h : Re
 
   -- an answer that accepts nothing and doesn't shut
   answered : (m : Word → ℕ) (told : Answer) → grow.Counted (further c) g → LInv c.capacity c.life (further c + 1) (AtRest m) g
-      → IsNextSend h d.e_call → accepted_item d.e_call told ≡ [] → shuts told ≡ false → EAnswer c (length (accepted h)) (is_shut h) d.e_call.known d.e_call.call told → Turn c m d r (told_send h told) g (place.WriteAnswer job told)
+      → IsNextSend h d.e_call → accepted_item d.e_call told ≡ [] → shuts told ≡ false → EAnswer c (length (accepted h)) (is_shut h) d.e_call.known d.e_call.call told → Turn c m d r (told_send h told) g (Place.WriteAnswer job told)
   answered m told counted inv asked none open_ fits = record {
     from = d.from;
     told = g;
@@ -165,82 +146,82 @@ module _ (c : Config) (mem : Word → ℕ) (d : Duty) (r : ℕ → Regs) (h : Re
 
   -- what a load of the service leads to
   abbrev Leads : line.Next Sending → Type 0
-  Leads next = Turn c mem d r (noted Send h None (line.answer_of next)) g (line.place_of in_service job next)
+  Leads next = Turn c mem d r (noted Chain.Send h None (line.answer_of next)) g (line.place_of in_service job next)
 
   abbrev tag_asked : ℕ
   tag_asked = (request_in d.e_call).tag
 
   -- ---- the load of shut
 
-  shut_branch : (q : Request) (b : Bool) → (q.tag == 0) ≡ b → Has (AtStep mem (sending.ReadShut q)) g → HasRequest d.e_call q.tag q.body → IsNextSend h d.e_call → mem (Object object.Shut) ≢ 0
-      → Leads (cond b (line.On sending.ReadTotal) (line.Decides (answer.Send send.Closed)))
+  shut_branch : (q : Request) (b : Bool) → (q.tag == 0) ≡ b → Has (AtStep mem (Sending.ReadShut q)) g → HasRequest d.e_call q.tag q.body → IsNextSend h d.e_call → mem (Word.Object Object.Shut) ≢ 0
+      → Leads (cond b (line.On Sending.ReadTotal) (line.Decides (Answer.Send SendAnswer.Closed)))
   shut_branch q true e has asked next ne =
       let z : tag_asked ≡ 0 = sym asked.0 ∙ eqb-true q.tag 0 e in
-      on mem sending.ReadTotal has.counted (keeps.read_shut_close mem d r c (further c + 1) g q ne z has.inv) tt (λ u. next)
+      on mem Sending.ReadTotal has.counted (keeps.read_shut_close mem d r c (further c + 1) g q ne z has.inv) tt (λ u. next)
   shut_branch q false e has asked next ne =
       let nz : tag_asked ≢ 0 = λ z. eqb-false q.tag 0 e (asked.0 ∙ z) in
-      answered mem (answer.Send send.Closed) has.counted (keeps.read_shut_send mem d r c (further c + 1) g q ne nz has.inv) next refl refl
-      (fits_shut (answer.Send send.Closed) (decide.read_shut c.capacity c.life (further c + 1) (AtStep mem (sending.ReadShut q)) g has.inv refl ne) (closed_fits c (length (accepted h)) d.e_call.known d.e_call.pass d.e_call.call d.e_call.number caller.senders nz))
+      answered mem (Answer.Send SendAnswer.Closed) has.counted (keeps.read_shut_send mem d r c (further c + 1) g q ne nz has.inv) next refl refl
+      (fits_shut (Answer.Send SendAnswer.Closed) (decide.read_shut c.capacity c.life (further c + 1) (AtStep mem (Sending.ReadShut q)) g has.inv refl ne) (closed_fits c (length (accepted h)) d.e_call.known d.e_call.pass d.e_call.call d.e_call.number caller.senders nz))
 
-  read_shut : (q : Request) (found : ℕ) → mem (Object object.Shut) ≡ found → Has (AtStep mem (sending.ReadShut q)) g → HasRequest d.e_call q.tag q.body → IsNextSend h d.e_call
+  read_shut : (q : Request) (found : ℕ) → mem (Word.Object Object.Shut) ≡ found → Has (AtStep mem (Sending.ReadShut q)) g → HasRequest d.e_call q.tag q.body → IsNextSend h d.e_call
       → Leads (by_shut q found)
-  read_shut q zero e has asked next = on mem (sending.ReadCount q) has.counted (keeps.read_shut_open mem d r c (further c + 1) g q e has.inv) asked (λ u. next)
+  read_shut q zero e has asked next = on mem (Sending.ReadCount q) has.counted (keeps.read_shut_open mem d r c (further c + 1) g q e has.inv) asked (λ u. next)
   read_shut q (suc n) e has asked next = shut_branch q (q.tag == 0) refl has asked next (λ z. omega (arith, z, e))
 
   -- ---- the loads of count
 
-  read_total : Has (AtStep mem sending.ReadTotal) g → IsNextSend h d.e_call
-      → Turn c mem d r (told_send h (answer.Close (close.Already (mem (Object object.Count))))) g (place.WriteAnswer job (answer.Close (close.Already (mem (Object object.Count)))))
+  read_total : Has (AtStep mem Sending.ReadTotal) g → IsNextSend h d.e_call
+      → Turn c mem d r (told_send h (Answer.Close (CloseAnswer.Already (mem (Word.Object Object.Count))))) g (Place.WriteAnswer job (Answer.Close (CloseAnswer.Already (mem (Word.Object Object.Count)))))
   read_total has next =
-      let known : (mem (Object object.Count) ≡ g.accepted) × (g.shut ≡ 1) × (tag_asked ≡ 0) = decide.already c.capacity c.life (further c + 1) (AtStep mem sending.ReadTotal) g has.inv refl in
-      answered mem (answer.Close (close.Already (mem (Object object.Count)))) has.counted (keeps.read_total mem d r c (further c + 1) g has.inv) next refl refl
-      (fits_shut (answer.Close (close.Already (mem (Object object.Count)))) known.1 (already_fits c (length (accepted h)) d.e_call.known d.e_call.pass d.e_call.call d.e_call.number (mem (Object object.Count)) caller.senders known.2 (known.0 ∙ ties.accepted_is)))
+      let known : (mem (Word.Object Object.Count) ≡ g.accepted) × (g.shut ≡ 1) × (tag_asked ≡ 0) = decide.already c.capacity c.life (further c + 1) (AtStep mem Sending.ReadTotal) g has.inv refl in
+      answered mem (Answer.Close (CloseAnswer.Already (mem (Word.Object Object.Count)))) has.counted (keeps.read_total mem d r c (further c + 1) g has.inv) next refl refl
+      (fits_shut (Answer.Close (CloseAnswer.Already (mem (Word.Object Object.Count)))) known.1 (already_fits c (length (accepted h)) d.e_call.known d.e_call.pass d.e_call.call d.e_call.number (mem (Word.Object Object.Count)) caller.senders known.2 (known.0 ∙ ties.accepted_is)))
 
-  life_branch : (q : Request) (b : Bool) → (mem (Object object.Count) == c.life) ≡ b → tag_asked ≢ 0 → Has (AtStep mem (sending.ReadCount q)) g → HasRequest d.e_call q.tag q.body → IsNextSend h d.e_call
-      → Leads (cond b (line.Decides (answer.Send send.Spent)) (line.On (sending.ReadCursor record { place = mem (Object object.Count); tag = q.tag; body = q.body })))
+  life_branch : (q : Request) (b : Bool) → (mem (Word.Object Object.Count) == c.life) ≡ b → tag_asked ≢ 0 → Has (AtStep mem (Sending.ReadCount q)) g → HasRequest d.e_call q.tag q.body → IsNextSend h d.e_call
+      → Leads (cond b (line.Decides (Answer.Send SendAnswer.Spent)) (line.On (Sending.ReadCursor record { place = mem (Word.Object Object.Count); tag = q.tag; body = q.body })))
   life_branch q true e nz has asked next =
-      let full : mem (Object object.Count) ≡ c.life = eqb-true (mem (Object object.Count)) c.life e in
-      let known : (g.accepted ≡ c.life) × (g.shut ≡ 0) = decide.spent c.capacity c.life (further c + 1) (AtStep mem (sending.ReadCount q)) g has.inv refl full in
-      answered mem (answer.Send send.Spent) has.counted (keeps.read_count_spent mem d r c (further c + 1) g q has.inv) next refl refl
-      (fits_open (answer.Send send.Spent) known.1 (spent_fits c (length (accepted h)) d.e_call.known d.e_call.pass d.e_call.call d.e_call.number caller.senders nz (sym ties.accepted_is ∙ known.0)))
+      let full : mem (Word.Object Object.Count) ≡ c.life = eqb-true (mem (Word.Object Object.Count)) c.life e in
+      let known : (g.accepted ≡ c.life) × (g.shut ≡ 0) = decide.spent c.capacity c.life (further c + 1) (AtStep mem (Sending.ReadCount q)) g has.inv refl full in
+      answered mem (Answer.Send SendAnswer.Spent) has.counted (keeps.read_count_spent mem d r c (further c + 1) g q has.inv) next refl refl
+      (fits_open (Answer.Send SendAnswer.Spent) known.1 (spent_fits c (length (accepted h)) d.e_call.known d.e_call.pass d.e_call.call d.e_call.number caller.senders nz (sym ties.accepted_is ∙ known.0)))
   life_branch q false e nz has asked next =
-      on mem (sending.ReadCursor record { place = mem (Object object.Count); tag = q.tag; body = q.body }) has.counted
-      (keeps.read_count_on mem d r c (further c + 1) g q record { place = mem (Object object.Count); tag = q.tag; body = q.body } refl nz (eqb-false (mem (Object object.Count)) c.life e) has.inv) asked (λ u. next)
+      on mem (Sending.ReadCursor record { place = mem (Word.Object Object.Count); tag = q.tag; body = q.body }) has.counted
+      (keeps.read_count_on mem d r c (further c + 1) g q record { place = mem (Word.Object Object.Count); tag = q.tag; body = q.body } refl nz (eqb-false (mem (Word.Object Object.Count)) c.life e) has.inv) asked (λ u. next)
 
-  close_branch : (q : Request) (b : Bool) → (q.tag == 0) ≡ b → Has (AtStep mem (sending.ReadCount q)) g → HasRequest d.e_call q.tag q.body → IsNextSend h d.e_call
-      → Leads (cond b (line.On (sending.ReadLastToClose (mem (Object object.Count)))) (if mem (Object object.Count) == c.life then line.Decides (answer.Send send.Spent) else line.On (sending.ReadCursor record { place = mem (Object object.Count); tag = q.tag; body = q.body })))
+  close_branch : (q : Request) (b : Bool) → (q.tag == 0) ≡ b → Has (AtStep mem (Sending.ReadCount q)) g → HasRequest d.e_call q.tag q.body → IsNextSend h d.e_call
+      → Leads (cond b (line.On (Sending.ReadLastToClose (mem (Word.Object Object.Count)))) (if mem (Word.Object Object.Count) == c.life then line.Decides (Answer.Send SendAnswer.Spent) else line.On (Sending.ReadCursor record { place = mem (Word.Object Object.Count); tag = q.tag; body = q.body })))
   close_branch q true e has asked next =
       let z : tag_asked ≡ 0 = sym asked.0 ∙ eqb-true q.tag 0 e in
-      on mem (sending.ReadLastToClose (mem (Object object.Count))) has.counted (keeps.read_count_close mem d r c (further c + 1) g q z has.inv) tt (λ u. next)
-  close_branch q false e has asked next = life_branch q (mem (Object object.Count) == c.life) refl (λ z. eqb-false q.tag 0 e (asked.0 ∙ z)) has asked next
+      on mem (Sending.ReadLastToClose (mem (Word.Object Object.Count))) has.counted (keeps.read_count_close mem d r c (further c + 1) g q z has.inv) tt (λ u. next)
+  close_branch q false e has asked next = life_branch q (mem (Word.Object Object.Count) == c.life) refl (λ z. eqb-false q.tag 0 e (asked.0 ∙ z)) has asked next
 
   -- ---- the scan
 
-  free_branch : (parcel : Parcel) (at reads : ℕ) (b : Bool) → (reads == c.capacity + 1) ≡ b → mem (ItemWord at item.Passed) ≢ further c + 1 → Has (AtStep mem (sending.ReadPassed parcel at reads)) g → Reads c d.e_call d.from (sending.ReadPassed parcel at reads) → IsNextSend h d.e_call
-      → Leads (cond b (line.Decides (answer.Send send.Full)) (line.On (sending.ReadPassed parcel (after c at) (reads + 1))))
+  free_branch : (parcel : Parcel) (at reads : ℕ) (b : Bool) → (reads == c.capacity + 1) ≡ b → mem (Word.Item at ItemField.Passed) ≢ further c + 1 → Has (AtStep mem (Sending.ReadPassed parcel at reads)) g → Reads c d.e_call d.from (Sending.ReadPassed parcel at reads) → IsNextSend h d.e_call
+      → Leads (cond b (line.Decides (Answer.Send SendAnswer.Full)) (line.On (Sending.ReadPassed parcel (after c at) (reads + 1))))
   free_branch parcel at reads true e ne has read next =
       let all : reads ≡ c.capacity + 1 = eqb-true reads (c.capacity + 1) e in
       let s : Scanned c d.from at reads = read.1 in
-      let v : Queue = AtStep mem (sending.ReadPassed parcel at reads) in
+      let v : Queue = AtStep mem (Sending.ReadPassed parcel at reads) in
       let known : (d.e_call.known + c.capacity ≤ g.accepted) × (g.shut ≡ 0) × (g.accepted < c.life) = decide.full c.capacity c.life (further c + 1) v g has.inv at (s.within, s.past, s.round) refl (omega (arith, all)) ne in
       let nz : tag_asked ≢ 0 = has.inv.request.sends (omega arith) (omega arith) in
-      answered mem (answer.Send send.Full) has.counted (keeps.read_passed_full mem d r c (further c + 1) g parcel at reads has.inv) next refl refl
-      (fits_open (answer.Send send.Full) known.1 (full_fits c (length (accepted h)) d.e_call.known d.e_call.pass d.e_call.call d.e_call.number caller.senders nz (λ z. omega (arith, z, known, ties.accepted_is)) (omega (arith, known, ties.accepted_is))))
+      answered mem (Answer.Send SendAnswer.Full) has.counted (keeps.read_passed_full mem d r c (further c + 1) g parcel at reads has.inv) next refl refl
+      (fits_open (Answer.Send SendAnswer.Full) known.1 (full_fits c (length (accepted h)) d.e_call.known d.e_call.pass d.e_call.call d.e_call.number caller.senders nz (λ z. omega (arith, z, known, ties.accepted_is)) (omega (arith, known, ties.accepted_is))))
   free_branch parcel at reads false e ne has read next =
       let s : Scanned c d.from at reads = read.1 in
       let more : reads ≢ c.capacity + 1 = eqb-false reads (c.capacity + 1) e in
       let from_in : d.from ≤ c.capacity = has.inv.scan.from_in refl in
       let on_scan : Scanned c d.from (after c at) (reads + 1) = scan_on c d.from at reads s more from_in in
-      on mem (sending.ReadPassed parcel (after c at) (reads + 1)) has.counted
+      on mem (Sending.ReadPassed parcel (after c at) (reads + 1)) has.counted
       (keeps.read_passed_busy mem d r c (further c + 1) g parcel at (after c at) reads (s.within, s.past, s.round) ne s.some (omega (arith, s.most, more)) has.inv) (read.0, on_scan) (λ u. next)
 
-  passed_branch : (parcel : Parcel) (at reads : ℕ) (b : Bool) → (mem (ItemWord at item.Passed) == groups c) ≡ b → Has (AtStep mem (sending.ReadPassed parcel at reads)) g → Reads c d.e_call d.from (sending.ReadPassed parcel at reads) → IsNextSend h d.e_call
-      → Leads (cond b (line.On (sending.ResetPassed parcel at)) (if reads == c.capacity + 1 then line.Decides (answer.Send send.Full) else line.On (sending.ReadPassed parcel (after c at) (reads + 1))))
+  passed_branch : (parcel : Parcel) (at reads : ℕ) (b : Bool) → (mem (Word.Item at ItemField.Passed) == groups c) ≡ b → Has (AtStep mem (Sending.ReadPassed parcel at reads)) g → Reads c d.e_call d.from (Sending.ReadPassed parcel at reads) → IsNextSend h d.e_call
+      → Leads (cond b (line.On (Sending.ResetPassed parcel at)) (if reads == c.capacity + 1 then line.Decides (Answer.Send SendAnswer.Full) else line.On (Sending.ReadPassed parcel (after c at) (reads + 1))))
   passed_branch parcel at reads true e has read next =
       let s : Scanned c d.from at reads = read.1 in
-      let free : mem (ItemWord at item.Passed) ≡ further c + 1 = omega (arith, ties.some, eqb-true (mem (ItemWord at item.Passed)) (groups c) e) in
-      on mem (sending.ResetPassed parcel at) has.counted (keeps.read_passed_free mem d r c (further c + 1) g parcel at reads (s.within, s.past, s.round) free has.inv) read.0 (λ u. next)
-  passed_branch parcel at reads false e has read next = free_branch parcel at reads (reads == c.capacity + 1) refl (λ z. eqb-false (mem (ItemWord at item.Passed)) (groups c) e (omega (arith, ties.some, z))) has read next
+      let free : mem (Word.Item at ItemField.Passed) ≡ further c + 1 = omega (arith, ties.some, eqb-true (mem (Word.Item at ItemField.Passed)) (groups c) e) in
+      on mem (Sending.ResetPassed parcel at) has.counted (keeps.read_passed_free mem d r c (further c + 1) g parcel at reads (s.within, s.past, s.round) free has.inv) read.0 (λ u. next)
+  passed_branch parcel at reads false e has read next = free_branch parcel at reads (reads == c.capacity + 1) refl (λ z. eqb-false (mem (Word.Item at ItemField.Passed)) (groups c) e (omega (arith, ties.some, z))) has read next
 
   -- ---- what the ghosts of the node in preparation change of the ties
 
@@ -256,10 +237,10 @@ module _ (c : Config) (mem : Word → ℕ) (d : Duty) (r : ℕ → Regs) (h : Re
     lawful = ties.lawful;
   }
 
-  reset_passed : (parcel : Parcel) (at : ℕ) → Has (AtStep mem (sending.ResetPassed parcel at)) g → HasRequest d.e_call parcel.tag parcel.body → IsNextSend h d.e_call
-      → Turn c (put mem (ItemWord at item.Passed) 0) d r h g (place.Sending job (sending.ResetItemNext parcel at))
+  reset_passed : (parcel : Parcel) (at : ℕ) → Has (AtStep mem (Sending.ResetPassed parcel at)) g → HasRequest d.e_call parcel.tag parcel.body → IsNextSend h d.e_call
+      → Turn c (put mem (Word.Item at ItemField.Passed) 0) d r h g (Place.Sending job (Sending.ResetItemNext parcel at))
   reset_passed parcel at has asked next =
-      let v : Queue = AtStep mem (sending.ResetPassed parcel at) in
+      let v : Queue = AtStep mem (Sending.ResetPassed parcel at) in
       let told : Told = grow.preparing v g in
       let u : Prepares v g told = grow.prepares v g in
       record {
@@ -276,12 +257,12 @@ module _ (c : Config) (mem : Word → ℕ) (d : Duty) (r : ℕ → Regs) (h : Re
 
   -- ---- the linking store of an item
 
-  module _ (count at last : ℕ) (has : Has (AtStep mem (sending.LinkItem count at last)) g) (next : IsNextSend h d.e_call) where
+  module _ (count at last : ℕ) (has : Has (AtStep mem (Sending.LinkItem count at last)) g) (next : IsNextSend h d.e_call) where
     abbrev before : Queue
-    before = AtStep mem (sending.LinkItem count at last)
+    before = AtStep mem (Sending.LinkItem count at last)
 
     abbrev a : Answer
-    a = answer.Send (send.Accepted count)
+    a = Answer.Send (SendAnswer.Accepted count)
 
     abbrev it : Item
     it = item_of count (request_in d.e_call).tag (request_in d.e_call).body
@@ -319,7 +300,7 @@ module _ (c : Config) (mem : Word → ℕ) (d : Duty) (r : ℕ → Regs) (h : Re
     old_item k l ne =
         rw now (get_front (accepted h) (it ∷ []) k (item_of k (g.items k 0) (body_at (g.items k))) (ties.items_are k l) ∙ sym (ap Some (item_same k (told.items k) (g.items k) (λ j. u.items k j ne))))
 
-    link_item : TurnBy c (put mem (ItemWord last item.Next) (at + 1)) d r (told_send h a) g (place.Sending job (sending.WriteLast count at)) (at ∷ [])
+    link_item : TurnBy c (put mem (Word.Item last ItemField.Next) (at + 1)) d r (told_send h a) g (Place.Sending job (Sending.WriteLast count at)) (at ∷ [])
     link_item = record {
       from = d.from;
       told = told;
@@ -343,12 +324,12 @@ module _ (c : Config) (mem : Word → ℕ) (d : Duty) (r : ℕ → Regs) (h : Re
 
   -- ---- the linking store of the mark
 
-  module _ (total last : ℕ) (has : Has (AtStep mem (sending.LinkMark total last)) g) (next : IsNextSend h d.e_call) where
+  module _ (total last : ℕ) (has : Has (AtStep mem (Sending.LinkMark total last)) g) (next : IsNextSend h d.e_call) where
     abbrev before_mark : Queue
-    before_mark = AtStep mem (sending.LinkMark total last)
+    before_mark = AtStep mem (Sending.LinkMark total last)
 
     abbrev shut_told : Answer
-    shut_told = answer.Close (close.Shut total)
+    shut_told = Answer.Close (CloseAnswer.Shut total)
 
     abbrev told_mark : Told
     told_mark = grow.shutting g
@@ -365,7 +346,7 @@ module _ (c : Config) (mem : Word → ℕ) (d : Duty) (r : ℕ → Regs) (h : Re
     now_mark : accepted (told_send h shut_told) ≡ accepted h
     now_mark = e_accepted c h ties.lawful d.e_call shut_told next ∙ append-nil (accepted h)
 
-    link_mark : Turn c (put mem (ItemWord last item.Next) (mark c + 1)) d r (told_send h shut_told) g (place.Sending job (sending.WriteLastMark total))
+    link_mark : Turn c (put mem (Word.Item last ItemField.Next) (mark c + 1)) d r (told_send h shut_told) g (Place.Sending job (Sending.WriteLastMark total))
     link_mark = record {
       from = d.from;
       told = told_mark;
@@ -389,10 +370,10 @@ module _ (c : Config) (mem : Word → ℕ) (d : Duty) (r : ℕ → Regs) (h : Re
 
   -- ---- the load of the cursor: the scan begins there
 
-  read_cursor : (parcel : Parcel) (found : ℕ) → mem (Object object.Cursor) ≡ found → Has (AtStep mem (sending.ReadCursor parcel)) g → HasRequest d.e_call parcel.tag parcel.body → IsNextSend h d.e_call
-      → Turn c mem d r h g (place.Sending job (sending.ReadPassed parcel found 1))
+  read_cursor : (parcel : Parcel) (found : ℕ) → mem (Word.Object Object.Cursor) ≡ found → Has (AtStep mem (Sending.ReadCursor parcel)) g → HasRequest d.e_call parcel.tag parcel.body → IsNextSend h d.e_call
+      → Turn c mem d r h g (Place.Sending job (Sending.ReadPassed parcel found 1))
   read_cursor parcel found e has asked next =
-      let within : mem (Object object.Cursor) ≤ c.capacity = has.inv.words.cursor_in in
+      let within : mem (Word.Object Object.Cursor) ≤ c.capacity = has.inv.words.cursor_in in
       record {
         from = found;
         told = g;
@@ -408,7 +389,7 @@ module _ (c : Config) (mem : Word → ℕ) (d : Duty) (r : ℕ → Regs) (h : Re
   -- ---- a word of the item's body
 
   word_reads : (parcel : Parcel) (at i : ℕ) (b : Bool) → nat_lt i (further_words parcel.tag) ≡ b → HasRequest d.e_call parcel.tag parcel.body × (i ≤ further_words parcel.tag)
-      → Reads c d.e_call d.from (cond b (sending.WriteItemBody parcel at (i + 1)) (sending.ReadLast parcel.place at))
+      → Reads c d.e_call d.from (cond b (Sending.WriteItemBody parcel at (i + 1)) (Sending.ReadLast parcel.place at))
   word_reads parcel at i true is a = (a.0, omega (arith, ltb-true i (further_words parcel.tag) is))
   word_reads parcel at i false is a = tt
 
@@ -418,31 +399,31 @@ module _ (c : Config) (mem : Word → ℕ) (d : Duty) (r : ℕ → Regs) (h : Re
   Needs service = Has (AtStep mem service) g × Reads c d.e_call d.from service × (IsUndecided service → IsNextSend h d.e_call)
 
   pub send_turn : (service : Sending) (found : ℕ) → IsBegun service → mem (word_of (operation c job.round.at service)) ≡ found → Needs service
-      → TurnBy c (stored mem (operation c job.round.at service)) d r (noted Send h None (decides c service found)) g (goes c job service found) (links service)
-  send_turn sending.ReadTag found low e n = absurd low
-  send_turn (sending.ReadBody request i) found low e n = absurd low
-  send_turn (sending.ReadShut q) found low e n = read_shut q found e n.0 n.1 (n.2 tt)
-  send_turn sending.ReadTotal found low e n = subst (λ (k : ℕ). Turn c mem d r (told_send h (answer.Close (close.Already k))) g (place.WriteAnswer job (answer.Close (close.Already k)))) e (read_total n.0 (n.2 tt))
-  send_turn (sending.ReadCount q) found low e n =
+      → TurnBy c (stored mem (operation c job.round.at service)) d r (noted Chain.Send h None (decides c service found)) g (goes c job service found) (links service)
+  send_turn Sending.ReadTag found low e n = absurd low
+  send_turn (Sending.ReadBody request i) found low e n = absurd low
+  send_turn (Sending.ReadShut q) found low e n = read_shut q found e n.0 n.1 (n.2 tt)
+  send_turn Sending.ReadTotal found low e n = subst (λ (k : ℕ). Turn c mem d r (told_send h (Answer.Close (CloseAnswer.Already k))) g (Place.WriteAnswer job (Answer.Close (CloseAnswer.Already k)))) e (read_total n.0 (n.2 tt))
+  send_turn (Sending.ReadCount q) found low e n =
       subst (λ (k : ℕ). Leads (by_count c q k)) e (close_branch q (q.tag == 0) refl n.0 n.1 (n.2 tt))
-  send_turn (sending.ReadLastToClose total) found low e n =
-      let link : (0 < mem (Object object.Last)) × (mem (Object object.Last) ≤ c.capacity + 1) = limits.lastc_link c.capacity c.life (further c + 1) (AtStep mem (sending.ReadLastToClose total)) g n.0.inv refl in
-      subst (λ (k : ℕ). Turn c mem d r h g (place.Sending job (sending.LinkMark total (k - 1)))) e (on mem (sending.LinkMark total (mem (Object object.Last) - 1)) n.0.counted (keeps.read_last_to_close mem d r c (further c + 1) g total link.0 n.0.inv) tt (λ u. n.2 tt))
-  send_turn (sending.LinkMark total last) found low e n = link_mark total last n.0 (n.2 tt)
-  send_turn (sending.WriteLastMark total) found low e n = on _ (sending.WriteShut total) n.0.counted (keeps.write_last_mark mem d r c (further c + 1) g total n.0.inv) tt (λ no. absurd no)
-  send_turn (sending.WriteShut total) found low e n = over _ (answer.Close (close.Shut total)) n.0.counted (keeps.write_shut mem d r c (further c + 1) g total n.0.inv)
-  send_turn (sending.ReadCursor parcel) found low e n = read_cursor parcel found e n.0 n.1 (n.2 tt)
-  send_turn (sending.ReadPassed parcel at reads) found low e n =
-      subst (λ (k : ℕ). Leads (by_passed c parcel at reads k)) e (passed_branch parcel at reads (mem (ItemWord at item.Passed) == groups c) refl n.0 n.1 (n.2 tt))
-  send_turn (sending.ResetPassed parcel at) found low e n = reset_passed parcel at n.0 n.1 (n.2 tt)
-  send_turn (sending.ResetItemNext parcel at) found low e n = on _ (sending.WriteItemTag parcel at) n.0.counted (keeps.reset_next mem d r c (further c + 1) g parcel at n.0.inv) n.1 (λ u. n.2 tt)
-  send_turn (sending.WriteItemTag parcel at) found low e n = on _ (sending.WriteItemBody parcel at 0) n.0.counted (keeps.write_tag mem d r c (further c + 1) g parcel at n.1.0 n.0.inv) (n.1, omega arith) (λ u. n.2 tt)
-  send_turn (sending.WriteItemBody parcel at i) found low e n =
+  send_turn (Sending.ReadLastToClose total) found low e n =
+      let link : (0 < mem (Word.Object Object.Last)) × (mem (Word.Object Object.Last) ≤ c.capacity + 1) = limits.lastc_link c.capacity c.life (further c + 1) (AtStep mem (Sending.ReadLastToClose total)) g n.0.inv refl in
+      subst (λ (k : ℕ). Turn c mem d r h g (Place.Sending job (Sending.LinkMark total (k - 1)))) e (on mem (Sending.LinkMark total (mem (Word.Object Object.Last) - 1)) n.0.counted (keeps.read_last_to_close mem d r c (further c + 1) g total link.0 n.0.inv) tt (λ u. n.2 tt))
+  send_turn (Sending.LinkMark total last) found low e n = link_mark total last n.0 (n.2 tt)
+  send_turn (Sending.WriteLastMark total) found low e n = on _ (Sending.WriteShut total) n.0.counted (keeps.write_last_mark mem d r c (further c + 1) g total n.0.inv) tt (λ no. absurd no)
+  send_turn (Sending.WriteShut total) found low e n = over _ (Answer.Close (CloseAnswer.Shut total)) n.0.counted (keeps.write_shut mem d r c (further c + 1) g total n.0.inv)
+  send_turn (Sending.ReadCursor parcel) found low e n = read_cursor parcel found e n.0 n.1 (n.2 tt)
+  send_turn (Sending.ReadPassed parcel at reads) found low e n =
+      subst (λ (k : ℕ). Leads (by_passed c parcel at reads k)) e (passed_branch parcel at reads (mem (Word.Item at ItemField.Passed) == groups c) refl n.0 n.1 (n.2 tt))
+  send_turn (Sending.ResetPassed parcel at) found low e n = reset_passed parcel at n.0 n.1 (n.2 tt)
+  send_turn (Sending.ResetItemNext parcel at) found low e n = on _ (Sending.WriteItemTag parcel at) n.0.counted (keeps.reset_next mem d r c (further c + 1) g parcel at n.0.inv) n.1 (λ u. n.2 tt)
+  send_turn (Sending.WriteItemTag parcel at) found low e n = on _ (Sending.WriteItemBody parcel at 0) n.0.counted (keeps.write_tag mem d r c (further c + 1) g parcel at n.1.0 n.0.inv) (n.1, omega arith) (λ u. n.2 tt)
+  send_turn (Sending.WriteItemBody parcel at i) found low e n =
       on _ _ n.0.counted (keeps.write_body mem d r c (further c + 1) g parcel at i n.1.0 n.1.1 n.0.inv) (word_reads parcel at i (nat_lt i (further_words parcel.tag)) refl n.1) (λ u. n.2 tt)
-  send_turn (sending.ReadLast count at) found low e n =
-      let link : (0 < mem (Object object.Last)) × (mem (Object object.Last) ≤ c.capacity + 1) = limits.last_link c.capacity c.life (further c + 1) (AtStep mem (sending.ReadLast count at)) g n.0.inv refl in
-      subst (λ (k : ℕ). Turn c mem d r h g (place.Sending job (sending.LinkItem count at (k - 1)))) e (on mem (sending.LinkItem count at (mem (Object object.Last) - 1)) n.0.counted (keeps.read_last mem d r c (further c + 1) g count at link.0 n.0.inv) tt (λ u. n.2 tt))
-  send_turn (sending.LinkItem count at last) found low e n = link_item count at last n.0 (n.2 tt)
-  send_turn (sending.WriteLast count at) found low e n = on _ (sending.WriteCount count at) n.0.counted (keeps.write_last mem d r c (further c + 1) g count at n.0.inv) tt (λ no. absurd no)
-  send_turn (sending.WriteCount count at) found low e n = on _ (sending.WriteCursor count at) n.0.counted (keeps.write_count mem d r c (further c + 1) g count at n.0.inv) tt (λ no. absurd no)
-  send_turn (sending.WriteCursor count at) found low e n = over _ (answer.Send (send.Accepted count)) n.0.counted (keeps.write_cursor mem d r c (further c + 1) g count at n.0.inv)
+  send_turn (Sending.ReadLast count at) found low e n =
+      let link : (0 < mem (Word.Object Object.Last)) × (mem (Word.Object Object.Last) ≤ c.capacity + 1) = limits.last_link c.capacity c.life (further c + 1) (AtStep mem (Sending.ReadLast count at)) g n.0.inv refl in
+      subst (λ (k : ℕ). Turn c mem d r h g (Place.Sending job (Sending.LinkItem count at (k - 1)))) e (on mem (Sending.LinkItem count at (mem (Word.Object Object.Last) - 1)) n.0.counted (keeps.read_last mem d r c (further c + 1) g count at link.0 n.0.inv) tt (λ u. n.2 tt))
+  send_turn (Sending.LinkItem count at last) found low e n = link_item count at last n.0 (n.2 tt)
+  send_turn (Sending.WriteLast count at) found low e n = on _ (Sending.WriteCount count at) n.0.counted (keeps.write_last mem d r c (further c + 1) g count at n.0.inv) tt (λ no. absurd no)
+  send_turn (Sending.WriteCount count at) found low e n = on _ (Sending.WriteCursor count at) n.0.counted (keeps.write_count mem d r c (further c + 1) g count at n.0.inv) tt (λ no. absurd no)
+  send_turn (Sending.WriteCursor count at) found low e n = over _ (Answer.Send (SendAnswer.Accepted count)) n.0.counted (keeps.write_cursor mem d r c (further c + 1) g count at n.0.inv)

@@ -1,13 +1,7 @@
 -- A step of the service of a send or a close keeps the list's invariant of the state.
 use Rattle.std.proofs.Common.{◌≡◌, ◌≢◌, ℕ, None, inl, inr, refl, sym, ap, ◌∙◌, subst}
 use Rattle.std.proofs.lemmas.Bool.{cases_eq}
-use Rattle.cc_model.specs.declared.config.Config.{Config}
-use Rattle.cc_runs.specs.declared.word.Chain.TheVariants.{Send, Take}
-use Rattle.cc_runs.specs.declared.place.Job.{Job}
-use Rattle.cc_runs.specs.declared.place.Place.{Place}
-use Rattle.cc_runs.specs.declared.place.Place.TheVariants as place
-use Rattle.cc_runs.specs.declared.place.Sending.{Sending}
-use Rattle.cc_runs.specs.declared.place.Stand.{Stand}
+use Rattle.cc_runs.specs.Names.{Config, Chain, Job, Place, Sending, Stand}
 use Rattle.cc_runs.specs.State.{State, chain_of, word_of, stored, noted}
 use Rattle.cc_runs.specs.SendLines as send_side
 use Rattle.cc_runs.specs.Step.{stepped_from}
@@ -21,12 +15,12 @@ use Rattle.cc_runs.proofs.ListRuns.Facts.{lists}
 use Rattle.cc_runs.proofs.ListRuns.Still.{StillTake, send_still}
 use Rattle.cc_runs.proofs.ListRuns.Whole.{Parts, OnwardBy}
 
-module _ (c : Config) (s : State) (p begun own : ℕ) (job : Job) (service : Sending) (at : s.stand p ≡ record { begun = begun; node = own; place = place.Sending job service }) (on : IsBegun service) (k : Parts c s) where
+module _ (c : Config) (s : State) (p begun own : ℕ) (job : Job) (service : Sending) (at : s.stand p ≡ record { begun = begun; node = own; place = Place.Sending job service }) (on : IsBegun service) (k : Parts c s) where
   abbrev d : Duty
   d = k.duty
 
   abbrev t : State
-  t = stepped_from (lists c) s Send p (record { begun = begun; node = own; place = place.Sending job service })
+  t = stepped_from (lists c) s Chain.Send p (record { begun = begun; node = own; place = Place.Sending job service })
 
   abbrev found : ℕ
   found = s.mem (word_of (send_side.operation c job.round.at service))
@@ -37,16 +31,16 @@ module _ (c : Config) (s : State) (p begun own : ℕ) (job : Job) (service : Sen
   abbrev regs : ℕ → Regs
   regs = regs_of s.stand d
 
-  stands : (s.stand p).place ≡ place.Sending job service
+  stands : (s.stand p).place ≡ Place.Sending job service
   stands = ap (λ (z : Stand). z.place) at
 
   mine : p ≡ d.e_pass
   mine = elim (cases_eq p d.e_pass) [ inl e ↦ e | inr ne ↦ absurd (k.serving.e_only p ne (subst (λ (z : Place). IsServing z) (sym stands) on)) ]
 
-  stands_there : (s.stand d.e_pass).place ≡ place.Sending job service
+  stands_there : (s.stand d.e_pass).place ≡ Place.Sending job service
   stands_there = ap (λ (q : ℕ). (s.stand q).place) (sym mine) ∙ stands
 
-  turn : send_turn.TurnBy c (stored s.mem (send_side.operation c job.round.at service)) d regs (noted Send s.history None (send_side.decides c service found)) k.told there (links service)
+  turn : send_turn.TurnBy c (stored s.mem (send_side.operation c job.round.at service)) d regs (noted Chain.Send s.history None (send_side.decides c service found)) k.told there (links service)
   turn = send_turn.send_turn c s.mem d regs s.history k.told k.ties k.serving.caller job service found on refl (
     subst (λ (z : Place). Held c.capacity c.life (further c) (queue_from s.mem d (enq_at d.e_call d.from z) regs) k.told) stands_there k.list,
     subst (λ (z : Place). ReadsAt c d.e_call d.from z) stands_there k.serving.reads,
@@ -76,7 +70,7 @@ module _ (c : Config) (s : State) (p begun own : ℕ) (job : Job) (service : Sen
       serving = record {
         e_only = hold_all (λ (q : ℕ) (z : Stand). q ≢ d.e_pass → IsServing z.place → ⊥) s.stand p _ (λ ne u. ne mine) (λ q ne n u. k.serving.e_only q n u);
         d_mine = k.serving.d_mine;
-        d_only = λ y. hold_all (λ (q : ℕ) (z : Stand). chain_of c q ≡ Take y → q ≢ d.d_pass y → IsTaking z.place → ⊥) s.stand p _ (λ e ne u. still.takes u) (λ q ne e n u. k.serving.d_only y q e n u);
+        d_only = λ y. hold_all (λ (q : ℕ) (z : Stand). chain_of c q ≡ Chain.Take y → q ≢ d.d_pass y → IsTaking z.place → ⊥) s.stand p _ (λ e ne u. still.takes u) (λ q ne e n u. k.serving.d_only y q e n u);
         caller = k.serving.caller;
         reads = subst (λ (z : Place). ReadsAt c d.e_call turn.from z) (sym now) turn.reads;
         next_send = subst (λ (z : Place). IsUndecidedAt z → IsNextSend t.history d.e_call) (sym now) turn.next_call;

@@ -3,13 +3,7 @@ use Rattle.std.proofs.Common.{◌≡◌, ◌≢◌, ◌<◌, ℕ, Some, length, 
 use Rattle.std.proofs.lemmas.Bool.{cases_eq}
 use Rattle.std.specs.List.{slice_get}
 use Rattle.cc_model.specs.Record.{Side}
-use Rattle.cc_model.specs.declared.config.Config.{Config}
-use Rattle.cc_runs.specs.declared.word.Chain.TheVariants.{Take}
-use Rattle.cc_runs.specs.declared.place.Job.{Job}
-use Rattle.cc_runs.specs.declared.place.Place.{Place}
-use Rattle.cc_runs.specs.declared.place.Place.TheVariants as place
-use Rattle.cc_runs.specs.declared.place.Taking.{Taking}
-use Rattle.cc_runs.specs.declared.place.Stand.{Stand}
+use Rattle.cc_runs.specs.Names.{Config, Chain, Job, Place, Taking, Stand}
 use Rattle.cc_runs.specs.State.{State, chain_of, word_of, stored, noted}
 use Rattle.cc_runs.specs.Words.{groups}
 use Rattle.cc_runs.specs.Lines.{group_of}
@@ -25,12 +19,12 @@ use Rattle.cc_runs.proofs.ListRuns.Facts.{lists}
 use Rattle.cc_runs.proofs.ListRuns.Still.{StillSend, take_still}
 use Rattle.cc_runs.proofs.ListRuns.Whole.{Parts, Onward}
 
-module _ (c : Config) (s : State) (p begun own y : ℕ) (chain : chain_of c p ≡ Take y) (inside : y < groups c) (job : Job) (service : Taking) (at : s.stand p ≡ record { begun = begun; node = own; place = place.Taking job service }) (k : Parts c s) where
+module _ (c : Config) (s : State) (p begun own y : ℕ) (chain : chain_of c p ≡ Chain.Take y) (inside : y < groups c) (job : Job) (service : Taking) (at : s.stand p ≡ record { begun = begun; node = own; place = Place.Taking job service }) (k : Parts c s) where
   abbrev d : Duty
   d = k.duty
 
   abbrev t : State
-  t = stepped_from (lists c) s (Take y) p (record { begun = begun; node = own; place = place.Taking job service })
+  t = stepped_from (lists c) s (Chain.Take y) p (record { begun = begun; node = own; place = Place.Taking job service })
 
   abbrev found : ℕ
   found = s.mem (word_of (take_side.operation y service))
@@ -41,7 +35,7 @@ module _ (c : Config) (s : State) (p begun own y : ℕ) (chain : chain_of c p �
   abbrev enq : Enq
   enq = enq_at d.e_call d.from (s.stand d.e_pass).place
 
-  stands : (s.stand p).place ≡ place.Taking job service
+  stands : (s.stand p).place ≡ Place.Taking job service
   stands = ap (λ (z : Stand). z.place) at
 
   mine : p ≡ d.d_pass y
@@ -51,7 +45,7 @@ module _ (c : Config) (s : State) (p begun own y : ℕ) (chain : chain_of c p �
   apart : (q : ℕ) → q ≢ y → p ≢ d.d_pass q
   apart q ne same = ne (ap group_of (sym (k.serving.d_mine q) ∙ ap (λ (z : ℕ). chain_of c z) (sym same) ∙ chain))
 
-  stands_there : (s.stand (d.d_pass y)).place ≡ place.Taking job service
+  stands_there : (s.stand (d.d_pass y)).place ≡ Place.Taking job service
   stands_there = ap (λ (q : ℕ). (s.stand q).place) (sym mine) ∙ stands
 
   next : IsNextTake s.history y (d.d_call y)
@@ -63,7 +57,7 @@ module _ (c : Config) (s : State) (p begun own y : ℕ) (chain : chain_of c p �
   same : (q : ℕ) → q ≢ y → regs_of t.stand d q ≡ regs_of s.stand d q
   same q ne = ap (λ (z : Stand). regs_at z.place) (hold_other s.stand p (d.d_pass q) _ (apart q ne))
 
-  turn : take_turn.Turn c (stored s.mem (take_side.operation y service)) d enq y (regs_of t.stand d) (noted (Take y) s.history None (take_side.decides service found)) k.told there
+  turn : take_turn.Turn c (stored s.mem (take_side.operation y service)) d enq y (regs_of t.stand d) (noted (Chain.Take y) s.history None (take_side.decides service found)) k.told there
   turn = take_turn.take_turn c s.mem d enq s.history k.told k.ties y inside next job (regs_of s.stand d) (regs_of t.stand d) same k.list service found refl (ap regs_at stands_there) (ap regs_at now)
 
   still : StillSend there
@@ -87,7 +81,7 @@ module _ (c : Config) (s : State) (p begun own y : ℕ) (chain : chain_of c p �
       serving = record {
         e_only = hold_all (λ (q : ℕ) (z : Stand). q ≢ d.e_pass → IsServing z.place → ⊥) s.stand p _ (λ ne u. still.serves u) (λ q ne n u. k.serving.e_only q n u);
         d_mine = k.serving.d_mine;
-        d_only = λ x. hold_all (λ (q : ℕ) (z : Stand). chain_of c q ≡ Take x → q ≢ d.d_pass x → IsTaking z.place → ⊥) s.stand p _
+        d_only = λ x. hold_all (λ (q : ℕ) (z : Stand). chain_of c q ≡ Chain.Take x → q ≢ d.d_pass x → IsTaking z.place → ⊥) s.stand p _
             (λ e ne u. ne (mine ∙ ap d.d_pass (ap group_of (sym chain ∙ e)))) (λ q ne e n u. k.serving.d_only x q e n u);
         caller = k.serving.caller;
         reads = hold_all (λ (q : ℕ) (z : Stand). q ≡ d.e_pass → ReadsAt c d.e_call d.from z.place) s.stand p _ (λ e. still.reads c d.e_call d.from)

@@ -9,23 +9,8 @@ use Rattle.cc_runs.proofs.Chains.Facts.{noted_none}
 use Rattle.cc_runs.proofs.ListRuns.Decided.{group_mine, group_other}
 use Rattle.cc_model.specs.Record.{Side, Record, of_group, with_call, with_sends, with_takes}
 use Rattle.cc_model.specs.Items.{accepted, handed_by, handed_to_all, is_shut, entries}
-use Rattle.cc_model.specs.declared.config.Config.{Config}
-use Rattle.cc_model.specs.declared.call.Pass.TheVariants.{Sender}
-use Rattle.cc_model.specs.declared.call.Entry.{Entry}
+use Rattle.cc_runs.specs.Names.{Config, Pass, Entry, Served, Chain, NodeField, Word, Job, Round, Request, Place, Sending, Stand}
 use Rattle.cc_model.proofs.Grows.{get_front, e_calls_more, accepted_calls_more, d_calls_more}
-use Rattle.cc_runs.specs.declared.setting.Served.TheVariants as served
-use Rattle.cc_runs.specs.declared.word.Chain.{Chain}
-use Rattle.cc_runs.specs.declared.word.Chain.TheVariants.{Send, Take}
-use Rattle.cc_runs.specs.declared.word.NodeField.TheVariants as node
-use Rattle.cc_runs.specs.declared.word.Word.{Word}
-use Rattle.cc_runs.specs.declared.word.Word.TheVariants.{Node}
-use Rattle.cc_runs.specs.declared.place.Job.{Job}
-use Rattle.cc_runs.specs.declared.place.Round.{Round}
-use Rattle.cc_runs.specs.declared.place.Request.{Request}
-use Rattle.cc_runs.specs.declared.place.Place.{Place}
-use Rattle.cc_runs.specs.declared.place.Place.TheVariants as place
-use Rattle.cc_runs.specs.declared.place.Sending.TheVariants as sending
-use Rattle.cc_runs.specs.declared.place.Stand.{Stand}
 use Rattle.cc_runs.specs.Codes.{further_words, with_asked}
 use Rattle.cc_runs.specs.State.{State, chain_of, pass_at, hold, noted, word_of}
 use Rattle.cc_runs.specs.Lines.{operation, after_next}
@@ -47,18 +32,18 @@ use Rattle.cc_runs.proofs.ListRuns.EnterTake.{take_enters}
 
 -- ---- where a combiner goes on
 
-read_tag_still : (job : Job) → StillSend (place.Sending job sending.ReadTag)
+read_tag_still : (job : Job) → StillSend (Place.Sending job Sending.ReadTag)
 read_tag_still job = record { enq_is = λ e from. refl; serves = λ u. u; open_send = λ u. u; reads = λ c e from. tt }
 
-read_body_still : (job : Job) (request : Request) (i : ℕ) → StillSend (place.Sending job (sending.ReadBody request i))
+read_body_still : (job : Job) (request : Request) (i : ℕ) → StillSend (Place.Sending job (Sending.ReadBody request i))
 read_body_still job request i = record { enq_is = λ e from. refl; serves = λ u. u; open_send = λ u. u; reads = λ c e from. tt }
 
-next_send_still : (round : Round) (found : ℕ) → StillSend (after_next served.List Send round found)
-next_send_still round zero = still_send (place.HandOver round.at) tt
+next_send_still : (round : Round) (found : ℕ) → StillSend (after_next Served.List Chain.Send round found)
+next_send_still round zero = still_send (Place.HandOver round.at) tt
 next_send_still round (suc n) = read_tag_still _
 
-next_take_still : (round : Round) (found : ℕ) → StillTake (after_next served.List Send round found)
-next_take_still round zero = still_take (place.HandOver round.at) tt
+next_take_still : (round : Round) (found : ℕ) → StillTake (after_next Served.List Chain.Send round found)
+next_take_still round zero = still_take (Place.HandOver round.at) tt
 next_take_still round (suc n) = in_send _ _
 
 -- ---- an exchange puts a call into the history
@@ -135,33 +120,33 @@ module _ (c : Config) (s : State) (p begun own : ℕ) (within : p < passes (list
       quiet c s p now mem' s.history k (subst StillSend same a) (subst StillTake same b) e f words (λ e n. n) (λ y e n. n) (λ t. t)
 
   -- a word of a request: the service begins with the last one
-  read_step : (job : Job) (request : Request) (i : ℕ) (b : Bool) → nat_lt i (further_words request.tag) ≡ b → s.stand p ≡ stand_at (place.Sending job (sending.ReadBody request i)) → ChainFacts (lists c) s
-      → Onward c s k (record { mem = s.mem; stand = hold s.stand p (stand_at (place.Sending job (cond b (sending.ReadBody (with_asked request i (s.mem (Node Send job.round.at (node.Body i)))) (i + 1)) (sending.ReadShut (with_asked request i (s.mem (Node Send job.round.at (node.Body i)))))))); history = s.history })
-  read_step job request i true is stands facts = chain_step Send _ stands _ _ (read_body_still job request i) (in_send job _) (read_body_still job _ (i + 1)) (in_send job _) (λ d e r. refl)
+  read_step : (job : Job) (request : Request) (i : ℕ) (b : Bool) → nat_lt i (further_words request.tag) ≡ b → s.stand p ≡ stand_at (Place.Sending job (Sending.ReadBody request i)) → ChainFacts (lists c) s
+      → Onward c s k (record { mem = s.mem; stand = hold s.stand p (stand_at (Place.Sending job (cond b (Sending.ReadBody (with_asked request i (s.mem (Word.Node Chain.Send job.round.at (NodeField.Body i)))) (i + 1)) (Sending.ReadShut (with_asked request i (s.mem (Word.Node Chain.Send job.round.at (NodeField.Body i)))))))); history = s.history })
+  read_step job request i true is stands facts = chain_step Chain.Send _ stands _ _ (read_body_still job request i) (in_send job _) (read_body_still job _ (i + 1)) (in_send job _) (λ d e r. refl)
   read_step job request i false is stands facts = send_enters c s p begun own job request i (ltb-false i (further_words request.tag) is) (ap (λ (z : Stand). z.place) stands) within facts posts.outside e_callers k
 
-  pub send_step : (at : Place) → s.stand p ≡ stand_at at → Well s.history Send (Sender (p + 1)) begun at → ChainFacts (lists c) s → OnwardBy c s k (stepped_from (lists c) s Send p (stand_at at)) (links_at at)
-  send_step (place.Counting job service) stands w facts = absurd w
-  send_step (place.Taking job service) stands w facts = absurd w
-  send_step (place.Sending job sending.ReadTag) stands w facts =
-      chain_step Send _ stands _ _ (read_tag_still job) (in_send job _) (read_body_still job _ 0) (in_send job _) (λ d e r. refl)
-  send_step (place.Sending job (sending.ReadBody request i)) stands w facts = read_step job request i (nat_lt i (further_words request.tag)) refl stands facts
-  send_step (place.Sending job service) stands w facts = send_serves c s p begun own job service stands tt k
-  send_step (place.ReadNext round) stands w facts =
-      chain_step Send _ stands _ _ (still_send (place.ReadNext round) tt) (still_take (place.ReadNext round) tt) (next_send_still round _) (next_take_still round _) (λ d e r. refl)
-  send_step (place.Exchange e) stands w facts =
-      let same : place.Exchange e ≡ (s.stand p).place = ap (λ (z : Stand). z.place) (sym stands) in
-      quiet c s p _ _ (with_sends s.history (with_call s.history.sends e)) k (subst StillSend same (still_send (place.Exchange e) tt)) (subst StillTake same (still_take (place.Exchange e) tt))
-      (still_send (place.WriteTag own _) tt) (still_take (place.WriteTag own _) tt) (λ d e r. refl)
+  pub send_step : (at : Place) → s.stand p ≡ stand_at at → Well s.history Chain.Send (Pass.Sender (p + 1)) begun at → ChainFacts (lists c) s → OnwardBy c s k (stepped_from (lists c) s Chain.Send p (stand_at at)) (links_at at)
+  send_step (Place.Counting job service) stands w facts = absurd w
+  send_step (Place.Taking job service) stands w facts = absurd w
+  send_step (Place.Sending job Sending.ReadTag) stands w facts =
+      chain_step Chain.Send _ stands _ _ (read_tag_still job) (in_send job _) (read_body_still job _ 0) (in_send job _) (λ d e r. refl)
+  send_step (Place.Sending job (Sending.ReadBody request i)) stands w facts = read_step job request i (nat_lt i (further_words request.tag)) refl stands facts
+  send_step (Place.Sending job service) stands w facts = send_serves c s p begun own job service stands tt k
+  send_step (Place.ReadNext round) stands w facts =
+      chain_step Chain.Send _ stands _ _ (still_send (Place.ReadNext round) tt) (still_take (Place.ReadNext round) tt) (next_send_still round _) (next_take_still round _) (λ d e r. refl)
+  send_step (Place.Exchange e) stands w facts =
+      let same : Place.Exchange e ≡ (s.stand p).place = ap (λ (z : Stand). z.place) (sym stands) in
+      quiet c s p _ _ (with_sends s.history (with_call s.history.sends e)) k (subst StillSend same (still_send (Place.Exchange e) tt)) (subst StillTake same (still_take (Place.Exchange e) tt))
+      (still_send (Place.WriteTag own _) tt) (still_take (Place.WriteTag own _) tt) (λ d e r. refl)
       (λ a n. get_more s.history.sends.calls e (length s.history.sends.answers) a n) (λ y a n. n) (e_call_ties c s.history e k.told)
-  send_step (place.ResetNext e) stands w facts = chain_step Send _ stands _ _ (still_send (place.ResetNext e) tt) (still_take (place.ResetNext e) tt) (still_send (place.ResetState e) tt) (still_take (place.ResetState e) tt) (λ d e r. refl)
-  send_step (place.ResetState e) stands w facts = chain_step Send _ stands _ _ (still_send (place.ResetState e) tt) (still_take (place.ResetState e) tt) (still_send (place.Exchange e) tt) (still_take (place.Exchange e) tt) (λ d e r. refl)
-  send_step place.Idle stands w facts = chain_step Send _ stands _ _ (still_send place.Idle tt) (still_take place.Idle tt) (still_send place.Idle tt) (still_take place.Idle tt) (λ d e r. refl)
-  send_step at stands w facts = chain_step Send _ stands _ _ (still_send at tt) (still_take at tt) (plain_goes c Send own at (finds Send at) tt).still_send (plain_goes c Send own at (finds Send at) tt).still_take (λ d e r. refl)
+  send_step (Place.ResetNext e) stands w facts = chain_step Chain.Send _ stands _ _ (still_send (Place.ResetNext e) tt) (still_take (Place.ResetNext e) tt) (still_send (Place.ResetState e) tt) (still_take (Place.ResetState e) tt) (λ d e r. refl)
+  send_step (Place.ResetState e) stands w facts = chain_step Chain.Send _ stands _ _ (still_send (Place.ResetState e) tt) (still_take (Place.ResetState e) tt) (still_send (Place.Exchange e) tt) (still_take (Place.Exchange e) tt) (λ d e r. refl)
+  send_step Place.Idle stands w facts = chain_step Chain.Send _ stands _ _ (still_send Place.Idle tt) (still_take Place.Idle tt) (still_send Place.Idle tt) (still_take Place.Idle tt) (λ d e r. refl)
+  send_step at stands w facts = chain_step Chain.Send _ stands _ _ (still_send at tt) (still_take at tt) (plain_goes c Chain.Send own at (finds Chain.Send at) tt).still_send (plain_goes c Chain.Send own at (finds Chain.Send at) tt).still_take (λ d e r. refl)
 
   -- ---- a step of a receiver of group y
 
-  module _ (y : ℕ) (chain : chain_of c p ≡ Take y) (inside : y < groups c) where
+  module _ (y : ℕ) (chain : chain_of c p ≡ Chain.Take y) (inside : y < groups c) where
     side_in : y < length s.history.takes
     side_in = omega (arith, inside, k.ties.many)
 
@@ -169,30 +154,30 @@ module _ (c : Config) (s : State) (p begun own : ℕ) (within : p < passes (list
     quiet_step : (at : Place) → s.stand p ≡ stand_at at → (mem' : Word → ℕ) (now : Stand)
         → StillSend at → StillTake at → StillSend now.place → StillTake now.place
         → ((d : Duty) (e : Enq) (r : ℕ → Regs) → queue_from mem' d e r ≡ queue_from s.mem d e r)
-        → Onward c s k (record { mem = mem'; stand = hold s.stand p now; history = noted (Take y) s.history None None })
+        → Onward c s k (record { mem = mem'; stand = hold s.stand p now; history = noted (Chain.Take y) s.history None None })
     quiet_step at stands mem' now a b e f words =
-        subst (λ (h : Record). Onward c s k (record { mem = mem'; stand = hold s.stand p now; history = h })) (sym (noted_none (Take y) s.history)) (chain_step (Take y) at stands mem' now a b e f words)
+        subst (λ (h : Record). Onward c s k (record { mem = mem'; stand = hold s.stand p now; history = h })) (sym (noted_none (Chain.Take y) s.history)) (chain_step (Chain.Take y) at stands mem' now a b e f words)
 
-    next_step : (round : Round) → s.stand p ≡ stand_at (place.ReadNext round) → (found : ℕ)
-        → ChainFacts (lists c) (record { mem = s.mem; stand = hold s.stand p (stand_at (after_next served.List (Take y) round found)); history = noted (Take y) s.history None None })
-        → Onward c s k (record { mem = s.mem; stand = hold s.stand p (stand_at (after_next served.List (Take y) round found)); history = noted (Take y) s.history None None })
-    next_step round stands zero facts = quiet_step _ stands _ _ (still_send (place.ReadNext round) tt) (still_take (place.ReadNext round) tt) (still_send (place.HandOver round.at) tt) (still_take (place.HandOver round.at) tt) (λ d e r. refl)
+    next_step : (round : Round) → s.stand p ≡ stand_at (Place.ReadNext round) → (found : ℕ)
+        → ChainFacts (lists c) (record { mem = s.mem; stand = hold s.stand p (stand_at (after_next Served.List (Chain.Take y) round found)); history = noted (Chain.Take y) s.history None None })
+        → Onward c s k (record { mem = s.mem; stand = hold s.stand p (stand_at (after_next Served.List (Chain.Take y) round found)); history = noted (Chain.Take y) s.history None None })
+    next_step round stands zero facts = quiet_step _ stands _ _ (still_send (Place.ReadNext round) tt) (still_take (Place.ReadNext round) tt) (still_send (Place.HandOver round.at) tt) (still_take (Place.HandOver round.at) tt) (λ d e r. refl)
     next_step round stands (suc next) facts =
-        subst (λ (h : Record). Onward c s k (record { mem = s.mem; stand = hold s.stand p (stand_at (after_next served.List (Take y) round (suc next))); history = h })) (sym (noted_none (Take y) s.history))
+        subst (λ (h : Record). Onward c s k (record { mem = s.mem; stand = hold s.stand p (stand_at (after_next Served.List (Chain.Take y) round (suc next))); history = h })) (sym (noted_none (Chain.Take y) s.history))
         (take_enters c s p begun own y chain inside round next (ap (λ (z : Stand). z.place) stands) within posts.outside (d_callers y) k
-        (subst (λ (h : Record). ChainFacts (lists c) (record { mem = s.mem; stand = hold s.stand p (stand_at (after_next served.List (Take y) round (suc next))); history = h })) (noted_none (Take y) s.history) facts))
+        (subst (λ (h : Record). ChainFacts (lists c) (record { mem = s.mem; stand = hold s.stand p (stand_at (after_next Served.List (Chain.Take y) round (suc next))); history = h })) (noted_none (Chain.Take y) s.history) facts))
 
-    pub take_step : (at : Place) → s.stand p ≡ stand_at at → Well s.history (Take y) (pass_at c p) begun at → ChainFacts (lists c) (stepped_from (lists c) s (Take y) p (stand_at at)) → OnwardBy c s k (stepped_from (lists c) s (Take y) p (stand_at at)) (links_at at)
-    take_step (place.Counting job service) stands w facts = absurd w
-    take_step (place.Sending job service) stands w facts = absurd cc
-    take_step (place.Taking job service) stands w facts = take_serves c s p begun own y chain inside job service stands k
-    take_step (place.ReadNext round) stands w facts = next_step round stands (finds (Take y) (place.ReadNext round)) facts
-    take_step (place.Exchange e) stands w facts =
-        let same : place.Exchange e ≡ (s.stand p).place = ap (λ (z : Stand). z.place) (sym stands) in
-        quiet c s p _ _ (called s.history y e) k (subst StillSend same (still_send (place.Exchange e) tt)) (subst StillTake same (still_take (place.Exchange e) tt))
-        (still_send (place.Link own) tt) (still_take (place.Link own) tt) (λ d e r. refl)
+    pub take_step : (at : Place) → s.stand p ≡ stand_at at → Well s.history (Chain.Take y) (pass_at c p) begun at → ChainFacts (lists c) (stepped_from (lists c) s (Chain.Take y) p (stand_at at)) → OnwardBy c s k (stepped_from (lists c) s (Chain.Take y) p (stand_at at)) (links_at at)
+    take_step (Place.Counting job service) stands w facts = absurd w
+    take_step (Place.Sending job service) stands w facts = absurd cc
+    take_step (Place.Taking job service) stands w facts = take_serves c s p begun own y chain inside job service stands k
+    take_step (Place.ReadNext round) stands w facts = next_step round stands (finds (Chain.Take y) (Place.ReadNext round)) facts
+    take_step (Place.Exchange e) stands w facts =
+        let same : Place.Exchange e ≡ (s.stand p).place = ap (λ (z : Stand). z.place) (sym stands) in
+        quiet c s p _ _ (called s.history y e) k (subst StillSend same (still_send (Place.Exchange e) tt)) (subst StillTake same (still_take (Place.Exchange e) tt))
+        (still_send (Place.Link own) tt) (still_take (Place.Link own) tt) (λ d e r. refl)
         (λ a n. n) (called_next c s.history y e side_in) (d_call_ties c s.history y e side_in k.told)
-    take_step (place.ResetNext e) stands w facts = quiet_step _ stands _ _ (still_send (place.ResetNext e) tt) (still_take (place.ResetNext e) tt) (still_send (place.ResetState e) tt) (still_take (place.ResetState e) tt) (λ d e r. refl)
-    take_step (place.ResetState e) stands w facts = quiet_step _ stands _ _ (still_send (place.ResetState e) tt) (still_take (place.ResetState e) tt) (still_send (place.Exchange e) tt) (still_take (place.Exchange e) tt) (λ d e r. refl)
-    take_step place.Idle stands w facts = quiet_step _ stands _ _ (still_send place.Idle tt) (still_take place.Idle tt) (still_send place.Idle tt) (still_take place.Idle tt) (λ d e r. refl)
-    take_step at stands w facts = quiet_step _ stands _ _ (still_send at tt) (still_take at tt) (plain_goes c (Take y) own at (finds (Take y) at) tt).still_send (plain_goes c (Take y) own at (finds (Take y) at) tt).still_take (λ d e r. refl)
+    take_step (Place.ResetNext e) stands w facts = quiet_step _ stands _ _ (still_send (Place.ResetNext e) tt) (still_take (Place.ResetNext e) tt) (still_send (Place.ResetState e) tt) (still_take (Place.ResetState e) tt) (λ d e r. refl)
+    take_step (Place.ResetState e) stands w facts = quiet_step _ stands _ _ (still_send (Place.ResetState e) tt) (still_take (Place.ResetState e) tt) (still_send (Place.Exchange e) tt) (still_take (Place.Exchange e) tt) (λ d e r. refl)
+    take_step Place.Idle stands w facts = quiet_step _ stands _ _ (still_send Place.Idle tt) (still_take Place.Idle tt) (still_send Place.Idle tt) (still_take Place.Idle tt) (λ d e r. refl)
+    take_step at stands w facts = quiet_step _ stands _ _ (still_send at tt) (still_take at tt) (plain_goes c (Chain.Take y) own at (finds (Chain.Take y) at) tt).still_send (plain_goes c (Chain.Take y) own at (finds (Chain.Take y) at) tt).still_take (λ d e r. refl)

@@ -1,20 +1,7 @@
 -- Places at which a pass isn't in the service of the list, on the one side or on the other; and the steps between them.
 use Rattle.std.proofs.Common.{◌≡◌, ℕ, zero, suc, ◌+◌, ◌==◌, nat_lt, Bool, true, false, if◌then◌else◌, refl}
 use Rattle.cc_model.specs.Record.{Record}
-use Rattle.cc_model.specs.declared.config.Config.{Config}
-use Rattle.cc_model.specs.declared.call.Entry.{Entry}
-use Rattle.cc_model.specs.declared.call.Pass.{Pass}
-use Rattle.cc_model.specs.declared.call.Answer.{Answer}
-use Rattle.cc_model.specs.declared.call.Answer.TheVariants as answer
-use Rattle.cc_model.specs.declared.call.TakeAnswer.TheVariants as take
-use Rattle.cc_runs.specs.declared.setting.Served.TheVariants as served
-use Rattle.cc_runs.specs.declared.word.Chain.{Chain}
-use Rattle.cc_runs.specs.declared.word.Chain.TheVariants.{Send, Take}
-use Rattle.cc_runs.specs.declared.place.Job.{Job}
-use Rattle.cc_runs.specs.declared.place.Place.{Place}
-use Rattle.cc_runs.specs.declared.place.Place.TheVariants as place
-use Rattle.cc_runs.specs.declared.place.Sending.{Sending}
-use Rattle.cc_runs.specs.declared.place.Taking.{Taking}
+use Rattle.cc_runs.specs.Names.{Config, Entry, Pass, Answer, TakeAnswer, Served, Chain, Job, Place, Sending, Taking}
 use Rattle.cc_runs.specs.Lines.{goes, after_state, after_answer, after_done, after_ret}
 use Rattle.cc_runs.specs.Codes.{code_of, parcel, no_words, with_read, tag_of, further_words}
 use Rattle.cc_runs.specs.SendLines as send_side
@@ -51,39 +38,39 @@ if_plain false first second y n = n
 -- ---- each place of the chain's own
 
 abbrev IsChain : Place → Type 0
-IsChain (place.Sending job service) = ⊥
-IsChain (place.Taking job service) = ⊥
-IsChain (place.Counting job service) = ⊥
+IsChain (Place.Sending job service) = ⊥
+IsChain (Place.Taking job service) = ⊥
+IsChain (Place.Counting job service) = ⊥
 IsChain _ = Unit {0}
 
 pub still_send : (at : Place) → IsChain at → StillSend at
-still_send (place.Sending job service) never = absurd never
-still_send (place.Taking job service) never = absurd never
-still_send (place.Counting job service) never = absurd never
+still_send (Place.Sending job service) never = absurd never
+still_send (Place.Taking job service) never = absurd never
+still_send (Place.Counting job service) never = absurd never
 still_send _ u = record { enq_is = λ e from. refl; serves = λ never. never; open_send = λ never. never; reads = λ c e from. tt }
 
 pub still_take : (at : Place) → IsChain at → StillTake at
-still_take (place.Sending job service) never = absurd never
-still_take (place.Taking job service) never = absurd never
-still_take (place.Counting job service) never = absurd never
+still_take (Place.Sending job service) never = absurd never
+still_take (Place.Taking job service) never = absurd never
+still_take (Place.Counting job service) never = absurd never
 still_take _ u = record { regs_are = refl; takes = λ never. never }
 
 abbrev IsAfter : Place → Type 0
-IsAfter (place.ResetNext e) = ⊥
-IsAfter (place.ResetState e) = ⊥
-IsAfter (place.Exchange e) = ⊥
-IsAfter (place.Sending job service) = ⊥
-IsAfter (place.Taking job service) = ⊥
-IsAfter (place.Counting job service) = ⊥
+IsAfter (Place.ResetNext e) = ⊥
+IsAfter (Place.ResetState e) = ⊥
+IsAfter (Place.Exchange e) = ⊥
+IsAfter (Place.Sending job service) = ⊥
+IsAfter (Place.Taking job service) = ⊥
+IsAfter (Place.Counting job service) = ⊥
 IsAfter _ = Unit {0}
 
 pub plain : (at : Place) → IsAfter at → Plain at
-plain (place.ResetNext e) never = absurd never
-plain (place.ResetState e) never = absurd never
-plain (place.Exchange e) never = absurd never
-plain (place.Sending job service) never = absurd never
-plain (place.Taking job service) never = absurd never
-plain (place.Counting job service) never = absurd never
+plain (Place.ResetNext e) never = absurd never
+plain (Place.ResetState e) never = absurd never
+plain (Place.Exchange e) never = absurd never
+plain (Place.Sending job service) never = absurd never
+plain (Place.Taking job service) never = absurd never
+plain (Place.Counting job service) never = absurd never
 plain _ u = record {
   still_send = record { enq_is = λ e from. refl; serves = λ never. never; open_send = λ never. never; reads = λ c e from. tt };
   still_take = record { regs_are = refl; takes = λ never. never };
@@ -94,63 +81,63 @@ plain _ u = record {
 -- ---- where the chain's steps lead
 
 pub plain_state : (own found : ℕ) → Plain (after_state own found)
-plain_state own zero = plain (place.ReadNext record { at = own; served = 0 }) tt
-plain_state own (suc zero) = plain place.ReadState tt
-plain_state own (suc (suc n)) = plain place.ReadAnswer tt
+plain_state own zero = plain (Place.ReadNext record { at = own; served = 0 }) tt
+plain_state own (suc zero) = plain Place.ReadState tt
+plain_state own (suc (suc n)) = plain Place.ReadAnswer tt
 
 pub plain_answer : (job : Job) (told : Answer) → Plain (after_answer job told)
-plain_answer job (answer.Take (take.Got item)) = plain (place.WriteAnswerTag job item) tt
-plain_answer job _ = plain (place.MarkDone job) tt
+plain_answer job (Answer.Take (TakeAnswer.Got item)) = plain (Place.WriteAnswerTag job item) tt
+plain_answer job _ = plain (Place.MarkDone job) tt
 
 pub plain_done : (bound : ℕ) (job : Job) → Plain (after_done bound job)
-plain_done bound job = if_plain (job.round.served + 1 == bound) _ _ (plain (place.HandOver job.next) tt) (plain (place.ReadNext record { at = job.next; served = job.round.served + 1 }) tt)
+plain_done bound job = if_plain (job.round.served + 1 == bound) _ _ (plain (Place.HandOver job.next) tt) (plain (Place.ReadNext record { at = job.next; served = job.round.served + 1 }) tt)
 
-pub plain_ret : (x : Chain) (ret : ℕ) → Plain (after_ret served.List x ret)
-plain_ret Send ret = plain (place.Finished _) tt
-plain_ret (Take g) ret = if_plain (code_of ret == 1) _ _ (plain (place.ReadAnswerTag _) tt) (if_plain (code_of ret == 2) _ _ (plain (place.Finished _) tt) (plain (place.Finished _) tt))
+pub plain_ret : (x : Chain) (ret : ℕ) → Plain (after_ret Served.List x ret)
+plain_ret Chain.Send ret = plain (Place.Finished _) tt
+plain_ret (Chain.Take g) ret = if_plain (code_of ret == 1) _ _ (plain (Place.ReadAnswerTag _) tt) (if_plain (code_of ret == 2) _ _ (plain (Place.Finished _) tt) (plain (Place.Finished _) tt))
 
 -- the steps of the chain after the link, but for the one that begins a service
 abbrev pub IsWaiting : Place → Type 0
-IsWaiting (place.ReadNext round) = ⊥
-IsWaiting place.Idle = ⊥
+IsWaiting (Place.ReadNext round) = ⊥
+IsWaiting Place.Idle = ⊥
 IsWaiting at = IsAfter at
 
 pub plain_goes : (c : Config) (x : Chain) (own : ℕ) (at : Place) (found : ℕ) → IsWaiting at → Plain (goes (lists c) x own at found)
-plain_goes c x own (place.ReadNext round) found never = absurd never
-plain_goes c x own place.Idle found never = absurd never
-plain_goes c x own (place.ResetNext e) found never = absurd never
-plain_goes c x own (place.ResetState e) found never = absurd never
-plain_goes c x own (place.Exchange e) found never = absurd never
-plain_goes c x own (place.Sending job service) found never = absurd never
-plain_goes c x own (place.Taking job service) found never = absurd never
-plain_goes c x own (place.Counting job service) found never = absurd never
-plain_goes c x own (place.WriteTag put request) found u = plain (place.WriteBody put request 0) tt
-plain_goes c x own (place.WriteBody put request i) found u = if_plain (nat_lt i (further_words request.tag)) _ _ (plain (place.WriteBody put request (i + 1)) tt) (plain (place.Link put) tt)
-plain_goes c x own (place.Link put) found u = plain place.ReadState tt
-plain_goes c x own place.ReadState found u = plain_state own found
-plain_goes c x own (place.WriteAnswer job told) found u = plain_answer job told
-plain_goes c x own (place.WriteAnswerTag job item) found u = plain (place.WriteAnswerBody job item 0) tt
-plain_goes c x own (place.WriteAnswerBody job item i) found u = if_plain (nat_lt i (further_words (tag_of item))) _ _ (plain (place.WriteAnswerBody job item (i + 1)) tt) (plain (place.MarkDone job) tt)
-plain_goes c x own (place.MarkDone job) found u = plain_done c.bound job
-plain_goes c x own (place.HandOver at) found u = plain place.ReadAnswer tt
-plain_goes c x own place.ReadAnswer found u = plain_ret x found
-plain_goes c x own (place.ReadAnswerTag at) found u = plain (place.ReadAnswerBody (parcel at found no_words) 0) tt
-plain_goes c x own (place.ReadAnswerBody at i) found u = if_plain (nat_lt i (further_words at.tag)) _ _ (plain (place.ReadAnswerBody (with_read at i found) (i + 1)) tt) (plain (place.Finished _) tt)
-plain_goes c x own (place.Finished told) found u = plain (place.Finished told) tt
+plain_goes c x own (Place.ReadNext round) found never = absurd never
+plain_goes c x own Place.Idle found never = absurd never
+plain_goes c x own (Place.ResetNext e) found never = absurd never
+plain_goes c x own (Place.ResetState e) found never = absurd never
+plain_goes c x own (Place.Exchange e) found never = absurd never
+plain_goes c x own (Place.Sending job service) found never = absurd never
+plain_goes c x own (Place.Taking job service) found never = absurd never
+plain_goes c x own (Place.Counting job service) found never = absurd never
+plain_goes c x own (Place.WriteTag put request) found u = plain (Place.WriteBody put request 0) tt
+plain_goes c x own (Place.WriteBody put request i) found u = if_plain (nat_lt i (further_words request.tag)) _ _ (plain (Place.WriteBody put request (i + 1)) tt) (plain (Place.Link put) tt)
+plain_goes c x own (Place.Link put) found u = plain Place.ReadState tt
+plain_goes c x own Place.ReadState found u = plain_state own found
+plain_goes c x own (Place.WriteAnswer job told) found u = plain_answer job told
+plain_goes c x own (Place.WriteAnswerTag job item) found u = plain (Place.WriteAnswerBody job item 0) tt
+plain_goes c x own (Place.WriteAnswerBody job item i) found u = if_plain (nat_lt i (further_words (tag_of item))) _ _ (plain (Place.WriteAnswerBody job item (i + 1)) tt) (plain (Place.MarkDone job) tt)
+plain_goes c x own (Place.MarkDone job) found u = plain_done c.bound job
+plain_goes c x own (Place.HandOver at) found u = plain Place.ReadAnswer tt
+plain_goes c x own Place.ReadAnswer found u = plain_ret x found
+plain_goes c x own (Place.ReadAnswerTag at) found u = plain (Place.ReadAnswerBody (parcel at found no_words) 0) tt
+plain_goes c x own (Place.ReadAnswerBody at i) found u = if_plain (nat_lt i (further_words at.tag)) _ _ (plain (Place.ReadAnswerBody (with_read at i found) (i + 1)) tt) (plain (Place.Finished _) tt)
+plain_goes c x own (Place.Finished told) found u = plain (Place.Finished told) tt
 
 -- ---- where a service's steps lead
 
-pub in_send : (job : Job) (service : Sending) → StillTake (place.Sending job service)
+pub in_send : (job : Job) (service : Sending) → StillTake (Place.Sending job service)
 in_send job service = record { regs_are = refl; takes = λ never. never }
 
-pub in_take : (job : Job) (service : Taking) → StillSend (place.Taking job service)
+pub in_take : (job : Job) (service : Taking) → StillSend (Place.Taking job service)
 in_take job service = record { enq_is = λ e from. refl; serves = λ never. never; open_send = λ never. never; reads = λ c e from. tt }
 
-over_send : (job : Job) (told : Answer) → StillTake (place.WriteAnswer job told)
-over_send job told = still_take (place.WriteAnswer job told) tt
+over_send : (job : Job) (told : Answer) → StillTake (Place.WriteAnswer job told)
+over_send job told = still_take (Place.WriteAnswer job told) tt
 
-over_take : (job : Job) (told : Answer) → StillSend (place.WriteAnswer job told)
-over_take job told = still_send (place.WriteAnswer job told) tt
+over_take : (job : Job) (told : Answer) → StillSend (Place.WriteAnswer job told)
+over_take job told = still_send (Place.WriteAnswer job told) tt
 
 pub send_still : (c : Config) (job : Job) (service : Sending) (found : ℕ) → StillTake (send_side.goes c job service found)
 send_still c job service found = leads StillTake send_side.in_service job (in_send job) (over_send job) (send_side.line c 0 service found).next

@@ -2,15 +2,7 @@
 -- where its pass stands, those of the others stay.
 use Rattle.std.proofs.Common.{◌≡◌, ◌≢◌, ℕ, zero, suc, ◌+◌, ◌<◌, ◌≤◌, Bool, true, false, nat_lt, cond, arith, refl, sym, ap, ◌∙◌}
 use Rattle.std.proofs.lemmas.Bool.{cases_eq, ltb-true, ltb-false}
-use Rattle.cc_model.specs.declared.config.Config.{Config}
-use Rattle.cc_runs.specs.declared.word.ItemField.TheVariants as item
-use Rattle.cc_runs.specs.declared.word.Object.TheVariants as object
-use Rattle.cc_runs.specs.declared.word.Word.{Word}
-use Rattle.cc_runs.specs.declared.word.Word.TheVariants.{Object, Item}
-use Rattle.cc_runs.specs.declared.place.Parcel.{Parcel}
-use Rattle.cc_runs.specs.declared.place.Taking.{Taking}
-use Rattle.cc_runs.specs.declared.place.Taking.TheVariants as taking
-use Rattle.cc_runs.specs.declared.word.Object.{Object as Obj}
+use Rattle.cc_runs.specs.Names.{Config, ItemField, Object as Obj, Word, Parcel, Taking}
 use Rattle.cc_runs.specs.Words.{put, object_number}
 use Rattle.cc_runs.specs.Codes.{further_words, word, with_read}
 use Rattle.cc_runs.specs.State.{word_of, stored}
@@ -53,25 +45,25 @@ module _ (mem : Word → ℕ) (d : Duty) (e : Enq) (c : Config) (n : ℕ) (g : T
   loaded i heads takes = sides_keep c.capacity c.life n _ _ g (record { last = refl; shut = refl; count = refl; cursor = refl }) (record { next = λ x. refl; passed = λ x. refl; word = λ x j. refl }) refl i heads takes
 
   -- a store to a word of a group leaves those that all share
-  stored_keeps : (o : Obj) (value : ℕ) → 4 ≤ object_number o → Before → Heads c.capacity c.life n (queue_from (put mem (Object o) value) d e r') g → Takes c.capacity c.life n (queue_from (put mem (Object o) value) d e r') g
-      → LInv c.capacity c.life n (queue_from (put mem (Object o) value) d e r') g
+  stored_keeps : (o : Obj) (value : ℕ) → 4 ≤ object_number o → Before → Heads c.capacity c.life n (queue_from (put mem (Word.Object o) value) d e r') g → Takes c.capacity c.life n (queue_from (put mem (Word.Object o) value) d e r') g
+      → LInv c.capacity c.life n (queue_from (put mem (Word.Object o) value) d e r') g
   stored_keeps o value high i heads takes = sides_keep c.capacity c.life n _ _ g
-      (record { last = other object.Last (λ z. omega (arith, high, z)); shut = other object.Shut (λ z. omega (arith, high, z)); count = other object.Count (λ z. omega (arith, high, z)); cursor = other object.Cursor (λ z. omega (arith, high, z)) })
+      (record { last = other Obj.Last (λ z. omega (arith, high, z)); shut = other Obj.Shut (λ z. omega (arith, high, z)); count = other Obj.Count (λ z. omega (arith, high, z)); cursor = other Obj.Cursor (λ z. omega (arith, high, z)) })
       (record { next = λ x. refl; passed = λ x. refl; word = λ x j. refl }) refl i heads takes
     where
-      other : (q : Obj) → object_number o ≢ object_number q → put mem (Object o) value (Object q) ≡ mem (Object q)
+      other : (q : Obj) → object_number o ≢ object_number q → put mem (Word.Object o) value (Word.Object q) ≡ mem (Word.Object q)
       other q ne = object_other mem o q value ne
 
-  pub read_head : 0 < mem (Object (object.Head y)) → LineKeeps taking.ReadHead
+  pub read_head : 0 < mem (Word.Object (Obj.Head y)) → LineKeeps Taking.ReadHead
   read_head some a i b = loaded i (grind (arith, cases_eq, a, b, same)) (grind (arith, cases_eq, a, b, same))
 
-  pub read_taken : (dummy : ℕ) → LineKeeps (taking.ReadTaken dummy)
+  pub read_taken : (dummy : ℕ) → LineKeeps (Taking.ReadTaken dummy)
   read_taken dummy a i b = loaded i (grind (arith, cases_eq, a, b, same)) (grind (arith, cases_eq, a, b, same))
 
-  pub read_null : (dummy taken : ℕ) → r y ≡ regs_in (taking.ReadDummyNext dummy taken) → Before → After mem (by_next dummy taken zero)
+  pub read_null : (dummy taken : ℕ) → r y ≡ regs_in (Taking.ReadDummyNext dummy taken) → Before → After mem (by_next dummy taken zero)
   read_null dummy taken a i b = loaded i (grind (arith, cases_eq, a, b, same)) (grind (arith, cases_eq, a, b, same))
 
-  pub read_mark : (dummy taken at : ℕ) → r y ≡ regs_in (taking.ReadItemTag dummy taken at) → Before → After mem (by_tag dummy taken at zero)
+  pub read_mark : (dummy taken at : ℕ) → r y ≡ regs_in (Taking.ReadItemTag dummy taken at) → Before → After mem (by_tag dummy taken at zero)
   read_mark dummy taken at a i b = loaded i (grind (arith, cases_eq, a, b, same)) (grind (arith, cases_eq, a, b, same))
 
   live : Before → g.least ≤ g.handed y
@@ -80,7 +72,7 @@ module _ (mem : Word → ℕ) (d : Duty) (e : Enq) (c : Config) (n : ℕ) (g : T
   in_order : Before → g.handed y ≤ g.accepted
   in_order i = i.hands.order y inside
 
-  pub read_link : (dummy taken at : ℕ) → mem (Item dummy item.Next) ≡ suc at → r y ≡ regs_in (taking.ReadDummyNext dummy taken) → Before → After mem (by_next dummy taken (suc at))
+  pub read_link : (dummy taken at : ℕ) → mem (Word.Item dummy ItemField.Next) ≡ suc at → r y ≡ regs_in (Taking.ReadDummyNext dummy taken) → Before → After mem (by_next dummy taken (suc at))
   read_link dummy taken at is a i b = loaded i (grind (arith, cases_eq, a, b, same, live i, in_order i)) (grind (arith, cases_eq, a, b, same, more, ended_shut, ended))
     where
       dummy_is : dummy ≡ g.node (g.handed y)
@@ -95,7 +87,7 @@ module _ (mem : Word → ℕ) (d : Duty) (e : Enq) (c : Config) (n : ℕ) (g : T
       ended : g.handed y ≡ g.accepted → at ≡ c.capacity + 1
       ended z = grind (arith, dummy_is, is, ended_shut z, i.links.end_shut)
 
-  pub read_tag : (dummy taken at tag : ℕ) → g.tells ≡ long_of → mem (Item at item.Tag) ≡ suc tag → r y ≡ regs_in (taking.ReadItemTag dummy taken at) → Before → After mem (by_tag dummy taken at (suc tag))
+  pub read_tag : (dummy taken at tag : ℕ) → g.tells ≡ long_of → mem (Word.Item at ItemField.Tag) ≡ suc tag → r y ≡ regs_in (Taking.ReadItemTag dummy taken at) → Before → After mem (by_tag dummy taken at (suc tag))
   read_tag dummy taken at tag tells is a i b = loaded i (grind (arith, cases_eq, a, b, same, more)) (grind (arith, cases_eq, a, b, same, more, after_is, tag_is, long_is))
     where
       not_mark : g.handed y ≢ g.accepted
@@ -114,9 +106,9 @@ module _ (mem : Word → ℕ) (d : Duty) (e : Enq) (c : Config) (n : ℕ) (g : T
       tag_is = grind (arith, is, after_is, more, live i, long_is, i.links.items (g.handed y) 0)
 
   -- a word of a body, and what the next step is then
-  module _ (dummy at : ℕ) (p : Parcel) (j : ℕ) (tells : g.tells ≡ long_of) (a : r y ≡ regs_in (taking.ReadItemBody dummy at p j)) (i : Before) where
+  module _ (dummy at : ℕ) (p : Parcel) (j : ℕ) (tells : g.tells ≡ long_of) (a : r y ≡ regs_in (Taking.ReadItemBody dummy at p j)) (i : Before) where
     abbrev now : Parcel
-    now = with_read p j (mem (Item at (item.Body j)))
+    now = with_read p j (mem (Word.Item at (ItemField.Body j)))
 
     not_mark : g.handed y ≢ g.accepted
     not_mark z = grind (arith, a, i.takes.read_none y)
@@ -139,65 +131,65 @@ module _ (mem : Word → ℕ) (d : Duty) (e : Enq) (c : Config) (n : ℕ) (g : T
     low : j ≤ further_words p.tag
     low = omega (arith, ap (λ (z : Regs). z.got) a, i.takes.read_more y inside (ap (λ (z : Regs). z.stage) a) more, long_is, ap long_of tag_is)
 
-    found_is : mem (Item at (item.Body j)) ≡ g.items (g.handed y) (suc j)
-    found_is = ap (λ (z : ℕ). mem (Item z (item.Body j))) after_is ∙ i.links.items (g.handed y) (suc j) (live i) more (omega (arith, low, long_is, ap long_of tag_is))
+    found_is : mem (Word.Item at (ItemField.Body j)) ≡ g.items (g.handed y) (suc j)
+    found_is = ap (λ (z : ℕ). mem (Word.Item z (ItemField.Body j))) after_is ∙ i.links.items (g.handed y) (suc j) (live i) more (omega (arith, low, long_is, ap long_of tag_is))
 
     word_is : (k : ℕ) → k < suc (suc j) → words_of now.tag (word now.body) k ≡ g.items (g.handed y) k
     word_is zero l = tag_is
-    word_is (suc k) l = next_word p.body (λ (n : ℕ). g.items (g.handed y) (suc n)) j (mem (Item at (item.Body j))) (omega (arith, low, few_further p.tag)) found_is (λ n less. read_so (suc n) (omega arith)) k (omega arith)
+    word_is (suc k) l = next_word p.body (λ (n : ℕ). g.items (g.handed y) (suc n)) j (mem (Word.Item at (ItemField.Body j))) (omega (arith, low, few_further p.tag)) found_is (λ n less. read_so (suc n) (omega arith)) k (omega arith)
 
-    read_on : j < further_words p.tag → r' y ≡ regs_in (taking.ReadItemBody dummy at now (j + 1)) → LInv c.capacity c.life n (queue_from mem d e r') g
+    read_on : j < further_words p.tag → r' y ≡ regs_in (Taking.ReadItemBody dummy at now (j + 1)) → LInv c.capacity c.life n (queue_from mem d e r') g
     read_on less b = loaded i (grind (arith, cases_eq, a, b, same, more)) (grind (arith, cases_eq, a, b, same, more, after_is, word_is, long_is, small))
       where
         small : j + 2 < g.long (g.handed y)
         small = omega (arith, less, long_is, ap long_of tag_is)
 
-    read_last : further_words p.tag ≤ j → r' y ≡ regs_in (taking.WriteHead dummy at now) → LInv c.capacity c.life n (queue_from mem d e r') g
+    read_last : further_words p.tag ≤ j → r' y ≡ regs_in (Taking.WriteHead dummy at now) → LInv c.capacity c.life n (queue_from mem d e r') g
     read_last far b = loaded i (grind (arith, cases_eq, a, b, same, more)) (grind (arith, cases_eq, a, b, same, more, after_is, word_is, whole))
       where
         whole : (long_of p.tag ≡ g.long (g.handed y)) × (long_of p.tag ≡ suc (suc j))
         whole = omega (arith, far, low, long_is, ap long_of tag_is)
 
-  pub read_body : (dummy at : ℕ) (p : Parcel) (j : ℕ) → g.tells ≡ long_of → LineKeeps (taking.ReadItemBody dummy at p j)
+  pub read_body : (dummy at : ℕ) (p : Parcel) (j : ℕ) → g.tells ≡ long_of → LineKeeps (Taking.ReadItemBody dummy at p j)
   read_body dummy at p j tells a i b = by_case (nat_lt j (further_words p.tag)) refl b
     where
-      by_case : (z : Bool) → nat_lt j (further_words p.tag) ≡ z → Keeps mem (cond z (taking.ReadItemBody dummy at (with_read p j (mem (Item at (item.Body j)))) (j + 1)) (taking.WriteHead dummy at (with_read p j (mem (Item at (item.Body j))))))
+      by_case : (z : Bool) → nat_lt j (further_words p.tag) ≡ z → Keeps mem (cond z (Taking.ReadItemBody dummy at (with_read p j (mem (Word.Item at (ItemField.Body j)))) (j + 1)) (Taking.WriteHead dummy at (with_read p j (mem (Word.Item at (ItemField.Body j))))))
       by_case true is b = read_on dummy at p j tells a i (ltb-true j (further_words p.tag) is) b
       by_case false is b = read_last dummy at p j tells a i (ltb-false j (further_words p.tag) is) b
 
-  pub write_head : (dummy at : ℕ) (parcel : Parcel) → LineKeeps (taking.WriteHead dummy at parcel)
-  write_head dummy at parcel a i b = stored_keeps (object.Head y) (at + 1) (omega arith) i (grind (arith, cases_eq, a, b, same, more, head_now, head_else, taken_same)) (grind (arith, cases_eq, a, b, same, more))
+  pub write_head : (dummy at : ℕ) (parcel : Parcel) → LineKeeps (Taking.WriteHead dummy at parcel)
+  write_head dummy at parcel a i b = stored_keeps (Obj.Head y) (at + 1) (omega arith) i (grind (arith, cases_eq, a, b, same, more, head_now, head_else, taken_same)) (grind (arith, cases_eq, a, b, same, more))
     where
       more : g.handed y < g.accepted
       more = grind (arith, a, i.takes.some_left y)
 
-      head_now : put mem (Object (object.Head y)) (at + 1) (Object (object.Head y)) ≡ g.node (g.handed y + 1) + 1
-      head_now = object_here mem (object.Head y) (at + 1) ∙ grind (arith, a, more, i.takes.after_is y)
+      head_now : put mem (Word.Object (Obj.Head y)) (at + 1) (Word.Object (Obj.Head y)) ≡ g.node (g.handed y + 1) + 1
+      head_now = object_here mem (Obj.Head y) (at + 1) ∙ grind (arith, a, more, i.takes.after_is y)
 
-      head_else : (q : ℕ) → q ≢ y → put mem (Object (object.Head y)) (at + 1) (Object (object.Head q)) ≡ mem (Object (object.Head q))
-      head_else q ne = object_other mem (object.Head y) (object.Head q) (at + 1) (λ z. ne (omega (arith, z)))
+      head_else : (q : ℕ) → q ≢ y → put mem (Word.Object (Obj.Head y)) (at + 1) (Word.Object (Obj.Head q)) ≡ mem (Word.Object (Obj.Head q))
+      head_else q ne = object_other mem (Obj.Head y) (Obj.Head q) (at + 1) (λ z. ne (omega (arith, z)))
 
-      taken_same : (q : ℕ) → put mem (Object (object.Head y)) (at + 1) (Object (object.Taken q)) ≡ mem (Object (object.Taken q))
-      taken_same q = object_other mem (object.Head y) (object.Taken q) (at + 1) (λ z. omega (arith, z))
+      taken_same : (q : ℕ) → put mem (Word.Object (Obj.Head y)) (at + 1) (Word.Object (Obj.Taken q)) ≡ mem (Word.Object (Obj.Taken q))
+      taken_same q = object_other mem (Obj.Head y) (Obj.Taken q) (at + 1) (λ z. omega (arith, z))
 
-  pub write_taken : (dummy : ℕ) (parcel : Parcel) → LineKeeps (taking.WriteTaken dummy parcel)
-  write_taken dummy parcel a i b = stored_keeps (object.Taken y) (parcel.place + 1) (omega arith) i (grind (arith, cases_eq, a, b, same, taken_now, taken_else, head_same)) (grind (arith, cases_eq, a, b, same, more))
+  pub write_taken : (dummy : ℕ) (parcel : Parcel) → LineKeeps (Taking.WriteTaken dummy parcel)
+  write_taken dummy parcel a i b = stored_keeps (Obj.Taken y) (parcel.place + 1) (omega arith) i (grind (arith, cases_eq, a, b, same, taken_now, taken_else, head_same)) (grind (arith, cases_eq, a, b, same, more))
     where
       more : g.handed y < g.accepted
       more = grind (arith, a, i.takes.some_left y)
 
-      taken_now : put mem (Object (object.Taken y)) (parcel.place + 1) (Object (object.Taken y)) ≡ g.handed y + 1
-      taken_now = object_here mem (object.Taken y) (parcel.place + 1) ∙ grind (arith, a, i.heads.seen_is y)
+      taken_now : put mem (Word.Object (Obj.Taken y)) (parcel.place + 1) (Word.Object (Obj.Taken y)) ≡ g.handed y + 1
+      taken_now = object_here mem (Obj.Taken y) (parcel.place + 1) ∙ grind (arith, a, i.heads.seen_is y)
 
-      taken_else : (q : ℕ) → q ≢ y → put mem (Object (object.Taken y)) (parcel.place + 1) (Object (object.Taken q)) ≡ mem (Object (object.Taken q))
-      taken_else q ne = object_other mem (object.Taken y) (object.Taken q) (parcel.place + 1) (λ z. ne (omega (arith, z)))
+      taken_else : (q : ℕ) → q ≢ y → put mem (Word.Object (Obj.Taken y)) (parcel.place + 1) (Word.Object (Obj.Taken q)) ≡ mem (Word.Object (Obj.Taken q))
+      taken_else q ne = object_other mem (Obj.Taken y) (Obj.Taken q) (parcel.place + 1) (λ z. ne (omega (arith, z)))
 
-      head_same : (q : ℕ) → put mem (Object (object.Taken y)) (parcel.place + 1) (Object (object.Head q)) ≡ mem (Object (object.Head q))
-      head_same q = object_other mem (object.Taken y) (object.Head q) (parcel.place + 1) (λ z. omega (arith, z))
+      head_same : (q : ℕ) → put mem (Word.Object (Obj.Taken y)) (parcel.place + 1) (Word.Object (Obj.Head q)) ≡ mem (Word.Object (Obj.Head q))
+      head_same q = object_other mem (Obj.Taken y) (Obj.Head q) (parcel.place + 1) (λ z. omega (arith, z))
 
   -- the add to passed of the old dummy: one item more is handed out on this side
-  pub add_passed : (g' : Told) (dummy : ℕ) (parcel : Parcel) → Gives n g g' y → r y ≡ regs_in (taking.AddPassed dummy parcel) → Before → r' y ≡ none
-      → LInv c.capacity c.life n (queue_from (stored mem (operation y (taking.AddPassed dummy parcel))) d e r') g'
+  pub add_passed : (g' : Told) (dummy : ℕ) (parcel : Parcel) → Gives n g g' y → r y ≡ regs_in (Taking.AddPassed dummy parcel) → Before → r' y ≡ none
+      → LInv c.capacity c.life n (queue_from (stored mem (operation y (Taking.AddPassed dummy parcel))) d e r') g'
   add_passed g' dummy parcel u a i b = record {
     hands = grind (arith, cases_eq, more, live i, least_in);
     live = grind (arith, more, live i, least_in);
@@ -228,7 +220,7 @@ module _ (mem : Word → ℕ) (d : Duty) (e : Enq) (c : Config) (n : ℕ) (g : T
       dummy_pos : g.pos dummy ≡ g.handed y
       dummy_pos = grind (arith, dummy_is, in_order i, live i, i.live.live_pos (g.handed y))
 
-      dummy_passed : mem (Item dummy item.Passed) < n
+      dummy_passed : mem (Word.Item dummy ItemField.Passed) < n
       dummy_passed = grind (arith, dummy_in, dummy_role, dummy_pos, live i, i.nodes.passed_is dummy, i.hands.by_some (g.handed y))
 
       least_in : g'.least ≤ g'.accepted
@@ -236,6 +228,6 @@ module _ (mem : Word → ℕ) (d : Duty) (e : Enq) (c : Config) (n : ℕ) (g : T
 
 -- a call of this group enters its service
 pub enters : (mem : Word → ℕ) (d d' : Duty) (e : Enq) (r r' : ℕ → Regs) (c : Config) (n : ℕ) (g : Told) (y : ℕ) → ((q : ℕ) → q ≢ y → (r' q ≡ r q) × (d'.d_call q ≡ d.d_call q))
-    → (r y).stage ≡ 0 → r' y ≡ regs_in taking.ReadHead → (d'.d_call y).known ≤ g.accepted + g.shut → LInv c.capacity c.life n (queue_from mem d e r) g → LInv c.capacity c.life n (queue_from mem d' e r') g
+    → (r y).stage ≡ 0 → r' y ≡ regs_in Taking.ReadHead → (d'.d_call y).known ≤ g.accepted + g.shut → LInv c.capacity c.life n (queue_from mem d e r) g → LInv c.capacity c.life n (queue_from mem d' e r') g
 enters mem d d' e r r' c n g y others from b known i = sides_keep c.capacity c.life n _ _ g (record { last = refl; shut = refl; count = refl; cursor = refl }) (record { next = λ x. refl; passed = λ x. refl; word = λ x j. refl }) refl i
     (grind (arith, cases_eq, b, others, from)) (grind (arith, cases_eq, b, others, from, known))

@@ -6,21 +6,7 @@ use Rattle.std.specs.List.{slice_get}
 use Rattle.cc_model.specs.Record.{Record}
 use Rattle.cc_model.specs.Items.{accepted, is_shut, handed, handed_item}
 use Rattle.cc_model.specs.Legal.{DAnswer}
-use Rattle.cc_model.specs.declared.config.Config.{Config}
-use Rattle.cc_model.specs.declared.call.Answer.{Answer}
-use Rattle.cc_model.specs.declared.call.Answer.TheVariants as answer
-use Rattle.cc_model.specs.declared.call.TakeAnswer.TheVariants as take
-use Rattle.cc_runs.specs.declared.word.Chain.TheVariants.{Take}
-use Rattle.cc_runs.specs.declared.word.ItemField.TheVariants as item
-use Rattle.cc_runs.specs.declared.word.Object.TheVariants as object
-use Rattle.cc_runs.specs.declared.word.Word.{Word}
-use Rattle.cc_runs.specs.declared.word.Word.TheVariants.{Object, Item as ItemWord}
-use Rattle.cc_runs.specs.declared.place.Parcel.{Parcel}
-use Rattle.cc_runs.specs.declared.place.Job.{Job}
-use Rattle.cc_runs.specs.declared.place.Place.{Place}
-use Rattle.cc_runs.specs.declared.place.Place.TheVariants as place
-use Rattle.cc_runs.specs.declared.place.Taking.{Taking}
-use Rattle.cc_runs.specs.declared.place.Taking.TheVariants as taking
+use Rattle.cc_runs.specs.Names.{Config, Answer, TakeAnswer, Chain, ItemField, Object, Word, Parcel, Job, Place, Taking}
 use Rattle.cc_runs.specs.Words.{groups, put}
 use Rattle.cc_runs.specs.State.{noted, word_of, stored}
 use Rattle.cc_runs.specs.Codes.{item_in, further_words, word, no_words, with_read, behind, parcel as parcel_of}
@@ -77,8 +63,8 @@ module _ (c : Config) (mem : Word → ℕ) (d : Duty) (e : Enq) (h : Record) (g 
   stage_is service a = ap (λ (z : Regs). z.stage) a
 
   -- on in the service, with no ghost moved
-  on : (m : Word → ℕ) (there : Taking) → LInv c.capacity c.life (further c + 1) (After m) g → Turn c m d e y r' (noted (Take y) h None None) g (place.Taking job there)
-  on m there inv = subst (λ (z : Record). Turn c m d e y r' z g (place.Taking job there)) (sym (noted_none (Take y) h)) (record {
+  on : (m : Word → ℕ) (there : Taking) → LInv c.capacity c.life (further c + 1) (After m) g → Turn c m d e y r' (noted (Chain.Take y) h None None) g (Place.Taking job there)
+  on m there inv = subst (λ (z : Record). Turn c m d e y r' z g (Place.Taking job there)) (sym (noted_none (Chain.Take y) h)) (record {
     told = g;
     list = record { inv = inv; counted = has.counted };
     least_up = omega arith;
@@ -90,7 +76,7 @@ module _ (c : Config) (mem : Word → ℕ) (d : Duty) (e : Enq) (h : Record) (g 
 
   -- an answer that hands nothing out
   answered : (told : Answer) → LInv c.capacity c.life (further c + 1) (After mem) g
-      → handed_item told ≡ [] → DAnswer (accepted h) (is_shut h) (length (handed h y)) (d.d_call y).known told → Turn c mem d e y r' (told_take h y told) g (place.WriteAnswer job told)
+      → handed_item told ≡ [] → DAnswer (accepted h) (is_shut h) (length (handed h y)) (d.d_call y).known told → Turn c mem d e y r' (told_take h y told) g (Place.WriteAnswer job told)
   answered told inv none_handed fits = record {
     told = g;
     list = record { inv = inv; counted = has.counted };
@@ -113,36 +99,36 @@ module _ (c : Config) (mem : Word → ℕ) (d : Duty) (e : Enq) (h : Record) (g 
         | inr ne ↦ ap length (d_others c h ties.lawful y side_in (d.d_call y) told next x ne)
       ]
 
-  read_head : From taking.ReadHead → To (taking.ReadTaken (mem (Object (object.Head y)) - 1)) → Turn c mem d e y r' (noted (Take y) h None None) g (place.Taking job (taking.ReadTaken (mem (Object (object.Head y)) - 1)))
+  read_head : From Taking.ReadHead → To (Taking.ReadTaken (mem (Word.Object (Object.Head y)) - 1)) → Turn c mem d e y r' (noted (Chain.Take y) h None None) g (Place.Taking job (Taking.ReadTaken (mem (Word.Object (Object.Head y)) - 1)))
   read_head a b =
-      let link : (0 < mem (Object (object.Head y))) × (mem (Object (object.Head y)) ≤ c.capacity + 1) = limits.head_link c.capacity c.life (further c + 1) Before g has.inv y below (stage_is taking.ReadHead a) in
-      on mem (taking.ReadTaken (mem (Object (object.Head y)) - 1)) (keeps.read_head mem d e c (further c + 1) g y below r r' same link.0 a has.inv b)
+      let link : (0 < mem (Word.Object (Object.Head y))) × (mem (Word.Object (Object.Head y)) ≤ c.capacity + 1) = limits.head_link c.capacity c.life (further c + 1) Before g has.inv y below (stage_is Taking.ReadHead a) in
+      on mem (Taking.ReadTaken (mem (Word.Object (Object.Head y)) - 1)) (keeps.read_head mem d e c (further c + 1) g y below r r' same link.0 a has.inv b)
 
-  read_next : (dummy taken found : ℕ) → mem (ItemWord dummy item.Next) ≡ found → From (taking.ReadDummyNext dummy taken) → r' y ≡ regs_at (goes job (taking.ReadDummyNext dummy taken) found)
-      → Turn c mem d e y r' (noted (Take y) h None (decides (taking.ReadDummyNext dummy taken) found)) g (goes job (taking.ReadDummyNext dummy taken) found)
+  read_next : (dummy taken found : ℕ) → mem (Word.Item dummy ItemField.Next) ≡ found → From (Taking.ReadDummyNext dummy taken) → r' y ≡ regs_at (goes job (Taking.ReadDummyNext dummy taken) found)
+      → Turn c mem d e y r' (noted (Chain.Take y) h None (decides (Taking.ReadDummyNext dummy taken) found)) g (goes job (Taking.ReadDummyNext dummy taken) found)
   read_next dummy taken zero is a b =
-      let null : mem (ItemWord (r y).dummy item.Next) ≡ 0 = ap (λ (z : Regs). mem (ItemWord z.dummy item.Next)) a ∙ is in
-      let known : (d.d_call y).known ≤ g.handed y = decide.empty c.capacity c.life (further c + 1) Before g has.inv y below (stage_is (taking.ReadDummyNext dummy taken) a) null in
-      answered (answer.Take take.Empty) (keeps.read_null mem d e c (further c + 1) g y below r r' same dummy taken a has.inv b) refl (omega (arith, known, ties.handed_is y))
-  read_next dummy taken (suc at) is a b = on mem (taking.ReadItemTag dummy taken at) (keeps.read_link mem d e c (further c + 1) g y below r r' same dummy taken at is a has.inv b)
+      let null : mem (Word.Item (r y).dummy ItemField.Next) ≡ 0 = ap (λ (z : Regs). mem (Word.Item z.dummy ItemField.Next)) a ∙ is in
+      let known : (d.d_call y).known ≤ g.handed y = decide.empty c.capacity c.life (further c + 1) Before g has.inv y below (stage_is (Taking.ReadDummyNext dummy taken) a) null in
+      answered (Answer.Take TakeAnswer.Empty) (keeps.read_null mem d e c (further c + 1) g y below r r' same dummy taken a has.inv b) refl (omega (arith, known, ties.handed_is y))
+  read_next dummy taken (suc at) is a b = on mem (Taking.ReadItemTag dummy taken at) (keeps.read_link mem d e c (further c + 1) g y below r r' same dummy taken at is a has.inv b)
 
-  read_tag : (dummy taken at found : ℕ) → mem (ItemWord at item.Tag) ≡ found → From (taking.ReadItemTag dummy taken at) → r' y ≡ regs_at (goes job (taking.ReadItemTag dummy taken at) found)
-      → Turn c mem d e y r' (noted (Take y) h None (decides (taking.ReadItemTag dummy taken at) found)) g (goes job (taking.ReadItemTag dummy taken at) found)
+  read_tag : (dummy taken at found : ℕ) → mem (Word.Item at ItemField.Tag) ≡ found → From (Taking.ReadItemTag dummy taken at) → r' y ≡ regs_at (goes job (Taking.ReadItemTag dummy taken at) found)
+      → Turn c mem d e y r' (noted (Chain.Take y) h None (decides (Taking.ReadItemTag dummy taken at) found)) g (goes job (Taking.ReadItemTag dummy taken at) found)
   read_tag dummy taken at zero is a b =
-      let zero_is : (x : ℕ) → x + 1 ≡ (r y).after → mem (ItemWord x item.Tag) ≡ 0 = λ x same. let here = ap (λ (z : Regs). z.after) a in ap (λ (k : ℕ). mem (ItemWord k item.Tag)) (omega (arith, same, here)) ∙ is in
+      let zero_is : (x : ℕ) → x + 1 ≡ (r y).after → mem (Word.Item x ItemField.Tag) ≡ 0 = λ x same. let here = ap (λ (z : Regs). z.after) a in ap (λ (k : ℕ). mem (Word.Item k ItemField.Tag)) (omega (arith, same, here)) ∙ is in
       let seen : (r y).seen ≡ taken = ap (λ (z : Regs). z.seen) a in
-      let known : ((r y).seen ≡ g.accepted) × (g.handed y ≡ g.accepted) × (g.shut ≡ 1) = decide.ended c.capacity c.life (further c + 1) Before g has.inv y below (stage_is (taking.ReadItemTag dummy taken at) a) zero_is in
-      answered (answer.Take (take.Ended taken)) (keeps.read_mark mem d e c (further c + 1) g y below r r' same dummy taken at a has.inv b) refl
+      let known : ((r y).seen ≡ g.accepted) × (g.handed y ≡ g.accepted) × (g.shut ≡ 1) = decide.ended c.capacity c.life (further c + 1) Before g has.inv y below (stage_is (Taking.ReadItemTag dummy taken at) a) zero_is in
+      answered (Answer.Take (TakeAnswer.Ended taken)) (keeps.read_mark mem d e c (further c + 1) g y below r r' same dummy taken at a has.inv b) refl
       (shut_true (is_shut h) (sym ties.shut_is ∙ known.2), sym seen ∙ known.0 ∙ sym known.1 ∙ ties.handed_is y, sym (ties.handed_is y) ∙ known.1 ∙ ties.accepted_is)
   read_tag dummy taken at (suc tag) is a b =
-      on mem (taking.ReadItemBody dummy at (parcel_of taken (suc tag) no_words) 0)
+      on mem (Taking.ReadItemBody dummy at (parcel_of taken (suc tag) no_words) 0)
       (keeps.read_tag mem d e c (further c + 1) g y below r r' same dummy taken at tag ties.tells_is is a has.inv b)
 
   -- ---- the add to passed of the old dummy
 
-  module _ (dummy : ℕ) (parcel : Parcel) (from : From (taking.AddPassed dummy parcel)) (to : Over) where
+  module _ (dummy : ℕ) (parcel : Parcel) (from : From (Taking.AddPassed dummy parcel)) (to : Over) where
     abbrev a : Answer
-    a = answer.Take (take.Got (item_in parcel))
+    a = Answer.Take (TakeAnswer.Got (item_in parcel))
 
     abbrev told : Told
     told = grow.giving (further c) g y
@@ -151,7 +137,7 @@ module _ (c : Config) (mem : Word → ℕ) (d : Duty) (e : Enq) (h : Record) (g 
     u = grow.gives (further c) g y below has.counted
 
     stage : (r y).stage ≡ 7
-    stage = stage_is (taking.AddPassed dummy parcel) from
+    stage = stage_is (Taking.AddPassed dummy parcel) from
 
     more : g.handed y < g.accepted
     more = decide.got_more c.capacity c.life (further c + 1) Before g has.inv y below stage
@@ -180,7 +166,7 @@ module _ (c : Config) (mem : Word → ℕ) (d : Duty) (e : Enq) (h : Record) (g 
       | inr ne ↦ u.handed x ne ∙ ties.handed_is x ∙ sym (ap length (d_others c h ties.lawful y side_in (d.d_call y) a next x ne))
     ]
 
-    add_passed : Turn c (put mem (ItemWord dummy item.Passed) (mem (ItemWord dummy item.Passed) + 1)) d e y r' (told_take h y a) g (place.WriteAnswer job a)
+    add_passed : Turn c (put mem (Word.Item dummy ItemField.Passed) (mem (Word.Item dummy ItemField.Passed) + 1)) d e y r' (told_take h y a) g (Place.WriteAnswer job a)
     add_passed = record {
       told = told;
       list = record { inv = keeps.add_passed mem d e c (further c + 1) g y below r r' same told dummy parcel u from has.inv to; counted = grow.gives_counted (further c) g y below has.counted };
@@ -203,18 +189,18 @@ module _ (c : Config) (mem : Word → ℕ) (d : Duty) (e : Enq) (h : Record) (g 
   -- ---- the whole service
 
   pub take_turn : (service : Taking) (found : ℕ) → mem (word_of (operation y service)) ≡ found → From service → r' y ≡ regs_at (goes job service found)
-      → Turn c (stored mem (operation y service)) d e y r' (noted (Take y) h None (decides service found)) g (goes job service found)
-  take_turn taking.ReadHead found is a b =
-      subst (λ (k : ℕ). Turn c mem d e y r' (noted (Take y) h None None) g (place.Taking job (taking.ReadTaken (k - 1)))) is (read_head a (b ∙ sym (ap (λ (k : ℕ). regs_in (taking.ReadTaken (k - 1))) is)))
-  take_turn (taking.ReadTaken dummy) found is a b =
-      subst (λ (k : ℕ). Turn c mem d e y r' (noted (Take y) h None None) g (place.Taking job (taking.ReadDummyNext dummy k))) is
-      (on mem (taking.ReadDummyNext dummy (mem (Object (object.Taken y)))) (keeps.read_taken mem d e c (further c + 1) g y below r r' same dummy a has.inv (b ∙ sym (ap (λ (k : ℕ). regs_in (taking.ReadDummyNext dummy k)) is))))
-  take_turn (taking.ReadDummyNext dummy taken) found is a b = read_next dummy taken found is a b
-  take_turn (taking.ReadItemTag dummy taken at) found is a b = read_tag dummy taken at found is a b
-  take_turn (taking.ReadItemBody dummy at p j) found is a b =
-      subst (λ (k : ℕ). Turn c mem d e y r' (noted (Take y) h None None) g (place.Taking job (behind (further_words p.tag) j (taking.ReadItemBody dummy at (with_read p j k) (j + 1)) (taking.WriteHead dummy at (with_read p j k))))) is
+      → Turn c (stored mem (operation y service)) d e y r' (noted (Chain.Take y) h None (decides service found)) g (goes job service found)
+  take_turn Taking.ReadHead found is a b =
+      subst (λ (k : ℕ). Turn c mem d e y r' (noted (Chain.Take y) h None None) g (Place.Taking job (Taking.ReadTaken (k - 1)))) is (read_head a (b ∙ sym (ap (λ (k : ℕ). regs_in (Taking.ReadTaken (k - 1))) is)))
+  take_turn (Taking.ReadTaken dummy) found is a b =
+      subst (λ (k : ℕ). Turn c mem d e y r' (noted (Chain.Take y) h None None) g (Place.Taking job (Taking.ReadDummyNext dummy k))) is
+      (on mem (Taking.ReadDummyNext dummy (mem (Word.Object (Object.Taken y)))) (keeps.read_taken mem d e c (further c + 1) g y below r r' same dummy a has.inv (b ∙ sym (ap (λ (k : ℕ). regs_in (Taking.ReadDummyNext dummy k)) is))))
+  take_turn (Taking.ReadDummyNext dummy taken) found is a b = read_next dummy taken found is a b
+  take_turn (Taking.ReadItemTag dummy taken at) found is a b = read_tag dummy taken at found is a b
+  take_turn (Taking.ReadItemBody dummy at p j) found is a b =
+      subst (λ (k : ℕ). Turn c mem d e y r' (noted (Chain.Take y) h None None) g (Place.Taking job (behind (further_words p.tag) j (Taking.ReadItemBody dummy at (with_read p j k) (j + 1)) (Taking.WriteHead dummy at (with_read p j k))))) is
       (on mem _ (keeps.read_body mem d e c (further c + 1) g y below r r' same dummy at p j ties.tells_is a has.inv
-      (b ∙ sym (ap (λ (k : ℕ). regs_in (behind (further_words p.tag) j (taking.ReadItemBody dummy at (with_read p j k) (j + 1)) (taking.WriteHead dummy at (with_read p j k)))) is))))
-  take_turn (taking.WriteHead dummy at parcel) found is a b = on _ (taking.WriteTaken dummy parcel) (keeps.write_head mem d e c (further c + 1) g y below r r' same dummy at parcel a has.inv b)
-  take_turn (taking.WriteTaken dummy parcel) found is a b = on _ (taking.AddPassed dummy parcel) (keeps.write_taken mem d e c (further c + 1) g y below r r' same dummy parcel a has.inv b)
-  take_turn (taking.AddPassed dummy parcel) found is a b = add_passed dummy parcel a b
+      (b ∙ sym (ap (λ (k : ℕ). regs_in (behind (further_words p.tag) j (Taking.ReadItemBody dummy at (with_read p j k) (j + 1)) (Taking.WriteHead dummy at (with_read p j k)))) is))))
+  take_turn (Taking.WriteHead dummy at parcel) found is a b = on _ (Taking.WriteTaken dummy parcel) (keeps.write_head mem d e c (further c + 1) g y below r r' same dummy at parcel a has.inv b)
+  take_turn (Taking.WriteTaken dummy parcel) found is a b = on _ (Taking.AddPassed dummy parcel) (keeps.write_taken mem d e c (further c + 1) g y below r r' same dummy parcel a has.inv b)
+  take_turn (Taking.AddPassed dummy parcel) found is a b = add_passed dummy parcel a b

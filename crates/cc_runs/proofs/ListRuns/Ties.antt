@@ -3,14 +3,8 @@ use Rattle.std.proofs.Common.{◌≡◌, ℕ, zero, suc, ◌+◌, ◌-◌, ◌<�
 use Rattle.std.specs.List.{slice_get}
 use Rattle.cc_model.specs.Record.{Record, of_group}
 use Rattle.cc_model.specs.Items.{accepted, is_shut, handed}
-use Rattle.cc_model.specs.declared.config.Config.{Config}
-use Rattle.cc_model.specs.declared.call.Entry.{Entry}
-use Rattle.cc_runs.specs.declared.place.Place.{Place}
-use Rattle.cc_runs.specs.declared.place.Place.TheVariants as place
-use Rattle.cc_runs.specs.declared.place.Sending.{Sending}
-use Rattle.cc_runs.specs.declared.place.Sending.TheVariants as sending
+use Rattle.cc_runs.specs.Names.{Config, Entry, Place, Sending, BodyWords}
 use Rattle.cc_runs.specs.Words.{groups}
-use Rattle.cc_runs.specs.declared.place.BodyWords.{BodyWords}
 use Rattle.cc_runs.specs.Codes.{item_of, further_words, word}
 use Rattle.cc_runs.proofs.Chains.Registers.{HasRequest}
 use Rattle.cc_runs.proofs.ListRuns.View.{long_of}
@@ -61,48 +55,48 @@ pub record Scanned (c : Config) (from at reads : ℕ) : Type 0 where
 
 -- what the service of the send side holds
 abbrev pub Reads : Config → Entry → ℕ → Sending → Type 0
-Reads c e from (sending.ReadShut q) = HasRequest e q.tag q.body
-Reads c e from (sending.ReadCount q) = HasRequest e q.tag q.body
-Reads c e from (sending.ReadCursor parcel) = HasRequest e parcel.tag parcel.body
-Reads c e from (sending.ReadPassed parcel at reads) = HasRequest e parcel.tag parcel.body × Scanned c from at reads
-Reads c e from (sending.ResetPassed parcel at) = HasRequest e parcel.tag parcel.body
-Reads c e from (sending.ResetItemNext parcel at) = HasRequest e parcel.tag parcel.body
-Reads c e from (sending.WriteItemTag parcel at) = HasRequest e parcel.tag parcel.body
-Reads c e from (sending.WriteItemBody parcel at i) = HasRequest e parcel.tag parcel.body × (i ≤ further_words parcel.tag)
+Reads c e from (Sending.ReadShut q) = HasRequest e q.tag q.body
+Reads c e from (Sending.ReadCount q) = HasRequest e q.tag q.body
+Reads c e from (Sending.ReadCursor parcel) = HasRequest e parcel.tag parcel.body
+Reads c e from (Sending.ReadPassed parcel at reads) = HasRequest e parcel.tag parcel.body × Scanned c from at reads
+Reads c e from (Sending.ResetPassed parcel at) = HasRequest e parcel.tag parcel.body
+Reads c e from (Sending.ResetItemNext parcel at) = HasRequest e parcel.tag parcel.body
+Reads c e from (Sending.WriteItemTag parcel at) = HasRequest e parcel.tag parcel.body
+Reads c e from (Sending.WriteItemBody parcel at i) = HasRequest e parcel.tag parcel.body × (i ≤ further_words parcel.tag)
 Reads c e from _ = Unit {0}
 
 abbrev pub ReadsAt : Config → Entry → ℕ → Place → Type 0
-ReadsAt c e from (place.Sending job service) = Reads c e from service
+ReadsAt c e from (Place.Sending job service) = Reads c e from service
 ReadsAt c e from _ = Unit {0}
 
 -- the service has read its request, and its answer isn't decided
 abbrev pub IsUndecided : Sending → Type 0
-IsUndecided sending.ReadTag = ⊥
-IsUndecided (sending.ReadBody request i) = ⊥
-IsUndecided (sending.WriteLast count at) = ⊥
-IsUndecided (sending.WriteCount count at) = ⊥
-IsUndecided (sending.WriteCursor count at) = ⊥
-IsUndecided (sending.WriteLastMark total) = ⊥
-IsUndecided (sending.WriteShut total) = ⊥
+IsUndecided Sending.ReadTag = ⊥
+IsUndecided (Sending.ReadBody request i) = ⊥
+IsUndecided (Sending.WriteLast count at) = ⊥
+IsUndecided (Sending.WriteCount count at) = ⊥
+IsUndecided (Sending.WriteCursor count at) = ⊥
+IsUndecided (Sending.WriteLastMark total) = ⊥
+IsUndecided (Sending.WriteShut total) = ⊥
 IsUndecided _ = Unit {0}
 
 -- the service has read its request
 abbrev pub IsBegun : Sending → Type 0
-IsBegun sending.ReadTag = ⊥
-IsBegun (sending.ReadBody request i) = ⊥
+IsBegun Sending.ReadTag = ⊥
+IsBegun (Sending.ReadBody request i) = ⊥
 IsBegun _ = Unit {0}
 
 abbrev pub IsServing : Place → Type 0
-IsServing (place.Sending job service) = IsBegun service
+IsServing (Place.Sending job service) = IsBegun service
 IsServing _ = ⊥
 
 abbrev pub IsUndecidedAt : Place → Type 0
-IsUndecidedAt (place.Sending job service) = IsUndecided service
+IsUndecidedAt (Place.Sending job service) = IsUndecided service
 IsUndecidedAt _ = ⊥
 
 -- a take is in service
 abbrev pub IsTaking : Place → Type 0
-IsTaking (place.Taking job service) = Unit {0}
+IsTaking (Place.Taking job service) = Unit {0}
 IsTaking _ = ⊥
 
 -- the call that is served is the first one without an answer

@@ -2,19 +2,7 @@
 use Rattle.std.proofs.Common.{◌≡◌, ◌≢◌, ℕ, zero, suc, ◌+◌, ◌-◌, ◌==◌, ◌&&◌, Bool, true, false, cond, refl, sym, ap, ◌∙◌, subst}
 use Rattle.std.proofs.Math.Bool.{and-false}
 use Rattle.std.proofs.lemmas.Bool.{eq-eqb, ne_eqb, eqb-true, eqb-false}
-use Rattle.cc_model.specs.declared.call.Entry.{Entry}
-use Rattle.cc_runs.specs.declared.word.ItemField.TheVariants as item
-use Rattle.cc_runs.specs.declared.word.Object.{Object as Obj}
-use Rattle.cc_runs.specs.declared.word.Object.TheVariants as object
-use Rattle.cc_runs.specs.declared.word.Word.{Word}
-use Rattle.cc_runs.specs.declared.word.Word.TheVariants.{Object, Item}
-use Rattle.cc_runs.specs.declared.place.Place.{Place}
-use Rattle.cc_runs.specs.declared.place.Place.TheVariants as place
-use Rattle.cc_runs.specs.declared.place.Sending.{Sending}
-use Rattle.cc_runs.specs.declared.place.Sending.TheVariants as sending
-use Rattle.cc_runs.specs.declared.place.Taking.{Taking}
-use Rattle.cc_runs.specs.declared.place.Taking.TheVariants as taking
-use Rattle.cc_runs.specs.declared.place.Stand.{Stand}
+use Rattle.cc_runs.specs.Names.{Entry, ItemField, Object as Obj, Word, Place, Sending, Taking, Stand}
 use Rattle.cc_runs.specs.Words.{put, object_number}
 use Rattle.cc_runs.specs.State.{State, hold}
 use Rattle.cc_runs.specs.Codes.{request_in, further_words, word}
@@ -48,29 +36,29 @@ resting e from = record { stage = 0; asks = asks_of e; asks_long = long_of (requ
 
 -- and at a step of the service of this call, whose scan began so
 abbrev pub enq_in : Entry → ℕ → Sending → Enq
-enq_in e from sending.ReadTag = resting e from
-enq_in e from (sending.ReadBody request i) = resting e from
-enq_in e from (sending.ReadShut request) = record (resting e from) { stage = 1 }
-enq_in e from sending.ReadTotal = record (resting e from) { stage = 2 }
-enq_in e from (sending.ReadCount request) = record (resting e from) { stage = 3 }
-enq_in e from (sending.ReadCursor parcel) = record (resting e from) { stage = 4; seen = parcel.place }
-enq_in e from (sending.ReadPassed parcel at reads) = record (resting e from) { stage = 5; seen = parcel.place; tried = reads - 1 }
-enq_in e from (sending.ResetPassed parcel at) = record (resting e from) { stage = 6; seen = parcel.place; found = at }
-enq_in e from (sending.ResetItemNext parcel at) = record (resting e from) { stage = 7; seen = parcel.place; found = at }
-enq_in e from (sending.WriteItemTag parcel at) = record (resting e from) { stage = 8; seen = parcel.place; found = at }
-enq_in e from (sending.WriteItemBody parcel at i) = record (resting e from) { stage = 8; seen = parcel.place; found = at; wrote = suc i }
-enq_in e from (sending.ReadLast count at) = record (resting e from) { stage = 9; seen = count; found = at; wrote = long_of (request_in e).tag }
-enq_in e from (sending.LinkItem count at last) = record (resting e from) { stage = 10; seen = count; found = at; wrote = long_of (request_in e).tag; last = last + 1 }
-enq_in e from (sending.WriteLast count at) = record (resting e from) { stage = 11; seen = count; found = at }
-enq_in e from (sending.WriteCount count at) = record (resting e from) { stage = 12; seen = count; found = at }
-enq_in e from (sending.WriteCursor count at) = record (resting e from) { stage = 13; seen = count; found = at }
-enq_in e from (sending.ReadLastToClose total) = record (resting e from) { stage = 14; seen = total }
-enq_in e from (sending.LinkMark total last) = record (resting e from) { stage = 15; seen = total; last = last + 1 }
-enq_in e from (sending.WriteLastMark total) = record (resting e from) { stage = 16; seen = total }
-enq_in e from (sending.WriteShut total) = record (resting e from) { stage = 17; seen = total }
+enq_in e from Sending.ReadTag = resting e from
+enq_in e from (Sending.ReadBody request i) = resting e from
+enq_in e from (Sending.ReadShut request) = record (resting e from) { stage = 1 }
+enq_in e from Sending.ReadTotal = record (resting e from) { stage = 2 }
+enq_in e from (Sending.ReadCount request) = record (resting e from) { stage = 3 }
+enq_in e from (Sending.ReadCursor parcel) = record (resting e from) { stage = 4; seen = parcel.place }
+enq_in e from (Sending.ReadPassed parcel at reads) = record (resting e from) { stage = 5; seen = parcel.place; tried = reads - 1 }
+enq_in e from (Sending.ResetPassed parcel at) = record (resting e from) { stage = 6; seen = parcel.place; found = at }
+enq_in e from (Sending.ResetItemNext parcel at) = record (resting e from) { stage = 7; seen = parcel.place; found = at }
+enq_in e from (Sending.WriteItemTag parcel at) = record (resting e from) { stage = 8; seen = parcel.place; found = at }
+enq_in e from (Sending.WriteItemBody parcel at i) = record (resting e from) { stage = 8; seen = parcel.place; found = at; wrote = suc i }
+enq_in e from (Sending.ReadLast count at) = record (resting e from) { stage = 9; seen = count; found = at; wrote = long_of (request_in e).tag }
+enq_in e from (Sending.LinkItem count at last) = record (resting e from) { stage = 10; seen = count; found = at; wrote = long_of (request_in e).tag; last = last + 1 }
+enq_in e from (Sending.WriteLast count at) = record (resting e from) { stage = 11; seen = count; found = at }
+enq_in e from (Sending.WriteCount count at) = record (resting e from) { stage = 12; seen = count; found = at }
+enq_in e from (Sending.WriteCursor count at) = record (resting e from) { stage = 13; seen = count; found = at }
+enq_in e from (Sending.ReadLastToClose total) = record (resting e from) { stage = 14; seen = total }
+enq_in e from (Sending.LinkMark total last) = record (resting e from) { stage = 15; seen = total; last = last + 1 }
+enq_in e from (Sending.WriteLastMark total) = record (resting e from) { stage = 16; seen = total }
+enq_in e from (Sending.WriteShut total) = record (resting e from) { stage = 17; seen = total }
 
 abbrev pub enq_at : Entry → ℕ → Place → Enq
-enq_at e from (place.Sending job service) = enq_in e from service
+enq_at e from (Place.Sending job service) = enq_in e from service
 enq_at e from _ = resting e from
 
 -- the registers of the service of a take
@@ -86,17 +74,17 @@ abbrev pub none : Regs
 none = record { stage = 0; dummy = 0; seen = 0; after = 0; got = 0; word = no_word }
 
 abbrev pub regs_in : Taking → Regs
-regs_in taking.ReadHead = record none { stage = 1 }
-regs_in (taking.ReadTaken dummy) = record none { stage = 2; dummy = dummy }
-regs_in (taking.ReadDummyNext dummy taken) = record none { stage = 3; dummy = dummy; seen = taken }
-regs_in (taking.ReadItemTag dummy taken at) = record none { stage = 4; dummy = dummy; seen = taken; after = at + 1 }
-regs_in (taking.ReadItemBody dummy at p i) = record { stage = 4; dummy = dummy; seen = p.place; after = at + 1; got = suc i; word = words_of p.tag (word p.body) }
-regs_in (taking.WriteHead dummy at parcel) = record { stage = 5; dummy = dummy; seen = parcel.place; after = at + 1; got = long_of parcel.tag; word = words_of parcel.tag (word parcel.body) }
-regs_in (taking.WriteTaken dummy parcel) = record { stage = 6; dummy = dummy; seen = parcel.place; after = 0; got = long_of parcel.tag; word = words_of parcel.tag (word parcel.body) }
-regs_in (taking.AddPassed dummy parcel) = record { stage = 7; dummy = dummy; seen = parcel.place; after = 0; got = long_of parcel.tag; word = words_of parcel.tag (word parcel.body) }
+regs_in Taking.ReadHead = record none { stage = 1 }
+regs_in (Taking.ReadTaken dummy) = record none { stage = 2; dummy = dummy }
+regs_in (Taking.ReadDummyNext dummy taken) = record none { stage = 3; dummy = dummy; seen = taken }
+regs_in (Taking.ReadItemTag dummy taken at) = record none { stage = 4; dummy = dummy; seen = taken; after = at + 1 }
+regs_in (Taking.ReadItemBody dummy at p i) = record { stage = 4; dummy = dummy; seen = p.place; after = at + 1; got = suc i; word = words_of p.tag (word p.body) }
+regs_in (Taking.WriteHead dummy at parcel) = record { stage = 5; dummy = dummy; seen = parcel.place; after = at + 1; got = long_of parcel.tag; word = words_of parcel.tag (word parcel.body) }
+regs_in (Taking.WriteTaken dummy parcel) = record { stage = 6; dummy = dummy; seen = parcel.place; after = 0; got = long_of parcel.tag; word = words_of parcel.tag (word parcel.body) }
+regs_in (Taking.AddPassed dummy parcel) = record { stage = 7; dummy = dummy; seen = parcel.place; after = 0; got = long_of parcel.tag; word = words_of parcel.tag (word parcel.body) }
 
 abbrev pub regs_at : Place → Regs
-regs_at (place.Taking job service) = regs_in service
+regs_at (Place.Taking job service) = regs_in service
 regs_at _ = none
 
 abbrev pub side_from : (head taken : ℕ) → Entry → Regs → Side
@@ -113,20 +101,20 @@ side_from head taken call r = record {
 }
 
 abbrev pub item_word : (Word → ℕ) → ℕ → ℕ → ℕ
-item_word mem x = words_of (mem (Item x item.Tag)) (λ i. mem (Item x (item.Body i)))
+item_word mem x = words_of (mem (Word.Item x ItemField.Tag)) (λ i. mem (Word.Item x (ItemField.Body i)))
 
 -- of the words, the calls that the groups serve, and the registers of all services
 abbrev pub queue_from : (Word → ℕ) → Duty → Enq → (ℕ → Regs) → Queue
 queue_from mem d e r = record {
-  last = mem (Object object.Last);
-  shut = mem (Object object.Shut);
-  count = mem (Object object.Count);
-  cursor = mem (Object object.Cursor);
-  next = λ x. mem (Item x item.Next);
-  passed = λ x. mem (Item x item.Passed);
+  last = mem (Word.Object Obj.Last);
+  shut = mem (Word.Object Obj.Shut);
+  count = mem (Word.Object Obj.Count);
+  cursor = mem (Word.Object Obj.Cursor);
+  next = λ x. mem (Word.Item x ItemField.Next);
+  passed = λ x. mem (Word.Item x ItemField.Passed);
   word = λ x. item_word mem x;
   enq = e;
-  side = λ y. side_from (mem (Object (object.Head y))) (mem (Object (object.Taken y))) (d.d_call y) (r y);
+  side = λ y. side_from (mem (Word.Object (Obj.Head y))) (mem (Word.Object (Obj.Taken y))) (d.d_call y) (r y);
 }
 
 -- the registers of the groups' services where the passes stand so
@@ -164,24 +152,24 @@ other_number x y ne = by_case (x == y) refl
     by_case true e = absurd (ne (eqb-true x y e))
     by_case false e = refl
 
-pub object_here : (mem : Word → ℕ) (o : Obj) (value : ℕ) → put mem (Object o) value (Object o) ≡ value
-object_here mem o value = ap (λ (b : Bool). cond b value (mem (Object o))) (same_number (object_number o))
+pub object_here : (mem : Word → ℕ) (o : Obj) (value : ℕ) → put mem (Word.Object o) value (Word.Object o) ≡ value
+object_here mem o value = ap (λ (b : Bool). cond b value (mem (Word.Object o))) (same_number (object_number o))
 
-pub object_other : (mem : Word → ℕ) (o q : Obj) (value : ℕ) → object_number o ≢ object_number q → put mem (Object o) value (Object q) ≡ mem (Object q)
-object_other mem o q value ne = ap (λ (b : Bool). cond b value (mem (Object q))) (other_number (object_number o) (object_number q) ne)
+pub object_other : (mem : Word → ℕ) (o q : Obj) (value : ℕ) → object_number o ≢ object_number q → put mem (Word.Object o) value (Word.Object q) ≡ mem (Word.Object q)
+object_other mem o q value ne = ap (λ (b : Bool). cond b value (mem (Word.Object q))) (other_number (object_number o) (object_number q) ne)
 
 -- ---- a store to a word of an item's body
 
-pub part_here : (mem : Word → ℕ) (x i value : ℕ) → item_word (put mem (Item x (item.Body i)) value) x (suc i) ≡ value
-part_here mem x i value = (λ k. cond (same_number i k && (x == x)) value (mem (Item x (item.Body i)))) ∙ ap (λ (b : Bool). cond b value (mem (Item x (item.Body i)))) (same_number x)
+pub part_here : (mem : Word → ℕ) (x i value : ℕ) → item_word (put mem (Word.Item x (ItemField.Body i)) value) x (suc i) ≡ value
+part_here mem x i value = (λ k. cond (same_number i k && (x == x)) value (mem (Word.Item x (ItemField.Body i)))) ∙ ap (λ (b : Bool). cond b value (mem (Word.Item x (ItemField.Body i)))) (same_number x)
 
-pub part_other : (mem : Word → ℕ) (x i value y j : ℕ) → (x ≡ y → j ≢ suc i) → item_word (put mem (Item x (item.Body i)) value) y j ≡ item_word mem y j
+pub part_other : (mem : Word → ℕ) (x i value y j : ℕ) → (x ≡ y → j ≢ suc i) → item_word (put mem (Word.Item x (ItemField.Body i)) value) y j ≡ item_word mem y j
 part_other mem x i value y zero ne = refl
 part_other mem x i value y (suc j) ne = by_node (x == y) refl
   where
-    by_node : (b : Bool) → (x == y) ≡ b → put mem (Item x (item.Body i)) value (Item y (item.Body j)) ≡ mem (Item y (item.Body j))
-    by_node true same = ap (λ (b : Bool). cond (b && (x == y)) value (mem (Item y (item.Body j)))) (other_number i j (λ e. ne (eqb-true x y same) (ap suc (sym e))))
-    by_node false other = ap (λ (b : Bool). cond ((i == j) && b) value (mem (Item y (item.Body j)))) other ∙ ap (λ (b : Bool). cond b value (mem (Item y (item.Body j)))) (and-false (i == j))
+    by_node : (b : Bool) → (x == y) ≡ b → put mem (Word.Item x (ItemField.Body i)) value (Word.Item y (ItemField.Body j)) ≡ mem (Word.Item y (ItemField.Body j))
+    by_node true same = ap (λ (b : Bool). cond (b && (x == y)) value (mem (Word.Item y (ItemField.Body j)))) (other_number i j (λ e. ne (eqb-true x y same) (ap suc (sym e))))
+    by_node false other = ap (λ (b : Bool). cond ((i == j) && b) value (mem (Word.Item y (ItemField.Body j)))) other ∙ ap (λ (b : Bool). cond b value (mem (Word.Item y (ItemField.Body j)))) (and-false (i == j))
 
 -- ---- a pass that goes on
 

@@ -1,11 +1,7 @@
 -- The list's invariant of a state, and the moves that it doesn't see.
 use Rattle.std.proofs.Common.{◌≡◌, ◌≢◌, ℕ, ◌+◌, ◌≤◌, List, [], refl, sym, ap, ◌∙◌, subst, arith}
 use Rattle.cc_model.specs.Record.{Record}
-use Rattle.cc_model.specs.declared.config.Config.{Config}
-use Rattle.cc_model.specs.declared.call.Entry.{Entry}
-use Rattle.cc_runs.specs.declared.word.Word.{Word}
-use Rattle.cc_runs.specs.declared.place.Stand.{Stand}
-use Rattle.cc_runs.specs.declared.word.Chain.TheVariants.{Take}
+use Rattle.cc_runs.specs.Names.{Config, Entry, Word, Stand, Chain}
 use Rattle.cc_runs.specs.State.{State, chain_of, hold}
 use Rattle.cc_runs.proofs.LinkedList.Queue.{Enq, Queue, Told}
 use Rattle.cc_runs.proofs.LinkedList.Grow.{Held}
@@ -17,8 +13,8 @@ use Rattle.cc_runs.proofs.ListRuns.Still.{StillSend, StillTake}
 -- who serves, and what
 pub record Serving (c : Config) (s : State) (d : Duty) : Type 0 where
   pub e_only : (q : ℕ) → q ≢ d.e_pass → IsServing (s.stand q).place → ⊥
-  pub d_mine : (y : ℕ) → chain_of c (d.d_pass y) ≡ Take y
-  pub d_only : (y q : ℕ) → chain_of c q ≡ Take y → q ≢ d.d_pass y → IsTaking (s.stand q).place → ⊥
+  pub d_mine : (y : ℕ) → chain_of c (d.d_pass y) ≡ Chain.Take y
+  pub d_only : (y q : ℕ) → chain_of c q ≡ Chain.Take y → q ≢ d.d_pass y → IsTaking (s.stand q).place → ⊥
   pub caller : Caller c d.e_call
   pub reads : ReadsAt c d.e_call d.from (s.stand d.e_pass).place
   pub next_send : IsUndecidedAt (s.stand d.e_pass).place → IsNextSend s.history d.e_call
@@ -76,7 +72,7 @@ module _ (c : Config) (s : State) (p : ℕ) (now : Stand) (mem' : Word → ℕ) 
     serving = record {
       e_only = λ q ne serves. hold_all (λ (q : ℕ) (z : Stand). q ≢ d.e_pass → IsServing z.place → ⊥) s.stand p now (λ n u. after_send.serves u) (λ q ne n u. k.serving.e_only q n u) q ne serves;
       d_mine = k.serving.d_mine;
-      d_only = λ y q chain ne takes. hold_all (λ (q : ℕ) (z : Stand). chain_of c q ≡ Take y → q ≢ d.d_pass y → IsTaking z.place → ⊥) s.stand p now (λ e n u. after_take.takes u) (λ q ne e n u. k.serving.d_only y q e n u) q chain ne takes;
+      d_only = λ y q chain ne takes. hold_all (λ (q : ℕ) (z : Stand). chain_of c q ≡ Chain.Take y → q ≢ d.d_pass y → IsTaking z.place → ⊥) s.stand p now (λ e n u. after_take.takes u) (λ q ne e n u. k.serving.d_only y q e n u) q chain ne takes;
       caller = k.serving.caller;
       reads = hold_all (λ (q : ℕ) (z : Stand). q ≡ d.e_pass → ReadsAt c d.e_call d.from z.place) s.stand p now (λ e. after_send.reads c d.e_call d.from)
           (λ q ne e. subst (λ (j : ℕ). ReadsAt c d.e_call d.from (s.stand j).place) (sym e) k.serving.reads) d.e_pass refl;

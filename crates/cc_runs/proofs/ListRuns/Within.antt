@@ -5,21 +5,9 @@ use Rattle.std.specs.List.{AllByRecursion, slice_get}
 use Rattle.cc_model.specs.Config.{config_fault}
 use Rattle.cc_model.specs.Items.{accepted, accepted_by, accepted_item, shuts, is_shut, handed_item}
 use Rattle.cc_model.specs.Legal.{EAnswer, EAnswers, DAnswer, DAnswers}
-use Rattle.cc_model.specs.declared.config.Config.{Config}
-use Rattle.cc_model.specs.declared.call.Call.{Call}
-use Rattle.cc_model.specs.declared.call.Call.TheVariants as call
-use Rattle.cc_model.specs.declared.call.Entry.{Entry}
-use Rattle.cc_model.specs.declared.call.Item.{Item}
-use Rattle.cc_model.specs.declared.call.Answer.{Answer}
-use Rattle.cc_model.specs.declared.call.Answer.TheVariants as answer
-use Rattle.cc_model.specs.declared.call.SendAnswer.TheVariants as send
-use Rattle.cc_model.specs.declared.call.CloseAnswer.TheVariants as close
-use Rattle.cc_model.specs.declared.call.TakeAnswer.TheVariants as take
-use Rattle.cc_runs.specs.declared.setting.Setting.{Setting}
+use Rattle.cc_runs.specs.Names.{Config, Call, Entry, Item, Answer, SendAnswer, CloseAnswer, TakeAnswer, Setting, Chain}
 use Rattle.cc_runs.specs.Codes.{item_of}
 use Rattle.cc_model.specs.Record.{of_group}
-use Rattle.cc_runs.specs.declared.word.Chain.{Chain}
-use Rattle.cc_runs.specs.declared.word.Chain.TheVariants.{Send, Take}
 use Rattle.cc_runs.specs.Sides.{answers_on}
 use Rattle.cc_runs.specs.State.{State}
 use Rattle.cc_runs.specs.Run.{reached, history_of, IsRun}
@@ -32,12 +20,12 @@ use Rattle.cc_runs.proofs.ListRuns.Runs.{Whole}
 use Rattle.cc_runs.proofs.ListRuns.FromChains.{after_runs, of_setting}
 
 e_within : (c : Config) (n : ℕ) (shut : Bool) (known : ℕ) (k : Call) (a : Answer) → EAnswer c n shut known k a → n ≤ c.life → AnswerWithin c.life a
-e_within c n true known (call.Send body) (answer.Send send.Closed) h l = tt
-e_within c n true known call.Close (answer.Close (close.Already total)) h l = omega (arith, h, l)
-e_within c n false known call.Close (answer.Close (close.Shut total)) h l = omega (arith, h, l)
-e_within c n false known (call.Send body) (answer.Send send.Spent) h l = tt
-e_within c n false known (call.Send body) (answer.Send (send.Accepted place)) h l = omega (arith, h.0, h.1, l)
-e_within c n false known (call.Send body) (answer.Send send.Full) h l = tt
+e_within c n true known (Call.Send body) (Answer.Send SendAnswer.Closed) h l = tt
+e_within c n true known Call.Close (Answer.Close (CloseAnswer.Already total)) h l = omega (arith, h, l)
+e_within c n false known Call.Close (Answer.Close (CloseAnswer.Shut total)) h l = omega (arith, h, l)
+e_within c n false known (Call.Send body) (Answer.Send SendAnswer.Spent) h l = tt
+e_within c n false known (Call.Send body) (Answer.Send (SendAnswer.Accepted place)) h l = omega (arith, h.0, h.1, l)
+e_within c n false known (Call.Send body) (Answer.Send SendAnswer.Full) h l = tt
 e_within _ _ _ _ _ _ h l = absurd h
 
 all_e_within : (c : Config) (n : ℕ) (shut : Bool) (calls : List Entry) (answers : List Answer) → EAnswers c n shut calls answers → n + length (accepted_by calls answers) ≤ c.life → AllByRecursion (AnswerWithin c.life) answers
@@ -53,9 +41,9 @@ abbrev Small : List Item → Type 0
 Small items = (i : ℕ) (x : Item) → slice_get items i ≡ Some x → x.number < 2 ^ 32
 
 d_within : (items : List Item) (shut : Bool) (n known : ℕ) (a : Answer) (most : ℕ) → DAnswer items shut n known a → Small items → length items ≤ most → AnswerWithin most a
-d_within items shut n known (answer.Take (take.Got item)) most h small l = (omega (arith, h.1, slice_get_within items n item h.0, l), small n item h.0)
-d_within items shut n known (answer.Take take.Empty) most h small l = tt
-d_within items shut n known (answer.Take (take.Ended total)) most h small l = omega (arith, h.1, h.2, l)
+d_within items shut n known (Answer.Take (TakeAnswer.Got item)) most h small l = (omega (arith, h.1, slice_get_within items n item h.0, l), small n item h.0)
+d_within items shut n known (Answer.Take TakeAnswer.Empty) most h small l = tt
+d_within items shut n known (Answer.Take (TakeAnswer.Ended total)) most h small l = omega (arith, h.1, h.2, l)
 d_within _ _ _ _ _ _ h small l = absurd h
 
 all_d_within : (items : List Item) (shut : Bool) (n : ℕ) (calls : List Entry) (answers : List Answer) (most : ℕ) → DAnswers items shut n calls answers → Small items → length items ≤ most → AllByRecursion (AnswerWithin most) answers
@@ -80,8 +68,8 @@ within c s w =
         omega (arith, ap (λ (y : Item). y.number) same)
 
     by_chain : length (accepted s.history) ≤ c.life → (x : Chain) → AllByRecursion (AnswerWithin c.life) (answers_on x s.history)
-    by_chain life Send = all_e_within c 0 false s.history.sends.calls s.history.sends.answers w.parts.ties.lawful.sends (omega (arith, life))
-    by_chain life (Take y) = all_d_within (accepted s.history) (is_shut s.history) 0 (of_group s.history y).calls (of_group s.history y).answers c.life (w.parts.ties.lawful.takes y) small life
+    by_chain life Chain.Send = all_e_within c 0 false s.history.sends.calls s.history.sends.answers w.parts.ties.lawful.sends (omega (arith, life))
+    by_chain life (Chain.Take y) = all_d_within (accepted s.history) (is_shut s.history) 0 (of_group s.history y).calls (of_group s.history y).answers c.life (w.parts.ties.lawful.takes y) small life
 
 pub numbers_stay_within : NumbersStayWithin
 numbers_stay_within c moves serves checked run =

@@ -1,6 +1,6 @@
 use Rattle.std.proofs.Common.{sym}
 use Rattle.std.proofs.lemmas.List.Sorted.{IsPermutation-trans}
-use Rattle.cc_audit.specs.declared.receipt.Verdict.TheVariants.{Clean}
+use Rattle.cc_audit.specs.Names.{Verdict}
 use Rattle.cc_audit.proofs.Faults.{joined, all_kinds, none_yet}
 use Rattle.cc_audit.proofs.Found.{finds_double_accept, finds_double_take, finds_stranger, finds_altered, finds_gap, finds_disorder, finds_overrun}
 use Rattle.cc_audit.proofs.judge.audit.Goals as goal
@@ -18,7 +18,7 @@ returns c =
     let placed_same = rw (sym c.as_slice.ensures.value) at c.in_ok-placed.ensures.same in
     let grouped = c.as_slice-2.result.now in
     let grouped_same = rw (sym c.as_slice-2.ensures.value) at (IsPermutation-trans sends _ _ c.in_ok-placed.ensures.same c.in_ok-grouped.ensures.same) in
-    let v1 = joined sends takes total 0 Clean _ _ c.or_fault-verdict.ensures (none_yet sends takes total) (finds_double_accept sends takes total sent taken sent_same taken_same _ c.first_double-sent_twice.ensures) in
+    let v1 = joined sends takes total 0 Verdict.Clean _ _ c.or_fault-verdict.ensures (none_yet sends takes total) (finds_double_accept sends takes total sent taken sent_same taken_same _ c.first_double-sent_twice.ensures) in
     let v2 = joined sends takes total 1 _ _ _ c.or_fault-verdict-2.ensures v1 (finds_double_take sends takes total sent taken sent_same taken_same _ c.first_double-taken_twice.ensures) in
     let v3 = joined sends takes total 2 _ _ _ c.or_fault-verdict-3.ensures v2 (finds_stranger sends takes total sent taken sent_same taken_same _ c.first_stranger-stranger.ensures) in
     let v4 = joined sends takes total 3 _ _ _ c.or_fault-verdict-4.ensures v3 (finds_altered sends takes total placed placed_same _ c.first_altered-altered.ensures) in

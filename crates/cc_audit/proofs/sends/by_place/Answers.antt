@@ -1,6 +1,6 @@
 use Rattle.std.proofs.Common.{rules}
 use Rattle.std.proofs.lemmas.List.Sorted.{answers_always}
-use Rattle.cc_audit.specs.declared.receipt.SendReceipt.{SendReceipt}
+use Rattle.cc_audit.specs.Names.{SendReceipt}
 use Rattle.cc_audit.proofs.sends.by_place.Goals as goal
 
 pub returns-clause-order : goal.returns-clause-order

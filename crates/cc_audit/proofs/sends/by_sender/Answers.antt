@@ -1,6 +1,6 @@
 use Rattle.std.proofs.Common.{rules}
 use Rattle.std.proofs.lemmas.List.Sorted.{answers_always, IsNonDecreasingBy-from_sort_by_key, ties_still_rise}
-use Rattle.cc_audit.specs.declared.receipt.SendReceipt.{SendReceipt}
+use Rattle.cc_audit.specs.Names.{SendReceipt}
 use Rattle.cc_audit.proofs.sends.by_sender.Goals as goal
 
 pub returns-clause-senders : goal.returns-clause-senders

@@ -1,7 +1,7 @@
 use Rattle.std.proofs.Common.{◌∙◌, sym, rules}
 use Rattle.std.proofs.lemmas.Bool.{OnTrue_from, OnFalse_from, false≢true}
 use Rattle.std.proofs.lemmas.List.Sorted.{answers_always}
-use Rattle.cc_audit.specs.declared.receipt.SendReceipt.{SendReceipt}
+use Rattle.cc_audit.specs.Names.{SendReceipt}
 use Rattle.cc_audit.proofs.Sought.{hit_altered, hit_same, miss}
 use Rattle.cc_audit.proofs.sends.is_altered.Goals as goal
 

@@ -1,5 +1,5 @@
 use Rattle.std.proofs.Common.{◌+◌, ◌<◌, length, arith, rules}
-use Rattle.cc_binding.specs.declared.kept.Pass.TheVariants as pass
+use Rattle.cc_binding.specs.Names.{Pass}
 use Rattle.cc_binding.proofs.Filling.{is_of, other_seats, next_held}
 use Rattle.cc_binding.proofs.opening.keep_senders.Goals as goal
 
@@ -19,5 +19,5 @@ loop-row-preserved c =
       search rules,
       other_seats _ c.loop-row._row (c.loop-row._row + 1) c.loop-row.senders.items _ (omega arith) some i.1 c.remove.ensures.items,
       search rules,
-      next_held (λ b. b.value) pass.Sender _ 0 c.loop-row._row c.loop-row.senders.items c.loop-row.all.items c.push.new.self.items c.remove.result c.in_ok-kept.field-0 some i.1 c.remove.ensures.value c.in_ok-kept.ensures (omega (arith, i.2)) i.3 c.in_ok-push.ensures.items,
+      next_held (λ b. b.value) Pass.Sender _ 0 c.loop-row._row c.loop-row.senders.items c.loop-row.all.items c.push.new.self.items c.remove.result c.in_ok-kept.field-0 some i.1 c.remove.ensures.value c.in_ok-kept.ensures (omega (arith, i.2)) i.3 c.in_ok-push.ensures.items,
     )

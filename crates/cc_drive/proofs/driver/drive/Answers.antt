@@ -1,7 +1,6 @@
 use Rattle.std.specs.Result.{OnOk}
 use Rattle.std.proofs.Common.{Result, Ok, Err, arith, ◌≡◌, ◌∙◌, ◌+◌, ℕ, length, ap, subst}
-use Rattle.cc_model.specs.declared.config.Config.{Config}
-use Rattle.cc_runs.specs.declared.setting.Setting.{Setting}
+use Rattle.cc_drive.specs.Names.{Config, Setting}
 use Rattle.cc_runs.proofs.Ranges.{in_range}
 use Rattle.cc_steps.specs.Walk.{fresh, fresh_from}
 use Rattle.cc_drive.specs.Config.{queue_of, drive_fault}

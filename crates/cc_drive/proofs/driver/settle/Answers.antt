@@ -1,7 +1,7 @@
 use Rattle.std.proofs.Common.{rules, arith, ◌∙◌, List, Some, sym, subst, ap}
 use Rattle.std.proofs.lemmas.List.Sorted.{IsPermutation-refl}
 use Rattle.std.specs.List.Sorted.{IsPermutation}
-use Rattle.cc_runs.specs.declared.setting.Setting.{Setting}
+use Rattle.cc_drive.specs.Names.{Setting}
 use Rattle.cc_steps.specs.Walk.{Walk}
 use Rattle.cc_audit.specs.Receipts.{total_of}
 use Rattle.cc_queue.specs.Receipts.{AreAll, in_group, receipts_by, seen_by, sent, got}

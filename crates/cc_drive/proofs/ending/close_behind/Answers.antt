@@ -1,5 +1,5 @@
 use Rattle.std.proofs.Common.{◌∙◌, ap}
-use Rattle.cc_drive.specs.declared.turns.Turns.{Turns}
+use Rattle.cc_drive.specs.Names.{Turns}
 use Rattle.cc_drive.proofs.Crewed.{are_of}
 use Rattle.cc_drive.proofs.ending.close_behind.Goals as goal
 

@@ -1,8 +1,5 @@
 use Rattle.std.proofs.Common.{rules, ◌≡◌, ◌+◌, ◌∙◌, ◌++◌, length, sym, ap, subst}
-use Rattle.cc_model.specs.declared.call.Answer.TheVariants as answer
-use Rattle.cc_model.specs.declared.call.Call.TheVariants as call
-use Rattle.cc_model.specs.declared.call.Pass.TheVariants as pass
-use Rattle.cc_model.specs.declared.call.SendAnswer.{SendAnswer}
+use Rattle.cc_drive.specs.Names.{Answer, Call, Pass, SendAnswer}
 use Rattle.cc_steps.specs.Walk.{Walk}
 use Rattle.cc_queue.specs.Calls.{Completed}
 use Rattle.cc_queue.specs.Headline.{entry_of}
@@ -13,7 +10,7 @@ use Rattle.cc_drive.proofs.sending.send_all.Goals as goal
 
 pub loop-accepted-init : goal.loop-accepted-init
 loop-accepted-init g c = let none = calls_fresh c.args.queue.now c.args.row c.args.sender c.requires.fresh c.stands.ensures.met in (
-  working_none sent c.args.queue.now c.args.row (pass.Sender c.args.number) c.args.sender _ _ c.requires.fresh c.requires.named c.stands.ensures.met c.new-kept.ensures,
+  working_none sent c.args.queue.now c.args.row (Pass.Sender c.args.number) c.args.sender _ _ c.requires.fresh c.requires.named c.stands.ensures.met c.new-kept.ensures,
   search rules,
   search rules,
   sym (ap (λ (w : Walk). w.stand.begun) c.requires.fresh),
@@ -29,10 +26,10 @@ loop-accepted-preserved-in-Accepted g c =
     let was = c.loop-accepted.invariant.0 in
     let begun : c.loop-accepted.begun ≡ c.loop-accepted.sender.stand.begun = c.loop-accepted.invariant.3 in
     let body = c.loop-accepted.accepted + 1 in
-    let done = subst (λ (a : SendAnswer). Completed c.loop-accepted.sender (call.Send body) (answer.Send a) c.in-Answered.after) c.in-Accepted.is c.in-Answered.ensures.sent.0 in
+    let done = subst (λ (a : SendAnswer). Completed c.loop-accepted.sender (Call.Send body) (Answer.Send a) c.in-Answered.after) c.in-Accepted.is c.in-Answered.ensures.sent.0 in
     let sends = sends_more c.args.queue.now c.args.row c.loop-accepted.sender c.in-Answered.after c.loop-accepted.accepted _ was.back done c.loop-accepted.invariant.5 c.loop-accepted.invariant.7 in
     let receipt = sent_one c.args.number c.loop-accepted.begun c.loop-accepted.sender body c.in-Accepted.place was.named begun in (
-      working_more sent c.args.queue.now c.args.row (pass.Sender c.args.number) c.loop-accepted.sender c.in-Answered.after _ _ _ _ (call.Send body) _ was done c.keep.ensures.whole
+      working_more sent c.args.queue.now c.args.row (Pass.Sender c.args.number) c.loop-accepted.sender c.in-Answered.after _ _ _ _ (Call.Send body) _ was done c.keep.ensures.whole
           (λ is. c.keep.ensures.kept is ∙ ap (λ l. c.loop-accepted.kept.receipts.items ++ l) (sym receipt)),
       search rules,
       search rules,
@@ -50,8 +47,8 @@ loop-accepted-preserved g c =
     let body = c.loop-accepted.accepted + 1 in
     let done = c.in-Answered.ensures.sent.0 in
     let sends = sends_more c.args.queue.now c.args.row c.loop-accepted.sender c.in-Answered.after c.loop-accepted.accepted _ was.back done c.loop-accepted.invariant.5 c.loop-accepted.invariant.7 in
-    let none = sent_none (entry_of c.loop-accepted.sender (call.Send body)) c.in-Answered.answer c.in_default.not-Accepted in (
-      working_still sent c.args.queue.now c.args.row (pass.Sender c.args.number) c.loop-accepted.sender c.in-Answered.after _ _ (call.Send body) _ was done none,
+    let none = sent_none (entry_of c.loop-accepted.sender (Call.Send body)) c.in-Answered.answer c.in_default.not-Accepted in (
+      working_still sent c.args.queue.now c.args.row (Pass.Sender c.args.number) c.loop-accepted.sender c.in-Answered.after _ _ (Call.Send body) _ was done none,
       search rules,
       search rules,
       search rules,

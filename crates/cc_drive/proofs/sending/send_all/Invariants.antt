@@ -1,6 +1,6 @@
 use Rattle.std.specs.Prelude.{◌≡◌, ◌≤◌, ◌-◌, length, map}
 use Rattle.cc_model.specs.Legal.{CountsFrom}
-use Rattle.cc_model.specs.declared.call.Pass.TheVariants as pass
+use Rattle.cc_drive.specs.Names.{Pass}
 use Rattle.cc_queue.specs.Receipts.{receipts_in, sent}
 use Rattle.cc_drive.specs.Back.{SendsFrom, calls}
 use Rattle.cc_drive.proofs.Workers.{Working}
@@ -8,7 +8,7 @@ use Rattle.cc_drive.proofs.sending.send_all.Given as goal
 
 abbrev pub invariant-loop-accepted : goal.invariant-loop-accepted
 invariant-loop-accepted g l =
-    Working sent l.fn.queue l.fn.row (pass.Sender l.fn.number) l.sender l.kept.is_whole l.kept.receipts.items
+    Working sent l.fn.queue l.fn.row (Pass.Sender l.fn.number) l.sender l.kept.is_whole l.kept.receipts.items
     × (l.turns.made ≤ l.turns.limit) × (l.turns.limit ≡ l.fn.limit)
     × (l.begun ≡ l.sender.stand.begun) × (l.begun ≤ l.turns.made)
     × (l.accepted ≡ length (receipts_in sent (calls l.sender))) × (l.accepted ≤ l.items)

@@ -1,6 +1,6 @@
 use Rattle.std.proofs.Common.{rules, ◌≡◌, ◌+◌, ℕ, length, refl, ap, subst, arith}
 use Rattle.cc_steps.specs.Topic.{Topic}
-use Rattle.cc_drive.specs.declared.threads.Brief.{Brief}
+use Rattle.cc_drive.specs.Names.{Brief}
 use Rattle.cc_drive.proofs.Rows.{row_first, row_rest, row_push, row_same, row_none, one_longer}
 use Rattle.cc_drive.proofs.threads.join_all.Goals as goal
 

@@ -3,15 +3,7 @@ use Rattle.std.proofs.lemmas.List.{get_or-replicate, get_or_past, length-replica
 use Rattle.std.proofs.lemmas.Bool.{cases_lt, lt-ltb, le-ltb}
 use Rattle.cc_model.specs.Record.{Record, silent, empty}
 use Rattle.cc_model.specs.Kept.{lists}
-use Rattle.cc_runs.specs.declared.setting.Setting.{Setting}
-use Rattle.cc_runs.specs.declared.word.Chain.TheVariants.{Send, Take}
-use Rattle.cc_runs.specs.declared.word.Object.TheVariants as object
-use Rattle.cc_runs.specs.declared.place.Stand.{Stand}
-use Rattle.cc_runs.specs.declared.place.Place.TheVariants as place
-use Rattle.cc_machine.specs.declared.board.Board.{Board}
-use Rattle.cc_runs.specs.declared.word.Word.{Word}
-use Rattle.cc_runs.specs.declared.word.Word.TheVariants as word
-use Rattle.cc_runs.specs.declared.word.ItemField.TheVariants as item
+use Rattle.cc_machine.specs.Names.{Setting, Chain, Object, Stand, Place, Board, Word, ItemField}
 use Rattle.cc_runs.specs.Words.{IsSmall, size, groups, Layout, put, layout_of, address, exists, word_at}
 use Rattle.cc_runs.specs.State.{State, first_node}
 use Rattle.cc_machine.specs.View.{state_in}
@@ -24,7 +16,7 @@ use Rattle.cc_machine.proofs.open.open.Goals as goal
 pub loop-node-preserved : goal.loop-node-preserved
 loop-node-preserved c = record {
   state = c.store-in-loop-node.ensures.state
-      ∙ ap (λ (s : State). record s { mem = put s.mem (word.Item c.loop-node.node item.Passed) (groups c.args.setting.config) }) c.loop-node.invariant.state
+      ∙ ap (λ (s : State). record s { mem = put s.mem (Word.Item c.loop-node.node ItemField.Passed) (groups c.args.setting.config) }) c.loop-node.invariant.state
       ∙ ap (λ (m : Word → ℕ). record (opening c.args.setting) { mem = m }) (freed_more c.args.setting.config c.loop-node.node (omega (arith, c.loop-node.auto.node)));
   setting = c.store-in-loop-node.ensures.keeps.setting ∙ c.loop-node.invariant.setting;
   laid = laid_kept c.loop-node.board c.store-in-loop-node.new.self c.store-in-loop-node.ensures.keeps c.loop-node.invariant.laid;
@@ -42,8 +34,8 @@ blank l words n e w = clipped (exists l w) (slice_index_or words (address l w) 0
 
 stood : (c : Setting) (stands : List Stand) → StandFirst c stands → (p : ℕ) → slice_index_or stands p nowhere ≡ (opening c).stand p
 stood c stands s p = ⊎_elim
-    (λ (lt : p < passes c). s.each p lt ∙ sym (ap (λ (b : Bool). cond b (record { begun = 0; node = first_node c.config p; place = place.Idle }) nowhere) (lt-ltb p (passes c) lt)))
-    (λ (le : passes c ≤ p). get_or_past stands p nowhere (omega (arith, s.all, le)) ∙ sym (ap (λ (b : Bool). cond b (record { begun = 0; node = first_node c.config p; place = place.Idle }) nowhere) (le-ltb p (passes c) le)))
+    (λ (lt : p < passes c). s.each p lt ∙ sym (ap (λ (b : Bool). cond b (record { begun = 0; node = first_node c.config p; place = Place.Idle }) nowhere) (lt-ltb p (passes c) lt)))
+    (λ (le : passes c ≤ p). get_or_past stands p nowhere (omega (arith, s.all, le)) ∙ sym (ap (λ (b : Bool). cond b (record { begun = 0; node = first_node c.config p; place = Place.Idle }) nowhere) (le-ltb p (passes c) le)))
     (cases_lt p (passes c))
 
 abbrev stores : Word → State → State
@@ -72,9 +64,9 @@ loop-group-init c =
       history = c.in_ok-new.ensures i;
     } in
     let laid : IsLaid b = laid_first b c.args.setting refl c.requires.small (omega (arith, c.in_ok-words.ensures.len)) c.in_ok-first_stands.ensures.all c.in_ok-new.ensures in
-    let one = c.store.ensures.state ∙ ap (stores (word.Tail Send)) base in
-    let two = c.store-2.ensures.state ∙ ap (stores (word.Object object.Last)) one in
-    let three = c.store-3.ensures.state ∙ ap (stores (word.Object object.Cursor)) two in record {
+    let one = c.store.ensures.state ∙ ap (stores (Word.Tail Chain.Send)) base in
+    let two = c.store-2.ensures.state ∙ ap (stores (Word.Object Object.Last)) one in
+    let three = c.store-3.ensures.state ∙ ap (stores (Word.Object Object.Cursor)) two in record {
       state = three ∙ ap (λ (m : Word → ℕ). record (opening c.args.setting) { mem = m }) (started c.args.setting.config (λ w. 0) (λ w. refl));
       setting = c.store-3.ensures.keeps.setting ∙ c.store-2.ensures.keeps.setting ∙ c.store.ensures.keeps.setting;
       laid = laid_kept c.store-2.new.self c.store-3.new.self c.store-3.ensures.keeps (laid_kept c.store.new.self c.store-2.new.self c.store-2.ensures.keeps (laid_kept b c.store.new.self c.store.ensures.keeps laid));
@@ -86,7 +78,7 @@ loop-group-preserved c =
     let i = c.loop-group.invariant in
     let one = c.store-in-loop-group.ensures in
     let two = c.store-in-loop-group-2.ensures in record {
-      state = two.state ∙ ap (stores (word.Object (object.Head c.loop-group.group))) (one.state ∙ ap (stores (word.Tail (Take c.loop-group.group))) i.state)
+      state = two.state ∙ ap (stores (Word.Object (Object.Head c.loop-group.group))) (one.state ∙ ap (stores (Word.Tail (Chain.Take c.loop-group.group))) i.state)
           ∙ ap (λ (m : Word → ℕ). record (opening c.args.setting) { mem = m }) (group_more c.args.setting.config c.loop-group.group);
       setting = two.keeps.setting ∙ one.keeps.setting ∙ i.setting;
       laid = laid_kept c.store-in-loop-group.new.self c.store-in-loop-group-2.new.self two.keeps (laid_kept c.loop-group.board c.store-in-loop-group.new.self one.keeps i.laid);

@@ -1,5 +1,5 @@
 use Rattle.std.proofs.Common.{◌≡◌, length, List}
-use Rattle.cc_runs.specs.declared.run.Move.{Move}
+use Rattle.cc_play.specs.Names.{Move}
 use Rattle.cc_plan.specs.Plan.{plan_value}
 use Rattle.cc_play.specs.Schedule.{IsAt, IsBetweenTurns, turns}
 use Rattle.cc_play.proofs.player.follow_entry.Given as goal

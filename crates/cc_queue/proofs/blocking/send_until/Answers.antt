@@ -1,8 +1,5 @@
 use Rattle.std.proofs.Common.{◌∙◌, arith, subst}
-use Rattle.cc_model.specs.declared.call.Answer.TheVariants as answer
-use Rattle.cc_model.specs.declared.call.Call.TheVariants as call
-use Rattle.cc_model.specs.declared.call.SendAnswer.{SendAnswer}
-use Rattle.cc_model.specs.declared.call.SendAnswer.TheVariants as send
+use Rattle.cc_queue.specs.Names.{Answer, Call, SendAnswer}
 use Rattle.cc_queue.specs.Calls.{Completed}
 use Rattle.cc_queue.proofs.Trying.{trying_more, sent_so, final_unless, might_before}
 use Rattle.cc_queue.proofs.blocking.send_until.Goals as goal
@@ -23,9 +20,9 @@ pub loop-preserved : goal.loop-preserved
 loop-preserved g c =
     let t = c.loop.invariant in
     let e = c.in_ok-after.ensures in
-    let full = subst (λ (a : SendAnswer). Completed c.loop.sender (call.Send c.args.body) (answer.Send a) c.in_ok-after.after) c.in-Full.is e.completed in
+    let full = subst (λ (a : SendAnswer). Completed c.loop.sender (Call.Send c.args.body) (Answer.Send a) c.in_ok-after.after) c.in-Full.is e.completed in
     let may = might_before c.args.sender c.loop.sender t.2 e.may in (
-      trying_more (call.Send c.args.body) (answer.Send send.Full) c.args.sender c.loop.sender c.in_ok-after.after t.0 full,
+      trying_more (Call.Send c.args.body) (Answer.Send SendAnswer.Full) c.args.sender c.loop.sender c.in_ok-after.after t.0 full,
       (e.completed.stands.same.0 ∙ t.1.0, e.completed.stands.same.1 ∙ t.1.1),
       λ worn. absurd (omega (arith, worn, may)),
     )

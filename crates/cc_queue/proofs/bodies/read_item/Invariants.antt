@@ -1,6 +1,5 @@
 use Rattle.std.proofs.Common.{◌+◌}
-use Rattle.cc_runs.specs.declared.place.Place.TheVariants as place
-use Rattle.cc_runs.specs.declared.place.Taking.TheVariants as taking
+use Rattle.cc_queue.specs.Names.{Place, Taking}
 use Rattle.cc_runs.specs.Codes.{further_words, behind, parcel}
 use Rattle.cc_steps.specs.Walk.{IsReadyToStep}
 use Rattle.cc_queue.specs.Work.{Serves}
@@ -8,5 +7,5 @@ use Rattle.cc_queue.proofs.bodies.read_item.Given as goal
 
 abbrev pub invariant-loop-done : goal.invariant-loop-done
 invariant-loop-done l =
-    Serves l.fn.seat (behind (further_words l.fn.tag) l.done (place.Taking l.fn.job (taking.ReadItemBody l.fn.dummy l.fn.node (parcel l.fn.at l.fn.tag l.body) (l.done + 1))) (place.Taking l.fn.job (taking.WriteHead l.fn.dummy l.fn.node (parcel l.fn.at l.fn.tag l.body)))) 0 l.seat
+    Serves l.fn.seat (behind (further_words l.fn.tag) l.done (Place.Taking l.fn.job (Taking.ReadItemBody l.fn.dummy l.fn.node (parcel l.fn.at l.fn.tag l.body) (l.done + 1))) (Place.Taking l.fn.job (Taking.WriteHead l.fn.dummy l.fn.node (parcel l.fn.at l.fn.tag l.body)))) 0 l.seat
     × IsReadyToStep l.seat

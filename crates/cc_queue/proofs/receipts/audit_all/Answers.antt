@@ -1,7 +1,7 @@
 use Rattle.std.proofs.Common.{◌≡◌}
 use Rattle.std.proofs.lemmas.Result.{IfOk-weaker}
 use Rattle.cc_audit.specs.Verdict.{IsVerdict}
-use Rattle.cc_audit.specs.declared.receipt.Verdict.TheVariants.{Clean}
+use Rattle.cc_queue.specs.Names.{Verdict}
 use Rattle.cc_audit.proofs.One.{same}
 use Rattle.cc_queue.proofs.Held.{has_just, are_clean}
 use Rattle.cc_queue.proofs.receipts.audit_all.Goals as goal
@@ -16,4 +16,4 @@ returns-clause-clean c =
 
 pub returns-clause-told : goal.returns-clause-told
 returns-clause-told c =
-    IfOk-weaker c.audit.result (IsVerdict c.args.sends.now c.args.takes.now c.args.total) (λ v. v ≡ Clean) (λ v is. same c.args.sends.now c.args.takes.now c.args.total v Clean is (returns-clause-clean c)) c.audit.ensures
+    IfOk-weaker c.audit.result (IsVerdict c.args.sends.now c.args.takes.now c.args.total) (λ v. v ≡ Verdict.Clean) (λ v is. same c.args.sends.now c.args.takes.now c.args.total v Verdict.Clean is (returns-clause-clean c)) c.audit.ensures

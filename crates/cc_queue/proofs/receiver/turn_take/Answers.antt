@@ -1,5 +1,5 @@
 use Rattle.std.proofs.Common.{ap}
-use Rattle.cc_runs.specs.declared.place.Stand.{Stand}
+use Rattle.cc_queue.specs.Names.{Stand}
 use Rattle.cc_queue.proofs.Headline.{listed, waited_so, answered_so}
 use Rattle.cc_queue.proofs.receiver.turn_take.Goals as goal
 

@@ -1,6 +1,5 @@
 use Rattle.std.proofs.Common.{ap, subst}
-use Rattle.cc_model.specs.declared.call.Answer.{Answer}
-use Rattle.cc_runs.specs.declared.place.Stand.{Stand}
+use Rattle.cc_queue.specs.Names.{Answer, Stand}
 use Rattle.cc_queue.specs.Calls.{Answered}
 use Rattle.cc_queue.proofs.Headline.{listed, waited_so, answered_so, close_told}
 use Rattle.cc_queue.proofs.sender.turn_close.Goals as goal

@@ -1,8 +1,6 @@
 use Rattle.std.proofs.Common.{◌≡◌, arith, ap, sym, subst, ◌∙◌}
-use Rattle.cc_machine.specs.declared.board.Board.{Board}
-use Rattle.cc_runs.specs.declared.word.Chain.{Chain}
+use Rattle.cc_machine.specs.Names.{Board, Chain, Move}
 use Rattle.cc_runs.specs.State.{chain_of}
-use Rattle.cc_runs.specs.declared.run.Move.TheVariants.{Begin}
 use Rattle.cc_runs.specs.Run.{May}
 use Rattle.cc_machine.specs.View.{View, state_in}
 use Rattle.cc_machine.specs.Shown.{view_of, state_of}
@@ -17,8 +15,8 @@ pub returns-clause-lawful : goal.returns-clause-lawful
 returns-clause-lawful c =
     let old : Board = c.args.self.now in
     let mid : Board = c.reserve.new.self in
-    let may : May mid.setting (state_of mid) (Begin c.in_ok-index.index c.args.call c.args.known) =
-    subst (λ (m : View). May m.setting (state_in m) (Begin c.in_ok-index.index c.args.call c.args.known)) (sym c.reserve.ensures.view)
+    let may : May mid.setting (state_of mid) (Move.Begin c.in_ok-index.index c.args.call c.args.known) =
+    subst (λ (m : View). May m.setting (state_in m) (Move.Begin c.in_ok-index.index c.args.call c.args.known)) (sym c.reserve.ensures.view)
     (may_begin (view_of old) c.args.pass c.args.call c.args.known c.in_ok-index.index c.in_ok-index.ensures.place c.in_ok-index.ensures.ok c.requires.known) in
     let side : c.chain.result ≡ chain_of mid.setting.config c.in_ok-index.index = c.chain.ensures ∙ ap (λ (m : View). chain_of m.setting.config c.in_ok-index.index) (sym c.reserve.ensures.view) in
     lawful_begin mid c.begin.new.self c.in_ok-index.index c.args.call c.args.known

@@ -1,7 +1,7 @@
 use Rattle.std.proofs.Common.{sym, ap, ◌∙◌, Some, None}
 use Rattle.cc_model.specs.Kept.{Kept, lists, kept_of_group}
 use Rattle.cc_model.specs.Record.{Side, Record, with_answer}
-use Rattle.cc_runs.specs.declared.word.Chain.{Chain}
+use Rattle.cc_machine.specs.Names.{Chain}
 use Rattle.cc_runs.specs.State.{noted}
 use Rattle.cc_machine.specs.View.{state_in}
 use Rattle.cc_machine.specs.Shown.{state_of}

@@ -1,9 +1,8 @@
 use Rattle.std.proofs.Common.{◌≡◌, ◌<◌, ◌≤◌, ◌+◌, ◌-◌, arith, length, nat_lt, sym, subst, ◌∙◌, ap, Bor}
 use Rattle.std.proofs.lemmas.Bool.{OnTrue_from, ltb-true}
 use Rattle.cc_model.specs.Kept.{KeptSide}
-use Rattle.cc_runs.specs.declared.word.Chain.{Chain}
+use Rattle.cc_machine.specs.Names.{Chain, Board}
 use Rattle.cc_runs.specs.Run.{passes}
-use Rattle.cc_machine.specs.declared.board.Board.{Board}
 use Rattle.cc_machine.specs.Shown.{state_of, kept_side, IsLaid}
 use Rattle.cc_machine.specs.Lawful.{HasRoomToCome, all_coming}
 use Rattle.cc_machine.proofs.Coming.{coming_max}

@@ -2,9 +2,7 @@ use Rattle.std.proofs.Common.{◌≡◌, ◌≤◌, ◌+◌, ℕ, arith, length,
 use Rattle.cc_model.specs.Record.{Side, Record}
 use Rattle.cc_model.specs.Kept.{Kept, KeptSide, lists, kept_of_group, with_kept}
 use Rattle.cc_model.specs.Room.{most}
-use Rattle.cc_runs.specs.declared.word.Chain.{Chain}
-use Rattle.cc_runs.specs.declared.word.Chain.TheVariants.{Take}
-use Rattle.cc_machine.specs.declared.board.Board.{Board}
+use Rattle.cc_machine.specs.Names.{Chain, Board}
 use Rattle.cc_machine.specs.View.{state_in}
 use Rattle.cc_machine.specs.Shown.{view_of, kept_side}
 use Rattle.cc_machine.specs.Lawful.{HasRoomToCome, all_coming}
@@ -20,9 +18,9 @@ returns-in-Take-clause-view c =
     (ap (λ (k : Kept). lists k) c.reserve_takes.ensures.other_sides
     ∙ ap (λ (z : Side). lists (with_kept old c.in-Take.group record { lists = z; room = now.room })) c.reserve_takes.ensures.lists
     ∙ kept_with old c.in-Take.group now.room (λ (z : Side). z)
-    ∙ noted_none (Take c.in-Take.group) (lists old))
+    ∙ noted_none (Chain.Take c.in-Take.group) (lists old))
 
-room_in : {E : Type 0} (old new : Board) (x : Chain) (g further : ℕ) (r : Result (Unit {0}) E) → x ≡ Take g →
+room_in : {E : Type 0} (old new : Board) (x : Chain) (g further : ℕ) (r : Result (Unit {0}) E) → x ≡ Chain.Take g →
     (kept_of_group new.history g).lists ≡ (kept_of_group old.history g).lists → further ≡ all_coming new x + 1 →
     OnOk r (most (kept_of_group old.history g).lists + further ≤ (kept_of_group new.history g).room) → OnOk r (HasRoomToCome new x)
 room_in old new x g further (Err f) is same count ok = ok

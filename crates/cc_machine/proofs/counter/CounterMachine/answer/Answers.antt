@@ -1,10 +1,7 @@
 use Rattle.std.proofs.Common.{◌≡◌, ℕ, Option, Some, IfSome, ap, sym, subst, ◌∙◌}
 use Rattle.std.specs.Option.{option_map}
 use Rattle.cc_model.specs.Kept.{lists}
-use Rattle.cc_model.specs.declared.call.Answer.{Answer}
-use Rattle.cc_model.specs.declared.call.Answer.TheVariants as answer
-use Rattle.cc_model.specs.declared.call.SendAnswer.TheVariants as send
-use Rattle.cc_model.specs.declared.call.Pass.TheVariants as pass
+use Rattle.cc_machine.specs.Names.{Answer, SendAnswer, Pass}
 use Rattle.cc_runs.specs.Codes.{count_word}
 use Rattle.cc_runs.specs.ChainLaws.{IsLastAnswer}
 use Rattle.cc_machine.proofs.BoardLaws.{number_if}
@@ -20,6 +17,6 @@ number c = elim c.match-answer_to.branch [
 
 pub returns-clause-history : goal.returns-clause-history
 returns-clause-history c = rw (← c.self.view_is)
-    (subst (λ (r : Option ℕ). IfSome r (λ n. IsLastAnswer (pass.Sender c.args.pass) (lists c.self.inside.board.history) (answer.Send (send.Accepted n)))) (sym (number c))
+    (subst (λ (r : Option ℕ). IfSome r (λ n. IsLastAnswer (Pass.Sender c.args.pass) (lists c.self.inside.board.history) (Answer.Send (SendAnswer.Accepted n)))) (sym (number c))
     (number_if c.self.inside.board c.self.invariant.lawful (counter_told c.self.inside.board.setting c.self.invariant.served_is c.self.invariant.lawful.checked)
-    (number_told c.self.inside.board.setting c.self.invariant.served_is c.self.invariant.lawful.checked) (pass.Sender c.args.pass) c.answer_to.result c.answer_to.ensures.answer))
+    (number_told c.self.inside.board.setting c.self.invariant.served_is c.self.invariant.lawful.checked) (Pass.Sender c.args.pass) c.answer_to.result c.answer_to.ensures.answer))

@@ -4,7 +4,7 @@ use Rattle.std.proofs.Common.{◌≡◌, ◌∙◌, List, length, ap, subst}
 use Rattle.cc_model.specs.Record.{Side, of_group}
 use Rattle.cc_model.specs.Kept.{KeptSide, lists}
 use Rattle.cc_machine.proofs.KeptSides.{kept_is}
-use Rattle.cc_model.specs.declared.call.Answer.{Answer}
+use Rattle.cc_machine.specs.Names.{Answer}
 use Rattle.cc_machine.specs.Known.{HasCounted}
 use Rattle.cc_machine.proofs.BoardLaws.{all_ready}
 use Rattle.cc_runs.proofs.ListRuns.Ready.{list_ready}

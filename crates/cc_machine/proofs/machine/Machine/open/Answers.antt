@@ -1,7 +1,6 @@
 use Rattle.std.proofs.Common.{ap, subst, sym}
 use Rattle.cc_model.specs.Record.{empty}
-use Rattle.cc_machine.specs.declared.known.Known.{Known}
-use Rattle.cc_runs.specs.declared.setting.Setting.{Setting}
+use Rattle.cc_machine.specs.Names.{Known, Setting}
 use Rattle.cc_runs.specs.Words.{groups}
 use Rattle.cc_machine.proofs.KnownMoves.{IsCounted, counted_first}
 use Rattle.cc_machine.proofs.MachineMoves.{machine_opened}

@@ -1,5 +1,5 @@
 use Rattle.std.proofs.Common.{ap, sym}
-use Rattle.cc_runs.specs.declared.place.Stand.{Stand}
+use Rattle.cc_queue.specs.Names.{Stand}
 use Rattle.cc_queue.proofs.SendCount.{begun_so}
 use Rattle.cc_queue.proofs.passes.Sender.begun.Goals as goal
 

@@ -1,0 +1,18 @@
+-- The types that specs, proofs and contracts of this crate speak of. A variant stands behind its type, as `Place.Idle`.
+pub use Rattle.cc_model.specs.declared.call.Pass.{Pass}
+pub use Rattle.cc_model.specs.declared.call.Call.{Call}
+pub use Rattle.cc_model.specs.declared.call.Answer.{Answer}
+pub use Rattle.cc_model.specs.declared.config.Config.{Config}
+pub use Rattle.cc_runs.specs.declared.place.Kind.{Kind}
+pub use Rattle.cc_runs.specs.declared.place.Event.{Event}
+pub use Rattle.cc_runs.specs.declared.place.Place.{Place}
+pub use Rattle.cc_runs.specs.declared.place.Stand.{Stand}
+pub use Rattle.cc_runs.specs.declared.run.Move.{Move}
+pub use Rattle.cc_runs.specs.declared.setting.Served.{Served}
+pub use Rattle.cc_runs.specs.declared.setting.Setting.{Setting}
+pub use Rattle.cc_runs.specs.declared.word.Chain.{Chain}
+pub use Rattle.cc_machine.specs.declared.fault.BeginFault.{BeginFault}
+pub use Rattle.cc_audit.specs.declared.receipt.Verdict.{Verdict}
+pub use Rattle.cc_plan.specs.declared.fault.PlanFault.{PlanFault}
+pub use Rattle.cc_play.specs.declared.fault.PlayFault.{PlayFault}
+pub use Rattle.cc_play.specs.declared.input.InputFault.{InputFault}

@@ -1,0 +1,22 @@
+-- The types that specs, proofs and contracts of this crate speak of. A variant stands behind its type, as `Place.Idle`.
+pub use Rattle.cc_model.specs.declared.call.Call.{Call}
+pub use Rattle.cc_model.specs.declared.call.Entry.{Entry}
+pub use Rattle.cc_model.specs.declared.config.Config.{Config}
+pub use Rattle.cc_runs.specs.declared.place.Kind.{Kind}
+pub use Rattle.cc_runs.specs.declared.place.Event.{Event}
+pub use Rattle.cc_runs.specs.declared.place.Counting.{Counting}
+pub use Rattle.cc_runs.specs.declared.place.Sending.{Sending}
+pub use Rattle.cc_runs.specs.declared.place.Taking.{Taking}
+pub use Rattle.cc_runs.specs.declared.place.Place.{Place}
+pub use Rattle.cc_runs.specs.declared.place.Stand.{Stand}
+pub use Rattle.cc_runs.specs.declared.run.Move.{Move}
+pub use Rattle.cc_runs.specs.declared.setting.Served.{Served}
+pub use Rattle.cc_runs.specs.declared.setting.Setting.{Setting}
+pub use Rattle.cc_runs.specs.declared.word.Chain.{Chain}
+pub use Rattle.cc_runs.specs.declared.word.NodeField.{NodeField}
+pub use Rattle.cc_runs.specs.declared.word.ItemField.{ItemField}
+pub use Rattle.cc_runs.specs.declared.word.Object.{Object}
+pub use Rattle.cc_runs.specs.declared.word.Word.{Word}
+pub use Rattle.cc_steps.specs.declared.layout.Starts.{Starts}
+pub use Rattle.cc_steps.specs.declared.seats.Role.{Role}
+pub use Rattle.cc_steps.specs.declared.seats.View.{View}
