@@ -5,6 +5,7 @@
 //! all passes can be played. Each event is one step of a run, and what holds of every run is proved in `cc_runs`.
 #![tactic(auto)]
 
+mod begins;
 mod board;
 mod calls;
 mod count;
@@ -14,7 +15,6 @@ mod fault;
 mod known;
 mod lawful;
 mod machine;
-mod moves;
 mod open;
 mod row;
 mod send;
