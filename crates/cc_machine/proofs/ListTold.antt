@@ -6,7 +6,7 @@ use Rattle.cc_model.specs.Record.{Record}
 use Rattle.cc_model.specs.Legal.{Legal}
 use Rattle.cc_machine.specs.Names.{Board, Setting, Served}
 use Rattle.cc_runs.specs.State.{State}
-use Rattle.cc_machine.specs.Shown.{view_of, state_of}
+use Rattle.cc_machine.specs.BoardSteps.{view_of, state_of}
 use Rattle.cc_machine.specs.Lawful.{IsLawful}
 use Rattle.cc_machine.proofs.LawfulMoves.{history_in}
 use Rattle.cc_machine.proofs.BoardLaws.{AlwaysTold}

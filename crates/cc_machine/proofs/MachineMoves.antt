@@ -9,11 +9,11 @@ use Rattle.cc_runs.specs.Step.{stepped}
 use Rattle.cc_runs.specs.Run.{opening}
 use Rattle.cc_runs.specs.Safe.{WhileUndecided, HasOpenCall, IsReady}
 use Rattle.cc_machine.specs.View.{View}
-use Rattle.cc_machine.specs.Shown.{view_of, state_of}
+use Rattle.cc_machine.specs.BoardSteps.{view_of, state_of}
 use Rattle.cc_machine.specs.Machine.{HasBegun, HasStepped, HasTaken}
 use Rattle.cc_runs.specs.Words.{groups}
 use Rattle.cc_runs.specs.Lines.{group_of}
-use Rattle.cc_machine.specs.Shown.{IsLaid}
+use Rattle.cc_machine.specs.BoardSteps.{IsLaid}
 use Rattle.cc_runs.specs.Run.{passes}
 use Rattle.cc_runs.proofs.Chains.Registers.{HasSide}
 use Rattle.cc_machine.specs.Known.{HasCounted}

@@ -7,7 +7,7 @@ use Rattle.cc_runs.specs.Sides.{IsThere}
 use Rattle.cc_machine.specs.Known.{IsKnown}
 use Rattle.cc_runs.specs.State.{chain_of, side}
 use Rattle.cc_runs.specs.Run.{passes}
-use Rattle.cc_machine.specs.Shown.{view_of, state_of, IsLaid, kept_side}
+use Rattle.cc_machine.specs.BoardSteps.{view_of, state_of, IsLaid, kept_side}
 use Rattle.cc_runs.specs.CallsMade.{before_exchange}
 use Rattle.cc_machine.specs.Machine.{IsReached}
 

@@ -1,6 +1,6 @@
 pub mod Names
 pub mod View
-pub mod Shown
+pub mod BoardSteps
 pub mod Machine
 pub mod Known
 pub mod Lawful

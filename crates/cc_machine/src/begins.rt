@@ -1,5 +1,5 @@
 ghost use Rattle.std.specs.Prelude.{◌≡◌, ◌+◌, ◌<◌, ◌^◌, length, IfSome, IfNone};
-ghost use Rattle.cc_machine.specs.Shown.{state_of, Keeps};
+ghost use Rattle.cc_machine.specs.BoardSteps.{state_of, Keeps};
 ghost use Rattle.cc_runs.specs.State.{pass_at};
 ghost use Rattle.cc_runs.specs.Run as run;
 ghost use Rattle.cc_machine.specs.Names.{Move};

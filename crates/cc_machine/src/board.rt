@@ -3,7 +3,7 @@ ghost use Rattle.cc_runs.specs.Words as laid;
 ghost use Rattle.cc_runs.specs.Words.{layout_of, exists, put};
 ghost use Rattle.cc_runs.specs.State.{hold, noted};
 ghost use Rattle.cc_runs.specs.Lines.{group_of};
-ghost use Rattle.cc_machine.specs.Shown.{state_of, stand_of, IsLaid, Keeps, HasCallRoom, HasAnswerRoom};
+ghost use Rattle.cc_machine.specs.BoardSteps.{state_of, stand_of, IsLaid, Keeps, HasCallRoom, HasAnswerRoom};
 
 use cc_model::{Answer, Entry, History};
 use cc_runs::{Chain, Place, Setting, Stand, Word, address};

@@ -1,4 +1,4 @@
-ghost use Rattle.cc_machine.specs.Shown.{CanStep, Stepped};
+ghost use Rattle.cc_machine.specs.BoardSteps.{CanStep, Stepped};
 ghost use Rattle.std.specs.Prelude.{◌≡◌};
 ghost use Rattle.cc_runs.specs.Lines.{serves};
 

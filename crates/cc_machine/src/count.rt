@@ -1,4 +1,4 @@
-ghost use Rattle.cc_machine.specs.Shown.{CanStep, Stepped};
+ghost use Rattle.cc_machine.specs.BoardSteps.{CanStep, Stepped};
 
 use crate::board::{Board, Seat};
 use cc_model::{Answer, SendAnswer};

@@ -16,7 +16,7 @@ pub struct CounterMachine {
 
 impl Model for CounterMachine {
     ghost use Rattle.cc_machine.specs.View.{View};
-    ghost use Rattle.cc_machine.specs.Shown.{view_of};
+    ghost use Rattle.cc_machine.specs.BoardSteps.{view_of};
     ghost use Rattle.cc_machine.specs.Lawful.{IsCounter};
 
     ghost Value = { View };

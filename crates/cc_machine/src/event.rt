@@ -1,5 +1,5 @@
 ghost use Rattle.std.specs.Prelude.{◌≡◌, ◌<◌, ◌/◌, ℕ, Some, length, IfSome, IfNone};
-ghost use Rattle.cc_machine.specs.Shown.{state_of, IsLaid, CanStep, Stepped, seat_at, Moved};
+ghost use Rattle.cc_machine.specs.BoardSteps.{state_of, IsLaid, CanStep, Stepped, seat_at, Moved};
 ghost use Rattle.cc_runs.specs.State.{chain_of};
 ghost use Rattle.cc_runs.specs.Lines.{event_at, group_of};
 ghost use Rattle.cc_machine.specs.Machine.{index_of, waits_at};

@@ -19,7 +19,7 @@ pub struct Machine {
 
 impl Model for Machine {
     ghost use Rattle.cc_machine.specs.View.{View};
-    ghost use Rattle.cc_machine.specs.Shown.{view_of};
+    ghost use Rattle.cc_machine.specs.BoardSteps.{view_of};
     ghost use Rattle.cc_machine.specs.Lawful.{IsMachine};
 
     ghost Value = { View };

@@ -1,6 +1,6 @@
 ghost use Rattle.std.specs.Prelude.{◌≡◌, IfOk};
 ghost use Rattle.cc_runs.specs.Words.{IsSmall, layout_of};
-ghost use Rattle.cc_machine.specs.Shown.{state_of, IsLaid, StandFirst};
+ghost use Rattle.cc_machine.specs.BoardSteps.{state_of, IsLaid, StandFirst};
 ghost use Rattle.cc_runs.specs.Run.{opening};
 
 use crate::board::Board;

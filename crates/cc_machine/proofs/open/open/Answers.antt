@@ -7,7 +7,7 @@ use Rattle.cc_machine.specs.Names.{Setting, Chain, Object, Stand, Place, Board, 
 use Rattle.cc_runs.specs.Words.{IsSmall, size, groups, Layout, put, layout_of, address, exists, word_at}
 use Rattle.cc_runs.specs.State.{State, first_node}
 use Rattle.cc_machine.specs.View.{state_in}
-use Rattle.cc_machine.specs.Shown.{state_of, StandFirst, IsLaid}
+use Rattle.cc_machine.specs.BoardSteps.{state_of, StandFirst, IsLaid}
 use Rattle.cc_runs.specs.Run.{opening, passes, nowhere}
 use Rattle.cc_machine.proofs.LawfulMoves.{laid_kept}
 use Rattle.cc_runs.proofs.Opening.{freed, freed_all, freed_more, opened, group_more, groups_all, started}

@@ -3,7 +3,7 @@ use Rattle.cc_machine.specs.Names.{Board, Chain, Move}
 use Rattle.cc_runs.specs.State.{chain_of}
 use Rattle.cc_runs.specs.Run.{May}
 use Rattle.cc_machine.specs.View.{View, state_in}
-use Rattle.cc_machine.specs.Shown.{view_of, state_of}
+use Rattle.cc_machine.specs.BoardSteps.{view_of, state_of}
 use Rattle.cc_machine.specs.Lawful.{HasRoomToCome}
 use Rattle.cc_machine.proofs.Faults.{may_begin}
 use Rattle.cc_machine.proofs.Rows.{inside}

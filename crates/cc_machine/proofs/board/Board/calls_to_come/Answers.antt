@@ -1,5 +1,5 @@
 use Rattle.std.proofs.Common.{arith}
-use Rattle.cc_machine.specs.Shown.{state_of}
+use Rattle.cc_machine.specs.BoardSteps.{state_of}
 use Rattle.cc_machine.proofs.Coming.{coming_max, few_passes}
 use Rattle.cc_machine.proofs.board.Board.calls_to_come.Goals as goal
 

@@ -1,5 +1,5 @@
 use Rattle.std.proofs.Common.{◌≡◌}
-use Rattle.cc_machine.specs.Shown.{state_of}
+use Rattle.cc_machine.specs.BoardSteps.{state_of}
 use Rattle.cc_machine.specs.Lawful.{coming}
 use Rattle.cc_machine.proofs.board.Board.calls_to_come.Given as goal
 

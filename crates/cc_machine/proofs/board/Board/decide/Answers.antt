@@ -4,7 +4,7 @@ use Rattle.cc_model.specs.Record.{Side, Record, with_answer}
 use Rattle.cc_machine.specs.Names.{Chain}
 use Rattle.cc_runs.specs.State.{noted}
 use Rattle.cc_machine.specs.View.{state_in}
-use Rattle.cc_machine.specs.Shown.{state_of}
+use Rattle.cc_machine.specs.BoardSteps.{state_of}
 use Rattle.cc_machine.proofs.KeptSides.{kept_with}
 use Rattle.cc_machine.proofs.board.Board.decide.Goals as goal
 

@@ -3,7 +3,7 @@ use Rattle.std.proofs.lemmas.Bool.{OnTrue_from, ltb-true}
 use Rattle.cc_model.specs.Kept.{KeptSide}
 use Rattle.cc_machine.specs.Names.{Chain, Board}
 use Rattle.cc_runs.specs.Run.{passes}
-use Rattle.cc_machine.specs.Shown.{state_of, kept_side, IsLaid}
+use Rattle.cc_machine.specs.BoardSteps.{state_of, kept_side, IsLaid}
 use Rattle.cc_machine.specs.Lawful.{HasRoomToCome, all_coming}
 use Rattle.cc_machine.proofs.Coming.{coming_max}
 use Rattle.cc_machine.proofs.board.Board.has_ample_room.Goals.{in-Send, in-Take}

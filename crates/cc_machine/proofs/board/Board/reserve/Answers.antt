@@ -4,7 +4,7 @@ use Rattle.cc_model.specs.Kept.{Kept, KeptSide, lists, kept_of_group, with_kept}
 use Rattle.cc_model.specs.Room.{most}
 use Rattle.cc_machine.specs.Names.{Chain, Board}
 use Rattle.cc_machine.specs.View.{state_in}
-use Rattle.cc_machine.specs.Shown.{view_of, kept_side}
+use Rattle.cc_machine.specs.BoardSteps.{view_of, kept_side}
 use Rattle.cc_machine.specs.Lawful.{HasRoomToCome, all_coming}
 use Rattle.cc_runs.proofs.Chains.Facts.{noted_none}
 use Rattle.cc_machine.proofs.KeptSides.{kept_with}

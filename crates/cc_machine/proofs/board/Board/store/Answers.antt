@@ -1,7 +1,7 @@
 use Rattle.std.proofs.Common.{◌≡◌, ◌<◌, length, subst, sym, arith}
 use Rattle.cc_runs.specs.Words.{layout_of, dense, address}
 use Rattle.cc_machine.specs.View.{state_in}
-use Rattle.cc_machine.specs.Shown.{state_of}
+use Rattle.cc_machine.specs.BoardSteps.{state_of}
 use Rattle.cc_runs.proofs.Words.{roomy, stored_words}
 use Rattle.cc_machine.proofs.board.Board.store.Goals as goal
 

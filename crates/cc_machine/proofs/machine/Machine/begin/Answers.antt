@@ -4,7 +4,7 @@ use Rattle.cc_model.specs.Items.{known_at}
 use Rattle.cc_model.specs.Record.{Record}
 use Rattle.cc_machine.specs.Machine.{index_of, HasBegun}
 use Rattle.cc_machine.specs.View.{View}
-use Rattle.cc_machine.specs.Shown.{view_of, state_of}
+use Rattle.cc_machine.specs.BoardSteps.{view_of, state_of}
 use Rattle.std.proofs.lemmas.List.{length-map}
 use Rattle.cc_runs.proofs.Ranges.{in_range}
 use Rattle.cc_machine.proofs.KnownMoves.{known_is}

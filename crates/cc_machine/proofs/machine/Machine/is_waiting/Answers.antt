@@ -1,6 +1,6 @@
 use Rattle.std.proofs.Common.{ℕ, Option, Some, sym, subst}
 use Rattle.std.specs.Bool.{OnTrue}
-use Rattle.cc_machine.specs.Shown.{view_of}
+use Rattle.cc_machine.specs.BoardSteps.{view_of}
 use Rattle.cc_machine.specs.Machine.{StandsStill}
 use Rattle.cc_machine.proofs.Waiting.{still_in}
 use Rattle.cc_machine.proofs.Rows.{inside}
