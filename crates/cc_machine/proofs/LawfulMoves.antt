@@ -7,7 +7,7 @@ use Rattle.cc_model.specs.Kept.{Kept, KeptSide, lists}
 use Rattle.cc_model.specs.Record.{Side, Record, silent}
 use Rattle.cc_machine.specs.Names.{Call, Answer, Setting, Chain, Stand, Place, Sending, Board, Served, Config, Event, Move}
 use Rattle.cc_runs.specs.Words.{groups, IsSmall, layout_of, size}
-use Rattle.cc_runs.specs.Sides.{IsThere}
+use Rattle.cc_runs.specs.OnChain.{IsThere}
 use Rattle.cc_runs.proofs.Chains.Registers.{IsChainOf, HasSide}
 use Rattle.cc_runs.proofs.Chains.Opening.{no_calls}
 use Rattle.cc_runs.proofs.Chains.Facts.{side_same}

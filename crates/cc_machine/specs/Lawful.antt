@@ -3,7 +3,7 @@ use Rattle.std.specs.Prelude.{◌≡◌, ℕ, zero, suc, ◌+◌, ◌≤◌, ◌
 use Rattle.cc_model.specs.Config.{config_fault}
 use Rattle.cc_machine.specs.Names.{Setting, Served, Chain, Stand, Place, Board, Known}
 use Rattle.cc_model.specs.Kept.{lists}
-use Rattle.cc_runs.specs.Sides.{IsThere}
+use Rattle.cc_runs.specs.OnChain.{IsThere}
 use Rattle.cc_machine.specs.Known.{IsKnown}
 use Rattle.cc_runs.specs.State.{chain_of, side}
 use Rattle.cc_runs.specs.Run.{passes}

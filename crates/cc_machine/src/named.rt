@@ -7,7 +7,7 @@ ghost use Rattle.cc_machine.specs.BoardSteps.{view_of, state_of, kept_side, IsLa
 ghost use Rattle.cc_runs.specs.Run.{passes};
 ghost use Rattle.cc_machine.specs.Machine.{IsOpened, OnSide, index_of, begin_fault, IsBeginFault, HasBegun, event_of, HasStepped, answer_of, HasTaken};
 ghost use Rattle.cc_runs.specs.Opening.{IsOpenFault};
-ghost use Rattle.cc_runs.specs.Sides.{IsThere};
+ghost use Rattle.cc_runs.specs.OnChain.{IsThere};
 ghost use Rattle.cc_machine.specs.Lawful.{if_to_come, to_come, all_coming, HasRoomToCome, LacksRoom, IsLawful};
 ghost use Rattle.cc_runs.specs.State.{chain_of};
 

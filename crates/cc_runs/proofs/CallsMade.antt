@@ -16,7 +16,7 @@ use Rattle.cc_runs.specs.TakeLines as take_side
 use Rattle.cc_runs.specs.Lines.{operation, goes, enters, decides, after_exchange, after_state, after_next, after_answer, after_ret, serves}
 use Rattle.cc_runs.specs.Step.{stepped, advanced}
 use Rattle.cc_runs.specs.Run.{IsRun, IsIdle, IsFinished, begins, rests, number_of, moved, opening, nowhere, reached, passes}
-use Rattle.cc_runs.specs.Sides.{calls_on, answers_on}
+use Rattle.cc_runs.specs.OnChain.{calls_on, answers_on}
 use Rattle.cc_runs.proofs.Ranges.{in_range}
 use Rattle.cc_runs.proofs.ChainRuns.{not_other}
 use Rattle.cc_runs.proofs.Chains.Opening.{no_calls}

@@ -9,7 +9,7 @@ use Rattle.cc_runs.specs.State.{State, chain_of, first_node, noted, appended, wo
 use Rattle.cc_runs.specs.Lines.{operation, goes, enters, decides}
 use Rattle.cc_runs.specs.Step.{stepped, advanced}
 use Rattle.cc_runs.specs.Run.{IsRun, begins, rests, begun_after, number_of, opening, nowhere, reached, passes}
-use Rattle.cc_runs.specs.Sides.{calls_on}
+use Rattle.cc_runs.specs.OnChain.{calls_on}
 use Rattle.cc_runs.specs.CallsMade.{to_exchange, NumbersOfSends}
 use Rattle.cc_runs.proofs.Chains.Opening.{no_calls}
 use Rattle.cc_runs.proofs.CallsMade.{own_step}

@@ -6,7 +6,7 @@ use Rattle.cc_model.specs.Config.{config_fault}
 use Rattle.cc_runs.specs.Names.{Entry, Setting, Chain, Place, Move}
 use Rattle.cc_runs.specs.State.{pass_at}
 use Rattle.cc_runs.specs.Run.{IsRun, reached, passes, number_of, history_of}
-use Rattle.cc_runs.specs.Sides.{calls_on}
+use Rattle.cc_runs.specs.OnChain.{calls_on}
 
 -- the calls that pass p began, in order, each with its number and what it knew
 abbrev pub made : Setting → List Move → ℕ → List Entry

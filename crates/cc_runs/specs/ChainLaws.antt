@@ -10,7 +10,7 @@ use Rattle.cc_runs.specs.State.{State, chain_of, pass_at, word_of}
 use Rattle.cc_runs.specs.Lines.{operation}
 use Rattle.cc_runs.specs.Run.{IsRun, reached, passes, history_of}
 use Rattle.cc_runs.specs.Safe.{WhileUndecided, IsReady}
-use Rattle.cc_runs.specs.Sides.{passes_on, calls_on, answers_on, FitsIn}
+use Rattle.cc_runs.specs.OnChain.{passes_on, calls_on, answers_on, FitsIn}
 
 -- between its read of state 0 and its hand-over
 abbrev pub IsCombining : Place → Type 0

@@ -10,7 +10,7 @@ pub mod Codes
 pub mod Step
 pub mod Run
 pub mod Safe
-pub mod Sides
+pub mod OnChain
 pub mod ChainLaws
 pub mod CallsMade
 pub mod Passes

@@ -2,7 +2,7 @@
 use Rattle.std.proofs.Common.{◌≡◌, ℕ, ◌/◌, ◌%◌, ◌^◌, ◌<◌, ◌==◌, if◌then◌else◌, refl, ap, ◌∙◌, arith}
 use Rattle.cc_runs.specs.Names.{Item, Answer, SendAnswer, CloseAnswer, TakeAnswer, Served, Chain, BodyWords}
 use Rattle.cc_runs.specs.Codes.{pack, item_of, tag_of, body_words, no_words, coded, code_of, value_of, list_word, list_reads}
-pub use Rattle.cc_runs.specs.Sides.{Fits, FitsIn}
+pub use Rattle.cc_runs.specs.OnChain.{Fits, FitsIn}
 use Rattle.cc_runs.proofs.Chains.Registers.{IsAnswer, reads, take_reads}
 
 code_back : (code value : ℕ) → value < 2 ^ 56 → code_of (coded code value) ≡ code

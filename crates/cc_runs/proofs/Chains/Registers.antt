@@ -6,7 +6,7 @@ use Rattle.cc_model.specs.Record.{Record}
 use Rattle.cc_runs.specs.Words.{groups}
 use Rattle.cc_runs.specs.State.{pass_at}
 use Rattle.cc_runs.specs.Run.{IsOn}
-pub use Rattle.cc_runs.specs.Sides.{calls_on, answers_on}
+pub use Rattle.cc_runs.specs.OnChain.{calls_on, answers_on}
 use Rattle.cc_runs.proofs.Chains.View.{pass_on, told_words, no_word}
 
 -- the chains that there are: the counter has the senders' alone

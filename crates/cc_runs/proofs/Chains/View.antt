@@ -3,7 +3,7 @@ use Rattle.std.proofs.Common.{ℕ, zero, suc, ◌+◌, ◌*◌}
 use Rattle.cc_runs.specs.Names.{Setting, Chain, NodeField, Word, Job, Request, Stand, Sending, Place, Entry, Answer, TakeAnswer}
 use Rattle.cc_runs.specs.Codes.{request_in, further_words, tag_of}
 use Rattle.cc_runs.specs.State.{State}
-pub use Rattle.cc_runs.specs.Sides.{passes_on as members}
+pub use Rattle.cc_runs.specs.OnChain.{passes_on as members}
 use Rattle.cc_runs.proofs.Combining.Chain.{Post, Cell, Chain as Seen}
 
 -- the pass of this number on its chain

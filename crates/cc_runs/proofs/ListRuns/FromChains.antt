@@ -2,7 +2,7 @@
 use Rattle.std.proofs.Common.{◌≡◌, List, Some, length, refl, sym, ap, subst, arith}
 use Rattle.cc_runs.specs.Names.{Config, Setting, Served, Job, Place, Sending, Taking, Entry, Chain, Move}
 use Rattle.cc_runs.specs.State.{State}
-use Rattle.cc_runs.specs.Sides.{calls_on, answers_on}
+use Rattle.cc_runs.specs.OnChain.{calls_on, answers_on}
 use Rattle.std.specs.List.{slice_get}
 use Rattle.cc_runs.specs.Run.{reached, IsRun}
 use Rattle.cc_runs.proofs.Ranges.{InRange}

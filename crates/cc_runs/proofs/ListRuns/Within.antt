@@ -8,7 +8,7 @@ use Rattle.cc_model.specs.Legal.{EAnswer, EAnswers, DAnswer, DAnswers}
 use Rattle.cc_runs.specs.Names.{Config, Call, Entry, Item, Answer, SendAnswer, CloseAnswer, TakeAnswer, Setting, Chain}
 use Rattle.cc_runs.specs.Codes.{item_of}
 use Rattle.cc_model.specs.Record.{of_group}
-use Rattle.cc_runs.specs.Sides.{answers_on}
+use Rattle.cc_runs.specs.OnChain.{answers_on}
 use Rattle.cc_runs.specs.State.{State}
 use Rattle.cc_runs.specs.Run.{reached, history_of, IsRun}
 use Rattle.cc_runs.specs.MachineLaws.{AnswerWithin, IsWithin, NumbersStayWithin}
