@@ -6,7 +6,7 @@ use Rattle.std.specs.Option.{option_map}
 use Rattle.cc_runs.specs.Codes.{count_word}
 use Rattle.cc_runs.specs.State.{State, pass_at}
 use Rattle.cc_runs.specs.Run.{passes, reached, IsRun}
-use Rattle.cc_runs.specs.Safe.{IsReady}
+use Rattle.cc_runs.specs.Ready.{IsReady}
 use Rattle.cc_machine.specs.BoardSteps.{view_of, state_of}
 use Rattle.cc_machine.specs.Machine.{index_of, told_at, told_in, answer_of}
 use Rattle.cc_runs.specs.ChainLaws.{IsLastAnswer}

@@ -16,7 +16,7 @@ use Rattle.cc_runs.proofs.Chains.Opening.{no_calls}
 use Rattle.cc_runs.proofs.ListRuns.Decided.{group_mine, group_other}
 use Rattle.cc_runs.proofs.ListRuns.Least.{least_smallest, counts_get}
 use Rattle.cc_runs.proofs.LinkedList.Sides.{smallest, smallest_one, smallest_min}
-use Rattle.cc_runs.specs.Safe.{HasOpenCall}
+use Rattle.cc_runs.specs.Ready.{HasOpenCall}
 use Rattle.cc_machine.specs.Known.{adds_entry, adds_shut, adds_handed, HasCounted, IsKnown, least_of, known_count}
 
 -- the smallest is the least one after another

@@ -18,7 +18,7 @@ use Rattle.cc_runs.specs.State.{State, side, appended, chain_of, first_node, hol
 use Rattle.cc_runs.specs.Lines.{event_at, operation, goes, enters, decides}
 use Rattle.cc_runs.specs.Step.{advanced, stepped}
 use Rattle.cc_runs.specs.Run.{opening, nowhere, passes, moved, reached, IsRun, May, rests, IsFinished}
-use Rattle.cc_runs.specs.Safe.{HasOpenCall, IsOpenAt, IsReady}
+use Rattle.cc_runs.specs.Ready.{HasOpenCall, IsOpenAt, IsReady}
 use Rattle.cc_machine.specs.View.{View, state_in}
 use Rattle.cc_machine.specs.BoardSteps.{kept_side, view_of, state_of, IsLaid, Keeps, HasCallRoom, HasAnswerRoom, HasRoom, CanStep, seat_at, Moved}
 use Rattle.cc_machine.specs.Machine.{IsReached, told_at}

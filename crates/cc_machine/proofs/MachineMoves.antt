@@ -7,7 +7,7 @@ use Rattle.cc_runs.specs.State.{State, chain_of, word_of}
 use Rattle.cc_runs.specs.Lines.{operation, enters, decides}
 use Rattle.cc_runs.specs.Step.{stepped}
 use Rattle.cc_runs.specs.Run.{opening}
-use Rattle.cc_runs.specs.Safe.{WhileUndecided, HasOpenCall, IsReady}
+use Rattle.cc_runs.specs.Ready.{WhileUndecided, HasOpenCall, IsReady}
 use Rattle.cc_machine.specs.View.{View}
 use Rattle.cc_machine.specs.BoardSteps.{view_of, state_of}
 use Rattle.cc_machine.specs.Machine.{HasBegun, HasStepped, HasTaken}

@@ -5,7 +5,7 @@ use Rattle.cc_machine.specs.Names.{Setting, Chain, Kind, Event, Stand, Place, Bo
 use Rattle.cc_runs.specs.Words.{IsSmall, layout_of, size, groups}
 use Rattle.cc_runs.specs.State.{State, first_node, chain_of}
 use Rattle.cc_runs.specs.Lines.{event_at}
-use Rattle.cc_runs.specs.Safe.{IsSafe, WhileUndecided}
+use Rattle.cc_runs.specs.Ready.{IsSafe, WhileUndecided}
 use Rattle.cc_runs.specs.Step.{stepped_from, stepped}
 use Rattle.cc_runs.specs.Run.{passes, nowhere}
 use Rattle.cc_machine.specs.View.{View, state_in}

@@ -2,7 +2,7 @@ ghost use Rattle.std.specs.Prelude.{◌≡◌, ◌≤◌, ◌<◌, ℕ, length, 
 ghost use Rattle.std.specs.Bool.{OnTrue};
 ghost use Rattle.cc_model.specs.Config.{config_fault};
 ghost use Rattle.cc_model.specs.Items.{known_at};
-ghost use Rattle.cc_runs.specs.Safe.{IsReady};
+ghost use Rattle.cc_runs.specs.Ready.{IsReady};
 ghost use Rattle.cc_machine.specs.BoardSteps.{view_of, state_of, kept_side, IsLaid};
 ghost use Rattle.cc_runs.specs.Run.{passes};
 ghost use Rattle.cc_machine.specs.Machine.{IsOpened, OnSide, index_of, begin_fault, IsBeginFault, HasBegun, event_of, HasStepped, answer_of, HasTaken};

@@ -2,7 +2,7 @@
 use Rattle.std.proofs.Common.{◌≡◌, ℕ, ◌<◌, List, Ok, refl}
 use Rattle.cc_model.specs.Config.{config_fault}
 use Rattle.cc_runs.specs.Names.{Setting, Served, Move}
-use Rattle.cc_runs.specs.Safe.{IsReady}
+use Rattle.cc_runs.specs.Ready.{IsReady}
 use Rattle.cc_runs.specs.Run.{IsRun, reached, passes}
 use Rattle.cc_runs.proofs.CounterRuns.{counter_ready}
 use Rattle.cc_runs.proofs.ListRuns.Ready.{list_ready}

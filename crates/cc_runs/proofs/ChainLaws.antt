@@ -14,7 +14,7 @@ use Rattle.cc_model.specs.Record.{Side, silent}
 use Rattle.cc_runs.specs.Words.{groups}
 use Rattle.std.proofs.lemmas.List.{get_or_past}
 use Rattle.cc_runs.specs.Run.{IsRun, reached, passes}
-use Rattle.cc_runs.specs.Safe.{WhileUndecided}
+use Rattle.cc_runs.specs.Ready.{WhileUndecided}
 use Rattle.cc_runs.specs.OnChain.{passes_on, calls_on, answers_on}
 use Rattle.cc_runs.specs.ChainLaws.{IsCombining, served_by, AreNodes, served_node, HoldsRequest, ServesNext, IsWithinBound, WasTold, IsReading, ReadsWord, IsToldBy, IsOut, ChainLaws, ChainLawsOfRuns, CounterLawsOfRuns}
 use Rattle.cc_runs.proofs.Ranges.{InRange, in_range}

@@ -12,7 +12,7 @@ use Rattle.cc_runs.specs.State.{State, side, with_side, chain_of, pass_at}
 use Rattle.cc_runs.specs.Step.{stepped_from}
 use Rattle.cc_runs.specs.Run.{IsRun, reached, passes}
 use Rattle.cc_runs.specs.ChainLaws.{IsLastAnswer}
-use Rattle.cc_runs.specs.Safe.{IsStepSafe, IsReady}
+use Rattle.cc_runs.specs.Ready.{IsStepSafe, IsReady}
 use Rattle.cc_runs.specs.ChainLaws.{IsEntering, IsLastPending, CallsWaitForTheirLink}
 use Rattle.cc_runs.proofs.Ranges.{InRange, in_range}
 use Rattle.cc_runs.proofs.Counted.{Counts, senders_only}

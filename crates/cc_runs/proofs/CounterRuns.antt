@@ -8,7 +8,7 @@ use Rattle.cc_runs.specs.State.{State, chain_of, first_node}
 use Rattle.cc_runs.specs.Lines.{event_at}
 use Rattle.cc_runs.specs.Step.{stepped_from, stepped}
 use Rattle.cc_runs.specs.Run.{May, IsRun, IsOn, IsIdle, IsFinished, reached, moved, passes, begun_after, begins, rests, opening, nowhere}
-use Rattle.cc_runs.specs.Safe.{IsSafe, IsReady, IsOpenAt}
+use Rattle.cc_runs.specs.Ready.{IsSafe, IsReady, IsOpenAt}
 use Rattle.cc_runs.specs.CallsMade.{before_exchange}
 use Rattle.cc_runs.proofs.Ranges.{InRange, in_range}
 use Rattle.cc_runs.proofs.Counted.{Counts, HasCount, gone, total, total_most, total_none, counts_on, counts_step, senders_only, not_both}

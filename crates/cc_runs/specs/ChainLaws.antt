@@ -9,7 +9,7 @@ use Rattle.cc_runs.specs.Codes.{tag_of, body_words, further_words, word, request
 use Rattle.cc_runs.specs.State.{State, chain_of, pass_at, word_of}
 use Rattle.cc_runs.specs.Lines.{operation}
 use Rattle.cc_runs.specs.Run.{IsRun, reached, passes, history_of}
-use Rattle.cc_runs.specs.Safe.{WhileUndecided, IsReady}
+use Rattle.cc_runs.specs.Ready.{WhileUndecided, IsReady}
 use Rattle.cc_runs.specs.OnChain.{passes_on, calls_on, answers_on, FitsIn}
 
 -- between its read of state 0 and its hand-over

@@ -9,7 +9,7 @@ pub mod TakeLines
 pub mod Codes
 pub mod Step
 pub mod Run
-pub mod Safe
+pub mod Ready
 pub mod OnChain
 pub mod ChainLaws
 pub mod CallsMade

@@ -11,7 +11,7 @@ use Rattle.cc_runs.specs.Words.{groups}
 use Rattle.cc_runs.specs.State.{State, chain_of, pass_at}
 use Rattle.cc_runs.specs.Lines.{group_of}
 use Rattle.cc_runs.specs.OnChain.{answers_on}
-use Rattle.cc_runs.specs.Safe.{IsReady}
+use Rattle.cc_runs.specs.Ready.{IsReady}
 use Rattle.cc_runs.specs.ChainLaws.{IsLastAnswer}
 use Rattle.cc_runs.specs.Run.{passes, reached, history_of, IsRun}
 

@@ -7,7 +7,7 @@ use Rattle.cc_runs.specs.Words.{layout_of, exists}
 use Rattle.cc_runs.specs.State.{chain_of, pass_at, word_of, stored}
 use Rattle.cc_runs.specs.Lines.{event_at}
 use Rattle.cc_runs.specs.Step.{advanced}
-use Rattle.cc_runs.specs.Safe.{IsSafe, IsPlaceSafe}
+use Rattle.cc_runs.specs.Ready.{IsSafe, IsPlaceSafe}
 use Rattle.cc_runs.specs.CallsMade.{made}
 use Rattle.cc_runs.specs.Run.{number_of, IsRun, IsFinished, passes, reached, history_of, begins, rests}
 use Rattle.cc_runs.specs.Passes.{by, then_did, kinds}

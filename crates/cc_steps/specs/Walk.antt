@@ -9,7 +9,7 @@ use Rattle.cc_runs.specs.State.{Operation, chain_of, pass_at, first_node, word_o
 use Rattle.cc_runs.specs.Lines.{event_at, goes}
 use Rattle.cc_runs.specs.ChainLaws.{IsLastAnswer}
 use Rattle.cc_runs.specs.ChainLaws.{IsLastPending}
-use Rattle.cc_runs.specs.Safe.{IsPlaceSafe}
+use Rattle.cc_runs.specs.Ready.{IsPlaceSafe}
 use Rattle.cc_runs.specs.Passes.{by, then_did}
 use Rattle.cc_runs.specs.Run.{IsRun, passes, history_of}
 use Rattle.cc_steps.specs.Topic.{Topic}

@@ -6,7 +6,7 @@ use Rattle.cc_runs.specs.Names.{Answer, Setting, Chain, NodeField, Word, Stand, 
 use Rattle.cc_runs.specs.Codes.{tag_of, further_words, ret_of}
 use Rattle.cc_runs.specs.Words.{groups, layout_of, is_node_field, exists}
 use Rattle.cc_runs.specs.State.{State}
-use Rattle.cc_runs.specs.Safe.{IsSafe, HasOpenCall, WhileUndecided, IsOpenAt}
+use Rattle.cc_runs.specs.Ready.{IsSafe, HasOpenCall, WhileUndecided, IsOpenAt}
 use Rattle.cc_runs.proofs.Ranges.{InRange}
 use Rattle.cc_runs.proofs.ReadWords.{few_further}
 use Rattle.cc_runs.proofs.Chains.View.{members, pass_on, post_of, post_at, send_stage}

@@ -5,7 +5,7 @@ use Rattle.cc_model.specs.Config.{config_fault}
 use Rattle.cc_model.specs.Record.{Record}
 use Rattle.cc_runs.specs.Names.{Config, Answer, SendAnswer, CloseAnswer, TakeAnswer, Setting, Served, Chain, NodeField, Job, Place, Sending, Move}
 use Rattle.cc_runs.specs.State.{State, chain_of, pass_at}
-use Rattle.cc_runs.specs.Safe.{IsSafe, IsReady}
+use Rattle.cc_runs.specs.Ready.{IsSafe, IsReady}
 use Rattle.cc_runs.specs.Run.{passes, reached, IsRun}
 use Rattle.cc_runs.specs.ChainLaws.{IsLastAnswer}
 use Rattle.cc_runs.specs.MachineLaws.{AnswerWithin, IsWithin, StepsAreReady, AnswersAreTold}

@@ -6,7 +6,7 @@ use Rattle.cc_runs.specs.Words.{groups, layout_of, is_item_field, exists}
 use Rattle.cc_runs.proofs.ReadWords.{few_further}
 use Rattle.cc_runs.proofs.Chains.Safe.{four_words}
 use Rattle.cc_runs.specs.State.{State, chain_of}
-use Rattle.cc_runs.specs.Safe.{IsSafe}
+use Rattle.cc_runs.specs.Ready.{IsSafe}
 use Rattle.cc_runs.proofs.Ranges.{InRange}
 use Rattle.cc_runs.proofs.LinkedList.Queue.{Queue, Enq, Told}
 use Rattle.cc_runs.proofs.LinkedList.Invariant.{LInv}
