@@ -24,8 +24,7 @@ use Rattle.cc_machine.specs.BoardSteps.{kept_side, view_of, state_of, IsLaid, Ke
 use Rattle.cc_machine.specs.Machine.{IsReached, told_at}
 use Rattle.cc_machine.specs.Lawful.{to_come, coming, HasRoomToCome, IsLawful}
 use Rattle.cc_runs.specs.CallsMade.{before_exchange}
-use Rattle.cc_machine.proofs.Coming.{one_on_side, coming_hold, coming_some, coming_none}
-use Rattle.cc_machine.proofs.Gained.{gained}
+use Rattle.cc_machine.proofs.RoomToCome.{one_on_side, coming_hold, coming_some, coming_none, gained}
 
 -- the history of the state that is seen is the one that is seen
 pub history_in : (m : View) → (state_in m).history ≡ m.history

@@ -1,8 +1,7 @@
 pub mod KeptSides
 pub mod Rows
 pub mod Faults
-pub mod Coming
-pub mod Gained
+pub mod RoomToCome
 pub mod LawfulMoves
 pub mod KnownMoves
 pub mod MachineMoves

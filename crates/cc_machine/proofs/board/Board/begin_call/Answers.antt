@@ -7,7 +7,7 @@ use Rattle.cc_machine.specs.BoardSteps.{view_of, state_of}
 use Rattle.cc_machine.specs.Lawful.{HasRoomToCome}
 use Rattle.cc_machine.proofs.Faults.{may_begin}
 use Rattle.cc_machine.proofs.Rows.{inside}
-use Rattle.cc_machine.proofs.Coming.{few_passes}
+use Rattle.cc_machine.proofs.RoomToCome.{few_passes}
 use Rattle.cc_machine.proofs.LawfulMoves.{lawful_view, lawful_begin}
 use Rattle.cc_machine.proofs.board.Board.begin_call.Goals as goal
 

@@ -1,6 +1,6 @@
 use Rattle.std.proofs.Common.{arith}
 use Rattle.cc_machine.specs.BoardSteps.{state_of}
-use Rattle.cc_machine.proofs.Coming.{coming_max, few_passes}
+use Rattle.cc_machine.proofs.RoomToCome.{coming_max, few_passes}
 use Rattle.cc_machine.proofs.board.Board.calls_to_come.Goals as goal
 
 pub overflow_add-count : goal.overflow_add-count

@@ -5,7 +5,7 @@ use Rattle.cc_machine.specs.Names.{Chain, Board}
 use Rattle.cc_runs.specs.Run.{passes}
 use Rattle.cc_machine.specs.BoardSteps.{state_of, kept_side, IsLaid}
 use Rattle.cc_machine.specs.Lawful.{HasRoomToCome, all_coming}
-use Rattle.cc_machine.proofs.Coming.{coming_max}
+use Rattle.cc_machine.proofs.RoomToCome.{coming_max}
 use Rattle.cc_machine.proofs.board.Board.has_ample_room.Goals.{in-Send, in-Take}
 use Rattle.cc_machine.proofs.board.Board.has_ample_room.Goals as goal
 
