@@ -9,8 +9,8 @@ pub mod SendTurn
 pub mod TakeTurn
 pub mod Facts
 pub mod Posts
-pub mod Still
-pub mod Whole
+pub mod Untouched
+pub mod Invariant
 pub mod ServeSend
 pub mod ServeTake
 pub mod Least

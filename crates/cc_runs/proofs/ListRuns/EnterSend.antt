@@ -16,7 +16,7 @@ use Rattle.cc_runs.proofs.ListRuns.View.{Duty, Regs, enq_in, enq_at, regs_at, re
 use Rattle.cc_runs.proofs.ListRuns.Ties.{further, ReadsAt, IsBegun, IsServing, IsTaking, IsNextSend, IsNextTake}
 use Rattle.cc_runs.proofs.ListRuns.SendTurn.{Caller}
 use Rattle.cc_runs.proofs.ListRuns.Facts.{lists, IsSending, ChainFacts}
-use Rattle.cc_runs.proofs.ListRuns.Whole.{Parts, Onward}
+use Rattle.cc_runs.proofs.ListRuns.Invariant.{Parts, Onward}
 use Rattle.cc_runs.proofs.ListRuns.Least.{least_is}
 
 -- where nothing is served the stage is 0

@@ -14,7 +14,7 @@ use Rattle.cc_runs.proofs.ListRuns.TakeKeeps as keeps
 use Rattle.cc_runs.proofs.ListRuns.View.{Duty, with_group, group_here, group_away, group_all, enq_at, regs_at, regs_of, queue_from, queue_of, hold_here, hold_other, hold_same, hold_all}
 use Rattle.cc_runs.proofs.ListRuns.Ties.{further, ReadsAt, IsServing, IsUndecidedAt, IsTaking, IsNextSend, IsNextTake}
 use Rattle.cc_runs.proofs.ListRuns.Facts.{lists, ChainFacts}
-use Rattle.cc_runs.proofs.ListRuns.Whole.{Parts, Onward}
+use Rattle.cc_runs.proofs.ListRuns.Invariant.{Parts, Onward}
 
 idle_takes : (at : Place) → IsIdle at → IsTaking at → ⊥
 idle_takes Place.Idle idle u = u

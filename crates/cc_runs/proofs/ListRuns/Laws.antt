@@ -23,7 +23,7 @@ use Rattle.cc_runs.proofs.LinkedList.Limits as limits
 use Rattle.cc_runs.proofs.ListRuns.View.{Regs, enq_in, enq_at, regs_in, regs_of, queue_of}
 use Rattle.cc_runs.proofs.ListRuns.Ties.{further, IsBegun, Scanned}
 use Rattle.cc_runs.proofs.ListRuns.Facts.{lists}
-use Rattle.cc_runs.proofs.ListRuns.Whole.{Parts}
+use Rattle.cc_runs.proofs.ListRuns.Invariant.{Parts}
 use Rattle.cc_runs.proofs.ListRuns.Runs.{AfterRun, parts_least, legal}
 use Rattle.cc_runs.proofs.ListRuns.Safe.{send_queue, send_holds, send_reads, take_regs}
 use Rattle.cc_runs.proofs.ListRuns.FromChains.{after_runs, of_setting}

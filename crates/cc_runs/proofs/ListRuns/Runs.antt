@@ -28,8 +28,8 @@ use Rattle.cc_runs.proofs.ListRuns.Ties.{further, ReadsAt, IsServing, IsUndecide
 use Rattle.cc_runs.proofs.ListRuns.Facts.{lists, ChainFacts}
 use Rattle.cc_runs.proofs.ListRuns.Posts.{Begun, Well, Posts, Calls, HasNumber, waits, is_send, OfSend, OfTake, of_side, group_in, known_grows}
 use Rattle.cc_runs.proofs.ListRuns.PostSteps.{next_well, next_waits, posts_on, calls_on, own_sent, other_sent, e_calls_on, d_calls_on}
-use Rattle.cc_runs.proofs.ListRuns.Still.{StillSend, StillTake, still_send, still_take}
-use Rattle.cc_runs.proofs.ListRuns.Whole.{Parts, OnwardBy, Onward, quiet}
+use Rattle.cc_runs.proofs.ListRuns.Untouched.{StillSend, StillTake, still_send, still_take}
+use Rattle.cc_runs.proofs.ListRuns.Invariant.{Parts, OnwardBy, Onward, quiet}
 use Rattle.cc_runs.proofs.ListRuns.Least.{least_is}
 use Rattle.cc_runs.proofs.ListRuns.Steps.{send_step, take_step, called_mine, called_others}
 

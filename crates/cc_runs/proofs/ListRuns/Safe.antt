@@ -14,7 +14,7 @@ use Rattle.cc_runs.proofs.LinkedList.Limits as limits
 use Rattle.cc_runs.proofs.ListRuns.View.{Duty, Regs, enq_in, enq_at, regs_in, regs_at, regs_of, queue_from}
 use Rattle.cc_runs.proofs.ListRuns.Ties.{further, Reads, ReadsAt, IsBegun, IsServing, IsTaking, Scanned}
 use Rattle.cc_runs.proofs.ListRuns.Facts.{lists}
-use Rattle.cc_runs.proofs.ListRuns.Whole.{Parts}
+use Rattle.cc_runs.proofs.ListRuns.Invariant.{Parts}
 
 pub item_exists : (c : Config) (i : ℕ) (f : ItemField) → IsTrue (is_item_field f) → i ≤ c.capacity + 1 → IsTrue (exists (layout_of c) (Word.Item i f))
 item_exists c i f part l = ap (λ (b : Bool). b && is_item_field f) (lt-ltb i (c.capacity + 2) (omega (arith, l))) ∙ part

@@ -12,8 +12,8 @@ use Rattle.cc_runs.proofs.ListRuns.View.{Duty, Regs, enq_at, regs_at, regs_of, q
 use Rattle.cc_runs.proofs.ListRuns.Ties.{further, ReadsAt, IsBegun, IsServing, IsUndecidedAt, IsTaking, IsNextSend, IsNextTake}
 use Rattle.cc_runs.proofs.ListRuns.SendTurn as send_turn
 use Rattle.cc_runs.proofs.ListRuns.Facts.{lists}
-use Rattle.cc_runs.proofs.ListRuns.Still.{StillTake, send_still}
-use Rattle.cc_runs.proofs.ListRuns.Whole.{Parts, OnwardBy}
+use Rattle.cc_runs.proofs.ListRuns.Untouched.{StillTake, send_still}
+use Rattle.cc_runs.proofs.ListRuns.Invariant.{Parts, OnwardBy}
 
 module _ (c : Config) (s : State) (p begun own : ℕ) (job : Job) (service : Sending) (at : s.stand p ≡ record { begun = begun; node = own; place = Place.Sending job service }) (on : IsBegun service) (k : Parts c s) where
   abbrev d : Duty

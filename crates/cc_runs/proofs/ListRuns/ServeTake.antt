@@ -16,8 +16,8 @@ use Rattle.cc_runs.proofs.ListRuns.Ties.{further, ReadsAt, IsServing, IsUndecide
 use Rattle.cc_runs.proofs.ListRuns.Decided.{group_other}
 use Rattle.cc_runs.proofs.ListRuns.TakeTurn as take_turn
 use Rattle.cc_runs.proofs.ListRuns.Facts.{lists}
-use Rattle.cc_runs.proofs.ListRuns.Still.{StillSend, take_still}
-use Rattle.cc_runs.proofs.ListRuns.Whole.{Parts, Onward}
+use Rattle.cc_runs.proofs.ListRuns.Untouched.{StillSend, take_still}
+use Rattle.cc_runs.proofs.ListRuns.Invariant.{Parts, Onward}
 
 module _ (c : Config) (s : State) (p begun own y : ℕ) (chain : chain_of c p ≡ Chain.Take y) (inside : y < groups c) (job : Job) (service : Taking) (at : s.stand p ≡ record { begun = begun; node = own; place = Place.Taking job service }) (k : Parts c s) where
   abbrev d : Duty

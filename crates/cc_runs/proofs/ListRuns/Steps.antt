@@ -23,8 +23,8 @@ use Rattle.cc_runs.proofs.ListRuns.Ties.{Ties, IsNextSend, IsNextTake, ties_same
 use Rattle.cc_runs.proofs.ListRuns.SendTurn.{Caller}
 use Rattle.cc_runs.proofs.ListRuns.Facts.{lists, ChainFacts}
 use Rattle.cc_runs.proofs.ListRuns.Posts.{Well, Posts, Calls, all_get}
-use Rattle.cc_runs.proofs.ListRuns.Still.{StillSend, StillTake, still_send, still_take, in_send, plain_goes}
-use Rattle.cc_runs.proofs.ListRuns.Whole.{Parts, OnwardBy, Onward, quiet}
+use Rattle.cc_runs.proofs.ListRuns.Untouched.{StillSend, StillTake, still_send, still_take, in_send, plain_goes}
+use Rattle.cc_runs.proofs.ListRuns.Invariant.{Parts, OnwardBy, Onward, quiet}
 use Rattle.cc_runs.proofs.ListRuns.ServeSend.{send_serves}
 use Rattle.cc_runs.proofs.ListRuns.ServeTake.{take_serves}
 use Rattle.cc_runs.proofs.ListRuns.EnterSend.{send_enters}

@@ -15,7 +15,7 @@ use Rattle.cc_runs.specs.MachineLaws.{AnswerWithin, IsWithin, NumbersStayWithin}
 use Rattle.cc_runs.proofs.Ranges.{in_range}
 use Rattle.cc_runs.proofs.ListRuns.Ties.{body_at}
 use Rattle.cc_runs.proofs.ListRuns.Facts.{lists}
-use Rattle.cc_runs.proofs.ListRuns.Whole.{Parts}
+use Rattle.cc_runs.proofs.ListRuns.Invariant.{Parts}
 use Rattle.cc_runs.proofs.ListRuns.Runs.{Whole}
 use Rattle.cc_runs.proofs.ListRuns.FromChains.{after_runs, of_setting}
 

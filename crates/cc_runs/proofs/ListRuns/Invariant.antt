@@ -8,7 +8,7 @@ use Rattle.cc_runs.proofs.LinkedList.Grow.{Held}
 use Rattle.cc_runs.proofs.ListRuns.View.{Duty, Regs, enq_at, regs_at, regs_of, queue_from, queue_of, hold_same, hold_all}
 use Rattle.cc_runs.proofs.ListRuns.Ties.{Ties, further, ReadsAt, IsServing, IsUndecidedAt, IsTaking, IsNextSend, IsNextTake, Linked}
 use Rattle.cc_runs.proofs.ListRuns.SendTurn.{Caller}
-use Rattle.cc_runs.proofs.ListRuns.Still.{StillSend, StillTake}
+use Rattle.cc_runs.proofs.ListRuns.Untouched.{StillSend, StillTake}
 
 -- who serves, and what
 pub record Serving (c : Config) (s : State) (d : Duty) : Type 0 where
