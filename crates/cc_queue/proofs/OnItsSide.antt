@@ -9,7 +9,7 @@ use Rattle.cc_model.specs.Items.{answered, calls_of, is_pass}
 use Rattle.cc_model.specs.Legal.{Legal, IsSenders, IsReceivers}
 use Rattle.cc_model.specs.Config.{group_of}
 use Rattle.cc_queue.specs.Names.{Config, Call, Pass, Entry, Answer}
-use Rattle.cc_runs.proofs.Chains.Told.{filter-flat, flat-none, flat-one}
+use Rattle.cc_runs.proofs.Chains.ReadAnswers.{filter-flat, flat-none, flat-one}
 
 abbrev pub Told : Type 0
 Told = Entry × Option Answer

@@ -27,7 +27,7 @@ use Rattle.cc_runs.proofs.Chains.Others.{IsOn, IsOff, which, side_other}
 use Rattle.cc_runs.proofs.Chains.Facts.{side_same}
 use Rattle.cc_runs.proofs.Chains.Serving.{Chains, chains_hold, chain_is, on_chain}
 use Rattle.cc_runs.proofs.Chains.Last.{chosen}
-use Rattle.cc_runs.proofs.Chains.Told.{named, name_is, other_name, NotOther, calls_one}
+use Rattle.cc_runs.proofs.Chains.ReadAnswers.{named, name_is, other_name, NotOther, calls_one}
 use Rattle.cc_runs.specs.CallsMade.{made, to_exchange, CallsOfRuns}
 use Rattle.cc_runs.proofs.Leads.{leads}
 

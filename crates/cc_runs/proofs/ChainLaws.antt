@@ -29,7 +29,7 @@ use Rattle.cc_runs.proofs.Chains.Read as read
 use Rattle.cc_runs.proofs.Chains.Touched.{Touches, touches}
 use Rattle.cc_runs.proofs.Combining.Apart.{node_apart}
 use Rattle.cc_runs.proofs.Chains.Serving.{Chains, chains_hold, chain_is, on_chain, one_combiner, sending_where, counting_where, next_call, next_words}
-use Rattle.cc_runs.proofs.Chains.Told.{HasTold, HasAnswer, NotOther, named, name_is, answer_on}
+use Rattle.cc_runs.proofs.Chains.ReadAnswers.{HasTold, HasAnswer, NotOther, named, name_is, answer_on}
 use Rattle.cc_runs.proofs.Chains.Decoded.{reads_back}
 use Rattle.cc_runs.proofs.Counted.{Counts}
 use Rattle.cc_runs.proofs.CounterRuns.{counter_holds, counter_ready}

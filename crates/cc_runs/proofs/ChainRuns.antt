@@ -24,7 +24,7 @@ use Rattle.cc_runs.proofs.Chains.Others.{IsOther, IsOn, sender_chain}
 use Rattle.cc_runs.proofs.Chains.Safe as safe
 use Rattle.cc_runs.proofs.Chains.Safe.{IsService}
 use Rattle.cc_runs.proofs.Chains.Serving.{Chains, chains_hold, chain_is, on_chain}
-use Rattle.cc_runs.proofs.Chains.Told.{named, name_is, apart_names, NotOther, HasTold, told_on, open_on}
+use Rattle.cc_runs.proofs.Chains.ReadAnswers.{named, name_is, apart_names, NotOther, HasTold, told_on, open_on}
 use Rattle.cc_runs.proofs.Chains.Decoded.{FitsIn, reads_back}
 
 -- a counter has no calls of receivers

@@ -19,6 +19,6 @@ pub mod Safe
 pub mod Serving
 pub mod ForList
 pub mod Last
-pub mod Told
+pub mod ReadAnswers
 pub mod Decoded
 pub mod Touched

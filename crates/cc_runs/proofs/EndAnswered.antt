@@ -16,7 +16,7 @@ use Rattle.cc_runs.proofs.Chains.Ties.{Holds}
 use Rattle.cc_runs.proofs.Chains.Last.{chosen}
 use Rattle.cc_runs.proofs.Chains.Others.{IsOn}
 use Rattle.cc_runs.proofs.Chains.Serving.{Chains, chains_hold, chain_is, on_chain}
-use Rattle.cc_runs.proofs.Chains.Told.{NotOther, named, name_is, other_name, calls_one}
+use Rattle.cc_runs.proofs.Chains.ReadAnswers.{NotOther, named, name_is, other_name, calls_one}
 
 keeps : (z : Entry × Option Answer) (rest : List (Entry × Option Answer)) (b : Bool) → (b ≡ true → HasAnswer z) → AllByRecursion HasAnswer rest → AllByRecursion HasAnswer (cond b (z ∷ rest) rest)
 keeps z rest true has all = (has refl, all)

@@ -5,7 +5,7 @@ pub mod Longest
 pub mod Walks
 pub mod Joined
 pub mod StepFacts
-pub mod Told
+pub mod ReadAnswers
 pub mod Own
 pub mod StepLaws
 pub mod Laid

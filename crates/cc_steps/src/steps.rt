@@ -211,7 +211,7 @@ pub fn hand_over(words: &Words, seat: &mut PassSeat, chain: Chain, node: u64)
 /// ReadAnswer, by the caller: loads the answer word of its current node, or the tag or a word of the body of the item that
 /// it was given. Where it is the last word, the call ends with this step, and the answer is taken. `told`: it is then the
 /// answer of the pass's last call in the history that the pass has seen.
-#[tactic(auto, using(crate::proofs::Walks::can_do, crate::proofs::Told::told_so))]
+#[tactic(auto, using(crate::proofs::Walks::can_do, crate::proofs::ReadAnswers::told_so))]
 #[inline(always)]
 pub fn read_answer(
     words: &Words,

@@ -1,4 +1,4 @@
-use Rattle.cc_steps.proofs.Told.{told_so}
+use Rattle.cc_steps.proofs.ReadAnswers.{told_so}
 use Rattle.cc_steps.proofs.steps.read_answer.Goals as goal
 
 pub returns-clause-told : goal.returns-clause-told
