@@ -20,7 +20,7 @@ use Rattle.cc_runs.specs.Step.{advanced, stepped}
 use Rattle.cc_runs.specs.Run.{opening, nowhere, passes, moved, reached, IsRun, May, rests, IsFinished}
 use Rattle.cc_runs.specs.Ready.{HasOpenCall, IsOpenAt, IsReady}
 use Rattle.cc_machine.specs.View.{View, state_in}
-use Rattle.cc_machine.specs.BoardSteps.{kept_side, view_of, state_of, IsLaid, Keeps, HasCallRoom, HasAnswerRoom, HasRoom, CanStep, seat_at, Moved}
+use Rattle.cc_machine.specs.BoardSteps.{kept_side, view_of, state_of, IsLaid, Keeps, HasCallRoom, HasAnswerRoom, HasRoom, CanStep, stepper_at, Moved}
 use Rattle.cc_machine.specs.Machine.{IsReached, told_at}
 use Rattle.cc_machine.specs.Lawful.{to_come, coming, HasRoomToCome, IsLawful}
 use Rattle.cc_runs.specs.CallsMade.{before_exchange}
@@ -252,7 +252,7 @@ first_idle c x q = ap (λ (z : Place). to_come x (chain_of c.config q) z) (idle_
     idle_first false = refl
 
 -- the next step of a pass that is ready can be done
-pub can_step : (b : Board) (p : ℕ) → IsLawful b → p < passes b.setting → IsReady b.setting (state_of b) p → CanStep b (seat_at b p) ((state_of b).stand p).place
+pub can_step : (b : Board) (p : ℕ) → IsLawful b → p < passes b.setting → IsReady b.setting (state_of b) p → CanStep b (stepper_at b p) ((state_of b).stand p).place
 can_step b p l near ready = record {
   laid = l.laid;
   pass = near;

@@ -1,7 +1,7 @@
 -- The state that a board shows, and what its steps ask for and do.
 use Rattle.std.specs.Prelude.{List, ◌≡◌, ◌≢◌, ℕ, ◌<◌, slice_index_or, length}
 use Rattle.cc_model.specs.Kept.{KeptSide, Kept, kept_of_group, lists}
-use Rattle.cc_machine.specs.Names.{Setting, Chain, Kind, Event, Stand, Place, Board, Seat}
+use Rattle.cc_machine.specs.Names.{Setting, Chain, Kind, Event, Stand, Place, Board, Stepper}
 use Rattle.cc_runs.specs.Words.{IsSmall, layout_of, size, groups}
 use Rattle.cc_runs.specs.State.{State, first_node, chain_of}
 use Rattle.cc_runs.specs.Lines.{event_at}
@@ -44,15 +44,15 @@ HasRoom h x (Place.Exchange call) = HasCallRoom h x
 HasRoom h x at = WhileUndecided at (HasAnswerRoom h x)
 
 -- a pass during its step, at this place
-abbrev pub stand_of : Seat → Place → Stand
-stand_of seat at = record { begun = seat.begun; node = seat.node; place = at }
+abbrev pub stand_of : Stepper → Place → Stand
+stand_of who at = record { begun = who.begun; node = who.node; place = at }
 
--- the step of this seat, at this place, can be done
-pub record CanStep (b : Board) (seat : Seat) (at : Place) : Type 0 where
+-- the step of this stepper, at this place, can be done
+pub record CanStep (b : Board) (who : Stepper) (at : Place) : Type 0 where
   pub laid : IsLaid b
-  pub pass : seat.pass < passes b.setting
-  pub safe : IsSafe b.setting (state_of b) seat.chain seat.node at
-  pub room : HasRoom b.history seat.chain at
+  pub pass : who.pass < passes b.setting
+  pub safe : IsSafe b.setting (state_of b) who.chain who.node at
+  pub room : HasRoom b.history who.chain at
 
 -- what no step changes
 pub record Keeps (old new : Board) : Type 0 where
@@ -62,15 +62,15 @@ pub record Keeps (old new : Board) : Type 0 where
   pub rooms : (x : Chain) → (kept_side x new.history).room ≡ (kept_side x old.history).room
   pub groups : length new.history.takes ≡ length old.history.takes
 
--- the step of this seat, at this place, was done
-pub record Stepped (old : Board) (seat : Seat) (at : Place) (kind : Kind) (new : Board) : Type 0 where
+-- the step of this stepper, at this place, was done
+pub record Stepped (old : Board) (who : Stepper) (at : Place) (kind : Kind) (new : Board) : Type 0 where
   pub kind_is : event_at at ≡ Event.Did kind
-  pub state : state_of new ≡ stepped_from old.setting (state_of old) seat.chain seat.pass (stand_of seat at)
+  pub state : state_of new ≡ stepped_from old.setting (state_of old) who.chain who.pass (stand_of who at)
   pub keeps : Keeps old new
 
 -- a pass as it stands
-abbrev pub seat_at : Board → ℕ → Seat
-seat_at b p = record { pass = p; chain = chain_of b.setting.config p; begun = ((state_of b).stand p).begun; node = ((state_of b).stand p).node }
+abbrev pub stepper_at : Board → ℕ → Stepper
+stepper_at b p = record { pass = p; chain = chain_of b.setting.config p; begun = ((state_of b).stand p).begun; node = ((state_of b).stand p).node }
 
 -- an event is the one step of its pass, and Idle where the pass has none: then nothing changes
 pub record Moved (old : Board) (p : ℕ) (event : Event) (new : Board) : Type 0 where

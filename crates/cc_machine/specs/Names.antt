@@ -26,6 +26,6 @@ pub use Rattle.cc_runs.specs.declared.word.ItemField.{ItemField}
 pub use Rattle.cc_runs.specs.declared.word.Object.{Object}
 pub use Rattle.cc_runs.specs.declared.word.Word.{Word}
 pub use Rattle.cc_machine.specs.declared.board.Board.{Board}
-pub use Rattle.cc_machine.specs.declared.board.Seat.{Seat}
+pub use Rattle.cc_machine.specs.declared.board.Stepper.{Stepper}
 pub use Rattle.cc_machine.specs.declared.fault.BeginFault.{BeginFault}
 pub use Rattle.cc_machine.specs.declared.known.Known.{Known}

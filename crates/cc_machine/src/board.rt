@@ -19,7 +19,7 @@ pub struct Board {
 
 /// A pass during its step: which it is, its chain, and what it keeps in every place.
 #[derive(Clone, Copy)]
-pub struct Seat {
+pub struct Stepper {
     pub pass: usize,
     pub chain: Chain,
     pub begun: u32,
@@ -75,16 +75,16 @@ impl Board {
 
     /// Lets a pass stand at another place.
     #[inline(always)]
-    pub fn go(&mut self, seat: Seat, place: Place)
-        requires { seat.pass < length self.old.stands.items }
-        ensures state { state_of self.new ≡ record (state_of self.old) { stand = hold (state_of self.old).stand seat.pass (stand_of seat place) } }
+    pub fn go(&mut self, who: Stepper, place: Place)
+        requires { who.pass < length self.old.stands.items }
+        ensures state { state_of self.new ≡ record (state_of self.old) { stand = hold (state_of self.old).stand who.pass (stand_of who place) } }
         ensures keeps { Keeps self.old self.new }
     {
         self.put(
-            seat.pass,
+            who.pass,
             Stand {
-                begun: seat.begun,
-                node: seat.node,
+                begun: who.begun,
+                node: who.node,
                 place,
             },
         );
@@ -117,7 +117,7 @@ impl Board {
     }
 }
 
-impl Seat {
+impl Stepper {
     /// The group of a receiver's pass.
     pub fn group(&self) -> u32
         ensures { result ≡ group_of self.now.chain }

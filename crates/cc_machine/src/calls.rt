@@ -2,7 +2,7 @@ ghost use Rattle.cc_machine.specs.BoardSteps.{CanStep, Stepped};
 ghost use Rattle.std.specs.Prelude.{◌≡◌};
 ghost use Rattle.cc_runs.specs.Lines.{serves};
 
-use crate::board::{Board, Seat};
+use crate::board::{Board, Stepper};
 use cc_model::{Answer, Entry, Item, TakeAnswer};
 use cc_runs::{
     BodyWords, CODE, Chain, Counting, Job, Kind, NodeField, Parcel, Place, Request, Round, Sending,
@@ -24,59 +24,56 @@ fn first_round(node: u64) -> Place
 
 /// The steps of a call on its chain.
 impl Board {
-    pub fn reset_next(&mut self, seat: Seat, call: Entry) -> Kind
-        requires { CanStep self.old seat (Place.ResetNext call) }
-        ensures { Stepped self.old seat (Place.ResetNext call) result self.new }
+    pub fn reset_next(&mut self, who: Stepper, call: Entry) -> Kind
+        requires { CanStep self.old who (Place.ResetNext call) }
+        ensures { Stepped self.old who (Place.ResetNext call) result self.new }
     {
-        self.store(Word::Node(seat.chain, seat.node, NodeField::Next), 0);
-        self.go(seat, Place::ResetState { call });
+        self.store(Word::Node(who.chain, who.node, NodeField::Next), 0);
+        self.go(who, Place::ResetState { call });
         Kind::ResetNext
     }
 
-    pub fn reset_state(&mut self, seat: Seat, call: Entry) -> Kind
-        requires { CanStep self.old seat (Place.ResetState call) }
-        ensures { Stepped self.old seat (Place.ResetState call) result self.new }
+    pub fn reset_state(&mut self, who: Stepper, call: Entry) -> Kind
+        requires { CanStep self.old who (Place.ResetState call) }
+        ensures { Stepped self.old who (Place.ResetState call) result self.new }
     {
-        self.store(Word::Node(seat.chain, seat.node, NodeField::State), 1);
-        self.go(seat, Place::Exchange { call });
+        self.store(Word::Node(who.chain, who.node, NodeField::State), 1);
+        self.go(who, Place::Exchange { call });
         Kind::ResetState
     }
 
-    pub fn exchange(&mut self, seat: Seat, call: Entry) -> Kind
-        requires { CanStep self.old seat (Place.Exchange call) }
-        ensures { Stepped self.old seat (Place.Exchange call) result self.new }
+    pub fn exchange(&mut self, who: Stepper, call: Entry) -> Kind
+        requires { CanStep self.old who (Place.Exchange call) }
+        ensures { Stepped self.old who (Place.Exchange call) result self.new }
     {
-        let word = Word::Tail(seat.chain);
+        let word = Word::Tail(who.chain);
         let found = self.load(word);
-        self.enter(seat.chain, call);
-        self.store(word, seat.node + 1);
-        let place = match seat.chain {
+        self.enter(who.chain, call);
+        self.store(word, who.node + 1);
+        let place = match who.chain {
             Chain::Send => Place::WriteTag {
-                put: seat.node,
+                put: who.node,
                 request: request_in(call),
             },
-            Chain::Take(_) => Place::Link { put: seat.node },
+            Chain::Take(_) => Place::Link { put: who.node },
         };
         self.go(
-            Seat {
+            Stepper {
                 node: found - 1,
-                ..seat
+                ..who
             },
             place,
         );
         Kind::Exchange
     }
 
-    pub fn write_tag(&mut self, seat: Seat, put: u64, request: Request) -> Kind
-        requires { CanStep self.old seat (Place.WriteTag put request) }
-        ensures { Stepped self.old seat (Place.WriteTag put request) result self.new }
+    pub fn write_tag(&mut self, who: Stepper, put: u64, request: Request) -> Kind
+        requires { CanStep self.old who (Place.WriteTag put request) }
+        ensures { Stepped self.old who (Place.WriteTag put request) result self.new }
     {
-        self.store(
-            Word::Node(seat.chain, seat.node, NodeField::Tag),
-            request.tag,
-        );
+        self.store(Word::Node(who.chain, who.node, NodeField::Tag), request.tag);
         self.go(
-            seat,
+            who,
             Place::WriteBody {
                 put,
                 request,
@@ -86,12 +83,12 @@ impl Board {
         Kind::WriteRequest
     }
 
-    pub fn write_body(&mut self, seat: Seat, put: u64, request: Request, index: u32) -> Kind
-        requires { CanStep self.old seat (Place.WriteBody put request index) }
-        ensures { Stepped self.old seat (Place.WriteBody put request index) result self.new }
+    pub fn write_body(&mut self, who: Stepper, put: u64, request: Request, index: u32) -> Kind
+        requires { CanStep self.old who (Place.WriteBody put request index) }
+        ensures { Stepped self.old who (Place.WriteBody put request index) result self.new }
     {
         self.store(
-            Word::Node(seat.chain, seat.node, NodeField::Body(index)),
+            Word::Node(who.chain, who.node, NodeField::Body(index)),
             request.body.word(index),
         );
         let place = if index < further_words(request.tag) {
@@ -103,29 +100,29 @@ impl Board {
         } else {
             Place::Link { put }
         };
-        self.go(seat, place);
+        self.go(who, place);
         Kind::WriteRequest
     }
 
-    pub fn link(&mut self, seat: Seat, put: u64) -> Kind
-        requires { CanStep self.old seat (Place.Link put) }
-        ensures { Stepped self.old seat (Place.Link put) result self.new }
+    pub fn link(&mut self, who: Stepper, put: u64) -> Kind
+        requires { CanStep self.old who (Place.Link put) }
+        ensures { Stepped self.old who (Place.Link put) result self.new }
     {
-        self.store(Word::Node(seat.chain, seat.node, NodeField::Next), put + 1);
-        self.go(seat, Place::ReadState);
+        self.store(Word::Node(who.chain, who.node, NodeField::Next), put + 1);
+        self.go(who, Place::ReadState);
         Kind::Link
     }
 
-    pub fn read_state(&mut self, seat: Seat) -> Kind
-        requires { CanStep self.old seat Place.ReadState }
-        ensures { Stepped self.old seat Place.ReadState result self.new }
+    pub fn read_state(&mut self, who: Stepper) -> Kind
+        requires { CanStep self.old who Place.ReadState }
+        ensures { Stepped self.old who Place.ReadState result self.new }
     {
-        let place = match self.load(Word::Node(seat.chain, seat.node, NodeField::State)) {
-            0 => first_round(seat.node),
+        let place = match self.load(Word::Node(who.chain, who.node, NodeField::State)) {
+            0 => first_round(who.node),
             1 => Place::ReadState,
             _ => Place::ReadAnswer,
         };
-        self.go(seat, place);
+        self.go(who, place);
         Kind::ReadState
     }
 
@@ -149,11 +146,11 @@ impl Board {
         }
     }
 
-    pub fn read_next(&mut self, seat: Seat, round: Round) -> Kind
-        requires { CanStep self.old seat (Place.ReadNext round) }
-        ensures { Stepped self.old seat (Place.ReadNext round) result self.new }
+    pub fn read_next(&mut self, who: Stepper, round: Round) -> Kind
+        requires { CanStep self.old who (Place.ReadNext round) }
+        ensures { Stepped self.old who (Place.ReadNext round) result self.new }
     {
-        let next = self.load(Word::Node(seat.chain, round.at, NodeField::Next));
+        let next = self.load(Word::Node(who.chain, round.at, NodeField::Next));
         let place = if next == 0 {
             Place::HandOver { at: round.at }
         } else {
@@ -161,38 +158,38 @@ impl Board {
                 round,
                 next: next - 1,
             };
-            self.serves(seat.chain, job)
+            self.serves(who.chain, job)
         };
-        self.go(seat, place);
+        self.go(who, place);
         Kind::ReadNext
     }
 
-    pub fn write_answer(&mut self, seat: Seat, job: Job, answer: Answer) -> Kind
-        requires { CanStep self.old seat (Place.WriteAnswer job answer) }
-        ensures { Stepped self.old seat (Place.WriteAnswer job answer) result self.new }
+    pub fn write_answer(&mut self, who: Stepper, job: Job, answer: Answer) -> Kind
+        requires { CanStep self.old who (Place.WriteAnswer job answer) }
+        ensures { Stepped self.old who (Place.WriteAnswer job answer) result self.new }
     {
         self.store(
-            Word::Node(seat.chain, job.round.at, NodeField::Ret),
+            Word::Node(who.chain, job.round.at, NodeField::Ret),
             ret_of(self.setting.served, answer),
         );
         let place = match answer {
             Answer::Take(TakeAnswer::Got(item)) => Place::WriteAnswerTag { job, item },
             _ => Place::MarkDone { job },
         };
-        self.go(seat, place);
+        self.go(who, place);
         Kind::WriteAnswer
     }
 
-    pub fn write_answer_tag(&mut self, seat: Seat, job: Job, item: Item) -> Kind
-        requires { CanStep self.old seat (Place.WriteAnswerTag job item) }
-        ensures { Stepped self.old seat (Place.WriteAnswerTag job item) result self.new }
+    pub fn write_answer_tag(&mut self, who: Stepper, job: Job, item: Item) -> Kind
+        requires { CanStep self.old who (Place.WriteAnswerTag job item) }
+        ensures { Stepped self.old who (Place.WriteAnswerTag job item) result self.new }
     {
         self.store(
-            Word::Node(seat.chain, job.round.at, NodeField::Tag),
+            Word::Node(who.chain, job.round.at, NodeField::Tag),
             tag_of(item),
         );
         self.go(
-            seat,
+            who,
             Place::WriteAnswerBody {
                 job,
                 item,
@@ -202,12 +199,12 @@ impl Board {
         Kind::WriteAnswer
     }
 
-    pub fn write_answer_body(&mut self, seat: Seat, job: Job, item: Item, index: u32) -> Kind
-        requires { CanStep self.old seat (Place.WriteAnswerBody job item index) }
-        ensures { Stepped self.old seat (Place.WriteAnswerBody job item index) result self.new }
+    pub fn write_answer_body(&mut self, who: Stepper, job: Job, item: Item, index: u32) -> Kind
+        requires { CanStep self.old who (Place.WriteAnswerBody job item index) }
+        ensures { Stepped self.old who (Place.WriteAnswerBody job item index) result self.new }
     {
         self.store(
-            Word::Node(seat.chain, job.round.at, NodeField::Body(index)),
+            Word::Node(who.chain, job.round.at, NodeField::Body(index)),
             body_words(item).word(index),
         );
         let place = if index < further_words(tag_of(item)) {
@@ -219,15 +216,15 @@ impl Board {
         } else {
             Place::MarkDone { job }
         };
-        self.go(seat, place);
+        self.go(who, place);
         Kind::WriteAnswer
     }
 
-    pub fn mark_done(&mut self, seat: Seat, job: Job) -> Kind
-        requires { CanStep self.old seat (Place.MarkDone job) }
-        ensures { Stepped self.old seat (Place.MarkDone job) result self.new }
+    pub fn mark_done(&mut self, who: Stepper, job: Job) -> Kind
+        requires { CanStep self.old who (Place.MarkDone job) }
+        ensures { Stepped self.old who (Place.MarkDone job) result self.new }
     {
-        self.store(Word::Node(seat.chain, job.round.at, NodeField::State), 2);
+        self.store(Word::Node(who.chain, job.round.at, NodeField::State), 2);
         let served = job.round.served + 1;
         let place = if served == self.setting.config.bound {
             Place::HandOver { at: job.next }
@@ -239,25 +236,25 @@ impl Board {
                 },
             }
         };
-        self.go(seat, place);
+        self.go(who, place);
         Kind::MarkDone
     }
 
-    pub fn hand_over(&mut self, seat: Seat, at: u64) -> Kind
-        requires { CanStep self.old seat (Place.HandOver at) }
-        ensures { Stepped self.old seat (Place.HandOver at) result self.new }
+    pub fn hand_over(&mut self, who: Stepper, at: u64) -> Kind
+        requires { CanStep self.old who (Place.HandOver at) }
+        ensures { Stepped self.old who (Place.HandOver at) result self.new }
     {
-        self.store(Word::Node(seat.chain, at, NodeField::State), 0);
-        self.go(seat, Place::ReadAnswer);
+        self.store(Word::Node(who.chain, at, NodeField::State), 0);
+        self.go(who, Place::ReadAnswer);
         Kind::HandOver
     }
 
-    pub fn read_answer(&mut self, seat: Seat) -> Kind
-        requires { CanStep self.old seat Place.ReadAnswer }
-        ensures { Stepped self.old seat Place.ReadAnswer result self.new }
+    pub fn read_answer(&mut self, who: Stepper) -> Kind
+        requires { CanStep self.old who Place.ReadAnswer }
+        ensures { Stepped self.old who Place.ReadAnswer result self.new }
     {
-        let ret = self.load(Word::Node(seat.chain, seat.node, NodeField::Ret));
-        let place = match seat.chain {
+        let ret = self.load(Word::Node(who.chain, who.node, NodeField::Ret));
+        let place = match who.chain {
             Chain::Send => Place::Finished {
                 answer: sender_reads(self.setting.served, ret),
             },
@@ -271,29 +268,29 @@ impl Board {
                 },
             },
         };
-        self.go(seat, place);
+        self.go(who, place);
         Kind::ReadAnswer
     }
 
-    pub fn read_answer_tag(&mut self, seat: Seat, place: u64) -> Kind
-        requires { CanStep self.old seat (Place.ReadAnswerTag place) }
-        ensures { Stepped self.old seat (Place.ReadAnswerTag place) result self.new }
+    pub fn read_answer_tag(&mut self, who: Stepper, place: u64) -> Kind
+        requires { CanStep self.old who (Place.ReadAnswerTag place) }
+        ensures { Stepped self.old who (Place.ReadAnswerTag place) result self.new }
     {
-        let tag = self.load(Word::Node(seat.chain, seat.node, NodeField::Tag));
+        let tag = self.load(Word::Node(who.chain, who.node, NodeField::Tag));
         let parcel = Parcel {
             place,
             tag,
             body: BodyWords::one(0),
         };
-        self.go(seat, Place::ReadAnswerBody { parcel, index: 0 });
+        self.go(who, Place::ReadAnswerBody { parcel, index: 0 });
         Kind::ReadAnswer
     }
 
-    pub fn read_answer_body(&mut self, seat: Seat, parcel: Parcel, index: u32) -> Kind
-        requires { CanStep self.old seat (Place.ReadAnswerBody parcel index) }
-        ensures { Stepped self.old seat (Place.ReadAnswerBody parcel index) result self.new }
+    pub fn read_answer_body(&mut self, who: Stepper, parcel: Parcel, index: u32) -> Kind
+        requires { CanStep self.old who (Place.ReadAnswerBody parcel index) }
+        ensures { Stepped self.old who (Place.ReadAnswerBody parcel index) result self.new }
     {
-        let found = self.load(Word::Node(seat.chain, seat.node, NodeField::Body(index)));
+        let found = self.load(Word::Node(who.chain, who.node, NodeField::Body(index)));
         let parcel = Parcel {
             body: parcel.body.with_word(index, found),
             ..parcel
@@ -309,7 +306,7 @@ impl Board {
                 answer: Answer::Take(TakeAnswer::Got(item)),
             }
         };
-        self.go(seat, place);
+        self.go(who, place);
         Kind::ReadAnswer
     }
 }

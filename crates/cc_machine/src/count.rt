@@ -1,18 +1,18 @@
 ghost use Rattle.cc_machine.specs.BoardSteps.{CanStep, Stepped};
 
-use crate::board::{Board, Seat};
+use crate::board::{Board, Stepper};
 use cc_model::{Answer, SendAnswer};
 use cc_runs::{Chain, Counting, Job, Kind, NodeField, Object, Place, Word, further_words};
 
 /// The steps of the combiner in the service of one request to the counter.
 impl Board {
-    fn read_count_tag(&mut self, seat: Seat, job: Job) -> Kind
-        requires { CanStep self.old seat (Place.Counting job Counting.ReadTag) }
-        ensures { Stepped self.old seat (Place.Counting job Counting.ReadTag) result self.new }
+    fn read_count_tag(&mut self, who: Stepper, job: Job) -> Kind
+        requires { CanStep self.old who (Place.Counting job Counting.ReadTag) }
+        ensures { Stepped self.old who (Place.Counting job Counting.ReadTag) result self.new }
     {
         let tag = self.load(Word::Node(Chain::Send, job.round.at, NodeField::Tag));
         self.go(
-            seat,
+            who,
             Place::Counting {
                 job,
                 service: Counting::ReadBody { tag, index: 0 },
@@ -21,9 +21,9 @@ impl Board {
         Kind::ReadRequest
     }
 
-    fn read_count_body(&mut self, seat: Seat, job: Job, tag: u64, index: u32) -> Kind
-        requires { CanStep self.old seat (Place.Counting job (Counting.ReadBody tag index)) }
-        ensures { Stepped self.old seat (Place.Counting job (Counting.ReadBody tag index)) result self.new }
+    fn read_count_body(&mut self, who: Stepper, job: Job, tag: u64, index: u32) -> Kind
+        requires { CanStep self.old who (Place.Counting job (Counting.ReadBody tag index)) }
+        ensures { Stepped self.old who (Place.Counting job (Counting.ReadBody tag index)) result self.new }
     {
         let _word = self.load(Word::Node(Chain::Send, job.round.at, NodeField::Body(index)));
         let service = if index < further_words(tag) {
@@ -34,17 +34,17 @@ impl Board {
         } else {
             Counting::ReadCount
         };
-        self.go(seat, Place::Counting { job, service });
+        self.go(who, Place::Counting { job, service });
         Kind::ReadRequest
     }
 
-    fn read_number(&mut self, seat: Seat, job: Job) -> Kind
-        requires { CanStep self.old seat (Place.Counting job Counting.ReadCount) }
-        ensures { Stepped self.old seat (Place.Counting job Counting.ReadCount) result self.new }
+    fn read_number(&mut self, who: Stepper, job: Job) -> Kind
+        requires { CanStep self.old who (Place.Counting job Counting.ReadCount) }
+        ensures { Stepped self.old who (Place.Counting job Counting.ReadCount) result self.new }
     {
         let count = self.load(Word::Object(Object::Count));
         self.go(
-            seat,
+            who,
             Place::Counting {
                 job,
                 service: Counting::WriteCount { count },
@@ -53,26 +53,26 @@ impl Board {
         Kind::ReadObject
     }
 
-    fn write_number(&mut self, seat: Seat, job: Job, count: u64) -> Kind
-        requires { CanStep self.old seat (Place.Counting job (Counting.WriteCount count)) }
-        ensures { Stepped self.old seat (Place.Counting job (Counting.WriteCount count)) result self.new }
+    fn write_number(&mut self, who: Stepper, job: Job, count: u64) -> Kind
+        requires { CanStep self.old who (Place.Counting job (Counting.WriteCount count)) }
+        ensures { Stepped self.old who (Place.Counting job (Counting.WriteCount count)) result self.new }
     {
         let answer = Answer::Send(SendAnswer::Accepted { place: count });
-        self.decide(seat.chain, answer);
+        self.decide(who.chain, answer);
         self.store(Word::Object(Object::Count), count + 1);
-        self.go(seat, Place::WriteAnswer { job, answer });
+        self.go(who, Place::WriteAnswer { job, answer });
         Kind::WriteObject
     }
 
-    pub fn count(&mut self, seat: Seat, job: Job, service: Counting) -> Kind
-        requires { CanStep self.old seat (Place.Counting job service) }
-        ensures { Stepped self.old seat (Place.Counting job service) result self.new }
+    pub fn count(&mut self, who: Stepper, job: Job, service: Counting) -> Kind
+        requires { CanStep self.old who (Place.Counting job service) }
+        ensures { Stepped self.old who (Place.Counting job service) result self.new }
     {
         match service {
-            Counting::ReadTag => self.read_count_tag(seat, job),
-            Counting::ReadBody { tag, index } => self.read_count_body(seat, job, tag, index),
-            Counting::ReadCount => self.read_number(seat, job),
-            Counting::WriteCount { count } => self.write_number(seat, job, count),
+            Counting::ReadTag => self.read_count_tag(who, job),
+            Counting::ReadBody { tag, index } => self.read_count_body(who, job, tag, index),
+            Counting::ReadCount => self.read_number(who, job),
+            Counting::WriteCount { count } => self.write_number(who, job, count),
         }
     }
 }

@@ -1,10 +1,10 @@
 ghost use Rattle.std.specs.Prelude.{◌≡◌, ◌<◌, ◌/◌, ℕ, Some, length, IfSome, IfNone};
-ghost use Rattle.cc_machine.specs.BoardSteps.{state_of, IsLaid, CanStep, Stepped, seat_at, Moved};
+ghost use Rattle.cc_machine.specs.BoardSteps.{state_of, IsLaid, CanStep, Stepped, stepper_at, Moved};
 ghost use Rattle.cc_runs.specs.State.{chain_of};
 ghost use Rattle.cc_runs.specs.Lines.{event_at, group_of};
 ghost use Rattle.cc_machine.specs.Machine.{index_of, waits_at};
 
-use crate::board::{Board, Seat};
+use crate::board::{Board, Stepper};
 use crate::row::row;
 use cc_model::Pass;
 use cc_runs::{Chain, Event, Kind, NodeField, Place, Stand, Word};
@@ -59,7 +59,7 @@ impl Board {
     /// Whether the next step of a pass reads a state that still waits.
     pub fn is_waiting(&self, pass: usize) -> bool
         requires pass { pass < length self.now.stands.items }
-        requires can { CanStep self.now (seat_at self.now pass) ((state_of self.now).stand pass).place }
+        requires can { CanStep self.now (stepper_at self.now pass) ((state_of self.now).stand pass).place }
         ensures { result ≡ waits_at self.now.setting (state_of self.now) pass ((state_of self.now).stand pass).place }
     {
         let stand = self.stand(pass);
@@ -69,40 +69,40 @@ impl Board {
         self.load(Word::Node(self.chain(pass), stand.node, NodeField::State)) == 1
     }
 
-    fn step(&mut self, seat: Seat, place: Place) -> Option<Kind>
-        requires { CanStep self.old seat place }
-        ensures some { IfSome result (λ kind. Stepped self.old seat place kind self.new) }
+    fn step(&mut self, who: Stepper, place: Place) -> Option<Kind>
+        requires { CanStep self.old who place }
+        ensures some { IfSome result (λ kind. Stepped self.old who place kind self.new) }
         ensures none { IfNone result (self.new ≡ self.old) }
         ensures idle { IfNone result (event_at place ≡ Event.Idle) }
     {
         match place {
-            Place::ResetNext { call } => Some(self.reset_next(seat, call)),
-            Place::ResetState { call } => Some(self.reset_state(seat, call)),
-            Place::Exchange { call } => Some(self.exchange(seat, call)),
-            Place::WriteTag { put, request } => Some(self.write_tag(seat, put, request)),
+            Place::ResetNext { call } => Some(self.reset_next(who, call)),
+            Place::ResetState { call } => Some(self.reset_state(who, call)),
+            Place::Exchange { call } => Some(self.exchange(who, call)),
+            Place::WriteTag { put, request } => Some(self.write_tag(who, put, request)),
             Place::WriteBody {
                 put,
                 request,
                 index,
-            } => Some(self.write_body(seat, put, request, index)),
-            Place::Link { put } => Some(self.link(seat, put)),
-            Place::ReadState => Some(self.read_state(seat)),
-            Place::ReadNext { round } => Some(self.read_next(seat, round)),
-            Place::WriteAnswer { job, answer } => Some(self.write_answer(seat, job, answer)),
-            Place::WriteAnswerTag { job, item } => Some(self.write_answer_tag(seat, job, item)),
+            } => Some(self.write_body(who, put, request, index)),
+            Place::Link { put } => Some(self.link(who, put)),
+            Place::ReadState => Some(self.read_state(who)),
+            Place::ReadNext { round } => Some(self.read_next(who, round)),
+            Place::WriteAnswer { job, answer } => Some(self.write_answer(who, job, answer)),
+            Place::WriteAnswerTag { job, item } => Some(self.write_answer_tag(who, job, item)),
             Place::WriteAnswerBody { job, item, index } => {
-                Some(self.write_answer_body(seat, job, item, index))
+                Some(self.write_answer_body(who, job, item, index))
             }
-            Place::MarkDone { job } => Some(self.mark_done(seat, job)),
-            Place::HandOver { at } => Some(self.hand_over(seat, at)),
-            Place::ReadAnswer => Some(self.read_answer(seat)),
-            Place::ReadAnswerTag { place } => Some(self.read_answer_tag(seat, place)),
+            Place::MarkDone { job } => Some(self.mark_done(who, job)),
+            Place::HandOver { at } => Some(self.hand_over(who, at)),
+            Place::ReadAnswer => Some(self.read_answer(who)),
+            Place::ReadAnswerTag { place } => Some(self.read_answer_tag(who, place)),
             Place::ReadAnswerBody { parcel, index } => {
-                Some(self.read_answer_body(seat, parcel, index))
+                Some(self.read_answer_body(who, parcel, index))
             }
-            Place::Counting { job, service } => Some(self.count(seat, job, service)),
-            Place::Sending { job, service } => Some(self.send(seat, job, service)),
-            Place::Taking { job, service } => Some(self.take(seat, job, service)),
+            Place::Counting { job, service } => Some(self.count(who, job, service)),
+            Place::Sending { job, service } => Some(self.send(who, job, service)),
+            Place::Taking { job, service } => Some(self.take(who, job, service)),
             Place::Idle | Place::Finished { .. } => None,
         }
     }
@@ -110,17 +110,17 @@ impl Board {
     /// The next atomic step of a pass, where it has one.
     pub fn event(&mut self, pass: usize) -> Event
         requires pass { pass < length self.old.stands.items }
-        requires can { CanStep self.old (seat_at self.old pass) ((state_of self.old).stand pass).place }
+        requires can { CanStep self.old (stepper_at self.old pass) ((state_of self.old).stand pass).place }
         ensures { Moved self.old pass result self.new }
     {
         let stand = self.stand(pass);
-        let seat = Seat {
+        let who = Stepper {
             pass,
             chain: self.chain(pass),
             begun: stand.begun,
             node: stand.node,
         };
-        match self.step(seat, stand.place) {
+        match self.step(who, stand.place) {
             Some(kind) => Event::Did(kind),
             None => Event::Idle,
         }

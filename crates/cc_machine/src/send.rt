@@ -1,6 +1,6 @@
 ghost use Rattle.cc_machine.specs.BoardSteps.{CanStep, Stepped};
 
-use crate::board::{Board, Seat};
+use crate::board::{Board, Stepper};
 use cc_model::{Answer, CloseAnswer, SendAnswer};
 use cc_runs::{
     BodyWords, Chain, ItemField, Job, Kind, NodeField, Object, Parcel, Place, Request, Sending,
@@ -9,9 +9,9 @@ use cc_runs::{
 
 /// The steps of the senders' combiner in the service of one request.
 impl Board {
-    fn read_tag(&mut self, seat: Seat, job: Job) -> Kind
-        requires { CanStep self.old seat (Place.Sending job Sending.ReadTag) }
-        ensures { Stepped self.old seat (Place.Sending job Sending.ReadTag) result self.new }
+    fn read_tag(&mut self, who: Stepper, job: Job) -> Kind
+        requires { CanStep self.old who (Place.Sending job Sending.ReadTag) }
+        ensures { Stepped self.old who (Place.Sending job Sending.ReadTag) result self.new }
     {
         let tag = self.load(Word::Node(Chain::Send, job.round.at, NodeField::Tag));
         let request = Request {
@@ -19,7 +19,7 @@ impl Board {
             body: BodyWords::one(0),
         };
         self.go(
-            seat,
+            who,
             Place::Sending {
                 job,
                 service: Sending::ReadBody { request, index: 0 },
@@ -28,9 +28,9 @@ impl Board {
         Kind::ReadRequest
     }
 
-    fn read_body(&mut self, seat: Seat, job: Job, request: Request, index: u32) -> Kind
-        requires { CanStep self.old seat (Place.Sending job (Sending.ReadBody request index)) }
-        ensures { Stepped self.old seat (Place.Sending job (Sending.ReadBody request index)) result self.new }
+    fn read_body(&mut self, who: Stepper, job: Job, request: Request, index: u32) -> Kind
+        requires { CanStep self.old who (Place.Sending job (Sending.ReadBody request index)) }
+        ensures { Stepped self.old who (Place.Sending job (Sending.ReadBody request index)) result self.new }
     {
         let found = self.load(Word::Node(Chain::Send, job.round.at, NodeField::Body(index)));
         let request = Request {
@@ -45,14 +45,14 @@ impl Board {
         } else {
             Sending::ReadShut { request }
         };
-        self.go(seat, Place::Sending { job, service });
+        self.go(who, Place::Sending { job, service });
         Kind::ReadRequest
     }
 
     #[tactic(auto, using(cc_runs::proofs::Chains::Facts::noted_none))]
-    fn read_shut(&mut self, seat: Seat, job: Job, request: Request) -> Kind
-        requires { CanStep self.old seat (Place.Sending job (Sending.ReadShut request)) }
-        ensures { Stepped self.old seat (Place.Sending job (Sending.ReadShut request)) result self.new }
+    fn read_shut(&mut self, who: Stepper, job: Job, request: Request) -> Kind
+        requires { CanStep self.old who (Place.Sending job (Sending.ReadShut request)) }
+        ensures { Stepped self.old who (Place.Sending job (Sending.ReadShut request)) result self.new }
     {
         let place = if self.load(Word::Object(Object::Shut)) == 0 {
             Place::Sending {
@@ -66,28 +66,28 @@ impl Board {
             }
         } else {
             let answer = Answer::Send(SendAnswer::Closed);
-            self.decide(seat.chain, answer);
+            self.decide(who.chain, answer);
             Place::WriteAnswer { job, answer }
         };
-        self.go(seat, place);
+        self.go(who, place);
         Kind::ReadObject
     }
 
-    fn read_total(&mut self, seat: Seat, job: Job) -> Kind
-        requires { CanStep self.old seat (Place.Sending job Sending.ReadTotal) }
-        ensures { Stepped self.old seat (Place.Sending job Sending.ReadTotal) result self.new }
+    fn read_total(&mut self, who: Stepper, job: Job) -> Kind
+        requires { CanStep self.old who (Place.Sending job Sending.ReadTotal) }
+        ensures { Stepped self.old who (Place.Sending job Sending.ReadTotal) result self.new }
     {
         let total = self.load(Word::Object(Object::Count));
         let answer = Answer::Close(CloseAnswer::Already { total });
-        self.decide(seat.chain, answer);
-        self.go(seat, Place::WriteAnswer { job, answer });
+        self.decide(who.chain, answer);
+        self.go(who, Place::WriteAnswer { job, answer });
         Kind::ReadObject
     }
 
     #[tactic(auto, using(cc_runs::proofs::Chains::Facts::noted_none))]
-    fn read_count(&mut self, seat: Seat, job: Job, request: Request) -> Kind
-        requires { CanStep self.old seat (Place.Sending job (Sending.ReadCount request)) }
-        ensures { Stepped self.old seat (Place.Sending job (Sending.ReadCount request)) result self.new }
+    fn read_count(&mut self, who: Stepper, job: Job, request: Request) -> Kind
+        requires { CanStep self.old who (Place.Sending job (Sending.ReadCount request)) }
+        ensures { Stepped self.old who (Place.Sending job (Sending.ReadCount request)) result self.new }
     {
         let count = self.load(Word::Object(Object::Count));
         let place = if request.tag == 0 {
@@ -97,7 +97,7 @@ impl Board {
             }
         } else if count == self.setting.config.life {
             let answer = Answer::Send(SendAnswer::Spent);
-            self.decide(seat.chain, answer);
+            self.decide(who.chain, answer);
             Place::WriteAnswer { job, answer }
         } else {
             let parcel = Parcel {
@@ -110,17 +110,17 @@ impl Board {
                 service: Sending::ReadCursor { parcel },
             }
         };
-        self.go(seat, place);
+        self.go(who, place);
         Kind::ReadObject
     }
 
-    fn read_last_to_close(&mut self, seat: Seat, job: Job, total: u64) -> Kind
-        requires { CanStep self.old seat (Place.Sending job (Sending.ReadLastToClose total)) }
-        ensures { Stepped self.old seat (Place.Sending job (Sending.ReadLastToClose total)) result self.new }
+    fn read_last_to_close(&mut self, who: Stepper, job: Job, total: u64) -> Kind
+        requires { CanStep self.old who (Place.Sending job (Sending.ReadLastToClose total)) }
+        ensures { Stepped self.old who (Place.Sending job (Sending.ReadLastToClose total)) result self.new }
     {
         let last = self.load(Word::Object(Object::Last));
         self.go(
-            seat,
+            who,
             Place::Sending {
                 job,
                 service: Sending::LinkMark {
@@ -132,16 +132,16 @@ impl Board {
         Kind::ReadObject
     }
 
-    fn link_mark(&mut self, seat: Seat, job: Job, total: u64, last: u64) -> Kind
-        requires { CanStep self.old seat (Place.Sending job (Sending.LinkMark total last)) }
-        ensures { Stepped self.old seat (Place.Sending job (Sending.LinkMark total last)) result self.new }
+    fn link_mark(&mut self, who: Stepper, job: Job, total: u64, last: u64) -> Kind
+        requires { CanStep self.old who (Place.Sending job (Sending.LinkMark total last)) }
+        ensures { Stepped self.old who (Place.Sending job (Sending.LinkMark total last)) result self.new }
     {
         let answer = Answer::Close(CloseAnswer::Shut { total });
-        self.decide(seat.chain, answer);
+        self.decide(who.chain, answer);
         let mark = self.setting.config.capacity as u64 + 1;
         self.store(Word::Item(last, ItemField::Next), mark + 1);
         self.go(
-            seat,
+            who,
             Place::Sending {
                 job,
                 service: Sending::WriteLastMark { total },
@@ -150,14 +150,14 @@ impl Board {
         Kind::LinkLast
     }
 
-    fn write_last_mark(&mut self, seat: Seat, job: Job, total: u64) -> Kind
-        requires { CanStep self.old seat (Place.Sending job (Sending.WriteLastMark total)) }
-        ensures { Stepped self.old seat (Place.Sending job (Sending.WriteLastMark total)) result self.new }
+    fn write_last_mark(&mut self, who: Stepper, job: Job, total: u64) -> Kind
+        requires { CanStep self.old who (Place.Sending job (Sending.WriteLastMark total)) }
+        ensures { Stepped self.old who (Place.Sending job (Sending.WriteLastMark total)) result self.new }
     {
         let mark = self.setting.config.capacity as u64 + 1;
         self.store(Word::Object(Object::Last), mark + 1);
         self.go(
-            seat,
+            who,
             Place::Sending {
                 job,
                 service: Sending::WriteShut { total },
@@ -166,23 +166,23 @@ impl Board {
         Kind::WriteObject
     }
 
-    fn write_shut(&mut self, seat: Seat, job: Job, total: u64) -> Kind
-        requires { CanStep self.old seat (Place.Sending job (Sending.WriteShut total)) }
-        ensures { Stepped self.old seat (Place.Sending job (Sending.WriteShut total)) result self.new }
+    fn write_shut(&mut self, who: Stepper, job: Job, total: u64) -> Kind
+        requires { CanStep self.old who (Place.Sending job (Sending.WriteShut total)) }
+        ensures { Stepped self.old who (Place.Sending job (Sending.WriteShut total)) result self.new }
     {
         self.store(Word::Object(Object::Shut), 1);
         let answer = Answer::Close(CloseAnswer::Shut { total });
-        self.go(seat, Place::WriteAnswer { job, answer });
+        self.go(who, Place::WriteAnswer { job, answer });
         Kind::WriteObject
     }
 
-    fn read_cursor(&mut self, seat: Seat, job: Job, parcel: Parcel) -> Kind
-        requires { CanStep self.old seat (Place.Sending job (Sending.ReadCursor parcel)) }
-        ensures { Stepped self.old seat (Place.Sending job (Sending.ReadCursor parcel)) result self.new }
+    fn read_cursor(&mut self, who: Stepper, job: Job, parcel: Parcel) -> Kind
+        requires { CanStep self.old who (Place.Sending job (Sending.ReadCursor parcel)) }
+        ensures { Stepped self.old who (Place.Sending job (Sending.ReadCursor parcel)) result self.new }
     {
         let node = self.load(Word::Object(Object::Cursor));
         self.go(
-            seat,
+            who,
             Place::Sending {
                 job,
                 service: Sending::ReadPassed {
@@ -196,9 +196,9 @@ impl Board {
     }
 
     #[tactic(auto, using(cc_runs::proofs::Chains::Facts::noted_none))]
-    fn read_passed(&mut self, seat: Seat, job: Job, parcel: Parcel, node: u64, reads: u32) -> Kind
-        requires { CanStep self.old seat (Place.Sending job (Sending.ReadPassed parcel node reads)) }
-        ensures { Stepped self.old seat (Place.Sending job (Sending.ReadPassed parcel node reads)) result self.new }
+    fn read_passed(&mut self, who: Stepper, job: Job, parcel: Parcel, node: u64, reads: u32) -> Kind
+        requires { CanStep self.old who (Place.Sending job (Sending.ReadPassed parcel node reads)) }
+        ensures { Stepped self.old who (Place.Sending job (Sending.ReadPassed parcel node reads)) result self.new }
     {
         let ordinary = self.setting.config.capacity as u64 + 1;
         let place = if self.load(Word::Item(node, ItemField::Passed))
@@ -210,7 +210,7 @@ impl Board {
             }
         } else if reads as u64 == ordinary {
             let answer = Answer::Send(SendAnswer::Full);
-            self.decide(seat.chain, answer);
+            self.decide(who.chain, answer);
             Place::WriteAnswer { job, answer }
         } else {
             let node = node_after(node, ordinary);
@@ -223,17 +223,17 @@ impl Board {
                 },
             }
         };
-        self.go(seat, place);
+        self.go(who, place);
         Kind::ReadPassed
     }
 
-    fn reset_passed(&mut self, seat: Seat, job: Job, parcel: Parcel, node: u64) -> Kind
-        requires { CanStep self.old seat (Place.Sending job (Sending.ResetPassed parcel node)) }
-        ensures { Stepped self.old seat (Place.Sending job (Sending.ResetPassed parcel node)) result self.new }
+    fn reset_passed(&mut self, who: Stepper, job: Job, parcel: Parcel, node: u64) -> Kind
+        requires { CanStep self.old who (Place.Sending job (Sending.ResetPassed parcel node)) }
+        ensures { Stepped self.old who (Place.Sending job (Sending.ResetPassed parcel node)) result self.new }
     {
         self.store(Word::Item(node, ItemField::Passed), 0);
         self.go(
-            seat,
+            who,
             Place::Sending {
                 job,
                 service: Sending::ResetItemNext { parcel, node },
@@ -242,13 +242,13 @@ impl Board {
         Kind::ResetListNode
     }
 
-    fn reset_item_next(&mut self, seat: Seat, job: Job, parcel: Parcel, node: u64) -> Kind
-        requires { CanStep self.old seat (Place.Sending job (Sending.ResetItemNext parcel node)) }
-        ensures { Stepped self.old seat (Place.Sending job (Sending.ResetItemNext parcel node)) result self.new }
+    fn reset_item_next(&mut self, who: Stepper, job: Job, parcel: Parcel, node: u64) -> Kind
+        requires { CanStep self.old who (Place.Sending job (Sending.ResetItemNext parcel node)) }
+        ensures { Stepped self.old who (Place.Sending job (Sending.ResetItemNext parcel node)) result self.new }
     {
         self.store(Word::Item(node, ItemField::Next), 0);
         self.go(
-            seat,
+            who,
             Place::Sending {
                 job,
                 service: Sending::WriteItemTag { parcel, node },
@@ -257,13 +257,13 @@ impl Board {
         Kind::ResetListNode
     }
 
-    fn write_item_tag(&mut self, seat: Seat, job: Job, parcel: Parcel, node: u64) -> Kind
-        requires { CanStep self.old seat (Place.Sending job (Sending.WriteItemTag parcel node)) }
-        ensures { Stepped self.old seat (Place.Sending job (Sending.WriteItemTag parcel node)) result self.new }
+    fn write_item_tag(&mut self, who: Stepper, job: Job, parcel: Parcel, node: u64) -> Kind
+        requires { CanStep self.old who (Place.Sending job (Sending.WriteItemTag parcel node)) }
+        ensures { Stepped self.old who (Place.Sending job (Sending.WriteItemTag parcel node)) result self.new }
     {
         self.store(Word::Item(node, ItemField::Tag), parcel.tag);
         self.go(
-            seat,
+            who,
             Place::Sending {
                 job,
                 service: Sending::WriteItemBody {
@@ -278,14 +278,14 @@ impl Board {
 
     fn write_item_body(
         &mut self,
-        seat: Seat,
+        who: Stepper,
         job: Job,
         parcel: Parcel,
         node: u64,
         index: u32,
     ) -> Kind
-        requires { CanStep self.old seat (Place.Sending job (Sending.WriteItemBody parcel node index)) }
-        ensures { Stepped self.old seat (Place.Sending job (Sending.WriteItemBody parcel node index)) result self.new }
+        requires { CanStep self.old who (Place.Sending job (Sending.WriteItemBody parcel node index)) }
+        ensures { Stepped self.old who (Place.Sending job (Sending.WriteItemBody parcel node index)) result self.new }
     {
         self.store(
             Word::Item(node, ItemField::Body(index)),
@@ -303,17 +303,17 @@ impl Board {
                 node,
             }
         };
-        self.go(seat, Place::Sending { job, service });
+        self.go(who, Place::Sending { job, service });
         Kind::WriteItem
     }
 
-    fn read_last(&mut self, seat: Seat, job: Job, place: u64, node: u64) -> Kind
-        requires { CanStep self.old seat (Place.Sending job (Sending.ReadLast place node)) }
-        ensures { Stepped self.old seat (Place.Sending job (Sending.ReadLast place node)) result self.new }
+    fn read_last(&mut self, who: Stepper, job: Job, place: u64, node: u64) -> Kind
+        requires { CanStep self.old who (Place.Sending job (Sending.ReadLast place node)) }
+        ensures { Stepped self.old who (Place.Sending job (Sending.ReadLast place node)) result self.new }
     {
         let last = self.load(Word::Object(Object::Last));
         self.go(
-            seat,
+            who,
             Place::Sending {
                 job,
                 service: Sending::LinkItem {
@@ -326,15 +326,15 @@ impl Board {
         Kind::ReadObject
     }
 
-    fn link_item(&mut self, seat: Seat, job: Job, place: u64, node: u64, last: u64) -> Kind
-        requires { CanStep self.old seat (Place.Sending job (Sending.LinkItem place node last)) }
-        ensures { Stepped self.old seat (Place.Sending job (Sending.LinkItem place node last)) result self.new }
+    fn link_item(&mut self, who: Stepper, job: Job, place: u64, node: u64, last: u64) -> Kind
+        requires { CanStep self.old who (Place.Sending job (Sending.LinkItem place node last)) }
+        ensures { Stepped self.old who (Place.Sending job (Sending.LinkItem place node last)) result self.new }
     {
         let answer = Answer::Send(SendAnswer::Accepted { place });
-        self.decide(seat.chain, answer);
+        self.decide(who.chain, answer);
         self.store(Word::Item(last, ItemField::Next), node + 1);
         self.go(
-            seat,
+            who,
             Place::Sending {
                 job,
                 service: Sending::WriteLast { place, node },
@@ -343,13 +343,13 @@ impl Board {
         Kind::LinkLast
     }
 
-    fn write_last(&mut self, seat: Seat, job: Job, place: u64, node: u64) -> Kind
-        requires { CanStep self.old seat (Place.Sending job (Sending.WriteLast place node)) }
-        ensures { Stepped self.old seat (Place.Sending job (Sending.WriteLast place node)) result self.new }
+    fn write_last(&mut self, who: Stepper, job: Job, place: u64, node: u64) -> Kind
+        requires { CanStep self.old who (Place.Sending job (Sending.WriteLast place node)) }
+        ensures { Stepped self.old who (Place.Sending job (Sending.WriteLast place node)) result self.new }
     {
         self.store(Word::Object(Object::Last), node + 1);
         self.go(
-            seat,
+            who,
             Place::Sending {
                 job,
                 service: Sending::WriteCount { place, node },
@@ -358,13 +358,13 @@ impl Board {
         Kind::WriteObject
     }
 
-    fn write_count(&mut self, seat: Seat, job: Job, place: u64, node: u64) -> Kind
-        requires { CanStep self.old seat (Place.Sending job (Sending.WriteCount place node)) }
-        ensures { Stepped self.old seat (Place.Sending job (Sending.WriteCount place node)) result self.new }
+    fn write_count(&mut self, who: Stepper, job: Job, place: u64, node: u64) -> Kind
+        requires { CanStep self.old who (Place.Sending job (Sending.WriteCount place node)) }
+        ensures { Stepped self.old who (Place.Sending job (Sending.WriteCount place node)) result self.new }
     {
         self.store(Word::Object(Object::Count), place + 1);
         self.go(
-            seat,
+            who,
             Place::Sending {
                 job,
                 service: Sending::WriteCursor { place, node },
@@ -373,52 +373,50 @@ impl Board {
         Kind::WriteObject
     }
 
-    fn write_cursor(&mut self, seat: Seat, job: Job, place: u64, node: u64) -> Kind
-        requires { CanStep self.old seat (Place.Sending job (Sending.WriteCursor place node)) }
-        ensures { Stepped self.old seat (Place.Sending job (Sending.WriteCursor place node)) result self.new }
+    fn write_cursor(&mut self, who: Stepper, job: Job, place: u64, node: u64) -> Kind
+        requires { CanStep self.old who (Place.Sending job (Sending.WriteCursor place node)) }
+        ensures { Stepped self.old who (Place.Sending job (Sending.WriteCursor place node)) result self.new }
     {
         let ordinary = self.setting.config.capacity as u64 + 1;
         self.store(Word::Object(Object::Cursor), node_after(node, ordinary));
         let answer = Answer::Send(SendAnswer::Accepted { place });
-        self.go(seat, Place::WriteAnswer { job, answer });
+        self.go(who, Place::WriteAnswer { job, answer });
         Kind::WriteObject
     }
 
-    pub fn send(&mut self, seat: Seat, job: Job, service: Sending) -> Kind
-        requires { CanStep self.old seat (Place.Sending job service) }
-        ensures { Stepped self.old seat (Place.Sending job service) result self.new }
+    pub fn send(&mut self, who: Stepper, job: Job, service: Sending) -> Kind
+        requires { CanStep self.old who (Place.Sending job service) }
+        ensures { Stepped self.old who (Place.Sending job service) result self.new }
     {
         match service {
-            Sending::ReadTag => self.read_tag(seat, job),
-            Sending::ReadBody { request, index } => self.read_body(seat, job, request, index),
-            Sending::ReadShut { request } => self.read_shut(seat, job, request),
-            Sending::ReadTotal => self.read_total(seat, job),
-            Sending::ReadCount { request } => self.read_count(seat, job, request),
-            Sending::ReadLastToClose { total } => self.read_last_to_close(seat, job, total),
-            Sending::LinkMark { total, last } => self.link_mark(seat, job, total, last),
-            Sending::WriteLastMark { total } => self.write_last_mark(seat, job, total),
-            Sending::WriteShut { total } => self.write_shut(seat, job, total),
-            Sending::ReadCursor { parcel } => self.read_cursor(seat, job, parcel),
+            Sending::ReadTag => self.read_tag(who, job),
+            Sending::ReadBody { request, index } => self.read_body(who, job, request, index),
+            Sending::ReadShut { request } => self.read_shut(who, job, request),
+            Sending::ReadTotal => self.read_total(who, job),
+            Sending::ReadCount { request } => self.read_count(who, job, request),
+            Sending::ReadLastToClose { total } => self.read_last_to_close(who, job, total),
+            Sending::LinkMark { total, last } => self.link_mark(who, job, total, last),
+            Sending::WriteLastMark { total } => self.write_last_mark(who, job, total),
+            Sending::WriteShut { total } => self.write_shut(who, job, total),
+            Sending::ReadCursor { parcel } => self.read_cursor(who, job, parcel),
             Sending::ReadPassed {
                 parcel,
                 node,
                 reads,
-            } => self.read_passed(seat, job, parcel, node, reads),
-            Sending::ResetPassed { parcel, node } => self.reset_passed(seat, job, parcel, node),
-            Sending::ResetItemNext { parcel, node } => self.reset_item_next(
-                seat, job, parcel, node,
-            ),
-            Sending::WriteItemTag { parcel, node } => self.write_item_tag(seat, job, parcel, node),
+            } => self.read_passed(who, job, parcel, node, reads),
+            Sending::ResetPassed { parcel, node } => self.reset_passed(who, job, parcel, node),
+            Sending::ResetItemNext { parcel, node } => self.reset_item_next(who, job, parcel, node),
+            Sending::WriteItemTag { parcel, node } => self.write_item_tag(who, job, parcel, node),
             Sending::WriteItemBody {
                 parcel,
                 node,
                 index,
-            } => self.write_item_body(seat, job, parcel, node, index),
-            Sending::ReadLast { place, node } => self.read_last(seat, job, place, node),
-            Sending::LinkItem { place, node, last } => self.link_item(seat, job, place, node, last),
-            Sending::WriteLast { place, node } => self.write_last(seat, job, place, node),
-            Sending::WriteCount { place, node } => self.write_count(seat, job, place, node),
-            Sending::WriteCursor { place, node } => self.write_cursor(seat, job, place, node),
+            } => self.write_item_body(who, job, parcel, node, index),
+            Sending::ReadLast { place, node } => self.read_last(who, job, place, node),
+            Sending::LinkItem { place, node, last } => self.link_item(who, job, place, node, last),
+            Sending::WriteLast { place, node } => self.write_last(who, job, place, node),
+            Sending::WriteCount { place, node } => self.write_count(who, job, place, node),
+            Sending::WriteCursor { place, node } => self.write_cursor(who, job, place, node),
         }
     }
 }

@@ -1,6 +1,6 @@
 ghost use Rattle.cc_machine.specs.BoardSteps.{CanStep, Stepped};
 
-use crate::board::{Board, Seat};
+use crate::board::{Board, Stepper};
 use cc_model::{Answer, TakeAnswer};
 use cc_runs::{
     BodyWords, ItemField, Job, Kind, Object, Parcel, Place, Taking, Word, further_words, item_of,
@@ -8,13 +8,13 @@ use cc_runs::{
 
 /// The steps of a group's combiner in the service of one take.
 impl Board {
-    fn read_head(&mut self, seat: Seat, job: Job) -> Kind
-        requires { CanStep self.old seat (Place.Taking job Taking.ReadHead) }
-        ensures { Stepped self.old seat (Place.Taking job Taking.ReadHead) result self.new }
+    fn read_head(&mut self, who: Stepper, job: Job) -> Kind
+        requires { CanStep self.old who (Place.Taking job Taking.ReadHead) }
+        ensures { Stepped self.old who (Place.Taking job Taking.ReadHead) result self.new }
     {
-        let head = self.load(Word::Object(Object::Head(seat.group())));
+        let head = self.load(Word::Object(Object::Head(who.group())));
         self.go(
-            seat,
+            who,
             Place::Taking {
                 job,
                 service: Taking::ReadTaken { dummy: head - 1 },
@@ -23,13 +23,13 @@ impl Board {
         Kind::ReadObject
     }
 
-    fn read_taken(&mut self, seat: Seat, job: Job, dummy: u64) -> Kind
-        requires { CanStep self.old seat (Place.Taking job (Taking.ReadTaken dummy)) }
-        ensures { Stepped self.old seat (Place.Taking job (Taking.ReadTaken dummy)) result self.new }
+    fn read_taken(&mut self, who: Stepper, job: Job, dummy: u64) -> Kind
+        requires { CanStep self.old who (Place.Taking job (Taking.ReadTaken dummy)) }
+        ensures { Stepped self.old who (Place.Taking job (Taking.ReadTaken dummy)) result self.new }
     {
-        let taken = self.load(Word::Object(Object::Taken(seat.group())));
+        let taken = self.load(Word::Object(Object::Taken(who.group())));
         self.go(
-            seat,
+            who,
             Place::Taking {
                 job,
                 service: Taking::ReadDummyNext { dummy, taken },
@@ -39,14 +39,14 @@ impl Board {
     }
 
     #[tactic(auto, using(cc_runs::proofs::Chains::Facts::noted_none))]
-    fn read_dummy_next(&mut self, seat: Seat, job: Job, dummy: u64, taken: u64) -> Kind
-        requires { CanStep self.old seat (Place.Taking job (Taking.ReadDummyNext dummy taken)) }
-        ensures { Stepped self.old seat (Place.Taking job (Taking.ReadDummyNext dummy taken)) result self.new }
+    fn read_dummy_next(&mut self, who: Stepper, job: Job, dummy: u64, taken: u64) -> Kind
+        requires { CanStep self.old who (Place.Taking job (Taking.ReadDummyNext dummy taken)) }
+        ensures { Stepped self.old who (Place.Taking job (Taking.ReadDummyNext dummy taken)) result self.new }
     {
         let next = self.load(Word::Item(dummy, ItemField::Next));
         let place = if next == 0 {
             let answer = Answer::Take(TakeAnswer::Empty);
-            self.decide(seat.chain, answer);
+            self.decide(who.chain, answer);
             Place::WriteAnswer { job, answer }
         } else {
             Place::Taking {
@@ -58,19 +58,19 @@ impl Board {
                 },
             }
         };
-        self.go(seat, place);
+        self.go(who, place);
         Kind::ReadDummyNext
     }
 
     #[tactic(auto, using(cc_runs::proofs::Chains::Facts::noted_none))]
-    fn read_item_tag(&mut self, seat: Seat, job: Job, dummy: u64, taken: u64, node: u64) -> Kind
-        requires { CanStep self.old seat (Place.Taking job (Taking.ReadItemTag dummy taken node)) }
-        ensures { Stepped self.old seat (Place.Taking job (Taking.ReadItemTag dummy taken node)) result self.new }
+    fn read_item_tag(&mut self, who: Stepper, job: Job, dummy: u64, taken: u64, node: u64) -> Kind
+        requires { CanStep self.old who (Place.Taking job (Taking.ReadItemTag dummy taken node)) }
+        ensures { Stepped self.old who (Place.Taking job (Taking.ReadItemTag dummy taken node)) result self.new }
     {
         let tag = self.load(Word::Item(node, ItemField::Tag));
         let place = if tag == 0 {
             let answer = Answer::Take(TakeAnswer::Ended { total: taken });
-            self.decide(seat.chain, answer);
+            self.decide(who.chain, answer);
             Place::WriteAnswer { job, answer }
         } else {
             let parcel = Parcel {
@@ -88,21 +88,21 @@ impl Board {
                 },
             }
         };
-        self.go(seat, place);
+        self.go(who, place);
         Kind::ReadItem
     }
 
     fn read_item_body(
         &mut self,
-        seat: Seat,
+        who: Stepper,
         job: Job,
         dummy: u64,
         node: u64,
         parcel: Parcel,
         index: u32,
     ) -> Kind
-        requires { CanStep self.old seat (Place.Taking job (Taking.ReadItemBody dummy node parcel index)) }
-        ensures { Stepped self.old seat (Place.Taking job (Taking.ReadItemBody dummy node parcel index)) result self.new }
+        requires { CanStep self.old who (Place.Taking job (Taking.ReadItemBody dummy node parcel index)) }
+        ensures { Stepped self.old who (Place.Taking job (Taking.ReadItemBody dummy node parcel index)) result self.new }
     {
         let found = self.load(Word::Item(node, ItemField::Body(index)));
         let parcel = Parcel {
@@ -123,17 +123,17 @@ impl Board {
                 parcel,
             }
         };
-        self.go(seat, Place::Taking { job, service });
+        self.go(who, Place::Taking { job, service });
         Kind::ReadItem
     }
 
-    fn write_head(&mut self, seat: Seat, job: Job, dummy: u64, node: u64, parcel: Parcel) -> Kind
-        requires { CanStep self.old seat (Place.Taking job (Taking.WriteHead dummy node parcel)) }
-        ensures { Stepped self.old seat (Place.Taking job (Taking.WriteHead dummy node parcel)) result self.new }
+    fn write_head(&mut self, who: Stepper, job: Job, dummy: u64, node: u64, parcel: Parcel) -> Kind
+        requires { CanStep self.old who (Place.Taking job (Taking.WriteHead dummy node parcel)) }
+        ensures { Stepped self.old who (Place.Taking job (Taking.WriteHead dummy node parcel)) result self.new }
     {
-        self.store(Word::Object(Object::Head(seat.group())), node + 1);
+        self.store(Word::Object(Object::Head(who.group())), node + 1);
         self.go(
-            seat,
+            who,
             Place::Taking {
                 job,
                 service: Taking::WriteTaken { dummy, parcel },
@@ -142,13 +142,13 @@ impl Board {
         Kind::WriteObject
     }
 
-    fn write_taken(&mut self, seat: Seat, job: Job, dummy: u64, parcel: Parcel) -> Kind
-        requires { CanStep self.old seat (Place.Taking job (Taking.WriteTaken dummy parcel)) }
-        ensures { Stepped self.old seat (Place.Taking job (Taking.WriteTaken dummy parcel)) result self.new }
+    fn write_taken(&mut self, who: Stepper, job: Job, dummy: u64, parcel: Parcel) -> Kind
+        requires { CanStep self.old who (Place.Taking job (Taking.WriteTaken dummy parcel)) }
+        ensures { Stepped self.old who (Place.Taking job (Taking.WriteTaken dummy parcel)) result self.new }
     {
-        self.store(Word::Object(Object::Taken(seat.group())), parcel.place + 1);
+        self.store(Word::Object(Object::Taken(who.group())), parcel.place + 1);
         self.go(
-            seat,
+            who,
             Place::Taking {
                 job,
                 service: Taking::AddPassed { dummy, parcel },
@@ -157,43 +157,43 @@ impl Board {
         Kind::WriteObject
     }
 
-    fn add_passed(&mut self, seat: Seat, job: Job, dummy: u64, parcel: Parcel) -> Kind
-        requires { CanStep self.old seat (Place.Taking job (Taking.AddPassed dummy parcel)) }
-        ensures { Stepped self.old seat (Place.Taking job (Taking.AddPassed dummy parcel)) result self.new }
+    fn add_passed(&mut self, who: Stepper, job: Job, dummy: u64, parcel: Parcel) -> Kind
+        requires { CanStep self.old who (Place.Taking job (Taking.AddPassed dummy parcel)) }
+        ensures { Stepped self.old who (Place.Taking job (Taking.AddPassed dummy parcel)) result self.new }
     {
         let word = Word::Item(dummy, ItemField::Passed);
         let found = self.load(word);
         let answer = Answer::Take(TakeAnswer::Got(item_of(parcel.place, parcel.tag, parcel.body)));
-        self.decide(seat.chain, answer);
+        self.decide(who.chain, answer);
         self.store(word, found + 1);
-        self.go(seat, Place::WriteAnswer { job, answer });
+        self.go(who, Place::WriteAnswer { job, answer });
         Kind::AddPassed
     }
 
-    pub fn take(&mut self, seat: Seat, job: Job, service: Taking) -> Kind
-        requires { CanStep self.old seat (Place.Taking job service) }
-        ensures { Stepped self.old seat (Place.Taking job service) result self.new }
+    pub fn take(&mut self, who: Stepper, job: Job, service: Taking) -> Kind
+        requires { CanStep self.old who (Place.Taking job service) }
+        ensures { Stepped self.old who (Place.Taking job service) result self.new }
     {
         match service {
-            Taking::ReadHead => self.read_head(seat, job),
-            Taking::ReadTaken { dummy } => self.read_taken(seat, job, dummy),
-            Taking::ReadDummyNext { dummy, taken } => self.read_dummy_next(seat, job, dummy, taken),
+            Taking::ReadHead => self.read_head(who, job),
+            Taking::ReadTaken { dummy } => self.read_taken(who, job, dummy),
+            Taking::ReadDummyNext { dummy, taken } => self.read_dummy_next(who, job, dummy, taken),
             Taking::ReadItemTag { dummy, taken, node } => self.read_item_tag(
-                seat, job, dummy, taken, node,
+                who, job, dummy, taken, node,
             ),
             Taking::ReadItemBody {
                 dummy,
                 node,
                 parcel,
                 index,
-            } => self.read_item_body(seat, job, dummy, node, parcel, index),
+            } => self.read_item_body(who, job, dummy, node, parcel, index),
             Taking::WriteHead {
                 dummy,
                 node,
                 parcel,
-            } => self.write_head(seat, job, dummy, node, parcel),
-            Taking::WriteTaken { dummy, parcel } => self.write_taken(seat, job, dummy, parcel),
-            Taking::AddPassed { dummy, parcel } => self.add_passed(seat, job, dummy, parcel),
+            } => self.write_head(who, job, dummy, node, parcel),
+            Taking::WriteTaken { dummy, parcel } => self.write_taken(who, job, dummy, parcel),
+            Taking::AddPassed { dummy, parcel } => self.add_passed(who, job, dummy, parcel),
         }
     }
 }
