@@ -17,7 +17,7 @@ ghost use Rattle.cc_steps.specs.Seen.{Onward};
 ghost use Rattle.cc_steps.specs.Reuse.{HasReused, HasOwned};
 ghost use Rattle.cc_steps.specs.Walk.{IsOf, Steps, CanBegin, Found, Walked, walked_to, IsPendingIn, IsToldAt, leads_to, LinksOwn};
 
-use crate::moves;
+use crate::operations;
 use crate::seats::PassSeat;
 use crate::words::Words;
 use cc_model::Call;
@@ -35,7 +35,7 @@ pub fn reset_next(words: &Words, seat: &mut PassSeat, chain: Chain, node: u64, c
     ensures later { Onward seat.old.seen seat.new.seen }
     ensures own { HasOwned seat.old (Some call) chain node seat.new }
 {
-    moves::begin(words, seat, Word::Node(chain, node, NodeField::Next), call);
+    operations::begin(words, seat, Word::Node(chain, node, NodeField::Next), call);
 }
 
 /// ResetState, by the caller: stores 1, waiting, into `state` of its own node. `own`: as at `reset_next`.
@@ -49,7 +49,7 @@ pub fn reset_state(words: &Words, seat: &mut PassSeat, chain: Chain, node: u64)
     ensures later { Onward seat.old.seen seat.new.seen }
     ensures own { HasOwned seat.old None chain node seat.new }
 {
-    moves::store(words, seat, Word::Node(chain, node, NodeField::State), 1);
+    operations::store(words, seat, Word::Node(chain, node, NodeField::State), 1);
 }
 
 /// Exchange, by the caller: swaps the tail of its chain with the link of its own node. The call has its place in the order
@@ -63,7 +63,7 @@ pub fn exchange_tail(words: &Words, seat: &mut PassSeat, chain: Chain, link: u64
     ensures step { seat.new ≡ walked_to seat.old None result seat.new.seen }
     ensures later { Onward seat.old.seen seat.new.seen }
 {
-    moves::swap(words, seat, Word::Tail(chain), link)
+    operations::swap(words, seat, Word::Tail(chain), link)
 }
 
 /// WriteRequest, by a sender: stores the tag or a word of the body of its request into its current
@@ -77,7 +77,7 @@ pub fn write_request(words: &Words, seat: &mut PassSeat, node: u64, field: NodeF
     ensures step { seat.new ≡ walked_to seat.old None 0 seat.new.seen }
     ensures later { Onward seat.old.seen seat.new.seen }
 {
-    moves::store(words, seat, Word::Node(Chain::Send, node, field), value);
+    operations::store(words, seat, Word::Node(Chain::Send, node, field), value);
 }
 
 /// Link, by the caller: stores the link of the node that it left to the chain into `next` of its current one, so that a
@@ -92,7 +92,7 @@ pub fn link_next(words: &Words, seat: &mut PassSeat, chain: Chain, node: u64, li
     ensures later { Onward seat.old.seen seat.new.seen }
     ensures pending { IsPendingIn seat.new }
 {
-    moves::store(words, seat, Word::Node(chain, node, NodeField::Next), link);
+    operations::store(words, seat, Word::Node(chain, node, NodeField::Next), link);
 }
 
 /// ReadState, by the caller: loads `state` of its current node: 0, it has to serve; 1, it waits; 2, it was served.
@@ -105,7 +105,7 @@ pub fn read_state(words: &Words, seat: &mut PassSeat, chain: Chain, node: u64) -
     ensures step { seat.new ≡ walked_to seat.old None result seat.new.seen }
     ensures later { Onward seat.old.seen seat.new.seen }
 {
-    moves::load(words, seat, Word::Node(chain, node, NodeField::State))
+    operations::load(words, seat, Word::Node(chain, node, NodeField::State))
 }
 
 /// ReadNext, by a combiner: loads `next` of a node of its chain.
@@ -119,7 +119,7 @@ pub fn read_next(words: &Words, seat: &mut PassSeat, chain: Chain, node: u64) ->
     ensures later { Onward seat.old.seen seat.new.seen }
     ensures own { LinksOwn seat.old.stand.place result }
 {
-    moves::load(words, seat, Word::Node(chain, node, NodeField::Next))
+    operations::load(words, seat, Word::Node(chain, node, NodeField::Next))
 }
 
 /// ReadRequest, by the senders' combiner: loads the tag or a word of the body of the request in a node.
@@ -132,7 +132,7 @@ pub fn read_request(words: &Words, seat: &mut PassSeat, node: u64, field: NodeFi
     ensures step { seat.new ≡ walked_to seat.old None result seat.new.seen }
     ensures later { Onward seat.old.seen seat.new.seen }
 {
-    moves::load(words, seat, Word::Node(Chain::Send, node, field))
+    operations::load(words, seat, Word::Node(Chain::Send, node, field))
 }
 
 /// ReadObject, by a combiner: loads a word of its side of the list.
@@ -145,7 +145,7 @@ pub fn read_object(words: &Words, seat: &mut PassSeat, object: Object) -> u64
     ensures step { seat.new ≡ walked_to seat.old None result seat.new.seen }
     ensures later { Onward seat.old.seen seat.new.seen }
 {
-    moves::load(words, seat, Word::Object(object))
+    operations::load(words, seat, Word::Object(object))
 }
 
 /// WriteObject, by a combiner: stores a word of its side of the list.
@@ -158,7 +158,7 @@ pub fn write_object(words: &Words, seat: &mut PassSeat, object: Object, value: u
     ensures step { seat.new ≡ walked_to seat.old None 0 seat.new.seen }
     ensures later { Onward seat.old.seen seat.new.seen }
 {
-    moves::store(words, seat, Word::Object(object), value);
+    operations::store(words, seat, Word::Object(object), value);
 }
 
 /// WriteAnswer, by a combiner: stores the answer word, or the tag or a word of the body of the item that was handed out, into
@@ -179,7 +179,7 @@ pub fn write_answer(
     ensures step { seat.new ≡ walked_to seat.old None 0 seat.new.seen }
     ensures later { Onward seat.old.seen seat.new.seen }
 {
-    moves::store(words, seat, Word::Node(chain, node, field), value);
+    operations::store(words, seat, Word::Node(chain, node, field), value);
 }
 
 /// MarkDone, by a combiner: stores 2 into `state` of the node that it served, after the last word of the answer.
@@ -192,7 +192,7 @@ pub fn mark_done(words: &Words, seat: &mut PassSeat, chain: Chain, node: u64)
     ensures step { seat.new ≡ walked_to seat.old None 0 seat.new.seen }
     ensures later { Onward seat.old.seen seat.new.seen }
 {
-    moves::store(words, seat, Word::Node(chain, node, NodeField::State), 2);
+    operations::store(words, seat, Word::Node(chain, node, NodeField::State), 2);
 }
 
 /// HandOver, by a combiner: stores 0 into `state` of the node where it stopped, whose caller serves from there on.
@@ -205,7 +205,7 @@ pub fn hand_over(words: &Words, seat: &mut PassSeat, chain: Chain, node: u64)
     ensures step { seat.new ≡ walked_to seat.old None 0 seat.new.seen }
     ensures later { Onward seat.old.seen seat.new.seen }
 {
-    moves::store(words, seat, Word::Node(chain, node, NodeField::State), 0);
+    operations::store(words, seat, Word::Node(chain, node, NodeField::State), 0);
 }
 
 /// ReadAnswer, by the caller: loads the answer word of its current node, or the tag or a word of the body of the item that
@@ -227,7 +227,7 @@ pub fn read_answer(
     ensures later { Onward seat.old.seen seat.new.seen }
     ensures told { seat.old.setting.served ≡ Served.List → IsToldAt seat.new (leads_to seat.old result) }
 {
-    moves::load(words, seat, Word::Node(chain, node, field))
+    operations::load(words, seat, Word::Node(chain, node, field))
 }
 
 /// ReadPassed, by the senders' combiner: loads how many groups have passed a list node.
@@ -240,7 +240,7 @@ pub fn read_passed(words: &Words, seat: &mut PassSeat, node: u64) -> u64
     ensures step { seat.new ≡ walked_to seat.old None result seat.new.seen }
     ensures later { Onward seat.old.seen seat.new.seen }
 {
-    moves::load(words, seat, Word::Item(node, ItemField::Passed))
+    operations::load(words, seat, Word::Item(node, ItemField::Passed))
 }
 
 /// ResetListNode, by the senders' combiner: stores 0 into that count, or into `next`, of a node that it found free. `reuse`:
@@ -255,7 +255,7 @@ pub fn reset_list_node(words: &Words, seat: &mut PassSeat, node: u64, field: Ite
     ensures later { Onward seat.old.seen seat.new.seen }
     ensures reuse { seat.old.setting.served ≡ Served.List → HasReused seat.old node seat.new }
 {
-    moves::store(words, seat, Word::Item(node, field), 0);
+    operations::store(words, seat, Word::Item(node, field), 0);
 }
 
 /// WriteItem, by the senders' combiner: stores the tag or a word of the body of an item into the node that it
@@ -269,7 +269,7 @@ pub fn write_item(words: &Words, seat: &mut PassSeat, node: u64, field: ItemFiel
     ensures step { seat.new ≡ walked_to seat.old None 0 seat.new.seen }
     ensures later { Onward seat.old.seen seat.new.seen }
 {
-    moves::store(words, seat, Word::Item(node, field), value);
+    operations::store(words, seat, Word::Item(node, field), value);
 }
 
 /// LinkLast, by the senders' combiner: stores the link of the node that it prepared, or of the closing mark, into `next` of
@@ -283,7 +283,7 @@ pub fn link_last(words: &Words, seat: &mut PassSeat, last: u64, link: u64)
     ensures step { seat.new ≡ walked_to seat.old None 0 seat.new.seen }
     ensures later { Onward seat.old.seen seat.new.seen }
 {
-    moves::store(words, seat, Word::Item(last, ItemField::Next), link);
+    operations::store(words, seat, Word::Item(last, ItemField::Next), link);
 }
 
 /// ReadDummyNext, by a group's combiner: loads `next` of the dummy.
@@ -296,7 +296,7 @@ pub fn read_dummy_next(words: &Words, seat: &mut PassSeat, dummy: u64) -> u64
     ensures step { seat.new ≡ walked_to seat.old None result seat.new.seen }
     ensures later { Onward seat.old.seen seat.new.seen }
 {
-    moves::load(words, seat, Word::Item(dummy, ItemField::Next))
+    operations::load(words, seat, Word::Item(dummy, ItemField::Next))
 }
 
 /// ReadItem, by a group's combiner: loads the tag or a word of the body of the node after the dummy.
@@ -309,7 +309,7 @@ pub fn read_item(words: &Words, seat: &mut PassSeat, node: u64, field: ItemField
     ensures step { seat.new ≡ walked_to seat.old None result seat.new.seen }
     ensures later { Onward seat.old.seen seat.new.seen }
 {
-    moves::load(words, seat, Word::Item(node, field))
+    operations::load(words, seat, Word::Item(node, field))
 }
 
 /// AddPassed, by a group's combiner: adds 1 to the count of groups that have passed the old dummy. The take is decided with
@@ -323,5 +323,5 @@ pub fn add_passed(words: &Words, seat: &mut PassSeat, dummy: u64) -> u64
     ensures step { seat.new ≡ walked_to seat.old None result seat.new.seen }
     ensures later { Onward seat.old.seen seat.new.seen }
 {
-    moves::add(words, seat, Word::Item(dummy, ItemField::Passed), 1)
+    operations::add(words, seat, Word::Item(dummy, ItemField::Passed), 1)
 }
