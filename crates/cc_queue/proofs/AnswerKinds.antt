@@ -8,7 +8,7 @@ use Rattle.cc_model.specs.Items.{all_answered, answered, calls_of, is_pass, acce
 use Rattle.cc_model.specs.Legal.{Legal, EAnswer, EAnswers, DAnswer, DAnswers, IsReceivers}
 use Rattle.cc_queue.specs.Names.{Config, Call, Pass, Item, Entry, Answer, SendAnswer, CloseAnswer}
 use Rattle.cc_runs.specs.ChainLaws.{IsLastAnswer}
-use Rattle.cc_queue.specs.Kept.{MadeLast, IsSend, IsClose}
+use Rattle.cc_queue.specs.Passes.{MadeLast, IsSend, IsClose}
 use Rattle.cc_queue.specs.Codes.{IsSendAnswer, IsCloseAnswer}
 
 -- the answer is one that such a call may get

@@ -20,7 +20,7 @@ use Rattle.cc_queue.specs.Headline.{StandsInOne, IsAtRest, entry_of, name, histo
 use Rattle.cc_queue.specs.Work.{IsOn, Works, Waits, Enters, turned, worked_to, tally, scans}
 use Rattle.cc_queue.specs.Calls.{Begun, Waited, Answered, Ended, Completed, IsSettled}
 use Rattle.cc_queue.specs.Codes.{IsSendAnswer, IsCloseAnswer}
-use Rattle.cc_queue.specs.Kept.{MadeLast, IsSend, IsClose}
+use Rattle.cc_queue.specs.Passes.{MadeLast, IsSend, IsClose}
 use Rattle.cc_queue.proofs.AnswerKinds.{send_answered, close_answered}
 
 pub goes_self : (seen : List Move) → GoesOn seen seen

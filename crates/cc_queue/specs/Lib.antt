@@ -2,7 +2,7 @@ pub mod Names
 pub mod Headline
 pub mod Work
 pub mod Codes
-pub mod Kept
+pub mod Passes
 pub mod SendCount
 pub mod Calls
 pub mod Met

@@ -43,7 +43,7 @@ pub struct Sender {
 impl Model for Sender {
     ghost use Rattle.cc_steps.specs.Walk.{Walk};
     ghost use Rattle.cc_queue.specs.Names.{Place};
-    ghost use Rattle.cc_queue.specs.Kept.{KeepsSender};
+    ghost use Rattle.cc_queue.specs.Passes.{KeepsSender};
 
     ghost Value = { Walk };
 
@@ -60,7 +60,7 @@ pub struct PendingSend {
 impl Model for PendingSend {
     ghost use Rattle.cc_steps.specs.Walk.{Walk};
     ghost use Rattle.cc_queue.specs.Names.{Place};
-    ghost use Rattle.cc_queue.specs.Kept.{KeepsSender, MadeLast, IsSend};
+    ghost use Rattle.cc_queue.specs.Passes.{KeepsSender, MadeLast, IsSend};
 
     ghost Value = { Walk };
 
@@ -77,7 +77,7 @@ pub struct PendingClose {
 impl Model for PendingClose {
     ghost use Rattle.cc_steps.specs.Walk.{Walk};
     ghost use Rattle.cc_queue.specs.Names.{Place};
-    ghost use Rattle.cc_queue.specs.Kept.{KeepsSender, MadeLast, IsClose};
+    ghost use Rattle.cc_queue.specs.Passes.{KeepsSender, MadeLast, IsClose};
 
     ghost Value = { Walk };
 
@@ -95,7 +95,7 @@ pub struct Receiver {
 impl Model for Receiver {
     ghost use Rattle.cc_steps.specs.Walk.{Walk};
     ghost use Rattle.cc_queue.specs.Names.{Place};
-    ghost use Rattle.cc_queue.specs.Kept.{KeepsReceiver};
+    ghost use Rattle.cc_queue.specs.Passes.{KeepsReceiver};
 
     ghost Value = { Walk };
 
@@ -112,7 +112,7 @@ pub struct PendingTake {
 impl Model for PendingTake {
     ghost use Rattle.cc_steps.specs.Walk.{Walk};
     ghost use Rattle.cc_queue.specs.Names.{Place};
-    ghost use Rattle.cc_queue.specs.Kept.{KeepsReceiver};
+    ghost use Rattle.cc_queue.specs.Passes.{KeepsReceiver};
 
     ghost Value = { Walk };
 

@@ -27,7 +27,7 @@ pub struct Queue {
 
 impl Model for Queue {
     ghost use Rattle.cc_steps.specs.Topic.{Topic};
-    ghost use Rattle.cc_queue.specs.Kept.{KeepsQueue};
+    ghost use Rattle.cc_queue.specs.Passes.{KeepsQueue};
 
     ghost Value = { Topic };
 
