@@ -1,4 +1,4 @@
 pub mod Filling
-pub mod HeldValues
+pub mod BoxedValues
 pub mod Trying
 pub mod Values

@@ -10,7 +10,7 @@ pass_in None = None
 pass_in (Some p) = p
 
 abbrev pub pass_of : Handle → Option Pass
-pass_of h = pass_in h.held.value
+pass_of h = pass_in h.boxed.value
 
 -- it holds none
 abbrev pub is_empty : Handle → Bool

@@ -1,5 +1,5 @@
 pub mod Names
-pub mod Held
+pub mod Boxed
 pub mod Passes
 pub mod Told
 pub mod Calls

@@ -8,7 +8,7 @@ pub use Rattle.cc_model.specs.declared.call.Answer.{Answer}
 pub use Rattle.cc_model.specs.declared.config.Config.{Config}
 pub use Rattle.cc_model.specs.declared.config.ConfigFault.{ConfigFault}
 pub use Rattle.cc_runs.specs.declared.setting.Served.{Served}
-pub use Rattle.cc_binding.specs.declared.kept.Pass.{Pass}
+pub use Rattle.cc_binding.specs.declared.held.Pass.{Pass}
 pub use Rattle.cc_binding.specs.declared.opening.Settings.{Settings}
 pub use Rattle.cc_binding.specs.declared.told.Told.{Told}
 pub use Rattle.cc_binding.specs.declared.told.TakenItem.{TakenItem}

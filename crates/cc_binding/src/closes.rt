@@ -5,7 +5,7 @@ ghost use Rattle.cc_binding.specs.Passes.{walk_of};
 ghost use Rattle.cc_binding.specs.Calls.{BeginsClose, TurnsClose};
 
 use crate::codes::{BEGUN, NO_PASS, WAITING};
-use crate::kept::{Kept, Pass, put};
+use crate::held::{Held, Pass, put};
 use crate::refusals::{no_idle_sender, no_pending_sender};
 use crate::told::Told;
 use cc_queue::{CloseTurn, Queue, begin_close, turn_close};
@@ -49,7 +49,7 @@ fn turned(queue: &Queue, pass: Pass) -> (Pass, Told)
     }
 }
 
-impl Kept {
+impl Held {
     /// Begins a close.
     pub fn begin_close(&mut self) -> u32
         ensures { BeginsClose self.old self.new result }

@@ -1,8 +1,8 @@
 //! A handle, as C holds it.
 ghost use Rattle.std.specs.Prelude.{◌≡◌, Some, None, is_some, MatchOption};
 
+use crate::boxed::Boxed;
 use crate::held::Held;
-use crate::kept::Kept;
 use crate::loose::Loose;
 use std::alloc::Global;
 use std::mem::replace;
@@ -12,41 +12,41 @@ use std::ptr::null_mut;
 #[repr(C)]
 #[derive(Drop)]
 pub struct Handle {
-    pub held: Held,
+    pub boxed: Boxed,
     pub live: bool,
-    ghost is_live: { is_some held.value ≡ live },
+    ghost is_live: { is_some boxed.value ≡ live },
 }
 
 impl Handle {
     /// A handle that holds this.
-    pub fn of(kept: Box<Kept>) -> Handle
-        ensures { result.held.value ≡ Some kept.value }
+    pub fn of(held: Box<Held>) -> Handle
+        ensures { result.boxed.value ≡ Some held.value }
     {
         Handle {
-            held: Held::pack(Loose::of(kept)),
+            boxed: Boxed::pack(Loose::of(held)),
             live: true,
         }
     }
 
     /// What the handle holds, which is empty afterwards.
-    pub fn take(&mut self, alloc: Global) -> Option<Box<Kept>>
-        ensures after { self.new.held.value ≡ None }
-        ensures taken { MatchOption result (self.old.held.value ≡ None) (λ b. self.old.held.value ≡ Some b.value) }
+    pub fn take(&mut self, alloc: Global) -> Option<Box<Held>>
+        ensures after { self.new.boxed.value ≡ None }
+        ensures taken { MatchOption result (self.old.boxed.value ≡ None) (λ b. self.old.boxed.value ≡ Some b.value) }
     {
-        let Handle { held, live } = replace(self, Handle::empty(alloc));
+        let Handle { boxed, live } = replace(self, Handle::empty(alloc));
         if live {
-            return Some(held.into_box());
+            return Some(boxed.into_box());
         }
         None
     }
 
     /// A handle that holds nothing.
     pub fn empty(alloc: Global) -> Handle
-        ensures { result.held.value ≡ None }
+        ensures { result.boxed.value ≡ None }
     {
         let at = null_mut();
         Handle {
-            held: Held::none(at, alloc),
+            boxed: Boxed::none(at, alloc),
             live: false,
         }
     }

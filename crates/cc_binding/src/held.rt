@@ -1,67 +1,91 @@
-//! A kept value as C holds it.
-ghost use Rattle.std.specs.Prelude.{◌≡◌, Option, Some, None, IsTrue, is_some};
-ghost use Rattle.std.specs.contracts.impls.GlobalAllocator.TheImpl.{ghosts};
-ghost use Rattle.cc_binding.specs.declared.kept.Kept.{Kept};
-ghost use Rattle.cc_binding.specs.contracts.kept.Kept.{the_row};
-ghost use Rattle.cc_binding.specs.Held.{held_owns};
+//! What stands behind a handle.
+ghost use Rattle.std.specs.Prelude.{◌≡◌, Some};
+ghost use Rattle.cc_steps.specs.Walk.{IsOf};
+ghost use Rattle.cc_binding.specs.Passes.{walk_of};
 
-use crate::kept::Kept;
-use crate::loose::Loose;
-use std::alloc::Global;
+use cc_queue::{PendingClose, PendingSend, PendingTake, Queue, Receiver, Sender};
 use std::marker::Model;
 
-/// The box behind a handle, or nothing. It lets go of nothing by itself: the handle takes it out by `into_box`.
+/// A pass, by what it is and whether it has a call.
+pub enum Pass {
+    Sender(Sender),
+    Sending(PendingSend),
+    Closing(PendingClose),
+    Receiver(Receiver),
+    Taking(PendingTake),
+}
+
+/// A line of the processor's memory that nobody uses, 64 bytes.
+type Spare = [u64; 8];
+
+/// The pass of a handle with its own share of the queue. It has none only inside a call. Each call writes the pass and
+/// reads the share; with a spare line on either side of the pass no call writes to a line that another handle's calls
+/// read.
 #[repr(C)]
-#[derive(Drop)]
 pub struct Held {
-    at: *mut (),
-    alloc: Global,
-    pub ghost value: { Option Kept },
+    pub(crate) queue: Queue,
+    before: Spare,
+    pub(crate) pass: Option<Pass>,
+    behind: Spare,
 }
 
 impl Model for Held {
-    ghost also_owns = { λ h. held_owns (ghosts.dealloc_token h.alloc) the_row h.at h.value };
+    ghost use Rattle.std.specs.Prelude.{Option};
+    ghost use Rattle.cc_binding.specs.Names.{Pass};
+    ghost use Rattle.cc_binding.specs.Passes.{IsPassOf};
+
+    ghost Value = { Option Pass };
+
+    ghost view = { λ k. k.pass };
+
+    ghost invariant = { λ k. IsPassOf k.queue k.pass };
 }
 
 impl Held {
-    /// Nothing.
-    pub(crate) fn none(at: *mut (), alloc: Global) -> Held
-        ensures { result.value ≡ None }
+    /// A pass and a share of its queue.
+    pub(crate) fn new(queue: Queue, pass: Pass) -> Held
+        requires { IsOf queue (walk_of pass) }
+        ensures { result ≡ Some pass }
     {
-        Held { at, alloc }
-    }
-
-    /// A box that was taken apart.
-    pub(crate) fn pack(whole: Loose<Kept, Global>) -> Held
-        ensures { result.value ≡ Some whole.value }
-    {
-        let Loose { at, alloc } = whole;
         Held {
-            at: at as *mut (),
-            alloc,
+            queue,
+            before: [0; 8],
+            pass: Some(pass),
+            behind: [0; 8],
         }
-    }
-
-    /// The same back.
-    pub(crate) fn unpack(self) -> Loose<Kept, Global>
-        requires { IsTrue (is_some self.value) }
-        ensures { Some result.value ≡ self.value }
-    {
-        let Held { at, alloc } = self;
-        Loose {
-            at: at as *mut Kept,
-            alloc,
-        }
-    }
-
-    /// The box.
-    pub(crate) fn into_box(self) -> Box<Kept>
-        requires { IsTrue (is_some self.value) }
-        ensures { Some result.value ≡ self.value }
-    {
-        let whole = self.unpack();
-        whole.into_box()
     }
 }
 
-unsafe impl Send for Held {}
+/// Lets a pass go. A call that it had begun is given up.
+pub fn let_go(pass: Pass) {
+    match pass {
+        Pass::Sender(_sender) => {}
+        Pass::Sending(pending) => pending.abandon(),
+        Pass::Closing(pending) => pending.abandon(),
+        Pass::Receiver(_receiver) => {}
+        Pass::Taking(pending) => pending.abandon(),
+    }
+}
+
+impl Drop for Held {
+    fn drop(self) {
+        let Held {
+            queue: _,
+            before: _,
+            pass,
+            behind: _,
+        } = self;
+        if let Some(pass) = pass {
+            let_go(pass);
+        }
+    }
+}
+
+/// Puts a pass back.
+pub(crate) fn put(place: &mut Option<Pass>, pass: Pass)
+    ensures { place.new ≡ Some pass }
+{
+    if let Some(old) = place.replace(pass) {
+        let_go(old);
+    }
+}

@@ -18,11 +18,11 @@ ghost use Rattle.cc_binding.specs.Opened.{config_of, refusal, HaveOpened};
 ghost use Rattle.cc_binding.specs.Handles.{pass_of, IsDropped};
 ghost use Rattle.cc_binding.specs.Calls.{BeginsSend, TurnsSend, TriesSend, TellsWorn, BeginsClose, TurnsClose, BeginsTake, TurnsTake, TriesTake, TellsGroup};
 
+mod boxed;
 mod closes;
 mod codes;
 mod handle;
 mod held;
-mod kept;
 mod loose;
 mod opening;
 mod refusals;
@@ -109,11 +109,11 @@ pub extern "C" fn vahepito_open_groups(
 pub extern "C" fn vahepito_begin_send(alloc: Global, sender: &mut Handle, body: u64) -> u32
     ensures { BeginsSend body (pass_of sender.old) (pass_of sender.new) result }
 {
-    let Some(mut kept) = sender.take(alloc) else {
+    let Some(mut held) = sender.take(alloc) else {
         return NO_PASS;
     };
-    let code = kept.begin_send(body);
-    *sender = Handle::of(kept);
+    let code = held.begin_send(body);
+    *sender = Handle::of(held);
     code
 }
 
@@ -128,9 +128,9 @@ pub extern "C" fn vahepito_turn_send(
     ensures { TurnsSend (pass_of sender.old) (pass_of sender.new) (record { code = result; number = place.new; served = served.new }) }
 {
     let told = match sender.take(alloc) {
-        Some(mut kept) => {
-            let told = kept.turn_send();
-            *sender = Handle::of(kept);
+        Some(mut held) => {
+            let told = held.turn_send();
+            *sender = Handle::of(held);
             told
         }
         None => Told::only(NO_PASS),
@@ -152,9 +152,9 @@ pub extern "C" fn vahepito_try_send(
     ensures { TriesSend body (pass_of sender.old) (pass_of sender.new) (record { code = result; number = place.new; served = served.new }) }
 {
     let told = match sender.take(alloc) {
-        Some(mut kept) => {
-            let told = kept.try_send(body);
-            *sender = Handle::of(kept);
+        Some(mut held) => {
+            let told = held.try_send(body);
+            *sender = Handle::of(held);
             told
         }
         None => Told::only(NO_PASS),
@@ -169,11 +169,11 @@ pub extern "C" fn vahepito_try_send(
 pub extern "C" fn vahepito_is_worn(alloc: Global, sender: &mut Handle) -> u32
     ensures { TellsWorn (pass_of sender.old) (pass_of sender.new) result }
 {
-    let Some(mut kept) = sender.take(alloc) else {
+    let Some(mut held) = sender.take(alloc) else {
         return NO_PASS;
     };
-    let code = kept.is_worn();
-    *sender = Handle::of(kept);
+    let code = held.is_worn();
+    *sender = Handle::of(held);
     code
 }
 
@@ -182,11 +182,11 @@ pub extern "C" fn vahepito_is_worn(alloc: Global, sender: &mut Handle) -> u32
 pub extern "C" fn vahepito_begin_close(alloc: Global, sender: &mut Handle) -> u32
     ensures { BeginsClose (pass_of sender.old) (pass_of sender.new) result }
 {
-    let Some(mut kept) = sender.take(alloc) else {
+    let Some(mut held) = sender.take(alloc) else {
         return NO_PASS;
     };
-    let code = kept.begin_close();
-    *sender = Handle::of(kept);
+    let code = held.begin_close();
+    *sender = Handle::of(held);
     code
 }
 
@@ -201,9 +201,9 @@ pub extern "C" fn vahepito_turn_close(
     ensures { TurnsClose (pass_of sender.old) (pass_of sender.new) (record { code = result; number = total.new; served = served.new }) }
 {
     let told = match sender.take(alloc) {
-        Some(mut kept) => {
-            let told = kept.turn_close();
-            *sender = Handle::of(kept);
+        Some(mut held) => {
+            let told = held.turn_close();
+            *sender = Handle::of(held);
             told
         }
         None => Told::only(NO_PASS),
@@ -218,11 +218,11 @@ pub extern "C" fn vahepito_turn_close(
 pub extern "C" fn vahepito_begin_take(alloc: Global, receiver: &mut Handle) -> u32
     ensures { BeginsTake (pass_of receiver.old) (pass_of receiver.new) result }
 {
-    let Some(mut kept) = receiver.take(alloc) else {
+    let Some(mut held) = receiver.take(alloc) else {
         return NO_PASS;
     };
-    let code = kept.begin_take();
-    *receiver = Handle::of(kept);
+    let code = held.begin_take();
+    *receiver = Handle::of(held);
     code
 }
 
@@ -238,9 +238,9 @@ pub extern "C" fn vahepito_turn_take(
     ensures { TurnsTake (pass_of receiver.old) (pass_of receiver.new) (record { code = result; item = item.new; total = total.new; served = served.new }) }
 {
     let told = match receiver.take(alloc) {
-        Some(mut kept) => {
-            let told = kept.turn_take();
-            *receiver = Handle::of(kept);
+        Some(mut held) => {
+            let told = held.turn_take();
+            *receiver = Handle::of(held);
             told
         }
         None => Taken::only(NO_PASS),
@@ -263,9 +263,9 @@ pub extern "C" fn vahepito_try_take(
     ensures { TriesTake (pass_of receiver.old) (pass_of receiver.new) (record { code = result; item = item.new; total = total.new; served = served.new }) }
 {
     let told = match receiver.take(alloc) {
-        Some(mut kept) => {
-            let told = kept.try_take();
-            *receiver = Handle::of(kept);
+        Some(mut held) => {
+            let told = held.try_take();
+            *receiver = Handle::of(held);
             told
         }
         None => Taken::only(NO_PASS),
@@ -282,9 +282,9 @@ pub extern "C" fn vahepito_group(alloc: Global, receiver: &mut Handle, group: &m
     ensures { TellsGroup (pass_of receiver.old) (pass_of receiver.new) result group.new }
 {
     let (code, number) = match receiver.take(alloc) {
-        Some(kept) => {
-            let told = kept.group();
-            *receiver = Handle::of(kept);
+        Some(held) => {
+            let told = held.group();
+            *receiver = Handle::of(held);
             told
         }
         None => (NO_PASS, 0),

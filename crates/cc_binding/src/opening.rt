@@ -14,7 +14,7 @@ use crate::codes::{
     BAD_SENDERS,
 };
 use crate::handle::Handle;
-use crate::kept::{Kept, Pass, let_go};
+use crate::held::{Held, Pass, let_go};
 use cc_model::{CheckedConfig, Config, ConfigFault};
 use cc_queue::{Opened, Queue, Receiver, Sender};
 use std::alloc::{AllocError, Global};
@@ -104,12 +104,12 @@ pub fn check(
 }
 
 /// A pass with its own share of the queue, for a handle.
-fn kept(alloc: Global, queue: &Queue, pass: Pass) -> Result<Box<Kept>, AllocError>
+fn held(alloc: Global, queue: &Queue, pass: Pass) -> Result<Box<Held>, AllocError>
     requires { IsOf queue.now (walk_of pass) }
     ensures { IfOk result (λ k. k.value ≡ Some pass) }
 {
     match queue.share() {
-        Ok(queue) => Ok(Box::new(alloc, Kept::new(queue, pass))?),
+        Ok(queue) => Ok(Box::new(alloc, Held::new(queue, pass))?),
         Err(refused) => {
             let_go(pass);
             Err(refused)
@@ -122,7 +122,7 @@ fn keep_senders(
     alloc: Global,
     queue: &Queue,
     mut senders: Vec<Sender>,
-) -> Result<Vec<Box<Kept>>, AllocError>
+) -> Result<Vec<Box<Held>>, AllocError>
     requires { fresh_from queue.now 0 senders.items }
     ensures count { IfOk result (λ k. length k.items ≡ length senders.items) }
     ensures fresh { IfOk result (λ k. HoldFresh k.items (λ b. b.value) Pass.Sender queue.now 0) }
@@ -130,7 +130,7 @@ fn keep_senders(
     let mut all = Vec::new(alloc);
     for _row in 0..senders.len() {
         let pass = Pass::Sender(senders.remove(0));
-        all.push(kept(alloc, queue, pass)?)?;
+        all.push(held(alloc, queue, pass)?)?;
     }
     Ok(all)
 }
@@ -141,7 +141,7 @@ fn keep_receivers(
     queue: &Queue,
     first: u32,
     mut receivers: Vec<Receiver>,
-) -> Result<Vec<Box<Kept>>, AllocError>
+) -> Result<Vec<Box<Held>>, AllocError>
     requires { fresh_from queue.now first receivers.items }
     ensures count { IfOk result (λ k. length k.items ≡ length receivers.items) }
     ensures fresh { IfOk result (λ k. HoldFresh k.items (λ b. b.value) Pass.Receiver queue.now first) }
@@ -150,19 +150,19 @@ fn keep_receivers(
     let mut all = Vec::new(alloc);
     for _row in 0..receivers.len() {
         let pass = Pass::Receiver(receivers.remove(0));
-        all.push(kept(alloc, queue, pass)?)?;
+        all.push(held(alloc, queue, pass)?)?;
     }
     Ok(all)
 }
 
 /// Puts each of these behind the handle of its place.
-fn fill(handles: &mut [Handle], mut all: Vec<Box<Kept>>)
+fn fill(handles: &mut [Handle], mut all: Vec<Box<Held>>)
     requires { length all.items ≡ length handles.old }
-    ensures { map (λ h. h.held.value) handles.new ≡ map (λ b. Some b.value) all.items }
+    ensures { map (λ h. h.boxed.value) handles.new ≡ map (λ b. Some b.value) all.items }
 {
     for at in 0..handles.len() {
-        let kept = all.remove(0);
-        handles[at] = Handle::of(kept);
+        let held = all.remove(0);
+        handles[at] = Handle::of(held);
     }
 }
 

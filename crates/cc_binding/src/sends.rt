@@ -5,7 +5,7 @@ ghost use Rattle.cc_binding.specs.Passes.{walk_of};
 ghost use Rattle.cc_binding.specs.Calls.{BeginsSend, TurnsSend, TriesSend, TellsWorn};
 
 use crate::codes::{BEGUN, FRESH, NO_PASS, WAITING, WORN};
-use crate::kept::{Kept, Pass, put};
+use crate::held::{Held, Pass, put};
 use crate::refusals::{no_idle_sender, no_pending_sender};
 use crate::told::Told;
 use cc_queue::{Queue, SendTurn, begin_send, turn_send};
@@ -52,7 +52,7 @@ fn turned(queue: &Queue, pass: Pass) -> (Pass, Told)
     }
 }
 
-impl Kept {
+impl Held {
     /// Begins a send of this body.
     pub fn begin_send(&mut self, body: u64) -> u32
         ensures { BeginsSend body self.old self.new result }

@@ -5,7 +5,7 @@ ghost use Rattle.cc_binding.specs.Passes.{walk_of};
 ghost use Rattle.cc_binding.specs.Calls.{BeginsTake, TurnsTake, TriesTake, TellsGroup};
 
 use crate::codes::{BEGUN, DONE, NO_PASS, WAITING};
-use crate::kept::{Kept, Pass, put};
+use crate::held::{Held, Pass, put};
 use crate::refusals::{no_idle_receiver, no_pending_take};
 use crate::told::Taken;
 use cc_queue::{Queue, TakeTurn, begin_take, turn_take};
@@ -49,7 +49,7 @@ fn turned(queue: &Queue, pass: Pass) -> (Pass, Taken)
     }
 }
 
-impl Kept {
+impl Held {
     /// Begins a take.
     pub fn begin_take(&mut self) -> u32
         ensures { BeginsTake self.old self.new result }

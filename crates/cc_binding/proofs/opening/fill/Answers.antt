@@ -7,9 +7,9 @@ loop-at-preserved c =
     let i = c.loop-at.invariant in
     let less : c.loop-at.at < length c.loop-at.handles = omega (arith, c.loop-at-test.true, c.loop-at.auto.handles) in
     let some : 0 < length c.loop-at.all.items = omega (arith, i.0, less) in
-    (search rules, one_more (λ h. h.held.value) (λ b. Some b.value) c.loop-at.at c.loop-at.handles _ c.of.result c.remove-kept.result c.loop-at.all.items c.remove-kept.new.self.items _ less c.of.ensures c.remove-kept.ensures.value some c.remove-kept.ensures.items refl i.1)
+    (search rules, one_more (λ h. h.boxed.value) (λ b. Some b.value) c.loop-at.at c.loop-at.handles _ c.of.result c.remove-held.result c.loop-at.all.items c.remove-held.new.self.items _ less c.of.ensures c.remove-held.ensures.value some c.remove-held.ensures.items refl i.1)
 
 pub returns : goal.returns
 returns c =
     let i = c.loop-at.invariant in
-    all_filled (λ h. h.held.value) (λ b. Some b.value) c.loop-at.at c.loop-at.handles c.loop-at.all.items _ (omega (arith, c.loop-at-test.false, c.loop-at.auto.handles)) (omega (arith, c.loop-at-test.false, c.loop-at.auto.handles, i.0)) i.1
+    all_filled (λ h. h.boxed.value) (λ b. Some b.value) c.loop-at.at c.loop-at.handles c.loop-at.all.items _ (omega (arith, c.loop-at-test.false, c.loop-at.auto.handles)) (omega (arith, c.loop-at-test.false, c.loop-at.auto.handles, i.0)) i.1

@@ -6,8 +6,8 @@ use Rattle.cc_binding.proofs.opening.keep_senders.Goals as goal
 pub remove-requires : goal.remove-requires
 remove-requires c = let i = c.loop-row.invariant in omega (arith, i.0, c.loop-row-test.true, c.len-row-end.ensures)
 
-pub kept-requires : goal.kept-requires
-kept-requires c =
+pub held-requires : goal.held-requires
+held-requires c =
     let i = c.loop-row.invariant in
     let some : 0 < length c.loop-row.senders.items = omega (arith, i.0, c.loop-row-test.true, c.len-row-end.ensures) in
     is_of _ c.loop-row._row c.loop-row.senders.items c.remove.result some i.1 c.remove.ensures.value
@@ -19,5 +19,5 @@ loop-row-preserved c =
       search rules,
       other_seats _ c.loop-row._row (c.loop-row._row + 1) c.loop-row.senders.items _ (omega arith) some i.1 c.remove.ensures.items,
       search rules,
-      next_held (λ b. b.value) Pass.Sender _ 0 c.loop-row._row c.loop-row.senders.items c.loop-row.all.items c.push.new.self.items c.remove.result c.in_ok-kept.field-0 some i.1 c.remove.ensures.value c.in_ok-kept.ensures (omega (arith, i.2)) i.3 c.in_ok-push.ensures.items,
+      next_held (λ b. b.value) Pass.Sender _ 0 c.loop-row._row c.loop-row.senders.items c.loop-row.all.items c.push.new.self.items c.remove.result c.in_ok-held.field-0 some i.1 c.remove.ensures.value c.in_ok-held.ensures (omega (arith, i.2)) i.3 c.in_ok-push.ensures.items,
     )

@@ -19,11 +19,11 @@ use denote.Triple.Walked.{Stays, stay_dropped, walk_of, Goes-dropped}
 use Rattle.std.proofs.raw_atomic.Walks.{proved_at, leaves}
 use Rattle.std.specs.contracts.impls.GlobalAllocator.TheImpl.{ghosts}
 use Rattle.cc_binding.proofs.Values.{both, Loose, loose_good, loose_in}
-use Rattle.cc_binding.proofs.HeldValues.{R, Z, LZ, Held, held_out}
-use Rattle.cc_binding.specs.contracts.held.Held.unpack.{ended, clauses}
-use Rattle.cc_binding.specs.contracts.held.Held.unpack.Key.{name as #self}
-use Rattle.cc_binding.proofs.held.Held.unpack.Statement.{statement}
-use Rattle.cc_binding.proofs.held.Held.unpack.Code as code
+use Rattle.cc_binding.proofs.BoxedValues.{R, Z, LZ, Boxed, boxed_out}
+use Rattle.cc_binding.specs.contracts.boxed.Boxed.unpack.{ended, clauses}
+use Rattle.cc_binding.specs.contracts.boxed.Boxed.unpack.Key.{name as #self}
+use Rattle.cc_binding.proofs.boxed.Boxed.unpack.Statement.{statement}
+use Rattle.cc_binding.proofs.boxed.Boxed.unpack.Code as code
 use Rattle.std.specs.Prelude.{IsTrue, is_some}
 use mathlib.Core.Bool.{Bool, true, false}
 
@@ -41,12 +41,12 @@ some_of (Some x) e = (x, refl)
 pub unpack_spec : {M : Type 1} → statement M
 unpack_spec 𝓤 𝓛 𝓜 𝓡 wired =
     let H = 𝓛.H in let 𝓣 = tables 𝓤 H 𝓜 𝓡 𝓡.env in let En = ended in let c = clauses 𝓛 𝓜.mem 𝓡.returns in let fn = code.function in
-    let hs : Stays En.signature.params En.kept = (stay_dropped (plain (λ _. Held)) yes, tt) in
-    proved_at 𝓛 En hs c 𝓜 𝓡 (Goes-dropped 𝓛 0 (plain (λ _. Held)) yes (λ κs x f. refl), tt) #self fn (code.unfolded 𝓤 H 𝓜 𝓡 wired) (λ z are.
+    let hs : Stays En.signature.params En.kept = (stay_dropped (plain (λ _. Boxed)) yes, tt) in
+    proved_at 𝓛 En hs c 𝓜 𝓡 (Goes-dropped 𝓛 0 (plain (λ _. Boxed)) yes (λ κs x f. refl), tt) #self fn (code.unfolded 𝓤 H 𝓜 𝓡 wired) (λ z are.
     let κs = z.0.0 in let qs = z.0.1 in let v = z.0.3.0 in let Post : Val → SProp 𝓤 = (walk_of 𝓛 En hs c).post z in let Run : List Val → SProp 𝓤 = λ ws. WpFn 𝓤 H 𝓣.C 𝓣.Λ fn ws Post in
     qed 𝓛 ((raw (alive 𝓛 En.signature κs qs) ⊛ ‵ (owns (types_at En.signature.params κs) z.0.3 z.0.4)) ∷ raw (fact 𝓤 (IsTrue (is_some v.value))) ∷ []) ∵ move ! (1 ∷ []) $ heard ! (IsTrue (is_some v.value)) (λ is_live.
     let x = (some_of v.value is_live).0 in let is : v.value ≡ Some x = (some_of v.value is_live).1 in split ! $ move ! (1 ∷ []) $ fsplit ! $
-    held_out ! v x is z.0.4.0 (λ b o h e ws fits.
+    boxed_out ! v x is z.0.4.0 (λ b o h e ws fits.
     let w : Val = both (vptr b o) h in let typed = loose_good R Z LZ ghosts b o h fits in
     suffices ! (Run (w ∷ [])) (subst (λ (us : List Val). ent 𝓤 (Run (w ∷ [])) (Run us)) (sym (λ i. ws i ++ [])) (id⊢ 𝓤 (Run (w ∷ [])))) $
     enter ! 𝓣.C 𝓣.Λ fn (w ∷ []) Post $ alloc_all ! (λ l. pass_all ! refl (typed, tt) $

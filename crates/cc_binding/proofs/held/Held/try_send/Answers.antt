@@ -3,7 +3,7 @@ use Rattle.cc_binding.specs.declared.codes.TheConstants.{NO_PASS}
 use Rattle.cc_binding.specs.Told.{only}
 use Rattle.cc_binding.specs.Calls.{BeginsSend, TurnsSend}
 use Rattle.cc_binding.proofs.Trying.{refused, turned}
-use Rattle.cc_binding.proofs.kept.Kept.try_send.Goals as goal
+use Rattle.cc_binding.proofs.held.Held.try_send.Goals as goal
 
 pub returns-in_default : goal.returns-in_default
 returns-in_default c = refused only (BeginsSend c.args.body) TurnsSend c.args.self.now None c.take.new.self NO_PASS c.only.result (search rules) (search rules) (search rules) (search rules)

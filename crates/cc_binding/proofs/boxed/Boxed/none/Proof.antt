@@ -20,11 +20,11 @@ use denote.Triple.Walked.{Stays, stay_dropped, walk_of, Goes-dropped}
 use Rattle.std.proofs.cell.Inside.{Good, one}
 use Rattle.std.proofs.raw_atomic.Walks.{proved_at, leaves}
 use Rattle.cc_binding.proofs.Values.{both, both_tt}
-use Rattle.cc_binding.proofs.HeldValues.{R, Z, LZ, Held, held_in}
-use Rattle.cc_binding.specs.contracts.held.Held.none.{ended, clauses}
-use Rattle.cc_binding.specs.contracts.held.Held.none.Key.{name as #self}
-use Rattle.cc_binding.proofs.held.Held.none.Statement.{statement}
-use Rattle.cc_binding.proofs.held.Held.none.Code as code
+use Rattle.cc_binding.proofs.BoxedValues.{R, Z, LZ, Boxed, boxed_in}
+use Rattle.cc_binding.specs.contracts.boxed.Boxed.none.{ended, clauses}
+use Rattle.cc_binding.specs.contracts.boxed.Boxed.none.Key.{name as #self}
+use Rattle.cc_binding.proofs.boxed.Boxed.none.Statement.{statement}
+use Rattle.cc_binding.proofs.boxed.Boxed.none.Code as code
 
 abbrev empty : Option R.Denot
 empty = None
@@ -37,9 +37,9 @@ none_spec 𝓤 𝓛 𝓜 𝓡 wired =
     let κs = z.0.0 in let qs = z.0.1 in let p = z.0.3.0 in let a = z.0.3.1.0 in let Post : Val → SProp 𝓤 = (walk_of 𝓛 En hs c).post z in let Run : List Val → SProp 𝓤 = λ ws. WpFn 𝓤 H 𝓣.C 𝓣.Λ fn ws Post in
     let fits : Good (layout RawPtr) (ptr_val p) = ((rawptr_Lawful 𝓛).typed p (ptr_val p ∷ []) refl).0 in
     let h = one (layout Z) z.0.4.1.0 ((LZ.lawful 𝓛).typed a z.0.4.1.0 are.1.0) in let w : Val = both (ptr_val p) h.0 in
-    let typed : Good (layout Held) w = (both_tt (has_ty (layout RawPtr) (ptr_val p)) (has_ty (layout Z) h.0) fits.0 h.2.0, (fits.1, (h.2.1, tt))) in
+    let typed : Good (layout Boxed) w = (both_tt (has_ty (layout RawPtr) (ptr_val p)) (has_ty (layout Z) h.0) fits.0 h.2.0, (fits.1, (h.2.1, tt))) in
     qed 𝓛 ((raw (alive 𝓛 En.signature κs qs) ⊛ ‵ (owns (types_at En.signature.params κs) z.0.3 z.0.4)) ∷ raw ((c κs z.0.3).requires z.1) ∷ []) ∵ split ! $ move ! (1 ∷ []) $ fsplit3 ! $
-    feq_l ! (λ eu. rewrite ! 0 (λ (us : List Val). ‵ (Z.own_val a us)) h.1 refl $ nothing ! $ held_in ! p h.0 a None $
+    feq_l ! (λ eu. rewrite ! 0 (λ (us : List Val). ‵ (Z.own_val a us)) h.1 refl $ nothing ! $ boxed_in ! p h.0 a None $
     suffices ! (Run (ptr_val p ∷ h.0 ∷ [])) (subst (λ (us : List Val). ent 𝓤 (Run (ptr_val p ∷ h.0 ∷ [])) (Run us)) (sym (λ i. eu i ++ (h.1 i ++ []))) (id⊢ 𝓤 (Run (ptr_val p ∷ h.0 ∷ [])))) $
     enter ! 𝓣.C 𝓣.Λ fn (ptr_val p ∷ h.0 ∷ []) Post $ alloc_all ! (λ l. pass_all ! refl (fits, (h.2, tt)) $
     sets ! (agg ! (and_then ! (get ! refl) (and_then ! (get ! refl) (no_more !)))) refl typed $

@@ -12,12 +12,12 @@ use denote.RawPtr.{Ptr, block_ptr, null_ptr, lies_at}
 use base.Fraction.{full_share}
 use denote.Param.Send.{Quiet, part_keyless}
 use Rattle.std.proofs.Crossing.{frees}
-use Rattle.cc_binding.proofs.kept.Kept.TheSendSync as kept_sent
+use Rattle.cc_binding.proofs.held.Held.TheSendSync as held_sent
 use Rattle.std.specs.contracts.impls.GlobalAllocator.TheImpl.{ghosts}
 use Rattle.std.specs.contracts.alloc.Global as heap
-use Rattle.cc_binding.specs.Held.{held_owns}
-use Rattle.cc_binding.specs.contracts.kept.Kept as kept
+use Rattle.cc_binding.specs.Boxed.{boxed_owns}
 use Rattle.cc_binding.specs.contracts.held.Held as held
+use Rattle.cc_binding.specs.contracts.boxed.Boxed as boxed
 
 quiet : {D X : Type 0} (to : D → X) (e : Exit X) → Quiet e → Quiet (hidden (under to e))
 quiet to unchanged q = λ x w. tt
@@ -27,16 +27,16 @@ lies : (R : RattleType) → IsSend R → (p : Ptr) (x : R.Denot) → Keyless (li
 lies R s (block_ptr b o) x = part_keyless R s full_share x b o
 lies R s null_ptr x = tt
 
-kept_send : IsSend kept.the_row
-kept_send = kept_sent.the_send
+held_send : IsSend held.the_row
+held_send = held_sent.the_send
 
 heap_send : IsSend (heap.the_field).row
 heap_send = search sendable
 
-owned : (d : held.the_row.Denot) (m : Option kept.the_row.Denot) → Keyless (held_owns (ghosts.dealloc_token d.alloc) kept.the_row d.at m)
+owned : (d : boxed.the_row.Denot) (m : Option held.the_row.Denot) → Keyless (boxed_owns (ghosts.dealloc_token d.alloc) held.the_row d.at m)
 owned d None = tt
-owned d (Some x) = (lies kept.the_row kept_send d.at x, frees.frees d.alloc (raw (lone kept.the_row.mir)) d.at)
+owned d (Some x) = (lies held.the_row held_send d.at x, frees.frees d.alloc (raw (lone held.the_row.mir)) d.at)
 
-pub send : IsSend held.the_row
+pub send : IsSend boxed.the_row
 send = let ps : IsSend RawPtr = search sendable in
-    owning_send held.the_type (ps, (heap_send, tt)) (λ d. owned d d.value) (λ k. quiet (to held.the_type) (exits_of k (fields held.the_type)) ((struct_send (shape held.the_type) (ps, (heap_send, tt))).leaving k))
+    owning_send boxed.the_type (ps, (heap_send, tt)) (λ d. owned d d.value) (λ k. quiet (to boxed.the_type) (exits_of k (fields boxed.the_type)) ((struct_send (shape boxed.the_type) (ps, (heap_send, tt))).leaving k))

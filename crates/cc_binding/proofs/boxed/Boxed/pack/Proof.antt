@@ -19,11 +19,11 @@ use denote.Triple.Walked.{Stays, stay_dropped, walk_of, Goes-dropped}
 use Rattle.std.proofs.raw_atomic.Walks.{proved_at, leaves}
 use Rattle.std.specs.contracts.impls.GlobalAllocator.TheImpl.{ghosts}
 use Rattle.cc_binding.proofs.Values.{both, Loose, loose_good, loose_out}
-use Rattle.cc_binding.proofs.HeldValues.{R, Z, LZ, held_in}
-use Rattle.cc_binding.specs.contracts.held.Held.pack.{ended, clauses}
-use Rattle.cc_binding.specs.contracts.held.Held.pack.Key.{name as #self}
-use Rattle.cc_binding.proofs.held.Held.pack.Statement.{statement}
-use Rattle.cc_binding.proofs.held.Held.pack.Code as code
+use Rattle.cc_binding.proofs.BoxedValues.{R, Z, LZ, boxed_in}
+use Rattle.cc_binding.specs.contracts.boxed.Boxed.pack.{ended, clauses}
+use Rattle.cc_binding.specs.contracts.boxed.Boxed.pack.Key.{name as #self}
+use Rattle.cc_binding.proofs.boxed.Boxed.pack.Statement.{statement}
+use Rattle.cc_binding.proofs.boxed.Boxed.pack.Code as code
 
 abbrev Whole : RattleType
 Whole = Loose R Z LZ ghosts
@@ -41,7 +41,7 @@ pack_spec 𝓤 𝓛 𝓜 𝓡 wired =
     enter ! 𝓣.C 𝓣.Λ fn (w ∷ []) Post $ alloc_all ! (λ l. pass_all ! refl (typed, tt) $
     sets ! (of_opd ! (get_in ! (fld ! refl (stop !)) (sub ! 0 refl (whole !)))) refl (tt, tt) $ sets ! (of_opd ! (get_in ! (fld ! refl (stop !)) (sub ! 1 refl (whole !)))) refl fits $
     sets ! (of_opd ! (get ! refl)) refl (tt, tt) $ sets ! (agg ! (and_then ! (get ! refl) (and_then ! (get ! refl) (no_more !)))) refl typed $
-    held_in ! (block_ptr b o) h v.alloc (Some v.value) $
+    boxed_in ! (block_ptr b o) h v.alloc (Some v.value) $
     use0 𝓛 (raw (fact 𝓤 (Some v.value ≡ Some v.value))) (fact_i 𝓤 (Some v.value ≡ Some v.value) (emp 𝓤) refl) $ nothing ! $ nothing ! $ fjoin ! $
     returns ! (look_at ! 0 refl) $ free_all ! refl $ keep ! (4 ∷ 0 ∷ 2 ∷ 1 ∷ []) $
     by ! (leaves 𝓛 En hs c z w (record { at = block_ptr b o; alloc = v.alloc; value = Some v.value }) (tt, tt) (tt, tt)))))
