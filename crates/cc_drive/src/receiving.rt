@@ -98,7 +98,7 @@ pub(crate) fn take_all<G: Gate, R: Wait>(
     let _ = row;
     let mut gate = gate;
     let mut receiver = receiver;
-    receiver.stands();
+    receiver.is_sound();
     let mut turns = Turns::new(limit);
     let mut kept = Kept::new(alloc);
     let mut pace = Pace::new();

@@ -116,7 +116,7 @@ pub(crate) fn send_all<G: Gate, R: Wait>(
     let _ = row;
     let mut gate = gate;
     let mut sender = sender;
-    sender.stands();
+    sender.is_sound();
     let mut turns = Turns::new(limit);
     let mut kept = Kept::new(alloc);
     let mut begun: u32 = 0;

@@ -22,7 +22,7 @@ fn await_send<R: Wait>(queue: &Queue, rt: &R, pending: PendingSend) -> (Sender, 
 {
     let backoff = Backoff::new();
     let mut pending = pending;
-    pending.stands();
+    pending.is_sound();
     for _ in rt.forever() {
         match turn_send(queue, pending) {
             SendTurn::Waiting(same) => pending = same,
@@ -44,7 +44,7 @@ fn await_close<R: Wait>(queue: &Queue, rt: &R, pending: PendingClose) -> (Sender
 {
     let backoff = Backoff::new();
     let mut pending = pending;
-    pending.stands();
+    pending.is_sound();
     for _ in rt.forever() {
         match turn_close(queue, pending) {
             CloseTurn::Waiting(same) => pending = same,
@@ -66,7 +66,7 @@ fn await_take<R: Wait>(queue: &Queue, rt: &R, pending: PendingTake) -> (Receiver
 {
     let backoff = Backoff::new();
     let mut pending = pending;
-    pending.stands();
+    pending.is_sound();
     for _ in rt.forever() {
         match turn_take(queue, pending) {
             TakeTurn::Waiting(same) => pending = same,
@@ -131,7 +131,7 @@ pub fn take_until<R: Wait>(queue: &Queue, rt: &R, receiver: Receiver) -> (Receiv
 {
     let backoff = Backoff::new();
     let mut receiver = receiver;
-    receiver.stands();
+    receiver.is_sound();
     for _ in rt.forever() {
         let (after, answer) = take(queue, rt, receiver);
         match answer {
@@ -161,7 +161,7 @@ pub fn send_until<R: Wait>(
 {
     let backoff = Backoff::new();
     let mut sender = sender;
-    sender.stands();
+    sender.is_sound();
     for _ in rt.forever() {
         let (after, answer) = send(queue, rt, sender, body)?;
         match answer {

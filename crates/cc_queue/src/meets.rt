@@ -20,8 +20,8 @@ fn meet_seats(words: &Words, one: &mut PassSeat, other: &mut PassSeat)
 {
     look(words, one, other);
     look(words, other, one);
-    one.stands();
-    other.stands();
+    one.is_sound();
+    other.is_sound();
 }
 
 /// Afterwards the sender and the receiver have seen one history, which begins with what each had seen.
@@ -64,7 +64,7 @@ fn sweep_senders(words: &Words, first: &mut PassSeat, others: &mut [Sender])
     requires others { All (λ w. IsOfOne first.old w) others.old }
     ensures { Swept first.old first.new others.old others.new }
 {
-    first.stands();
+    first.is_sound();
     for other in others.iter_mut() {
         meet_seats(words, first, &mut other.at.seat);
     }
@@ -77,7 +77,7 @@ fn sweep_receivers(words: &Words, first: &mut PassSeat, others: &mut [Receiver])
     requires others { All (λ w. IsOfOne first.old w) others.old }
     ensures { Swept first.old first.new others.old others.new }
 {
-    first.stands();
+    first.is_sound();
     for other in others.iter_mut() {
         meet_seats(words, first, &mut other.at.seat);
     }

@@ -167,54 +167,54 @@ impl Sender {
     pub fn begun(&self) -> u32
         ensures { HasBegunSends self.now result }
     {
-        self.at.seat.stands();
+        self.at.seat.is_sound();
         self.at.begun
     }
 
     /// All that the sender has seen stands in one history, in which each of its calls has its answer: a fact for proofs,
     /// and no work.
-    pub fn stands(&self)
+    pub fn is_sound(&self)
         ensures met { HasMet self.now self.now }
         ensures rest { IsAtRest self.now }
     {
-        self.at.seat.stands();
+        self.at.seat.is_sound();
     }
 }
 
 impl Receiver {
     /// All that the receiver has seen stands in one history, in which each of its calls has its answer: a fact for proofs,
     /// and no work.
-    pub fn stands(&self)
+    pub fn is_sound(&self)
         ensures met { HasMet self.now self.now }
         ensures rest { IsAtRest self.now }
     {
-        self.at.seat.stands();
+        self.at.seat.is_sound();
     }
 }
 
 impl PendingSend {
     /// All that the sender has seen stands in one history.
-    pub(crate) fn stands(&self)
+    pub(crate) fn is_sound(&self)
         ensures { StandsInOne self.now [] self.now }
     {
-        self.at.seat.stands();
+        self.at.seat.is_sound();
     }
 }
 
 impl PendingClose {
     /// All that the sender has seen stands in one history.
-    pub(crate) fn stands(&self)
+    pub(crate) fn is_sound(&self)
         ensures { StandsInOne self.now [] self.now }
     {
-        self.at.seat.stands();
+        self.at.seat.is_sound();
     }
 }
 
 impl PendingTake {
     /// All that the receiver has seen stands in one history.
-    pub(crate) fn stands(&self)
+    pub(crate) fn is_sound(&self)
         ensures { StandsInOne self.now [] self.now }
     {
-        self.at.seat.stands();
+        self.at.seat.is_sound();
     }
 }

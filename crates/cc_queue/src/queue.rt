@@ -196,7 +196,7 @@ impl Queue {
     }
 
     /// Its configuration was checked: a fact for proofs, and no work.
-    pub(crate) fn stands(&self)
+    pub(crate) fn is_sound(&self)
         ensures { config_fault self.now.setting.config ≡ Ok tt }
     {
         let _config = &self.config;

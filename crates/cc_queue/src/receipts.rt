@@ -19,7 +19,7 @@ fn all_senders_stand(senders: &[Sender])
     ensures { All IsAtRest senders.now }
 {
     for sender in senders {
-        sender.stands();
+        sender.is_sound();
     }
 }
 
@@ -28,7 +28,7 @@ fn all_receivers_stand(receivers: &[Receiver])
     ensures { All IsAtRest receivers.now }
 {
     for receiver in receivers {
-        receiver.stands();
+        receiver.is_sound();
     }
 }
 
@@ -58,7 +58,7 @@ pub fn audit_all(
     ensures told { IfOk result (λ v. v ≡ Verdict.Clean) }
 {
     let _ = group;
-    queue.stands();
+    queue.is_sound();
     all_senders_stand(senders);
     all_receivers_stand(receivers);
     audit(alloc, sends, takes, total)

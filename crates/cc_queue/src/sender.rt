@@ -36,7 +36,7 @@ pub fn begin_send(queue: &Queue, sender: Sender, body: u64) -> Result<PendingSen
         Call::Send(body),
         request,
     );
-    at.seat.stands();
+    at.seat.is_sound();
     Ok(PendingSend { at })
 }
 
@@ -51,7 +51,7 @@ pub fn begin_close(queue: &Queue, sender: Sender) -> PendingClose
         body: BodyWords::one(0),
     };
     at.node = begin_request(&queue.words, &mut at.seat, at.node, Call::Close, request);
-    at.seat.stands();
+    at.seat.is_sound();
     PendingClose { at }
 }
 
@@ -63,7 +63,7 @@ pub fn turn_send(queue: &Queue, pending: PendingSend) -> SendTurn
 {
     let PendingSend { mut at } = pending;
     let turn = turn_request(&queue.words, &mut at.seat, &queue.config, at.node);
-    at.seat.stands();
+    at.seat.is_sound();
     match turn {
         None => SendTurn::Waiting(PendingSend { at }),
         Some((ret, served)) => SendTurn::Done {
@@ -81,7 +81,7 @@ pub fn turn_close(queue: &Queue, pending: PendingClose) -> CloseTurn
 {
     let PendingClose { mut at } = pending;
     let turn = turn_request(&queue.words, &mut at.seat, &queue.config, at.node);
-    at.seat.stands();
+    at.seat.is_sound();
     match turn {
         None => CloseTurn::Waiting(PendingClose { at }),
         Some((ret, served)) => CloseTurn::Done {

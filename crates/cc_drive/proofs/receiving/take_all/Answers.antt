@@ -6,7 +6,7 @@ use Rattle.cc_drive.proofs.Workers.{working_none, working_more, got_one, got_emp
 use Rattle.cc_drive.proofs.receiving.take_all.Goals as goal
 
 pub loop-turns-init : goal.loop-turns-init
-loop-turns-init g c = (working_none got c.args.queue.now c.args.row (Pass.Receiver c.args.number) c.args.receiver _ _ c.requires.fresh c.requires.named c.stands.ensures.met c.new-kept.ensures, search rules, search rules)
+loop-turns-init g c = (working_none got c.args.queue.now c.args.row (Pass.Receiver c.args.number) c.args.receiver _ _ c.requires.fresh c.requires.named c.is_sound.ensures.met c.new-kept.ensures, search rules, search rules)
 
 pub returns-in-Ended : goal.returns-in-Ended
 returns-in-Ended g c =

@@ -9,8 +9,8 @@ use Rattle.cc_drive.proofs.Workers.{calls_fresh, working_none, working_more, wor
 use Rattle.cc_drive.proofs.sending.send_all.Goals as goal
 
 pub loop-accepted-init : goal.loop-accepted-init
-loop-accepted-init g c = let none = calls_fresh c.args.queue.now c.args.row c.args.sender c.requires.fresh c.stands.ensures.met in (
-  working_none sent c.args.queue.now c.args.row (Pass.Sender c.args.number) c.args.sender _ _ c.requires.fresh c.requires.named c.stands.ensures.met c.new-kept.ensures,
+loop-accepted-init g c = let none = calls_fresh c.args.queue.now c.args.row c.args.sender c.requires.fresh c.is_sound.ensures.met in (
+  working_none sent c.args.queue.now c.args.row (Pass.Sender c.args.number) c.args.sender _ _ c.requires.fresh c.requires.named c.is_sound.ensures.met c.new-kept.ensures,
   search rules,
   search rules,
   sym (ap (λ (w : Walk). w.stand.begun) c.requires.fresh),

@@ -6,7 +6,7 @@ use Rattle.cc_queue.proofs.Trying.{trying_none, trying_more, taken_so}
 use Rattle.cc_queue.proofs.blocking.take_until.Goals as goal
 
 pub loop-init : goal.loop-init
-loop-init g c = (trying_none Call.Take (Answer.Take TakeAnswer.Empty) c.args.receiver c.stands.ensures.met.stands, c.requires)
+loop-init g c = (trying_none Call.Take (Answer.Take TakeAnswer.Empty) c.args.receiver c.is_sound.ensures.met.stands, c.requires)
 
 pub returns-in_default : goal.returns-in_default
 returns-in_default g c = taken_so c.args.receiver c.loop.receiver c.take-after.result.0 c.take-after.result.1 c.loop.invariant.0 c.take-after.ensures (settled_unless _ c.in_default.not-Empty)

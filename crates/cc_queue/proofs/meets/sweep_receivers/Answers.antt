@@ -6,7 +6,7 @@ use Rattle.cc_queue.proofs.Meetings.{idle_still, met_on, met_so, met_still, swee
 use Rattle.cc_queue.proofs.meets.sweep_receivers.Goals as goal
 
 pub loop-other-init : goal.loop-other-init
-loop-other-init c = sweeps_none c.args.first.now c.args.others.now (met_still c.args.first.now c.requires.idle c.stands.ensures)
+loop-other-init c = sweeps_none c.args.first.now c.args.others.now (met_still c.args.first.now c.requires.idle c.is_sound.ensures)
 
 pub loop-other-preserved : goal.loop-other-preserved
 loop-other-preserved c =

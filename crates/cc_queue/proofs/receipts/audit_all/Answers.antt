@@ -8,11 +8,11 @@ use Rattle.cc_queue.proofs.receipts.audit_all.Goals as goal
 
 pub returns-clause-just : goal.returns-clause-just
 returns-clause-just c =
-    has_just c.args.queue.now c.args.senders.now c.args.receivers.now c.stands.ensures c.requires.all c.requires.one c.all_senders_stand.ensures c.all_receivers_stand.ensures
+    has_just c.args.queue.now c.args.senders.now c.args.receivers.now c.is_sound.ensures c.requires.all c.requires.one c.all_senders_stand.ensures c.all_receivers_stand.ensures
 
 pub returns-clause-clean : goal.returns-clause-clean
 returns-clause-clean c =
-    are_clean c.args.queue.now c.args.senders.now c.args.receivers.now c.args.group c.args.sends.now c.args.takes.now c.args.total c.stands.ensures c.requires.low c.requires.high c.requires.all c.requires.one c.all_senders_stand.ensures c.requires.sends c.requires.takes c.requires.total
+    are_clean c.args.queue.now c.args.senders.now c.args.receivers.now c.args.group c.args.sends.now c.args.takes.now c.args.total c.is_sound.ensures c.requires.low c.requires.high c.requires.all c.requires.one c.all_senders_stand.ensures c.requires.sends c.requires.takes c.requires.total
 
 pub returns-clause-told : goal.returns-clause-told
 returns-clause-told c =

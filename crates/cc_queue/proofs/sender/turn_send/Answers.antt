@@ -6,16 +6,16 @@ use Rattle.cc_queue.proofs.sender.turn_send.Goals as goal
 
 pub send_answer-requires : goal.send_answer-requires
 send_answer-requires c =
-    send_told c.pending.inside.at.seat c.turn_request-turn.new.seat _ c.pending.invariant.0.list c.stands.ensures c.in-Some.ensures.done.worked c.in-Some.ensures.told c.pending.invariant.1
+    send_told c.pending.inside.at.seat c.turn_request-turn.new.seat _ c.pending.invariant.0.list c.is_sound.ensures c.in-Some.ensures.done.worked c.in-Some.ensures.told c.pending.invariant.1
 
 pub returns-in-None : goal.returns-in-None
 returns-in-None c =
     let e = c.in-None.ensures in
-    waited_so _ c.pending.inside.at.seat c.turn_request-turn.new.seat c.pending.view_is c.pending.invariant.0.list (ap (λ (x : Stand). x.place) c.pending.invariant.0.stand) c.stands.ensures e.waits
+    waited_so _ c.pending.inside.at.seat c.turn_request-turn.new.seat c.pending.view_is c.pending.invariant.0.list (ap (λ (x : Stand). x.place) c.pending.invariant.0.stand) c.is_sound.ensures e.waits
 
 pub returns-in-Some : goal.returns-in-Some
 returns-in-Some c =
     let e = c.in-Some.ensures in
     let list = listed c.queue.inside.words _ _ c.pending.inside.at.seat c.queue.inside.config c.queue.view_is c.queue.invariant.list c.requires c.pending.view_is in
     subst (λ (a : Answer). Answered c.args.pending a c.in-Some.served c.turn_request-turn.new.seat) c.send_answer.ensures
-    (answered_so _ c.pending.inside.at.seat c.turn_request-turn.new.seat c.queue.inside.config _ c.in-Some.served c.pending.view_is list c.stands.ensures e.done e.told e.few)
+    (answered_so _ c.pending.inside.at.seat c.turn_request-turn.new.seat c.queue.inside.config _ c.in-Some.served c.pending.view_is list c.is_sound.ensures e.done e.told e.few)
