@@ -2,7 +2,7 @@
 ghost use Rattle.std.specs.Prelude.{◌≡◌, ◌<◌, length, map, IfOk};
 ghost use Rattle.std.specs.Option.{option_to_list};
 ghost use Rattle.cc_model.specs.Items.{accepted_item};
-ghost use Rattle.cc_model.specs.Kept.{lists};
+ghost use Rattle.cc_model.specs.HistoryRoom.{lists};
 ghost use Rattle.cc_audit.specs.Receipts as receipts;
 ghost use Rattle.cc_audit.specs.Receipts.{sends_of, takes_of, total_of};
 

@@ -1,6 +1,6 @@
 -- What every run gives a board.
 use Rattle.std.proofs.Common.{◌≡◌, ℕ, ◌<◌, List, Option, Some, None, IfSome, sym, subst, refl}
-use Rattle.cc_model.specs.Kept.{lists}
+use Rattle.cc_model.specs.HistoryRoom.{lists}
 use Rattle.cc_machine.specs.Names.{Answer, Pass, SendAnswer, Setting, Board, Place, Move}
 use Rattle.std.specs.Option.{option_map}
 use Rattle.cc_runs.specs.Codes.{count_word}

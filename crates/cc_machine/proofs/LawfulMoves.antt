@@ -3,7 +3,7 @@ use Rattle.std.proofs.Common.{◌≡◌, ◌≢◌, ◌⊎◌, inl, inr, zero, s
 use Rattle.std.proofs.lemmas.Bool.{cases_eq, eq-eqb, ne_eqb}
 use Rattle.std.proofs.lemmas.List.{length-map}
 use Rattle.cc_model.specs.Config.{config_fault}
-use Rattle.cc_model.specs.Kept.{Kept, KeptSide, lists}
+use Rattle.cc_model.specs.HistoryRoom.{HistoryRoom, SideRoom, lists}
 use Rattle.cc_model.specs.Record.{Side, Record, silent}
 use Rattle.cc_machine.specs.Names.{Call, Answer, Setting, Chain, Stand, Place, Sending, Board, Served, Config, Event, Move}
 use Rattle.cc_runs.specs.Words.{groups, IsSmall, layout_of, size}
@@ -20,7 +20,7 @@ use Rattle.cc_runs.specs.Step.{advanced, stepped}
 use Rattle.cc_runs.specs.Run.{opening, nowhere, passes, moved, reached, IsRun, May, rests, IsFinished}
 use Rattle.cc_runs.specs.Ready.{HasOpenCall, IsOpenAt, IsReady}
 use Rattle.cc_machine.specs.View.{View, state_in}
-use Rattle.cc_machine.specs.BoardSteps.{kept_side, view_of, state_of, IsLaid, Keeps, HasCallRoom, HasAnswerRoom, HasRoom, CanStep, stepper_at, Moved}
+use Rattle.cc_machine.specs.BoardSteps.{side_room, view_of, state_of, IsLaid, Keeps, HasCallRoom, HasAnswerRoom, HasRoom, CanStep, stepper_at, Moved}
 use Rattle.cc_machine.specs.Machine.{IsReached, told_at}
 use Rattle.cc_machine.specs.Lawful.{to_come, coming, HasRoomToCome, IsLawful}
 use Rattle.cc_runs.specs.CallsMade.{before_exchange}
@@ -35,11 +35,11 @@ history_shown : (b : Board) → (state_of b).history ≡ lists b.history
 history_shown b = history_in (view_of b)
 
 -- what is kept of a side is that side
-pub kept_lists : (x : Chain) (h : Kept) → side x (lists h) ≡ (kept_side x h).lists
-kept_lists Chain.Send h = refl
-kept_lists (Chain.Take g) h = at h.takes g
+pub room_lists : (x : Chain) (h : HistoryRoom) → side x (lists h) ≡ (side_room x h).lists
+room_lists Chain.Send h = refl
+room_lists (Chain.Take g) h = at h.takes g
   where
-    at : (sides : List KeptSide) (g : ℕ) → get_or (map (λ s. s.lists) sides) g silent ≡ (get_or sides g record { lists = silent; room = 0 }).lists
+    at : (sides : List SideRoom) (g : ℕ) → get_or (map (λ s. s.lists) sides) g silent ≡ (get_or sides g record { lists = silent; room = 0 }).lists
     at [] g = refl
     at (s ∷ sides) zero = refl
     at (s ∷ sides) (suc g) = at sides g
@@ -63,11 +63,11 @@ goes_on old new m r may same is = record {
 abbrev calls_on : Record → Chain → ℕ
 calls_on h x = length (side x h).calls
 
-abbrev room_on : Kept → Chain → ℕ
-room_on h x = (kept_side x h).room
+abbrev room_on : HistoryRoom → Chain → ℕ
+room_on h x = (side_room x h).room
 
-calls_kept : (b : Board) (x : Chain) → calls_on (state_of b).history x ≡ length (kept_side x b.history).lists.calls
-calls_kept b x = ap (λ (h : Record). calls_on h x) (history_shown b) ∙ ap (λ (s : Side). length s.calls) (kept_lists x b.history)
+calls_kept : (b : Board) (x : Chain) → calls_on (state_of b).history x ≡ length (side_room x b.history).lists.calls
+calls_kept b x = ap (λ (h : Record). calls_on h x) (history_shown b) ∙ ap (λ (s : Side). length s.calls) (room_lists x b.history)
 
 -- there is room for the calls to come of this chain
 abbrev Fits : Board → Chain → Type 0
@@ -226,13 +226,13 @@ lawful_begin old new p call known l room may k is =
 
 -- ---- what a step needs
 
-call_room : (h : Kept) (x : Chain) (n : ℕ) → length (kept_side x h).lists.calls + n ≤ room_on h x → 1 ≤ n → HasCallRoom h x
+call_room : (h : HistoryRoom) (x : Chain) (n : ℕ) → length (side_room x h).lists.calls + n ≤ room_on h x → 1 ≤ n → HasCallRoom h x
 call_room h x n fits some = omega (arith, fits, some)
 
-answer_room : (h : Kept) (x : Chain) (n : ℕ) → length (kept_side x h).lists.calls + n ≤ room_on h x → HasOpenCall (lists h) x → HasAnswerRoom h x
-answer_room h x n fits waits = omega (arith, fits, waits, ap (λ (s : Side). length s.calls) (kept_lists x h), ap (λ (s : Side). length s.answers) (kept_lists x h))
+answer_room : (h : HistoryRoom) (x : Chain) (n : ℕ) → length (side_room x h).lists.calls + n ≤ room_on h x → HasOpenCall (lists h) x → HasAnswerRoom h x
+answer_room h x n fits waits = omega (arith, fits, waits, ap (λ (s : Side). length s.calls) (room_lists x h), ap (λ (s : Side). length s.answers) (room_lists x h))
 
-room_at : (h : Kept) (x : Chain) (at : Place) (n : ℕ) → length (kept_side x h).lists.calls + n ≤ room_on h x → before_exchange at ≤ n → IsOpenAt (lists h) x at → HasRoom h x at
+room_at : (h : HistoryRoom) (x : Chain) (at : Place) (n : ℕ) → length (side_room x h).lists.calls + n ≤ room_on h x → before_exchange at ≤ n → IsOpenAt (lists h) x at → HasRoom h x at
 room_at h x (Place.Exchange call) n fits some waits = call_room h x n fits some
 room_at h x (Place.Counting job service) n fits some waits = answer_room h x n fits waits
 room_at h x (Place.Sending job (Sending.WriteLastMark total)) n fits some waits = tt
@@ -278,7 +278,7 @@ lawful_open c b checked same is laid =
       checked = subst (λ (z : Setting). config_fault z.config ≡ Ok tt) (sym same) checked;
       laid = laid;
       reached = record { moves = []; run = tt; leads = subst (λ (z : Setting). opening z ≡ state_of b) (sym same) (sym is) };
-      rooms = λ x there. subst (λ (z : Setting). length (kept_side x b.history).lists.calls + coming z x (passes z) (state_of b).stand ≤ room_on b.history x) (sym same) (omega (arith, calls x, calls_kept b x, none x));
+      rooms = λ x there. subst (λ (z : Setting). length (side_room x b.history).lists.calls + coming z x (passes z) (state_of b).stand ≤ room_on b.history x) (sym same) (omega (arith, calls x, calls_kept b x, none x));
     }
 
 -- an event, and an answer that was asked for

@@ -1,4 +1,4 @@
-pub mod KeptSides
+pub mod SideRooms
 pub mod Rows
 pub mod Faults
 pub mod RoomToCome

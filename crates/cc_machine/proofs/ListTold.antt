@@ -1,7 +1,7 @@
 -- What the calls of a list are told, and that its history is lawful.
 use Rattle.std.proofs.Common.{◌≡◌, Ok, subst}
 use Rattle.cc_model.specs.Config.{config_fault}
-use Rattle.cc_model.specs.Kept.{lists}
+use Rattle.cc_model.specs.HistoryRoom.{lists}
 use Rattle.cc_model.specs.Record.{Record}
 use Rattle.cc_model.specs.Legal.{Legal}
 use Rattle.cc_machine.specs.Names.{Board, Setting, Served}

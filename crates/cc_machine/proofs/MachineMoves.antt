@@ -1,7 +1,7 @@
 -- The machine of a list stays one by each of its calls.
 use Rattle.std.proofs.Common.{◌≡◌, ◌≢◌, ◌<◌, arith, ℕ, length, Option, Some, None, Result, Ok, Err, OnOk, OnErr, refl, sym, ap, subst, ◌∙◌}
 use Rattle.cc_model.specs.Record.{Record, empty, of_group}
-use Rattle.cc_model.specs.Kept.{lists}
+use Rattle.cc_model.specs.HistoryRoom.{lists}
 use Rattle.cc_machine.specs.Names.{Call, Answer, Setting, Served, BeginFault, Known, Chain, Board, Event, Place, Sending}
 use Rattle.cc_runs.specs.State.{State, chain_of, word_of}
 use Rattle.cc_runs.specs.Lines.{operation, enters, decides}

@@ -1,6 +1,6 @@
 -- The state that a board shows, and what its steps ask for and do.
 use Rattle.std.specs.Prelude.{List, ◌≡◌, ◌≢◌, ℕ, ◌<◌, slice_index_or, length}
-use Rattle.cc_model.specs.Kept.{KeptSide, Kept, kept_of_group, lists}
+use Rattle.cc_model.specs.HistoryRoom.{SideRoom, HistoryRoom, room_of_group, lists}
 use Rattle.cc_machine.specs.Names.{Setting, Chain, Kind, Event, Stand, Place, Board, Stepper}
 use Rattle.cc_runs.specs.Words.{IsSmall, layout_of, size, groups}
 use Rattle.cc_runs.specs.State.{State, first_node, chain_of}
@@ -25,21 +25,21 @@ pub record IsLaid (b : Board) : Type 0 where
   pub stands : length b.stands.items ≡ passes b.setting
   pub groups : length b.history.takes ≡ groups b.setting.config
 
--- what is kept of a chain's side
-abbrev pub kept_side : Chain → Kept → KeptSide
-kept_side Chain.Send h = h.sends
-kept_side (Chain.Take g) h = kept_of_group h g
+-- a chain's side, with its room
+abbrev pub side_room : Chain → HistoryRoom → SideRoom
+side_room Chain.Send h = h.sends
+side_room (Chain.Take g) h = room_of_group h g
 
 -- room for a further call of this chain
-abbrev pub HasCallRoom : Kept → Chain → Type 0
-HasCallRoom h x = length (kept_side x h).lists.calls < (kept_side x h).room
+abbrev pub HasCallRoom : HistoryRoom → Chain → Type 0
+HasCallRoom h x = length (side_room x h).lists.calls < (side_room x h).room
 
 -- room for a further answer
-abbrev pub HasAnswerRoom : Kept → Chain → Type 0
-HasAnswerRoom h x = length (kept_side x h).lists.answers < (kept_side x h).room
+abbrev pub HasAnswerRoom : HistoryRoom → Chain → Type 0
+HasAnswerRoom h x = length (side_room x h).lists.answers < (side_room x h).room
 
 -- room for what the step at this place puts into the history
-abbrev pub HasRoom : Kept → Chain → Place → Type 0
+abbrev pub HasRoom : HistoryRoom → Chain → Place → Type 0
 HasRoom h x (Place.Exchange call) = HasCallRoom h x
 HasRoom h x at = WhileUndecided at (HasAnswerRoom h x)
 
@@ -59,7 +59,7 @@ pub record Keeps (old new : Board) : Type 0 where
   pub setting : new.setting ≡ old.setting
   pub words : length new.words.items ≡ length old.words.items
   pub stands : length new.stands.items ≡ length old.stands.items
-  pub rooms : (x : Chain) → (kept_side x new.history).room ≡ (kept_side x old.history).room
+  pub rooms : (x : Chain) → (side_room x new.history).room ≡ (side_room x old.history).room
   pub groups : length new.history.takes ≡ length old.history.takes
 
 -- the step of this stepper, at this place, was done

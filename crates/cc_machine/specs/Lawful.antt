@@ -2,12 +2,12 @@
 use Rattle.std.specs.Prelude.{◌≡◌, ℕ, zero, suc, ◌+◌, ◌≤◌, ◌<◌, ◌==◌, max, Bool, if◌then◌else◌, length, Ok}
 use Rattle.cc_model.specs.Config.{config_fault}
 use Rattle.cc_machine.specs.Names.{Setting, Served, Chain, Stand, Place, Board, Known}
-use Rattle.cc_model.specs.Kept.{lists}
+use Rattle.cc_model.specs.HistoryRoom.{lists}
 use Rattle.cc_runs.specs.OnChain.{IsThere}
 use Rattle.cc_machine.specs.Known.{IsKnown}
 use Rattle.cc_runs.specs.State.{chain_of, side}
 use Rattle.cc_runs.specs.Run.{passes}
-use Rattle.cc_machine.specs.BoardSteps.{view_of, state_of, IsLaid, kept_side}
+use Rattle.cc_machine.specs.BoardSteps.{view_of, state_of, IsLaid, side_room}
 use Rattle.cc_runs.specs.CallsMade.{before_exchange}
 use Rattle.cc_machine.specs.Machine.{IsReached}
 
@@ -32,18 +32,18 @@ all_coming b x = coming b.setting x (passes b.setting) (state_of b).stand
 
 -- room in the history of this side for the calls to come, and for one more
 abbrev pub HasRoomToCome : Board → Chain → Type 0
-HasRoomToCome b x = length (kept_side x b.history).lists.calls + all_coming b x + 1 ≤ (kept_side x b.history).room
+HasRoomToCome b x = length (side_room x b.history).lists.calls + all_coming b x + 1 ≤ (side_room x b.history).room
 
 -- there is less room on this side than for the calls to come and one more, or for their answers
 abbrev pub LacksRoom : Board → Chain → Type 0
-LacksRoom b x = (kept_side x b.history).room < max (length (kept_side x b.history).lists.calls) (length (kept_side x b.history).lists.answers) + all_coming b x + 1
+LacksRoom b x = (side_room x b.history).room < max (length (side_room x b.history).lists.calls) (length (side_room x b.history).lists.answers) + all_coming b x + 1
 
 -- a run leads to it
 pub record IsLawful (b : Board) : Type 0 where
   pub checked : config_fault b.setting.config ≡ Ok tt
   pub laid : IsLaid b
   pub reached : IsReached (view_of b)
-  pub rooms : (x : Chain) → IsThere b.setting.config x → length (kept_side x b.history).lists.calls + coming b.setting x (passes b.setting) (state_of b).stand ≤ (kept_side x b.history).room
+  pub rooms : (x : Chain) → IsThere b.setting.config x → length (side_room x b.history).lists.calls + coming b.setting x (passes b.setting) (state_of b).stand ≤ (side_room x b.history).room
 
 -- the board of a counter
 pub record IsCounter (b : Board) : Type 0 where

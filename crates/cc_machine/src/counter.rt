@@ -29,7 +29,7 @@ impl Model for CounterMachine {
 impl CounterMachine {
     ghost use Rattle.std.specs.Prelude.{◌≡◌, Ok, OnOk, OnErr, IfOk, IfErr, IfSome};
     ghost use Rattle.std.specs.Option.{option_map};
-    ghost use Rattle.cc_model.specs.Kept.{lists};
+    ghost use Rattle.cc_model.specs.HistoryRoom.{lists};
     ghost use Rattle.cc_model.specs.Config.{config_fault};
     ghost use Rattle.cc_runs.specs.Codes.{count_word};
     ghost use Rattle.cc_machine.specs.Machine.{IsOpened, index_of, begin_fault, IsBeginFault, IsReached, HasBegun, event_of, HasStepped, answer_of, HasTaken};

@@ -1,5 +1,5 @@
 ghost use Rattle.std.specs.Prelude.{◌≡◌, ◌≤◌, ◌<◌, false, length, replicate, slice_get, slice_index_or};
-ghost use Rattle.cc_model.specs.Kept.{lists};
+ghost use Rattle.cc_model.specs.HistoryRoom.{lists};
 ghost use Rattle.cc_machine.specs.Known as known;
 
 use cc_model::{Answer, Call, CloseAnswer, Entry, History, Pass, SendAnswer, TakeAnswer};

@@ -34,7 +34,7 @@ impl Machine {
     ghost use Rattle.std.specs.Bool.{OnTrue};
     ghost use Rattle.cc_model.specs.Config.{config_fault};
     ghost use Rattle.cc_model.specs.Items.{known_at};
-    ghost use Rattle.cc_model.specs.Kept.{lists};
+    ghost use Rattle.cc_model.specs.HistoryRoom.{lists};
     ghost use Rattle.cc_model.specs.Legal.{Legal};
     ghost use Rattle.cc_model.specs.Fifo.{Fifo};
     ghost use Rattle.cc_machine.specs.Machine.{IsOpened, index_of, begin_fault, IsBeginFault, IsReached, HasBegun, event_of, waits_in, StandsStill, HasStepped, answer_of, HasTaken};

@@ -3,7 +3,7 @@ ghost use Rattle.std.specs.Bool.{OnTrue};
 ghost use Rattle.cc_model.specs.Config.{config_fault};
 ghost use Rattle.cc_model.specs.Items.{known_at};
 ghost use Rattle.cc_runs.specs.Ready.{IsReady};
-ghost use Rattle.cc_machine.specs.BoardSteps.{view_of, state_of, kept_side, IsLaid};
+ghost use Rattle.cc_machine.specs.BoardSteps.{view_of, state_of, side_room, IsLaid};
 ghost use Rattle.cc_runs.specs.Run.{passes};
 ghost use Rattle.cc_machine.specs.Machine.{IsOpened, OnSide, index_of, begin_fault, IsBeginFault, HasBegun, event_of, HasStepped, answer_of, HasTaken};
 ghost use Rattle.cc_runs.specs.Opening.{IsOpenFault};
@@ -124,7 +124,7 @@ impl Board {
         requires laid { IsLaid self.old }
         requires there { IsThere self.old.setting.config chain }
         ensures view { view_of self.new ≡ view_of self.old }
-        ensures rooms { (x : Chain) → (kept_side x self.old.history).room ≤ (kept_side x self.new.history).room }
+        ensures rooms { (x : Chain) → (side_room x self.old.history).room ≤ (side_room x self.new.history).room }
         ensures room { OnOk result (HasRoomToCome self.new chain) }
         ensures refused { OnErr result (LacksRoom self.old chain) }
     {

@@ -3,7 +3,7 @@ pub mod Range
 pub mod Config
 pub mod Body
 pub mod Record
-pub mod Kept
+pub mod HistoryRoom
 pub mod Room
 pub mod Device
 pub mod DeviceParts

@@ -1,6 +1,6 @@
 //! The report of a run.
 ghost use Rattle.std.specs.Prelude.{◌≡◌, ◌<◌, ◌^◌, ◌-◌, false, is_err, length, slice_get};
-ghost use Rattle.cc_model.specs.Kept.{lists};
+ghost use Rattle.cc_model.specs.HistoryRoom.{lists};
 ghost use Rattle.cc_model.specs.Written.{Writes, Pens, desk};
 ghost use Rattle.cc_plan.specs.Report.{pass_text, call_text, item_text, answer_text, line_text, lines_text, verdict_text, report_text};
 

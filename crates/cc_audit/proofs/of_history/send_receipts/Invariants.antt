@@ -2,7 +2,7 @@ use Rattle.std.proofs.Common.{◌≡◌, ◌++◌, map}
 use Rattle.std.specs.Iterator.Adapters.{zip_first, zip_second}
 use Rattle.std.specs.Slice.Iter.{iter_rest}
 use Rattle.cc_model.specs.Items.{accepted_by}
-use Rattle.cc_model.specs.Kept.{lists}
+use Rattle.cc_model.specs.HistoryRoom.{lists}
 use Rattle.cc_audit.specs.Receipts.{send_receipt, sends_of}
 use Rattle.cc_audit.proofs.of_history.send_receipts.Given as goal
 

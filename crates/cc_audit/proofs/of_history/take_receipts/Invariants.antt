@@ -1,7 +1,7 @@
 use Rattle.std.proofs.Common.{◌≡◌, ◌++◌}
 use Rattle.std.specs.Iterator.Adapters.{zip_first, zip_second}
 use Rattle.std.specs.Slice.Iter.{iter_rest}
-use Rattle.cc_model.specs.Kept.{lists}
+use Rattle.cc_model.specs.HistoryRoom.{lists}
 use Rattle.cc_audit.specs.Receipts.{takes_by, takes_of}
 use Rattle.cc_audit.proofs.of_history.take_receipts.Given as goal
 

@@ -1,5 +1,5 @@
 use Rattle.std.proofs.Common.{◌≡◌, drop}
-use Rattle.cc_model.specs.Kept.{lists}
+use Rattle.cc_model.specs.HistoryRoom.{lists}
 use Rattle.cc_audit.specs.Receipts.{total_by, total_of}
 use Rattle.cc_audit.proofs.of_history.total.Given as goal
 

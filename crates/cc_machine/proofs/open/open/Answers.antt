@@ -2,7 +2,7 @@ use Rattle.std.proofs.Common.{◌≡◌, ℕ, ◌+◌, ◌<◌, ◌∙◌, ap, s
 use Rattle.std.proofs.lemmas.List.{get_or-replicate, get_or_past, length-replicate, length-map}
 use Rattle.std.proofs.lemmas.Bool.{cases_lt, lt-ltb, le-ltb}
 use Rattle.cc_model.specs.Record.{Record, silent, empty}
-use Rattle.cc_model.specs.Kept.{lists}
+use Rattle.cc_model.specs.HistoryRoom.{lists}
 use Rattle.cc_machine.specs.Names.{Setting, Chain, Object, Stand, Place, Board, Word, ItemField}
 use Rattle.cc_runs.specs.Words.{IsSmall, size, groups, Layout, put, layout_of, address, exists, word_at}
 use Rattle.cc_runs.specs.State.{State, first_node}

@@ -1,18 +1,18 @@
 use Rattle.std.proofs.Common.{◌≡◌, ◌<◌, ◌≤◌, ◌+◌, ◌-◌, arith, length, nat_lt, sym, subst, ◌∙◌, ap, Bor}
 use Rattle.std.proofs.lemmas.Bool.{OnTrue_from, ltb-true}
-use Rattle.cc_model.specs.Kept.{KeptSide}
+use Rattle.cc_model.specs.HistoryRoom.{SideRoom}
 use Rattle.cc_machine.specs.Names.{Chain, Board}
 use Rattle.cc_runs.specs.Run.{passes}
-use Rattle.cc_machine.specs.BoardSteps.{state_of, kept_side, IsLaid}
+use Rattle.cc_machine.specs.BoardSteps.{state_of, side_room, IsLaid}
 use Rattle.cc_machine.specs.Lawful.{HasRoomToCome, all_coming}
 use Rattle.cc_machine.proofs.RoomToCome.{coming_max}
 use Rattle.cc_machine.proofs.board.Board.has_ample_room.Goals.{in-Send, in-Take}
 use Rattle.cc_machine.proofs.board.Board.has_ample_room.Goals as goal
 
 -- more room than there are passes beyond the calls
-ample : (b : Board) (x : Chain) (s : KeptSide) → IsLaid b → kept_side x b.history ≡ s → length b.stands.items < s.room - length s.lists.calls → HasRoomToCome b x
+ample : (b : Board) (x : Chain) (s : SideRoom) → IsLaid b → side_room x b.history ≡ s → length b.stands.items < s.room - length s.lists.calls → HasRoomToCome b x
 ample b x s laid is more =
-    subst (λ (k : KeptSide). length k.lists.calls + all_coming b x + 1 ≤ k.room) (sym is)
+    subst (λ (k : SideRoom). length k.lists.calls + all_coming b x + 1 ≤ k.room) (sym is)
     (omega (arith, more, laid.stands, coming_max b.setting x (passes b.setting) (state_of b).stand))
 
 pub returns : goal.returns
@@ -24,9 +24,9 @@ returns c =
     omega (arith, less, c.len.ensures, c.saturating_sub.ensures, c.room.ensures, ap length c.calls.ensures) in
     elim c.match-chain.branch [
       | in-Send w ↦ ample c.args.self.now c.args.chain c.match-chain.side.now c.requires.laid
-          (ap (λ (x : Chain). kept_side x c.args.self.now.history) w.in-Send.is ∙ sym w.sends-side.ensures ∙ sym (ap (λ (s : Bor KeptSide). s.now) w.side-is))
+          (ap (λ (x : Chain). side_room x c.args.self.now.history) w.in-Send.is ∙ sym w.sends-side.ensures ∙ sym (ap (λ (s : Bor SideRoom). s.now) w.side-is))
           left
       | in-Take w ↦ ample c.args.self.now c.args.chain c.match-chain.side.now c.requires.laid
-          (ap (λ (x : Chain). kept_side x c.args.self.now.history) w.in-Take.is ∙ sym w.takes-side.ensures ∙ sym (ap (λ (s : Bor KeptSide). s.now) w.side-is))
+          (ap (λ (x : Chain). side_room x c.args.self.now.history) w.in-Take.is ∙ sym w.takes-side.ensures ∙ sym (ap (λ (s : Bor SideRoom). s.now) w.side-is))
           left
     ])

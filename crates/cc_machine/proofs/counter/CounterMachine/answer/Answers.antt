@@ -1,6 +1,6 @@
 use Rattle.std.proofs.Common.{◌≡◌, ℕ, Option, Some, IfSome, ap, sym, subst, ◌∙◌}
 use Rattle.std.specs.Option.{option_map}
-use Rattle.cc_model.specs.Kept.{lists}
+use Rattle.cc_model.specs.HistoryRoom.{lists}
 use Rattle.cc_machine.specs.Names.{Answer, SendAnswer, Pass}
 use Rattle.cc_runs.specs.Codes.{count_word}
 use Rattle.cc_runs.specs.ChainLaws.{IsLastAnswer}

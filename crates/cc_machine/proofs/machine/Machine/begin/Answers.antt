@@ -1,5 +1,5 @@
 use Rattle.std.proofs.Common.{◌≡◌, ℕ, OnOk, ap, subst, ◌∙◌, arith}
-use Rattle.cc_model.specs.Kept.{lists}
+use Rattle.cc_model.specs.HistoryRoom.{lists}
 use Rattle.cc_model.specs.Items.{known_at}
 use Rattle.cc_model.specs.Record.{Record}
 use Rattle.cc_machine.specs.Machine.{index_of, HasBegun}

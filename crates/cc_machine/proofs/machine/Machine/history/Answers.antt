@@ -1,4 +1,4 @@
-use Rattle.cc_model.specs.Kept.{lists}
+use Rattle.cc_model.specs.HistoryRoom.{lists}
 use Rattle.cc_model.proofs.InOrder.{fifo}
 use Rattle.cc_machine.proofs.ListTold.{legal_here}
 use Rattle.cc_machine.proofs.machine.Machine.history.Goals as goal
