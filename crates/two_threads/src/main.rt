@@ -16,17 +16,24 @@ use std::process::ExitCode;
 use std::sync::Wait;
 use std::thread::{Threads, join};
 
-/// Sends the bodies 1 to 100, each again where the queue is full, and closes the queue. None where a send isn't accepted.
+/// Sends the bodies 1 to 100, each again where the queue is full, and closes the queue. None where a send isn't accepted: the
+/// queue is closed then too, so that nobody waits for what doesn't come.
 fn send_all<R: Wait>(rt: &R, queue: &Queue, sender: Sender) -> Option<u64>
     requires { IsOf queue.now sender }
 {
     let mut sender = sender;
     for body in 1..101u64 {
-        let (after, answer) = send_until(queue, rt, sender, body).ok()?;
-        let SendAnswer::Accepted { place: _ } = answer else {
-            return None;
-        };
-        sender = after;
+        match send_until(queue, rt, sender, body) {
+            Ok((after, SendAnswer::Accepted { place: _ })) => sender = after,
+            Ok((after, _)) => {
+                close(queue, rt, after);
+                return None;
+            }
+            Err(worn) => {
+                close(queue, rt, worn);
+                return None;
+            }
+        }
     }
     close(queue, rt, sender);
     Some(100)
@@ -76,7 +83,7 @@ fn main(rt: HostRuntime) -> io::Result<ExitCode> {
         capacity: 8,
         bound: 4,
         life: 1000,
-        per_sender: 1000,
+        per_sender: u32::MAX, // each try counts, also one that found the queue full
         groups: 1,
     };
     let Ok(opened) = Queue::open(rt.alloc(), &config) else {
