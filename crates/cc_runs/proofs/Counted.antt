@@ -1,5 +1,5 @@
 -- The counter over every run: its word, the answers, and how many there can be.
-use Rattle.std.proofs.Common.{◌≡◌, ◌≢◌, ℕ, zero, suc, ◌+◌, ◌*◌, ◌-◌, ◌^◌, ◌<◌, ◌≤◌, Bool, true, false, ◌==◌, nat_lt, cond, refl, ap, sym, ◌∙◌, subst, arith, inl, inr, Option, None, List, [], ◌∷◌, ◌++◌, length}
+use Rattle.std.proofs.Common.{◌≡◌, ◌≢◌, ℕ, zero, suc, ◌+◌, ◌*◌, ◌-◌, ◌^◌, ◌<◌, ◌≤◌, Bool, true, false, ◌==◌, cond, refl, ap, sym, ◌∙◌, subst, arith, inl, inr, Option, None, List, [], ◌∷◌, ◌++◌, length}
 use Rattle.std.proofs.lemmas.Bool.{cases_eq}
 use Rattle.std.proofs.lemmas.List.{length_push, get_or_push, get_or_append_left}
 use Rattle.cc_runs.specs.Names.{Config, Entry, Answer, SendAnswer, TakeAnswer, Setting, Served, Chain, Object, Word, Event, Job, Round, Stand, Counting, Place}
@@ -9,6 +9,7 @@ use Rattle.cc_runs.specs.Lines.{operation, goes, event_at, enters, decides, afte
 use Rattle.cc_runs.specs.Step.{stepped_from, advanced}
 use Rattle.cc_runs.specs.Run.{passes, passes_of}
 use Rattle.cc_runs.specs.CallsMade.{before_exchange}
+use Rattle.cc_runs.proofs.ReadWords.{behind_word}
 use Rattle.cc_runs.proofs.Chains.Frame.{hold_here, hold_apart}
 use Rattle.cc_runs.proofs.Chains.View.{post_of, post_at}
 use Rattle.cc_runs.proofs.Chains.Registers.{call_at, answer_at, no_answer, HasService}
@@ -45,14 +46,6 @@ calm_answer job (Answer.Close told) = record { waits_not = refl; counts_not = λ
 calm_done : (job : Job) (b : Bool) → IsCalm (cond b (Place.HandOver job.next) (Place.ReadNext record { at = job.next; served = job.round.served + 1 }))
 calm_done job true = record { waits_not = refl; counts_not = λ n. tt }
 calm_done job false = record { waits_not = refl; counts_not = λ n. tt }
-
-calm_words : (job : Job) (tag i : ℕ) (b : Bool) → IsCalm (Place.Counting job (cond b (Counting.ReadBody tag (i + 1)) Counting.ReadCount))
-calm_words job tag i true = record { waits_not = refl; counts_not = λ n. tt }
-calm_words job tag i false = record { waits_not = refl; counts_not = λ n. tt }
-
-calm_either : (b : Bool) (next on : Place) → IsCalm next → IsCalm on → IsCalm (cond b next on)
-calm_either true next on a z = a
-calm_either false next on a z = z
 
 -- the calls of a pass that have exchanged, and those of the first n passes
 abbrev pub gone : Stand → ℕ
@@ -214,7 +207,7 @@ module _ (c : Setting) (counter : c.served ≡ Served.Counter) (s : State) (k : 
 
   counting_step : (job : Job) (service : Counting) → Here (Place.Counting job service) → Counts c (next (Place.Counting job service))
   counting_step job Counting.ReadTag e = quiet (Place.Counting job Counting.ReadTag) _ e refl refl tt refl refl refl
-  counting_step job (Counting.ReadBody tag i) e = calm (Place.Counting job (Counting.ReadBody tag i)) _ e refl refl (calm_words job tag i (nat_lt i (further_words tag))) refl refl refl
+  counting_step job (Counting.ReadBody tag i) e = calm (Place.Counting job (Counting.ReadBody tag i)) _ e refl refl (behind_word (λ (z : Counting). IsCalm (Place.Counting job z)) (further_words tag) i _ _ (λ more. record { waits_not = refl; counts_not = λ n. tt }) (λ last. record { waits_not = refl; counts_not = λ n. tt })) refl refl refl
   counting_step job Counting.ReadCount e = quiet (Place.Counting job Counting.ReadCount) (Place.Counting job (Counting.WriteCount (s.mem (Word.Object Object.Count)))) e refl refl k.count refl refl refl
   counting_step job (Counting.WriteCount count) e = write_count job count e
 
@@ -224,7 +217,7 @@ module _ (c : Setting) (counter : c.served ≡ Served.Counter) (s : State) (k : 
   counts_step (Place.ResetState call) e busy = quiet (Place.ResetState call) (Place.Exchange call) e refl refl tt refl refl refl
   counts_step (Place.Exchange call) e busy = exchange call e
   counts_step (Place.WriteTag put request) e busy = quiet (Place.WriteTag put request) (Place.WriteBody put request 0) e refl refl tt refl refl refl
-  counts_step (Place.WriteBody put request i) e busy = calm (Place.WriteBody put request i) _ e refl refl (calm_either (nat_lt i (further_words request.tag)) (Place.WriteBody put request (i + 1)) (Place.Link put) record { waits_not = refl; counts_not = λ n. tt } record { waits_not = refl; counts_not = λ n. tt }) refl refl refl
+  counts_step (Place.WriteBody put request i) e busy = calm (Place.WriteBody put request i) _ e refl refl (behind_word IsCalm (further_words request.tag) i _ _ (λ more. record { waits_not = refl; counts_not = λ n. tt }) (λ last. record { waits_not = refl; counts_not = λ n. tt })) refl refl refl
   counts_step (Place.Link put) e busy = quiet (Place.Link put) Place.ReadState e refl refl tt refl refl refl
   counts_step Place.ReadState e busy = calm Place.ReadState _ e refl refl (calm_state own (found Place.ReadState)) refl refl refl
   counts_step (Place.ReadNext round) e busy = calm (Place.ReadNext round) _ e refl refl (calm_next c.served counter round (found (Place.ReadNext round))) refl refl refl
@@ -234,10 +227,10 @@ module _ (c : Setting) (counter : c.served ≡ Served.Counter) (s : State) (k : 
   counts_step (Place.Taking job service) e busy = let no : c.served ≡ Served.List = (takes_where c.served Chain.Send (serves_at (Place.Taking job service) e refl)).0 in absurd (not_both (sym counter ∙ no))
   counts_step (Place.WriteAnswer job told) e busy = calm (Place.WriteAnswer job told) _ e refl refl (calm_answer job told) refl refl refl
   counts_step (Place.WriteAnswerTag job item) e busy = quiet (Place.WriteAnswerTag job item) (Place.WriteAnswerBody job item 0) e refl refl tt refl refl refl
-  counts_step (Place.WriteAnswerBody job item i) e busy = calm (Place.WriteAnswerBody job item i) _ e refl refl (calm_either (nat_lt i (further_words (tag_of item))) (Place.WriteAnswerBody job item (i + 1)) (Place.MarkDone job) record { waits_not = refl; counts_not = λ n. tt } record { waits_not = refl; counts_not = λ n. tt }) refl refl refl
+  counts_step (Place.WriteAnswerBody job item i) e busy = calm (Place.WriteAnswerBody job item i) _ e refl refl (behind_word IsCalm (further_words (tag_of item)) i _ _ (λ more. record { waits_not = refl; counts_not = λ n. tt }) (λ last. record { waits_not = refl; counts_not = λ n. tt })) refl refl refl
   counts_step (Place.MarkDone job) e busy = calm (Place.MarkDone job) _ e refl refl (calm_done job (job.round.served + 1 == c.config.bound)) refl refl refl
   counts_step (Place.HandOver at) e busy = quiet (Place.HandOver at) Place.ReadAnswer e refl refl tt refl refl refl
   counts_step Place.ReadAnswer e busy = quiet Place.ReadAnswer _ e refl refl tt refl refl refl
   counts_step (Place.ReadAnswerTag at) e busy = quiet (Place.ReadAnswerTag at) _ e refl refl tt refl refl refl
-  counts_step (Place.ReadAnswerBody at i) e busy = calm (Place.ReadAnswerBody at i) _ e refl refl (calm_either (nat_lt i (further_words at.tag)) _ _ record { waits_not = refl; counts_not = λ n. tt } record { waits_not = refl; counts_not = λ n. tt }) refl refl refl
+  counts_step (Place.ReadAnswerBody at i) e busy = calm (Place.ReadAnswerBody at i) _ e refl refl (behind_word IsCalm (further_words at.tag) i _ _ (λ more. record { waits_not = refl; counts_not = λ n. tt }) (λ last. record { waits_not = refl; counts_not = λ n. tt })) refl refl refl
   counts_step (Place.Finished told) e busy = absurd (busy refl)

@@ -1,8 +1,8 @@
 -- The words of a body, read one by one.
-use Rattle.std.proofs.Common.{◌≡◌, ◌≢◌, ℕ, zero, suc, ◌+◌, ◌/◌, ◌%◌, ◌^◌, ◌<◌, ◌≤◌, refl, ap, sym, ◌∙◌, arith, inl, inr}
-use Rattle.std.proofs.lemmas.Bool.{cases_eq}
+use Rattle.std.proofs.Common.{◌≡◌, ◌≢◌, ℕ, zero, suc, ◌/◌, ◌%◌, ◌^◌, ◌<◌, ◌≤◌, refl, ap, sym, ◌∙◌, arith, inl, inr, Bool, true, false, nat_lt, cond}
+use Rattle.std.proofs.lemmas.Bool.{cases_eq, ltb-true, ltb-false}
 use Rattle.cc_runs.specs.Names.{BodyWords, Parcel}
-use Rattle.cc_runs.specs.Codes.{word, with_word, further_words, item_in, item_of}
+use Rattle.cc_runs.specs.Codes.{word, with_word, further_words, item_in, item_of, behind}
 
 -- the word that was read
 word_here : (body : BodyWords) (i value : ℕ) → i ≤ 3 → word (with_word body i value) i ≡ value
@@ -50,3 +50,11 @@ next_word body words i value most is front j low = elim (cases_eq j i) [
 -- an item is told by its place, its tag and its words
 pub one_item : (p : Parcel) {place tag : ℕ} (body : BodyWords) → p.place ≡ place → p.tag ≡ tag → ((j : ℕ) → j ≤ further_words p.tag → word p.body j ≡ word body j) → item_in p ≡ item_of place tag body
 one_item p body place_is tag_is words = λ i. record { place = place_is i; sender = tag_is i / 2 ^ 32; number = tag_is i % 2 ^ 32; body = words 0 (omega arith) i }
+
+-- what holds where the step at a word leads to the next one, and where it leads on
+pub behind_word : {A : Type 0} (P : A → Type 0) (further i : ℕ) (next on : A) → (i < further → P next) → (further ≤ i → P on) → P (behind further i next on)
+behind_word {A} P further i next on more last = by_case (nat_lt i further) refl
+  where
+    by_case : (b : Bool) → nat_lt i further ≡ b → P (cond b next on)
+    by_case true is = more (ltb-true i further is)
+    by_case false is = last (ltb-false i further is)

@@ -1,21 +1,16 @@
 -- What the list has from its two chains: one service of a side at most, of the first call without an answer.
 use Rattle.std.proofs.Common.{◌≡◌, ℕ, suc, ◌<◌, ◌≤◌, refl, ap, ◌∙◌, subst, arith, Some, length}
 use Rattle.std.specs.List.{slice_get}
-use Rattle.cc_runs.specs.Names.{Entry, Setting, Served, Chain, NodeField, Word, Job, Sending, Taking, Place, Request}
+use Rattle.cc_runs.specs.Names.{Entry, Setting, Chain, NodeField, Word, Job, Sending, Taking, Place, Request}
 use Rattle.cc_runs.specs.Codes.{request_in, further_words, word}
 use Rattle.cc_runs.specs.State.{State, chain_of}
 use Rattle.cc_runs.specs.Run.{passes}
-use Rattle.cc_runs.proofs.Chains.Registers.{Sends, HasAsked, calls_on, answers_on, call_at}
+use Rattle.cc_runs.proofs.Chains.Registers.{HasAsked, calls_on, answers_on, call_at}
 use Rattle.cc_runs.proofs.ReadWords.{few_further}
 use Rattle.cc_runs.proofs.Chains.Sides.{asks_word}
+use Rattle.cc_runs.proofs.Chains.Own.{sends_has}
 use Rattle.cc_runs.proofs.Chains.Others.{IsOn}
 use Rattle.cc_runs.proofs.Chains.Serving.{Chains, chain_is, on_chain, sending_where, next_call, next_service, next_words}
-
-sends_it : (what : Served) (x : Chain) (A : Type 0) → Sends what x A → A
-sends_it Served.List Chain.Send A a = a
-sends_it Served.List (Chain.Take g) A a = absurd a
-sends_it Served.Counter Chain.Send A a = absurd a
-sends_it Served.Counter (Chain.Take g) A a = absurd a
 
 module _ (c : Setting) (s : State) (k : Chains c s) (p : ℕ) (job : Job) (less : p < passes c) where
   -- the request's tag is read, and words of its body, and another one is about to be
@@ -25,7 +20,7 @@ module _ (c : Setting) (s : State) (k : Chains c s) (p : ℕ) (job : Job) (less 
       let on : IsOn c Chain.Send p = subst (λ (y : Chain). IsOn c y p) (sending_where c s k p job (Sending.ReadBody request i) less is).1 (on_chain c p less) in
       let e : Entry = call_at s.history.sends.calls (length s.history.sends.answers) in
       let has : HasAsked e request.tag request.body i × (i ≤ further_words request.tag) =
-      sends_it c.served Chain.Send (HasAsked e request.tag request.body i × (i ≤ further_words request.tag)) (next_service c s k Chain.Send tt p on (Place.Sending job (Sending.ReadBody request i)) job is (λ own. refl) e refl) in
+      sends_has c.served Chain.Send (HasAsked e request.tag request.body i × (i ≤ further_words request.tag)) (next_service c s k Chain.Send tt p on (Place.Sending job (Sending.ReadBody request i)) job is (λ own. refl) e refl) in
       let low : i ≤ further_words (request_in e).tag = omega (arith, has.1, ap further_words has.0.0) in (
         e,
         next_call c s k Chain.Send tt p on (Place.Sending job (Sending.ReadBody request i)) job is (λ own. refl),

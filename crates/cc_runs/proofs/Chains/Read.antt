@@ -1,6 +1,5 @@
 -- The steps that one side alone has, and the reading of an answer, keep what holds of the chain.
-use Rattle.std.proofs.lemmas.Bool.{ltb-true, ltb-false}
-use Rattle.std.proofs.Common.{◌≡◌, ◌≢◌, ◌⊎◌, ℕ, suc, ◌+◌, ◌<◌, ◌≤◌, Bool, true, false, nat_lt, cond, refl, ap, sym, ◌∙◌, subst, arith, inl, inr, None}
+use Rattle.std.proofs.Common.{◌≡◌, ◌≢◌, ◌⊎◌, ℕ, suc, ◌+◌, ◌<◌, ◌≤◌, refl, ap, sym, ◌∙◌, subst, arith, inl, inr, None}
 use Rattle.cc_runs.specs.Names.{Entry, Item, Answer, TakeAnswer, Setting, Chain, NodeField, Word, Stand, Job, Request, Parcel, Place}
 use Rattle.cc_runs.specs.Codes.{item_of, item_in, tag_of, body_words, parcel, no_words, with_read, further_words, word, request_in, ret_of, code_of, value_of, sender_reads}
 use Rattle.cc_runs.specs.State.{State}
@@ -9,7 +8,7 @@ use Rattle.cc_runs.specs.Run.{IsFinished}
 use Rattle.cc_runs.proofs.Combining.Stay as by_stay
 use Rattle.cc_runs.proofs.Combining.WriteRequest as by_writerequest
 use Rattle.cc_runs.proofs.Combining.End as by_end
-use Rattle.cc_runs.proofs.ReadWords.{few_further, next_word, one_item}
+use Rattle.cc_runs.proofs.ReadWords.{few_further, next_word, one_item, behind_word}
 use Rattle.cc_runs.proofs.Chains.View.{view, members, pass_on, post_of, post_at, request_long, asked_words, answer_words, answer_long}
 use Rattle.cc_runs.proofs.Chains.Bridge as bridge
 use Rattle.cc_runs.proofs.Chains.Sides as sides
@@ -42,20 +41,17 @@ module _ (c : Setting) (some : 0 < c.config.bound) (s : State) (p begun own : �
       (sides.write_tag c s p begun own (w.ghost.asks_long (w.ghost.at p)) put request e))
       record { onward = omega arith; call = (tt, omega arith); read = tt; ended = λ f. absurd f; serves = λ a. tt; keep = λ q ne a. (a, refl) }
 
-  write_body_by : (put : ℕ) (request : Request) (i : ℕ) (b : Bool) → nat_lt i (further_words request.tag) ≡ b → At c Chain.Send tt some s p begun own inside w (Place.WriteBody put request i) →
+  write_body_send : (put : ℕ) (request : Request) (i : ℕ) → At c Chain.Send tt some s p begun own inside w (Place.WriteBody put request i) →
       Holds c Chain.Send (then c Chain.Send tt some s p begun own inside w (Place.WriteBody put request i))
-  write_body_by put request i b is e =
+  write_body_send put request i e =
       let has : OnSend Chain.Send × (i ≤ further_words request.tag) = subst (λ (z : Stand). HasCall c Chain.Send p z.place) e (w.ties.begun p inside) in
       let many : further_words request.tag ≡ further_words (request_in its_call).tag = asks_is (Place.WriteBody put request i) 5 e refl (omega (arith, has.1, few_further request.tag)) in
-      goes_on c Chain.Send tt some s p begun own inside w (Place.WriteBody put request i) (cond b (Place.WriteBody put request (i + 1)) (Place.Link put)) w.ghost.marked w.ghost.server
-      (ap (λ (z : Bool). cond z (Place.WriteBody put request (i + 1)) (Place.Link put)) is) refl refl
+      goes_on c Chain.Send tt some s p begun own inside w (Place.WriteBody put request i) _ w.ghost.marked w.ghost.server refl refl refl
       (by_writerequest.keeps (members c Chain.Send) c.config.bound (view c Chain.Send s) (view c Chain.Send (then c Chain.Send tt some s p begun own inside w (Place.WriteBody put request i))) w.ghost p inside w.inv
       (sides.write_body c s p begun own (w.ghost.asks_long (w.ghost.at p)) put request i (long_is (Place.WriteBody put request i) e refl ∙ ap (λ (z : ℕ). z + 2) (sym many)) has.1 e))
-      (moves b is)
-    where
-      moves : (b : Bool) → nat_lt i (further_words request.tag) ≡ b → Moves c Chain.Send s w.ghost p w.ghost.marked w.ghost.server (cond b (Place.WriteBody put request (i + 1)) (Place.Link put))
-      moves true is = record { onward = omega arith; call = (tt, omega (arith, ltb-true i (further_words request.tag) is)); read = tt; ended = λ f. absurd f; serves = λ a. tt; keep = λ q ne a. (a, refl) }
-      moves false is = record { onward = omega arith; call = tt; read = tt; ended = λ f. absurd f; serves = λ a. tt; keep = λ q ne a. (a, refl) }
+      (behind_word (λ (z : Place). Moves c Chain.Send s w.ghost p w.ghost.marked w.ghost.server z) (further_words request.tag) i _ _
+      (λ more. record { onward = omega arith; call = (tt, omega (arith, more)); read = tt; ended = λ f. absurd f; serves = λ a. tt; keep = λ q ne a. (a, refl) })
+      (λ last. record { onward = omega arith; call = tt; read = tt; ended = λ f. absurd f; serves = λ a. tt; keep = λ q ne a. (a, refl) }))
 
 -- what a call reads of its answer
 module _ (c : Setting) (x : Chain) (ok : IsChain c x) (some : 0 < c.config.bound) (s : State) (p begun own : ℕ) (inside : p < members c x) (w : Holds c x s) where
@@ -121,22 +117,15 @@ module _ (c : Setting) (g : ℕ) (ok : IsChain c (Chain.Take g)) (some : 0 < c.c
       tells c (Chain.Take g) ok some s p begun own inside w (Place.WriteAnswerTag job item) (Place.WriteAnswerBody job item 0) (further_words (tag_of item) + 3) (tag_of item) 1 e refl refl refl refl refl refl refl
       (sides.write_answer_tag c g s p begun own job item e) (sym (ap answer_long is)) (sym (ap (λ (z : Answer). coded_words c.served (Chain.Take g) z 1) is)) (is, omega arith)
 
-  write_answer_by : (job : Job) (item : Item) (i : ℕ) (b : Bool) → nat_lt i (further_words (tag_of item)) ≡ b → At c (Chain.Take g) ok some s p begun own inside w (Place.WriteAnswerBody job item i) →
+  write_answer_body_take : (job : Job) (item : Item) (i : ℕ) → At c (Chain.Take g) ok some s p begun own inside w (Place.WriteAnswerBody job item i) →
       Holds c (Chain.Take g) (then c (Chain.Take g) ok some s p begun own inside w (Place.WriteAnswerBody job item i))
-  write_answer_by job item i b is e =
+  write_answer_body_take job item i e =
       let has = serves_at c (Chain.Take g) ok some s p begun own inside w (Place.WriteAnswerBody job item i) e refl in
-      tells c (Chain.Take g) ok some s p begun own inside w (Place.WriteAnswerBody job item i) (cond b (Place.WriteAnswerBody job item (i + 1)) (Place.MarkDone job)) (further_words (tag_of item) + 3) (word (body_words item) i) (suc (suc i)) e refl refl refl
-      (ap (λ (z : Bool). cond z (Place.WriteAnswerBody job item (i + 1)) (Place.MarkDone job)) is) refl refl (rank b)
-      (sides.write_answer_body c g s p begun own job item i e) (sym (ap answer_long has.0)) (sym (ap (λ (z : Answer). coded_words c.served (Chain.Take g) z (suc (suc i))) has.0)) (serves b is has.0)
-    where
-      rank : (b : Bool) → (post_of (Chain.Take g) own (cond b (Place.WriteAnswerBody job item (i + 1)) (Place.MarkDone job))).rank ≡ 5
-      rank true = refl
-      rank false = refl
-
-      serves : (b : Bool) → nat_lt i (further_words (tag_of item)) ≡ b → the_answer c (Chain.Take g) ok some s p begun own inside w ≡ Answer.Take (TakeAnswer.Got item) →
-          HasService c.served (Chain.Take g) (the_call c (Chain.Take g) ok some s p begun own inside w) (the_answer c (Chain.Take g) ok some s p begun own inside w) (cond b (Place.WriteAnswerBody job item (i + 1)) (Place.MarkDone job))
-      serves true is same = (same, omega (arith, ltb-true i (further_words (tag_of item)) is))
-      serves false is same = tt
+      tells c (Chain.Take g) ok some s p begun own inside w (Place.WriteAnswerBody job item i) _ (further_words (tag_of item) + 3) (word (body_words item) i) (suc (suc i)) e refl refl refl refl refl refl
+      (behind_word (λ (z : Place). (post_of (Chain.Take g) own z).rank ≡ 5) (further_words (tag_of item)) i _ _ (λ more. refl) (λ last. refl))
+      (sides.write_answer_body c g s p begun own job item i e) (sym (ap answer_long has.0)) (sym (ap (λ (z : Answer). coded_words c.served (Chain.Take g) z (suc (suc i))) has.0))
+      (behind_word (λ (z : Place). HasService c.served (Chain.Take g) (the_call c (Chain.Take g) ok some s p begun own inside w) (the_answer c (Chain.Take g) ok some s p begun own inside w) z) (further_words (tag_of item)) i _ _
+      (λ more. (has.0, omega (arith, more))) (λ last. tt))
 
   abbrev item_answer : Answer
   item_answer = answer_at (answers_on (Chain.Take g) s.history) (w.ghost.at p)
@@ -177,22 +166,27 @@ module _ (c : Setting) (g : ℕ) (ok : IsChain c (Chain.Take g)) (some : 0 < c.c
   words_more : (at : Parcel) (i found : ℕ) → found ≡ word (words_told item_answer) i → Had at i → (j : ℕ) → j ≤ i → word (with_read at i found).body j ≡ word (words_told item_answer) j
   words_more at i found is had = next_word at.body (word (words_told item_answer)) i found (omega (arith, had.3, few_further at.tag)) is had.4
 
-  read_body_by : (at : Parcel) (i : ℕ) (b : Bool) → nat_lt i (further_words at.tag) ≡ b → At c (Chain.Take g) ok some s p begun own inside w (Place.ReadAnswerBody at i) → Holds c (Chain.Take g) (then c (Chain.Take g) ok some s p begun own inside w (Place.ReadAnswerBody at i))
-  read_body_by at i true is e =
-      let had : Had at i = subst (λ (z : Stand). HasRead c.served (Chain.Take g) item_answer z.place) e (w.ties.read p inside) in
-      let found : ℕ = s.mem (Word.Node (Chain.Take g) own (NodeField.Body i)) in
-      let more = words_more at i found (read_word at i e had) had in
-      reads_more c (Chain.Take g) ok some s p begun own inside w (Place.ReadAnswerBody at i) (Place.ReadAnswerBody (with_read at i found) (i + 1)) e refl refl
-      (ap (λ (z : Bool). cond z (Place.ReadAnswerBody (with_read at i found) (i + 1)) (Place.Finished (Answer.Take (TakeAnswer.Got (item_in (with_read at i found)))))) is) refl refl refl refl (λ i f. refl) tt
-      (had.0, had.1, had.2, omega (arith, ltb-true i (further_words at.tag) is), (λ j low. more j (omega arith))) (λ f. f)
-  read_body_by at i false is e =
-      let had : Had at i = subst (λ (z : Stand). HasRead c.served (Chain.Take g) item_answer z.place) e (w.ties.read p inside) in
-      let found : ℕ = s.mem (Word.Node (Chain.Take g) own (NodeField.Body i)) in
-      let more = words_more at i found (read_word at i e had) had in
-      let same : item_in (with_read at i found) ≡ item_of (value_of (ret_of c.served item_answer)) (tag_word item_answer) (words_told item_answer) = one_item (with_read at i found) (words_told item_answer) had.1 had.2 (λ j low. more j (omega (arith, ltb-false i (further_words at.tag) is))) in
-      reads_end c (Chain.Take g) ok some s p begun own inside w (Place.ReadAnswerBody at i) (Place.Finished (Answer.Take (TakeAnswer.Got (item_in (with_read at i found))))) e refl refl
-      (ap (λ (z : Bool). cond z (Place.ReadAnswerBody (with_read at i found) (i + 1)) (Place.Finished (Answer.Take (TakeAnswer.Got (item_in (with_read at i found)))))) is) refl refl refl refl (λ i f. refl) tt
-      (ap (λ (z : Item). Answer.Take (TakeAnswer.Got z)) same ∙ sym (reads_item c.served g item_answer had.0))
+  read_body_take : (at : Parcel) (i : ℕ) → At c (Chain.Take g) ok some s p begun own inside w (Place.ReadAnswerBody at i) → Holds c (Chain.Take g) (then c (Chain.Take g) ok some s p begun own inside w (Place.ReadAnswerBody at i))
+  read_body_take at i e =
+      behind_word (λ (z : Place). goes c (Chain.Take g) own (Place.ReadAnswerBody at i) (finds c (Chain.Take g) ok some s p begun own inside w (Place.ReadAnswerBody at i)) ≡ z → Holds c (Chain.Take g) (then c (Chain.Take g) ok some s p begun own inside w (Place.ReadAnswerBody at i)))
+      (further_words at.tag) i _ _
+      (λ less is.
+      reads_more c (Chain.Take g) ok some s p begun own inside w (Place.ReadAnswerBody at i) (Place.ReadAnswerBody (with_read at i found) (i + 1)) e refl refl is refl refl refl refl (λ i f. refl) tt
+      (had.0, had.1, had.2, omega (arith, less), (λ j low. more j (omega arith))) (λ f. f))
+      (λ last is.
+      let same : item_in (with_read at i found) ≡ item_of (value_of (ret_of c.served item_answer)) (tag_word item_answer) (words_told item_answer) = one_item (with_read at i found) (words_told item_answer) had.1 had.2 (λ j low. more j (omega (arith, last))) in
+      reads_end c (Chain.Take g) ok some s p begun own inside w (Place.ReadAnswerBody at i) (Place.Finished (Answer.Take (TakeAnswer.Got (item_in (with_read at i found))))) e refl refl is refl refl refl refl (λ i f. refl) tt
+      (ap (λ (z : Item). Answer.Take (TakeAnswer.Got z)) same ∙ sym (reads_item c.served g item_answer had.0)))
+      refl
+    where
+      found : ℕ
+      found = s.mem (Word.Node (Chain.Take g) own (NodeField.Body i))
+
+      had : Had at i
+      had = subst (λ (z : Stand). HasRead c.served (Chain.Take g) item_answer z.place) e (w.ties.read p inside)
+
+      more : (j : ℕ) → j ≤ i → word (with_read at i found).body j ≡ word (words_told item_answer) j
+      more = words_more at i found (read_word at i e had) had
 
 -- each of these on any chain
 module _ (c : Setting) (some : 0 < c.config.bound) (s : State) (p begun own : ℕ) where
@@ -203,7 +197,7 @@ module _ (c : Setting) (some : 0 < c.config.bound) (s : State) (p begun own : �
 
   pub write_body : (x : Chain) (ok : IsChain c x) (inside : p < members c x) (w : Holds c x s) (put : ℕ) (request : Request) (i : ℕ) → At c x ok some s p begun own inside w (Place.WriteBody put request i) →
       Holds c x (then c x ok some s p begun own inside w (Place.WriteBody put request i))
-  write_body Chain.Send ok inside w put request i e = write_body_by c some s p begun own inside w put request i (nat_lt i (further_words request.tag)) refl e
+  write_body Chain.Send ok inside w put request i e = write_body_send c some s p begun own inside w put request i e
   write_body (Chain.Take g) ok inside w put request i e = absurd (subst (λ (z : Stand). HasCall c (Chain.Take g) p z.place) e (w.ties.begun p inside)).0
 
   pub write_answer_tag : (x : Chain) (ok : IsChain c x) (inside : p < members c x) (w : Holds c x s) (job : Job) (item : Item) → At c x ok some s p begun own inside w (Place.WriteAnswerTag job item) →
@@ -214,7 +208,7 @@ module _ (c : Setting) (some : 0 < c.config.bound) (s : State) (p begun own : �
   pub write_answer_body : (x : Chain) (ok : IsChain c x) (inside : p < members c x) (w : Holds c x s) (job : Job) (item : Item) (i : ℕ) → At c x ok some s p begun own inside w (Place.WriteAnswerBody job item i) →
       Holds c x (then c x ok some s p begun own inside w (Place.WriteAnswerBody job item i))
   write_answer_body Chain.Send ok inside w job item i e = absurd (serves_at c Chain.Send ok some s p begun own inside w (Place.WriteAnswerBody job item i) e refl)
-  write_answer_body (Chain.Take g) ok inside w job item i e = write_answer_by c g ok some s p begun own inside w job item i (nat_lt i (further_words (tag_of item))) refl e
+  write_answer_body (Chain.Take g) ok inside w job item i e = write_answer_body_take c g ok some s p begun own inside w job item i e
 
   pub read_answer : (x : Chain) (ok : IsChain c x) (inside : p < members c x) (w : Holds c x s) → At c x ok some s p begun own inside w Place.ReadAnswer → Holds c x (then c x ok some s p begun own inside w Place.ReadAnswer)
   read_answer Chain.Send ok inside w e =
@@ -231,4 +225,4 @@ module _ (c : Setting) (some : 0 < c.config.bound) (s : State) (p begun own : �
   pub read_body : (x : Chain) (ok : IsChain c x) (inside : p < members c x) (w : Holds c x s) (at : Parcel) (i : ℕ) → At c x ok some s p begun own inside w (Place.ReadAnswerBody at i) →
       Holds c x (then c x ok some s p begun own inside w (Place.ReadAnswerBody at i))
   read_body Chain.Send ok inside w at i e = absurd (subst (λ (z : Stand). HasRead c.served Chain.Send (its_answer c Chain.Send ok some s p begun own inside w) z.place) e (w.ties.read p inside))
-  read_body (Chain.Take g) ok inside w at i e = read_body_by c g ok some s p begun own inside w at i (nat_lt i (further_words at.tag)) refl e
+  read_body (Chain.Take g) ok inside w at i e = read_body_take c g ok some s p begun own inside w at i e

@@ -1,6 +1,6 @@
 -- What the places of a chain's passes keep, and what it has to do with the history.
 use Rattle.std.proofs.Common.{◌≡◌, ◌≤◌, ◌<◌, ◌+◌, ℕ, length, ◌==◌, if◌then◌else◌, List, get_or}
-use Rattle.cc_runs.specs.Names.{Entry, Item, Pass, Call, Answer, SendAnswer, CloseAnswer, TakeAnswer, Setting, Served, Chain, BodyWords, Counting, Sending, Place}
+use Rattle.cc_runs.specs.Names.{Entry, Pass, Call, Answer, SendAnswer, CloseAnswer, TakeAnswer, Setting, Served, Chain, BodyWords, Counting, Sending, Place}
 use Rattle.cc_runs.specs.Codes.{item_of, tag_of, body_words, no_words, further_words, word, request_in, ret_of, code_of, value_of, sender_reads}
 use Rattle.cc_model.specs.Record.{Record}
 use Rattle.cc_runs.specs.Words.{groups}

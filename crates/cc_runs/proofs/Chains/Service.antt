@@ -1,8 +1,7 @@
 -- A step of a service: it goes on, or decides the answer.
-use Rattle.std.proofs.Common.{◌≡◌, ℕ, zero, suc, ◌+◌, ◌≤◌, ◌<◌, Bool, true, false, ◌==◌, nat_lt, cond, refl, ap, arith, Option, Some, None}
-use Rattle.std.proofs.lemmas.Bool.{ltb-true, ltb-false}
+use Rattle.std.proofs.Common.{◌≡◌, ℕ, zero, suc, ◌+◌, ◌≤◌, Bool, true, false, ◌==◌, cond, refl, arith, Option, Some, None}
 use Rattle.cc_runs.specs.Names.{Entry, Answer, SendAnswer, CloseAnswer, TakeAnswer, Setting, Served, Chain, NodeField, Word, Job, Request, Parcel, Counting, Sending, Taking, Place}
-use Rattle.cc_runs.specs.Codes.{request_in, further_words, word, with_asked, with_read}
+use Rattle.cc_runs.specs.Codes.{request_in, further_words, word, with_asked}
 use Rattle.cc_runs.specs.Words.{groups}
 use Rattle.cc_runs.specs.State.{stored}
 use Rattle.cc_runs.specs.CountLines as count_side
@@ -11,7 +10,7 @@ use Rattle.cc_runs.specs.TakeLines as take_side
 use Rattle.cc_runs.specs.SendLines.{after}
 use Rattle.cc_runs.specs.ServiceLine.{Next, On, Decides, place_of, answer_of}
 use Rattle.cc_runs.proofs.Chains.View.{post_of, serving}
-use Rattle.cc_runs.proofs.ReadWords.{few_further, next_word}
+use Rattle.cc_runs.proofs.ReadWords.{few_further, next_word, behind_word}
 use Rattle.cc_runs.proofs.Chains.Registers.{HasService, HasAsked, IsAnswer}
 
 -- the step from here to there, of the service of call e, whose answer, once decided, is a
@@ -53,19 +52,12 @@ module _ (c : Setting) (job : Job) (e : Entry) where
   asked_more : (request : Request) (i found : ℕ) → found ≡ word (request_in e).body i → HasAsked e request.tag request.body i × (i ≤ further_words request.tag) → HasAsked e request.tag (with_asked request i found).body (i + 1)
   asked_more request i found f r = (r.0.0, λ j low. next_word request.body (word (request_in e).body) i found (omega (arith, r.1, few_further request.tag)) f r.0.1 j (omega arith))
 
-  body_read : (request : Request) (i found : ℕ) → found ≡ word (request_in e).body i → (b : Bool) → nat_lt i (further_words request.tag) ≡ b →
-      Sends (Sending.ReadBody request i) (On (cond b (Sending.ReadBody (with_asked request i found) (i + 1)) (Sending.ReadShut (with_asked request i found))))
-  body_read request i found f true is = quiet refl (λ own. refl) (λ a r. (asked_more request i found f r, omega (arith, ltb-true i (further_words request.tag) is)))
-  body_read request i found f false is = quiet refl (λ own. refl) (λ a r. (r.0.0, λ j low. (asked_more request i found f r).1 j (omega (arith, ltb-false i (further_words request.tag) is))))
-
-  body_written : (parcel : Parcel) (at i : ℕ) (b : Bool) → nat_lt i (further_words parcel.tag) ≡ b →
-      Sends (Sending.WriteItemBody parcel at i) (On (cond b (Sending.WriteItemBody parcel at (i + 1)) (Sending.ReadLast parcel.place at)))
-  body_written parcel at i true is = quiet refl (λ own. refl) (λ a r. (r.0, omega (arith, ltb-true i (further_words parcel.tag) is)))
-  body_written parcel at i false is = quiet refl (λ own. refl) (λ a r. tt)
-
   pub sends : (service : Sending) (found : ℕ) → FindsRequest e service found → Sends service (send_side.line c.config 0 service found).next
   sends Sending.ReadTag found f = quiet refl (λ own. refl) (λ a r. ((f, λ j low. absurd (omega arith)), omega arith))
-  sends (Sending.ReadBody request i) found f = body_read request i found f (nat_lt i (further_words request.tag)) refl
+  sends (Sending.ReadBody request i) found f =
+      behind_word (λ (z : Sending). Sends (Sending.ReadBody request i) (On z)) (further_words request.tag) i _ _
+      (λ more. quiet refl (λ own. refl) (λ a r. (asked_more request i found f r, omega (arith, more))))
+      (λ last. quiet refl (λ own. refl) (λ a r. (r.0.0, λ j low. (asked_more request i found f r).1 j (omega (arith, last)))))
   sends (Sending.ReadShut request) found f = shut_read request found
   sends Sending.ReadTotal found f = decides (Answer.Close (CloseAnswer.Already found)) refl (λ own. refl) (λ own. refl) tt refl
   sends (Sending.ReadCount request) found f = count_read request found (found == c.config.life) (request.tag == 0)
@@ -78,7 +70,9 @@ module _ (c : Setting) (job : Job) (e : Entry) where
   sends (Sending.ResetPassed parcel at) found f = quiet refl (λ own. refl) (λ a r. r)
   sends (Sending.ResetItemNext parcel at) found f = quiet refl (λ own. refl) (λ a r. r)
   sends (Sending.WriteItemTag parcel at) found f = quiet refl (λ own. refl) (λ a r. (r, omega arith))
-  sends (Sending.WriteItemBody parcel at i) found f = body_written parcel at i (nat_lt i (further_words parcel.tag)) refl
+  sends (Sending.WriteItemBody parcel at i) found f =
+      behind_word (λ (z : Sending). Sends (Sending.WriteItemBody parcel at i) (On z)) (further_words parcel.tag) i _ _
+      (λ more. quiet refl (λ own. refl) (λ a r. (r.0, omega (arith, more)))) (λ last. quiet refl (λ own. refl) (λ a r. tt))
   sends (Sending.ReadLast place at) found f = quiet refl (λ own. refl) (λ a r. tt)
   sends (Sending.LinkItem place at last) found f = decides (Answer.Send (SendAnswer.Accepted place)) refl (λ own. refl) (λ own. refl) tt refl
   sends (Sending.WriteLast place at) found f = quiet refl (λ own. refl) (λ a r. r)
@@ -88,11 +82,6 @@ module _ (c : Setting) (job : Job) (e : Entry) where
   abbrev Takes : ℕ → Taking → ℕ → Type 0
   Takes g service found = Outcome Served.List (Chain.Take g) job e (Place.Taking job service) (take_side.goes job service found) (take_side.decides service found)
 
-  item_read : (g dummy at : ℕ) (p : Parcel) (i found : ℕ) (b : Bool) →
-      Outcome Served.List (Chain.Take g) job e (Place.Taking job (Taking.ReadItemBody dummy at p i)) (Place.Taking job (cond b (Taking.ReadItemBody dummy at (with_read p i found) (i + 1)) (Taking.WriteHead dummy at (with_read p i found)))) None
-  item_read g dummy at p i found true = quiet refl (λ own. refl) (λ a r. tt)
-  item_read g dummy at p i found false = quiet refl (λ own. refl) (λ a r. tt)
-
   pub takes : (g : ℕ) (service : Taking) (found : ℕ) → Takes g service found
   takes g Taking.ReadHead found = quiet refl (λ own. refl) (λ a r. tt)
   takes g (Taking.ReadTaken dummy) found = quiet refl (λ own. refl) (λ a r. tt)
@@ -100,19 +89,18 @@ module _ (c : Setting) (job : Job) (e : Entry) where
   takes g (Taking.ReadDummyNext dummy taken) (suc found) = quiet refl (λ own. refl) (λ a r. tt)
   takes g (Taking.ReadItemTag dummy taken at) zero = decides (Answer.Take (TakeAnswer.Ended taken)) refl (λ own. refl) (λ own. refl) tt refl
   takes g (Taking.ReadItemTag dummy taken at) (suc found) = quiet refl (λ own. refl) (λ a r. tt)
-  takes g (Taking.ReadItemBody dummy at p i) found = item_read g dummy at p i found (nat_lt i (further_words p.tag))
+  takes g (Taking.ReadItemBody dummy at p i) found =
+      behind_word (λ (z : Taking). Outcome Served.List (Chain.Take g) job e (Place.Taking job (Taking.ReadItemBody dummy at p i)) (Place.Taking job z) None) (further_words p.tag) i _ _
+      (λ more. quiet refl (λ own. refl) (λ a r. tt)) (λ last. quiet refl (λ own. refl) (λ a r. tt))
   takes g (Taking.WriteHead dummy at parcel) found = quiet refl (λ own. refl) (λ a r. tt)
   takes g (Taking.WriteTaken dummy parcel) found = quiet refl (λ own. refl) (λ a r. tt)
   takes g (Taking.AddPassed dummy parcel) found = decides _ refl (λ own. refl) (λ own. refl) tt refl
 
-  words_read : (tag i : ℕ) (b : Bool) → nat_lt i (further_words tag) ≡ b →
-      Outcome Served.Counter Chain.Send job e (Place.Counting job (Counting.ReadBody tag i)) (Place.Counting job (cond b (Counting.ReadBody tag (i + 1)) Counting.ReadCount)) None
-  words_read tag i true is = quiet refl (λ own. refl) (λ a r. (tt, omega (arith, ltb-true i (further_words tag) is)))
-  words_read tag i false is = quiet refl (λ own. refl) (λ a r. (tt, tt))
-
   pub counts : (service : Counting) (found : ℕ) → Outcome Served.Counter Chain.Send job e (Place.Counting job service) (count_side.goes job service found) (count_side.decides service found)
   counts Counting.ReadTag found = quiet refl (λ own. refl) (λ a r. (tt, omega arith))
-  counts (Counting.ReadBody tag i) found = words_read tag i (nat_lt i (further_words tag)) refl
+  counts (Counting.ReadBody tag i) found =
+      behind_word (λ (z : Counting). Outcome Served.Counter Chain.Send job e (Place.Counting job (Counting.ReadBody tag i)) (Place.Counting job z) None) (further_words tag) i _ _
+      (λ more. quiet refl (λ own. refl) (λ a r. (tt, omega (arith, more)))) (λ last. quiet refl (λ own. refl) (λ a r. (tt, tt)))
   counts Counting.ReadCount found = quiet refl (λ own. refl) (λ a r. (tt, tt))
   counts (Counting.WriteCount count) found = decides (Answer.Send (SendAnswer.Accepted count)) refl (λ own. refl) (λ own. refl) tt refl
 

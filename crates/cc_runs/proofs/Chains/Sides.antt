@@ -1,10 +1,9 @@
 -- The steps that one side alone has: a sender writes its request, and a receiver is told an item.
-use Rattle.std.proofs.Common.{◌≡◌, ◌≢◌, ℕ, zero, suc, ◌+◌, ◌≤◌, ◌<◌, Bool, true, false, nat_lt, cond, refl, ap, sym, ◌∙◌, arith}
+use Rattle.std.proofs.Common.{◌≡◌, ◌≢◌, ℕ, zero, suc, ◌+◌, ◌≤◌, ◌<◌, refl, ap, sym, arith}
 use Rattle.cc_runs.specs.Names.{Item, Setting, Chain, NodeField, Word, Job, Request, Place}
-use Rattle.std.proofs.lemmas.Bool.{ltb-false}
 use Rattle.cc_runs.specs.Codes.{tag_of, body_words, further_words, word}
 use Rattle.cc_runs.specs.State.{State}
-use Rattle.cc_runs.proofs.ReadWords.{few_further}
+use Rattle.cc_runs.proofs.ReadWords.{few_further, behind_word}
 use Rattle.cc_runs.proofs.Chains.View.{asks_in, view, pass_on, post_at, post_of, cell_of, words_of, request_words, answer_words, told_words, all_wrote, all_told, no_word, entering, serving}
 use Rattle.cc_runs.proofs.Chains.Frame.{put_here, word_apart, cell_apart}
 use Rattle.cc_runs.proofs.Chains.Bridge.{standing, after, is_at, was_at, others, before_at, words_at}
@@ -65,14 +64,15 @@ module _ (c : Setting) (s : State) (p begun own : ℕ) where
 
   pub write_body : (long put : ℕ) (request : Request) (i : ℕ) → long ≡ further_words request.tag + 2 → i ≤ further_words request.tag → s.stand (pass_on c Chain.Send p) ≡ standing c Chain.Send s p begun own (Place.WriteBody put request i) →
       Writes long (view c Chain.Send s) (view c Chain.Send (after c Chain.Send s p begun own (Place.WriteBody put request i))) p
-  write_body long put request i long_is most e = by_case (nat_lt i (further_words request.tag)) refl
+  write_body long put request i long_is most e =
+      behind_word (λ (z : Place). post_at Chain.Send ((after c Chain.Send s p begun own (Place.WriteBody put request i)).stand (pass_on c Chain.Send p)) ≡ post_of Chain.Send own z → Writes long (view c Chain.Send s) (view c Chain.Send (after c Chain.Send s p begun own (Place.WriteBody put request i))) p)
+      (further_words request.tag) i (Place.WriteBody put request (i + 1)) (Place.Link put)
+      (λ more is. write_word long put request i (suc (i + 1)) (asks_in request) e is (omega arith) (λ j a b. omega (arith, a)) (λ j far. refl) few)
+      (λ last is. write_word long put request i (all_wrote Chain.Send) no_word e is (omega (arith, few)) (λ j a b. omega (arith, b, long_is, last)) (λ j far. sym (asks_late request j far)) few)
+      (is_at c Chain.Send s p begun own (Place.WriteBody put request i))
     where
-      there : (b : Bool) → nat_lt i (further_words request.tag) ≡ b → post_at Chain.Send ((after c Chain.Send s p begun own (Place.WriteBody put request i)).stand (pass_on c Chain.Send p)) ≡ post_of Chain.Send own (cond b (Place.WriteBody put request (i + 1)) (Place.Link put))
-      there b is = is_at c Chain.Send s p begun own (Place.WriteBody put request i) ∙ ap (λ (z : Bool). post_of Chain.Send own (cond z (Place.WriteBody put request (i + 1)) (Place.Link put))) is
-
-      by_case : (b : Bool) → nat_lt i (further_words request.tag) ≡ b → Writes long (view c Chain.Send s) (view c Chain.Send (after c Chain.Send s p begun own (Place.WriteBody put request i))) p
-      by_case true is = write_word long put request i (suc (i + 1)) (asks_in request) e (there true is) (omega arith) (λ j a b. omega (arith, a)) (λ j far. refl) (omega (arith, most, few_further request.tag))
-      by_case false is = write_word long put request i (all_wrote Chain.Send) no_word e (there false is) (omega (arith, most, few_further request.tag)) (λ j a b. omega (arith, b, long_is, ltb-false i (further_words request.tag) is)) (λ j far. sym (asks_late request j far)) (omega (arith, most, few_further request.tag))
+      few : i ≤ 3
+      few = omega (arith, most, few_further request.tag)
 
 -- an item's tag, and a word of its body
 told_but_one : (ret tag a : ℕ) (body : ℕ → ℕ) (j : ℕ) → j ≢ 1 → told_words ret a body j ≡ told_words ret tag body j
@@ -109,11 +109,9 @@ module _ (c : Setting) (g : ℕ) (s : State) (p begun own : ℕ) where
 
   pub write_answer_body : (job : Job) (item : Item) (i : ℕ) → s.stand (pass_on c (Chain.Take g) p) ≡ standing c (Chain.Take g) s p begun own (Place.WriteAnswerBody job item i) →
       Tells (further_words (tag_of item) + 3) (view c (Chain.Take g) s) (view c (Chain.Take g) (after c (Chain.Take g) s p begun own (Place.WriteAnswerBody job item i))) p (word (body_words item) i)
-  write_answer_body job item i e = by_case (nat_lt i (further_words (tag_of item))) refl
-    where
-      there : (b : Bool) → nat_lt i (further_words (tag_of item)) ≡ b → post_at (Chain.Take g) ((after c (Chain.Take g) s p begun own (Place.WriteAnswerBody job item i)).stand (pass_on c (Chain.Take g) p)) ≡ post_of (Chain.Take g) own (cond b (Place.WriteAnswerBody job item (i + 1)) (Place.MarkDone job))
-      there b is = is_at c (Chain.Take g) s p begun own (Place.WriteAnswerBody job item i) ∙ ap (λ (z : Bool). post_of (Chain.Take g) own (cond z (Place.WriteAnswerBody job item (i + 1)) (Place.MarkDone job))) is
-
-      by_case : (b : Bool) → nat_lt i (further_words (tag_of item)) ≡ b → Tells (further_words (tag_of item) + 3) (view c (Chain.Take g) s) (view c (Chain.Take g) (after c (Chain.Take g) s p begun own (Place.WriteAnswerBody job item i))) p (word (body_words item) i)
-      by_case true is = write_answer_word (further_words (tag_of item) + 3) job item i (suc (suc (i + 1))) e (there true is) (λ j a b. omega (arith, a))
-      by_case false is = write_answer_word (further_words (tag_of item) + 3) job item i all_told e (there false is) (λ j a b. omega (arith, b, ltb-false i (further_words (tag_of item)) is))
+  write_answer_body job item i e =
+      behind_word (λ (z : Place). post_at (Chain.Take g) ((after c (Chain.Take g) s p begun own (Place.WriteAnswerBody job item i)).stand (pass_on c (Chain.Take g) p)) ≡ post_of (Chain.Take g) own z → Tells (further_words (tag_of item) + 3) (view c (Chain.Take g) s) (view c (Chain.Take g) (after c (Chain.Take g) s p begun own (Place.WriteAnswerBody job item i))) p (word (body_words item) i))
+      (further_words (tag_of item)) i (Place.WriteAnswerBody job item (i + 1)) (Place.MarkDone job)
+      (λ more is. write_answer_word (further_words (tag_of item) + 3) job item i (suc (suc (i + 1))) e is (λ j a b. omega (arith, a)))
+      (λ last is. write_answer_word (further_words (tag_of item) + 3) job item i all_told e is (λ j a b. omega (arith, b, last)))
+      (is_at c (Chain.Take g) s p begun own (Place.WriteAnswerBody job item i))

@@ -1,6 +1,6 @@
 -- Each line of the service of a send or a close keeps the list's invariant.
-use Rattle.std.proofs.Common.{◌≡◌, ◌≢◌, ◌⊎◌, ℕ, zero, suc, ◌+◌, ◌<◌, ◌≤◌, Bool, true, false, nat_lt, cond, arith, refl, sym, ap, ◌∙◌, subst, inl, inr}
-use Rattle.std.proofs.lemmas.Bool.{cases_eq, ltb-true, ltb-false}
+use Rattle.std.proofs.Common.{◌≡◌, ◌≢◌, ℕ, zero, suc, ◌+◌, ◌<◌, ◌≤◌, arith, refl, sym, ap, ◌∙◌}
+use Rattle.std.proofs.lemmas.Bool.{cases_eq}
 use Rattle.cc_runs.specs.Names.{Config, ItemField, Object, Word, Parcel, Request, Sending}
 use Rattle.cc_runs.specs.State.{word_of, stored}
 use Rattle.cc_runs.specs.Words.{put}
@@ -8,6 +8,7 @@ use Rattle.cc_runs.specs.Codes.{request_in, further_words, word, no_words, parce
 use Rattle.cc_runs.proofs.Chains.Registers.{HasRequest}
 use Rattle.cc_runs.specs.ServiceLine.{Next, On, Decides, DecidesAndOn, Tells}
 use Rattle.cc_runs.specs.SendLines.{line, by_shut, operation}
+use Rattle.cc_runs.proofs.ReadWords.{behind_word}
 use Rattle.cc_runs.proofs.LinkedList.Queue.{Enq, Queue, Told}
 use Rattle.cc_runs.proofs.LinkedList.Invariant.{LInv}
 use Rattle.cc_runs.proofs.LinkedList.Scan.{looked, looked_role, looked_known}
@@ -67,39 +68,30 @@ module _ (mem : Word → ℕ) (d : Duty) (r : ℕ → Regs) (c : Config) (n : �
   write_tag parcel at same i = grind (arith, cases_eq, apart _ i (omega arith) (omega arith))
 
   -- a word of a body, and what the next step is then
-  write_word : (parcel : Parcel) (at i : ℕ) (there : Sending) → HasRequest d.e_call parcel.tag parcel.body → i ≤ further_words parcel.tag
-      → (there ≡ Sending.WriteItemBody parcel at (i + 1)) × (i < further_words parcel.tag) ⊎ (there ≡ Sending.ReadLast parcel.place at) × (further_words parcel.tag ≤ i)
-      → Keeps mem (Sending.WriteItemBody parcel at i) → Keeps (put mem (Word.Item at (ItemField.Body i)) (word parcel.body i)) there
-  write_word parcel at i there asked low (inl on) v = subst (Keeps (put mem (Word.Item at (ItemField.Body i)) (word parcel.body i))) (sym on.0) (grind (arith, cases_eq, apart _ v (omega arith) (omega arith), here, others, is))
-    where
-      is : word parcel.body i ≡ asks_of d.e_call (suc i)
-      is = asked.1 i (omega arith)
+  module _ (parcel : Parcel) (at i : ℕ) (asked : HasRequest d.e_call parcel.tag parcel.body) (low : i ≤ further_words parcel.tag) (v : Keeps mem (Sending.WriteItemBody parcel at i)) where
+    abbrev now : Word → ℕ
+    now = put mem (Word.Item at (ItemField.Body i)) (word parcel.body i)
 
-      here : item_word (put mem (Word.Item at (ItemField.Body i)) (word parcel.body i)) at (suc i) ≡ word parcel.body i
-      here = part_here mem at i (word parcel.body i)
+    is : word parcel.body i ≡ asks_of d.e_call (suc i)
+    is = asked.1 i (omega arith)
 
-      others : (x j : ℕ) → (at ≡ x → j ≢ suc i) → item_word (put mem (Word.Item at (ItemField.Body i)) (word parcel.body i)) x j ≡ item_word mem x j
-      others x j ne = part_other mem at i (word parcel.body i) x j ne
-  write_word parcel at i there asked low (inr over) v = subst (Keeps (put mem (Word.Item at (ItemField.Body i)) (word parcel.body i))) (sym over.0) (grind (arith, cases_eq, apart _ v (omega arith) (omega arith), here, others, is, last))
-    where
-      is : word parcel.body i ≡ asks_of d.e_call (suc i)
-      is = asked.1 i (omega arith)
+    here : item_word now at (suc i) ≡ word parcel.body i
+    here = part_here mem at i (word parcel.body i)
 
-      last : long_of (request_in d.e_call).tag ≡ i + 2
-      last = omega (arith, ap further_words asked.0, over.1, low)
+    others : (x j : ℕ) → (at ≡ x → j ≢ suc i) → item_word now x j ≡ item_word mem x j
+    others x j ne = part_other mem at i (word parcel.body i) x j ne
 
-      here : item_word (put mem (Word.Item at (ItemField.Body i)) (word parcel.body i)) at (suc i) ≡ word parcel.body i
-      here = part_here mem at i (word parcel.body i)
+    word_on : i < further_words parcel.tag → Keeps now (Sending.WriteItemBody parcel at (i + 1))
+    word_on more = grind (arith, cases_eq, apart _ v (omega arith) (omega arith), here, others, is)
 
-      others : (x j : ℕ) → (at ≡ x → j ≢ suc i) → item_word (put mem (Word.Item at (ItemField.Body i)) (word parcel.body i)) x j ≡ item_word mem x j
-      others x j ne = part_other mem at i (word parcel.body i) x j ne
+    word_last : further_words parcel.tag ≤ i → Keeps now (Sending.ReadLast parcel.place at)
+    word_last far = grind (arith, cases_eq, apart _ v (omega arith) (omega arith), here, others, is, last)
+      where
+        last : long_of (request_in d.e_call).tag ≡ i + 2
+        last = omega (arith, ap further_words asked.0, far, low)
 
   pub write_body : (parcel : Parcel) (at i : ℕ) → HasRequest d.e_call parcel.tag parcel.body → i ≤ further_words parcel.tag → LineKeeps (Sending.WriteItemBody parcel at i)
-  write_body parcel at i asked low v = write_word parcel at i _ asked low (by_case (nat_lt i (further_words parcel.tag)) refl) v
-    where
-      by_case : (b : Bool) → nat_lt i (further_words parcel.tag) ≡ b → (cond b (Sending.WriteItemBody parcel at (i + 1)) (Sending.ReadLast parcel.place at) ≡ Sending.WriteItemBody parcel at (i + 1)) × (i < further_words parcel.tag) ⊎ (cond b (Sending.WriteItemBody parcel at (i + 1)) (Sending.ReadLast parcel.place at) ≡ Sending.ReadLast parcel.place at) × (further_words parcel.tag ≤ i)
-      by_case true is = inl (refl, ltb-true i (further_words parcel.tag) is)
-      by_case false is = inr (refl, ltb-false i (further_words parcel.tag) is)
+  write_body parcel at i asked low v = behind_word (Keeps (put mem (Word.Item at (ItemField.Body i)) (word parcel.body i))) (further_words parcel.tag) i _ _ (word_on parcel at i asked low v) (word_last parcel at i asked low v)
 
   -- ---- the loads that branch
 

@@ -1,6 +1,6 @@
 -- A step of the service of a send or a close keeps the list's invariant, and decides a lawful answer.
-use Rattle.std.proofs.Common.{◌≡◌, ◌≢◌, ℕ, zero, suc, ◌+◌, ◌-◌, ◌%◌, ◌<◌, ◌≤◌, ◌^◌, ◌==◌, nat_lt, List, [], ◌∷◌, ◌++◌, length, Bool, true, false, ◌||◌, cond, if◌then◌else◌, Some, None, refl, sym, ap, ◌∙◌, subst, arith, inl, inr, append-nil, length-append}
-use Rattle.std.proofs.lemmas.Bool.{cases_eq, cases_lt, eqb-true, eqb-false, ltb-true, ltb-false}
+use Rattle.std.proofs.Common.{◌≡◌, ◌≢◌, ℕ, zero, suc, ◌+◌, ◌-◌, ◌%◌, ◌<◌, ◌≤◌, ◌^◌, ◌==◌, List, [], ◌∷◌, ◌++◌, length, Bool, true, false, ◌||◌, cond, if◌then◌else◌, Some, None, refl, sym, ap, ◌∙◌, subst, arith, inl, inr, append-nil, length-append}
+use Rattle.std.proofs.lemmas.Bool.{cases_eq, cases_lt, eqb-true, eqb-false}
 use Rattle.std.proofs.Math.Nat.{mod-eq_of_lt, mod_self}
 use Rattle.std.specs.List.{slice_get}
 use Rattle.cc_model.specs.Record.{Record}
@@ -10,11 +10,12 @@ use Rattle.cc_runs.specs.Names.{Config, Entry, Item, Answer, SendAnswer, CloseAn
 use Rattle.cc_model.proofs.Grows.{get_front, get_last}
 use Rattle.cc_runs.specs.Words.{groups, put}
 use Rattle.cc_runs.specs.State.{noted, word_of, stored}
-use Rattle.cc_runs.specs.Codes.{item_of, request_in, further_words}
+use Rattle.cc_runs.specs.Codes.{item_of, request_in, further_words, behind}
 use Rattle.cc_runs.proofs.Chains.Registers.{HasRequest}
 use Rattle.cc_runs.specs.SendLines.{operation, goes, decides, after, mark, by_shut, by_count, by_passed, in_service}
 use Rattle.cc_runs.specs.ServiceLine as line
 use Rattle.cc_runs.specs.MachineLaws.{links}
+use Rattle.cc_runs.proofs.ReadWords.{behind_word}
 use Rattle.cc_runs.proofs.LinkedList.Queue.{Queue, Told}
 use Rattle.cc_runs.proofs.LinkedList.Invariant.{LInv}
 use Rattle.cc_runs.proofs.LinkedList.Grow as grow
@@ -388,10 +389,9 @@ module _ (c : Config) (mem : Word → ℕ) (d : Duty) (r : ℕ → Regs) (h : Re
 
   -- ---- a word of the item's body
 
-  word_reads : (parcel : Parcel) (at i : ℕ) (b : Bool) → nat_lt i (further_words parcel.tag) ≡ b → HasRequest d.e_call parcel.tag parcel.body × (i ≤ further_words parcel.tag)
-      → Reads c d.e_call d.from (cond b (Sending.WriteItemBody parcel at (i + 1)) (Sending.ReadLast parcel.place at))
-  word_reads parcel at i true is a = (a.0, omega (arith, ltb-true i (further_words parcel.tag) is))
-  word_reads parcel at i false is a = tt
+  word_reads : (parcel : Parcel) (at i : ℕ) → HasRequest d.e_call parcel.tag parcel.body
+      → Reads c d.e_call d.from (behind (further_words parcel.tag) i (Sending.WriteItemBody parcel at (i + 1)) (Sending.ReadLast parcel.place at))
+  word_reads parcel at i asked = behind_word (Reads c d.e_call d.from) (further_words parcel.tag) i _ _ (λ more. (asked, omega (arith, more))) (λ last. tt)
 
   -- ---- the whole service, but for the loads of the request
 
@@ -419,7 +419,7 @@ module _ (c : Config) (mem : Word → ℕ) (d : Duty) (r : ℕ → Regs) (h : Re
   send_turn (Sending.ResetItemNext parcel at) found low e n = on _ (Sending.WriteItemTag parcel at) n.0.counted (keeps.reset_next mem d r c (further c + 1) g parcel at n.0.inv) n.1 (λ u. n.2 tt)
   send_turn (Sending.WriteItemTag parcel at) found low e n = on _ (Sending.WriteItemBody parcel at 0) n.0.counted (keeps.write_tag mem d r c (further c + 1) g parcel at n.1.0 n.0.inv) (n.1, omega arith) (λ u. n.2 tt)
   send_turn (Sending.WriteItemBody parcel at i) found low e n =
-      on _ _ n.0.counted (keeps.write_body mem d r c (further c + 1) g parcel at i n.1.0 n.1.1 n.0.inv) (word_reads parcel at i (nat_lt i (further_words parcel.tag)) refl n.1) (λ u. n.2 tt)
+      on _ _ n.0.counted (keeps.write_body mem d r c (further c + 1) g parcel at i n.1.0 n.1.1 n.0.inv) (word_reads parcel at i n.1.0) (λ u. n.2 tt)
   send_turn (Sending.ReadLast count at) found low e n =
       let link : (0 < mem (Word.Object Object.Last)) × (mem (Word.Object Object.Last) ≤ c.capacity + 1) = limits.last_link c.capacity c.life (further c + 1) (AtStep mem (Sending.ReadLast count at)) g n.0.inv refl in
       subst (λ (k : ℕ). Turn c mem d r h g (Place.Sending job (Sending.LinkItem count at (k - 1)))) e (on mem (Sending.LinkItem count at (mem (Word.Object Object.Last) - 1)) n.0.counted (keeps.read_last mem d r c (further c + 1) g count at link.0 n.0.inv) tt (λ u. n.2 tt))

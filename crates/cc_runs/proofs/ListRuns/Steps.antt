@@ -1,6 +1,6 @@
 -- Each step of the machine keeps the list's invariant, the passes' and the calls'.
-use Rattle.std.proofs.Common.{◌≡◌, ◌≢◌, ◌∙◌, inl, inr, None, arith, ℕ, zero, suc, ◌+◌, ◌<◌, ◌≤◌, List, [], ◌∷◌, ◌++◌, length, Bool, true, false, nat_lt, cond, Some, refl, sym, ap, subst}
-use Rattle.std.proofs.lemmas.Bool.{cases_eq, ltb-false}
+use Rattle.std.proofs.Common.{◌≡◌, ◌≢◌, ◌∙◌, inl, inr, None, arith, ℕ, zero, suc, ◌+◌, ◌<◌, ◌≤◌, List, [], ◌∷◌, ◌++◌, length, false, Some, refl, sym, ap, subst}
+use Rattle.std.proofs.lemmas.Bool.{cases_eq}
 use Rattle.std.proofs.lemmas.List.{length-set}
 use Rattle.std.specs.List.{slice_get}
 use Rattle.cc_model.specs.Legal.{DAnswers}
@@ -9,14 +9,15 @@ use Rattle.cc_runs.proofs.Chains.Facts.{noted_none}
 use Rattle.cc_runs.proofs.ListRuns.Decided.{group_mine, group_other}
 use Rattle.cc_model.specs.Record.{Side, Record, of_group, with_call, with_sends, with_takes}
 use Rattle.cc_model.specs.Items.{accepted, handed_by, handed_to_all, is_shut, entries}
-use Rattle.cc_runs.specs.Names.{Config, Pass, Entry, Served, Chain, NodeField, Word, Job, Round, Request, Place, Sending, Stand}
+use Rattle.cc_runs.specs.Names.{Config, Pass, Entry, Served, Chain, Word, Job, Round, Request, Place, Sending, Stand}
 use Rattle.cc_model.proofs.Grows.{get_front, e_calls_more, accepted_calls_more, d_calls_more}
-use Rattle.cc_runs.specs.Codes.{further_words, with_asked}
+use Rattle.cc_runs.specs.Codes.{further_words}
 use Rattle.cc_runs.specs.State.{State, chain_of, pass_at, hold, noted, word_of}
 use Rattle.cc_runs.specs.Lines.{operation, after_next}
 use Rattle.cc_runs.specs.Step.{stepped_from}
 use Rattle.cc_runs.specs.Run.{passes}
 use Rattle.cc_runs.specs.MachineLaws.{links_at}
+use Rattle.cc_runs.proofs.ReadWords.{behind_word}
 use Rattle.cc_runs.proofs.LinkedList.Queue.{Enq, Told}
 use Rattle.cc_runs.proofs.ListRuns.View.{Duty, Regs, queue_from}
 use Rattle.cc_runs.proofs.ListRuns.Ties.{Ties, IsNextSend, IsNextTake, ties_same}
@@ -119,18 +120,16 @@ module _ (c : Config) (s : State) (p begun own : ℕ) (within : p < passes (list
       let same : at ≡ (s.stand p).place = ap (λ (z : Stand). z.place) (sym stands) in
       quiet c s p now mem' s.history k (subst StillSend same a) (subst StillTake same b) e f words (λ e n. n) (λ y e n. n) (λ t. t)
 
-  -- a word of a request: the service begins with the last one
-  read_step : (job : Job) (request : Request) (i : ℕ) (b : Bool) → nat_lt i (further_words request.tag) ≡ b → s.stand p ≡ stand_at (Place.Sending job (Sending.ReadBody request i)) → ChainFacts (lists c) s
-      → Onward c s k (record { mem = s.mem; stand = hold s.stand p (stand_at (Place.Sending job (cond b (Sending.ReadBody (with_asked request i (s.mem (Word.Node Chain.Send job.round.at (NodeField.Body i)))) (i + 1)) (Sending.ReadShut (with_asked request i (s.mem (Word.Node Chain.Send job.round.at (NodeField.Body i)))))))); history = s.history })
-  read_step job request i true is stands facts = chain_step Chain.Send _ stands _ _ (read_body_still job request i) (in_send job _) (read_body_still job _ (i + 1)) (in_send job _) (λ d e r. refl)
-  read_step job request i false is stands facts = send_enters c s p begun own job request i (ltb-false i (further_words request.tag) is) (ap (λ (z : Stand). z.place) stands) within facts posts.outside e_callers k
-
   pub send_step : (at : Place) → s.stand p ≡ stand_at at → Well s.history Chain.Send (Pass.Sender (p + 1)) begun at → ChainFacts (lists c) s → OnwardBy c s k (stepped_from (lists c) s Chain.Send p (stand_at at)) (links_at at)
   send_step (Place.Counting job service) stands w facts = absurd w
   send_step (Place.Taking job service) stands w facts = absurd w
   send_step (Place.Sending job Sending.ReadTag) stands w facts =
       chain_step Chain.Send _ stands _ _ (read_tag_still job) (in_send job _) (read_body_still job _ 0) (in_send job _) (λ d e r. refl)
-  send_step (Place.Sending job (Sending.ReadBody request i)) stands w facts = read_step job request i (nat_lt i (further_words request.tag)) refl stands facts
+  -- a word of a request: the service begins with the last one
+  send_step (Place.Sending job (Sending.ReadBody request i)) stands w facts =
+      behind_word (λ (z : Sending). Onward c s k (record { mem = s.mem; stand = hold s.stand p (stand_at (Place.Sending job z)); history = s.history })) (further_words request.tag) i _ _
+      (λ more. chain_step Chain.Send _ stands _ _ (read_body_still job request i) (in_send job _) (read_body_still job _ (i + 1)) (in_send job _) (λ d e r. refl))
+      (λ last. send_enters c s p begun own job request i last (ap (λ (z : Stand). z.place) stands) within facts posts.outside e_callers k)
   send_step (Place.Sending job service) stands w facts = send_serves c s p begun own job service stands tt k
   send_step (Place.ReadNext round) stands w facts =
       chain_step Chain.Send _ stands _ _ (still_send (Place.ReadNext round) tt) (still_take (Place.ReadNext round) tt) (next_send_still round _) (next_take_still round _) (λ d e r. refl)

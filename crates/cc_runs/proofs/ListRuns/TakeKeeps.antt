@@ -1,12 +1,12 @@
 -- Each line of the service of a take of a group keeps the list's invariant. The registers of that group's service are told by
 -- where its pass stands, those of the others stay.
-use Rattle.std.proofs.Common.{◌≡◌, ◌≢◌, ℕ, zero, suc, ◌+◌, ◌<◌, ◌≤◌, Bool, true, false, nat_lt, cond, arith, refl, sym, ap, ◌∙◌}
-use Rattle.std.proofs.lemmas.Bool.{cases_eq, ltb-true, ltb-false}
+use Rattle.std.proofs.Common.{◌≡◌, ◌≢◌, ℕ, zero, suc, ◌+◌, ◌<◌, ◌≤◌, arith, refl, sym, ap, ◌∙◌}
+use Rattle.std.proofs.lemmas.Bool.{cases_eq}
 use Rattle.cc_runs.specs.Names.{Config, ItemField, Object as Obj, Word, Parcel, Taking}
 use Rattle.cc_runs.specs.Words.{put, object_number}
 use Rattle.cc_runs.specs.Codes.{further_words, word, with_read}
 use Rattle.cc_runs.specs.State.{word_of, stored}
-use Rattle.cc_runs.proofs.ReadWords.{few_further, next_word}
+use Rattle.cc_runs.proofs.ReadWords.{few_further, next_word, behind_word}
 use Rattle.cc_runs.proofs.Chains.View.{words_of}
 use Rattle.cc_runs.specs.ServiceLine.{Next, On, Decides, DecidesAndOn, Tells}
 use Rattle.cc_runs.specs.TakeLines.{line, by_next, by_tag, operation}
@@ -151,11 +151,7 @@ module _ (mem : Word → ℕ) (d : Duty) (e : Enq) (c : Config) (n : ℕ) (g : T
         whole = omega (arith, far, low, long_is, ap long_of tag_is)
 
   pub read_body : (dummy at : ℕ) (p : Parcel) (j : ℕ) → g.tells ≡ long_of → LineKeeps (Taking.ReadItemBody dummy at p j)
-  read_body dummy at p j tells a i b = by_case (nat_lt j (further_words p.tag)) refl b
-    where
-      by_case : (z : Bool) → nat_lt j (further_words p.tag) ≡ z → Keeps mem (cond z (Taking.ReadItemBody dummy at (with_read p j (mem (Word.Item at (ItemField.Body j)))) (j + 1)) (Taking.WriteHead dummy at (with_read p j (mem (Word.Item at (ItemField.Body j))))))
-      by_case true is b = read_on dummy at p j tells a i (ltb-true j (further_words p.tag) is) b
-      by_case false is b = read_last dummy at p j tells a i (ltb-false j (further_words p.tag) is) b
+  read_body dummy at p j tells a i = behind_word (λ (z : Taking). Keeps mem z) (further_words p.tag) j _ _ (read_on dummy at p j tells a i) (read_last dummy at p j tells a i)
 
   pub write_head : (dummy at : ℕ) (parcel : Parcel) → LineKeeps (Taking.WriteHead dummy at parcel)
   write_head dummy at parcel a i b = stored_keeps (Obj.Head y) (at + 1) (omega arith) i (grind (arith, cases_eq, a, b, same, more, head_now, head_else, taken_same)) (grind (arith, cases_eq, a, b, same, more))
