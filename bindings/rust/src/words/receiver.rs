@@ -187,7 +187,6 @@ impl Receiver {
         }
         PendingRecv {
             receiver: self,
-            done: false,
             waited: 0,
         }
     }
@@ -292,7 +291,6 @@ impl fmt::Debug for Receiver {
 #[must_use = "a call that was begun is to be turned until it is done"]
 pub struct PendingRecv<'a> {
     receiver: &'a mut Receiver,
-    done: bool,
     /// How many of its turns told that it waits.
     waited: u32,
 }
@@ -303,26 +301,19 @@ impl PendingRecv<'_> {
     pub fn turn(mut self) -> Turn<Self, Result<Item, TryRecvError>> {
         match self.receiver.turn_guard(takes_long(&mut self.waited)) {
             None => Turn::Waiting(self),
-            Some((answer, served)) => {
-                self.done = true;
-                Turn::Done { answer, served }
-            }
+            Some((answer, served)) => Turn::Done { answer, served },
         }
     }
 
     /// Turns until the answer, and spins or yields in between.
-    pub fn wait(mut self) -> Result<Item, TryRecvError> {
-        let (answer, _) = turn_until(|long| self.receiver.turn_guard(long));
-        self.done = true;
-        answer
+    pub fn wait(self) -> Result<Item, TryRecvError> {
+        turn_until(|long| self.receiver.turn_guard(long)).0
     }
 }
 
 impl Drop for PendingRecv<'_> {
     fn drop(&mut self) {
-        if !self.done {
-            self.receiver.settle_shortly();
-        }
+        self.receiver.settle_shortly();
     }
 }
 

@@ -227,7 +227,6 @@ impl Sender {
         }
         Ok(PendingSend {
             sender: self,
-            done: false,
             waited: 0,
         })
     }
@@ -241,7 +240,6 @@ impl Sender {
         }
         PendingClose {
             sender: self,
-            done: false,
             waited: 0,
         }
     }
@@ -331,7 +329,6 @@ impl fmt::Debug for Sender {
 #[must_use = "a call that was begun is to be turned until it is done"]
 pub struct PendingSend<'a> {
     sender: &'a mut Sender,
-    done: bool,
     /// How many of its turns told that it waits.
     waited: u32,
 }
@@ -342,27 +339,20 @@ impl PendingSend<'_> {
     pub fn turn(mut self) -> Turn<Self, Result<u64, TrySendError>> {
         match self.sender.turn_begun_send(takes_long(&mut self.waited)) {
             None => Turn::Waiting(self),
-            Some((answer, served)) => {
-                self.done = true;
-                Turn::Done { answer, served }
-            }
+            Some((answer, served)) => Turn::Done { answer, served },
         }
     }
 
     /// Turns until the answer, and spins or yields in between. The answer is as of
     /// [`Sender::try_send`], but never `Worn`.
-    pub fn wait(mut self) -> Result<u64, TrySendError> {
-        let (answer, _) = turn_until(|long| self.sender.turn_begun_send(long));
-        self.done = true;
-        answer
+    pub fn wait(self) -> Result<u64, TrySendError> {
+        turn_until(|long| self.sender.turn_begun_send(long)).0
     }
 }
 
 impl Drop for PendingSend<'_> {
     fn drop(&mut self) {
-        if !self.done {
-            self.sender.settle_shortly();
-        }
+        self.sender.settle_shortly();
     }
 }
 
@@ -371,7 +361,6 @@ impl Drop for PendingSend<'_> {
 #[must_use = "a call that was begun is to be turned until it is done"]
 pub struct PendingClose<'a> {
     sender: &'a mut Sender,
-    done: bool,
     /// How many of its turns told that it waits.
     waited: u32,
 }
@@ -381,25 +370,18 @@ impl PendingClose<'_> {
     pub fn turn(mut self) -> Turn<Self, Closed> {
         match self.sender.turn_begun_close(takes_long(&mut self.waited)) {
             None => Turn::Waiting(self),
-            Some((answer, served)) => {
-                self.done = true;
-                Turn::Done { answer, served }
-            }
+            Some((answer, served)) => Turn::Done { answer, served },
         }
     }
 
     /// Turns until the answer, and spins or yields in between.
-    pub fn wait(mut self) -> Closed {
-        let (answer, _) = turn_until(|long| self.sender.turn_begun_close(long));
-        self.done = true;
-        answer
+    pub fn wait(self) -> Closed {
+        turn_until(|long| self.sender.turn_begun_close(long)).0
     }
 }
 
 impl Drop for PendingClose<'_> {
     fn drop(&mut self) {
-        if !self.done {
-            self.sender.settle_shortly();
-        }
+        self.sender.settle_shortly();
     }
 }
