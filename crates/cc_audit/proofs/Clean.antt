@@ -1,9 +1,10 @@
 -- Receipts that come from items in their places have no fault.
-use Rattle.std.proofs.Common.{◌≡◌, ℕ, ◌<◌, ◌≤◌, ◌==◌, ◌⊎◌, inl, inr, List, length, map, Option, Some, None, get_or, Any, IsSomeAnd, refl, sym, ap, ◌∙◌, subst, arith, length-append}
+use Rattle.std.proofs.Common.{◌≡◌, ℕ, ◌<◌, ◌≤◌, ◌==◌, ◌⊎◌, inl, inr, List, [], length, map, Option, Some, None, get_or, Any, IsSomeAnd, refl, sym, ap, ◌∙◌, subst, arith, length-append}
 use Rattle.std.specs.List.{slice_get}
 use Rattle.std.proofs.lemmas.Bool.{eqb-true}
 use Rattle.std.proofs.lemmas.List.{get_or-map, get_or_default, length-map}
 use Rattle.std.proofs.lemmas.Option.{slice_get-get_or}
+use Rattle.cc_model.specs.Body.{body_of}
 use Rattle.cc_model.specs.Items.{IsFront}
 use Rattle.cc_audit.specs.Names.{Item, SendReceipt, TakeReceipt}
 use Rattle.cc_model.proofs.Grows.{get_front}
@@ -23,7 +24,7 @@ module _ (sent : List Item) (takes : List TakeReceipt) (total : Option ℕ) (fai
   sends = map send_receipt sent
 
   no_item : Item
-  no_item = record { place = 0; sender = 0; number = 0; body = 0 }
+  no_item = record { place = 0; sender = 0; number = 0; body = body_of [] }
 
   -- the item of a send receipt
   sent_item : (k : ℕ) (d : SendReceipt) → k < length sends → (x : Item) × (slice_get sent k ≡ Some x) × (get_or sends k d ≡ send_receipt x)

@@ -1,5 +1,6 @@
 -- The verdict on receipts: seven kinds of fault, each of them at a place.
 use Rattle.std.specs.Prelude.{◌≡◌, ℕ, ◌<◌, ◌≤◌, ◌==◌, ◌≢◌, ◌⊎◌, List, Option, IsSomeAnd, Any, IsPermutation, count_by}
+use Rattle.cc_model.specs.Body.{words_of}
 use Rattle.cc_audit.specs.Names.{Item, SendReceipt, TakeReceipt, Verdict}
 
 -- the receipt names the place
@@ -21,9 +22,9 @@ DoubleTake takes p = 2 ≤ count_by (λ t. t.item.place == p) takes
 abbrev pub Stranger : List SendReceipt → List TakeReceipt → ℕ → Type 0
 Stranger sends takes p = Any (TakeNames p) takes × (Any (SendNames p) sends → ⊥)
 
--- another sender, number or body was taken than was sent
+-- another sender, another number or other words were taken than were sent
 abbrev pub Differs : SendReceipt → Item → Type 0
-Differs s x = (s.sender ≢ x.sender) ⊎ (s.number ≢ x.number) ⊎ (s.body ≢ x.body)
+Differs s x = (s.sender ≢ x.sender) ⊎ (s.number ≢ x.number) ⊎ (words_of s.body ≢ words_of x.body)
 
 -- a take receipt and a send receipt name the place, and differ
 abbrev pub Altered : List SendReceipt → List TakeReceipt → ℕ → Type 0

@@ -1,4 +1,4 @@
-use cc_model::Item;
+use cc_model::{Body, Item};
 
 /// What a sender keeps of a send that was accepted: its own number, the number of this send among its sends, from 1,
 /// the place of the item among all accepted items, from 0, and the body.
@@ -7,7 +7,7 @@ pub struct SendReceipt {
     pub sender: u32,
     pub number: u32,
     pub place: u64,
-    pub body: u64,
+    pub body: Body,
 }
 
 /// What a receiver keeps of a take: its own number, and the item that it got.

@@ -37,7 +37,9 @@ pub fn by_sender(sends: Vec<SendReceipt>) -> Result<Vec<SendReceipt>, AllocError
 fn differs(send: &SendReceipt, item: &Item) -> bool
     ensures { IsTrue result ↔ Differs send.now item.now }
 {
-    send.sender != item.sender || send.number != item.number || send.body != item.body
+    send.sender != item.sender
+        || send.number != item.number
+        || send.body.words() != item.body.words()
 }
 
 /// Whether a send receipt names the item's place and isn't of this item. Of several that name the place one is asked.
