@@ -18,3 +18,4 @@ pub mod KnownFronts
 pub mod LinkedList
 pub mod ListRuns
 pub mod AllReady
+pub mod Bodies

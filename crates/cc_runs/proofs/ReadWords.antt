@@ -1,8 +1,9 @@
 -- The words of a body, read one by one.
 use Rattle.std.proofs.Common.{◌≡◌, ◌≢◌, ℕ, zero, suc, ◌/◌, ◌%◌, ◌^◌, ◌<◌, ◌≤◌, refl, ap, sym, ◌∙◌, arith, inl, inr, Bool, true, false, nat_lt, cond}
 use Rattle.std.proofs.lemmas.Bool.{cases_eq, ltb-true, ltb-false}
-use Rattle.cc_runs.specs.Names.{BodyWords, Parcel}
-use Rattle.cc_runs.specs.Codes.{word, with_word, further_words, item_in, item_of, behind}
+use Rattle.cc_runs.specs.Names.{Body, Item, BodyWords, Parcel}
+use Rattle.cc_runs.specs.Codes.{word, with_word, further_words, tag_sender, tag_number, item_in, item_of, behind}
+use Rattle.cc_runs.proofs.Bodies.{body_same}
 
 -- the word that was read
 word_here : (body : BodyWords) (i value : ℕ) → i ≤ 3 → word (with_word body i value) i ≡ value
@@ -49,7 +50,12 @@ next_word body words i value most is front j low = elim (cases_eq j i) [
 
 -- an item is told by its place, its tag and its words
 pub one_item : (p : Parcel) {place tag : ℕ} (body : BodyWords) → p.place ≡ place → p.tag ≡ tag → ((j : ℕ) → j ≤ further_words p.tag → word p.body j ≡ word body j) → item_in p ≡ item_of place tag body
-one_item p body place_is tag_is words = λ i. record { place = place_is i; sender = tag_is i / 2 ^ 32; number = tag_is i % 2 ^ 32; body = words 0 (omega arith) i }
+one_item p {place} {tag} body place_is tag_is words =
+    ap (λ (b : Body). by p.place p.tag b) (body_same (further_words p.tag) p.body body (few_further p.tag) words)
+    ∙ (λ i. item_of (place_is i) (tag_is i) body)
+  where
+    by : ℕ → ℕ → Body → Item
+    by place tag body = record { place = place; sender = tag_sender tag; number = tag_number tag; body = body }
 
 -- what holds where the step at a word leads to the next one, and where it leads on
 pub behind_word : {A : Type 0} (P : A → Type 0) (further i : ℕ) (next on : A) → (i < further → P next) → (further ≤ i → P on) → P (behind further i next on)

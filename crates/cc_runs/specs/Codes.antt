@@ -1,6 +1,7 @@
 -- Tags, requests and answers as words.
-use Rattle.std.specs.Prelude.{ℕ, zero, suc, ◌+◌, ◌*◌, ◌^◌, ◌/◌, ◌%◌, ◌==◌, nat_lt, if◌then◌else◌}
-use Rattle.cc_runs.specs.Names.{Entry, Item, Call, Pass, Answer, SendAnswer, CloseAnswer, TakeAnswer, BodyWords, Request, Parcel, Served}
+use Rattle.std.specs.Prelude.{ℕ, zero, suc, ◌+◌, ◌*◌, ◌^◌, ◌/◌, ◌%◌, ◌==◌, nat_lt, if◌then◌else◌, List, [], ◌∷◌, slice_index_or}
+use Rattle.cc_model.specs.Body.{words_of, body_of, further_of}
+use Rattle.cc_runs.specs.Names.{Body, Entry, Item, Call, Pass, Answer, SendAnswer, CloseAnswer, TakeAnswer, BodyWords, Request, Parcel, Served}
 
 -- a sender and the number of its send as one word
 abbrev pub pack : ℕ → ℕ → ℕ
@@ -9,6 +10,17 @@ pack sender number = sender * 2 ^ 32 + number
 -- how many words of its body a tag tells of beside the first: three at most
 abbrev pub further_words : ℕ → ℕ
 further_words tag = tag / 2 ^ 48 % 4
+
+-- the tag of a send of this body: a sender's number has sixteen bits in it
+abbrev pub packed : ℕ → ℕ → Body → ℕ
+packed sender number body = further_of body * 2 ^ 48 + pack (sender % 2 ^ 16) number
+
+-- the sender of a tag, and the number of its send
+abbrev pub tag_sender : ℕ → ℕ
+tag_sender tag = tag / 2 ^ 32 % 2 ^ 16
+
+abbrev pub tag_number : ℕ → ℕ
+tag_number tag = tag % 2 ^ 32
 
 -- a word of a body, by its number from 0 on
 abbrev pub word : BodyWords → ℕ → ℕ
@@ -26,27 +38,37 @@ with_word body (suc (suc zero)) value = record body { third = value }
 with_word body (suc (suc (suc zero))) value = record body { fourth = value }
 with_word body (suc (suc (suc (suc _)))) value = body
 
--- one word, and none behind it
-abbrev pub one_word : ℕ → BodyWords
-one_word value = record { first = value; second = 0; third = 0; fourth = 0 }
-
 abbrev pub no_words : BodyWords
-no_words = one_word 0
+no_words = record { first = 0; second = 0; third = 0; fourth = 0 }
 
 -- where the step at a word leads: to the next one, while there is one of this many behind the first, or on
 abbrev pub behind : {A : Type 0} → ℕ → ℕ → A → A → A
 behind further index next on = if nat_lt index further then next else on
 
+-- the words of a body, and 0 behind them
+abbrev pub slots : List ℕ → BodyWords
+slots words = record { first = slice_index_or words 0 0; second = slice_index_or words 1 0; third = slice_index_or words 2 0; fourth = slice_index_or words 3 0 }
+
+abbrev pub words_in : Body → BodyWords
+words_in body = slots (words_of body)
+
+-- the body of the first of these words, and of so many behind it
+abbrev pub body_in : ℕ → BodyWords → Body
+body_in zero words = body_of (words.first ∷ [])
+body_in (suc zero) words = body_of (words.first ∷ words.second ∷ [])
+body_in (suc (suc zero)) words = body_of (words.first ∷ words.second ∷ words.third ∷ [])
+body_in (suc (suc (suc _))) words = body_of (words.first ∷ words.second ∷ words.third ∷ words.fourth ∷ [])
+
 -- the item at a place, of its words
 abbrev pub item_of : ℕ → ℕ → BodyWords → Item
-item_of place tag body = record { place = place; sender = tag / 2 ^ 32; number = tag % 2 ^ 32; body = body.first }
+item_of place tag words = record { place = place; sender = tag_sender tag; number = tag_number tag; body = body_in (further_words tag) words }
 
 -- the tag of an item, and its body's words
 abbrev pub tag_of : Item → ℕ
-tag_of item = pack item.sender item.number
+tag_of item = packed item.sender item.number item.body
 
 abbrev pub body_words : Item → BodyWords
-body_words item = one_word item.body
+body_words item = words_in item.body
 
 -- an item on its way
 abbrev pub parcel : ℕ → ℕ → BodyWords → Parcel
@@ -65,7 +87,7 @@ with_asked request index value = record request { body = with_word request.body 
 
 -- what a call of a sender asks for: the tag of a close is 0
 abbrev pub request_of : Pass → Call → ℕ → Request
-request_of (Pass.Sender s) (Call.Send body) number = record { tag = pack s number; body = one_word body }
+request_of (Pass.Sender s) (Call.Send body) number = record { tag = packed s number body; body = words_in body }
 request_of _ _ number = record { tag = 0; body = no_words }
 
 -- the request of a call in the history

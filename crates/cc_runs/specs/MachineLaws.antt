@@ -10,7 +10,7 @@ use Rattle.cc_runs.specs.Names.{Config, Answer, SendAnswer, CloseAnswer, TakeAns
 use Rattle.cc_runs.specs.Words.{groups}
 use Rattle.cc_runs.specs.State.{State, chain_of, pass_at}
 use Rattle.cc_runs.specs.Lines.{group_of}
-use Rattle.cc_runs.specs.OnChain.{answers_on}
+use Rattle.cc_runs.specs.OnChain.{IsTellable, answers_on}
 use Rattle.cc_runs.specs.Ready.{IsReady}
 use Rattle.cc_runs.specs.ChainLaws.{IsLastAnswer}
 use Rattle.cc_runs.specs.Run.{passes, reached, history_of, IsRun}
@@ -161,7 +161,7 @@ abbrev pub AnswerWithin : ℕ → Answer → Type 0
 AnswerWithin most (Answer.Send (SendAnswer.Accepted at)) = at < most
 AnswerWithin most (Answer.Close (CloseAnswer.Shut total)) = total ≤ most
 AnswerWithin most (Answer.Close (CloseAnswer.Already total)) = total ≤ most
-AnswerWithin most (Answer.Take (TakeAnswer.Got item)) = (item.place < most) × (item.number < 2 ^ 32)
+AnswerWithin most (Answer.Take (TakeAnswer.Got item)) = (item.place < most) × IsTellable item
 AnswerWithin most (Answer.Take (TakeAnswer.Ended total)) = total ≤ most
 AnswerWithin most _ = Unit {0}
 

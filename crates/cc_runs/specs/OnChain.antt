@@ -1,7 +1,8 @@
 -- What belongs to a chain: its passes, its calls and their answers.
 use Rattle.std.specs.Prelude.{ℕ, ◌<◌, ◌^◌, List}
+use Rattle.cc_model.specs.Body.{IsBody}
 use Rattle.cc_model.specs.Record.{Record}
-use Rattle.cc_runs.specs.Names.{Entry, Answer, SendAnswer, CloseAnswer, TakeAnswer, Setting, Served, Chain, Config}
+use Rattle.cc_runs.specs.Names.{Entry, Item, Answer, SendAnswer, CloseAnswer, TakeAnswer, Setting, Served, Chain, Config}
 use Rattle.cc_runs.specs.Words.{groups}
 use Rattle.cc_runs.specs.State.{side}
 
@@ -23,12 +24,18 @@ calls_on x h = (side x h).calls
 abbrev pub answers_on : Chain → Record → List Answer
 answers_on x h = (side x h).answers
 
--- the numbers of an answer of the list fit in an answer word, and an item's number in its tag
+-- an item's sender and number fit in its tag, and its body is one
+pub record IsTellable (item : Item) : Type 0 where
+  pub sender : item.sender < 2 ^ 16
+  pub number : item.number < 2 ^ 32
+  pub body : IsBody item.body
+
+-- the numbers of an answer of the list fit in an answer word, and an item in its words
 abbrev pub Fits : Answer → Type 0
 Fits (Answer.Send (SendAnswer.Accepted place)) = place < 2 ^ 56
 Fits (Answer.Close (CloseAnswer.Shut total)) = total < 2 ^ 56
 Fits (Answer.Close (CloseAnswer.Already total)) = total < 2 ^ 56
-Fits (Answer.Take (TakeAnswer.Got item)) = (item.place < 2 ^ 56) × (item.number < 2 ^ 32)
+Fits (Answer.Take (TakeAnswer.Got item)) = (item.place < 2 ^ 56) × IsTellable item
 Fits (Answer.Take (TakeAnswer.Ended total)) = total < 2 ^ 56
 Fits _ = Unit {0}
 

@@ -1,6 +1,7 @@
 -- A run: begins, steps and answers taken, the newest first; where it leads, and its history.
 use Rattle.std.specs.Prelude.{◌≢◌, ℕ, ◌+◌, ◌*◌, ◌<◌, ◌≤◌, ◌==◌, nat_lt, if◌then◌else◌, List, [], ◌∷◌}
 use Rattle.cc_runs.specs.Names.{Config, Setting, Served, Call, Word, Object, ItemField, Chain, Event, Stand, Place, Move}
+use Rattle.cc_model.specs.Body.{IsBody}
 use Rattle.cc_model.specs.Record.{Record, empty}
 use Rattle.cc_model.specs.Items.{known_at}
 use Rattle.cc_runs.specs.Words.{groups}
@@ -73,9 +74,9 @@ abbrev pub reached : Setting → List Move → State
 reached c [] = opening c
 reached c (m ∷ earlier) = moved c (reached c earlier) m
 
--- a call that can be made on this chain: the counter has no close
+-- a call that can be made on this chain, of a body of one to four words: the counter has no close
 abbrev pub IsOn : Served → Chain → Call → Type 0
-IsOn _ Chain.Send (Call.Send body) = Unit {0}
+IsOn _ Chain.Send (Call.Send body) = IsBody body
 IsOn Served.List Chain.Send Call.Close = Unit {0}
 IsOn Served.List (Chain.Take g) Call.Take = Unit {0}
 IsOn _ _ _ = ⊥

@@ -1,10 +1,12 @@
-ghost use Rattle.std.specs.Prelude.{◌≡◌, ◌<◌, ◌^◌};
+ghost use Rattle.std.specs.Prelude.{◌≡◌, ◌<◌, ◌^◌, slice_index_or};
+ghost use Rattle.cc_model.specs.Body.{further_of, IsBody};
 ghost use Rattle.cc_runs.specs.Codes as codes;
 
 use crate::place::{BodyWords, Request};
 use crate::setting::Served;
 use cc_model::{
-    Answer, Call, CloseAnswer, Entry, Item, Pass, SendAnswer, TakeAnswer, pack, unpack,
+    Answer, Body, Call, CloseAnswer, Entry, Item, Pass, SendAnswer, TakeAnswer, pack_words,
+    unpack_words,
 };
 
 /// An answer word of the list is this times the code of the answer, and its number.
@@ -60,13 +62,13 @@ impl BodyWords {
         }
     }
 
-    /// One word, and none behind it.
+    /// Four words that are 0.
     #[inline(always)]
-    pub fn one(value: u64) -> BodyWords
-        ensures { result ≡ codes.one_word value }
+    pub fn none() -> BodyWords
+        ensures { result ≡ codes.no_words }
     {
         BodyWords {
-            first: value,
+            first: 0,
             second: 0,
             third: 0,
             fourth: 0,
@@ -74,16 +76,69 @@ impl BodyWords {
     }
 }
 
+/// How many words a body has beside the first.
+#[inline(always)]
+fn further_of(body: Body) -> u32
+    ensures words { result ≡ further_of body }
+    ensures body { IsBody body }
+    ensures few { result < 4 }
+{
+    body.words().len() as u32 - 1
+}
+
+/// The words of a body, and 0 behind them.
+#[inline(always)]
+pub fn words_in(body: Body) -> BodyWords
+    ensures { result ≡ codes.words_in body }
+{
+    let words = body.words();
+    BodyWords {
+        first: word_at(words, 0),
+        second: word_at(words, 1),
+        third: word_at(words, 2),
+        fourth: word_at(words, 3),
+    }
+}
+
+#[inline(always)]
+fn word_at(words: &[u64], index: usize) -> u64
+    ensures { result ≡ slice_index_or words.now index 0 }
+{
+    if index < words.len() { words[index] } else { 0 }
+}
+
+/// The body of the first of these words, and of so many behind it.
+#[inline(always)]
+pub fn body_in(further: u32, words: BodyWords) -> Body
+    ensures { result ≡ codes.body_in further words }
+{
+    match further {
+        0 => Body::one(words.first),
+        1 => Body::two(words.first, words.second),
+        2 => Body::three(words.first, words.second, words.third),
+        _ => Body::four(words.first, words.second, words.third, words.fourth),
+    }
+}
+
+/// The tag of a send of this body.
+#[inline(always)]
+pub fn packed(sender: u32, number: u32, body: Body) -> u64
+    ensures tag { result ≡ codes.packed sender number body }
+    ensures body { IsBody body }
+{
+    pack_words(sender % (1 << 16), number, further_of(body) + 1)
+}
+
 /// The item of a list node's words.
 pub fn item_of(place: u64, tag: u64, body: BodyWords) -> Item
     ensures { result ≡ codes.item_of place tag body }
 {
-    let (sender, number) = unpack(tag);
+    let (sender, number, _) = unpack_words(tag);
     Item {
         place,
         sender,
         number,
-        body: body.first,
+        body: body_in(further_words(tag), body),
     }
 }
 
@@ -91,14 +146,14 @@ pub fn item_of(place: u64, tag: u64, body: BodyWords) -> Item
 pub fn tag_of(item: Item) -> u64
     ensures { result ≡ codes.tag_of item }
 {
-    pack(item.sender, item.number)
+    packed(item.sender, item.number, item.body)
 }
 
 /// The words of an item's body.
 pub fn body_words(item: Item) -> BodyWords
     ensures { result ≡ codes.body_words item }
 {
-    BodyWords::one(item.body)
+    words_in(item.body)
 }
 
 /// The request words of a sender's call.
@@ -107,12 +162,12 @@ pub fn request_in(entry: Entry) -> Request
 {
     match (entry.pass, entry.call) {
         (Pass::Sender(sender), Call::Send(body)) => Request {
-            tag: pack(sender, entry.number),
-            body: BodyWords::one(body),
+            tag: packed(sender, entry.number, body),
+            body: words_in(body),
         },
         _ => Request {
             tag: 0,
-            body: BodyWords::one(0),
+            body: BodyWords::none(),
         },
     }
 }

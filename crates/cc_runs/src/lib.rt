@@ -22,8 +22,8 @@ pub use chain_laws::{
     numbers_of_sends,
 };
 pub use codes::{
-    CODE, body_words, count_word, further_words, item_of, list_reads, request_in, ret_of,
-    sender_reads, tag_of,
+    CODE, body_in, body_words, count_word, further_words, item_of, list_reads, packed, request_in,
+    ret_of, sender_reads, tag_of, words_in,
 };
 pub use fault::OpenFault;
 pub use list_laws::{

@@ -1,8 +1,9 @@
 -- An answer whose numbers fit is read as it was written.
 use Rattle.std.proofs.Common.{◌≡◌, ℕ, ◌/◌, ◌%◌, ◌^◌, ◌<◌, ◌==◌, if◌then◌else◌, refl, ap, ◌∙◌, arith}
 use Rattle.cc_runs.specs.Names.{Item, Answer, SendAnswer, CloseAnswer, TakeAnswer, Served, Chain, BodyWords}
-use Rattle.cc_runs.specs.Codes.{pack, item_of, tag_of, body_words, no_words, coded, code_of, value_of, list_word, list_reads}
-pub use Rattle.cc_runs.specs.OnChain.{Fits, FitsIn}
+use Rattle.cc_runs.proofs.Bodies.{sender_told, number_told, body_told}
+use Rattle.cc_runs.specs.Codes.{item_of, tag_of, body_words, no_words, coded, code_of, value_of, list_word, list_reads}
+pub use Rattle.cc_runs.specs.OnChain.{IsTellable, Fits, FitsIn}
 use Rattle.cc_runs.proofs.Chains.Registers.{IsAnswer, reads, take_reads}
 
 code_back : (code value : ℕ) → value < 2 ^ 56 → code_of (coded code value) ≡ code
@@ -11,14 +12,13 @@ code_back code value less = omega arith
 value_back : (code value : ℕ) → value < 2 ^ 56 → value_of (coded code value) ≡ value
 value_back code value less = omega arith
 
-sender_back : (sender number : ℕ) → number < 2 ^ 32 → pack sender number / 2 ^ 32 ≡ sender
-sender_back sender number less = omega arith
-
-number_back : (sender number : ℕ) → number < 2 ^ 32 → pack sender number % 2 ^ 32 ≡ number
-number_back sender number less = omega arith
-
-item_back : (item : Item) (value : ℕ) → value ≡ item.place → item.number < 2 ^ 32 → item_of value (tag_of item) (body_words item) ≡ item
-item_back item value is less = λ i. record { place = is i; sender = sender_back item.sender item.number less i; number = number_back item.sender item.number less i; body = item.body }
+item_back : (item : Item) (value : ℕ) → value ≡ item.place → IsTellable item → item_of value (tag_of item) (body_words item) ≡ item
+item_back item value is tells = λ i. record {
+  place = is i;
+  sender = sender_told item.sender item.number item.body tells.sender tells.number i;
+  number = number_told item.sender item.number item.body tells.number i;
+  body = body_told item.sender item.number item.body tells.number tells.body i;
+}
 
 -- an answer by its code and its number
 abbrev send_by : ℕ → ℕ → Answer

@@ -16,6 +16,7 @@ use Rattle.cc_runs.specs.TakeLines as take_side
 use Rattle.cc_runs.specs.Run.{passes, IsOn, IsIdle}
 use Rattle.cc_runs.proofs.ListRuns.View.{hold_all}
 use Rattle.cc_runs.proofs.ListRuns.Facts.{lists}
+use Rattle.cc_runs.proofs.ListRuns.Fits.{FitsTag, HasBody, sender_number}
 use Rattle.cc_runs.proofs.ListRuns.Posts.{Begun, IsTakes, Well, Posts, Calls, HasNumber, waits, is_send, well_grows, all_map}
 use Rattle.cc_runs.proofs.ListRuns.Untouched.{plain_goes}
 use Rattle.cc_runs.proofs.Leads.{leads}
@@ -141,6 +142,11 @@ small_number (Call.Send body) number begun is l = omega (arith, is, l)
 small_number Call.Close number begun is l = omega (arith, is)
 small_number Call.Take number begun is l = omega (arith, is)
 
+sends_a_body : (k : Call) → IsOn Served.List Chain.Send k → HasBody k
+sends_a_body (Call.Send body) on = on
+sends_a_body Call.Close on = tt
+sends_a_body Call.Take on = absurd on
+
 sender_makes : (c : Config) (s : ℕ) (k : Call) → 1 ≤ s → s ≤ c.senders → IsOn Served.List Chain.Send k → IsSenders c (Pass.Sender s) k
 sender_makes c s (Call.Send body) low high on = (low, high)
 sender_makes c s Call.Close low high on = (low, high)
@@ -152,7 +158,7 @@ receiver_makes c y r (Call.Send body) low high is on = absurd on
 receiver_makes c y r Call.Close low high is on = absurd on
 
 module _ (c : Config) (h later : Record) (p begun : ℕ) (e : Entry) (is : later.sends.calls ≡ h.sends.calls ++ e ∷ []) (same : (y : ℕ) → (of_group later y).calls ≡ (of_group h y).calls) (e_up : handed_to_all h ≤ handed_to_all later) (d_up : entries h ≤ entries later)
-    (within : p < c.senders) (b : Begun h Chain.Send (Pass.Sender (p + 1)) begun e) (most : begun ≤ c.per_sender) (fits : c.per_sender < 2 ^ 32) (sent : length (send_numbers (p + 1) h.sends.calls) + is_send e.call ≡ begun) (k : Calls c h) where
+    (within : p < c.senders) (b : Begun h Chain.Send (Pass.Sender (p + 1)) begun e) (most : begun ≤ c.per_sender) (fits : c.per_sender < 2 ^ 32) (few : c.senders < 2 ^ 16) (sent : length (send_numbers (p + 1) h.sends.calls) + is_send e.call ≡ begun) (k : Calls c h) where
   abbrev numbers_now : ℕ → List ℕ
   numbers_now s = send_numbers s h.sends.calls ++ send_number s e.pass e.call e.number
 
@@ -179,7 +185,11 @@ module _ (c : Config) (h later : Record) (p begun : ℕ) (e : Entry) (is : later
     senders = rw is (all-append (λ (x : Entry). IsSenders c x.pass x.call) h.sends.calls e k.senders (rw b.pass_is (sender_makes c (p + 1) e.call (omega arith) (omega (arith, within)) b.on)));
     receivers = λ y. rw (same y) (k.receivers y);
     numbers = counts;
-    small = rw is (all-append (λ (x : Entry). x.number < 2 ^ 32) h.sends.calls e k.small (small_number e.call e.number begun b.number_is (omega (arith, most, fits))));
+    small = rw is (all-append FitsTag h.sends.calls e k.small (record {
+      sender = omega (arith, ap sender_number b.pass_is, within, few);
+      number = small_number e.call e.number begun b.number_is (omega (arith, most, fits));
+      body = sends_a_body e.call b.on;
+    }));
     e_known = rw is (all-append (λ (x : Entry). x.known ≤ handed_to_all later) h.sends.calls e
         (all_map (λ (x : Entry). x.known ≤ handed_to_all h) (λ (x : Entry). x.known ≤ handed_to_all later) h.sends.calls (λ x l. omega (arith, l, e_up)) k.e_known) (omega (arith, b.known_in, e_up)));
     d_known = λ y. rw (same y) (all_map (λ (x : Entry). x.known ≤ entries h) (λ (x : Entry). x.known ≤ entries later) (of_group h y).calls (λ x l. omega (arith, l, d_up)) (k.d_known y));

@@ -11,6 +11,7 @@ use Rattle.cc_runs.specs.State.{State, chain_of, pass_at}
 use Rattle.cc_runs.specs.Run.{passes, IsOn, IsIdle}
 use Rattle.cc_runs.specs.Words.{groups}
 use Rattle.cc_runs.proofs.Chains.Serving.{taken_chain}
+use Rattle.cc_runs.proofs.ListRuns.Fits.{FitsTag}
 use Rattle.cc_runs.proofs.ListRuns.Facts.{lists}
 
 -- a send carries the number of sends that its pass began, another call carries 0
@@ -63,7 +64,7 @@ pub record Calls (c : Config) (h : Record) : Type 0 where
   pub senders : AllByRecursion (λ e. IsSenders c e.pass e.call) h.sends.calls
   pub receivers : (y : ℕ) → AllByRecursion (λ e. IsReceivers c y e.pass e.call) (of_group h y).calls
   pub numbers : (s : ℕ) → CountsFrom 1 (send_numbers s h.sends.calls)
-  pub small : AllByRecursion (λ e. e.number < 2 ^ 32) h.sends.calls
+  pub small : AllByRecursion FitsTag h.sends.calls
   pub e_known : AllByRecursion (λ e. e.known ≤ handed_to_all h) h.sends.calls
   pub d_known : (y : ℕ) → AllByRecursion (λ e. e.known ≤ entries h) (of_group h y).calls
 

@@ -100,6 +100,9 @@ module _ (c : Config) (fits : InRange c) (s : State) (p begun own : ℕ) (within
   few_sends : c.per_sender < 2 ^ 32
   few_sends = omega (arith, fits.per_sender)
 
+  few_senders : c.senders < 2 ^ 16
+  few_senders = omega (arith, fits.senders)
+
   limit_at : (at : Place) → s.stand p ≡ stand_at at → begun ≤ c.per_sender
   limit_at at stands = subst (λ (z : Stand). z.begun ≤ c.per_sender) stands (w.posts.limit p)
 
@@ -124,9 +127,9 @@ module _ (c : Config) (fits : InRange c) (s : State) (p begun own : ℕ) (within
         let limit = limit_at (Place.Exchange e) stands in
         let sent = sent_at (Place.Exchange e) stands in (
           posts_on c s p _ _ _ w.posts within known limit (send_well (Place.Exchange e) _ stands known)
-              (λ l. omega (arith, own_sent c h later p begun e refl (λ y. refl) up d_up of.within b limit few_sends sent w.calls))
-              (other_sent c h later p begun e refl (λ y. refl) up d_up of.within b limit few_sends sent w.calls),
-          e_calls_on c h later p begun e refl (λ y. refl) up d_up of.within b limit few_sends sent w.calls,
+              (λ l. omega (arith, own_sent c h later p begun e refl (λ y. refl) up d_up of.within b limit few_sends few_senders sent w.calls))
+              (other_sent c h later p begun e refl (λ y. refl) up d_up of.within b limit few_sends few_senders sent w.calls),
+          e_calls_on c h later p begun e refl (λ y. refl) up d_up of.within b limit few_sends few_senders sent w.calls,
         )
     send_rest at stands on =
         let known = known_up c s (to Chain.Send at) w.parts _ on in (
@@ -357,7 +360,7 @@ module _ (c : Config) (fits : InRange c) where
       e_only = λ q ne u. subst (λ (z : Place). IsServing z) (idle0 q) u;
       d_mine = λ y. receiver_chain c (c.senders + (y * c.receivers + 0)) (omega arith) ∙ ap Chain.Take (group_is c y 0 (omega (arith, fits.receivers)));
       d_only = λ y q on ne u. subst (λ (z : Place). IsTaking z) (idle0 q) u;
-      caller = record { senders = (omega arith, fits.senders.0); small = omega arith };
+      caller = record { senders = (omega arith, fits.senders.0); small = record { sender = omega arith; number = omega arith; body = tt } };
       reads = subst (λ (z : Place). ReadsAt c duty0.e_call duty0.from z) (sym (idle0 0)) tt;
       next_send = λ u. absurd (subst (λ (z : Place). IsUndecidedAt z) (idle0 0) u);
       next_take = λ y u. absurd (subst (λ (z : Place). IsTaking z) (idle0 (duty0.d_pass y)) u);

@@ -24,7 +24,7 @@ use Rattle.cc_runs.proofs.LinkedList.Decide as decide
 use Rattle.cc_runs.proofs.LinkedList.Limits as limits
 use Rattle.cc_runs.proofs.ListRuns.View.{Duty, Regs, enq_in, enq_at, queue_from}
 use Rattle.cc_runs.proofs.ListRuns.SendKeeps as keeps
-use Rattle.cc_runs.proofs.ListRuns.Fits.{closed_fits, already_fits, shut_fits, spent_fits, full_fits, accepted_fits, item_sent}
+use Rattle.cc_runs.proofs.ListRuns.Fits.{FitsTag, closed_fits, already_fits, shut_fits, spent_fits, full_fits, accepted_fits, item_sent}
 use Rattle.cc_runs.proofs.ListRuns.Decided.{told_send, e_accepted, e_shut, e_decided}
 use Rattle.cc_runs.proofs.ListRuns.Ties.{Ties, further, body_at, item_same, Scanned, Reads, ReadsAt, IsUndecided, IsUndecidedAt, IsBegun, IsNextSend, Linked, ties_same, shut_number, shut_true, shut_false}
 
@@ -47,7 +47,7 @@ Turn c mem d r h g at = TurnBy c mem d r h g at []
 -- the served call is one of a sender
 pub record Caller (c : Config) (e : Entry) : Type 0 where
   pub senders : IsSenders c e.pass e.call
-  pub small : e.number < 2 ^ 32
+  pub small : FitsTag e
 
 -- the scan goes on to the node after, round the end
 scan_on : (c : Config) (from at reads : ℕ) → Scanned c from at reads → reads ≢ c.capacity + 1 → from ≤ c.capacity → Scanned c from (after c at) (reads + 1)
@@ -176,7 +176,7 @@ module _ (c : Config) (mem : Word → ℕ) (d : Duty) (r : ℕ → Regs) (h : Re
   read_total has next =
       let known : (mem (Word.Object Object.Count) ≡ g.accepted) × (g.shut ≡ 1) × (tag_asked ≡ 0) = decide.already c.capacity c.life (further c + 1) (AtStep mem Sending.ReadTotal) g has.inv refl in
       answered mem (Answer.Close (CloseAnswer.Already (mem (Word.Object Object.Count)))) has.counted (keeps.read_total mem d r c (further c + 1) g has.inv) next refl refl
-      (fits_shut (Answer.Close (CloseAnswer.Already (mem (Word.Object Object.Count)))) known.1 (already_fits c (length (accepted h)) d.e_call.known d.e_call.pass d.e_call.call d.e_call.number (mem (Word.Object Object.Count)) caller.senders known.2 (known.0 ∙ ties.accepted_is)))
+      (fits_shut (Answer.Close (CloseAnswer.Already (mem (Word.Object Object.Count)))) known.1 (already_fits c (length (accepted h)) d.e_call.known d.e_call.pass d.e_call.call d.e_call.number (mem (Word.Object Object.Count)) caller.senders caller.small.sender known.2 (known.0 ∙ ties.accepted_is)))
 
   life_branch : (q : Request) (b : Bool) → (mem (Word.Object Object.Count) == c.life) ≡ b → tag_asked ≢ 0 → Has (AtStep mem (Sending.ReadCount q)) g → HasRequest d.e_call q.tag q.body → IsNextSend h d.e_call
       → Leads (cond b (line.Decides (Answer.Send SendAnswer.Spent)) (line.On (Sending.ReadCursor record { place = mem (Word.Object Object.Count); tag = q.tag; body = q.body })))
@@ -281,7 +281,7 @@ module _ (c : Config) (mem : Word → ℕ) (d : Duty) (r : ℕ → Regs) (h : Re
     fits = fits_open a known.2 (accepted_fits c (length (accepted h)) d.e_call.known d.e_call.pass d.e_call.call d.e_call.number count caller.senders known.3 (λ z. omega (arith, z, known, ties.accepted_is)) (known.0 ∙ ties.accepted_is))
 
     now : accepted (told_send h a) ≡ accepted h ++ it ∷ []
-    now = e_accepted c h ties.lawful d.e_call a next ∙ ap (λ (l : List Item). accepted h ++ l) (item_sent c d.e_call.pass d.e_call.call d.e_call.number count caller.senders known.3 caller.small)
+    now = e_accepted c h ties.lawful d.e_call a next ∙ ap (λ (l : List Item). accepted h ++ l) (item_sent c d.e_call count caller.senders caller.small known.3)
 
     new_item : (k : ℕ) → k ≡ g.accepted → slice_get (accepted (told_send h a)) k ≡ Some (item_of k (told.items k 0) (body_at (told.items k)))
     new_item k same =
@@ -342,7 +342,7 @@ module _ (c : Config) (mem : Word → ℕ) (d : Duty) (r : ℕ → Regs) (h : Re
     known_mark = decide.shuts c.capacity c.life (further c + 1) before_mark g has.inv refl
 
     fits_mark : EAnswer c (length (accepted h)) (is_shut h) d.e_call.known d.e_call.call shut_told
-    fits_mark = fits_open shut_told known_mark.1 (shut_fits c (length (accepted h)) d.e_call.known d.e_call.pass d.e_call.call d.e_call.number total caller.senders known_mark.2 (known_mark.0 ∙ ties.accepted_is))
+    fits_mark = fits_open shut_told known_mark.1 (shut_fits c (length (accepted h)) d.e_call.known d.e_call.pass d.e_call.call d.e_call.number total caller.senders caller.small.sender known_mark.2 (known_mark.0 ∙ ties.accepted_is))
 
     now_mark : accepted (told_send h shut_told) ≡ accepted h
     now_mark = e_accepted c h ties.lawful d.e_call shut_told next ∙ append-nil (accepted h)
@@ -363,7 +363,7 @@ module _ (c : Config) (mem : Word → ℕ) (d : Duty) (r : ℕ → Regs) (h : Re
         handed_is = λ y. shuts_it.hands.handed y ∙ ties.handed_is y;
         shut_is = shuts_it.shut ∙ ap shut_number (sym (e_shut c h ties.lawful d.e_call shut_told next ∙ or_true (is_shut h)));
         tells_is = grow.shutting_tells g ∙ ties.tells_is;
-        items_are = λ k l. rw (now_mark, shuts_it.items k 0, shuts_it.items k 1) (ties.items_are k (omega (arith, l, shuts_it.accepted)));
+        items_are = λ k l. rw now_mark (ties.items_are k (omega (arith, l, shuts_it.accepted)) ∙ sym (ap Some (item_same k (told_mark.items k) (g.items k) (shuts_it.items k))));
         lawful = e_decided c h ties.lawful d.e_call shut_told next fits_mark;
       };
       linked = (shuts_it.accepted, λ j l. shuts_it.node j);

@@ -1,5 +1,5 @@
 -- No number of an answer is greater than the number of items that may ever be accepted.
-use Rattle.std.proofs.Common.{◌≡◌, ℕ, ◌+◌, ◌^◌, ◌<◌, ◌≤◌, List, [], ◌∷◌, length, Bool, true, false, ◌||◌, Some, Ok, sym, ap, ◌∙◌, arith, length-append}
+use Rattle.std.proofs.Common.{◌≡◌, ℕ, ◌+◌, ◌^◌, ◌<◌, ◌≤◌, List, [], ◌∷◌, length, Bool, true, false, ◌||◌, Some, Ok, sym, ap, subst, ◌∙◌, arith, length-append}
 use Rattle.std.proofs.lemmas.Option.{slice_get_within}
 use Rattle.std.specs.List.{AllByRecursion, slice_get}
 use Rattle.cc_model.specs.Config.{config_fault}
@@ -8,10 +8,13 @@ use Rattle.cc_model.specs.Legal.{EAnswer, EAnswers, DAnswer, DAnswers}
 use Rattle.cc_runs.specs.Names.{Config, Call, Entry, Item, Answer, SendAnswer, CloseAnswer, TakeAnswer, Setting, Chain}
 use Rattle.cc_runs.specs.Codes.{item_of}
 use Rattle.cc_model.specs.Record.{of_group}
-use Rattle.cc_runs.specs.OnChain.{answers_on}
+use Rattle.cc_runs.specs.OnChain.{IsTellable, answers_on}
 use Rattle.cc_runs.specs.State.{State}
 use Rattle.cc_runs.specs.Run.{reached, history_of, IsRun}
 use Rattle.cc_runs.specs.MachineLaws.{AnswerWithin, IsWithin, NumbersStayWithin}
+use Rattle.cc_model.specs.Body.{IsBody}
+use Rattle.cc_runs.specs.Codes.{further_words}
+use Rattle.cc_runs.proofs.Bodies.{body_made}
 use Rattle.cc_runs.proofs.Ranges.{in_range}
 use Rattle.cc_runs.proofs.ListRuns.Ties.{body_at}
 use Rattle.cc_runs.proofs.ListRuns.Facts.{lists}
@@ -36,9 +39,9 @@ all_e_within c n shut (e ∷ calls) (a ∷ answers) h l = (
   all_e_within c (n + length (accepted_item e a)) (shut || shuts a) calls answers h.1 (omega (arith, l, length-append (accepted_item e a) (accepted_by calls answers))),
 )
 
--- the items' numbers
+-- the items
 abbrev Small : List Item → Type 0
-Small items = (i : ℕ) (x : Item) → slice_get items i ≡ Some x → x.number < 2 ^ 32
+Small items = (i : ℕ) (x : Item) → slice_get items i ≡ Some x → IsTellable x
 
 d_within : (items : List Item) (shut : Bool) (n known : ℕ) (a : Answer) (most : ℕ) → DAnswer items shut n known a → Small items → length items ≤ most → AnswerWithin most a
 d_within items shut n known (Answer.Take (TakeAnswer.Got item)) most h small l = (omega (arith, h.1, slice_get_within items n item h.0, l), small n item h.0)
@@ -65,7 +68,11 @@ within c s w =
         let low : i < w.parts.told.accepted = omega (arith, slice_get_within (accepted s.history) i x is, w.parts.ties.accepted_is) in
         let at : Some x ≡ Some (item_of i (w.parts.told.items i 0) (body_at (w.parts.told.items i))) = sym is ∙ w.parts.ties.items_are i low in
         let same : x ≡ item_of i (w.parts.told.items i 0) (body_at (w.parts.told.items i)) = cc in
-        omega (arith, ap (λ (y : Item). y.number) same)
+        record {
+          sender = omega (arith, ap (λ (y : Item). y.sender) same);
+          number = omega (arith, ap (λ (y : Item). y.number) same);
+          body = subst (λ (y : Item). IsBody y.body) (sym same) (body_made (further_words (w.parts.told.items i 0)) (body_at (w.parts.told.items i)));
+        }
 
     by_chain : length (accepted s.history) ≤ c.life → (x : Chain) → AllByRecursion (AnswerWithin c.life) (answers_on x s.history)
     by_chain life Chain.Send = all_e_within c 0 false s.history.sends.calls s.history.sends.answers w.parts.ties.lawful.sends (omega (arith, life))

@@ -1,0 +1,54 @@
+-- A body is that of its tag and its words.
+use Rattle.std.proofs.Common.{◌≡◌, ℕ, zero, suc, ◌+◌, ◌-◌, ◌*◌, ◌/◌, ◌%◌, ◌^◌, ◌<◌, ◌≤◌, List, [], ◌∷◌, length, refl, ap, sym, ◌∙◌, arith}
+use Rattle.cc_model.specs.Body.{IsBody, further_of, words_of, body_of}
+use Rattle.cc_model.proofs.Bodies.{few_words, of_its_words}
+use Rattle.cc_runs.specs.Names.{Body, BodyWords}
+use Rattle.cc_runs.specs.Codes.{word, further_words, packed, tag_sender, tag_number, slots, words_in, body_in}
+
+-- at most three words stand behind the first
+pub few_behind : (b : Body) → IsBody b → further_of b ≤ 3
+few_behind b whole = omega (arith, (few_words b whole).1)
+
+-- a body of its words
+words_back : (xs : List ℕ) → 1 ≤ length xs → length xs ≤ 4 → body_in (length xs - 1) (slots xs) ≡ body_of xs
+words_back (a ∷ []) some few = refl
+words_back (a ∷ b ∷ []) some few = refl
+words_back (a ∷ b ∷ c ∷ []) some few = refl
+words_back (a ∷ b ∷ c ∷ d ∷ []) some few = refl
+words_back [] some few = absurd (omega (arith, some))
+words_back (_ ∷ _ ∷ _ ∷ _ ∷ _ ∷ more) some few = absurd (omega (arith, few))
+
+body_back : (b : Body) → IsBody b → body_in (further_of b) (words_in b) ≡ b
+body_back b whole = words_back (words_of b) (few_words b whole).0 (few_words b whole).1 ∙ of_its_words b whole
+
+-- what is made of words is a body
+pub body_made : (n : ℕ) (words : BodyWords) → IsBody (body_in n words)
+body_made zero words = refl
+body_made (suc zero) words = refl
+body_made (suc (suc zero)) words = refl
+body_made (suc (suc (suc n))) words = refl
+
+-- the same words make the same body
+pub body_same : (n : ℕ) (v w : BodyWords) → n ≤ 3 → ((j : ℕ) → j ≤ n → word v j ≡ word w j) → body_in n v ≡ body_in n w
+body_same zero v w few same = λ i. body_in zero (record { first = same 0 (omega arith) i; second = 0; third = 0; fourth = 0 })
+body_same (suc zero) v w few same = λ i. body_in 1 (record { first = same 0 (omega arith) i; second = same 1 (omega arith) i; third = 0; fourth = 0 })
+body_same (suc (suc zero)) v w few same = λ i. body_in 2 (record { first = same 0 (omega arith) i; second = same 1 (omega arith) i; third = same 2 (omega arith) i; fourth = 0 })
+body_same (suc (suc (suc zero))) v w few same = λ i. body_in 3 (record { first = same 0 (omega arith) i; second = same 1 (omega arith) i; third = same 2 (omega arith) i; fourth = same 3 (omega arith) i })
+body_same (suc (suc (suc (suc n)))) v w few same = absurd (omega (arith, few))
+
+-- ---- what a tag tells
+
+by_parts : (n s number : ℕ) → n ≤ 3 → number < 2 ^ 32 → (n * 2 ^ 48 + (s % 2 ^ 16 * 2 ^ 32 + number)) / 2 ^ 48 % 4 ≡ n
+by_parts n s number few less = omega (arith, few, less)
+
+pub further_told : (s number : ℕ) (b : Body) → number < 2 ^ 32 → IsBody b → further_words (packed s number b) ≡ further_of b
+further_told s number b less whole = by_parts (further_of b) s number (few_behind b whole) less
+
+pub sender_told : (s number : ℕ) (b : Body) → s < 2 ^ 16 → number < 2 ^ 32 → tag_sender (packed s number b) ≡ s
+sender_told s number b few less = omega (arith, few, less)
+
+pub number_told : (s number : ℕ) (b : Body) → number < 2 ^ 32 → tag_number (packed s number b) ≡ number
+number_told s number b less = omega (arith, less)
+
+pub body_told : (s number : ℕ) (b : Body) → number < 2 ^ 32 → IsBody b → body_in (further_words (packed s number b)) (words_in b) ≡ b
+body_told s number b less whole = ap (λ (n : ℕ). body_in n (words_in b)) (further_told s number b less whole) ∙ body_back b whole
