@@ -280,7 +280,7 @@ impl Board {
         let parcel = Parcel {
             place,
             tag,
-            body: BodyWords::one(0),
+            body: BodyWords::none(),
         };
         self.go(who, Place::ReadAnswerBody { parcel, index: 0 });
         Kind::ReadAnswer

@@ -1,6 +1,6 @@
 use crate::board::Board;
 use crate::fault::BeginFault;
-use cc_model::{Answer, Call, Config, History, Pass, SendAnswer};
+use cc_model::{Answer, Body, Call, Config, History, Pass, SendAnswer};
 use cc_runs::{Event, OpenFault, Served, Setting, count_word};
 use std::alloc::Global;
 use std::marker::Model;
@@ -27,8 +27,9 @@ impl Model for CounterMachine {
 }
 
 impl CounterMachine {
-    ghost use Rattle.std.specs.Prelude.{◌≡◌, Ok, OnOk, OnErr, IfOk, IfErr, IfSome};
+    ghost use Rattle.std.specs.Prelude.{◌≡◌, [], ◌∷◌, Ok, OnOk, OnErr, IfOk, IfErr, IfSome};
     ghost use Rattle.std.specs.Option.{option_map};
+    ghost use Rattle.cc_model.specs.Body.{body_of};
     ghost use Rattle.cc_model.specs.HistoryRoom.{lists};
     ghost use Rattle.cc_model.specs.Config.{config_fault};
     ghost use Rattle.cc_runs.specs.Codes.{count_word};
@@ -50,15 +51,15 @@ impl CounterMachine {
         Ok(CounterMachine { board })
     }
 
-    /// Begins a call of an idle pass, with a body that its request carries. A refused call changes nothing.
+    /// Begins a call of an idle pass, with a body of one word that its request carries. A refused call changes nothing.
     pub fn begin(&mut self, pass: u32, body: u64) -> Result<(), BeginFault>
-        ensures ok { OnOk result (HasBegun self.old (index_of self.old.setting (Pass.Sender pass)) (Call.Send body) 0 self.new) }
-        ensures may { OnOk result (begin_fault self.old (Pass.Sender pass) (Call.Send body) ≡ Ok tt) }
+        ensures ok { OnOk result (HasBegun self.old (index_of self.old.setting (Pass.Sender pass)) (Call.Send (body_of (body ∷ []))) 0 self.new) }
+        ensures may { OnOk result (begin_fault self.old (Pass.Sender pass) (Call.Send (body_of (body ∷ []))) ≡ Ok tt) }
         ensures err { OnErr result (self.new ≡ self.old) }
-        ensures fault { IfErr result (λ fault. IsBeginFault self.old (Pass.Sender pass) (Call.Send body) fault) }
+        ensures fault { IfErr result (λ fault. IsBeginFault self.old (Pass.Sender pass) (Call.Send (body_of (body ∷ []))) fault) }
     {
         self.board
-            .begin_call(Pass::Sender(pass), Call::Send(body), 0)
+            .begin_call(Pass::Sender(pass), Call::Send(Body::one(body)), 0)
     }
 
     /// Does the next atomic step of a pass and tells its kind; `Idle`, and nothing is changed, where the pass has no

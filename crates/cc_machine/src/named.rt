@@ -1,3 +1,4 @@
+ghost use Rattle.cc_model.specs.Body.{HasBody};
 ghost use Rattle.std.specs.Prelude.{◌≡◌, ◌≤◌, ◌<◌, ℕ, length, Some, Ok, OnOk, OnErr, IfOk, IfErr};
 ghost use Rattle.std.specs.Bool.{OnTrue};
 ghost use Rattle.cc_model.specs.Config.{config_fault};
@@ -52,6 +53,7 @@ impl Board {
         ensures place { IfOk result (λ p. index_of self.now.setting pass ≡ Some p) }
         ensures ok { OnOk result (begin_fault (view_of self.now) pass call ≡ Ok tt) }
         ensures fault { IfErr result (λ fault. begin_fault (view_of self.now) pass call ≡ Err fault) }
+        ensures body { HasBody call }
     {
         let Some(index) = row(&self.setting, pass) else {
             return Err(BeginFault::NoSuchPass);

@@ -16,7 +16,7 @@ impl Board {
         let tag = self.load(Word::Node(Chain::Send, job.round.at, NodeField::Tag));
         let request = Request {
             tag,
-            body: BodyWords::one(0),
+            body: BodyWords::none(),
         };
         self.go(
             who,

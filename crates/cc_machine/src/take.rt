@@ -76,7 +76,7 @@ impl Board {
             let parcel = Parcel {
                 place: taken,
                 tag,
-                body: BodyWords::one(0),
+                body: BodyWords::none(),
             };
             Place::Taking {
                 job,

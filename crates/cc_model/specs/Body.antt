@@ -1,6 +1,6 @@
 -- The words of a body.
-use Rattle.std.specs.Prelude.{◌≡◌, ℕ, List, [], ◌∷◌, length, ◌-◌}
-use Rattle.cc_model.specs.Names.{Body, Words}
+use Rattle.std.specs.Prelude.{◌≡◌, ℕ, List, [], ◌∷◌, length, ◌-◌, ⊤}
+use Rattle.cc_model.specs.Names.{Body, Words, Call}
 
 -- the words of each form
 abbrev pub in_all : Words → List ℕ
@@ -27,6 +27,11 @@ IsWhole (Words.Four words) = length words ≡ 4
 -- so a body has one to four words, and no other body has the same
 abbrev pub IsBody : Body → Type 0
 IsBody b = IsWhole b.words
+
+-- what a call sends is a body
+abbrev pub HasBody : Call → Type 0
+HasBody (Call.Send b) = IsBody b
+HasBody _ = ⊤
 
 -- the body of these words: of none and of more than four it isn't one
 abbrev pub body_of : List ℕ → Body

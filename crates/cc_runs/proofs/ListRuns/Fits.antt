@@ -2,7 +2,7 @@
 use Rattle.std.proofs.Common.{◌≡◌, ◌≢◌, ℕ, ◌+◌, ◌^◌, ◌/◌, ◌%◌, ◌<◌, ◌≤◌, [], ◌∷◌, true, false, refl, sym, ap, ◌∙◌, arith}
 use Rattle.cc_model.specs.Items.{sent_item}
 use Rattle.cc_model.specs.Legal.{EAnswer, IsSenders}
-use Rattle.cc_model.specs.Body.{IsBody}
+use Rattle.cc_model.specs.Body.{HasBody}
 use Rattle.cc_runs.specs.Names.{Body, Config, Entry, Pass, Call, Answer, SendAnswer, CloseAnswer}
 use Rattle.cc_runs.specs.Codes.{packed, item_of, request_of, request_in}
 use Rattle.cc_runs.proofs.Bodies.{sender_told, number_told, body_told}
@@ -11,11 +11,6 @@ use Rattle.cc_runs.proofs.Bodies.{sender_told, number_told, body_told}
 abbrev pub sender_number : Pass → ℕ
 sender_number (Pass.Sender s) = s
 sender_number (Pass.Receiver r) = 0
-
--- the body of a send is one
-abbrev pub HasBody : Call → Type 0
-HasBody (Call.Send body) = IsBody body
-HasBody _ = Unit {0}
 
 -- the parts of a call fit in its tag
 pub record FitsTag (e : Entry) : Type 0 where

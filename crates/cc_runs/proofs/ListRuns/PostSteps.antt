@@ -16,7 +16,8 @@ use Rattle.cc_runs.specs.TakeLines as take_side
 use Rattle.cc_runs.specs.Run.{passes, IsOn, IsIdle}
 use Rattle.cc_runs.proofs.ListRuns.View.{hold_all}
 use Rattle.cc_runs.proofs.ListRuns.Facts.{lists}
-use Rattle.cc_runs.proofs.ListRuns.Fits.{FitsTag, HasBody, sender_number}
+use Rattle.cc_model.specs.Body.{HasBody}
+use Rattle.cc_runs.proofs.ListRuns.Fits.{FitsTag, sender_number}
 use Rattle.cc_runs.proofs.ListRuns.Posts.{Begun, IsTakes, Well, Posts, Calls, HasNumber, waits, is_send, well_grows, all_map}
 use Rattle.cc_runs.proofs.ListRuns.Untouched.{plain_goes}
 use Rattle.cc_runs.proofs.Leads.{leads}

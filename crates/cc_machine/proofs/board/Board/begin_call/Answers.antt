@@ -17,7 +17,7 @@ returns-clause-lawful c =
     let mid : Board = c.reserve.new.self in
     let may : May mid.setting (state_of mid) (Move.Begin c.in_ok-index.index c.args.call c.args.known) =
     subst (λ (m : View). May m.setting (state_in m) (Move.Begin c.in_ok-index.index c.args.call c.args.known)) (sym c.reserve.ensures.view)
-    (may_begin (view_of old) c.args.pass c.args.call c.args.known c.in_ok-index.index c.in_ok-index.ensures.place c.in_ok-index.ensures.ok c.requires.known) in
+    (may_begin (view_of old) c.args.pass c.args.call c.args.known c.in_ok-index.index c.in_ok-index.ensures.place c.may_begin.ensures.body c.in_ok-index.ensures.ok c.requires.known) in
     let side : c.chain.result ≡ chain_of mid.setting.config c.in_ok-index.index = c.chain.ensures ∙ ap (λ (m : View). chain_of m.setting.config c.in_ok-index.index) (sym c.reserve.ensures.view) in
     lawful_begin mid c.begin.new.self c.in_ok-index.index c.args.call c.args.known
     (lawful_view old mid c.reserve.ensures.view c.reserve.ensures.rooms c.requires.lawful)
