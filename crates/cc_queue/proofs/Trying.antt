@@ -1,7 +1,7 @@
 -- Calls that a pass makes again until one has another answer.
 use Rattle.std.proofs.Common.{◌≡◌, ◌≢◌, ℕ, ◌<◌, ◌≤◌, inl, inr, List, [], ◌∷◌, ◌++◌, refl, sym, ap, subst}
 use Rattle.std.proofs.lemmas.Bool.{cases_lt}
-use Rattle.cc_queue.specs.Names.{Call, Answer, Entry, SendAnswer, TakeAnswer}
+use Rattle.cc_queue.specs.Names.{Body, Call, Answer, Entry, SendAnswer, TakeAnswer}
 use Rattle.cc_steps.specs.Walk.{Walk}
 use Rattle.cc_queue.specs.Headline.{StandsInOne, entry_of}
 use Rattle.cc_queue.specs.Calls.{Completed, IsSettled, IsFinal, Repeated, Tried, last_of, entries_of, TakenUntil, SentUntil}
@@ -47,7 +47,7 @@ taken_so v w x told t c settled =
     record { tried = t.tried; none = t.each; taken = one.0; stands = one.1; settled = settled }
 
 -- the last send
-pub sent_so : (v w x : Walk) (body : ℕ) (told : SendAnswer) → Tried (Call.Send body) (Answer.Send SendAnswer.Full) v w → Completed w (Call.Send body) (Answer.Send told) x → IsFinal told → SentUntil v body told x
+pub sent_so : (v w x : Walk) (body : Body) (told : SendAnswer) → Tried (Call.Send body) (Answer.Send SendAnswer.Full) v w → Completed w (Call.Send body) (Answer.Send told) x → IsFinal told → SentUntil v body told x
 sent_so v w x body told t c final =
     let one = one_more (Call.Send body) (Answer.Send SendAnswer.Full) (Answer.Send told) v w x t c in
     record { tried = t.tried; full = t.each; sent = one.0; stands = one.1; final = final }

@@ -1,6 +1,6 @@
 -- What the begin of a call and each of its turns tell.
 use Rattle.std.specs.Prelude.{◌≡◌, ℕ, ◌+◌, ◌*◌, ◌≤◌, ◌==◌, if◌then◌else◌, List, [], ◌∷◌, ◌++◌}
-use Rattle.cc_queue.specs.Names.{Call, Entry, SendAnswer, TakeAnswer, Answer, Kind}
+use Rattle.cc_queue.specs.Names.{Body, Call, Entry, SendAnswer, TakeAnswer, Answer, Kind}
 use Rattle.cc_runs.specs.ChainLaws.{IsLastAnswer}
 use Rattle.cc_runs.specs.ChainLaws.{IsLastPending}
 use Rattle.cc_runs.specs.Run.{begun_after}
@@ -107,7 +107,7 @@ pub record TakenUntil (v : Walk) (told : TakeAnswer) (w : Walk) : Type 0 where
 
 -- Sends of this body that were made until one of them was accepted, or told that none will be: each of the earlier ones was
 -- completed as a send that found the queue full, and then the last one was completed so. All of them stand in one history.
-pub record SentUntil (v : Walk) (body : ℕ) (told : SendAnswer) (w : Walk) : Type 0 where
+pub record SentUntil (v : Walk) (body : Body) (told : SendAnswer) (w : Walk) : Type 0 where
   pub tried : List Walk
   pub full : Repeated (Call.Send body) (Answer.Send SendAnswer.Full) v tried
   pub sent : Completed (last_of v tried) (Call.Send body) (Answer.Send told) w

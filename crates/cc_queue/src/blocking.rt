@@ -11,7 +11,7 @@ use crate::passes::{
 use crate::queue::Queue;
 use crate::receiver::{begin_take, turn_take};
 use crate::sender::{begin_close, begin_send, turn_close, turn_send};
-use cc_model::{CloseAnswer, SendAnswer, TakeAnswer};
+use cc_model::{Body, CloseAnswer, SendAnswer, TakeAnswer};
 use crossbeam_utils::Backoff;
 use std::sync::Wait;
 
@@ -87,7 +87,7 @@ pub fn send<R: Wait>(
     queue: &Queue,
     rt: &R,
     sender: Sender,
-    body: u64,
+    body: Body,
 ) -> Result<(Sender, SendAnswer), Sender>
     requires { IsOf queue.now sender }
     ensures completed { IfOk result (λ r. Completed sender (Call.Send body) (Answer.Send r.1) r.0) }
@@ -150,7 +150,7 @@ pub fn send_until<R: Wait>(
     queue: &Queue,
     rt: &R,
     sender: Sender,
-    body: u64,
+    body: Body,
 ) -> Result<(Sender, SendAnswer), Sender>
     requires { IsOf queue.now sender }
     ensures sent { IfOk result (λ r. SentUntil sender body r.1 r.0) }

@@ -5,10 +5,7 @@ ghost use Rattle.cc_runs.specs.Codes as codes;
 ghost use Rattle.cc_steps.specs.Walk.{IsOf, IsReadyToStep, IsToldAt};
 ghost use Rattle.cc_queue.specs.Work.{IsOn, IsOnList, Serves};
 
-use cc_model::Item;
-use cc_runs::{
-    BodyWords, Chain, ItemField, Job, NodeField, Parcel, Request, body_words, further_words, tag_of,
-};
+use cc_runs::{BodyWords, Chain, ItemField, Job, NodeField, Parcel, Request, further_words};
 use cc_steps::seats::PassSeat;
 use cc_steps::steps;
 use cc_steps::words::Words;
@@ -45,7 +42,8 @@ pub fn read_request(words: &Words, seat: &mut PassSeat, job: Job, tag: u64) -> B
     ensures ready { IsReadyToStep seat.new }
 {
     let at = job.round.at;
-    let mut body = BodyWords::one(steps::read_request(words, seat, at, NodeField::Body(0)));
+    let found = steps::read_request(words, seat, at, NodeField::Body(0));
+    let mut body = BodyWords::one(found);
     for done in 0..further_words(tag) {
         let index = done + 1;
         let found = steps::read_request(words, seat, at, NodeField::Body(index));
@@ -94,7 +92,8 @@ pub fn read_item(
     ensures ready { IsReadyToStep seat.new }
 {
     let _ = (group, job, dummy);
-    let mut body = BodyWords::one(steps::read_item(words, seat, node, ItemField::Body(0)));
+    let found = steps::read_item(words, seat, node, ItemField::Body(0));
+    let mut body = BodyWords::one(found);
     for done in 0..further_words(tag) {
         let index = done + 1;
         let found = steps::read_item(words, seat, node, ItemField::Body(index));
@@ -109,25 +108,19 @@ pub fn read_item(
 
 /// A combiner writes the body of the item that it hands out into the node that it serves.
 #[inline(always)]
-pub fn write_answer(words: &Words, seat: &mut PassSeat, chain: Chain, job: Job, item: Item)
+pub fn write_answer(words: &Words, seat: &mut PassSeat, chain: Chain, job: Job, item: Parcel)
     requires here { IsOnList words.now chain seat.old }
-    requires at { seat.old.stand.place ≡ Place.WriteAnswerBody job item 0 }
+    requires at { seat.old.stand.place ≡ Place.WriteAnswerBody job (codes.item_in item) 0 }
     ensures written { Serves seat.old (Place.MarkDone job) 0 seat.new }
     ensures ready { IsReadyToStep seat.new }
 {
     let at = job.round.at;
-    let body = body_words(item);
-    steps::write_answer(words, seat, chain, at, NodeField::Body(0), body.first);
-    for done in 0..further_words(tag_of(item)) {
+    let first = item.word_of_item(0);
+    steps::write_answer(words, seat, chain, at, NodeField::Body(0), first);
+    for done in 0..item.further_of_item() {
         let index = done + 1;
-        steps::write_answer(
-            words,
-            seat,
-            chain,
-            at,
-            NodeField::Body(index),
-            body.word(index),
-        );
+        let word = item.word_of_item(index);
+        steps::write_answer(words, seat, chain, at, NodeField::Body(index), word);
     }
 }
 

@@ -9,11 +9,11 @@ use crate::codes::{close_answer, send_answer};
 use crate::passes::{CloseTurn, PendingClose, PendingSend, SendTurn, Sender};
 use crate::queue::Queue;
 use crate::turns::turn_request;
-use cc_model::{Call, pack};
-use cc_runs::{BodyWords, Request};
+use cc_model::{Body, Call};
+use cc_runs::{BodyWords, Request, packed, words_in};
 
 /// Begins a send of this body. Err hands the sender back unchanged, where it has begun as many sends as one sender may.
-pub fn begin_send(queue: &Queue, sender: Sender, body: u64) -> Result<PendingSend, Sender>
+pub fn begin_send(queue: &Queue, sender: Sender, body: Body) -> Result<PendingSend, Sender>
     requires { IsOf queue.now sender }
     ensures begun { IfOk result (λ q. Begun sender (Call.Send body) q) }
     ensures may { OnOk result (sender.stand.begun < sender.setting.config.per_sender) }
@@ -26,8 +26,8 @@ pub fn begin_send(queue: &Queue, sender: Sender, body: u64) -> Result<PendingSen
     let Sender { mut at } = sender;
     at.begun += 1;
     let request = Request {
-        tag: pack(at.number, at.begun),
-        body: BodyWords::one(body),
+        tag: packed(at.number, at.begun, body),
+        body: words_in(body),
     };
     at.node = begin_request(
         &queue.words,
@@ -48,7 +48,7 @@ pub fn begin_close(queue: &Queue, sender: Sender) -> PendingClose
     let Sender { mut at } = sender;
     let request = Request {
         tag: 0,
-        body: BodyWords::one(0),
+        body: BodyWords::none(),
     };
     at.node = begin_request(&queue.words, &mut at.seat, at.node, Call::Close, request);
     at.seat.is_sound();

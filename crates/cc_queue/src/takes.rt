@@ -7,7 +7,7 @@ ghost use Rattle.cc_queue.specs.Work.{IsOnList, Serves};
 use crate::bodies;
 use crate::tell::tell;
 use cc_model::{Answer, TakeAnswer};
-use cc_runs::{CODE, Chain, ItemField, Job, NodeField, Object, Parcel, item_of};
+use cc_runs::{CODE, Chain, ItemField, Job, NodeField, Object, Parcel};
 use cc_steps::seats::PassSeat;
 use cc_steps::steps;
 use cc_steps::words::Words;
@@ -75,7 +75,6 @@ fn hand_out(
     steps::write_object(words, seat, Object::Taken(group), parcel.place + 1);
     steps::add_passed(words, seat, dummy);
     steps::write_answer(words, seat, chain, at, NodeField::Ret, CODE + parcel.place);
-    steps::write_answer(words, seat, chain, at, NodeField::Tag, parcel.tag);
-    let item = item_of(parcel.place, parcel.tag, parcel.body);
-    bodies::write_answer(words, seat, chain, job, item);
+    steps::write_answer(words, seat, chain, at, NodeField::Tag, parcel.tag_of_item());
+    bodies::write_answer(words, seat, chain, job, parcel);
 }

@@ -2,8 +2,8 @@
 use Rattle.std.proofs.Common.{◌≡◌, ℕ, zero, suc, ◌+◌, ◌-◌, ◌*◌, ◌/◌, ◌%◌, ◌^◌, ◌<◌, ◌≤◌, List, [], ◌∷◌, length, refl, ap, sym, ◌∙◌, arith}
 use Rattle.cc_model.specs.Body.{IsBody, further_of, words_of, body_of}
 use Rattle.cc_model.proofs.Bodies.{few_words, of_its_words}
-use Rattle.cc_runs.specs.Names.{Body, BodyWords}
-use Rattle.cc_runs.specs.Codes.{word, further_words, packed, tag_sender, tag_number, slots, words_in, body_in}
+use Rattle.cc_runs.specs.Names.{Body, BodyWords, Parcel}
+use Rattle.cc_runs.specs.Codes.{word, further_words, item_in, tag_of, body_words, packed, tag_sender, tag_number, slots, words_in, body_in}
 
 -- at most three words stand behind the first
 pub few_behind : (b : Body) → IsBody b → further_of b ≤ 3
@@ -52,3 +52,50 @@ number_told s number b less = omega (arith, less)
 
 pub body_told : (s number : ℕ) (b : Body) → number < 2 ^ 32 → IsBody b → body_in (further_words (packed s number b)) (words_in b) ≡ b
 body_told s number b less whole = ap (λ (n : ℕ). body_in n (words_in b)) (further_told s number b less whole) ∙ body_back b whole
+
+-- ---- an item that was made of words
+
+-- it has as many as the tag tells
+further_in : (n : ℕ) (words : BodyWords) → n ≤ 3 → further_of (body_in n words) ≡ n
+further_in zero words few = refl
+further_in (suc zero) words few = refl
+further_in (suc (suc zero)) words few = refl
+further_in (suc (suc (suc zero))) words few = refl
+further_in (suc (suc (suc (suc n)))) words few = absurd (omega (arith, few))
+
+word_in : (n : ℕ) (words : BodyWords) (i : ℕ) → n ≤ 3 → i ≤ n → word (words_in (body_in n words)) i ≡ word words i
+word_in zero words zero few low = refl
+word_in (suc zero) words zero few low = refl
+word_in (suc zero) words (suc zero) few low = refl
+word_in (suc (suc zero)) words zero few low = refl
+word_in (suc (suc zero)) words (suc zero) few low = refl
+word_in (suc (suc zero)) words (suc (suc zero)) few low = refl
+word_in (suc (suc (suc zero))) words zero few low = refl
+word_in (suc (suc (suc zero))) words (suc zero) few low = refl
+word_in (suc (suc (suc zero))) words (suc (suc zero)) few low = refl
+word_in (suc (suc (suc zero))) words (suc (suc (suc zero))) few low = refl
+word_in zero words (suc i) few low = absurd (omega (arith, low))
+word_in (suc zero) words (suc (suc i)) few low = absurd (omega (arith, low))
+word_in (suc (suc zero)) words (suc (suc (suc i))) few low = absurd (omega (arith, low))
+word_in (suc (suc (suc zero))) words (suc (suc (suc (suc i)))) few low = absurd (omega (arith, low))
+word_in (suc (suc (suc (suc n)))) words i few low = absurd (omega (arith, few))
+
+of_three_parts : (tag further : ℕ) → further ≡ tag / 2 ^ 48 % 4 → further * 2 ^ 48 + (tag / 2 ^ 32 % 2 ^ 16 % 2 ^ 16 * 2 ^ 32 + tag % 2 ^ 32) ≡ tag % 2 ^ 50
+of_three_parts tag further is = omega (arith, is)
+
+few_told : (tag : ℕ) → further_words tag ≤ 3
+few_told tag = omega arith
+
+-- its tag is the one that it was made of, as far as that tells something
+pub tag_cut : (p : Parcel) → tag_of (item_in p) ≡ p.tag % 2 ^ 50
+tag_cut p = of_three_parts p.tag _ (further_in (further_words p.tag) p.body (few_told p.tag))
+
+pub further_same : (p : Parcel) → further_words (tag_of (item_in p)) ≡ further_words p.tag
+further_same p = ap further_words (tag_cut p) ∙ cut p.tag
+  where
+    cut : (tag : ℕ) → further_words (tag % 2 ^ 50) ≡ further_words tag
+    cut tag = omega arith
+
+-- and so are its words
+pub word_same : (p : Parcel) (i : ℕ) → i ≤ further_words (tag_of (item_in p)) → word (body_words (item_in p)) i ≡ word p.body i
+word_same p i low = word_in (further_words p.tag) p.body i (few_told p.tag) (omega (arith, low, further_same p))

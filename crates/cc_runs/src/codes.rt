@@ -1,8 +1,8 @@
-ghost use Rattle.std.specs.Prelude.{◌≡◌, ◌<◌, ◌^◌, slice_index_or};
+ghost use Rattle.std.specs.Prelude.{◌≡◌, ◌<◌, ◌≤◌, ◌^◌, slice_index_or};
 ghost use Rattle.cc_model.specs.Body.{further_of, IsBody};
 ghost use Rattle.cc_runs.specs.Codes as codes;
 
-use crate::place::{BodyWords, Request};
+use crate::place::{BodyWords, Parcel, Request};
 use crate::setting::Served;
 use cc_model::{
     Answer, Body, Call, CloseAnswer, Entry, Item, Pass, SendAnswer, TakeAnswer, pack_words,
@@ -59,6 +59,17 @@ impl BodyWords {
                 ..self
             },
             _ => self,
+        }
+    }
+
+    /// One word, and 0 behind it.
+    #[inline(always)]
+    pub fn one(value: u64) -> BodyWords
+        ensures { result ≡ codes.with_word codes.no_words 0 value }
+    {
+        BodyWords {
+            first: value,
+            ..BodyWords::none()
         }
     }
 
@@ -130,6 +141,7 @@ pub fn packed(sender: u32, number: u32, body: Body) -> u64
 }
 
 /// The item of a list node's words.
+#[inline(always)]
 pub fn item_of(place: u64, tag: u64, body: BodyWords) -> Item
     ensures { result ≡ codes.item_of place tag body }
 {
@@ -139,6 +151,38 @@ pub fn item_of(place: u64, tag: u64, body: BodyWords) -> Item
         sender,
         number,
         body: body_in(further_words(tag), body),
+    }
+}
+
+/// What the words that were read of an item tell.
+impl Parcel {
+    /// The tag of the item.
+    #[inline(always)]
+    #[tactic(auto, using(crate::proofs::Bodies::tag_cut))]
+    pub fn tag_of_item(self) -> u64
+        ensures { result ≡ codes.tag_of (codes.item_in self) }
+    {
+        self.tag % (1 << 50)
+    }
+
+    /// How many words its body has beside the first.
+    #[inline(always)]
+    #[tactic(auto, using(crate::proofs::Bodies::further_same))]
+    pub fn further_of_item(self) -> u32
+        ensures words { result ≡ codes.further_words (codes.tag_of (codes.item_in self)) }
+        ensures few { result < 4 }
+    {
+        further_words(self.tag)
+    }
+
+    /// A word of its body, by its number from 0 on.
+    #[inline(always)]
+    #[tactic(auto, using(crate::proofs::Bodies::word_same))]
+    pub fn word_of_item(self, index: u32) -> u64
+        requires { index ≤ codes.further_words (codes.tag_of (codes.item_in self)) }
+        ensures { result ≡ codes.word (codes.body_words (codes.item_in self)) index }
+    {
+        self.body.word(index)
     }
 }
 
