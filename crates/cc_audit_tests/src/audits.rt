@@ -2,7 +2,9 @@
 ghost use Rattle.std.specs.Prelude.{◌≡◌, ◌<◌, length};
 
 use cc_audit::{SendReceipt, TakeReceipt, Verdict, audit, send_receipts, take_receipts, total};
-use cc_model::{Answer, Call, CloseAnswer, Entry, History, Item, Pass, SendAnswer, TakeAnswer};
+use cc_model::{
+    Answer, Body, Call, CloseAnswer, Entry, History, Item, Pass, SendAnswer, TakeAnswer,
+};
 use std::alloc::{AllocError, Global};
 use std::test::Fail;
 
@@ -14,23 +16,25 @@ fn fault(kind: u8, place: u64) -> Verdict {
     Verdict::Fault { kind, place }
 }
 
-fn send(sender: u32, number: u32, place: u64, body: u64) -> SendReceipt {
+/// The receipt of a send of one word.
+fn send(sender: u32, number: u32, place: u64, word: u64) -> SendReceipt {
     SendReceipt {
         sender,
         number,
         place,
-        body,
+        body: Body::one(word),
     }
 }
 
-fn take(receiver: u32, place: u64, sender: u32, number: u32, body: u64) -> TakeReceipt {
+/// The receipt of a take that got one word.
+fn take(receiver: u32, place: u64, sender: u32, number: u32, word: u64) -> TakeReceipt {
     TakeReceipt {
         receiver,
         item: Item {
             place,
             sender,
             number,
-            body,
+            body: Body::one(word),
         },
     }
 }
@@ -60,6 +64,42 @@ fn many_receipts(rt: HostRuntime) -> Result<(), Fail> {
     );
     takes.push(take(1, LAST, 1, 1, 0))?;
     assert_eq!(rt; audit(rt.alloc(), &sends, &takes, None)?, fault(5, COUNT));
+    Ok(())
+}
+
+/// The verdict where this body was sent and that one taken, at place 0.
+fn verdict_of(alloc: Global, sent: Body, taken: Body) -> Result<Verdict, AllocError> {
+    let sends = [SendReceipt {
+        body: sent,
+        ..send(1, 1, 0, 0)
+    }];
+    let takes = [TakeReceipt {
+        receiver: 1,
+        item: Item {
+            body: taken,
+            ..take(1, 0, 1, 1, 0).item
+        },
+    }];
+    audit(alloc, &sends, &takes, None)
+}
+
+#[test]
+fn bodies_are_compared_word_by_word(rt: HostRuntime) -> Result<(), Fail> {
+    let rows = [
+        (Body::one(5), Body::one(5), CLEAN),
+        (Body::two(5, 0), Body::two(5, 0), CLEAN),
+        (Body::four(1, 2, 3, LAST), Body::four(1, 2, 3, LAST), CLEAN),
+        (Body::one(5), Body::one(6), fault(4, 0)),
+        (Body::two(5, 6), Body::two(6, 5), fault(4, 0)),
+        (Body::four(0, 2, 3, 4), Body::four(1, 2, 3, 4), fault(4, 0)),
+        (Body::four(1, 2, 3, 4), Body::four(1, 2, 3, 5), fault(4, 0)),
+        (Body::one(5), Body::two(5, 0), fault(4, 0)),
+        (Body::two(5, 0), Body::one(5), fault(4, 0)),
+        (Body::three(0, 0, 0), Body::four(0, 0, 0, 0), fault(4, 0)),
+    ];
+    for (sent, taken, verdict) in rows {
+        assert_eq!(rt; verdict_of(rt.alloc(), sent, taken)?, verdict);
+    }
     Ok(())
 }
 
@@ -150,18 +190,18 @@ fn shut(total: u64) -> Option<Answer> {
 /// take that got the item, one that found the end, and one without an answer.
 fn played(alloc: Global) -> Result<Receipts, AllocError> {
     let mut history = History::new(alloc, 1)?;
-    add_send(&mut history, 2, Call::Send(7), 1, accepted(0))?;
+    add_send(&mut history, 2, Call::Send(Body::one(7)), 1, accepted(0))?;
     let full = Answer::Send(SendAnswer::Full);
-    add_send(&mut history, 1, Call::Send(8), 1, Some(full))?;
+    add_send(&mut history, 1, Call::Send(Body::one(8)), 1, Some(full))?;
     add_send(&mut history, 1, Call::Close, 0, shut(1))?;
     let closed = Answer::Send(SendAnswer::Closed);
-    add_send(&mut history, 2, Call::Send(9), 2, Some(closed))?;
-    add_send(&mut history, 2, Call::Send(9), 3, None)?;
+    add_send(&mut history, 2, Call::Send(Body::one(9)), 2, Some(closed))?;
+    add_send(&mut history, 2, Call::Send(Body::one(9)), 3, None)?;
     let item = Item {
         place: 0,
         sender: 2,
         number: 1,
-        body: 7,
+        body: Body::one(7),
     };
     add_take(&mut history, 0, 3, Some(TakeAnswer::Got(item)))?;
     add_take(&mut history, 0, 1, Some(TakeAnswer::Ended { total: 1 }))?;
