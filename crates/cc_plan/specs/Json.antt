@@ -1,11 +1,13 @@
 -- The JSON tree of an input, and plain questions about a tree.
-use Rattle.std.specs.Prelude.{ℕ, Bool, true, false, List, [], ◌∷◌, if◌then◌else◌, Option, Some, None, option_map, option_and_then, is_some, unwrap_or}
+use Rattle.std.specs.Prelude.{ℕ, Bool, true, false, List, [], ◌∷◌, length, if◌then◌else◌, Option, Some, None, option_map, option_and_then, is_some, unwrap_or}
 use Rattle.std.specs.List.{list_all}
 use Rattle.std.specs.Str.{is_utf8, bytes_eq}
 use Rattle.serde_json.specs.Data.{Data, Items, no_items, item, Members, no_members, member}
 use Rattle.serde_json.specs.Read.{read}
 use Rattle.serde_json.specs.Find.{get, as_number, as_u64, as_array, as_object, as_str}
 use Rattle.cc_model.specs.Range.{within}
+use Rattle.cc_model.specs.Body.{body_of}
+use Rattle.cc_plan.specs.Names.{Body}
 
 infixl 10 ◌>>=◌
 abbrev pub ◌>>=◌ : {A B : Type 0} → Option A → (A → Option B) → Option B
@@ -62,6 +64,12 @@ abbrev pub number_in : ℕ → ℕ → Data → Option ℕ
 number_in low high d = do
   n ← whole_number d
   ranged low high n
+
+-- the body whose words the array lists: one to four whole numbers
+abbrev pub body_in : Data → Option Body
+body_in d = do
+  ds ← elements d
+  if within 1 4 (length ds) then option_map body_of (each whole_number ds) else None
 
 -- this very text
 abbrev pub is_word : List ℕ → Data → Bool

@@ -3,14 +3,14 @@ ghost use Rattle.std.specs.Prelude.{◌≡◌, ◌≤◌, ℕ, Bool, List, Optio
 ghost use Rattle.std.specs.List.{list_all};
 ghost use Rattle.serde_json.specs.Data.{Data};
 ghost use Rattle.serde_json.specs.View.{view, members_view};
-ghost use Rattle.cc_plan.specs.Json.{json_of, elements, is_list_of, pair_of, each, is_number, is_word, number_in, keys, has_only};
+ghost use Rattle.cc_plan.specs.Json.{json_of, elements, is_list_of, pair_of, each, is_number, is_word, number_in, body_in, keys, has_only};
 ghost use Rattle.cc_plan.specs.Closures.{Computes, TestsText};
 ghost use Rattle.cc_plan.specs.Answers.{Gives};
 ghost use Rattle.cc_plan.specs.Refusal.{tree_of, or_no_json, input_limit};
 ghost use Rattle.cc_plan.specs.Names.{PlanFault};
 
 use crate::fault::PlanFault;
-use cc_model::is_within;
+use cc_model::{Body, is_within};
 use serde_json::{Category, Map, Value};
 use std::alloc::{AllocError, Global};
 
@@ -121,6 +121,20 @@ pub fn number_in(value: &Value, low: u64, high: u64) -> Option<u64>
 {
     let n = value.as_u64()?;
     is_within(n, low, high).then_some(n)
+}
+
+/// The body whose words the array lists: one to four whole numbers.
+pub fn body(value: &Value) -> Option<Body>
+    ensures { result ≡ body_in (view value.now) }
+{
+    match elements(value)? {
+        [] => None,
+        [a] => Some(Body::one(a.as_u64()?)),
+        [a, b] => Some(Body::two(a.as_u64()?, b.as_u64()?)),
+        [a, b, c] => Some(Body::three(a.as_u64()?, b.as_u64()?, c.as_u64()?)),
+        [a, b, c, d] => Some(Body::four(a.as_u64()?, b.as_u64()?, c.as_u64()?, d.as_u64()?)),
+        [_, _, _, _, _, ..] => None,
+    }
 }
 
 /// Whether the value is this very text.
