@@ -8,6 +8,7 @@ pub mod PlanShape
 pub mod PlanValues
 pub mod PlanOf
 pub mod PlanLaws
+pub mod Version
 pub mod Receipts
 pub mod ReceiptsShape
 pub mod ReceiptsValues

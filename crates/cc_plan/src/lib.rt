@@ -6,6 +6,7 @@ mod json;
 mod plan;
 mod receipts;
 mod report;
+mod version;
 
 pub use fault::PlanFault;
 pub use json::INPUT_LIMIT;
