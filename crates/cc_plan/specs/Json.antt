@@ -1,5 +1,5 @@
 -- The JSON tree of an input, and plain questions about a tree.
-use Rattle.std.specs.Prelude.{ℕ, Bool, true, false, List, [], ◌∷◌, length, if◌then◌else◌, Option, Some, None, option_map, option_and_then, is_some, unwrap_or}
+use Rattle.std.specs.Prelude.{ℕ, ◌==◌, Bool, true, false, List, [], ◌∷◌, length, if◌then◌else◌, Option, Some, None, option_map, option_and_then, is_some, unwrap_or}
 use Rattle.std.specs.List.{list_all}
 use Rattle.std.specs.Str.{is_utf8, bytes_eq}
 use Rattle.serde_json.specs.Data.{Data, Items, no_items, item, Members, no_members, member}
@@ -70,6 +70,14 @@ abbrev pub body_in : Data → Option Body
 body_in d = do
   ds ← elements d
   if within 1 4 (length ds) then option_map body_of (each whole_number ds) else None
+
+-- a number, and in version 2 an array of numbers
+abbrev pub is_body : (version : ℕ) → Data → Bool
+is_body version d = if version == 2 then is_list_of is_number d else is_number d
+
+-- a whole number as the one word, and in version 2 an array of the words
+abbrev pub body_as : (version : ℕ) → Data → Option Body
+body_as version d = if version == 2 then body_in d else option_map (λ word. body_of (word ∷ [])) (whole_number d)
 
 -- this very text
 abbrev pub is_word : List ℕ → Data → Bool

@@ -3,7 +3,7 @@ ghost use Rattle.std.specs.Prelude.{◌≡◌, ◌≤◌, ℕ, Bool, List, Optio
 ghost use Rattle.std.specs.List.{list_all};
 ghost use Rattle.serde_json.specs.Data.{Data};
 ghost use Rattle.serde_json.specs.View.{view, members_view};
-ghost use Rattle.cc_plan.specs.Json.{json_of, elements, is_list_of, pair_of, each, is_number, is_word, number_in, body_in, keys, has_only};
+ghost use Rattle.cc_plan.specs.Json.{json_of, elements, is_list_of, pair_of, each, is_number, is_word, number_in, body_in, is_body, body_as, keys, has_only};
 ghost use Rattle.cc_plan.specs.Closures.{Computes, TestsText};
 ghost use Rattle.cc_plan.specs.Answers.{Gives};
 ghost use Rattle.cc_plan.specs.Refusal.{tree_of, or_no_json, input_limit};
@@ -134,6 +134,28 @@ pub fn body(value: &Value) -> Option<Body>
         [a, b, c] => Some(Body::three(a.as_u64()?, b.as_u64()?, c.as_u64()?)),
         [a, b, c, d] => Some(Body::four(a.as_u64()?, b.as_u64()?, c.as_u64()?, d.as_u64()?)),
         [_, _, _, _, _, ..] => None,
+    }
+}
+
+/// Whether the value is a number, or in version 2 an array of numbers.
+pub fn is_body(value: &Value, version: u32) -> bool
+    ensures { result ≡ is_body version (view value.now) }
+{
+    if version == 2 {
+        is_numbers(value)
+    } else {
+        is_number(value)
+    }
+}
+
+/// The body whose one word is the whole number, or in version 2 whose words the array lists.
+pub fn body_as(value: &Value, version: u32) -> Option<Body>
+    ensures { result ≡ body_as version (view value.now) }
+{
+    if version == 2 {
+        body(value)
+    } else {
+        Some(Body::one(value.as_u64()?))
     }
 }
 
