@@ -5,13 +5,15 @@ use Rattle.cc_plan.specs.Refusal.{◌>>=◌, Refusal, wrong_shape, or_range, val
 use Rattle.cc_plan.specs.Receipts.{ReceiptsValue}
 use Rattle.cc_plan.specs.ReceiptsShape.{has_receipts_shape}
 use Rattle.cc_plan.specs.ReceiptsValues.{total_of, accepted_of, taken_of}
+use Rattle.cc_plan.specs.Version.{version_of}
 
 -- the values in their ranges; of several out of range the first in this order is told
 unfoldable pub receipts_of_values : Data → Result ReceiptsValue Refusal
 receipts_of_values d = do
+  version ← or_range (codes "version") (version_of d)
   total ← or_range (codes "total") (total_of d)
-  accepted ← value_at accepted_of (codes "accepted") d
-  taken ← value_at taken_of (codes "taken") d
+  accepted ← value_at (accepted_of version) (codes "accepted") d
+  taken ← value_at (taken_of version) (codes "taken") d
   Ok (record { accepted = accepted; taken = taken; total = total })
 
 -- first the shape of the whole tree, then the ranges
