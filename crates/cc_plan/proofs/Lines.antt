@@ -1,27 +1,37 @@
--- The lines of a report, one after another.
-use Rattle.std.proofs.Common.{◌≡◌, ◌<◌, ◌+◌, ℕ, zero, suc, List, [], ◌∷◌, ◌++◌, length, get_or, drop, None, refl, sym, ap, ◌∙◌, append_assoc, arith, add-one}
-use Rattle.std.specs.List.{slice_get}
-use Rattle.cc_plan.specs.Names.{Entry, Answer}
-use Rattle.cc_plan.specs.Report.{line_text, lines_text}
+-- The texts of a list's elements, written one after another.
+use Rattle.std.proofs.Common.{◌≡◌, ◌<◌, ◌≤◌, ◌+◌, ℕ, List, [], ◌++◌, length, get_or, drop, refl, sym, ap, ◌∙◌, subst, append_assoc, append-nil, add-one, drop-cons}
+use Rattle.std.proofs.lemmas.List.{drop_all}
+use Rattle.cc_model.specs.Written.{Desk, Pens}
+use Rattle.cc_model.proofs.Writing.{then, still}
+use Rattle.cc_plan.specs.Report.{texts}
 
-lines_pending : (side : List ℕ) (n : ℕ) (calls : List Entry) (i : ℕ) (d : Entry) → i < length calls
-    → lines_text side n (drop i calls) [] ≡ line_text side n (get_or calls i d) None ++ lines_text side (n + 1) (drop (suc i) calls) []
-lines_pending side n [] i d h = absurd (omega (arith, h))
-lines_pending side n (c ∷ calls) zero d h = refl
-lines_pending side n (c ∷ calls) (suc i) d h = lines_pending side n calls i d (omega (arith, h))
+-- the pen went on by the texts of the elements before place i
+pub record UpTo {A : Type 0} (old new : Desk) (text : ℕ → A → List ℕ) (xs : List A) (i : ℕ) : Type 0 where
+  pub so_far : List ℕ
+  pub pens : Pens old new so_far
+  pub whole : texts text 0 xs ≡ so_far ++ texts text i (drop i xs)
 
-lines_at : (side : List ℕ) (n : ℕ) (calls : List Entry) (answers : List Answer) (i : ℕ) (d : Entry) → i < length calls
-    → lines_text side n (drop i calls) (drop i answers) ≡ line_text side n (get_or calls i d) (slice_get answers i) ++ lines_text side (n + 1) (drop (suc i) calls) (drop (suc i) answers)
-lines_at side n [] answers i d h = absurd (omega (arith, h))
-lines_at side n (c ∷ calls) [] zero d h = refl
-lines_at side n (c ∷ calls) (a ∷ answers) zero d h = refl
-lines_at side n (c ∷ calls) [] (suc i) d h = lines_pending side n calls i d (omega (arith, h))
-lines_at side n (c ∷ calls) (a ∷ answers) (suc i) d h = lines_at side n calls answers i d (omega (arith, h))
+module _ {A : Type 0} (text : ℕ → A → List ℕ) (xs : List A) where
+  -- before the first
+  pub none : (old : Desk) → UpTo old old text xs 0
+  none old = record { so_far = []; pens = still old; whole = refl }
 
--- one turn of the loop over the calls
-pub lines_turn : (side : List ℕ) (calls : List Entry) (answers : List Answer) (i : ℕ) (d : Entry) (so_far : List ℕ) → i < length calls
-    → lines_text side 0 calls answers ≡ so_far ++ lines_text side i (drop i calls) (drop i answers)
-    → lines_text side 0 calls answers ≡ (so_far ++ line_text side i (get_or calls i d) (slice_get answers i)) ++ lines_text side (i + 1) (drop (i + 1) calls) (drop (i + 1) answers)
-lines_turn side calls answers i d so_far h before =
-    before ∙ ap (λ (l : List ℕ). so_far ++ l) (lines_at side i calls answers i d h) ∙ sym (append_assoc so_far (line_text side i (get_or calls i d) (slice_get answers i)) (lines_text side (i + 1) (drop (suc i) calls) (drop (suc i) answers)))
-    ∙ ap (λ (k : ℕ). (so_far ++ line_text side i (get_or calls i d) (slice_get answers i)) ++ lines_text side (i + 1) (drop k calls) (drop k answers)) (sym (add-one i))
+  -- the texts from a place are that of its element, and those from the next place
+  from_place : (i : ℕ) (x : A) → i < length xs → texts text i (drop i xs) ≡ text i (get_or xs i x) ++ texts text (i + 1) (drop (i + 1) xs)
+  from_place i x within =
+      ap (texts text i) (drop-cons xs i x within) ∙ ap (λ (k : ℕ). text i (get_or xs i x) ++ texts text (i + 1) (drop k xs)) (sym (add-one i))
+
+  -- one element more
+  pub one_more : (old mid new : Desk) (i : ℕ) (x : A) → i < length xs → UpTo old mid text xs i → Pens mid new (text i (get_or xs i x)) → UpTo old new text xs (i + 1)
+  one_more old mid new i x within before pens = record {
+    so_far = before.so_far ++ text i (get_or xs i x);
+    pens = then before.pens pens;
+    whole = before.whole ∙ ap (λ (rest : List ℕ). before.so_far ++ rest) (from_place i x within)
+        ∙ sym (append_assoc before.so_far (text i (get_or xs i x)) (texts text (i + 1) (drop (i + 1) xs)));
+  }
+
+  -- after the last
+  pub all : (old new : Desk) (i : ℕ) → length xs ≤ i → UpTo old new text xs i → Pens old new (texts text 0 xs)
+  all old new i past done =
+      let ends : texts text 0 xs ≡ done.so_far = done.whole ∙ ap (λ (rest : List A). done.so_far ++ texts text i rest) (drop_all i xs past) ∙ append-nil done.so_far in
+      subst (Pens old new) (sym ends) done.pens

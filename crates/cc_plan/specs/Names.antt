@@ -15,3 +15,4 @@ pub use Rattle.cc_audit.specs.declared.receipt.Verdict.{Verdict}
 pub use Rattle.cc_plan.specs.declared.fault.PlanFault.{PlanFault}
 pub use Rattle.cc_plan.specs.declared.plan.Plan.{Plan}
 pub use Rattle.cc_plan.specs.declared.receipts.Receipts.{Receipts}
+pub use Rattle.cc_plan.specs.declared.report.Caller.{Caller}

@@ -1,32 +1,44 @@
 //! The report of a run.
-ghost use Rattle.std.specs.Prelude.{◌≡◌, ◌<◌, ◌^◌, ◌-◌, false, is_err, length, slice_get};
+ghost use Rattle.std.specs.Prelude.{◌≡◌, ◌<◌, ◌^◌, ◌-◌, false, is_err, slice_get};
+ghost use Rattle.cc_model.specs.Body.{words_of};
 ghost use Rattle.cc_model.specs.HistoryRoom.{lists};
 ghost use Rattle.cc_model.specs.Written.{Writes, Pens, desk};
-ghost use Rattle.cc_plan.specs.Report.{pass_text, call_text, item_text, answer_text, line_text, lines_text, verdict_text, report_text};
+ghost use Rattle.cc_plan.specs.Report.{pass_text, words_text, call_text, item_text, answer_text, caller_in, caller_text, line_text, lines_text, groups_text, verdict_text, report_text};
 
 use cc_audit::Verdict;
 use cc_model::{
-    Answer, Call, CloseAnswer, Entry, History, Item, Pass, Pen, SendAnswer, Sink, TakeAnswer,
+    Answer, Body, Call, CloseAnswer, Entry, History, Item, Pass, Pen, SendAnswer, Sink, TakeAnswer,
     WriteFault,
 };
 
-/// A history of one group of receivers, and the verdict on it.
+/// A history, and the verdict on it.
 #[derive(Clone, Copy)]
 pub struct Report<'a> {
+    /// The version of the format, that of the plan. Version 2 tells the group of each call of a receiver; any other is of
+    /// one group, and doesn't.
+    pub version: u32,
     /// The whole history, calls without an answer too.
     pub history: &'a History,
     /// The verdict on the receipts of the history.
     pub verdict: Verdict,
 }
 
+/// Who calls, as a line tells it.
+#[derive(Clone, Copy)]
+enum Caller {
+    Sender,
+    Receiver,
+    /// A receiver of the group with this number, from 1.
+    ReceiverOf(u64),
+}
+
 /// Writes the text of the report, and stops at the first write that fails.
 #[tactic(auto, using(cc_model::proofs::Writing::all_out))]
 pub fn write_report<W: Sink>(sink: &mut W, report: &Report<'_>) -> Result<(), WriteFault>
-    requires writes { W.write_failures sink.old < 2 ^ 64 - 1 }
-    requires group { length report.now.history.now.takes ≡ 1 }
+    requires { W.write_failures sink.old < 2 ^ 64 - 1 }
     ensures { Writes (is_err result) (W.bytes_written sink.old) (W.bytes_written sink.new)
         (W.write_failures sink.old) (W.write_failures sink.new)
-        (report_text (lists report.now.history.now) report.now.verdict) }
+        (report_text report.now.version (lists report.now.history.now) report.now.verdict) }
 {
     let mut pen = Pen::new();
     write_parts(sink, &mut pen, report);
@@ -47,33 +59,58 @@ pub fn write_verdict<W: Sink>(sink: &mut W, verdict: Verdict) -> Result<(), Writ
 
 /// The lines of the senders' calls, those of the receivers' calls, and the line of the verdict.
 fn write_parts<W: Sink>(sink: &mut W, pen: &mut Pen, report: &Report<'_>)
-    requires writes { pen.old.failed ≡ false → W.write_failures sink.old < 2 ^ 64 - 1 }
-    requires group { length report.now.history.now.takes ≡ 1 }
+    requires { pen.old.failed ≡ false → W.write_failures sink.old < 2 ^ 64 - 1 }
     ensures { Pens (desk pen.old (W.bytes_written sink.old) (W.write_failures sink.old))
         (desk pen.new (W.bytes_written sink.new) (W.write_failures sink.new))
-        (report_text (lists report.now.history.now) report.now.verdict) }
+        (report_text report.now.version (lists report.now.history.now) report.now.verdict) }
 {
-    let senders = report.history.sends();
-    let receivers = report.history.takes(0);
-    write_lines(sink, pen, b"E", senders.calls(), senders.answers());
-    write_lines(sink, pen, b"D", receivers.calls(), receivers.answers());
+    let sends = report.history.sends();
+    write_lines(sink, pen, Caller::Sender, sends.calls(), sends.answers());
+    write_groups(sink, pen, report.version, report.history);
     write_verdict_line(sink, pen, report.verdict)
 }
 
+/// The lines of one group after another.
+fn write_groups<W: Sink>(sink: &mut W, pen: &mut Pen, version: u32, history: &History)
+    requires { pen.old.failed ≡ false → W.write_failures sink.old < 2 ^ 64 - 1 }
+    ensures { Pens (desk pen.old (W.bytes_written sink.old) (W.write_failures sink.old))
+        (desk pen.new (W.bytes_written sink.new) (W.write_failures sink.new))
+        (groups_text version (lists history.now).takes) }
+{
+    for group in 0..history.groups() {
+        let caller = caller_in(version, group);
+        let takes = history.takes(group);
+        write_lines(sink, pen, caller, takes.calls(), takes.answers());
+    }
+}
+
+/// Who calls in the lines of a group, from 0.
+fn caller_in(version: u32, group: usize) -> Caller
+    requires { group < 2 ^ 64 - 1 }
+    ensures { result ≡ caller_in version group }
+{
+    if version == 2 {
+        Caller::ReceiverOf(group as u64 + 1)
+    } else {
+        Caller::Receiver
+    }
+}
+
+/// A line for each call, numbered from 0.
 fn write_lines<W: Sink>(
     sink: &mut W,
     pen: &mut Pen,
-    side: &[u8],
+    caller: Caller,
     calls: &[Entry],
     answers: &[Answer],
 )
     requires { pen.old.failed ≡ false → W.write_failures sink.old < 2 ^ 64 - 1 }
     ensures { Pens (desk pen.old (W.bytes_written sink.old) (W.write_failures sink.old))
         (desk pen.new (W.bytes_written sink.new) (W.write_failures sink.new))
-        (lines_text side.now 0 calls.now answers.now) }
+        (lines_text caller (record { calls = calls.now; answers = answers.now })) }
 {
     for (i, entry) in calls.iter().enumerate() {
-        write_line(sink, pen, side, i as u64, *entry, answer_at(answers, i));
+        write_line(sink, pen, caller, i as u64, *entry, answer_at(answers, i));
     }
 }
 
@@ -88,7 +125,7 @@ fn answer_at(answers: &[Answer], i: usize) -> Option<Answer>
 fn write_line<W: Sink>(
     sink: &mut W,
     pen: &mut Pen,
-    side: &[u8],
+    caller: Caller,
     number: u64,
     entry: Entry,
     answer: Option<Answer>,
@@ -96,9 +133,9 @@ fn write_line<W: Sink>(
     requires { pen.old.failed ≡ false → W.write_failures sink.old < 2 ^ 64 - 1 }
     ensures { Pens (desk pen.old (W.bytes_written sink.old) (W.write_failures sink.old))
         (desk pen.new (W.bytes_written sink.new) (W.write_failures sink.new))
-        (line_text side.now number entry answer) }
+        (line_text caller number entry answer) }
 {
-    pen.text(sink, side);
+    write_caller(sink, pen, caller);
     pen.word(sink, b" ", number);
     pen.text(sink, b" ");
     write_pass(sink, pen, entry.pass);
@@ -107,6 +144,20 @@ fn write_line<W: Sink>(
     pen.text(sink, b" -> ");
     write_answer(sink, pen, answer);
     pen.text(sink, b"\n")
+}
+
+#[tactic(auto, unfolding(crate::specs::Report::caller_text))]
+fn write_caller<W: Sink>(sink: &mut W, pen: &mut Pen, caller: Caller)
+    requires { pen.old.failed ≡ false → W.write_failures sink.old < 2 ^ 64 - 1 }
+    ensures { Pens (desk pen.old (W.bytes_written sink.old) (W.write_failures sink.old))
+        (desk pen.new (W.bytes_written sink.new) (W.write_failures sink.new))
+        (caller_text caller) }
+{
+    match caller {
+        Caller::Sender => pen.text(sink, b"E"),
+        Caller::Receiver => pen.text(sink, b"D"),
+        Caller::ReceiverOf(group) => pen.word(sink, b"D ", group),
+    }
 }
 
 #[tactic(auto, unfolding(crate::specs::Report::pass_text))]
@@ -130,7 +181,10 @@ fn write_call<W: Sink>(sink: &mut W, pen: &mut Pen, call: Call)
         (call_text call) }
 {
     match call {
-        Call::Send(body) => pen.word(sink, b"send ", body),
+        Call::Send(body) => {
+            pen.text(sink, b"send");
+            write_body(sink, pen, body)
+        }
         Call::Close => pen.text(sink, b"close"),
         Call::Take => pen.text(sink, b"take"),
     }
@@ -167,7 +221,19 @@ fn write_item<W: Sink>(sink: &mut W, pen: &mut Pen, item: Item)
     pen.word(sink, b"got ", item.place);
     pen.word(sink, b" s", item.sender as u64);
     pen.word(sink, b" ", item.number as u64);
-    pen.word(sink, b" ", item.body)
+    write_body(sink, pen, item.body)
+}
+
+/// The words of a body, each behind a space.
+fn write_body<W: Sink>(sink: &mut W, pen: &mut Pen, body: Body)
+    requires { pen.old.failed ≡ false → W.write_failures sink.old < 2 ^ 64 - 1 }
+    ensures { Pens (desk pen.old (W.bytes_written sink.old) (W.write_failures sink.old))
+        (desk pen.new (W.bytes_written sink.new) (W.write_failures sink.new))
+        (words_text (words_of body)) }
+{
+    for word in body.words() {
+        pen.word(sink, b" ", *word);
+    }
 }
 
 #[tactic(auto, unfolding(crate::specs::Report::verdict_text))]

@@ -3,7 +3,7 @@ ghost use Rattle.std.specs.Prelude.{◌≡◌, ◌<◌, length};
 
 use cc_audit::Verdict;
 use cc_model::{
-    Answer, Call, CloseAnswer, DeviceFault, Entry, History, Item, Pass, SendAnswer, Sink,
+    Answer, Body, Call, CloseAnswer, DeviceFault, Entry, History, Item, Pass, SendAnswer, Sink,
     TakeAnswer,
 };
 use cc_plan::{Report, write_report, write_verdict};
@@ -96,14 +96,19 @@ fn add_send(
     Ok(())
 }
 
-/// Adds a call of a receiver of the first group, and its answer, if it has one.
-fn add_take(history: &mut History, pass: u32, answer: Option<TakeAnswer>) -> Result<(), AllocError>
-    requires { 0 < length history.old.takes }
+/// Adds a call of a receiver of a group, and its answer, if it has one.
+fn add_take(
+    history: &mut History,
+    group: usize,
+    pass: u32,
+    answer: Option<TakeAnswer>,
+) -> Result<(), AllocError>
+    requires { group < length history.old.takes }
     ensures { length history.new.takes ≡ length history.old.takes }
 {
-    history.reserve_takes(0, 1)?;
+    history.reserve_takes(group, 1)?;
     history.push_takes_call(
-        0,
+        group,
         Entry {
             pass: Pass::Receiver(pass),
             call: Call::Take,
@@ -112,7 +117,7 @@ fn add_take(history: &mut History, pass: u32, answer: Option<TakeAnswer>) -> Res
         },
     );
     if let Some(answer) = answer {
-        history.push_takes_answer(0, Answer::Take(answer));
+        history.push_takes_answer(group, Answer::Take(answer));
     }
     Ok(())
 }
@@ -129,7 +134,12 @@ fn add_sends(history: &mut History) -> Result<(), AllocError> {
         },
     ];
     for answer in sends {
-        add_send(history, 1, Call::Send(u64::MAX), Some(Answer::Send(answer)))?;
+        add_send(
+            history,
+            1,
+            Call::Send(Body::one(u64::MAX)),
+            Some(Answer::Send(answer)),
+        )?;
     }
     let closes = [
         CloseAnswer::Shut { total: 10 },
@@ -138,7 +148,7 @@ fn add_sends(history: &mut History) -> Result<(), AllocError> {
     for answer in closes {
         add_send(history, 64, Call::Close, Some(Answer::Close(answer)))?;
     }
-    add_send(history, 2, Call::Send(0), None)?;
+    add_send(history, 2, Call::Send(Body::one(0)), None)?;
     add_send(history, 3, Call::Close, None)
 }
 
@@ -149,12 +159,12 @@ fn each_kind(alloc: Global) -> Result<History, AllocError> {
         place: 12,
         sender: 34,
         number: 56,
-        body: 78,
+        body: Body::one(78),
     };
-    add_take(&mut history, 1, Some(TakeAnswer::Got(item)))?;
-    add_take(&mut history, 1, Some(TakeAnswer::Empty))?;
-    add_take(&mut history, 1, Some(TakeAnswer::Ended { total: 100 }))?;
-    add_take(&mut history, 64, None)?;
+    add_take(&mut history, 0, 1, Some(TakeAnswer::Got(item)))?;
+    add_take(&mut history, 0, 1, Some(TakeAnswer::Empty))?;
+    add_take(&mut history, 0, 1, Some(TakeAnswer::Ended { total: 100 }))?;
+    add_take(&mut history, 0, 64, None)?;
     add_sends(&mut history)?;
     Ok(history)
 }
@@ -178,7 +188,6 @@ D 3 r64 take -> pending
 fn a_report_is_written(rt: HostRuntime) -> Result<(), Fail> {
     let alloc = rt.alloc();
     let history = each_kind(alloc)?;
-    assert_eq!(rt; history.groups(), 1);
     let rows = [
         (Verdict::Clean, "audit clean\n"),
         (
@@ -194,6 +203,7 @@ fn a_report_is_written(rt: HostRuntime) -> Result<(), Fail> {
         wanted.push_str(line)?;
         let mut sink = CutWriter::new(alloc, usize::MAX, usize::MAX, Full::Fails);
         let report = Report {
+            version: 1,
             history: &history,
             verdict,
         };
@@ -204,9 +214,9 @@ fn a_report_is_written(rt: HostRuntime) -> Result<(), Fail> {
         assert!(rt; write_verdict(&mut sink, verdict).is_ok());
         assert_eq!(rt; sink.taken.as_slice(), line.as_bytes());
         let nothing = History::new(alloc, 1)?;
-        assert_eq!(rt; nothing.groups(), 1);
         let mut sink = CutWriter::new(alloc, usize::MAX, 1, Full::Fails);
         let report = Report {
+            version: 1,
             history: &nothing,
             verdict,
         };
@@ -216,12 +226,76 @@ fn a_report_is_written(rt: HostRuntime) -> Result<(), Fail> {
     Ok(())
 }
 
+/// The item of a send of sender 1, which sent nothing but items that were accepted.
+fn item_of(place: u32, body: Body) -> TakeAnswer
+    requires { place < 9 }
+{
+    TakeAnswer::Got(Item {
+        place: u64::from(place),
+        sender: 1,
+        number: place + 1,
+        body,
+    })
+}
+
+/// A history of two groups, with bodies of one to four words, and a pending call on each side.
+fn two_groups(alloc: Global) -> Result<History, AllocError> {
+    let mut history = History::new(alloc, 2)?;
+    let first = Body::two(7, 8);
+    let second = Body::four(1, 0, u64::MAX, 2);
+    add_take(&mut history, 0, 1, Some(item_of(0, first)))?;
+    add_take(&mut history, 1, 4, Some(item_of(0, first)))?;
+    add_take(&mut history, 0, 1, Some(item_of(1, second)))?;
+    add_take(&mut history, 0, 2, Some(TakeAnswer::Empty))?;
+    add_take(&mut history, 1, 3, None)?;
+    let sends = [
+        (first, SendAnswer::Accepted { place: 0 }),
+        (second, SendAnswer::Accepted { place: 1 }),
+        (Body::three(3, 4, 5), SendAnswer::Full),
+    ];
+    for (body, answer) in sends {
+        add_send(
+            &mut history,
+            1,
+            Call::Send(body),
+            Some(Answer::Send(answer)),
+        )?;
+    }
+    add_send(&mut history, 1, Call::Send(Body::one(6)), None)?;
+    Ok(history)
+}
+
+#[test]
+fn a_report_of_version_2_tells_the_groups(rt: HostRuntime) -> Result<(), Fail> {
+    let history = two_groups(rt.alloc())?;
+    let mut sink = CutWriter::new(rt.alloc(), usize::MAX, usize::MAX, Full::Fails);
+    let report = Report {
+        version: 2,
+        history: &history,
+        verdict: Verdict::Clean,
+    };
+    assert!(rt; write_report(&mut sink, &report).is_ok());
+    let wanted = "E 0 s1 send 7 8 -> accepted 0
+E 1 s1 send 1 0 18446744073709551615 2 -> accepted 1
+E 2 s1 send 3 4 5 -> full
+E 3 s1 send 6 -> pending
+D 1 0 r1 take -> got 0 s1 1 7 8
+D 1 1 r1 take -> got 1 s1 2 1 0 18446744073709551615 2
+D 1 2 r2 take -> empty
+D 2 0 r4 take -> got 0 s1 1 7 8
+D 2 1 r3 take -> pending
+audit clean
+";
+    assert_eq!(rt; sink.taken.as_slice(), wanted.as_bytes());
+    Ok(())
+}
+
 #[test]
 fn writes_fail_at_every_byte(rt: HostRuntime) -> Result<(), Fail> {
     let alloc = rt.alloc();
     let history = each_kind(alloc)?;
-    assert_eq!(rt; history.groups(), 1);
     let report = Report {
+        version: 1,
         history: &history,
         verdict: Verdict::Clean,
     };
@@ -251,13 +325,13 @@ fn long_reports_go_out_in_blocks(rt: HostRuntime) -> Result<(), Fail> {
         add_send(
             &mut history,
             1,
-            Call::Send(i),
+            Call::Send(Body::one(i)),
             Some(Answer::Send(SendAnswer::Full)),
         )?;
     }
-    assert_eq!(rt; history.groups(), 1);
     let mut sink = CutWriter::new(alloc, usize::MAX, usize::MAX, Full::Fails);
     let report = Report {
+        version: 1,
         history: &history,
         verdict: Verdict::Clean,
     };

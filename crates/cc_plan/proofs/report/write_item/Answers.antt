@@ -4,4 +4,4 @@ use Rattle.cc_plan.proofs.report.write_item.Goals as goal
 
 pub returns : goal.returns
 unfolding item_text
-returns g c = then (then (then c.word.ensures c.word-2.ensures) c.word-3.ensures) c.word-4.ensures
+returns g c = then (then (then c.word.ensures c.word-2.ensures) c.word-3.ensures) c.write_body.ensures
