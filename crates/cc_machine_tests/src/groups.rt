@@ -1,6 +1,8 @@
 //! Several groups of receivers, each of which takes every item.
 use cc_machine::{Machine, OpenFault};
-use cc_model::{Answer, Call, CloseAnswer, Config, ConfigFault, Pass, SendAnswer, TakeAnswer};
+use cc_model::{
+    Answer, Body, Call, CloseAnswer, Config, ConfigFault, Item, Pass, SendAnswer, TakeAnswer,
+};
 use std::alloc::{AllocError, Global};
 use std::test::Fail;
 
@@ -34,12 +36,23 @@ fn pass_of(name: &str) -> Option<Pass> {
     }
 }
 
+/// The body of these words, one to four of them.
+fn body_of(text: &str) -> Option<Body> {
+    let mut words: [u64; 4] = [0; 4];
+    let mut count: usize = 0;
+    for word in text.split(' ') {
+        *words.get_mut(count)? = word.parse().ok()?;
+        count = count.checked_add(1)?;
+    }
+    Body::new(words.get(..count)?)
+}
+
 /// The call of a line. `None` where the pass goes on with the call that it has.
 fn call_of(words: &str) -> Option<Call> {
     match words {
         "take" => Some(Call::Take),
         "close" => Some(Call::Close),
-        _ => Some(Call::Send(words.strip_prefix("send ")?.parse().ok()?)),
+        _ => Some(Call::Send(body_of(words.strip_prefix("send ")?)?)),
     }
 }
 
@@ -58,6 +71,15 @@ fn play(machine: &mut Machine, turn: &str) -> Option<Answer> {
     machine.answer(pass)
 }
 
+/// An item in words.
+fn got(alloc: Global, item: Item) -> Result<String, AllocError> {
+    let mut text = format!(in alloc; "got {} s{} {}", item.place, item.sender, item.number)?;
+    for word in item.body.words() {
+        text.push_str(format!(in alloc; " {word}")?.as_str())?;
+    }
+    Ok(text)
+}
+
 /// An answer in words.
 fn words(alloc: Global, answer: Option<Answer>) -> Result<String, AllocError> {
     let Some(answer) = answer else {
@@ -70,10 +92,7 @@ fn words(alloc: Global, answer: Option<Answer>) -> Result<String, AllocError> {
         Answer::Send(SendAnswer::Spent) => String::from_str(alloc, "spent"),
         Answer::Close(CloseAnswer::Shut { total }) => format!(in alloc; "shut {total}"),
         Answer::Close(CloseAnswer::Already { total }) => format!(in alloc; "already {total}"),
-        Answer::Take(TakeAnswer::Got(item)) => format!(in alloc;
-            "got {} s{} {} {}",
-            item.place, item.sender, item.number, item.body
-        ),
+        Answer::Take(TakeAnswer::Got(item)) => got(alloc, item),
         Answer::Take(TakeAnswer::Empty) => String::from_str(alloc, "empty"),
         Answer::Take(TakeAnswer::Ended { total }) => format!(in alloc; "ended {total}"),
     }
@@ -91,6 +110,21 @@ s1 close -> shut 2
 r2 take -> got 1 s1 4 6
 r2 take -> ended 2
 r1 take -> ended 2";
+
+/// Each group gets all words of a body, and those alone, whatever body was in the nodes before.
+const BODIES: &str = "s1 send 5 6 7 -> accepted 0
+r1 take -> got 0 s1 1 5 6 7
+r2 take -> got 0 s1 1 5 6 7
+s1 send 1 2 3 18446744073709551615 -> accepted 1
+r2 take -> got 1 s1 2 1 2 3 18446744073709551615
+r1 take -> got 1 s1 2 1 2 3 18446744073709551615
+s1 send 0 8 -> accepted 2
+r1 take -> got 2 s1 3 0 8
+s1 send 9 -> full
+r2 take -> got 2 s1 3 0 8
+s1 send 9 -> accepted 3
+r2 take -> got 3 s1 5 9
+r1 take -> got 3 s1 5 9";
 
 /// Groups that get on at different speeds, with takes that stop half-way: after its exchange, which is step 3, a take has its
 /// place in its group's order; step 14 counts its group at the old dummy, which is free once all three have been counted.
@@ -132,7 +166,7 @@ r6 take -> ended 4";
 
 #[test]
 fn groups_take_every_item(rt: HostRuntime) -> Result<(), Fail> {
-    for (config, turns) in [(PAIR, TWO_GROUPS), (TRIPLE, THREE_GROUPS)] {
+    for (config, turns) in [(PAIR, TWO_GROUPS), (PAIR, BODIES), (TRIPLE, THREE_GROUPS)] {
         let mut machine = Machine::open(rt.alloc(), &config).expect(&rt, "opens");
         for line in turns.lines() {
             let (turn, answer) = line.split_once(" -> ").unwrap_or((line, ""));

@@ -1,7 +1,7 @@
 //! Three groups of two receivers, in random orders of single steps. The machine's own history isn't asked: the order of the
 //! calls on each chain, and what a pass can know, are those of the kinds of steps that were done.
 use cc_machine::{Event, Kind, Machine, OpenFault};
-use cc_model::{Answer, Call, CloseAnswer, Config, Item, Pass, SendAnswer, TakeAnswer};
+use cc_model::{Answer, Body, Call, CloseAnswer, Config, Item, Pass, SendAnswer, TakeAnswer};
 use std::alloc::{AllocError, Global};
 use std::test::Fail;
 
@@ -59,12 +59,23 @@ impl Player {
         }
     }
 
+    /// A body of one to four words, none of which another send has.
+    fn body(&self, sender: u32) -> Body {
+        let word = u64::from(sender) << 32 | u64::from(self.sends) << 2;
+        match self.sends % 4 {
+            0 => Body::one(word),
+            1 => Body::two(word, word | 1),
+            2 => Body::three(word, word | 1, word | 2),
+            _ => Body::four(word, word | 1, word | 2, word | 3),
+        }
+    }
+
     /// A receiver takes; a sender sends as often as it may, and then closes.
     fn next_call(&self) -> Call {
         match self.pass {
             Pass::Receiver(_) => Call::Take,
             Pass::Sender(_) if self.sends == CONFIG.per_sender => Call::Close,
-            Pass::Sender(n) => Call::Send(u64::from(n) << 32 | u64::from(self.sends)),
+            Pass::Sender(n) => Call::Send(self.body(n)),
         }
     }
 

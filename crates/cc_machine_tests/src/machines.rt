@@ -1,7 +1,11 @@
 //! The queue as a machine, event by event.
 use cc_machine::{BeginFault, Event, Kind, Machine, OpenFault};
-use cc_model::{Answer, Call, Config, ConfigFault, Entry, Item, Pass, SendAnswer, TakeAnswer};
+use cc_model::{
+    Answer, Body, Call, Config, ConfigFault, Entry, Item, Pass, SendAnswer, TakeAnswer, pack,
+    pack_words, unpack_words,
+};
 use std::alloc::Global;
+use std::process::Abort;
 
 const FIRST_SENDER: Pass = Pass::Sender(1);
 
@@ -11,6 +15,7 @@ const FIRST_RECEIVER: Pass = Pass::Receiver(1);
 
 const SECOND_RECEIVER: Pass = Pass::Receiver(2);
 
+/// The events of a lone send that is accepted, of a body of one word.
 const SEND: [Kind; 28] = [
     Kind::ResetNext,
     Kind::ResetState,
@@ -42,6 +47,10 @@ const SEND: [Kind; 28] = [
     Kind::ReadAnswer,
 ];
 
+/// Those of them at the body, by their places from 0: each is done once for each of its words.
+const SEND_WORDS: [usize; 3] = [4, 9, 17];
+
+/// The events of a lone take that gets a body of one word.
 const TAKE: [Kind; 23] = [
     Kind::ResetNext,
     Kind::ResetState,
@@ -68,6 +77,8 @@ const TAKE: [Kind; 23] = [
     Kind::ReadAnswer,
 ];
 
+const TAKE_WORDS: [usize; 3] = [10, 16, 22];
+
 fn config(senders: u32, receivers: u32, capacity: u32, bound: u32, life: u64) -> Config {
     Config {
         senders,
@@ -84,7 +95,7 @@ fn accepted(place: u64) -> Answer {
     Answer::Send(SendAnswer::Accepted { place })
 }
 
-fn got(place: u64, sender: u32, number: u32, body: u64) -> Answer {
+fn got(place: u64, sender: u32, number: u32, body: Body) -> Answer {
     Answer::Take(TakeAnswer::Got(Item {
         place,
         sender,
@@ -127,31 +138,97 @@ fn has(machine: &Machine, sent: &[Answer], taken: &[Answer]) -> bool {
         && history.takes(0).answers() == taken
 }
 
+/// Does the events of a lone call of a body of so many words: of these kinds, and those at these places once for each
+/// word. How many there were, and at which of them the call was decided.
+fn lone_call(
+    rt: &impl Abort,
+    machine: &mut Machine,
+    pass: Pass,
+    kinds: &[Kind],
+    at_words: &[usize],
+    words: usize,
+) -> (u32, u32) {
+    let mut events: u32 = 0;
+    let mut decided = 0;
+    for (place, kind) in kinds.iter().enumerate() {
+        let times = if at_words.contains(&place) { words } else { 1 };
+        for _ in 0..times {
+            assert_eq!(rt; machine.answer(pass), None);
+            assert_eq!(rt; machine.event(pass), Event::Did(*kind));
+            events = events.wrapping_add(1);
+            if *kind == Kind::LinkLast || *kind == Kind::AddPassed {
+                decided = events;
+            }
+        }
+    }
+    assert_eq!(rt; machine.event(pass), Event::Idle);
+    (events, decided)
+}
+
+/// Nodes that had a longer body before are used again for a shorter one, and the other way round.
 #[test]
 fn lone_calls(rt: HostRuntime) {
-    let mut machine = Machine::open(rt.alloc(), &config(1, 1, 2, 2, 10)).expect(&rt, "opens");
-    assert_eq!(rt; machine.begin(FIRST_SENDER, Call::Send(7)), Ok(()));
-    for kind in SEND {
-        assert_eq!(rt; machine.answer(FIRST_SENDER), None);
-        assert_eq!(rt; machine.event(FIRST_SENDER), Event::Did(kind));
-    }
-    assert_eq!(rt; machine.event(FIRST_SENDER), Event::Idle);
-    assert_eq!(rt; machine.answer(FIRST_SENDER), Some(accepted(0)));
-    assert_eq!(rt; machine.begin(FIRST_RECEIVER, Call::Take), Ok(()));
-    for kind in TAKE {
+    let mut machine = Machine::open(rt.alloc(), &config(1, 1, 1, 2, 10)).expect(&rt, "opens");
+    for (place, number, body, sent, taken) in [
+        (0, 1, Body::four(1, 2, 3, u64::MAX), (37, 29), (32, 17)),
+        (1, 2, Body::one(7), (28, 20), (23, 14)),
+        (2, 3, Body::two(0, 5), (31, 23), (26, 15)),
+        (3, 4, Body::three(8, 0, 9), (34, 26), (29, 16)),
+    ] {
+        let words = body.words().len();
+        assert_eq!(rt; machine.begin(FIRST_SENDER, Call::Send(body)), Ok(()));
+        let events = lone_call(&rt, &mut machine, FIRST_SENDER, &SEND, &SEND_WORDS, words);
+        assert_eq!(rt; events, sent);
+        assert_eq!(rt; machine.answer(FIRST_SENDER), Some(accepted(place)));
+        assert_eq!(rt; machine.begin(FIRST_RECEIVER, Call::Take), Ok(()));
+        let events = lone_call(&rt, &mut machine, FIRST_RECEIVER, &TAKE, &TAKE_WORDS, words);
+        assert_eq!(rt; events, taken);
+        assert_eq!(rt;
+            machine.answer(FIRST_RECEIVER),
+            Some(got(place, 1, number, body))
+        );
         assert_eq!(rt; machine.answer(FIRST_RECEIVER), None);
-        assert_eq!(rt; machine.event(FIRST_RECEIVER), Event::Did(kind));
     }
-    assert_eq!(rt; machine.answer(FIRST_RECEIVER), Some(got(0, 1, 1, 7)));
-    assert_eq!(rt; machine.answer(FIRST_RECEIVER), None);
-    let want = [Entry {
+    let want = [1, 2, 3, 4].map(|known| Entry {
         pass: FIRST_RECEIVER,
         call: Call::Take,
         number: 0,
-        known: 1,
-    }];
+        known,
+    });
     let history = machine.history();
     assert!(rt; history.groups() == 1 && history.takes(0).calls() == &want[..]);
+}
+
+#[test]
+fn bodies_of_one_to_four_words(rt: HostRuntime) {
+    let bodies = [
+        None,
+        Some(Body::one(1)),
+        Some(Body::two(1, 2)),
+        Some(Body::three(1, 2, 3)),
+        Some(Body::four(1, 2, 3, 4)),
+        None,
+    ];
+    for (count, body) in bodies.into_iter().enumerate() {
+        let words = [1, 2, 3, 4, 5].get(..count).unwrap_or(&[]);
+        assert_eq!(rt; Body::new(words), body);
+        if let Some(body) = body {
+            assert_eq!(rt; body.words(), words);
+        }
+    }
+}
+
+#[test]
+fn tags(rt: HostRuntime) {
+    for (sender, number, words, tag) in [
+        (1, 1, 1, 4_294_967_297),
+        (1, 1, 2, 281_479_271_677_953),
+        (64, u32::MAX, 1, 279_172_874_239),
+    ] {
+        assert_eq!(rt; pack_words(sender, number, words), tag);
+        assert_eq!(rt; unpack_words(tag), (sender, number, words));
+    }
+    assert_eq!(rt; pack(1, 1), 4_294_967_297);
 }
 
 #[test]
@@ -159,8 +236,11 @@ fn node_used_again(rt: HostRuntime) {
     let full = Answer::Send(SendAnswer::Full);
     let small = config(2, 1, 1, 2, 10);
     let calls: [(Pass, &[Call]); 3] = [
-        (FIRST_SENDER, &[Call::Send(5)]),
-        (SECOND_SENDER, &[Call::Send(7), Call::Send(8)]),
+        (FIRST_SENDER, &[Call::Send(Body::one(5))]),
+        (
+            SECOND_SENDER,
+            &[Call::Send(Body::one(7)), Call::Send(Body::one(8))],
+        ),
         (FIRST_RECEIVER, &[Call::Take]),
     ];
     let turns = [(0, 100), (2, 13), (1, 20), (2, 1), (1, 100)];
@@ -169,7 +249,7 @@ fn node_used_again(rt: HostRuntime) {
         has(
             &machine,
             &[accepted(0), full, accepted(1)],
-            &[got(0, 1, 1, 5)]
+            &[got(0, 1, 1, Body::one(5))]
         )
     );
 }
@@ -214,7 +294,7 @@ fn machine_refuses(rt: HostRuntime) {
         Err(BeginFault::WrongSide)
     );
     assert_eq!(rt;
-        machine.begin(FIRST_RECEIVER, Call::Send(5)),
+        machine.begin(FIRST_RECEIVER, Call::Send(Body::one(5))),
         Err(BeginFault::WrongSide)
     );
     assert_eq!(rt;
@@ -222,7 +302,10 @@ fn machine_refuses(rt: HostRuntime) {
         Err(BeginFault::WrongSide)
     );
     for place in 0..4 {
-        assert_eq!(rt; machine.begin(FIRST_SENDER, Call::Send(5)), Ok(()));
+        assert_eq!(rt;
+            machine.begin(FIRST_SENDER, Call::Send(Body::one(5))),
+            Ok(())
+        );
         assert_eq!(rt;
             machine.begin(FIRST_SENDER, Call::Close),
             Err(BeginFault::Busy)
@@ -237,7 +320,7 @@ fn machine_refuses(rt: HostRuntime) {
         assert_eq!(rt; machine.answer(FIRST_SENDER), Some(accepted(place)));
     }
     assert_eq!(rt;
-        machine.begin(FIRST_SENDER, Call::Send(5)),
+        machine.begin(FIRST_SENDER, Call::Send(Body::one(5))),
         Err(BeginFault::Worn)
     );
     assert_eq!(rt; machine.begin(FIRST_SENDER, Call::Close), Ok(()));
