@@ -3,10 +3,10 @@ ghost use Rattle.std.specs.Prelude.{◌≡◌, ◌∷◌, []};
 ghost use Rattle.cc_runs.specs.declared.place.Place.{Place};
 ghost use Rattle.cc_runs.specs.declared.place.Kind.{Kind};
 ghost use Rattle.cc_runs.specs.declared.place.Sending.{Sending};
-ghost use Rattle.cc_runs.specs.Codes.{one_word};
+ghost use Rattle.cc_runs.specs.Codes.{slots};
 ghost use Rattle.cc_steps_tests.specs.Lone.{IsAt, sender};
 
-use cc_model::Call;
+use cc_model::{Body, Call};
 use cc_runs::{Chain, ItemField, NodeField, Object};
 use cc_steps::seats::PassSeat;
 use cc_steps::steps;
@@ -25,7 +25,7 @@ pub fn begin(rt: &impl Abort, words: &Words, seat: &mut PassSeat)
     ensures at { IsAt words.now seat.new sender 1 0 Place.ReadState }
     ensures did { seat.new.did ≡ Kind.Link ∷ Kind.WriteRequest ∷ Kind.WriteRequest ∷ Kind.Exchange ∷ Kind.ResetState ∷ Kind.ResetNext ∷ seat.old.did }
 {
-    steps::reset_next(words, seat, Chain::Send, 1, Call::Send(7));
+    steps::reset_next(words, seat, Chain::Send, 1, Call::Send(Body::one(7)));
     steps::reset_state(words, seat, Chain::Send, 1);
     assert!(rt; steps::exchange_tail(words, seat, Chain::Send, 2) == 1);
     steps::write_request(words, seat, 0, NodeField::Tag, TAG);
@@ -36,7 +36,7 @@ pub fn begin(rt: &impl Abort, words: &Words, seat: &mut PassSeat)
 /// Steps 7 to 12: it has to serve, and reads its own request.
 pub fn read(rt: &impl Abort, words: &Words, seat: &mut PassSeat)
     requires at { IsAt words.now seat.old sender 1 0 Place.ReadState }
-    ensures at { IsAt words.now seat.new sender 1 0 (Place.Sending record { round = record { at = 0; served = 0 }; next = 1 } (Sending.ReadCursor record { place = 0; tag = 4294967297; body = one_word 7 })) }
+    ensures at { IsAt words.now seat.new sender 1 0 (Place.Sending record { round = record { at = 0; served = 0 }; next = 1 } (Sending.ReadCursor record { place = 0; tag = 4294967297; body = slots (7 ∷ []) })) }
     ensures did { seat.new.did ≡ Kind.ReadObject ∷ Kind.ReadObject ∷ Kind.ReadRequest ∷ Kind.ReadRequest ∷ Kind.ReadNext ∷ Kind.ReadState ∷ seat.old.did }
 {
     assert!(rt; steps::read_state(words, seat, Chain::Send, 0) == 0);
@@ -49,7 +49,7 @@ pub fn read(rt: &impl Abort, words: &Words, seat: &mut PassSeat)
 
 /// Steps 13 to 18: node 1 is free, and is prepared.
 pub fn prepare(rt: &impl Abort, words: &Words, seat: &mut PassSeat)
-    requires at { IsAt words.now seat.old sender 1 0 (Place.Sending record { round = record { at = 0; served = 0 }; next = 1 } (Sending.ReadCursor record { place = 0; tag = 4294967297; body = one_word 7 })) }
+    requires at { IsAt words.now seat.old sender 1 0 (Place.Sending record { round = record { at = 0; served = 0 }; next = 1 } (Sending.ReadCursor record { place = 0; tag = 4294967297; body = slots (7 ∷ []) })) }
     ensures at { IsAt words.now seat.new sender 1 0 (Place.Sending record { round = record { at = 0; served = 0 }; next = 1 } (Sending.ReadLast 0 1)) }
     ensures did { seat.new.did ≡ Kind.WriteItem ∷ Kind.WriteItem ∷ Kind.ResetListNode ∷ Kind.ResetListNode ∷ Kind.ReadPassed ∷ Kind.ReadObject ∷ seat.old.did }
 {

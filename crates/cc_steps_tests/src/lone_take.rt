@@ -3,7 +3,7 @@ ghost use Rattle.std.specs.Prelude.{◌≡◌, ◌∷◌, []};
 ghost use Rattle.cc_runs.specs.declared.place.Place.{Place};
 ghost use Rattle.cc_runs.specs.declared.place.Kind.{Kind};
 ghost use Rattle.cc_runs.specs.declared.place.Taking.{Taking};
-ghost use Rattle.cc_runs.specs.Codes.{one_word};
+ghost use Rattle.cc_runs.specs.Codes.{slots};
 ghost use Rattle.cc_steps_tests.specs.Lone.{IsAt, receiver};
 
 use cc_model::Call;
@@ -38,7 +38,7 @@ pub fn begin(rt: &impl Abort, words: &Words, seat: &mut PassSeat)
 /// Steps 7 to 12: the node behind the dummy has the item, and is the dummy from now on.
 pub fn take(rt: &impl Abort, words: &Words, seat: &mut PassSeat)
     requires at { IsAt words.now seat.old receiver 0 0 (Place.Taking record { round = record { at = 0; served = 0 }; next = 1 } Taking.ReadHead) }
-    ensures at { IsAt words.now seat.new receiver 0 0 (Place.Taking record { round = record { at = 0; served = 0 }; next = 1 } (Taking.WriteTaken 0 record { place = 0; tag = 4294967297; body = one_word 7 })) }
+    ensures at { IsAt words.now seat.new receiver 0 0 (Place.Taking record { round = record { at = 0; served = 0 }; next = 1 } (Taking.WriteTaken 0 record { place = 0; tag = 4294967297; body = slots (7 ∷ []) })) }
     ensures did { seat.new.did ≡ Kind.WriteObject ∷ Kind.ReadItem ∷ Kind.ReadItem ∷ Kind.ReadDummyNext ∷ Kind.ReadObject ∷ Kind.ReadObject ∷ seat.old.did }
 {
     assert!(rt; steps::read_object(words, seat, Object::Head(0)) == 1);
@@ -51,7 +51,7 @@ pub fn take(rt: &impl Abort, words: &Words, seat: &mut PassSeat)
 
 /// Steps 13 to 18: the old dummy is passed, which decides the take, and the answer is written.
 pub fn answer(rt: &impl Abort, words: &Words, seat: &mut PassSeat)
-    requires at { IsAt words.now seat.old receiver 0 0 (Place.Taking record { round = record { at = 0; served = 0 }; next = 1 } (Taking.WriteTaken 0 record { place = 0; tag = 4294967297; body = one_word 7 })) }
+    requires at { IsAt words.now seat.old receiver 0 0 (Place.Taking record { round = record { at = 0; served = 0 }; next = 1 } (Taking.WriteTaken 0 record { place = 0; tag = 4294967297; body = slots (7 ∷ []) })) }
     ensures at { IsAt words.now seat.new receiver 0 0 (Place.ReadNext record { at = 1; served = 1 }) }
     ensures did { seat.new.did ≡ Kind.MarkDone ∷ Kind.WriteAnswer ∷ Kind.WriteAnswer ∷ Kind.WriteAnswer ∷ Kind.AddPassed ∷ Kind.WriteObject ∷ seat.old.did }
 {

@@ -1,23 +1,23 @@
-//! What the words of three groups hold at their opening, as each pass finds them in its first steps.
-ghost use Rattle.std.specs.Prelude.{◌≡◌, ◌+◌, ◌<◌};
+//! What the words of three groups hold at their opening, as each pass finds them in its first steps; and a body of two words.
+ghost use Rattle.std.specs.Prelude.{◌≡◌, ◌+◌, ◌<◌, ◌∷◌, []};
 ghost use Rattle.cc_runs.specs.declared.place.Place.{Place};
 ghost use Rattle.cc_runs.specs.declared.place.Sending.{Sending};
 ghost use Rattle.cc_runs.specs.declared.place.Taking.{Taking};
 ghost use Rattle.cc_runs.specs.declared.setting.Served.{Served};
 ghost use Rattle.cc_steps.specs.Walk.{fresh, fresh_from};
-ghost use Rattle.cc_runs.specs.Codes.{one_word};
+ghost use Rattle.cc_runs.specs.Codes.{slots};
 ghost use Rattle.cc_steps_tests.specs.Lone.{IsIn, triple, sender, first_of};
 
 use crate::openings::checked;
-use cc_model::{Call, Config};
+use cc_model::{Body, Call, Config};
 use cc_runs::{Chain, ItemField, NodeField, Object};
 use cc_steps::seats::PassSeat;
 use cc_steps::steps;
 use cc_steps::words::Words;
 use std::process::Abort;
 
-/// Sender 1 and its send number 1 as a tag.
-const TAG: u64 = 4_294_967_297;
+/// Sender 1 and its send number 1, of two words, as a tag.
+const TAG: u64 = 281_479_271_677_953;
 
 /// One sender, three groups of two receivers, one item at most.
 const TRIPLE: Config = Config {
@@ -55,35 +55,44 @@ fn find_nothing(rt: &impl Abort, words: &Words, seat: &mut PassSeat, group: u32)
     assert!(rt; steps::read_dummy_next(words, seat, 0) == 0);
 }
 
-/// A send up to its combiner's reads: the tail had node 0, whose state is 0.
+/// A send of two words up to these: the tail had node 0.
 fn enter_sends(rt: &impl Abort, words: &Words, seat: &mut PassSeat)
     requires at { IsIn triple words.now seat.old sender 0 1 Place.Idle }
-    ensures at { IsIn triple words.now seat.new sender 1 0 Place.ReadState }
+    ensures at { IsIn triple words.now seat.new sender 1 0 (Place.WriteBody 1 record { tag = 281479271677953; body = slots (7 ∷ 8 ∷ []) } 0) }
 {
-    steps::reset_next(words, seat, Chain::Send, 1, Call::Send(7));
+    steps::reset_next(words, seat, Chain::Send, 1, Call::Send(Body::two(7, 8)));
     steps::reset_state(words, seat, Chain::Send, 1);
     assert!(rt; steps::exchange_tail(words, seat, Chain::Send, 2) == 1);
     steps::write_request(words, seat, 0, NodeField::Tag, TAG);
+}
+
+/// Both words, and the link behind them.
+fn write_words(words: &Words, seat: &mut PassSeat)
+    requires at { IsIn triple words.now seat.old sender 1 0 (Place.WriteBody 1 record { tag = 281479271677953; body = slots (7 ∷ 8 ∷ []) } 0) }
+    ensures at { IsIn triple words.now seat.new sender 1 0 Place.ReadState }
+{
     steps::write_request(words, seat, 0, NodeField::Body(0), 7);
+    steps::write_request(words, seat, 0, NodeField::Body(1), 8);
     steps::link_next(words, seat, Chain::Send, 0, 2);
 }
 
-/// Nothing was accepted, and the topic is open.
+/// The state of node 0 is 0; nothing was accepted, and the topic is open.
 fn read_objects(rt: &impl Abort, words: &Words, seat: &mut PassSeat)
     requires at { IsIn triple words.now seat.old sender 1 0 Place.ReadState }
-    ensures at { IsIn triple words.now seat.new sender 1 0 (Place.Sending record { round = record { at = 0; served = 0 }; next = 1 } (Sending.ReadCursor record { place = 0; tag = 4294967297; body = one_word 7 })) }
+    ensures at { IsIn triple words.now seat.new sender 1 0 (Place.Sending record { round = record { at = 0; served = 0 }; next = 1 } (Sending.ReadCursor record { place = 0; tag = 281479271677953; body = slots (7 ∷ 8 ∷ []) })) }
 {
     assert!(rt; steps::read_state(words, seat, Chain::Send, 0) == 0);
     assert!(rt; steps::read_next(words, seat, Chain::Send, 0) == 2);
     assert!(rt; steps::read_request(words, seat, 0, NodeField::Tag) == TAG);
     assert!(rt; steps::read_request(words, seat, 0, NodeField::Body(0)) == 7);
+    assert!(rt; steps::read_request(words, seat, 0, NodeField::Body(1)) == 8);
     assert!(rt; steps::read_object(words, seat, Object::Shut) == 0);
     assert!(rt; steps::read_object(words, seat, Object::Count) == 0);
 }
 
 /// Node 1, the only one beside the dummy, is free: it counts as passed by all three groups. The dummy is the last one.
 fn prepare(rt: &impl Abort, words: &Words, seat: &mut PassSeat)
-    requires at { IsIn triple words.now seat.old sender 1 0 (Place.Sending record { round = record { at = 0; served = 0 }; next = 1 } (Sending.ReadCursor record { place = 0; tag = 4294967297; body = one_word 7 })) }
+    requires at { IsIn triple words.now seat.old sender 1 0 (Place.Sending record { round = record { at = 0; served = 0 }; next = 1 } (Sending.ReadCursor record { place = 0; tag = 281479271677953; body = slots (7 ∷ 8 ∷ []) })) }
 {
     assert!(rt; steps::read_object(words, seat, Object::Cursor) == 1);
     assert!(rt; steps::read_passed(words, seat, 1) == 3);
@@ -91,6 +100,7 @@ fn prepare(rt: &impl Abort, words: &Words, seat: &mut PassSeat)
     steps::reset_list_node(words, seat, 1, ItemField::Next);
     steps::write_item(words, seat, 1, ItemField::Tag, TAG);
     steps::write_item(words, seat, 1, ItemField::Body(0), 7);
+    steps::write_item(words, seat, 1, ItemField::Body(1), 8);
     assert!(rt; steps::read_object(words, seat, Object::Last) == 1);
 }
 
@@ -133,6 +143,7 @@ fn first_words_of_three_groups(rt: HostRuntime) {
     let mut senders = opened.senders;
     let mut sender = next_seat(&rt, &words, 0, &mut senders);
     enter_sends(&rt, &words, &mut sender);
+    write_words(&words, &mut sender);
     read_objects(&rt, &words, &mut sender);
     prepare(&rt, &words, &mut sender);
 }
