@@ -1,20 +1,22 @@
 -- Every plan that an input describes is lawful.
-use Rattle.std.proofs.Common.{ℕ, suc, nat_lt, codes, ◌≡◌, ◌≤◌, ◌<◌, ◌-◌, ◌^◌, Bool, true, false, not, cond, List, [], ◌∷◌, length, get_or, All, Option, Some, None, option_map, option_and_then, Result, Ok, Err, IfOk, refl, ap, sym, ◌∙◌, subst, arith}
+use Rattle.std.proofs.Common.{ℕ, suc, nat_lt, codes, ◌≡◌, ◌≤◌, ◌<◌, ◌-◌, ◌*◌, ◌/◌, ◌%◌, ◌^◌, ◌==◌, ◌&&◌, ◌⊎◌, inl, Bool, true, false, not, cond, List, [], ◌∷◌, length, get_or, All, Option, Some, None, option_map, option_and_then, Result, Ok, Err, IfOk, refl, ap, sym, ◌∙◌, subst, arith}
 use Rattle.std.specs.List.{AllByRecursion, position, position_or_len}
 use Rattle.std.proofs.lemmas.List.Elements.{All-from_recursion}
 use Rattle.std.proofs.lemmas.List.Sums.{prefix_len_passes}
 use Rattle.std.proofs.lemmas.Bool.Decides.{nat_tests}
+use Rattle.std.proofs.Math.Nat.{div-add-mod}
 use Rattle.serde_json.specs.Data.{Data}
 use Rattle.serde_json.specs.Find.{get}
 use Rattle.cc_model.specs.Range.{within}
 use Rattle.cc_model.specs.Config.{config_fault}
-use Rattle.cc_plan.specs.Names.{Call, Pass, Plan, PlanFault}
-use Rattle.cc_plan.specs.Json.{elements, pair_of, each, ranged, number_in, whole_number, is_word}
+use Rattle.cc_plan.specs.Names.{Body, Call, Pass, Plan, PlanFault}
+use Rattle.cc_plan.specs.Json.{elements, pair_of, each, ranged, number_in, whole_number, body_as, is_word}
 use Rattle.cc_plan.specs.Refusal.{◌>>=◌, Refusal, wrong_shape, or_range, value_at, tree_of}
 use Rattle.cc_plan.specs.Answers.{Gives}
 use Rattle.cc_plan.specs.Plan.{PlanValue, plan_value}
 use Rattle.cc_plan.specs.PlanShape.{named, has_plan_shape}
-use Rattle.cc_plan.specs.PlanValues.{version_of, counted, call_of, calls_of, senders_of, receivers_of, entry_of, schedule_of}
+use Rattle.cc_plan.specs.PlanValues.{groups_of, counted, call_of, calls_of, senders_of, fill_groups, receivers_of, entry_of, schedule_of}
+use Rattle.cc_plan.specs.Version.{version_in, version_of}
 use Rattle.cc_plan.specs.PlanOf.{config_of, plan_of_values, has_pass, known_passes, with_known_passes, plan_of_tree, plan_of}
 use Rattle.cc_plan.specs.PlanLaws.{IsOfSender, Lawful}
 
@@ -60,6 +62,33 @@ count_within low high d ds e =
     let c = chosen (within low high (length s.0)) s.0 ds s.2 in
     sym (ap (λ (l : List Data). within low high (length l)) c.1) ∙ c.0
 
+-- ---- versions and groups
+
+one_or_two : (v : ℕ) → (1 ≤ v) × (v ≤ 2) → (v ≡ 1) ⊎ (v ≡ 2)
+one_or_two v b = grind (arith, b)
+
+known_version : (o : Option Data) (v : ℕ) → version_in o ≡ Some v → (v ≡ 1) ⊎ (v ≡ 2)
+known_version None v e = inl (cc e)
+known_version (Some d) v e = one_or_two v (bounds 1 2 v (number_within 1 2 d v e))
+
+groups_when : (second : Bool) (version g : ℕ) (o : Option Data) → (version == 2) ≡ second → cond second (option_and_then (number_in 1 8) o) (Some 1) ≡ Some g
+    → (within 1 8 g ≡ true) × (version ≡ 1 → g ≡ 1)
+groups_when true version g o is e =
+    let s = some_step o (number_in 1 8) g e in
+    (number_within 1 8 s.0 g s.2, λ first. absurd (grind (arith, nat_tests, is, first)))
+groups_when false version g o is e = let one : 1 ≡ g = cc e in (ap (within 1 8) (sym one), λ first. sym one)
+
+if_some : {A : Type 0} (b : Bool) (o : Option A) (y : A) → cond b o None ≡ Some y → (b ≡ true) × (o ≡ Some y)
+if_some true o y e = (refl, e)
+if_some false o y e = cc e
+
+both : (b c : Bool) → (b && c) ≡ true → (b ≡ true) × (c ≡ true)
+both true c e = (refl, e)
+both false c e = cc e
+
+whole_groups : (g n : ℕ) → (n % g == 0) ≡ true → n ≡ g * (n / g)
+whole_groups g n none = let no_rest : n % g ≡ 0 = grind (arith, nat_tests, none) in omega (arith, div-add-mod n g, no_rest)
+
 -- ---- lists
 
 each_step : {A : Type 0} (f : Data → Option A) (d : Data) (ds : List Data) (xs : List A) → each f (d ∷ ds) ≡ Some xs
@@ -88,24 +117,25 @@ each_length f [] [] e = refl
 each_length f [] (x ∷ xs) e = cc e
 each_length f (d ∷ ds) xs e = let s = each_step f d ds xs e in ap (λ (n : ℕ). suc n) (each_length f ds s.1 s.3) ∙ ap length s.4
 
--- ---- calls
-
-of_sender : (b : Bool) (o : Option ℕ) (c : Call) → cond b (Some Call.Close) (option_map Call.Send o) ≡ Some c → IsOfSender c
-of_sender true o c e = let same : Call.Close ≡ c = cc e in subst IsOfSender same tt
-of_sender false (Some n) c e = let same : Call.Send n ≡ c = cc e in subst IsOfSender same tt
-of_sender false None c e = cc e
-
-all_of_sender : (d : Data) (calls : List Call) → calls_of d ≡ Some calls → All IsOfSender calls
-all_of_sender d calls e =
-    let s = some_step (counted 0 65536 d) (each call_of) calls e in
-    each_all IsOfSender call_of (λ v c h. of_sender (is_word (codes "close") v) (whole_number v) c h) s.0 calls s.2
-
-few_calls : (d : Data) (calls : List Call) → calls_of d ≡ Some calls → length calls ≤ 65536
-few_calls d calls e =
-    let s = some_step (counted 0 65536 d) (each call_of) calls e in
-    let n = each_length call_of s.0 calls s.2 in
+-- no more than the elements that were counted
+few_each : {A : Type 0} (f : Data → Option A) (d : Data) (xs : List A) → option_and_then (each f) (counted 0 65536 d) ≡ Some xs → length xs ≤ 65536
+few_each f d xs e =
+    let s = some_step (counted 0 65536 d) (each f) xs e in
+    let n = each_length f s.0 xs s.2 in
     let b = bounds 0 65536 (length s.0) (count_within 0 65536 d s.0 s.1) in
     omega arith
+
+-- ---- calls
+
+of_sender : (b : Bool) (o : Option Body) (c : Call) → cond b (Some Call.Close) (option_map Call.Send o) ≡ Some c → IsOfSender c
+of_sender true o c e = let same : Call.Close ≡ c = cc e in subst IsOfSender same tt
+of_sender false (Some body) c e = let same : Call.Send body ≡ c = cc e in subst IsOfSender same tt
+of_sender false None c e = cc e
+
+all_of_sender : (version : ℕ) (d : Data) (calls : List Call) → calls_of version d ≡ Some calls → All IsOfSender calls
+all_of_sender version d calls e =
+    let s = some_step (counted 0 65536 d) (each (call_of version)) calls e in
+    each_all IsOfSender (call_of version) (λ v c h. of_sender (is_word (codes "close") v) (body_as version v) c h) s.0 calls s.2
 
 -- ---- the schedule
 
@@ -140,57 +170,64 @@ known_ones (Some i) q p e = cc e
 
 -- all but that the schedule's passes are there
 record Valued (p : PlanValue) : Type 0 where
+  version : (p.version ≡ 1) ⊎ (p.version ≡ 2)
   config : config_fault p.config ≡ Ok tt
   limit : p.config.per_sender ≡ 2 ^ 32 - 1
-  groups : p.config.groups ≡ 1
+  groups : p.version ≡ 1 → p.config.groups ≡ 1
   senders : length p.senders ≡ p.config.senders
-  receivers : length p.receivers ≡ p.config.receivers
+  receivers : length p.receivers ≡ p.config.groups * p.config.receivers
   calls : All (All IsOfSender) p.senders
   sends : All (λ calls. length calls ≤ 65536) p.senders
   takes : All (λ n. n ≤ 65536) p.receivers
   entries : length p.schedule ≤ 65536
   steps : All (λ e. (1 ≤ e.1) × (e.1 ≤ 100000)) p.schedule
 
-fields_lawful : (senders receivers capacity bound life : ℕ) → within 1 64 senders ≡ true → within 1 64 receivers ≡ true → within 1 4096 capacity ≡ true → within 1 1024 bound ≡ true → within 1 (2 ^ 48) life ≡ true
-    → config_fault (config_of senders receivers capacity bound life) ≡ Ok tt
-fields_lawful senders receivers capacity bound life a b c d e = rw (a, b, c, d, e) refl
+fields_lawful : (groups senders receivers capacity bound life : ℕ) → within 1 8 groups ≡ true → within 1 64 senders ≡ true → within 1 64 receivers ≡ true → within 1 4096 capacity ≡ true → within 1 1024 bound ≡ true → within 1 (2 ^ 48) life ≡ true
+    → config_fault (config_of groups senders receivers capacity bound life) ≡ Ok tt
+fields_lawful groups senders receivers capacity bound life g a b c d e = rw (a, b, c, d, e, g) refl
 
 values_lawful : (d : Data) (p : PlanValue) → plan_of_values d ≡ Ok p → Valued p
 unfolding plan_of_values
 values_lawful d p e =
     let version = ok_step (or_range (codes "version") (version_of d)) _ p e in
-    let capacity = ok_step (value_at (number_in 1 4096) (codes "capacity") d) _ p version.2 in
+    let groups = ok_step (or_range (codes "groups") (groups_of version.0 d)) _ p version.2 in
+    let capacity = ok_step (value_at (number_in 1 4096) (codes "capacity") d) _ p groups.2 in
     let bound = ok_step (value_at (number_in 1 1024) (codes "bound") d) _ p capacity.2 in
     let life = ok_step (value_at (number_in 1 (2 ^ 48)) (codes "life") d) _ p bound.2 in
-    let senders = ok_step (value_at senders_of (codes "senders") d) _ p life.2 in
-    let receivers = ok_step (value_at receivers_of (codes "receivers") d) _ p senders.2 in
+    let senders = ok_step (value_at (senders_of version.0) (codes "senders") d) _ p life.2 in
+    let receivers = ok_step (value_at (receivers_of groups.0) (codes "receivers") d) _ p senders.2 in
     let schedule = ok_step (value_at schedule_of (codes "schedule") d) _ p receivers.2 in
     let capacity_at = at_key (number_in 1 4096) (codes "capacity") d capacity.0 capacity.1 in
     let bound_at = at_key (number_in 1 1024) (codes "bound") d bound.0 bound.1 in
     let life_at = at_key (number_in 1 (2 ^ 48)) (codes "life") d life.0 life.1 in
-    let senders_at = at_key senders_of (codes "senders") d senders.0 senders.1 in
-    let receivers_at = at_key receivers_of (codes "receivers") d receivers.0 receivers.1 in
+    let senders_at = at_key (senders_of version.0) (codes "senders") d senders.0 senders.1 in
+    let receivers_at = at_key (receivers_of groups.0) (codes "receivers") d receivers.0 receivers.1 in
     let schedule_at = at_key schedule_of (codes "schedule") d schedule.0 schedule.1 in
-    let s = some_step (counted 1 64 senders_at.0) (each calls_of) senders.0 senders_at.1 in
-    let r = some_step (counted 1 64 receivers_at.0) (each (number_in 0 65536)) receivers.0 receivers_at.1 in
+    let s = some_step (counted 1 64 senders_at.0) (each (calls_of version.0)) senders.0 senders_at.1 in
+    let r = some_step (elements receivers_at.0) (λ ds. cond (fill_groups groups.0 (length ds)) (each (number_in 0 65536) ds) None) receivers.0 receivers_at.1 in
+    let full = if_some (fill_groups groups.0 (length r.0)) (each (number_in 0 65536) r.0) receivers.0 r.2 in
+    let parts = both (length r.0 % groups.0 == 0) (within 1 64 (length r.0 / groups.0)) full.0 in
+    let all_receivers = each_length (number_in 0 65536) r.0 receivers.0 full.1 in
+    let known = in_range (codes "version") (version_of d) version.0 version.1 in
+    let grouped = groups_when (version.0 == 2) version.0 groups.0 (get (codes "groups") d) refl (in_range (codes "groups") (groups_of version.0 d) groups.0 groups.1) in
     let t = some_step (counted 0 65536 schedule_at.0) (each entry_of) schedule.0 schedule_at.1 in
-    let few = bounds 0 65536 (length t.0) (count_within 0 65536 schedule_at.0 t.0 t.1) in
-    let all_entries = each_length entry_of t.0 schedule.0 t.2 in
     subst Valued (ok_same _ p schedule.2) (record {
-      config = fields_lawful (length senders.0) (length receivers.0) capacity.0 bound.0 life.0
-          (sym (ap (within 1 64) (each_length calls_of s.0 senders.0 s.2)) ∙ count_within 1 64 senders_at.0 s.0 s.1)
-          (sym (ap (within 1 64) (each_length (number_in 0 65536) r.0 receivers.0 r.2)) ∙ count_within 1 64 receivers_at.0 r.0 r.1)
+      version = known_version (get (codes "version") d) version.0 known;
+      config = fields_lawful groups.0 (length senders.0) (length receivers.0 / groups.0) capacity.0 bound.0 life.0
+          grouped.0
+          (sym (ap (within 1 64) (each_length (calls_of version.0) s.0 senders.0 s.2)) ∙ count_within 1 64 senders_at.0 s.0 s.1)
+          (sym (ap (λ (n : ℕ). within 1 64 (n / groups.0)) all_receivers) ∙ parts.1)
           (number_within 1 4096 capacity_at.0 capacity.0 capacity_at.1)
           (number_within 1 1024 bound_at.0 bound.0 bound_at.1)
           (number_within 1 (2 ^ 48) life_at.0 life.0 life_at.1);
       limit = refl;
-      groups = refl;
+      groups = grouped.1;
       senders = refl;
-      receivers = refl;
-      calls = each_all (All IsOfSender) calls_of all_of_sender s.0 senders.0 s.2;
-      sends = each_all (λ calls. length calls ≤ 65536) calls_of few_calls s.0 senders.0 s.2;
-      takes = each_all (λ n. n ≤ 65536) (number_in 0 65536) (λ v n h. (bounds 0 65536 n (number_within 0 65536 v n h)).1) r.0 receivers.0 r.2;
-      entries = omega arith;
+      receivers = whole_groups groups.0 (length receivers.0) (sym (ap (λ (n : ℕ). n % groups.0 == 0) all_receivers) ∙ parts.0);
+      calls = each_all (All IsOfSender) (calls_of version.0) (all_of_sender version.0) s.0 senders.0 s.2;
+      sends = each_all (λ calls. length calls ≤ 65536) (calls_of version.0) (few_each (call_of version.0)) s.0 senders.0 s.2;
+      takes = each_all (λ n. n ≤ 65536) (number_in 0 65536) (λ v n h. (bounds 0 65536 n (number_within 0 65536 v n h)).1) r.0 receivers.0 full.1;
+      entries = few_each entry_of schedule_at.0 schedule.0 schedule_at.1;
       steps = each_all (λ x. (1 ≤ x.1) × (x.1 ≤ 100000)) entry_of entry_steps t.0 schedule.0 t.2;
     })
 
@@ -198,6 +235,7 @@ with_passes : (q p : PlanValue) → Valued q → with_known_passes q ≡ Ok p �
 with_passes q p v e =
     let known = known_ones (position (λ x. not (has_pass q.config x.0)) q.schedule) q p e in
     subst Lawful known.1 (record {
+      version = v.version;
       config = v.config;
       limit = v.limit;
       groups = v.groups;

@@ -1,34 +1,36 @@
 -- The plan of an input, or why there is none.
-use Rattle.std.specs.Prelude.{ℕ, ◌-◌, ◌^◌, Bool, not, List, codes, length, if◌then◌else◌, Option, Some, None, Result, Ok, Err}
+use Rattle.std.specs.Prelude.{ℕ, ◌*◌, ◌/◌, ◌-◌, ◌^◌, Bool, not, List, codes, length, if◌then◌else◌, Option, Some, None, Result, Ok, Err}
 use Rattle.std.specs.List.{position}
 use Rattle.serde_json.specs.Data.{Data}
 use Rattle.cc_model.specs.Range.{within}
 use Rattle.cc_plan.specs.Names.{Config, Pass}
 use Rattle.cc_plan.specs.Json.{number_in}
 use Rattle.cc_plan.specs.PlanShape.{has_plan_shape}
-use Rattle.cc_plan.specs.PlanValues.{senders_of, receivers_of, schedule_of, version_of}
+use Rattle.cc_plan.specs.PlanValues.{groups_of, senders_of, receivers_of, schedule_of}
+use Rattle.cc_plan.specs.Version.{version_of}
 use Rattle.cc_plan.specs.Refusal.{◌>>=◌, Refusal, wrong_shape, unknown_pass, or_range, value_at, tree_of}
 use Rattle.cc_plan.specs.Plan.{PlanValue}
 
-abbrev pub config_of : (senders receivers capacity bound life : ℕ) → Config
-config_of senders receivers capacity bound life = record { senders = senders; receivers = receivers; capacity = capacity; bound = bound; life = life; per_sender = 2 ^ 32 - 1; groups = 1 }
+abbrev pub config_of : (groups senders receivers capacity bound life : ℕ) → Config
+config_of groups senders receivers capacity bound life = record { senders = senders; receivers = receivers; capacity = capacity; bound = bound; life = life; per_sender = 2 ^ 32 - 1; groups = groups }
 
 -- the values in their ranges; of several out of range the first in this order is told
 unfoldable pub plan_of_values : Data → Result PlanValue Refusal
 plan_of_values d = do
   version ← or_range (codes "version") (version_of d)
+  groups ← or_range (codes "groups") (groups_of version d)
   capacity ← value_at (number_in 1 4096) (codes "capacity") d
   bound ← value_at (number_in 1 1024) (codes "bound") d
   life ← value_at (number_in 1 (2 ^ 48)) (codes "life") d
-  senders ← value_at senders_of (codes "senders") d
-  receivers ← value_at receivers_of (codes "receivers") d
+  senders ← value_at (senders_of version) (codes "senders") d
+  receivers ← value_at (receivers_of groups) (codes "receivers") d
   schedule ← value_at schedule_of (codes "schedule") d
-  Ok (record { config = config_of (length senders) (length receivers) capacity bound life; senders = senders; receivers = receivers; schedule = schedule })
+  Ok (record { version = version; config = config_of groups (length senders) (length receivers / groups) capacity bound life; senders = senders; receivers = receivers; schedule = schedule })
 
--- the configuration has this pass
+-- the configuration has this pass; the receivers of all groups are numbered through
 abbrev pub has_pass : Config → Pass → Bool
 has_pass c (Pass.Sender s) = within 1 c.senders s
-has_pass c (Pass.Receiver r) = within 1 c.receivers r
+has_pass c (Pass.Receiver r) = within 1 (c.groups * c.receivers) r
 
 abbrev pub known_passes : Option ℕ → PlanValue → Result PlanValue Refusal
 known_passes None p = Ok p

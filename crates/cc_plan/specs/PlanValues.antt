@@ -1,10 +1,10 @@
 -- The values of a plan's tree that has its shape, in their ranges.
-use Rattle.std.specs.Prelude.{ℕ, List, codes, length, if◌then◌else◌, Option, Some, None, option_map, unwrap_or}
+use Rattle.std.specs.Prelude.{ℕ, ◌==◌, ◌/◌, ◌%◌, ◌&&◌, Bool, List, codes, length, if◌then◌else◌, Option, Some, None, option_map, option_and_then}
 use Rattle.serde_json.specs.Data.{Data}
 use Rattle.serde_json.specs.Find.{get}
 use Rattle.cc_model.specs.Range.{within}
 use Rattle.cc_plan.specs.Names.{Call, Pass}
-use Rattle.cc_plan.specs.Json.{◌>>=◌, elements, pair_of, each, is_word, whole_number, number_in}
+use Rattle.cc_plan.specs.Json.{◌>>=◌, elements, pair_of, each, is_word, number_in, body_as}
 use Rattle.cc_plan.specs.PlanShape.{named}
 
 -- so many elements as the range allows
@@ -13,24 +13,33 @@ counted low high d = do
   ds ← elements d
   if within low high (length ds) then Some ds else None
 
--- close, or a send of any 64-bit number
-abbrev pub call_of : Data → Option Call
-call_of d = if is_word (codes "close") d then Some Call.Close else option_map Call.Send (whole_number d)
+-- in how many groups the receivers are: in version 1 in one
+abbrev pub groups_of : (version : ℕ) → Data → Option ℕ
+groups_of version d = if version == 2 then option_and_then (number_in 1 8) (get (codes "groups") d) else Some 1
 
-abbrev pub calls_of : Data → Option (List Call)
-calls_of d = do
+-- close, or a send of a body
+abbrev pub call_of : (version : ℕ) → Data → Option Call
+call_of version d = if is_word (codes "close") d then Some Call.Close else option_map Call.Send (body_as version d)
+
+abbrev pub calls_of : (version : ℕ) → Data → Option (List Call)
+calls_of version d = do
   ds ← counted 0 65536 d
-  each call_of ds
+  each (call_of version) ds
 
-abbrev pub senders_of : Data → Option (List (List Call))
-senders_of d = do
+abbrev pub senders_of : (version : ℕ) → Data → Option (List (List Call))
+senders_of version d = do
   ds ← counted 1 64 d
-  each calls_of ds
+  each (calls_of version) ds
 
-abbrev pub receivers_of : Data → Option (List ℕ)
-receivers_of d = do
-  ds ← counted 1 64 d
-  each (number_in 0 65536) ds
+-- so many receivers make up the groups: in each are as many as in the others, 1 to 64
+abbrev pub fill_groups : (groups count : ℕ) → Bool
+fill_groups groups count = (count % groups == 0) && within 1 64 (count / groups)
+
+-- how often each takes, group by group
+abbrev pub receivers_of : (groups : ℕ) → Data → Option (List ℕ)
+receivers_of groups d = do
+  ds ← elements d
+  if fill_groups groups (length ds) then each (number_in 0 65536) ds else None
 
 abbrev pub entry_of : Data → Option (Pass × ℕ)
 entry_of d = do
@@ -44,7 +53,3 @@ abbrev pub schedule_of : Data → Option (List (Pass × ℕ))
 schedule_of d = do
   ds ← counted 0 65536 d
   each entry_of ds
-
--- version 1, which is also meant where none is given
-abbrev pub version_of : Data → Option ℕ
-version_of d = unwrap_or (option_map (number_in 1 1) (get (codes "version") d)) (Some 1)

@@ -18,12 +18,15 @@ use std::alloc::Global;
 /// What is to be played.
 #[derive(Drop)]
 pub struct Plan {
-    /// A lawful configuration of one group, with as many senders and receivers as the next two lists have elements. Each
-    /// sender may send up to 2^32 - 1 times.
+    /// The version of its format, 1 or 2.
+    pub version: u32,
+    /// A lawful configuration, with as many senders, and in all groups as many receivers, as the next two lists have
+    /// elements; in version 1 of one group. Each sender may send up to 2^32 - 1 times.
     pub config: Config,
-    /// The calls of each of the 1 to 64 senders, at most 65,536 sends and closes each, in their order.
+    /// The calls of each of the 1 to 64 senders, at most 65,536 sends and closes each, in their order. In version 1 each
+    /// body is of one word.
     pub senders: Vec<Vec<Call>>,
-    /// How often each of the 1 to 64 receivers takes, at most 65,536 times.
+    /// How often each receiver takes, at most 65,536 times: group by group the 1 to 64 of each.
     pub receivers: Vec<u32>,
     /// Who goes on next, by up to how many steps, from 1 to 100,000. At most 65,536 entries.
     pub schedule: Vec<(Pass, u32)>,
@@ -83,6 +86,9 @@ fn has_pass(config: &Config, pass: Pass) -> bool
 {
     match pass {
         Pass::Sender(s) => is_within(u64::from(s), 1, u64::from(config.senders)),
-        Pass::Receiver(r) => is_within(u64::from(r), 1, u64::from(config.receivers)),
+        Pass::Receiver(r) => {
+            let receivers = u64::from(config.groups) * u64::from(config.receivers);
+            is_within(u64::from(r), 1, receivers)
+        }
     }
 }

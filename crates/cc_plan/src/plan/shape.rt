@@ -4,59 +4,84 @@ ghost use Rattle.std.specs.List.{list_all};
 ghost use Rattle.std.specs.Char.{is_ascii_digit};
 ghost use Rattle.serde_json.specs.View.{view};
 ghost use Rattle.cc_plan.specs.Json.{is_list_of, is_number, has_only, has, may_have};
-ghost use Rattle.cc_plan.specs.PlanShape.{is_call, is_pass_number, pass_number, numbered, pass_of, named, is_entry, is_plan_key, has_plan_shape};
+ghost use Rattle.cc_plan.specs.PlanShape.{is_call, is_pass_number, pass_number, numbered, pass_of, named, is_entry, is_plan_key, has_groups, has_numbers, has_lists, has_plan_shape};
 
-use crate::json::{elements, has_only, is_list_of, is_number, is_numbers, is_word, pair};
+use crate::json::{elements, has_only, is_body, is_list_of, is_number, is_numbers, is_word, pair};
+use crate::version::table;
 use cc_model::{Pass, is_within};
 use serde_json::Value;
 
-/// Whether the tree is an object of a plan's keys, each but `version` there, with values of their shapes.
+/// Whether the tree is an object of the keys of its table, each but `version` there, with values of their shapes.
 #[tactic(auto, unfolding(crate::specs::PlanShape::has_plan_shape))]
 pub fn has_plan_shape(tree: &Value) -> bool
     ensures { result ≡ has_plan_shape (view tree.now) }
 {
-    has_plan_keys(tree)
-        && tree.get("version").is_none_or(is_number)
-        && tree.get("capacity").is_some_and(is_number)
-        && tree.get("bound").is_some_and(is_number)
-        && tree.get("life").is_some_and(is_number)
-        && tree.get("senders").is_some_and(is_senders)
-        && tree.get("receivers").is_some_and(is_numbers)
-        && tree.get("schedule").is_some_and(is_schedule)
+    let version = table(tree);
+    has_plan_keys(tree, version) && has_numbers(tree, version) && has_lists(tree, version)
 }
 
-fn has_plan_keys(tree: &Value) -> bool
-    ensures { result ≡ has_only is_plan_key (view tree.now) }
+fn has_plan_keys(tree: &Value, version: u32) -> bool
+    ensures { result ≡ has_only (is_plan_key version) (view tree.now) }
 {
-    has_only(tree, is_plan_key)
+    has_only(tree, |key| is_plan_key(key, version))
 }
 
-fn is_plan_key(key: &str) -> bool
-    ensures { result ≡ is_plan_key key.now }
+/// Whether a plan of this version may have the key.
+fn is_plan_key(key: &str, version: u32) -> bool
+    ensures { result ≡ is_plan_key version key.now }
 {
     matches!(
         key,
         "version" | "capacity" | "bound" | "life" | "senders" | "receivers" | "schedule"
-    )
+    ) || (version == 2 && key == "groups")
 }
 
-/// Whether the value is a number or the text `close`.
-fn is_call(value: &Value) -> bool
-    ensures { result ≡ is_call (view value.now) }
+/// Whether each key but those of the lists has a number, where it has to be there.
+#[tactic(auto, unfolding(crate::specs::PlanShape::has_numbers))]
+fn has_numbers(tree: &Value, version: u32) -> bool
+    ensures { result ≡ has_numbers version (view tree.now) }
 {
-    is_number(value) || is_word(value, "close")
+    tree.get("version").is_none_or(is_number)
+        && has_groups(tree, version)
+        && tree.get("capacity").is_some_and(is_number)
+        && tree.get("bound").is_some_and(is_number)
+        && tree.get("life").is_some_and(is_number)
 }
 
-fn is_calls(value: &Value) -> bool
-    ensures { result ≡ is_list_of is_call (view value.now) }
+/// Whether there is a number of groups, where the version has groups.
+fn has_groups(tree: &Value, version: u32) -> bool
+    ensures { result ≡ has_groups version (view tree.now) }
 {
-    is_list_of(value, is_call)
+    version != 2 || tree.get("groups").is_some_and(is_number)
 }
 
-fn is_senders(value: &Value) -> bool
-    ensures { result ≡ is_list_of (is_list_of is_call) (view value.now) }
+/// Whether each of the lists is there, and has its shape.
+#[tactic(auto, unfolding(crate::specs::PlanShape::has_lists))]
+fn has_lists(tree: &Value, version: u32) -> bool
+    ensures { result ≡ has_lists version (view tree.now) }
 {
-    is_list_of(value, is_calls)
+    tree.get("senders").is_some_and(|v| is_senders(v, version))
+        && tree.get("receivers").is_some_and(is_numbers)
+        && tree.get("schedule").is_some_and(is_schedule)
+}
+
+/// Whether the value is a body or the text `close`.
+fn is_call(value: &Value, version: u32) -> bool
+    ensures { result ≡ is_call version (view value.now) }
+{
+    is_body(value, version) || is_word(value, "close")
+}
+
+fn is_calls(value: &Value, version: u32) -> bool
+    ensures { result ≡ is_list_of (is_call version) (view value.now) }
+{
+    is_list_of(value, |v| is_call(v, version))
+}
+
+fn is_senders(value: &Value, version: u32) -> bool
+    ensures { result ≡ is_list_of (is_list_of (is_call version)) (view value.now) }
+{
+    is_list_of(value, |v| is_calls(v, version))
 }
 
 /// Whether the value is a pass name and a number.

@@ -1,17 +1,18 @@
 //! The values of a plan's tree that has its shape.
-ghost use Rattle.std.specs.Prelude.{◌≡◌, ◌≤◌, IfOk, IfSome, codes, map, option_map, option_and_then, length};
+ghost use Rattle.std.specs.Prelude.{◌≡◌, ◌≤◌, IfOk, IfSome, codes, map, option_map, option_and_then, length, true, ◌/◌};
 ghost use Rattle.serde_json.specs.Find.{get};
 ghost use Rattle.serde_json.specs.View.{view};
 ghost use Rattle.cc_plan.specs.Json.{each, number_in};
 ghost use Rattle.cc_plan.specs.Answers.{Gives};
 ghost use Rattle.cc_plan.specs.Plan.{plan_value};
 ghost use Rattle.cc_plan.specs.PlanOf.{plan_of_values};
-ghost use Rattle.cc_plan.specs.PlanValues.{counted, call_of, calls_of, senders_of, receivers_of, entry_of, schedule_of, version_of};
+ghost use Rattle.cc_plan.specs.PlanValues.{counted, groups_of, call_of, calls_of, senders_of, fill_groups, receivers_of, entry_of, schedule_of};
 
 use super::Plan;
 use super::shape::named;
 use crate::fault::PlanFault;
-use crate::json::{each, elements, is_word, number_in, pair};
+use crate::json::{body_as, each, elements, is_word, number_in, pair};
+use crate::version::version;
 use cc_model::{Call, Config, Pass, is_within};
 use serde_json::Value;
 use std::alloc::{AllocError, Global};
@@ -21,37 +22,25 @@ use std::alloc::{AllocError, Global};
 pub fn values(alloc: Global, tree: &Value) -> Result<Plan, PlanFault>
     ensures { Gives plan_value result (plan_of_values (view tree.now)) }
 {
-    let Some(_) = version(tree) else {
-        return Err(PlanFault::P3("version"));
-    };
-    let Some(capacity) = number_at(tree, "capacity", 4096) else {
-        return Err(PlanFault::P3("capacity"));
-    };
-    let Some(bound) = number_at(tree, "bound", 1024) else {
-        return Err(PlanFault::P3("bound"));
-    };
-    let Some(life) = number_at(tree, "life", 1 << 48) else {
-        return Err(PlanFault::P3("life"));
-    };
-    let Some(senders) = senders(alloc, tree)? else {
-        return Err(PlanFault::P3("senders"));
-    };
-    let Some(receivers) = receivers(alloc, tree)? else {
-        return Err(PlanFault::P3("receivers"));
-    };
-    let Some(schedule) = schedule(alloc, tree)? else {
-        return Err(PlanFault::P3("schedule"));
-    };
+    let version = version(tree).ok_or(PlanFault::P3("version"))?;
+    let groups = groups(tree, version).ok_or(PlanFault::P3("groups"))?;
+    let capacity = number_at(tree, "capacity", 4096).ok_or(PlanFault::P3("capacity"))?;
+    let bound = number_at(tree, "bound", 1024).ok_or(PlanFault::P3("bound"))?;
+    let life = number_at(tree, "life", 1 << 48).ok_or(PlanFault::P3("life"))?;
+    let senders = senders(alloc, tree, version)?.ok_or(PlanFault::P3("senders"))?;
+    let receivers = receivers(alloc, tree, groups)?.ok_or(PlanFault::P3("receivers"))?;
+    let schedule = schedule(alloc, tree)?.ok_or(PlanFault::P3("schedule"))?;
     let config = Config {
         senders: senders.len() as u32,
-        receivers: receivers.len() as u32,
+        receivers: (receivers.len() / groups) as u32,
         capacity: capacity as u32,
         bound: bound as u32,
         life,
         per_sender: u32::MAX,
-        groups: 1,
+        groups: groups as u32,
     };
     Ok(Plan {
+        version,
         config,
         senders,
         receivers,
@@ -59,20 +48,22 @@ pub fn values(alloc: Global, tree: &Value) -> Result<Plan, PlanFault>
     })
 }
 
-/// Version 1, which is also meant where none is given.
-fn version(tree: &Value) -> Option<u64>
-    ensures { result ≡ version_of (view tree.now) }
+/// In how many groups the receivers are: in version 1 in one.
+fn groups(tree: &Value, version: u32) -> Option<usize>
+    ensures value { result ≡ groups_of version (view tree.now) }
+    ensures range { IfSome result (λ n. (1 ≤ n) × (n ≤ 8)) }
 {
-    match tree.get("version") {
-        Some(value) => number_in(value, 1, 1),
-        None => Some(1),
+    if version == 2 {
+        Some(number_at(tree, "groups", 8)? as usize)
+    } else {
+        Some(1)
     }
 }
 
 /// The whole number at the key, from 1 to a limit.
 fn number_at(tree: &Value, key: &str, high: u64) -> Option<u64>
     ensures value { result ≡ option_and_then (number_in 1 high) (get key.now (view tree.now)) }
-    ensures range { IfSome result (λ n. n ≤ high) }
+    ensures range { IfSome result (λ n. (1 ≤ n) × (n ≤ high)) }
 {
     number_in(tree.get(key)?, 1, high)
 }
@@ -91,25 +82,29 @@ fn counted(value: &Value, low: u64, high: u64) -> Option<&[Value]>
 }
 
 /// What each sender calls, in its order.
-fn senders(alloc: Global, tree: &Value) -> Result<Option<Vec<Vec<Call>>>, AllocError>
+fn senders(alloc: Global, tree: &Value, version: u32) -> Result<Option<Vec<Vec<Call>>>, AllocError>
     ensures value { IfOk result (λ all. option_map (λ v. map (λ c. c.items) v.items) all
-        ≡ option_and_then senders_of (get (codes "senders") (view tree.now))) }
+        ≡ option_and_then (senders_of version) (get (codes "senders") (view tree.now))) }
     ensures range { IfOk result (λ all. IfSome all (λ v. length v.items ≤ 64)) }
 {
     let Some(list) = tree.get("senders").and_then(|v| counted(v, 1, 64)) else {
         return Ok(None);
     };
-    each_calls(alloc, list)
+    each_calls(alloc, list, version)
 }
 
-fn each_calls(alloc: Global, list: &[Value]) -> Result<Option<Vec<Vec<Call>>>, AllocError>
+fn each_calls(
+    alloc: Global,
+    list: &[Value],
+    version: u32,
+) -> Result<Option<Vec<Vec<Call>>>, AllocError>
     ensures value { IfOk result (λ all. option_map (λ v. map (λ c. c.items) v.items) all
-        ≡ each calls_of (map view list.now)) }
+        ≡ each (calls_of version) (map view list.now)) }
     ensures count { IfOk result (λ all. IfSome all (λ v. length v.items ≡ length list.now)) }
 {
     let mut all = Vec::new(alloc);
     for element in list {
-        let Some(calls) = calls(alloc, element)? else {
+        let Some(calls) = calls(alloc, element, version)? else {
             return Ok(None);
         };
         all.push(calls)?;
@@ -118,35 +113,48 @@ fn each_calls(alloc: Global, list: &[Value]) -> Result<Option<Vec<Vec<Call>>>, A
 }
 
 /// The calls of one sender.
-fn calls(alloc: Global, value: &Value) -> Result<Option<Vec<Call>>, AllocError>
-    ensures { IfOk result (λ all. option_map (λ v. v.items) all ≡ calls_of (view value.now)) }
+fn calls(alloc: Global, value: &Value, version: u32) -> Result<Option<Vec<Call>>, AllocError>
+    ensures { IfOk result (λ all. option_map (λ v. v.items) all ≡ calls_of version (view value.now)) }
 {
     let Some(list) = counted(value, 0, 65_536) else {
         return Ok(None);
     };
-    each(alloc, list, call)
+    each(alloc, list, |v| call(v, version))
 }
 
-/// `close`, or a send of any 64-bit number.
-fn call(value: &Value) -> Option<Call>
-    ensures { result ≡ call_of (view value.now) }
+/// `close`, or a send of a body.
+fn call(value: &Value, version: u32) -> Option<Call>
+    ensures { result ≡ call_of version (view value.now) }
 {
     if is_word(value, "close") {
         return Some(Call::Close);
     }
-    Some(Call::Send(value.as_u64()?))
+    Some(Call::Send(body_as(value, version)?))
 }
 
-/// How often each receiver takes.
-fn receivers(alloc: Global, tree: &Value) -> Result<Option<Vec<u32>>, AllocError>
+/// How often each receiver takes, group by group.
+fn receivers(alloc: Global, tree: &Value, groups: usize) -> Result<Option<Vec<u32>>, AllocError>
+    requires { 1 ≤ groups }
     ensures value { IfOk result (λ all. option_map (λ v. v.items) all
-        ≡ option_and_then receivers_of (get (codes "receivers") (view tree.now))) }
-    ensures range { IfOk result (λ all. IfSome all (λ v. length v.items ≤ 64)) }
+        ≡ option_and_then (receivers_of groups) (get (codes "receivers") (view tree.now))) }
+    ensures range { IfOk result (λ all. IfSome all (λ v. length v.items / groups ≤ 64)) }
 {
-    let Some(list) = tree.get("receivers").and_then(|v| counted(v, 1, 64)) else {
+    let Some(list) = tree.get("receivers").and_then(elements) else {
         return Ok(None);
     };
+    if !fill_groups(list.len(), groups) {
+        return Ok(None);
+    }
     each(alloc, list, takes)
+}
+
+/// Whether so many receivers make up the groups: in each as many as in the others, 1 to 64.
+fn fill_groups(count: usize, groups: usize) -> bool
+    requires { 1 ≤ groups }
+    ensures value { result ≡ fill_groups groups count }
+    ensures range { result ≡ true → count / groups ≤ 64 }
+{
+    count % groups == 0 && is_within((count / groups) as u64, 1, 64)
 }
 
 fn takes(value: &Value) -> Option<u32>

@@ -4,4 +4,4 @@ use Rattle.cc_plan.specs.PlanShape.{is_call}
 use Rattle.cc_plan.proofs.plan.shape.is_senders.Goals as goal
 
 pub returns : goal.returns
-returns c = c.is_list_of.ensures (is_list_of is_call) (λ x b k. search rules)
+returns c = c.is_list_of.ensures (is_list_of (is_call c.args.version)) (λ x b k. search rules)

@@ -5,13 +5,13 @@ use Rattle.cc_plan.proofs.Each.{gives_none, gives_some, gave_all}
 use Rattle.cc_plan.proofs.plan.values.each_calls.Goals as goal
 
 pub returns-in_default-clause-value : goal.returns-in_default-clause-value
-returns-in_default-clause-value c = gives_none calls_of c.args.list.now c.loop-element.element-index c.element-item.result (map (λ v. v.items) c.loop-element.all.items) _ (omega arith) c.element-item.is
+returns-in_default-clause-value c = gives_none (calls_of c.args.version) c.args.list.now c.loop-element.element-index c.element-item.result (map (λ v. v.items) c.loop-element.all.items) _ (omega arith) c.element-item.is
     (rw c.in_default.is at c.in_ok-calls.ensures)
     c.loop-element.invariant.gives
 
 pub loop-element-preserved : goal.loop-element-preserved
 loop-element-preserved c = record {
-  gives = gives_some calls_of c.args.list.now c.loop-element.element-index c.element-item.result (map (λ v. v.items) c.loop-element.all.items) (map (λ v. v.items) c.push.new.self.items) c.in-Some.calls.items _ (omega arith) c.element-item.is
+  gives = gives_some (calls_of c.args.version) c.args.list.now c.loop-element.element-index c.element-item.result (map (λ v. v.items) c.loop-element.all.items) (map (λ v. v.items) c.push.new.self.items) c.in-Some.calls.items _ (omega arith) c.element-item.is
       (rw c.in-Some.is at c.in_ok-calls.ensures)
       (ap (map (λ v. v.items)) c.in_ok-push.ensures.items ∙ map-append (λ v. v.items) c.loop-element.all.items _)
       c.loop-element.invariant.gives;
@@ -20,6 +20,6 @@ loop-element-preserved c = record {
 
 pub returns : goal.returns
 returns c = record {
-  value = gave_all calls_of c.args.list.now c.loop-element.element-index (map (λ v. v.items) c.loop-element.all.items) _ (omega arith) c.loop-element.invariant.gives;
+  value = gave_all (calls_of c.args.version) c.args.list.now c.loop-element.element-index (map (λ v. v.items) c.loop-element.all.items) _ (omega arith) c.loop-element.invariant.gives;
   count = omega arith;
 }

@@ -7,6 +7,6 @@ use Rattle.cc_plan.proofs.plan.values.each_calls.Given as goal
 -- what was gathered before what the rest gives is what all give
 abbrev pub invariant-loop-element : goal.invariant-loop-element
 invariant-loop-element l = record {
-  gives : option_map (λ xs. map (λ c. c.items) l.all.items ++ xs) (each calls_of (map view (drop l.element-index l.list))) ≡ each calls_of (map view l.list);
+  gives : option_map (λ xs. map (λ c. c.items) l.all.items ++ xs) (each (calls_of l.fn.version) (map view (drop l.element-index l.list))) ≡ each (calls_of l.fn.version) (map view l.list);
   count : length l.all.items ≡ l.element-index;
 }
