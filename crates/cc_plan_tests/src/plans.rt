@@ -1,6 +1,6 @@
 //! Plans by their bytes.
 use crate::words::words;
-use cc_model::{Call, Config, Pass};
+use cc_model::{Body, Call, Config, Pass};
 use cc_plan::{INPUT_LIMIT, Plan, PlanFault, read_plan, read_receipts};
 use std::alloc::{AllocError, Global};
 use std::test::Fail;
@@ -15,6 +15,18 @@ const KEYS: [(&str, &str); 6] = [
     ("schedule", "[[\"s1\",100],[\"r1\",100]]"),
 ];
 
+/// The keys of a plan of version 2, with a send of a body of two words and a take in each of two groups, and their values.
+const KEYS_OF_GROUPS: [(&str, &str); 8] = [
+    ("version", "2"),
+    ("groups", "2"),
+    ("capacity", "2"),
+    ("bound", "2"),
+    ("life", "10"),
+    ("senders", "[[[7,8]]]"),
+    ("receivers", "[1,1]"),
+    ("schedule", "[[\"s1\",100],[\"r1\",100],[\"r2\",100]]"),
+];
+
 fn add_key(text: &mut String, key: &str, value: &str) -> Result<(), AllocError> {
     text.push_str(if text.is_empty() { "{\"" } else { ",\"" })?;
     text.push_str(key)?;
@@ -22,12 +34,17 @@ fn add_key(text: &mut String, key: &str, value: &str) -> Result<(), AllocError> 
     text.push_str(value)
 }
 
-/// The plan with one value changed or added, or, where the value is empty, with its key left out.
-fn changed(alloc: Global, changed_key: &str, changed_value: &str) -> Result<String, AllocError> {
+/// The plan of these keys with one value changed or added, or, where the value is empty, with its key left out.
+fn changed(
+    alloc: Global,
+    keys: &[(&str, &str)],
+    changed_key: &str,
+    changed_value: &str,
+) -> Result<String, AllocError> {
     let mut text = String::new(alloc);
     let mut found = false;
-    for (key, value) in KEYS {
-        if key != changed_key {
+    for (key, value) in keys {
+        if *key != changed_key {
             add_key(&mut text, key, value)?;
             continue;
         }
@@ -59,6 +76,7 @@ fn a_plan_is_read(rt: HostRuntime) -> Result<(), Fail> {
     assert!(rt; plan.is_ok());
     let Ok(
         Plan {
+            version,
             config,
             senders,
             receivers,
@@ -77,11 +95,16 @@ fn a_plan_is_read(rt: HostRuntime) -> Result<(), Fail> {
         per_sender: u32::MAX,
         groups: 1,
     };
+    assert_eq!(rt; version, 1);
     assert_eq!(rt; config, wanted);
     assert_eq!(rt; senders.len(), 2);
     for (i, calls) in senders.iter().enumerate() {
         let wanted: &[Call] = if i == 0 {
-            &[Call::Send(5), Call::Close, Call::Send(u64::MAX)]
+            &[
+                Call::Send(Body::one(5)),
+                Call::Close,
+                Call::Send(Body::one(u64::MAX)),
+            ]
         } else {
             &[]
         };
@@ -97,16 +120,69 @@ fn a_plan_is_read(rt: HostRuntime) -> Result<(), Fail> {
     Ok(())
 }
 
+#[test]
+fn a_plan_of_groups_is_read(rt: HostRuntime) -> Result<(), Fail> {
+    let input =
+        "{\"schedule\":[[\"r6\",1]],\"receivers\":[0,1,2,3,4,65536],\"senders\":[[[5],\"close\",[1,2,3]],[[1,2,3,18446744073709551615],[7,8]]],\"life\":9,\"bound\":8,\"capacity\":7,\"groups\":3,\"version\":2}";
+    let plan = read_plan(rt.alloc(), input.as_bytes());
+    assert!(rt; plan.is_ok());
+    let Ok(
+        Plan {
+            version,
+            config,
+            senders,
+            receivers,
+            schedule,
+        },
+    ) = plan
+    else {
+        return Ok(());
+    };
+    let wanted = Config {
+        senders: 2,
+        receivers: 2,
+        capacity: 7,
+        bound: 8,
+        life: 9,
+        per_sender: u32::MAX,
+        groups: 3,
+    };
+    assert_eq!(rt; version, 2);
+    assert_eq!(rt; config, wanted);
+    assert_eq!(rt; senders.len(), 2);
+    for (i, calls) in senders.iter().enumerate() {
+        let wanted: &[Call] = if i == 0 {
+            &[
+                Call::Send(Body::one(5)),
+                Call::Close,
+                Call::Send(Body::three(1, 2, 3)),
+            ]
+        } else {
+            &[
+                Call::Send(Body::four(1, 2, 3, u64::MAX)),
+                Call::Send(Body::two(7, 8)),
+            ]
+        };
+        assert_eq!(rt; calls.as_slice(), wanted);
+    }
+    assert_eq!(rt; receivers.as_slice(), [0, 1, 2, 3, 4, 65_536].as_slice());
+    assert_eq!(rt; schedule.as_slice(), [(Pass::Receiver(6), 1)].as_slice());
+    Ok(())
+}
+
 /// Changes of one value, and what is answered. A key without a value is left out.
 const CHANGES: &str = r#"capacity 2 => read
 version 1 => read
-version 2 => P3 version
+version 2 => P2
+version 3 => P3 version
 version 0 => P3 version
+version 2.0 => P3 version
 version "1" => P2
 version null => P2
 x 1 => P2
 capacit\u0079s 1 => P2
 total 1 => P2
+groups 1 => P2
 capacity 1 => read
 capacity 4096 => read
 capacity 0 => P3 capacity
@@ -175,18 +251,85 @@ senders  => P2
 receivers  => P2
 schedule  => P2"#;
 
+/// The same of the plan of version 2.
+const CHANGES_OF_GROUPS: &str = r#"capacity 2 => read
+version 1 => P2
+version 3 => P2
+version 2.0 => P2
+version "2" => P2
+version  => P2
+x 1 => P2
+groups 1 => read
+groups 2 => read
+groups 0 => P3 groups
+groups 9 => P3 groups
+groups 8 => P3 receivers
+groups 3 => P3 receivers
+groups 2.0 => P3 groups
+groups "2" => P2
+groups [2] => P2
+groups  => P2
+capacity 4096 => read
+capacity 4097 => P3 capacity
+bound 1024 => read
+bound 1025 => P3 bound
+life 281474976710656 => read
+life 281474976710657 => P3 life
+senders [[]] => read
+senders [["close"]] => read
+senders [[[7],"close",[7,8]],[[7,8,9]]] => read
+senders [[[1,2,3,18446744073709551615]]] => read
+senders [[[]]] => P3 senders
+senders [[[1,2,3,4,5]]] => P3 senders
+senders [[[1,2,3,18446744073709551616]]] => P3 senders
+senders [[[1.5]]] => P3 senders
+senders [[[7,-1]]] => P3 senders
+senders [[[7]],[[]]] => P3 senders
+senders [] => P3 senders
+senders [[7]] => P2
+senders [[[7],8]] => P2
+senders [["Close"]] => P2
+senders [[["close"]]] => P2
+senders [[[7,null]]] => P2
+senders [[[[7]]]] => P2
+senders [[{}]] => P2
+receivers [0,65536] => read
+receivers [1,1,1,1] => read
+receivers [] => P3 receivers
+receivers [1] => P3 receivers
+receivers [1,1,1] => P3 receivers
+receivers [1,65537] => P3 receivers
+receivers [[1],[1]] => P2
+schedule [["r1",1],["r2",1]] => read
+schedule [["r1",1],["r3",1]] => P4 at 1
+schedule [["s2",1]] => P4 at 0
+schedule [["r2",100001]] => P3 schedule
+schedule [["r02",1]] => P2
+capacity  => P2
+bound  => P2
+life  => P2
+senders  => P2
+receivers  => P2
+schedule  => P2"#;
+
 #[test]
 fn one_change_is_told(rt: HostRuntime) -> Result<(), Fail> {
     let alloc = rt.alloc();
-    for line in CHANGES.lines() {
-        let (change, answer) = line.split_once(" => ").unwrap_or((line, ""));
-        let (key, value) = change.split_once(' ').unwrap_or((change, ""));
-        let input = changed(alloc, key, value)?;
-        assert_eq!(rt;
-            words(alloc, fault_of(alloc, input.as_bytes()))?.as_str(),
-            answer,
-            "{line}"
-        );
+    let tables: [(&[(&str, &str)], &str); 2] = [
+        (&KEYS, CHANGES),
+        (&KEYS_OF_GROUPS, CHANGES_OF_GROUPS),
+    ];
+    for (keys, changes) in tables {
+        for line in changes.lines() {
+            let (change, answer) = line.split_once(" => ").unwrap_or((line, ""));
+            let (key, value) = change.split_once(' ').unwrap_or((change, ""));
+            let input = changed(alloc, keys, key, value)?;
+            assert_eq!(rt;
+                words(alloc, fault_of(alloc, input.as_bytes()))?.as_str(),
+                answer,
+                "{line}"
+            );
+        }
     }
     Ok(())
 }
@@ -196,7 +339,7 @@ fn numbers_have_to_be_whole(rt: HostRuntime) -> Result<(), Fail> {
     let alloc = rt.alloc();
     for number in ["1.5", "1e2", "-1", "18446744073709551616"] {
         for key in ["version", "capacity", "bound", "life"] {
-            let input = changed(alloc, key, number)?;
+            let input = changed(alloc, &KEYS, key, number)?;
             let fault = fault_of(alloc, input.as_bytes());
             assert_eq!(rt; fault, Some(PlanFault::P3(key)), "{key} {number}");
         }
@@ -208,7 +351,7 @@ fn numbers_have_to_be_whole(rt: HostRuntime) -> Result<(), Fail> {
             let mut value = String::from_str(alloc, before)?;
             value.push_str(number)?;
             value.push_str(after)?;
-            let input = changed(alloc, key, value.as_str())?;
+            let input = changed(alloc, &KEYS, key, value.as_str())?;
             let fault = fault_of(alloc, input.as_bytes());
             assert_eq!(rt; fault, Some(PlanFault::P3(key)), "{key} {number}");
         }
@@ -227,7 +370,18 @@ null => P2
 {"capacity":2,"bound":2,"life":0,"senders":[],"receivers":[],"schedule":[["s1",0]]} => P3 life
 {"capacity":2,"bound":2,"life":10,"senders":[],"receivers":[],"schedule":[["s1",0]]} => P3 senders
 {"capacity":2,"bound":2,"life":10,"senders":[[]],"receivers":[],"schedule":[["s1",0]]} => P3 receivers
-{"version":2,"capacity":0,"bound":2,"life":10,"senders":[[7]],"receivers":[1],"schedule":[]} => P3 version
+{"version":3,"capacity":0,"bound":2,"life":10,"senders":[[7]],"receivers":[1],"schedule":[]} => P3 version
+{"version":2} => P2
+{"version":2,"capacity":0,"bound":2,"life":10,"senders":[[[7]]],"receivers":[1],"schedule":[]} => P2
+{"version":2,"groups":9,"capacity":0,"bound":0,"life":10,"senders":[[7]],"receivers":[],"schedule":[]} => P2
+{"version":2,"groups":9,"capacity":0,"bound":0,"life":10,"senders":[[[7]]],"receivers":[],"schedule":[]} => P3 groups
+{"version":2,"groups":2,"capacity":0,"bound":0,"life":10,"senders":[[[]]],"receivers":[],"schedule":[]} => P3 capacity
+{"version":2,"groups":2,"capacity":1,"bound":0,"life":0,"senders":[[[]]],"receivers":[],"schedule":[]} => P3 bound
+{"version":2,"groups":2,"capacity":1,"bound":1,"life":0,"senders":[[[]]],"receivers":[],"schedule":[]} => P3 life
+{"version":2,"groups":2,"capacity":1,"bound":1,"life":1,"senders":[[[]]],"receivers":[],"schedule":[["r3",0]]} => P3 senders
+{"version":2,"groups":2,"capacity":1,"bound":1,"life":1,"senders":[[[7]]],"receivers":[],"schedule":[["r3",0]]} => P3 receivers
+{"version":2,"groups":2,"capacity":1,"bound":1,"life":1,"senders":[[[7]]],"receivers":[0,0],"schedule":[["r3",0]]} => P3 schedule
+{"version":1,"groups":2,"capacity":1,"bound":1,"life":1,"senders":[[[7]]],"receivers":[0,0],"schedule":[],"version":2} => read
  {"capacit\u0079":2 , "bound":2,"life":10,"senders":[[7]], "receivers":[1],"schedule":[["\u0073\u0031",1]]}  => read"#;
 
 #[test]
@@ -249,6 +403,7 @@ fn checks_go_in_order(rt: HostRuntime) -> Result<(), Fail> {
 /// A plan whose value at a key is a list of so many equal elements.
 fn long(
     alloc: Global,
+    keys: &[(&str, &str)],
     key: &str,
     before: &str,
     element: &str,
@@ -261,7 +416,7 @@ fn long(
         value.push_str(element)?;
     }
     value.push_str(after)?;
-    changed(alloc, key, value.as_str())
+    changed(alloc, keys, key, value.as_str())
 }
 
 #[test]
@@ -274,11 +429,58 @@ fn lists_have_limits(rt: HostRuntime) -> Result<(), Fail> {
         ("schedule", "[", "[\"s1\",1]", 65_536, "]"),
     ];
     for (key, before, element, most, after) in rows {
-        let input = long(alloc, key, before, element, most, after)?;
+        let input = long(alloc, &KEYS, key, before, element, most, after)?;
         assert_eq!(rt; fault_of(alloc, input.as_bytes()), None, "{key}");
-        let input = long(alloc, key, before, element, most + 1, after)?;
+        let input = long(alloc, &KEYS, key, before, element, most + 1, after)?;
         let fault = fault_of(alloc, input.as_bytes());
         assert_eq!(rt; fault, Some(PlanFault::P3(key)), "{key}");
+    }
+    Ok(())
+}
+
+/// What is answered to a plan of version 2 with so many groups, so many receivers in all, and this schedule.
+fn fault_of_groups(
+    alloc: Global,
+    groups: &str,
+    receivers: usize,
+    schedule: &str,
+) -> Result<String, AllocError> {
+    let keys = [
+        ("version", "2"),
+        ("groups", groups),
+        ("capacity", "2"),
+        ("bound", "2"),
+        ("life", "10"),
+        ("senders", "[[]]"),
+        ("schedule", schedule),
+    ];
+    let input = long(alloc, &keys, "receivers", "[", "0", receivers, "]")?;
+    words(alloc, fault_of(alloc, input.as_bytes()))
+}
+
+#[test]
+fn groups_have_limits(rt: HostRuntime) -> Result<(), Fail> {
+    let alloc = rt.alloc();
+    let edges = [
+        ("1", 1, "[[\"r64\",1]]", "[[\"r65\",1]]"),
+        ("2", 2, "[[\"r128\",1]]", "[[\"r129\",1]]"),
+        ("3", 3, "[[\"r192\",1]]", "[[\"r193\",1]]"),
+        ("8", 8, "[[\"r512\",1]]", "[[\"r513\",1]]"),
+    ];
+    for (text, groups, last, stranger) in edges {
+        let rows = [
+            (groups, "[]", "read"),
+            (64 * groups, last, "read"),
+            (64 * groups, stranger, "P4 at 0"),
+            (0, "[]", "P3 receivers"),
+            (groups - 1, "[]", "P3 receivers"),
+            (64 * groups + 1, "[]", "P3 receivers"),
+            (65 * groups, "[]", "P3 receivers"),
+        ];
+        for (receivers, schedule, answer) in rows {
+            let fault = fault_of_groups(alloc, text, receivers, schedule)?;
+            assert_eq!(rt; fault.as_str(), answer, "{text} {receivers} {schedule}");
+        }
     }
     Ok(())
 }
