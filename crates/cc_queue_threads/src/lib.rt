@@ -9,3 +9,4 @@ mod workers;
 pub use jobs::{SendJob, TakeJob, send_jobs, take_jobs};
 pub use kept::Kept;
 pub use round::{Outcome, RoundFault, play_opened, play_round};
+pub use workers::body_of;

@@ -5,14 +5,25 @@ ghost use Rattle.cc_steps.specs.Walk.{IsOf};
 use crate::jobs::{SendJob, TakeJob};
 use crate::kept::{Kept, keep_sends, keep_takes};
 use cc_audit::{SendReceipt, TakeReceipt};
-use cc_model::{SendAnswer, TakeAnswer};
+use cc_model::{Body, SendAnswer, TakeAnswer};
 use cc_queue::{Queue, Receiver, Sender, send, take_until};
 use crossbeam_utils::Backoff;
 use std::alloc::Global;
 use std::sync::{Mutex, Wait};
 
-/// Sends the bodies below `items` in turn, each again where the queue is full. It keeps a receipt of each send that
-/// was accepted, and stops where a send is answered otherwise.
+/// A body of one to four words for each number below 2^62: none of its words is in that of another number.
+pub fn body_of(number: u64) -> Body {
+    let first = number << 2;
+    match number % 4 {
+        0 => Body::one(first),
+        1 => Body::two(first, first | 1),
+        2 => Body::three(first, first | 1, first | 2),
+        _ => Body::four(first, first | 1, first | 2, first | 3),
+    }
+}
+
+/// Sends the bodies of the numbers below `items` in turn, each again where the queue is full. It keeps a receipt of each
+/// send that was accepted, and stops where a send is answered otherwise.
 pub fn send_all<R: Wait>(
     rt: &R,
     alloc: Global,
@@ -28,7 +39,8 @@ pub fn send_all<R: Wait>(
     let mut receipts = Vec::new(alloc);
     let mut is_whole = true;
     let mut begun: u32 = 0;
-    for body in 0..items {
+    for item in 0..items {
+        let body = body_of(item);
         let (after, place, tries) = send_once(rt, queue, sender, body);
         sender = after;
         begun = begun.saturating_add(tries);
@@ -54,7 +66,7 @@ fn send_once<R: Wait>(
     rt: &R,
     queue: &Queue,
     mut sender: Sender,
-    body: u64,
+    body: Body,
 ) -> (Sender, Option<u64>, u32)
     requires { IsOf queue.now sender }
     ensures { IsOf queue.now result.0 }
