@@ -1,7 +1,6 @@
 -- The passes of a run that has ended: they meet, and hold what they held.
 use Rattle.std.proofs.Common.{◌≡◌, ℕ, zero, suc, ◌+◌, ◌*◌, ◌-◌, ◌^◌, ◌<◌, List, [], ◌∷◌, ◌++◌, map, length, get_or, Some, refl, sym, ap, ◌∙◌, subst, arith, append-nil, append_assoc, length-append}
 use Rattle.std.specs.List.{All, AllByRecursion}
-use Rattle.cc_model.specs.Legal.{CountsFrom}
 use Rattle.cc_drive.specs.Names.{Call, CloseAnswer, Answer}
 use Rattle.cc_runs.specs.ChainLaws.{IsLastAnswer}
 use Rattle.cc_steps.specs.Topic.{Topic}
@@ -11,7 +10,7 @@ use Rattle.cc_queue.specs.Met.{HasMet}
 use Rattle.cc_model.specs.Items.{HasAnswer}
 use Rattle.cc_queue.specs.Receipts.{AreInRow, receipts_in, receipts_by, sent}
 use Rattle.cc_queue.proofs.OnItsSide.{Told}
-use Rattle.cc_drive.specs.Back.{IsBack, SenderIsBack, ReceiverIsBack, SendsFrom, calls}
+use Rattle.cc_drive.specs.Back.{IsBack, SenderIsBack, ReceiverIsBack, BodiesFrom, SendsFrom, calls}
 use Rattle.cc_drive.specs.Ran.{ClosedAfter}
 use Rattle.cc_drive.specs.Row.{InRow, Pairs}
 use Rattle.cc_drive.proofs.Told.{nil_of, stands_self, calls_stay}
@@ -34,7 +33,7 @@ pub sender_met : (z : Topic) (items limit n : ℕ) (v w : Walk) → SenderIsBack
 sender_met z items limit n v w s m = record {
   back = back_met z n v w s.back m;
   sends = subst (SendsFrom 1) (sym (calls_met z n v w s.back m)) s.sends;
-  bodies = subst (λ (zs : List Told). CountsFrom 1 (map (λ r. r.body) (receipts_in sent zs))) (sym (calls_met z n v w s.back m)) s.bodies;
+  bodies = subst (λ (zs : List Told). BodiesFrom 1 (map (λ r. r.body) (receipts_in sent zs))) (sym (calls_met z n v w s.back m)) s.bodies;
   all = λ few. ap (λ (zs : List Told). length (receipts_in sent zs)) (calls_met z n v w s.back m) ∙ s.all few;
 }
 

@@ -6,7 +6,7 @@ use Rattle.std.proofs.lemmas.Bool.{cases_lt}
 use Rattle.cc_model.specs.Record.{Record}
 use Rattle.cc_model.specs.Items.{answered, calls_of, is_pass, accepted_item, shuts}
 use Rattle.cc_model.specs.Legal.{Legal, IsSenders, EAnswer, EAnswers}
-use Rattle.cc_drive.specs.Names.{Config, Call, Pass, Entry, Answer, SendAnswer, CloseAnswer, Setting}
+use Rattle.cc_drive.specs.Names.{Body, Config, Call, Pass, Entry, Answer, SendAnswer, CloseAnswer, Setting}
 use Rattle.cc_runs.specs.State.{pass_at}
 use Rattle.cc_runs.specs.Run.{history_of}
 use Rattle.cc_steps.specs.Topic.{Topic}
@@ -15,16 +15,16 @@ use Rattle.cc_queue.specs.Met.{HasMet}
 use Rattle.cc_queue.specs.Receipts.{sent}
 use Rattle.cc_queue.proofs.Held.{sender_named}
 use Rattle.cc_queue.proofs.OnItsSide.{Told, its, kept, on_its_side}
-use Rattle.cc_drive.specs.Back.{IsBack, SenderIsBack, SendsFrom, IsNotClosed, calls}
+use Rattle.cc_drive.specs.Back.{one_word, IsBack, SenderIsBack, SendsFrom, IsNotClosed, calls}
 use Rattle.cc_drive.specs.Row.{InRow}
 use Rattle.cc_drive.proofs.Told.{nil_of}
 
 abbrev IsSend : Told → Type 0
-IsSend z = (body : ℕ) × (z.0.call ≡ Call.Send body)
+IsSend z = (body : Body) × (z.0.call ≡ Call.Send body)
 
 sends_all : (n : ℕ) (zs : List Told) → SendsFrom n zs → AllByRecursion IsSend zs
 sends_all n [] s = tt
-sends_all n (z ∷ zs) s = ((n, s.0), sends_all (n + length (sent z)) zs s.1)
+sends_all n (z ∷ zs) s = ((one_word n, s.0), sends_all (n + length (sent z)) zs s.1)
 
 -- ---- where each sender made sends alone
 
@@ -59,7 +59,7 @@ each_send cfg (c ∷ entries) (a ∷ answers) are each = (
 
 -- ---- nothing is answered that the queue is closed
 
-answer_of_send : (cfg : Config) (count known : ℕ) (e : Entry) (c : Call) (a : Answer) (body : ℕ) → c ≡ Call.Send body → EAnswer cfg count false known c a → IsNotClosed (e, Some a) × (shuts a ≡ false)
+answer_of_send : (cfg : Config) (count known : ℕ) (e : Entry) (c : Call) (a : Answer) (body : Body) → c ≡ Call.Send body → EAnswer cfg count false known c a → IsNotClosed (e, Some a) × (shuts a ≡ false)
 answer_of_send cfg count known e c (Answer.Send (SendAnswer.Accepted place)) body is k = (tt, refl)
 answer_of_send cfg count known e c (Answer.Send SendAnswer.Full) body is k = (tt, refl)
 answer_of_send cfg count known e c (Answer.Send SendAnswer.Spent) body is k = (tt, refl)

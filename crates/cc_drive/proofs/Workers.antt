@@ -3,8 +3,7 @@ use Rattle.std.proofs.Common.{◌≡◌, ◌≢◌, ℕ, ◌+◌, Bool, true, Li
 use Rattle.std.specs.List.{AllByRecursion}
 use Rattle.std.proofs.lemmas.List.{map-append, length-map}
 use Rattle.cc_model.specs.Items.{sent_item}
-use Rattle.cc_model.specs.Legal.{CountsFrom}
-use Rattle.cc_drive.specs.Names.{Call, Pass, Entry, Item, Answer, SendAnswer, TakeAnswer, TakeReceipt, SendReceipt}
+use Rattle.cc_drive.specs.Names.{Body, Call, Pass, Entry, Item, Answer, SendAnswer, TakeAnswer, TakeReceipt, SendReceipt}
 use Rattle.cc_runs.specs.State.{pass_at}
 use Rattle.cc_steps.specs.Topic.{Topic}
 use Rattle.cc_steps.specs.Walk.{Walk, fresh}
@@ -15,7 +14,7 @@ use Rattle.cc_model.specs.Items.{HasAnswer}
 use Rattle.cc_queue.specs.Receipts.{receipts_in, sent, got}
 use Rattle.cc_audit.specs.Receipts.{send_receipt, take_receipt}
 use Rattle.cc_queue.proofs.Held.{in_both}
-use Rattle.cc_drive.specs.Back.{IsBack, SendsFrom, calls}
+use Rattle.cc_drive.specs.Back.{IsBack, one_word, BodiesFrom, SendsFrom, calls}
 use Rattle.cc_drive.proofs.Told.{Told, nil_of, stands_self, same_name, calls_more, each_answered}
 
 -- the pass of a worker so far, and what the worker has kept
@@ -71,7 +70,7 @@ working_more receipts z row who w x whole whole' keeps keeps' c told b k still m
 
 -- ---- a send
 
-pub sent_one : (n begun : ℕ) (w : Walk) (body place : ℕ) → name w ≡ Pass.Sender n → begun ≡ w.stand.begun → sent (entry_of w (Call.Send body), Some (Answer.Send (SendAnswer.Accepted place))) ≡ record { sender = n; number = begun + 1; place = place; body = body } ∷ []
+pub sent_one : (n begun : ℕ) (w : Walk) (body : Body) (place : ℕ) → name w ≡ Pass.Sender n → begun ≡ w.stand.begun → sent (entry_of w (Call.Send body), Some (Answer.Send (SendAnswer.Accepted place))) ≡ record { sender = n; number = begun + 1; place = place; body = body } ∷ []
 sent_one n begun w body place named is =
     ap (λ (p : Pass). map send_receipt (sent_item p (Call.Send body) (w.stand.begun + 1) place)) named ∙ (λ i. record { sender = n; number = sym is i + 1; place = place; body = body } ∷ [])
 
@@ -81,7 +80,7 @@ sent_none e SendAnswer.Closed ne = refl
 sent_none e SendAnswer.Spent ne = refl
 sent_none e (SendAnswer.Accepted place) ne = absurd (ne place refl)
 
-pub count_more : (z : Topic) (row : ℕ) (w x : Walk) (body : ℕ) (told : SendAnswer) → IsBack z row w → Completed w (Call.Send body) (Answer.Send told) x → length (receipts_in sent (calls x)) ≡ length (receipts_in sent (calls w)) + length (sent (entry_of w (Call.Send body), Some (Answer.Send told)))
+pub count_more : (z : Topic) (row : ℕ) (w x : Walk) (body : Body) (told : SendAnswer) → IsBack z row w → Completed w (Call.Send body) (Answer.Send told) x → length (receipts_in sent (calls x)) ≡ length (receipts_in sent (calls w)) + length (sent (entry_of w (Call.Send body), Some (Answer.Send told)))
 count_more z row w x body told b k = ap length (receipts_more sent z row w x (Call.Send body) (Answer.Send told) b k) ∙ length-append (receipts_in sent (calls w)) (sent (entry_of w (Call.Send body), Some (Answer.Send told)))
 
 -- ---- a take
@@ -103,55 +102,55 @@ pub taken_none : (z : Topic) (row n : ℕ) (w x : Walk) (whole : Bool) (keeps : 
 taken_none z row n w x whole keeps told b k none = working_still got z row (Pass.Receiver n) w x whole keeps Call.Take told b k none
 
 -- so many more items accepted
-pub count_one : (z : Topic) (row n : ℕ) (w x : Walk) (body place so_far : ℕ) → IsBack z row w → name w ≡ Pass.Sender n → Completed w (Call.Send body) (Answer.Send (SendAnswer.Accepted place)) x → so_far ≡ length (receipts_in sent (calls w)) → so_far + 1 ≡ length (receipts_in sent (calls x))
+pub count_one : (z : Topic) (row n : ℕ) (w x : Walk) (body : Body) (place so_far : ℕ) → IsBack z row w → name w ≡ Pass.Sender n → Completed w (Call.Send body) (Answer.Send (SendAnswer.Accepted place)) x → so_far ≡ length (receipts_in sent (calls w)) → so_far + 1 ≡ length (receipts_in sent (calls x))
 count_one z row n w x body place so_far b named k are =
     ap (λ (m : ℕ). m + 1) are ∙ ap (λ l. length (receipts_in sent (calls w)) + length l) (sym (sent_one n w.stand.begun w body place named refl)) ∙ sym (count_more z row w x body (SendAnswer.Accepted place) b k)
 
-pub count_none : (z : Topic) (row : ℕ) (w x : Walk) (body so_far : ℕ) (told : SendAnswer) → IsBack z row w → Completed w (Call.Send body) (Answer.Send told) x → sent (entry_of w (Call.Send body), Some (Answer.Send told)) ≡ [] → so_far ≡ length (receipts_in sent (calls w)) → so_far ≡ length (receipts_in sent (calls x))
+pub count_none : (z : Topic) (row : ℕ) (w x : Walk) (body : Body) (so_far : ℕ) (told : SendAnswer) → IsBack z row w → Completed w (Call.Send body) (Answer.Send told) x → sent (entry_of w (Call.Send body), Some (Answer.Send told)) ≡ [] → so_far ≡ length (receipts_in sent (calls w)) → so_far ≡ length (receipts_in sent (calls x))
 count_none z row w x body so_far told b k none are =
     are ∙ sym (count_more z row w x body told b k ∙ ap (λ l. length (receipts_in sent (calls w)) + length l) none ∙ (let e : length (receipts_in sent (calls w)) + 0 ≡ length (receipts_in sent (calls w)) = omega arith in e))
 
 -- ---- sends of the bodies in order
 
 -- one more
-sends_end : (n : ℕ) (zs : List Told) (z : Told) → SendsFrom n zs → z.0.call ≡ Call.Send (n + length (receipts_in sent zs)) → SendsFrom n (zs ++ z ∷ [])
-sends_end n [] z s is = (is ∙ (let e : n + 0 ≡ n = omega arith in ap (λ (m : ℕ). Call.Send m) e), tt)
+sends_end : (n : ℕ) (zs : List Told) (z : Told) → SendsFrom n zs → z.0.call ≡ Call.Send (one_word (n + length (receipts_in sent zs))) → SendsFrom n (zs ++ z ∷ [])
+sends_end n [] z s is = (is ∙ (let e : n + 0 ≡ n = omega arith in ap (λ (m : ℕ). Call.Send (one_word m)) e), tt)
 sends_end n (y ∷ zs) z s is = (
   s.0,
   sends_end (n + length (sent y)) zs z s.1
-      (is ∙ (let e : n + length (sent y ++ receipts_in sent zs) ≡ n + length (sent y) + length (receipts_in sent zs) = omega (arith, length-append (sent y) (receipts_in sent zs)) in ap (λ (m : ℕ). Call.Send m) e)),
+      (is ∙ (let e : n + length (sent y ++ receipts_in sent zs) ≡ n + length (sent y) + length (receipts_in sent zs) = omega (arith, length-append (sent y) (receipts_in sent zs)) in ap (λ (m : ℕ). Call.Send (one_word m)) e)),
 )
 
-pub sends_more : (z : Topic) (row : ℕ) (w x : Walk) (so_far : ℕ) (told : Answer) → IsBack z row w → Completed w (Call.Send (so_far + 1)) told x → so_far ≡ length (receipts_in sent (calls w)) → SendsFrom 1 (calls w) → SendsFrom 1 (calls x)
-sends_more z row w x so_far told b k are s =
-    subst (SendsFrom 1) (sym (call_more z row w x (Call.Send (so_far + 1)) told b k))
-    (sends_end 1 (calls w) (entry_of w (Call.Send (so_far + 1)), Some told) s (let e : so_far + 1 ≡ 1 + length (receipts_in sent (calls w)) = omega (arith, are) in ap (λ (m : ℕ). Call.Send m) e))
+pub sends_more : (z : Topic) (row : ℕ) (w x : Walk) (body : Body) (so_far : ℕ) (told : Answer) → body ≡ one_word (so_far + 1) → IsBack z row w → Completed w (Call.Send body) told x → so_far ≡ length (receipts_in sent (calls w)) → SendsFrom 1 (calls w) → SendsFrom 1 (calls x)
+sends_more z row w x body so_far told is b k are s =
+    subst (SendsFrom 1) (sym (call_more z row w x (Call.Send body) told b k))
+    (sends_end 1 (calls w) (entry_of w (Call.Send body), Some told) s (ap (λ (c : Body). Call.Send c) is ∙ (let e : so_far + 1 ≡ 1 + length (receipts_in sent (calls w)) = omega (arith, are) in ap (λ (m : ℕ). Call.Send (one_word m)) e)))
 
 -- their receipts have these bodies
-abbrev body_of : SendReceipt → ℕ
-body_of r = r.body
+abbrev body_in : SendReceipt → Body
+body_in r = r.body
 
-one_body : (body : ℕ) (z : Told) → z.0.call ≡ Call.Send body → CountsFrom body (map body_of (sent z))
-one_body body (e, None) is = tt
-one_body body (e, Some (Answer.Send (SendAnswer.Accepted place))) is = go e.pass e.call is
+one_body : (n : ℕ) (z : Told) → z.0.call ≡ Call.Send (one_word n) → BodiesFrom n (map body_in (sent z))
+one_body n (e, None) is = tt
+one_body n (e, Some (Answer.Send (SendAnswer.Accepted place))) is = go e.pass e.call is
   where
-    go : (p : Pass) (c : Call) → c ≡ Call.Send body → CountsFrom body (map body_of (map send_receipt (sent_item p c e.number place)))
-    go (Pass.Sender s) (Call.Send other) is = (let same : other ≡ body = cc is in same, tt)
+    go : (p : Pass) (c : Call) → c ≡ Call.Send (one_word n) → BodiesFrom n (map body_in (map send_receipt (sent_item p c e.number place)))
+    go (Pass.Sender s) (Call.Send other) is = (let same : other ≡ one_word n = cc is in same, tt)
     go (Pass.Sender s) Call.Close is = tt
     go (Pass.Sender s) Call.Take is = tt
     go (Pass.Receiver r) c is = tt
-one_body body (e, Some (Answer.Send SendAnswer.Full)) is = tt
-one_body body (e, Some (Answer.Send SendAnswer.Closed)) is = tt
-one_body body (e, Some (Answer.Send SendAnswer.Spent)) is = tt
-one_body body (e, Some (Answer.Close told)) is = tt
-one_body body (e, Some (Answer.Take told)) is = tt
+one_body n (e, Some (Answer.Send SendAnswer.Full)) is = tt
+one_body n (e, Some (Answer.Send SendAnswer.Closed)) is = tt
+one_body n (e, Some (Answer.Send SendAnswer.Spent)) is = tt
+one_body n (e, Some (Answer.Close told)) is = tt
+one_body n (e, Some (Answer.Take told)) is = tt
 
-counts_both : (n m : ℕ) (xs ys : List ℕ) → m ≡ n + length xs → CountsFrom n xs → CountsFrom m ys → CountsFrom n (xs ++ ys)
-counts_both n m [] ys at k l = (let e : m ≡ n = omega (arith, at) in subst (λ (j : ℕ). CountsFrom j ys) e l)
-counts_both n m (x ∷ xs) ys at k l = (k.0, counts_both (n + 1) m xs ys (omega (arith, at)) k.1 l)
+bodies_both : (n m : ℕ) (xs ys : List Body) → m ≡ n + length xs → BodiesFrom n xs → BodiesFrom m ys → BodiesFrom n (xs ++ ys)
+bodies_both n m [] ys at k l = (let e : m ≡ n = omega (arith, at) in subst (λ (j : ℕ). BodiesFrom j ys) e l)
+bodies_both n m (x ∷ xs) ys at k l = (k.0, bodies_both (n + 1) m xs ys (omega (arith, at)) k.1 l)
 
-pub bodies_of : (n : ℕ) (zs : List Told) → SendsFrom n zs → CountsFrom n (map body_of (receipts_in sent zs))
+pub bodies_of : (n : ℕ) (zs : List Told) → SendsFrom n zs → BodiesFrom n (map body_in (receipts_in sent zs))
 bodies_of n [] s = tt
 bodies_of n (z ∷ zs) s =
-    subst (CountsFrom n) (sym (map-append body_of (sent z) (receipts_in sent zs)))
-    (counts_both n (n + length (sent z)) (map body_of (sent z)) (map body_of (receipts_in sent zs)) (ap (λ (m : ℕ). n + m) (sym (length-map (sent z) body_of))) (one_body n z s.0) (bodies_of (n + length (sent z)) zs s.1))
+    subst (BodiesFrom n) (sym (map-append body_in (sent z) (receipts_in sent zs)))
+    (bodies_both n (n + length (sent z)) (map body_in (sent z)) (map body_in (receipts_in sent zs)) (ap (λ (m : ℕ). n + m) (sym (length-map (sent z) body_in))) (one_body n z s.0) (bodies_of (n + length (sent z)) zs s.1))

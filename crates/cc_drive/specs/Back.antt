@@ -1,9 +1,9 @@
 -- The passes that workers give back.
 use Rattle.std.specs.Prelude.{ℕ, ◌≡◌, ◌+◌, ◌<◌, ◌≤◌, ◌-◌, ◌^◌, List, [], ◌∷◌, length, map, true, Option, Some, IfSome, IfNone, ⊤}
 use Rattle.std.specs.List.{AllByRecursion}
+use Rattle.cc_model.specs.Body.{body_of}
 use Rattle.cc_model.specs.Items.{HasAnswer, calls_of}
-use Rattle.cc_model.specs.Legal.{CountsFrom}
-use Rattle.cc_drive.specs.Names.{Call, Entry, Answer, SendAnswer, TakeAnswer, SendReceipt, TakeReceipt, Worked}
+use Rattle.cc_drive.specs.Names.{Body, Call, Entry, Answer, SendAnswer, TakeAnswer, SendReceipt, TakeReceipt, Worked}
 use Rattle.cc_runs.specs.ChainLaws.{IsLastAnswer}
 use Rattle.cc_steps.specs.Topic.{Topic}
 use Rattle.cc_steps.specs.Walk.{Walk, IsOf}
@@ -22,10 +22,19 @@ pub record IsBack (z : Topic) (row : ℕ) (w : Walk) : Type 0 where
   pub stands : StandsInOne w [] w
   pub answered : AllByRecursion HasAnswer (calls w)
 
--- these calls are sends of the bodies from this one on, in order: of each one until it was accepted
+-- the body of this one word
+abbrev pub one_word : ℕ → Body
+one_word n = body_of (n ∷ [])
+
+-- these bodies have one word each: this number, and then the numbers behind it, in order
+abbrev pub BodiesFrom : ℕ → List Body → Type 0
+BodiesFrom n [] = ⊤
+BodiesFrom n (b ∷ bs) = (b ≡ one_word n) × BodiesFrom (n + 1) bs
+
+-- these calls are sends of the bodies from this number on, in order: of each one until it was accepted
 abbrev pub SendsFrom : ℕ → List (Entry × Option Answer) → Type 0
-SendsFrom body [] = ⊤
-SendsFrom body (z ∷ zs) = (z.0.call ≡ Call.Send body) × SendsFrom (body + length (sent z)) zs
+SendsFrom n [] = ⊤
+SendsFrom n (z ∷ zs) = (z.0.call ≡ Call.Send (one_word n)) × SendsFrom (n + length (sent z)) zs
 
 -- the call wasn't told that the queue is closed
 abbrev pub IsNotClosed : Entry × Option Answer → Type 0
@@ -37,7 +46,7 @@ IsNotClosed _ = ⊤
 pub record SenderIsBack (z : Topic) (items limit row : ℕ) (w : Walk) : Type 0 where
   pub back : IsBack z row w
   pub sends : SendsFrom 1 (calls w)
-  pub bodies : CountsFrom 1 (map (λ r. r.body) (receipts_in sent (calls w)))
+  pub bodies : BodiesFrom 1 (map (λ r. r.body) (receipts_in sent (calls w)))
   pub all : limit < 2 ^ 32 - 1 → length (receipts_in sent (calls w)) ≡ items
 
 -- A receiver whose last take was answered that the queue has ended.

@@ -1,6 +1,6 @@
 -- What a worker does within its turns.
 use Rattle.std.specs.Prelude.{ℕ, zero, suc, ◌≡◌, ◌+◌, ◌-◌, ◌<◌, ◌≤◌, Bool, true, false, List, ⊤}
-use Rattle.cc_drive.specs.Names.{Answer, Call, Kind, Point, Go, Turns, Sent}
+use Rattle.cc_drive.specs.Names.{Body, Answer, Call, Kind, Point, Go, Turns, Sent}
 use Rattle.cc_steps.specs.Walk.{Walk}
 use Rattle.cc_queue.specs.Calls.{Completed}
 use Rattle.cc_queue.specs.Work.{tally, reads}
@@ -26,7 +26,7 @@ WasAsked {G} tells point old new true g h = (k : G) × IsHeldUp tells point (new
 WasAsked tells point old new false g h = IsHeldUp tells point (new.made - old.made) g h
 
 -- a send that was answered was made by a sender that could begin one; a worn sender is as it was
-abbrev pub IsSent : Walk → ℕ → Sent → Type 0
+abbrev pub IsSent : Walk → Body → Sent → Type 0
 IsSent v body (Sent.Answered w told) = Completed v (Call.Send body) (Answer.Send told) w × (w.stand.begun ≡ v.stand.begun + 1) × (v.stand.begun < v.setting.config.per_sender)
 IsSent v body (Sent.Worn w) = (w ≡ v) × (v.setting.config.per_sender ≤ v.stand.begun)
 IsSent v body Sent.Limited = ⊤

@@ -13,7 +13,7 @@ use crate::kept::{Kept, Worked};
 use crate::pace::Pace;
 use crate::turns::Turns;
 use cc_audit::SendReceipt;
-use cc_model::SendAnswer;
+use cc_model::{Body, SendAnswer};
 use cc_queue::{PendingSend, Queue, SendTurn, Sender, begin_send, turn_send};
 use crossbeam_utils::Backoff;
 use std::alloc::Global;
@@ -67,7 +67,7 @@ fn await_send(
 pub(crate) fn send_body<G: Gate>(
     queue: &Queue,
     sender: Sender,
-    body: u64,
+    body: Body,
     gate: &mut G,
     turns: &mut Turns,
 ) -> Sent
@@ -123,7 +123,7 @@ pub(crate) fn send_all<G: Gate, R: Wait>(
     let mut accepted: u64 = 0;
     let mut pace = Pace::new();
     while accepted < items {
-        let body = accepted + 1;
+        let body = Body::one(accepted + 1);
         let before = turns.made;
         match send_body(queue, sender, body, &mut gate, &mut turns) {
             Sent::Answered(after, answer) => {

@@ -1,8 +1,7 @@
 use Rattle.std.specs.Prelude.{◌≡◌, ◌≤◌, ◌-◌, length, map}
-use Rattle.cc_model.specs.Legal.{CountsFrom}
 use Rattle.cc_drive.specs.Names.{Pass}
 use Rattle.cc_queue.specs.Receipts.{receipts_in, sent}
-use Rattle.cc_drive.specs.Back.{SendsFrom, calls}
+use Rattle.cc_drive.specs.Back.{BodiesFrom, SendsFrom, calls}
 use Rattle.cc_drive.proofs.Workers.{Working}
 use Rattle.cc_drive.proofs.sending.send_all.Given as goal
 
@@ -12,7 +11,7 @@ invariant-loop-accepted g l =
     × (l.turns.made ≤ l.turns.limit) × (l.turns.limit ≡ l.fn.limit)
     × (l.begun ≡ l.sender.stand.begun) × (l.begun ≤ l.turns.made)
     × (l.accepted ≡ length (receipts_in sent (calls l.sender))) × (l.accepted ≤ l.items)
-    × SendsFrom 1 (calls l.sender) × CountsFrom 1 (map (λ r. r.body) (receipts_in sent (calls l.sender)))
+    × SendsFrom 1 (calls l.sender) × BodiesFrom 1 (map (λ r. r.body) (receipts_in sent (calls l.sender)))
 
 abbrev pub decreases-loop-accepted : goal.decreases-loop-accepted
 decreases-loop-accepted g l = l.turns.limit - l.turns.made
