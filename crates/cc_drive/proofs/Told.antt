@@ -1,5 +1,5 @@
 -- What a pass was told stays with its calls, as it makes more of them and as it meets others.
-use Rattle.std.proofs.Common.{◌≡◌, ℕ, suc, ◌+◌, Bool, true, false, List, [], ◌∷◌, ◌++◌, map, length, Some, None, if◌then◌else◌, refl, sym, ap, ◌∙◌, subst, arith, append-nil, length-append}
+use Rattle.std.proofs.Common.{◌≡◌, ℕ, suc, ◌+◌, Bool, true, false, List, [], ◌∷◌, ◌++◌, map, length, Some, None, refl, sym, ap, ◌∙◌, subst, arith, append-nil, length-append}
 use Rattle.std.specs.List.{AllByRecursion}
 use Rattle.cc_model.specs.Record.{Side, Record, of_group}
 use Rattle.cc_model.specs.Items.{HasAnswer, SideBegins, Begins, calls_of, is_pass}

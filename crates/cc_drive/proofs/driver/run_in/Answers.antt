@@ -1,4 +1,4 @@
-use Rattle.std.proofs.Common.{rules, ◌≡◌, ◌+◌, ◌≤◌, refl, subst, vec_len}
+use Rattle.std.proofs.Common.{rules, ◌≤◌, refl, subst, vec_len}
 use Rattle.cc_steps.specs.Walk.{Walk}
 use Rattle.cc_drive.specs.Ran.{HasClosed}
 use Rattle.cc_drive.proofs.Crewed.{fewer_of}
