@@ -2,7 +2,7 @@
 ghost use Rattle.std.specs.Prelude.{◌+◌, IfOk, IfSome};
 ghost use Rattle.cc_steps.specs.Walk.{IsOf, fresh_from};
 
-use cc_model::{Config, TakeAnswer};
+use cc_model::{Body, Config, TakeAnswer};
 use cc_queue::{
     Opened, Queue, Receiver, SendTurn, Sender, begin_send, close, take_until, turn_send,
 };
@@ -30,7 +30,7 @@ pub fn send_in_turns<R: Print>(
     rt: &R,
     queue: &Queue,
     sender: Sender,
-    body: u64,
+    body: Body,
     turns: u32,
 ) -> io::Result<Option<Sender>>
     requires { IsOf queue.now sender }
@@ -57,7 +57,7 @@ pub fn send_in_turns<R: Print>(
     Ok(None)
 }
 
-/// Takes until the end, and prints each item.
+/// Takes until the end, and prints the words of each item.
 pub fn print_all<R: Wait + Print>(rt: &R, queue: &Queue, receiver: Receiver) -> io::Result<()>
     requires { IsOf queue.now receiver }
 {
@@ -67,13 +67,13 @@ pub fn print_all<R: Wait + Print>(rt: &R, queue: &Queue, receiver: Receiver) -> 
         let TakeAnswer::Got(item) = answer else {
             return Ok(());
         };
-        println!(rt; "{} from sender {}", item.body, item.sender)?;
+        println!(rt; "{:?} from sender {}", item.body.words(), item.sender)?;
         receiver = after;
     }
     unreachable!()
 }
 
-/// Opens a queue, whose first sender sends 7 and closes, and whose first receiver takes all there is.
+/// Opens a queue, whose first sender sends a body of two words and closes, and whose first receiver takes all there is.
 pub fn one_thread<R: Wait + Print>(rt: &R, alloc: Global, config: &Config) -> io::Result<()> {
     let Ok(opened) = Queue::open(alloc, config) else {
         return Ok(());
@@ -86,7 +86,7 @@ pub fn one_thread<R: Wait + Print>(rt: &R, alloc: Global, config: &Config) -> io
     let Some(sender) = next_sender(&queue, 0, &mut senders) else {
         return Ok(());
     };
-    let Some(sender) = send_in_turns(rt, &queue, sender, 7, 10)? else {
+    let Some(sender) = send_in_turns(rt, &queue, sender, Body::two(7, 8), 10)? else {
         return Ok(());
     };
     close(&queue, rt, sender);

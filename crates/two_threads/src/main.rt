@@ -8,7 +8,7 @@ ghost use Rattle.cc_steps.specs.Walk.{IsOf};
 
 mod in_turns;
 
-use cc_model::{Config, SendAnswer, TakeAnswer};
+use cc_model::{Body, Config, SendAnswer, TakeAnswer};
 use cc_queue::{Opened, Queue, Receiver, Sender, close, send_until, take_until};
 use in_turns::one_thread;
 use std::io;
@@ -16,14 +16,14 @@ use std::process::ExitCode;
 use std::sync::Wait;
 use std::thread::{Threads, join};
 
-/// Sends the bodies 1 to 100, each again where the queue is full, and closes the queue. None where a send isn't accepted: the
+/// Sends the numbers 1 to 100, each again where the queue is full, and closes the queue. None where a send isn't accepted: the
 /// queue is closed then too, so that nobody waits for what doesn't come.
 fn send_all<R: Wait>(rt: &R, queue: &Queue, sender: Sender) -> Option<u64>
     requires { IsOf queue.now sender }
 {
     let mut sender = sender;
-    for body in 1..101u64 {
-        match send_until(queue, rt, sender, body) {
+    for number in 1..101u64 {
+        match send_until(queue, rt, sender, Body::one(number)) {
             Ok((after, SendAnswer::Accepted { place: _ })) => sender = after,
             Ok((after, _)) => {
                 close(queue, rt, after);
@@ -39,7 +39,7 @@ fn send_all<R: Wait>(rt: &R, queue: &Queue, sender: Sender) -> Option<u64>
     Some(100)
 }
 
-/// Takes until the end, and adds up what was sent.
+/// Takes until the end, and adds up the first words of what was sent.
 fn take_all<R: Wait>(rt: &R, queue: &Queue, receiver: Receiver) -> u64
     requires { IsOf queue.now receiver }
 {
@@ -48,7 +48,7 @@ fn take_all<R: Wait>(rt: &R, queue: &Queue, receiver: Receiver) -> u64
     for _ in rt.forever() {
         let (after, answer) = take_until(queue, rt, receiver);
         match answer {
-            TakeAnswer::Got(item) => sum = sum.wrapping_add(item.body),
+            TakeAnswer::Got(item) => sum = sum.wrapping_add(item.body.words()[0]),
             _ => return sum,
         }
         receiver = after;
