@@ -3,25 +3,26 @@ ghost use Rattle.std.specs.Prelude.{◌≡◌, Ok};
 ghost use Rattle.cc_steps.specs.Walk.{IsOf};
 ghost use Rattle.cc_bench.specs.Work.{CameFrom};
 
+use crate::load::Load;
 use cc_model::TakeAnswer;
 use cc_queue::{Opened, Queue, Receiver, Sender, send, take};
 use std::sync::Wait;
 
-/// Sends and takes so many items, one after another; gives how many were got.
+/// Sends and takes these items, one after another; gives how many were got.
 fn each_in_turn<R: Wait>(
     rt: &R,
     queue: &Queue,
     sender: Sender,
     receiver: Receiver,
-    items: u64,
+    load: Load,
 ) -> u64
     requires { IsOf queue.now sender × IsOf queue.now receiver }
 {
     let mut sender = sender;
     let mut receiver = receiver;
     let mut passed = 0u64;
-    for body in 0..items {
-        let Ok((after, _)) = send(queue, rt, sender, body) else {
+    for number in 0..load.items {
+        let Ok((after, _)) = send(queue, rt, sender, load.body(number)) else {
             return passed;
         };
         sender = after;
@@ -35,7 +36,7 @@ fn each_in_turn<R: Wait>(
 }
 
 /// The first sender and the first receiver of a queue send and take in turn.
-pub fn send_and_take<R: Wait>(rt: &R, opened: Opened, items: u64) -> u64
+pub fn send_and_take<R: Wait>(rt: &R, opened: Opened, load: Load) -> u64
     requires { CameFrom opened }
 {
     let Opened {
@@ -44,7 +45,7 @@ pub fn send_and_take<R: Wait>(rt: &R, opened: Opened, items: u64) -> u64
         mut receivers,
     } = opened;
     match (senders.pop(), receivers.pop()) {
-        (Some(sender), Some(receiver)) => each_in_turn(rt, &queue, sender, receiver, items),
+        (Some(sender), Some(receiver)) => each_in_turn(rt, &queue, sender, receiver, load),
         _ => 0,
     }
 }

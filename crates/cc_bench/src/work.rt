@@ -3,6 +3,7 @@ ghost use Rattle.std.specs.Prelude.{◌≡◌, IfOk, OnOk, All, Ok};
 ghost use Rattle.cc_steps.specs.Walk.{IsOf};
 ghost use Rattle.cc_bench.specs.Work.{Belongs, CameFrom};
 
+use crate::load::Load;
 use cc_model::{SendAnswer, TakeAnswer};
 use cc_queue::{Opened, Queue, Receiver, Sender, close, send_until, take_until};
 use std::alloc::{AllocError, Global};
@@ -17,12 +18,13 @@ pub enum Worker {
     Takes(Receiver),
 }
 
-/// Sends so many items, each again where the queue is full; the last sender that ends closes the queue.
-fn send_all<R: Wait>(rt: &R, queue: &Queue, sender: Sender, items: u64, left: &AtomicU64) -> u64
+/// Sends these items, each again where the queue is full; the last sender that ends closes the queue.
+fn send_all<R: Wait>(rt: &R, queue: &Queue, sender: Sender, load: Load, left: &AtomicU64) -> u64
     requires { IsOf queue.now sender }
 {
     let mut sender = sender;
-    for body in 0..items {
+    for number in 0..load.items {
+        let body = load.body(number);
         let Ok((after, SendAnswer::Accepted { place: _ })) = send_until(queue, rt, sender, body)
         else {
             return 0;
@@ -53,11 +55,11 @@ fn take_all<R: Wait>(rt: &R, queue: &Queue, receiver: Receiver) -> u64
 }
 
 /// What one thread does; gives how many items it got.
-fn work<R: Wait>(rt: &R, queue: &Queue, worker: Worker, items: u64, left: &AtomicU64) -> u64
+fn work<R: Wait>(rt: &R, queue: &Queue, worker: Worker, load: Load, left: &AtomicU64) -> u64
     requires { Belongs queue.now worker }
 {
     match worker {
-        Worker::Sends(sender) => send_all(rt, queue, sender, items, left),
+        Worker::Sends(sender) => send_all(rt, queue, sender, load, left),
         Worker::Takes(receiver) => take_all(rt, queue, receiver),
     }
 }
@@ -100,12 +102,13 @@ fn add_receivers(
     Ok(())
 }
 
-/// All senders and receivers of a queue at work, each on a thread of its own; gives how many items were got.
+/// All senders and receivers of a queue at work, each on a thread of its own, and each sender with these items; gives how many
+/// items were got.
 pub fn pass_all<R: Threads + Wait + Sync>(
     rt: &R,
     alloc: Global,
     opened: Opened,
-    items: u64,
+    load: Load,
 ) -> Result<u64, AllocError>
     requires { CameFrom opened }
 {
@@ -125,7 +128,7 @@ pub fn pass_all<R: Threads + Wait + Sync>(
         workers,
         &|worker: Worker| -> u64
             requires { Belongs queue.now worker }
-        { work(rt, queue, worker, items, left) },
+        { work(rt, queue, worker, load, left) },
     )?;
     Ok(got.iter().fold(0u64, |sum, n| sum.wrapping_add(*n)))
 }

@@ -1,0 +1,25 @@
+//! What a sender sends.
+use cc_model::Body;
+
+/// So many items, and how many words the body of each has: 1 to 4.
+#[derive(Clone, Copy, Debug, PartialEq, Eq)]
+pub struct Load {
+    pub items: u64,
+    pub words: u64,
+}
+
+impl Load {
+    /// The body of the item of this number, whose words count up from there: one word, where it isn't to have two to four.
+    #[inline(always)]
+    pub fn body(&self, number: u64) -> Body {
+        let second = number.wrapping_add(1);
+        let third = number.wrapping_add(2);
+        let fourth = number.wrapping_add(3);
+        match self.words {
+            2 => Body::two(number, second),
+            3 => Body::three(number, second, third),
+            4 => Body::four(number, second, third, fourth),
+            _ => Body::one(number),
+        }
+    }
+}
