@@ -1,10 +1,14 @@
 #!/usr/bin/env python3
 """Derives the corpus: writes tests/corpus/NAME.in and NAME.expect for every row below.
 
+    tests/derive.py
+    tests/derive.py play|audit < INPUT      derives what is told of one input, and writes no file
+
 It is a second program for the same texts, written from docs/FORMATS.md and docs/ALGORITHM.md alone: a strict reader of
 JSON, the checks of plans and receipts, the machine one step at a time, and the audit by its seven kinds. It never runs
-the program that is tested. Of each row that is to be refused the fault is also written here by hand, and the two must
-agree. The gate doesn't need it: `tools/play_corpus.sh` reads the files. Run it after a change of the formats.
+the program that is tested. Of each row that is to be refused or audited the fault is also written here by hand, and of
+some that are played the report; where the two differ nothing is written. The gate doesn't need it:
+`tools/play_corpus.sh` reads the files. Run it after a change of the formats.
 
 NAME.expect: line 1 the task and the exit status, line 2 what is told on standard error, and then the standard output.
 """
@@ -13,6 +17,7 @@ import random
 import sys
 
 LIMIT = 16777216
+TOP = os.path.dirname(os.path.dirname(os.path.abspath(__file__)))
 
 
 class Fault(Exception):
@@ -223,34 +228,64 @@ def pass_of(name):
     return name[0], int(digits)
 
 
+def version_of(tree):
+    """The version whose table holds of a plan or receipts: 2 where the root says so by a whole number, else 1."""
+    written = tree.get("version") if isinstance(tree, dict) else None
+    return 2 if is_number(written) and written.whole() == 2 else 1
+
+
+def is_body(value, version):
+    """The shape of a body: a number, and in version 2 an array of them."""
+    return is_number(value) if version == 1 else is_list(value) and all(is_number(word) for word in value)
+
+
+def body_of(value, version, key):
+    """The words of a body."""
+    words = [value] if version == 1 else value
+    need(1 <= len(words) <= 4, "P3 " + key)
+    return [check_range(word, 0, 2**64 - 1, key) for word in words]
+
+
 PLAN_KEYS = ["capacity", "bound", "life", "senders", "receivers", "schedule"]
 
 
-def plan_of(data):
-    tree = tree_of(data)
-    check_keys(tree, PLAN_KEYS, ["version"])
-    for key in ["version", "capacity", "bound", "life"]:
+def is_close(call):
+    return type(call) is str and call == "close"
+
+
+def check_plan_shape(tree, version):
+    needed, optional = (PLAN_KEYS, ["version"]) if version == 1 else (["version", "groups"] + PLAN_KEYS, [])
+    check_keys(tree, needed, optional)
+    for key in ["version", "groups", "capacity", "bound", "life"]:
         need(key not in tree or is_number(tree[key]), "P2")
     need(is_list(tree["senders"]) and all(is_list(calls) for calls in tree["senders"]), "P2")
-    need(all(is_number(c) or (type(c) is str and c == "close") for calls in tree["senders"] for c in calls), "P2")
+    need(all(is_close(c) or is_body(c, version) for calls in tree["senders"] for c in calls), "P2")
     need(is_list(tree["receivers"]) and all(is_number(n) for n in tree["receivers"]), "P2")
     need(is_list(tree["schedule"]), "P2")
     for entry in tree["schedule"]:
         need(is_list(entry) and len(entry) == 2 and type(entry[0]) is str and is_number(entry[1]), "P2")
         pass_of(entry[0])
+
+
+def plan_of(data):
+    tree = tree_of(data)
+    version = version_of(tree)
+    check_plan_shape(tree, version)
     if "version" in tree:
-        check_range(tree["version"], 1, 1, "version")
+        check_range(tree["version"], version, version, "version")
     plan = {
+        "version": version,
+        "groups": check_range(tree["groups"], 1, 8, "groups") if version == 2 else 1,
         "capacity": check_range(tree["capacity"], 1, 4096, "capacity"),
         "bound": check_range(tree["bound"], 1, 1024, "bound"),
         "life": check_range(tree["life"], 1, 2**48, "life"),
     }
     need(1 <= len(tree["senders"]) <= 64 and all(len(calls) <= 65536 for calls in tree["senders"]), "P3 senders")
     plan["senders"] = [
-        [None if c == "close" and not is_number(c) else check_range(c, 0, 2**64 - 1, "senders") for c in calls]
-        for calls in tree["senders"]
+        [None if is_close(c) else body_of(c, version, "senders") for c in calls] for calls in tree["senders"]
     ]
-    need(1 <= len(tree["receivers"]) <= 64, "P3 receivers")
+    each, left = divmod(len(tree["receivers"]), plan["groups"])
+    need(left == 0 and 1 <= each <= 64, "P3 receivers")
     plan["receivers"] = [check_range(n, 0, 65536, "receivers") for n in tree["receivers"]]
     need(len(tree["schedule"]) <= 65536, "P3 schedule")
     plan["schedule"] = [
@@ -264,22 +299,29 @@ def plan_of(data):
 
 def receipts_of(data):
     tree = tree_of(data)
-    check_keys(tree, ["accepted", "taken"], ["total"])
+    version = version_of(tree)
+    check_keys(tree, ["accepted", "taken"], ["version", "total"])
+    need("version" not in tree or is_number(tree["version"]), "P2")
     total = tree.get("total")
     need(total is None or is_number(total), "P2")
     for key, length in (("accepted", 4), ("taken", 5)):
         need(is_list(tree[key]), "P2")
         for row in tree[key]:
-            need(is_list(row) and len(row) == length and all(is_number(n) for n in row), "P2")
+            need(is_list(row) and len(row) == length and all(is_number(n) for n in row[:-1]), "P2")
+            need(is_body(row[-1], version), "P2")
+    if "version" in tree:
+        check_range(tree["version"], version, version, "version")
     if total is not None:
         total = check_range(total, 0, 2**64 - 1, "total")
-    word, number, pass_number = (0, 2**64 - 1), (1, 2**32 - 1), (1, 64)
-    ranges = {
-        "accepted": [pass_number, number, word, word],
-        "taken": [pass_number, word, pass_number, number, word],
-    }
+    word, number, sender = (0, 2**64 - 1), (1, 2**32 - 1), (1, 64)
+    receiver = (1, 64) if version == 1 else (1, 512)
+    ranges = {"accepted": [sender, number, word], "taken": [receiver, word, sender, number]}
     rows = {
-        key: [[check_range(n, *r, key) for n, r in zip(row, ranges[key])] for row in tree[key]] for key in ranges
+        key: [
+            [check_range(n, *r, key) for n, r in zip(row, ranges[key])] + [body_of(row[-1], version, key)]
+            for row in tree[key]
+        ]
+        for key in ranges
     }
     return rows["accepted"], rows["taken"], total
 
@@ -291,21 +333,42 @@ class Node:
     """A node of a chain: link, state, request and answer words."""
 
     def __init__(self):
-        self.next = self.state = self.tag = self.body = self.ret = 0
+        self.next = self.state = self.tag = self.ret = 0
+        self.body = [0] * 4
 
 
 class Item:
     """A node of the list."""
 
     def __init__(self, passed):
-        self.tag = self.body = self.next = 0
+        self.tag = self.next = 0
+        self.body = [0] * 4
         self.passed = passed
 
 
+def tag_of(sender, number, words):
+    return (words - 1) * 2**48 + sender * 2**32 + number
+
+
+def untagged(tag):
+    """The sender, the number and how many words, of a tag. A close's tag is 0, and it has one word."""
+    return tag // 2**32 % 2**16, tag % 2**32, tag // 2**48 + 1
+
+
+def spaced(words):
+    return " ".join(str(word) for word in words)
+
+
+# The chain of the senders. The chain of a group of receivers is the group's number, from 1.
+SENDERS = 0
+
+
 class Pass:
-    def __init__(self, side, number, calls):
-        self.side, self.number, self.calls = side, number, calls
-        self.node, self.sends, self.steps = number, 0, None
+    """A sender or a receiver: its chain, its number in the whole queue, and its own node there."""
+
+    def __init__(self, chain, number, node, calls):
+        self.chain, self.number, self.node, self.calls = chain, number, node, calls
+        self.sends, self.steps = 0, None
 
 
 class Machine:
@@ -313,43 +376,44 @@ class Machine:
 
     def __init__(self, plan):
         self.capacity, self.bound, self.life = plan["capacity"], plan["bound"], plan["life"]
-        self.nodes = {
-            "s": [Node() for _ in range(len(plan["senders"]) + 1)],
-            "r": [Node() for _ in range(len(plan["receivers"]) + 1)],
-        }
-        self.tail = {"s": 1, "r": 1}
-        middle = [Item(1) for _ in range(self.capacity)]
+        self.groups = plan["groups"]
+        chains = range(self.groups + 1)
+        self.nodes = [[Node() for _ in range(len(plan["senders"]) + 1)]]
+        self.nodes += [[Node() for _ in range(len(plan["receivers"]) // self.groups + 1)] for _ in chains[1:]]
+        self.tail = [1 for _ in chains]
+        middle = [Item(self.groups) for _ in range(self.capacity)]
         self.list = [Item(0)] + middle + [Item(0)]
-        self.last, self.shut, self.count, self.cursor, self.head, self.taken = 1, 0, 0, 1, 1, 0
-        self.calls = {"s": [], "r": []}
-        self.answers = {"s": [], "r": []}
-        self.sent, self.got, self.total = [], [], None
+        self.last, self.shut, self.count, self.cursor = 1, 0, 0, 1
+        self.head, self.taken = [1 for _ in chains], [0 for _ in chains]
+        self.calls, self.answers = [[] for _ in chains], [[] for _ in chains]
+        self.sent, self.got, self.total = [], [[] for _ in chains], None
 
     def call(self, pass_, body):
         """The steps of a call: of a sender a body, or None for a close; of a receiver a take."""
-        side, nodes = pass_.side, self.nodes[pass_.side]
-        if side == "r":
-            words = "take"
+        chain, nodes, tag = pass_.chain, self.nodes[pass_.chain], 0
+        if chain != SENDERS:
+            told = "take"
+        elif body is None:
+            told = "close"
         else:
-            words = "close" if body is None else "send %d" % body
-        tag = 0
-        if side == "s" and body is not None:
+            told = "send " + spaced(body)
             pass_.sends += 1
-            tag = pass_.number * 2**32 + pass_.sends
+            tag = tag_of(pass_.number, pass_.sends, len(body))
         own = pass_.node
         nodes[own].next = 0
         yield False
         nodes[own].state = 1
         yield False
-        pass_.node, self.tail[side] = self.tail[side] - 1, own + 1
-        self.calls[side].append((pass_.number, words))
+        pass_.node, self.tail[chain] = self.tail[chain] - 1, own + 1
+        self.calls[chain].append((pass_.number, told))
         yield False
         mine = nodes[pass_.node]
-        if side == "s":
+        if chain == SENDERS:
             mine.tag = tag
             yield False
-            mine.body = body or 0
-            yield False
+            for place, word in enumerate(body or [0]):
+                mine.body[place] = word
+                yield False
         mine.next = own + 1
         yield False
         state = 1
@@ -357,39 +421,53 @@ class Machine:
             state = mine.state
             yield False
         if state == 0:
-            yield from self.combine(side, pass_.node)
+            yield from self.combine(chain, pass_.node)
         answer = mine.ret
-        if side == "r" and answer[0] == "got":
+        if answer[0] == "got":
             yield False
-            yield False
+            _, _, words = untagged(mine.tag)
+            for _ in range(words):
+                yield False
         yield True
 
-    def combine(self, side, at):
-        nodes, served = self.nodes[side], 0
+    def combine(self, chain, at):
+        nodes, served = self.nodes[chain], 0
         while served < self.bound:
             link = nodes[at].next
             yield False
             if link == 0:
                 break
-            yield from self.serve_send(nodes[at]) if side == "s" else self.serve_take(nodes[at])
+            yield from self.serve_send(nodes[at]) if chain == SENDERS else self.serve_take(chain, nodes[at])
             nodes[at].state = 2
             yield False
             at, served = link - 1, served + 1
         nodes[at].state = 0
         yield False
 
-    def decide(self, side, *answer):
-        self.answers[side].append(" ".join(str(word) for word in answer))
+    def decide(self, chain, *answer):
+        self.answers[chain].append(spaced(answer))
         return answer
 
+    def read_words(self, node, words, body):
+        """The first words of a node's body, one at each step, put behind those of a list."""
+        for place in range(words):
+            body.append(node.body[place])
+            yield False
+
+    def write_words(self, node, body):
+        """A body, one word at each step."""
+        for place, word in enumerate(body):
+            node.body[place] = word
+            yield False
+
     def serve_send(self, node):
-        tag = node.tag
+        tag, body = node.tag, []
         yield False
-        body = node.body
-        yield False
+        sender, number, words = untagged(tag)
+        yield from self.read_words(node, words, body)
         shut = self.shut
         if shut and tag:
-            answer = self.decide("s", "closed")
+            answer = self.decide(SENDERS, "closed")
             yield False
             node.ret = answer
             yield False
@@ -397,7 +475,7 @@ class Machine:
         yield False
         count = self.count
         if shut or (tag and count == self.life):
-            answer = self.decide("s", "already", count) if shut else self.decide("s", "spent")
+            answer = self.decide(SENDERS, "already", count) if shut else self.decide(SENDERS, "spent")
             yield False
             node.ret = answer
             yield False
@@ -407,7 +485,7 @@ class Machine:
             last = self.last
             yield False
             self.list[last - 1].next = self.capacity + 2
-            answer = self.decide("s", "shut", count)
+            answer = self.decide(SENDERS, "shut", count)
             self.total = count
             yield False
             self.last = self.capacity + 2
@@ -422,12 +500,12 @@ class Machine:
         free = None
         for step in range(self.capacity + 1):
             place = (cursor + step) % (self.capacity + 1)
-            if self.list[place].passed == 1:
+            if self.list[place].passed == self.groups:
                 free = place
                 yield False
                 break
             if step == self.capacity:
-                answer = self.decide("s", "full")
+                answer = self.decide(SENDERS, "full")
             yield False
         if free is None:
             node.ret = answer
@@ -440,13 +518,12 @@ class Machine:
         yield False
         item.tag = tag
         yield False
-        item.body = body
-        yield False
+        yield from self.write_words(item, body)
         last = self.last
         yield False
         self.list[last - 1].next = free + 1
-        answer = self.decide("s", "accepted", count)
-        self.sent.append((tag // 2**32, tag % 2**32, count, body))
+        answer = self.decide(SENDERS, "accepted", count)
+        self.sent.append((sender, number, count, body))
         yield False
         self.last = free + 1
         yield False
@@ -457,44 +534,42 @@ class Machine:
         node.ret = answer
         yield False
 
-    def serve_take(self, node):
-        head = self.head
+    def serve_take(self, group, node):
+        head = self.head[group]
         yield False
-        taken = self.taken
+        taken = self.taken[group]
         yield False
         link = self.list[head - 1].next
         if link == 0:
-            answer = self.decide("r", "empty")
+            answer = self.decide(group, "empty")
             yield False
             node.ret = answer
             yield False
             return
         yield False
-        tag = self.list[link - 1].tag
+        tag, body = self.list[link - 1].tag, []
         if tag == 0:
-            answer = self.decide("r", "ended", taken)
+            answer = self.decide(group, "ended", taken)
             yield False
             node.ret = answer
             yield False
             return
         yield False
-        body = self.list[link - 1].body
+        sender, number, words = untagged(tag)
+        yield from self.read_words(self.list[link - 1], words, body)
+        self.head[group] = link
         yield False
-        self.head = link
-        yield False
-        self.taken = taken + 1
+        self.taken[group] = taken + 1
         yield False
         self.list[head - 1].passed += 1
-        sender, number = tag // 2**32, tag % 2**32
-        answer = self.decide("r", "got", taken, "s%d" % sender, number, body)
-        self.got.append((0, taken, sender, number, body))
+        answer = self.decide(group, "got", taken, "s%d" % sender, number, *body)
+        self.got[group].append((0, taken, sender, number, body))
         yield False
         node.ret = answer
         yield False
         node.tag = tag
         yield False
-        node.body = body
-        yield False
+        yield from self.write_words(node, body)
 
     def event(self, pass_):
         """One event of a pass, which begins its next call where it is idle. False where it has no call left."""
@@ -507,24 +582,37 @@ class Machine:
         return True
 
 
+def passes_of(plan):
+    """The passes by their names. Receivers are numbered through, group by group."""
+    each = len(plan["receivers"]) // plan["groups"]
+    passes = {("s", i + 1): Pass(SENDERS, i + 1, i + 1, list(calls)) for i, calls in enumerate(plan["senders"])}
+    for i, takes in enumerate(plan["receivers"]):
+        passes["r", i + 1] = Pass(i // each + 1, i + 1, i % each + 1, [None] * takes)
+    return passes
+
+
 def report_of(plan):
-    machine = Machine(plan)
-    passes = {("s", i + 1): Pass("s", i + 1, list(calls)) for i, calls in enumerate(plan["senders"])}
-    passes.update({("r", i + 1): Pass("r", i + 1, [None] * n) for i, n in enumerate(plan["receivers"])})
+    machine, passes = Machine(plan), passes_of(plan)
     for name, events in plan["schedule"]:
         for _ in range(events):
             if not machine.event(passes[name]):
                 break
     lines = []
-    for side, letter in (("s", "E"), ("r", "D")):
-        answers = machine.answers[side]
-        for k, (number, words) in enumerate(machine.calls[side]):
+    for chain in range(machine.groups + 1):
+        side = "s" if chain == SENDERS else "r"
+        begins = "E" if chain == SENDERS else "D" if plan["version"] == 1 else "D %d" % chain
+        answers = machine.answers[chain]
+        for k, (number, told) in enumerate(machine.calls[chain]):
             answer = answers[k] if k < len(answers) else "pending"
-            lines.append("%s %d %s%d %s -> %s" % (letter, k, side, number, words, answer))
-    return lines + [verdict_of(machine.sent, machine.got, machine.total)]
+            lines.append("%s %d %s%d %s -> %s" % (begins, k, side, number, told, answer))
+    verdicts = [verdict_of(machine.sent, got, machine.total) for got in machine.got[1:]]
+    return lines + [next((verdict for verdict in verdicts if verdict != CLEAN), CLEAN)]
 
 
 # --------------------------------------------------------------- the audit
+
+
+CLEAN = "audit clean"
 
 
 def kind_at(place, accepted, taken, total):
@@ -557,7 +645,7 @@ def verdict_of(accepted, taken, total):
         kind = kind_at(place, accepted, taken, total)
         if kind is not None:
             return "audit fault %d place %d" % (kind, place)
-    return "audit clean"
+    return CLEAN
 
 
 def outcome_of(task, data):
@@ -566,7 +654,7 @@ def outcome_of(task, data):
         if task == "play":
             return 0, "", report_of(plan_of(data))
         line = verdict_of(*receipts_of(data))
-        return (0 if line == "audit clean" else 1), "", [line]
+        return (0 if line == CLEAN else 1), "", [line]
     except Fault as fault:
         return 2, "ccq: plan refused: %s" % fault, []
 
@@ -583,14 +671,52 @@ ROW = {
 }
 
 
-def plan(**changes):
-    """The plan of one item with some values changed; a key with None is left out."""
-    members = {key: changes.get(key, value) for key, value in ROW.items()}
-    members.update({key: value for key, value in changes.items() if key not in ROW})
+# One item of two words, for two groups of one receiver.
+ROW_OF_WORDS = {
+    "version": "2",
+    "groups": "2",
+    "capacity": "2",
+    "bound": "2",
+    "life": "10",
+    "senders": "[[[7,8]]]",
+    "receivers": "[1,1]",
+    "schedule": '[["s1",100],["r1",100],["r2",100]]',
+}
+
+
+def changed(row, changes):
+    """A plan with some values changed; a key with None is left out."""
+    members = {**row, **changes}
     return "{" + ",".join('"%s":%s' % (k, v) for k, v in members.items() if v is not None) + "}"
 
 
+def plan(**changes):
+    """The plan of one item with some values changed."""
+    return changed(ROW, changes)
+
+
+def words(**changes):
+    """The plan of two words with some values changed."""
+    return changed(ROW_OF_WORDS, changes)
+
+
+def listed(items):
+    return "[" + ",".join(items) + "]"
+
+
+def entries(text):
+    """A schedule: `s1 3, r1 100` are three events of `s1`, and then a hundred of `r1`."""
+    return listed('["%s",%s]' % tuple(entry.split()) for entry in text.split(","))
+
+
+def example(name):
+    """A text of examples/."""
+    with open(os.path.join(TOP, "examples", name + ".json"), encoding="utf-8") as text:
+        return text.read()
+
+
 ONE = plan()
+WORDS = words()
 
 # No JSON text: name, input.
 NO_JSON = {
@@ -640,6 +766,17 @@ NO_JSON = {
     "no_break_space": "\u00a0" + ONE,
     "form_feed": "\f" + ONE,
     "escaped_bracket": "\\[\\]",
+    "words_cut_in_a_body": WORDS[: WORDS.index("8")],
+    "words_cut_before_the_last_brace": WORDS[:-1],
+    "words_and_text_behind": WORDS + "]",
+    "body_one_level_too_deep": words(senders="[" * 127 + "]" * 127),
+    "comma_in_a_body": words(senders="[[[7,]]]"),
+    "no_comma_in_a_body": words(senders="[[[7 8]]]"),
+    "body_that_does_not_end": words(senders="[[[7,8]]"),
+    "body_in_round_brackets": words(senders="[[(7,8)]]"),
+    "word_with_a_leading_zero": words(senders="[[[7,08]]]"),
+    "word_too_large_for_a_float": words(senders="[[[7,1e400]]]"),
+    "groups_with_a_plus": words(groups="+2"),
 }
 
 # Bytes that are no text in UTF-8: name, input.
@@ -703,9 +840,70 @@ REFUSED_PLANS = {
         "pass_name_of_eleven_digits": plan(schedule='[["s12345678901",1]]'),
         "pass_name_behind_a_stranger": plan(schedule='[["s9",1],["s01",1]]'),
         "receipts_as_a_plan": '{"accepted":[],"taken":[]}',
+        "version_two": plan(version="2"),
+        "version_two_with_all_out_of_range": plan(version="2", capacity="0", senders="[]", receivers="[]"),
+        "version_two_as_a_text": words(version='"2"'),
+        "version_two_with_a_point": words(version="2.0"),
+        "version_two_with_an_exponent": words(version="2e0"),
+        "version_two_as_a_list": words(version="[2]"),
+        "version_two_below_zero": words(version="-2"),
+        "version_three_with_groups": words(version="3"),
+        "version_one_behind_version_two": WORDS[:-1] + ',"version":1}',
+        "groups_without_a_version": words(version=None),
+        "groups_in_version_one": plan(version="1", groups="1"),
+        "bodies_of_words_in_version_one": plan(version="1", senders="[[[7]]]"),
+        "words_without_groups": words(groups=None),
+        "words_without_life": words(life=None),
+        "words_without_receivers": words(receivers=None),
+        "words_and_an_unknown_key": words(x="1", groups="0"),
+        "groups_in_capitals": WORDS.replace("groups", "Groups"),
+        "groups_is_a_text": words(groups='"2"'),
+        "groups_is_null": words(groups="null"),
+        "groups_is_true": words(groups="true"),
+        "groups_is_a_list": words(groups="[1,1]"),
+        "groups_is_an_object": words(groups='{"1":[1],"2":[1]}'),
+        "body_is_a_number_in_version_two": words(senders="[[7]]"),
+        "body_is_a_number_behind_a_body": words(senders="[[[7],8]]"),
+        "body_is_a_text": words(senders='[["7 8"]]'),
+        "body_is_an_object": words(senders='[[{"0":7}]]'),
+        "body_in_a_body": words(senders="[[[[7,8]]]]"),
+        "empty_body_in_a_body": words(senders="[[[[]]]]"),
+        "body_nested_just_enough": words(senders="[" * 126 + "]" * 126),
+        "word_is_a_text": words(senders='[[[7,"8"]]]'),
+        "word_is_null": words(senders="[[[7,null]]]"),
+        "word_is_false": words(senders="[[[false]]]"),
+        "close_in_a_body": words(senders='[[["close"]]]'),
+        "close_in_place_of_a_sender": words(senders='["close"]'),
+        "sender_in_place_of_a_body": words(senders="[[7,8]]"),
+        "five_words_and_a_text": words(senders='[[[1,2,3,4,"5"]]]'),
+        "receivers_by_groups": words(receivers="[[1],[1]]"),
+        "receivers_of_a_close": words(receivers='[1,"close"]'),
+        "pass_name_with_a_group": words(schedule='[["r1.2",1]]'),
+        "pass_name_of_zero_among_groups": words(schedule='[["r9",1],["r0",1]]'),
+        "entry_with_a_group": words(schedule='[["r",1,1]]'),
+        "receipts_of_words_as_a_plan": '{"version":2,"accepted":[],"taken":[]}',
     },
-    "P3 version": {"version_two": plan(version="2"), "version_before_capacity": plan(version="0", capacity="0")},
+    "P3 version": {
+        "version_before_capacity": plan(version="0", capacity="0"),
+        "version_three": plan(version="3"),
+        "version_two_and_a_point_alone": plan(version="2.0"),
+        "version_two_and_an_exponent_alone": plan(version="2e0"),
+        "version_two_below_zero_alone": plan(version="-2"),
+        "version_two_past_a_word": plan(version="18446744073709551618"),
+    },
+    "P3 groups": {
+        "groups_zero": words(groups="0", capacity="0"),
+        "groups_nine": words(groups="9", receivers="[1,1,1,1,1,1,1,1,1]"),
+        "groups_nine_with_bound_zero": words(groups="9", bound="0"),
+        "groups_below_zero": words(groups="-1"),
+        "groups_with_a_point": words(groups="2.0"),
+        "groups_with_an_exponent": words(groups="2e0"),
+        "groups_past_a_word": words(groups="18446744073709551618"),
+        "groups_behind_a_duplicate": WORDS[:-1] + ',"groups":9}',
+    },
     "P3 capacity": {
+        "capacity_zero_of_words": words(capacity="0", bound="0"),
+        "capacity_past_its_range_of_words": words(capacity="4097", senders="[[[]]]"),
         "capacity_zero": plan(capacity="0", bound="0"),
         "capacity_past_its_range": plan(capacity="4097"),
         "capacity_below_zero": plan(capacity="-1"),
@@ -713,8 +911,13 @@ REFUSED_PLANS = {
         "capacity_with_an_exponent": plan(capacity="2e0"),
         "capacity_of_two_words": plan(capacity="36893488147419103234"),
     },
-    "P3 bound": {"bound_zero": plan(bound="0"), "bound_past_its_range": plan(bound="1025")},
+    "P3 bound": {
+        "bound_zero": plan(bound="0"),
+        "bound_past_its_range": plan(bound="1025"),
+        "bound_past_its_range_of_words": words(bound="1025", life="0"),
+    },
     "P3 life": {
+        "life_past_its_range_of_words": words(life="281474976710657", receivers="[1]"),
         "life_zero": plan(life="0"),
         "life_past_its_range": plan(life="281474976710657"),
         "life_of_one_and_a_half": plan(life="1.5"),
@@ -727,8 +930,32 @@ REFUSED_PLANS = {
         "body_of_two_words": plan(senders="[[18446744073709551616]]"),
         "body_below_zero": plan(senders="[[-7]]"),
         "body_with_a_point": plan(senders="[[7.0]]"),
+        "body_empty": words(senders="[[[]]]"),
+        "body_empty_behind_others": words(senders='[[[7],"close"],[[1,2,3,4],[]]]'),
+        "body_of_five_words": words(senders="[[[1,2,3,4,5]]]"),
+        "body_of_a_thousand_words": words(senders="[[[%s]]]" % ",".join(["7"] * 1000)),
+        "word_below_zero": words(senders="[[[7,-8]]]"),
+        "word_with_a_point": words(senders="[[[7,8.0]]]"),
+        "word_with_an_exponent": words(senders="[[[7e0,8]]]"),
+        "last_word_past_its_range": words(senders="[[[1,2,3,18446744073709551616]]]"),
+        "first_word_past_its_range": words(senders="[[[18446744073709551616,2]]]"),
+        "no_senders_of_words": words(senders="[]", receivers="[]"),
+        "sixty_five_senders_of_words": words(senders="[" + ",".join(["[]"] * 65) + "]"),
+        "body_empty_before_receivers": words(senders="[[[]]]", receivers="[1]", schedule='[["s1",0]]'),
     },
     "P3 receivers": {
+        "one_receiver_of_two_groups": words(receivers="[1]"),
+        "three_receivers_of_two_groups": words(receivers="[1,1,1]"),
+        "no_receivers_of_two_groups": words(receivers="[]"),
+        "sixty_five_receivers_of_one_group": words(groups="1", receivers=listed(["0"] * 65)),
+        "sixty_five_receivers_of_each_group": words(receivers=listed(["0"] * 130)),
+        "receivers_past_those_of_two_groups": words(receivers=listed(["0"] * 129)),
+        "sixty_five_receivers_of_eight_groups": words(groups="8", receivers=listed(["0"] * 520)),
+        "receivers_past_those_of_eight_groups": words(groups="8", receivers=listed(["0"] * 513)),
+        "seven_receivers_of_eight_groups": words(groups="8", receivers="[1,1,1,1,1,1,1]"),
+        "takes_past_their_range_of_a_group": words(receivers="[1,65537]"),
+        "takes_with_a_point": words(receivers="[1.0,1]"),
+        "one_receiver_before_the_schedule": words(receivers="[1]", schedule='[["s1",0]]'),
         "no_receivers": plan(receivers="[]"),
         "sixty_five_receivers": plan(receivers="[" + ",".join(["0"] * 65) + "]"),
         "takes_past_their_range": plan(receivers="[65537]"),
@@ -737,31 +964,75 @@ REFUSED_PLANS = {
         "events_zero": plan(schedule='[["s1",0]]'),
         "events_past_their_range": plan(schedule='[["s1",100001]]'),
         "events_zero_behind_a_stranger": plan(schedule='[["s2",1],["s1",0]]'),
+        "events_zero_of_a_group": words(schedule='[["r3",1],["r2",0]]'),
+        "events_past_their_range_of_a_group": words(schedule='[["r2",100001]]'),
     },
     "P4 at 0": {
         "stranger_among_receivers": plan(schedule='[["r9",1]]'),
         "stranger_of_ten_digits": plan(schedule='[["s9999999999",1]]'),
         "stranger_past_thirty_two_bits": plan(schedule='[["s4294967297",1]]'),
         "stranger_of_the_other_side": plan(senders="[[7],[9]]", schedule='[["r2",1],["s3",1]]'),
+        "stranger_of_a_third_group": words(schedule='[["r3",1],["s2",1]]'),
+        "stranger_of_a_second_group": words(groups="1", receivers="[1]", schedule='[["r2",1]]'),
+        "stranger_with_one_number_in_each_group": words(receivers="[1,1,1,1]", schedule='[["r5",1],["r4",1]]'),
     },
-    "P4 at 1": {"stranger_behind_a_sender": plan(senders="[[7],[9]]", schedule='[["s1",1],["s3",1]]')},
+    "P4 at 1": {
+        "stranger_behind_a_sender": plan(senders="[[7],[9]]", schedule='[["s1",1],["s3",1]]'),
+        "stranger_behind_the_last_receiver_of_two_groups": words(
+            receivers=listed(["0"] * 128), schedule='[["r128",1],["r129",1]]'
+        ),
+        "stranger_behind_the_last_receiver_of_eight_groups": words(
+            groups="8", receivers=listed(["0"] * 512), schedule='[["r512",1],["r513",1]]'
+        ),
+    },
 }
 
 # Receipts that are refused.
 REFUSED_RECEIPTS = {
-    "P1": {"receipts_cut_short": '{"accepted":[],"taken":[]', "receipts_with_text_behind": '{"accepted":[],"taken":[]}]'},
+    "P1": {
+        "receipts_cut_short": '{"accepted":[],"taken":[]',
+        "receipts_with_text_behind": '{"accepted":[],"taken":[]}]',
+        "receipts_cut_in_a_body": '{"version":2,"accepted":[[1,1,0,[5,',
+    },
     "P2": {
         "plan_as_receipts": ONE,
         "receipts_without_taken": '{"accepted":[]}',
-        "receipts_with_a_version": '{"version":1,"accepted":[],"taken":[]}',
         "receipts_of_objects": '{"accepted":[{}],"taken":[]}',
         "short_row_of_accepted": '{"accepted":[[1,1,0]],"taken":[]}',
         "long_row_of_taken": '{"accepted":[],"taken":[[1,0,1,1,5,6]]}',
         "text_in_a_row": '{"accepted":[[1,1,0,"5"]],"taken":[]}',
         "short_row_behind_a_bad_range": '{"accepted":[[0,1,0,5]],"taken":[[1]]}',
         "total_is_a_text": '{"total":"0","accepted":[],"taken":[]}',
+        "receipts_version_is_null": '{"version":null,"accepted":[],"taken":[]}',
+        "receipts_version_is_a_text": '{"version":"2","accepted":[[1,1,0,[5]]],"taken":[]}',
+        "receipts_of_words_without_a_version": '{"accepted":[[1,1,0,[5]]],"taken":[]}',
+        "receipts_of_words_in_version_one": '{"version":1,"accepted":[],"taken":[[1,0,1,1,[5]]]}',
+        "receipts_of_words_in_version_three": '{"version":3,"accepted":[[1,1,0,[5]]],"taken":[]}',
+        "receipts_of_words_in_version_two_with_a_point": '{"version":2.0,"accepted":[[1,1,0,[5]]],"taken":[]}',
+        "accepted_number_in_version_two": '{"version":2,"accepted":[[1,1,0,5]],"taken":[]}',
+        "taken_number_in_version_two": '{"version":2,"accepted":[[1,1,0,[5]]],"taken":[[1,0,1,1,5]]}',
+        "words_without_a_list": '{"version":2,"accepted":[[1,1,0,5,6]],"taken":[]}',
+        "two_bodies_in_a_row": '{"version":2,"accepted":[[1,1,0,[5],[6]]],"taken":[]}',
+        "row_without_a_body": '{"version":2,"accepted":[],"taken":[[1,0,1,1]]}',
+        "body_first_in_a_row": '{"version":2,"accepted":[[[5],1,1,0]],"taken":[]}',
+        "list_in_place_of_a_sender": '{"version":2,"accepted":[[[1],1,0,[5]]],"taken":[]}',
+        "body_in_a_body_of_a_row": '{"version":2,"accepted":[[1,1,0,[[5]]]],"taken":[]}',
+        "text_in_a_body_of_a_row": '{"version":2,"accepted":[],"taken":[[1,0,1,1,["5"]]]}',
+        "five_words_and_null_in_a_row": '{"version":2,"accepted":[[1,1,0,[1,2,3,4,null]]],"taken":[]}',
+        "receipts_with_groups": '{"version":2,"groups":2,"accepted":[],"taken":[]}',
+        "receipts_of_words_without_accepted": '{"version":2,"taken":[]}',
+        "words_as_receipts": WORDS,
+    },
+    "P3 version": {
+        "receipts_version_zero": '{"version":0,"accepted":[],"taken":[]}',
+        "receipts_version_three": '{"version":3,"total":-1,"accepted":[[0,1,0,5]],"taken":[]}',
+        "receipts_version_two_with_a_point": '{"version":2.0,"accepted":[[1,1,0,5]],"taken":[]}',
+        "receipts_version_of_one_and_a_half": '{"total":1.5,"accepted":[],"taken":[],"version":1.5}',
+        "receipts_version_one_with_a_point": '{"version":1.0,"accepted":[],"taken":[]}',
     },
     "P3 total": {
+        "total_with_a_point_of_words": '{"version":2,"total":2.0,"accepted":[[1,1,0,[]]],"taken":[]}',
+        "total_before_accepted_in_version_one": '{"version":1,"total":-1,"accepted":[[0,1,0,5]],"taken":[]}',
         "total_below_zero": '{"total":-1,"accepted":[[0,0,0,0]],"taken":[]}',
         "total_of_two_words": '{"total":18446744073709551616,"accepted":[],"taken":[]}',
     },
@@ -771,11 +1042,25 @@ REFUSED_RECEIPTS = {
         "number_zero": '{"accepted":[[1,0,0,5]],"taken":[]}',
         "number_past_thirty_two_bits": '{"accepted":[[1,4294967296,0,5]],"taken":[]}',
         "place_of_two_words": '{"accepted":[[1,1,18446744073709551616,5]],"taken":[]}',
+        "accepted_body_empty": '{"version":2,"accepted":[[1,1,0,[]]],"taken":[[1,0,1,1,[]]]}',
+        "accepted_body_of_five_words": '{"version":2,"accepted":[[1,1,0,[1,2,3,4,5]]],"taken":[]}',
+        "accepted_word_with_a_point": '{"version":2,"accepted":[[1,1,0,[1,2.5]]],"taken":[]}',
+        "accepted_word_past_its_range": '{"version":2,"accepted":[[1,1,0,[1,2,3,18446744073709551616]]],"taken":[]}',
+        "sender_sixty_five_of_words": '{"version":2,"accepted":[[65,1,0,[5]]],"taken":[[513,0,1,1,[5]]]}',
+        "number_past_thirty_two_bits_of_words": '{"version":2,"accepted":[[1,4294967296,0,[5]]],"taken":[]}',
+        "sender_zero_in_version_one": '{"version":1,"accepted":[[0,1,0,5]],"taken":[]}',
     },
     "P3 taken": {
         "receiver_sixty_five": '{"accepted":[],"taken":[[65,0,1,1,5]]}',
         "number_zero_of_a_take": '{"accepted":[],"taken":[[1,0,1,0,5]]}',
         "body_of_a_take_with_a_point": '{"accepted":[],"taken":[[1,0,1,1,5.0]]}',
+        "receiver_sixty_five_in_version_one": '{"version":1,"accepted":[],"taken":[[65,0,1,1,5]]}',
+        "receiver_five_hundred_and_thirteen": '{"version":2,"accepted":[],"taken":[[513,0,1,1,[5]]]}',
+        "receiver_zero_of_words": '{"version":2,"accepted":[],"taken":[[0,0,1,1,[5]]]}',
+        "sender_sixty_five_of_a_take": '{"version":2,"accepted":[],"taken":[[65,0,65,1,[5]]]}',
+        "taken_body_empty": '{"version":2,"accepted":[[1,1,0,[5]]],"taken":[[1,0,1,1,[]]]}',
+        "taken_body_of_five_words": '{"version":2,"accepted":[],"taken":[[1,0,1,1,[1,2,3,4,5]]]}',
+        "taken_word_below_zero": '{"version":2,"accepted":[],"taken":[[1,0,1,1,[5,-6]]]}',
     },
 }
 
@@ -788,19 +1073,71 @@ AUDITED = {
         "numbers_with_holes": '{"accepted":[[1,3,0,5],[2,9,1,5],[1,4294967295,2,5]],"taken":[]}',
         "rows_in_falling_order": '{"accepted":[[1,2,1,6],[1,1,0,5]],"taken":[[1,1,1,2,6],[1,0,1,1,5]]}',
         "places_with_a_hole": '{"accepted":[[1,1,9,5]],"taken":[]}',
+        "receipts_with_a_version": '{"version":1,"accepted":[],"taken":[]}',
+        "receipts_of_version_one": '{"taken":[[64,0,1,1,5]],"accepted":[[1,1,0,5]],"total":1,"version":1}',
+        "no_receipts_of_words": '{"version":2,"accepted":[],"taken":[]}',
+        "no_receipts_of_words_and_no_total": '{"version":2,"total":null,"accepted":[],"taken":[]}',
+        "bodies_of_each_length": '{"version":2,"total":4,'
+        '"accepted":[[1,1,0,[5]],[1,2,1,[5,6]],[2,1,2,[5,6,7]],[64,9,3,[5,6,7,8]]],'
+        '"taken":[[1,0,1,1,[5]],[512,1,1,2,[5,6]],[65,2,2,1,[5,6,7]],[1,3,64,9,[5,6,7,8]]]}',
+        "greatest_words": '{"version":2,"accepted":[[64,4294967295,0,[%s]]],"taken":[[512,0,64,4294967295,[%s]]]}'
+        % (",".join([GREATEST] * 4), ",".join([GREATEST] * 4)),
+        "receipts_of_the_second_group": '{"version":2,"total":2,"accepted":[[1,1,0,[7,8]],[1,2,1,[9]]],'
+        '"taken":[[3,0,1,1,[7,8]],[4,1,1,2,[9]]]}',
+        "receipts_of_words": example("receipts_of_words"),
+        "receipts_behind_a_duplicate_version": '{"version":1,"accepted":[[1,1,0,[0]]],"taken":[],"version":2}',
     },
-    "audit fault 1 place 0": {"accepted_twice_and_more": '{"total":0,"accepted":[[1,1,0,5],[1,1,0,5]],"taken":[[1,0,1,1,5],[1,0,1,1,5]]}'},
-    "audit fault 2 place 0": {"taken_twice": '{"accepted":[[1,1,0,5]],"taken":[[1,0,1,1,5],[2,0,1,1,5]]}'},
-    "audit fault 3 place 0": {"invented": '{"accepted":[],"taken":[[1,0,1,1,5]]}'},
-    "audit fault 4 place 0": {"altered": '{"accepted":[[1,1,0,5]],"taken":[[1,0,1,1,6]]}'},
+    "audit fault 1 place 0": {
+        "accepted_twice_and_more": '{"total":0,"accepted":[[1,1,0,5],[1,1,0,5]],"taken":[[1,0,1,1,5],[1,0,1,1,5]]}',
+        "accepted_twice_with_other_words": '{"version":2,"accepted":[[1,1,0,[5]],[1,2,0,[5,6]]],"taken":[[1,0,1,1,[5]]]}',
+    },
+    "audit fault 2 place 0": {
+        "taken_twice": '{"accepted":[[1,1,0,5]],"taken":[[1,0,1,1,5],[2,0,1,1,5]]}',
+        "taken_by_two_groups": '{"version":2,"accepted":[[1,1,0,[7,8]]],"taken":[[1,0,1,1,[7,8]],[2,0,1,1,[7,8]]]}',
+    },
+    "audit fault 3 place 0": {
+        "invented": '{"accepted":[],"taken":[[1,0,1,1,5]]}',
+        "invented_in_four_words": '{"version":2,"total":0,"accepted":[],"taken":[[512,0,1,1,[0,0,0,0]]]}',
+    },
+    "audit fault 3 place 1": {
+        "invented_behind_another": '{"version":2,"accepted":[[1,1,0,[5,6]],[1,2,2,[5,6]]],'
+        '"taken":[[1,0,1,1,[5,6]],[1,1,1,2,[5,6]]]}',
+    },
+    "audit fault 4 place 0": {
+        "altered": '{"accepted":[[1,1,0,5]],"taken":[[1,0,1,1,6]]}',
+        "altered_by_a_word_more": '{"version":2,"accepted":[[1,1,0,[5]]],"taken":[[1,0,1,1,[5,0]]]}',
+        "altered_by_a_word_less": '{"version":2,"accepted":[[1,1,0,[5,0]]],"taken":[[1,0,1,1,[5]]]}',
+        "altered_in_the_first_word": '{"version":2,"accepted":[[1,1,0,[1,2,3,4]]],"taken":[[1,0,1,1,[9,2,3,4]]]}',
+        "altered_in_the_second_word": '{"version":2,"accepted":[[1,1,0,[1,2,3,4]]],"taken":[[1,0,1,1,[1,9,3,4]]]}',
+        "altered_in_the_third_word": '{"version":2,"accepted":[[1,1,0,[1,2,3,4]]],"taken":[[1,0,1,1,[1,2,9,4]]]}',
+        "altered_in_the_last_word": '{"version":2,"accepted":[[1,1,0,[1,2,3,4]]],"taken":[[1,0,1,1,[1,2,3,9]]]}',
+        "altered_in_the_last_of_two_words": '{"version":2,"accepted":[[1,1,0,[1,2]]],"taken":[[1,0,1,1,[1,9]]]}',
+        "altered_by_the_order_of_words": '{"version":2,"accepted":[[1,1,0,[7,8]]],"taken":[[1,0,1,1,[8,7]]]}',
+        "altered_in_the_sender_alone": '{"version":2,"accepted":[[1,1,0,[7,8]]],"taken":[[1,0,2,1,[7,8]]]}',
+        "altered_in_the_number_alone": '{"version":2,"total":0,"accepted":[[1,1,0,[7,8]]],"taken":[[1,0,1,2,[7,8]]]}',
+    },
+    "audit fault 4 place 1": {
+        "altered_by_a_word_behind_an_item": example("receipts_altered"),
+        "altered_behind_an_item": '{"version":2,"accepted":[[1,1,0,[5]],[1,2,1,[5,6,7]]],'
+        '"taken":[[1,0,1,1,[5]],[2,1,1,2,[5,6]]]}',
+    },
     "audit fault 5 place 0": {
         "gap_at_the_front": '{"accepted":[[1,1,0,5],[1,2,1,6]],"taken":[[1,1,1,2,6]]}',
         "gap_below_the_last_place": '{"accepted":[[64,4294967295,%s,0]],"taken":[[64,%s,64,4294967295,0]]}' % (GREATEST, GREATEST),
+        "gap_of_words": '{"version":2,"accepted":[[1,1,0,[5,6]],[1,2,1,[7]]],"taken":[[1,1,1,2,[7,0]]]}',
     },
-    "audit fault 6 place 1": {"numbers_that_fall": '{"accepted":[[1,2,0,5],[1,1,1,6]],"taken":[]}'},
-    "audit fault 7 place 1": {"more_than_the_total": '{"total":1,"accepted":[[1,1,0,5],[1,2,1,6]],"taken":[]}'},
+    "audit fault 6 place 1": {
+        "numbers_that_fall": '{"accepted":[[1,2,0,5],[1,1,1,6]],"taken":[]}',
+        "numbers_that_fall_of_words": '{"version":2,"accepted":[[1,2,0,[5,6]],[1,1,1,[5,6]]],"taken":[]}',
+    },
+    "audit fault 7 place 1": {
+        "more_than_the_total": '{"total":1,"accepted":[[1,1,0,5],[1,2,1,6]],"taken":[]}',
+        "more_words_than_the_total": '{"version":2,"total":1,"accepted":[[1,1,0,[5,6,7]],[1,2,1,[6]]],"taken":[]}',
+    },
     "audit fault 7 place " + GREATEST: {
-        "total_at_the_last_place": '{"total":%s,"accepted":[[64,4294967295,%s,0]],"taken":[]}' % (GREATEST, GREATEST)
+        "total_at_the_last_place": '{"total":%s,"accepted":[[64,4294967295,%s,0]],"taken":[]}' % (GREATEST, GREATEST),
+        "total_at_the_last_place_of_words": '{"version":2,"total":%s,"accepted":[[64,4294967295,%s,[0,0]]],"taken":[]}'
+        % (GREATEST, GREATEST),
     },
     "audit fault 1 place " + GREATEST: {
         "last_place_accepted_twice": '{"accepted":[[1,1,%s,5],[2,1,%s,6]],"taken":[]}' % (GREATEST, GREATEST)
@@ -838,26 +1175,245 @@ PLAYED = {
     "waits_for_a_link": plan(bound="1", senders="[[1],[2],[3]]", schedule='[["s1",5],["s2",100],["s3",6],["s1",30],["s3",9],["s2",30]]'),
     "close_in_every_place": plan(senders='[["close",1],[2,"close"],["close"]]', receivers="[2]", schedule='[["s2",3],["s1",3],["s3",6],["r1",4],["s1",9],["s2",200],["r1",90],["s1",200],["s3",90]]'),
     "life_of_one": plan(life="1", senders="[[1,2],[3]]", receivers="[2]", schedule='[["s2",3],["s1",200],["s2",200],["s1",200],["r1",99]]'),
+    "escaped_groups": WORDS.replace('"groups"', '"gro\\u0075ps"'),
+    "much_space_in_bodies": "\n" + WORDS.replace(",", " ,\n\t").replace("[", "[ ").replace("]", "\r\n]") + " ",
+    "keys_of_words_in_another_order": "{" + ",".join(reversed(WORDS[1:-1].replace(',"', '\n"').split("\n"))) + "}",
+    "version_two_behind_version_one": '{"version":1,' + WORDS[1:],
+    "version_two_behind_a_text": '{"version":"1",' + WORDS[1:],
+    "one_group": words(groups="1", receivers="[1,1]"),
+    "most_takes_of_a_receiver": words(receivers="[0,65536]", schedule=entries("r2 100, s1 100, r2 100")),
+    "eight_groups": words(
+        groups="8",
+        capacity="1",
+        senders='[[[1],[2,3],[4,5,6],"close"]]',
+        receivers="[3,3,3,3,3,3,3,3]",
+        schedule=entries("s1 200, r8 999, r7 999, r6 999, r5 999, r4 999, r3 999, r2 999, r1 999, s1 999, r5 999"),
+    ),
+    "eight_groups_of_sixty_four": words(
+        groups="8",
+        receivers=listed(["1"] * 512),
+        schedule=entries("s1 100, r512 100, r1 100, r64 100, r65 100, r128 100, r129 100, r448 100, r449 100"),
+    ),
+    "all_passes_of_two_groups": words(
+        capacity="64",
+        bound="64",
+        life="64",
+        senders=listed("[[%s]]" % ",".join(["%d" % n] * (n % 4 + 1)) for n in range(64)),
+        receivers=listed(["1"] * 128),
+        schedule=entries(
+            "".join("s%d %d, " % (n, 6 + (n - 1) % 4) for n in range(64, 0, -1))
+            + "".join("r%d 4, " % n for n in range(128, 0, -1))
+            + "s64 9999, r128 9999, r64 9999"
+        ),
+    ),
+    "greatest_configuration_of_words": words(
+        groups="8",
+        capacity="4096",
+        bound="1024",
+        life="281474976710656",
+        receivers="[1,0,0,0,0,0,0,1]",
+        schedule=entries("s1 100000, r8 100000, r1 100000"),
+    ),
+    "no_calls_of_groups": words(senders="[[]]", receivers="[0,0]", schedule=entries("s1 100000, r2 100000, r1 1")),
+    "empty_schedule_of_words": words(schedule="[]"),
+    "each_group_stops_before_its_exchange": words(
+        groups="3", receivers="[1,1,1]", schedule=entries("s1 2, r1 2, r3 2, r2 3")
+    ),
+    "bodies_of_each_length_combined": words(
+        capacity="4",
+        bound="4",
+        senders="[[[1]],[[2,20]],[[3,30,300]],[[4,40,400,4000]]]",
+        receivers="[4,4]",
+        schedule=entries("s4 9, s3 8, s2 7, s1 6, s4 300, r2 300, r1 300"),
+    ),
+    "long_body_then_short_ones_in_one_node": words(
+        groups="1",
+        capacity="1",
+        senders="[[[1,2,3,4],[5],[6,7],[8]]]",
+        receivers="[4]",
+        schedule=entries("s1 37, r1 32, s1 28, r1 23, s1 31, r1 26, s1 28, r1 23"),
+    ),
+    "two_groups_take_turns": words(
+        capacity="1",
+        senders='[[[1,2],[3],[4,5,6],"close"]]',
+        receivers="[4,4]",
+        schedule=entries("s1 31, r2 26, s1 20, r1 26, s1 34, r1 29, r2 29, s1 99, r2 99, r1 99"),
+    ),
+    "one_group_stops_before_it_adds": words(
+        capacity="1",
+        senders="[[[1,2],[3,4],[5,6]]]",
+        receivers="[1,1]",
+        schedule=entries("s1 31, r1 14, r2 99, s1 22, r1 1, s1 99"),
+    ),
+    "one_group_never_takes": words(
+        capacity="2",
+        senders="[[[1,2],[3],[4],[5]]]",
+        receivers="[4,4]",
+        schedule=entries("s1 59, r1 999, s1 999, r1 999"),
+    ),
+    "one_group_stands_while_another_takes": words(
+        senders="[[[1,2],[3,4,5,6]]]",
+        receivers="[1,1,1,1]",
+        schedule=entries("s1 99, r1 3, r2 50, r3 3, r4 4, r3 90, r4 90"),
+    ),
+    "takers_combine_in_two_groups": words(
+        capacity="3",
+        bound="3",
+        senders="[[[1,2,3,4],[5,6],[7]]]",
+        receivers="[1,1,1,1,1,1]",
+        schedule=entries("s1 999, r3 4, r6 4, r2 4, r5 4, r1 4, r4 4, r6 20, r3 999, r6 999"),
+    ),
+    "combiner_stops_between_two_words": words(
+        senders="[[[1,2,3,4]],[[5,6,7,8]]]",
+        receivers="[2,2]",
+        schedule=entries("s1 3, s2 9, s1 46, s2 100, r1 100, s1 100, s2 100, r2 100"),
+    ),
+    "sender_stops_between_two_words": words(
+        senders="[[[1,2,3,4]],[[5,6]]]",
+        bound="1",
+        schedule=entries("s2 3, s1 7, s2 99, s1 99, r1 99"),
+        receivers="[2,2]",
+    ),
+    "taker_stops_between_two_words": words(
+        senders="[[[1,2,3,4],[5]]]",
+        receivers="[1,1,0,2]",
+        schedule=entries("s1 99, r1 12, r2 99, r4 21, r1 99, r4 99"),
+    ),
+    "answer_is_read_between_two_words": words(
+        senders="[[[1,2,3,4]]]", receivers="[2,0]", schedule=entries("s1 99, r1 30, r1 1, r1 1, r1 99")
+    ),
+    "close_among_bodies": words(
+        senders='[[[1,2],"close"],["close",[3,4,5]]]',
+        receivers="[3,3]",
+        schedule=entries("s1 40, s2 3, s1 60, r2 40, s2 200, r1 200, r2 200"),
+    ),
+    "life_of_one_body": words(
+        life="1",
+        senders="[[[1,2],[3,4]],[[5,6,7,8]]]",
+        receivers="[2,2]",
+        schedule=entries("s2 3, s1 200, s2 200, s1 200, r2 99"),
+    ),
+    "bound_of_one_in_two_groups": words(
+        bound="1",
+        senders="[[[1,2]],[[3,4]]]",
+        receivers="[1,1,1,1]",
+        schedule=entries("s1 3, s2 99, s1 99, s2 99, r2 3, r1 99, r4 99, r2 99, r3 99, r1 99"),
+    ),
+}
+
+# Plans with the whole report written by hand.
+REPORTED = {
+    "words_for_two_groups": (
+        WORDS,
+        ["E 0 s1 send 7 8 -> accepted 0", "D 1 0 r1 take -> got 0 s1 1 7 8", "D 2 0 r2 take -> got 0 s1 1 7 8", CLEAN],
+    ),
+    "a_group_holds_back": (
+        example("two_groups"),
+        [
+            "E 0 s1 send 5 -> accepted 0",
+            "E 1 s1 send 6 -> full",
+            "E 2 s1 send 6 -> full",
+            "E 3 s1 send 6 -> accepted 1",
+            "E 4 s1 close -> shut 2",
+            "D 1 0 r1 take -> got 0 s1 1 5",
+            "D 1 1 r1 take -> got 1 s1 4 6",
+            "D 1 2 r1 take -> ended 2",
+            "D 2 0 r2 take -> got 0 s1 1 5",
+            "D 2 1 r2 take -> got 1 s1 4 6",
+            "D 2 2 r2 take -> ended 2",
+            CLEAN,
+        ],
+    ),
+    "bodies_of_words": (
+        example("bodies_of_words"),
+        [
+            "E 0 s3 send 4 40 400 4000 -> accepted 0",
+            "E 1 s2 send 3 30 300 -> accepted 1",
+            "E 2 s1 send 1 -> accepted 2",
+            "E 3 s1 send 2 20 -> accepted 3",
+            "D 1 0 r1 take -> got 0 s3 1 4 40 400 4000",
+            "D 1 1 r1 take -> got 1 s2 1 3 30 300",
+            "D 1 2 r1 take -> got 2 s1 1 1",
+            "D 1 3 r1 take -> got 3 s1 2 2 20",
+            CLEAN,
+        ],
+    ),
+    "greatest_words_of_a_body": (
+        words(senders="[[[%s]]]" % ",".join([GREATEST] * 4)),
+        [
+            "E 0 s1 send %s -> accepted 0" % spaced([GREATEST] * 4),
+            "D 1 0 r1 take -> got 0 s1 1 %s" % spaced([GREATEST] * 4),
+            "D 2 0 r2 take -> got 0 s1 1 %s" % spaced([GREATEST] * 4),
+            CLEAN,
+        ],
+    ),
 }
 
 
-def random_plan(dice):
-    """A small plan in which passes stop anywhere."""
+def cuts():
+    """A lone send and a lone take of one to four words, cut before and at the step that decides, with their reports."""
+    for further, count in enumerate(["one", "two", "three", "four"]):
+        body = [7, 8, 9, 10][: further + 1]
+        link, add = 20 + 3 * further, 14 + further
+        sent, got = "E 0 s1 send %s -> " % spaced(body), "D 2 0 r2 take -> "
+
+        def cut(schedule):
+            return words(senders="[[[%s]]]" % ",".join(map(str, body)), schedule=schedule)
+
+        accepted = sent + "accepted 0"
+        yield "send_of_%s_cut_before_its_link" % count, cut(entries("s1 %d" % (link - 1))), [sent + "pending", CLEAN]
+        yield "send_of_%s_cut_at_its_link" % count, cut(entries("s1 %d" % link)), [accepted, CLEAN]
+        taken = got + "got 0 s1 1 " + spaced(body)
+        early, late = cut(entries("s1 99, r2 %d" % (add - 1))), cut(entries("s1 99, r2 %d" % add))
+        yield "take_of_%s_cut_before_its_add" % count, early, [accepted, got + "pending", CLEAN]
+        yield "take_of_%s_cut_at_its_add" % count, late, [accepted, taken, CLEAN]
+
+
+def ends():
+    """Two calls of one pass, cut before and at the exchange of the second, three events behind the first."""
+    sends = words(senders="[[[1,2,3,4],[5]]]", schedule=entries("s1 %d"))
+    takes = words(senders="[[[1,2,3,4]]]", receivers="[2,0]", schedule=entries("s1 99, r1 %d"))
+    sent, got = "E 0 s1 send 1 2 3 4 -> accepted 0", "D 1 0 r1 take -> got 0 s1 1 1 2 3 4"
+    yield "second_send_before_its_exchange", sends % (37 + 2), [sent, CLEAN]
+    yield "second_send_at_its_exchange", sends % (37 + 3), [sent, "E 1 s1 send 5 -> pending", CLEAN]
+    yield "second_take_before_its_exchange", takes % (32 + 2), [sent, got, CLEAN]
+    yield "second_take_at_its_exchange", takes % (32 + 3), [sent, got, "D 1 1 r1 take -> pending", CLEAN]
+
+
+def random_plan(dice, groups, entries, body):
+    """The parts of a small plan in which passes stop anywhere."""
     senders = [
-        [dice.choice(["close"] + [str(dice.randrange(100)) for _ in range(7)]) for _ in range(dice.randrange(5))]
+        [dice.choice(['"close"'] + [body() for _ in range(7)]) for _ in range(dice.randrange(5))]
         for _ in range(dice.randrange(1, 4))
     ]
-    receivers = [dice.randrange(5) for _ in range(dice.randrange(1, 4))]
-    names = ["s%d" % (n + 1) for n in range(len(senders))] + ["r%d" % (n + 1) for n in range(len(receivers))]
-    schedule = [(dice.choice(names), dice.choice([1, 2, 3, 5, 8, 13, 21, 34])) for _ in range(dice.randrange(60))]
-    return plan(
-        capacity=str(dice.randrange(1, 4)),
-        bound=str(dice.randrange(1, 4)),
-        life=str(dice.randrange(1, 9)),
-        senders="[" + ",".join("[" + ",".join('"close"' if c == "close" else c for c in s) + "]" for s in senders) + "]",
-        receivers="[" + ",".join(str(n) for n in receivers) + "]",
-        schedule="[" + ",".join('["%s",%d]' % entry for entry in schedule) + "]",
-    )
+    receivers = [dice.randrange(5) for _ in range(groups * dice.randrange(1, 4))]
+    names = ["s%d" % (n + 1) for n in range(len(senders))] * (2 * groups - 1)
+    names += ["r%d" % (n + 1) for n in range(len(receivers))]
+    schedule = [(dice.choice(names), dice.choice([1, 2, 3, 5, 8, 13, 21, 34])) for _ in range(dice.randrange(entries))]
+    return {
+        "capacity": str(dice.randrange(1, 4)),
+        "bound": str(dice.randrange(1, 4)),
+        "life": str(dice.randrange(1, 9)),
+        "senders": listed(listed(calls) for calls in senders),
+        "receivers": listed(str(takes) for takes in receivers),
+        "schedule": listed('["%s",%d]' % entry for entry in schedule),
+    }
+
+
+def random_plans():
+    """Thirty plans of version 1, and forty of version 2."""
+    dice = random.Random(16)
+    for n in range(30):
+        yield "any_order_%02d" % (n + 1), plan(**random_plan(dice, 1, 60, lambda: str(dice.randrange(100))))
+    dice = random.Random(48)
+
+    def body():
+        return listed(str(dice.randrange(100)) for _ in range(dice.randrange(1, 5)))
+
+    for n in range(40):
+        groups = n % 3 + 1
+        parts = random_plan(dice, groups, 60 * groups, body)
+        yield "any_order_of_words_%02d" % (n + 1), words(groups=str(groups), **parts)
 
 
 def rows():
@@ -874,32 +1430,63 @@ def rows():
             yield name, "audit", text.encode(), fault
     for verdict, inputs in AUDITED.items():
         for name, text in inputs.items():
-            yield name, "audit", text.encode(), verdict
+            yield name, "audit", text.encode(), [verdict]
     for name, text in PLAYED.items():
         yield name, "play", text.encode(), None
-    dice = random.Random(16)
-    for n in range(30):
-        yield "any_order_%02d" % (n + 1), "play", random_plan(dice).encode(), None
+    for name, (text, lines) in REPORTED.items():
+        yield name, "play", text.encode(), lines
+    for name, text, lines in [*cuts(), *ends()]:
+        yield name, "play", text.encode(), lines
+    for name, text in random_plans():
+        yield name, "play", text.encode(), None
 
 
-def main():
-    place = os.path.join(os.path.dirname(os.path.abspath(__file__)), "corpus")
+def check(name, task, outcome, wanted):
+    """Ends the program where what was derived isn't what is written by hand, or where a played plan isn't clean."""
+    status, told, lines = outcome
+    if wanted is not None and wanted != (lines or told.replace("ccq: plan refused: ", "")):
+        sys.exit("%s: by hand %s, but derived %s %s" % (name, wanted, told, lines))
+    if task == "play" and status == 0 and lines[-1] != CLEAN:
+        sys.exit("%s: it is played, and its verdict is %s" % (name, lines[-1]))
+
+
+def derived():
+    """The files of the corpus by their names, where all rows are as they have to be."""
+    files = {}
+    for name, task, data, wanted in rows():
+        if name + ".in" in files:
+            sys.exit("two rows are named %s" % name)
+        outcome = outcome_of(task, data)
+        check(name, task, outcome, wanted)
+        status, told, lines = outcome
+        files[name + ".in"] = data
+        files[name + ".expect"] = "".join(line + "\n" for line in ["%s %d" % (task, status), told, *lines]).encode("ascii")
+    return files
+
+
+def derive_one(task):
+    """What is told of the input on standard input. Ends with the status."""
+    status, told, lines = outcome_of(task, sys.stdin.buffer.read())
+    sys.stdout.write("".join(line + "\n" for line in lines))
+    sys.stderr.write(told and told + "\n")
+    sys.exit(status)
+
+
+def write_corpus():
+    place = os.path.join(TOP, "tests", "corpus")
+    files = derived()
     os.makedirs(place, exist_ok=True)
     for old in os.listdir(place):
         os.remove(os.path.join(place, old))
-    seen = set()
-    for name, task, data, wanted in rows():
-        status, told, lines = outcome_of(task, data)
-        if name in seen:
-            sys.exit("two rows are named %s" % name)
-        seen.add(name)
-        if wanted is not None and wanted != (lines[0] if lines else told.replace("ccq: plan refused: ", "")):
-            sys.exit("%s: by hand %s, but derived %s %s" % (name, wanted, told, lines))
-        with open(os.path.join(place, name + ".in"), "wb") as out:
+    for name, data in files.items():
+        with open(os.path.join(place, name), "wb") as out:
             out.write(data)
-        with open(os.path.join(place, name + ".expect"), "w", encoding="ascii") as out:
-            out.write("%s %d\n%s\n" % (task, status, told) + "".join(line + "\n" for line in lines))
-    print("%d rows" % len(seen))
+    print("%d rows" % (len(files) // 2))
 
 
-main()
+if sys.argv[1:] in (["play"], ["audit"]):
+    derive_one(sys.argv[1])
+elif sys.argv[1:]:
+    sys.exit(__doc__)
+else:
+    write_corpus()
