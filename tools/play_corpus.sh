@@ -1,7 +1,7 @@
 #!/bin/bash
 # Gives the program that the gate left, as each compiler built it, every input of tests/corpus: NAME.expect has the task
 # and the status in its first line, what must stand on standard error in its second, and then the standard output.
-# Behind these: every front of a plan; inputs of 16 MiB, at the limit and one byte past it; and a large input in little
+# Behind these: every front of two plans; inputs of 16 MiB, at the limit and one byte past it; and a large input in little
 # memory, which must end with status 3 and have written nothing.
 # Before that, the script shows that it finds a wrong status, line and report.
 # Exit status 0 where all runs did so. It proves and builds nothing: `rt ci` does, or `rt run` in crates/ccq.
@@ -41,19 +41,23 @@ is_refused() {
 # An input of so many bytes: a piece again and again.
 repeat() { yes "$1" | tr -d '\n' | head -c "$2"; }
 
-one=examples/one_item.json
-length=$(($(wc -c <$one) - 1))
+whole=(examples/one_item.json examples/bodies_of_words.json)
 limit=16777216
 head -c "$limit" /dev/zero | tr '\0' ' ' >"$room/spaces"
 { cat "$room/spaces"; printf ' '; } >"$room/more_spaces"
 { printf '['; repeat '{"a":0},' "$((limit - 8))"; printf '0]'; } >"$room/objects"
 
-# Each front of a plan is no JSON text, each at its length.
+# Each front of these plans, less the line's end, is no JSON text. Counts them in `cut`.
 fronts() {
-    local k
-    for ((k = 0; k < length; k++)); do
-        head -c "$k" $one >"$room/front"
-        is_refused "$1" play "$room/front" P1 || return 1
+    local plan length k
+    cut=0
+    for plan in "${whole[@]}"; do
+        length=$(($(wc -c <"$plan") - 1))
+        for ((k = 0; k < length; k++)); do
+            head -c "$k" "$plan" >"$room/front"
+            is_refused "$1" play "$room/front" P1 || return 1
+            cut=$((cut + 1))
+        done
     done
 }
 
@@ -71,13 +75,14 @@ large() {
     done
 }
 
-# The script finds what is wrong: a status, a line on standard error, a report.
-for wrong in 's/^play 0$/play 1/' '2s/^$/ccq: reading failed/' 's/accepted 0/accepted 1/'; do
-    sed "$wrong" tests/corpus/escaped_key.expect >"$room/wrong"
-    printf '#!/bin/bash\ntail -n +3 tests/corpus/escaped_key.expect\n' >"$room/right_program"
+# The script finds what is wrong: a status, a line on standard error, a report; a group, and a word of a body.
+shown=tests/corpus/words_for_two_groups
+for wrong in 's/^play 0$/play 1/' '2s/^$/ccq: reading failed/' 's/accepted 0/accepted 1/' 's/^D 2 0/D 1 1/' 's/1 7 8$/1 7/'; do
+    sed "$wrong" $shown.expect >"$room/wrong"
+    printf '#!/bin/bash\ntail -n +3 %s.expect\n' $shown >"$room/right_program"
     chmod +x "$room/right_program"
-    if ! is_as "$room/right_program" tests/corpus/escaped_key.in tests/corpus/escaped_key.expect ||
-        is_as "$room/right_program" tests/corpus/escaped_key.in "$room/wrong" >/dev/null; then
+    if ! is_as "$room/right_program" $shown.in $shown.expect ||
+        is_as "$room/right_program" $shown.in "$room/wrong" >/dev/null; then
         echo "play_corpus: an answer that isn't the expected one was let through, so this script finds nothing"
         exit 1
     fi
@@ -96,5 +101,5 @@ for program in "${builds[@]}"; do
         echo "$program: $wrong answers are not the expected ones"
         exit 1
     fi
-    echo "$program: $inputs inputs of tests/corpus, $length fronts of a plan and six large inputs, each with its status and its bytes"
+    echo "$program: $inputs inputs of tests/corpus, $cut fronts of two plans and six large inputs, each with its status and its bytes"
 done
