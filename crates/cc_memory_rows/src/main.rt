@@ -11,7 +11,7 @@ use crate::queues::call_queues;
 use cc_audit::{SendReceipt, TakeReceipt, Verdict, audit, send_receipts, take_receipts, total};
 use cc_broker::Broker;
 use cc_machine::{BeginFault, CounterMachine, Event, Machine, OpenFault};
-use cc_model::{Answer, Call, Config, Entry, History, Item, Pass};
+use cc_model::{Answer, Body, Call, Config, Entry, History, Item, Pass};
 use std::alloc::{AllocError, Global};
 use std::io;
 use std::process::ExitCode;
@@ -73,9 +73,9 @@ fn make(machine: &mut Machine, pass: Pass, call: Call) -> Option<u32> {
 /// Plays calls one after another: an item is passed on, and the queue closed. The answer is how many begins were refused
 /// memory; None where a call can't be begun, or isn't answered.
 fn play(machine: &mut Machine) -> Option<u32> {
-    let mut refused = make(machine, SENDER, Call::Send(5))?;
+    let mut refused = make(machine, SENDER, Call::Send(Body::one(5)))?;
     refused = refused.saturating_add(make(machine, SENDER, Call::Close)?);
-    refused = refused.saturating_add(make(machine, SENDER, Call::Send(6))?);
+    refused = refused.saturating_add(make(machine, SENDER, Call::Send(Body::one(6)))?);
     refused = refused.saturating_add(make(machine, SENDER, Call::Close)?);
     for _ in 0..3 {
         refused = refused.saturating_add(make(machine, RECEIVER, Call::Take)?);
@@ -115,7 +115,7 @@ fn sent(number: u32, place: u64, body: u64) -> SendReceipt {
         sender: 1,
         number,
         place,
-        body,
+        body: Body::one(body),
     }
 }
 
@@ -128,7 +128,7 @@ fn audit_gap(alloc: Global) -> Result<Verdict, AllocError> {
             place: 1,
             sender: 1,
             number: 2,
-            body: 6,
+            body: Body::one(6),
         },
     }];
     audit(alloc, &sends, &takes, None)

@@ -4,7 +4,7 @@ ghost use Rattle.std.specs.Prelude.{◌≡◌, ◌+◌, IfSome, IfOk};
 ghost use Rattle.cc_steps.specs.Walk.{IsOf, fresh, fresh_from};
 ghost use Rattle.cc_queue.specs.Calls.{TurnedSend, TurnedTake};
 
-use cc_model::{CloseAnswer, Config, SendAnswer, TakeAnswer};
+use cc_model::{Body, CloseAnswer, Config, SendAnswer, TakeAnswer};
 use cc_queue::{
     CloseTurn, PendingSend, PendingTake, Queue, Receiver, SendTurn, Sender, TakeTurn, begin_close,
     begin_send, begin_take, meet, turn_close, turn_send, turn_take,
@@ -150,8 +150,8 @@ fn begin_both(queue: &Queue, first: Sender, second: Sender) -> Option<(PendingSe
     ensures first { IfSome result (λ r. IsOf queue.now r.0) }
     ensures second { IfSome result (λ r. IsOf queue.now r.1) }
 {
-    let first = begin_send(queue, first, 7).ok()?;
-    match begin_send(queue, second, 9) {
+    let first = begin_send(queue, first, Body::one(7)).ok()?;
+    match begin_send(queue, second, Body::one(9)) {
         Ok(second) => Some((first, second)),
         Err(_) => {
             first.abandon();
@@ -164,9 +164,9 @@ fn begin_both(queue: &Queue, first: Sender, second: Sender) -> Option<(PendingSe
 fn worn(queue: &Queue, sender: Sender) -> Option<CloseAnswer>
     requires { IsOf queue.now sender }
 {
-    let pending = begin_send(queue, sender, 7).ok()?;
+    let pending = begin_send(queue, sender, Body::one(7)).ok()?;
     let (sender, _, _) = finish_send(queue, pending)?;
-    let sender = match begin_send(queue, sender, 9) {
+    let sender = match begin_send(queue, sender, Body::one(9)) {
         Ok(pending) => {
             pending.abandon();
             return None;
