@@ -1,13 +1,14 @@
 #!/usr/bin/env python3
 """Times the queue beside other queues, interleaved: each round runs every program once, and the medians are told.
 
-    bench/run.py [--rounds N] [--items N] [--beside TREE]
+    bench/run.py [--rounds N] [--items N] [--beside TREE | --words]
 
 `cc_bench` is the proved queue (build it by `rt run` in crates/cc_bench), `plain` the same atomic steps by hand, as they
 are and `released` (with the stores `Release` that need no locked instruction of their own), std's Mutex with Condvar, and
 std's sync_channel (build it by `cargo build --release` in bench/plain). A line a shape: senders, receivers, capacity, and
 the nanoseconds of the clock an item of each program; in brackets those of the processors.
 With --beside the queue runs beside that of another tree alone, which is told as `before`, and their ratios are told too.
+With --words it runs alone, with bodies of one word, of two and of four; else each body has one word.
 """
 import argparse
 import os
@@ -62,15 +63,28 @@ def beside(before, items, rounds):
         print(f"{senders} and {receivers} threads, capacity 64  {quartiles}", flush=True)
 
 
+def by_words(items, rounds):
+    """The queue with bodies of one word, of two and of four, in one run."""
+    for senders, receivers in [(0, 1), *SHAPES]:
+        shape = [str(n) for n in (senders, receivers, 64, items)]
+        commands = {f"{words} words": [QUEUE, *shape, str(words)] for words in (1, 2, 4)}
+        show(f"{senders} and {receivers} threads, capacity 64", compare(commands, items, rounds))
+
+
 def main():
     parser = argparse.ArgumentParser()
     parser.add_argument("--rounds", type=int, default=11)
     parser.add_argument("--items", type=int, default=400_000)
-    parser.add_argument("--beside", metavar="TREE")
+    alternatives = parser.add_mutually_exclusive_group()
+    alternatives.add_argument("--beside", metavar="TREE")
+    alternatives.add_argument("--words", action="store_true")
     options = parser.parse_args()
     items = options.items
     if options.beside:
         beside(os.path.join(options.beside, os.path.relpath(QUEUE, TOP)), items, options.rounds)
+        return
+    if options.words:
+        by_words(items, options.rounds)
         return
     room = ["1", "64", str(items)]
     alone = {"queue": [QUEUE, "0", *room]}
