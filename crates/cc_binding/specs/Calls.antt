@@ -1,5 +1,6 @@
 -- What each call of a handle tells, by the pass that stood behind it before and the one that stands there afterwards.
-use Rattle.std.specs.Prelude.{◌≡◌, ◌≢◌, ℕ, ◌≤◌, nat_le, if◌then◌else◌, Option, Some, None}
+use Rattle.std.specs.Prelude.{◌≡◌, ◌≢◌, ℕ, ◌≤◌, nat_le, if◌then◌else◌, [], ◌∷◌, Option, Some, None}
+use Rattle.cc_model.specs.Body.{body_of}
 use Rattle.cc_binding.specs.Names.{Call, Answer, SendAnswer, CloseAnswer, TakeAnswer, Pass, Told, Taken}
 use Rattle.cc_steps.specs.Walk.{Walk}
 use Rattle.cc_queue.specs.Calls.{Begun, Waited, Answered}
@@ -42,7 +43,7 @@ pub record Tries {T : Type 0} (alone : ℕ → T) (Begins : Option Pass → Opti
 
 -- an idle sender begins a send of this body, or is worn and stays as it is
 abbrev pub SenderBegins : ℕ → Walk → Option Pass → ℕ → Type 0
-SenderBegins body v (Some (Pass.Sending w)) code = (code ≡ BEGUN) × Begun v (Call.Send body) w
+SenderBegins body v (Some (Pass.Sending w)) code = (code ≡ BEGUN) × Begun v (Call.Send (body_of (body ∷ []))) w
 SenderBegins body v (Some (Pass.Sender w)) code = (code ≡ WORN) × (w ≡ v) × (v.setting.config.per_sender ≤ v.stand.begun)
 SenderBegins body v _ code = ⊥
 

@@ -1,5 +1,6 @@
 -- What a call tells: its code, and the numbers of its answer. A number that the code tells nothing of is 0.
 use Rattle.std.specs.Prelude.{ℕ}
+use Rattle.cc_runs.specs.Codes.{words_in}
 use Rattle.cc_binding.specs.Names.{Item, SendAnswer, CloseAnswer, TakeAnswer, Told, Taken, TakenItem}
 use Rattle.cc_binding.specs.declared.codes.TheConstants.{ACCEPTED, FULL, CLOSED, SPENT, SHUT, ALREADY, GOT, EMPTY, ENDED}
 
@@ -19,9 +20,9 @@ abbrev pub closed_as : CloseAnswer → ℕ → Told
 closed_as (CloseAnswer.Shut total) served = record { code = SHUT; number = total; served = served }
 closed_as (CloseAnswer.Already total) served = record { code = ALREADY; number = total; served = served }
 
--- an item as C gets it
+-- an item as C gets it: of its body the first word, which is all of it in a queue of bodies of one word
 abbrev pub item_of : Item → TakenItem
-item_of item = record { place = item.place; sender = item.sender; number = item.number; body = item.body }
+item_of item = record { place = item.place; sender = item.sender; number = item.number; body = (words_in item.body).first }
 
 -- no item
 abbrev pub no_item : TakenItem

@@ -8,6 +8,7 @@ use crate::codes::{BEGUN, FRESH, NO_PASS, WAITING, WORN};
 use crate::held::{Held, Pass, put};
 use crate::refusals::{no_idle_sender, no_pending_sender};
 use crate::told::Told;
+use cc_model::Body;
 use cc_queue::{Queue, SendTurn, begin_send, turn_send};
 
 /// Begins a send of this body, if the pass can.
@@ -18,7 +19,7 @@ fn begun(queue: &Queue, pass: Pass, body: u64) -> (Pass, u32)
     ensures begins { BeginsSend body (Some pass) (Some result.0) result.1 }
 {
     match pass {
-        Pass::Sender(sender) => match begin_send(queue, sender, body) {
+        Pass::Sender(sender) => match begin_send(queue, sender, Body::one(body)) {
             Ok(pending) => (Pass::Sending(pending), BEGUN),
             Err(sender) => (Pass::Sender(sender), WORN),
         },

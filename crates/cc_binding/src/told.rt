@@ -4,6 +4,7 @@ ghost use Rattle.cc_binding.specs.Told.{only, none_taken, sent_as, closed_as, ta
 
 use crate::codes::{ACCEPTED, ALREADY, CLOSED, EMPTY, ENDED, FULL, GOT, SHUT, SPENT};
 use cc_model::{CloseAnswer, Item, SendAnswer, TakeAnswer};
+use cc_runs::words_in;
 
 /// What a call of a sender tells.
 #[derive(Clone, Copy)]
@@ -99,7 +100,7 @@ impl TakenItem {
             place: item.place,
             sender: item.sender,
             number: item.number,
-            body: item.body,
+            body: words_in(item.body).first,
         }
     }
 }
