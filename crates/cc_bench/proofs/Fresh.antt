@@ -1,5 +1,5 @@
 -- The passes of a queue that was opened are of it.
-use Rattle.std.proofs.Common.{ℕ, zero, suc, ◌+◌, ◌<◌, List, [], ◌∷◌, length, ap, arith}
+use Rattle.std.proofs.Common.{ℕ, zero, suc, ◌+◌, List, [], ◌∷◌, ap, arith}
 use Rattle.std.specs.List.{All}
 use Rattle.cc_model.specs.declared.config.Config.{Config}
 use Rattle.cc_steps.specs.Topic.{Topic}
