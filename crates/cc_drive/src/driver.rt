@@ -19,11 +19,11 @@ use std::alloc::Global;
 use std::sync::Wait;
 use std::thread::{Scope, Threads, scope, scope_env};
 
-/// Drives a queue by threads. Each receiver takes until the queue has ended, and each sender sends the bodies from 1 to
-/// `items`, each in a thread of its own; after Empty, and after Full, they try again with a back-off. When all senders are
-/// joined, they meet the closer, and it closes; when all receivers are joined too, all passes meet, and the receipts are
-/// audited with the close's total. A worker asks its own gate after each begin and after each answer; there is one gate
-/// for each worker, the senders' first.
+/// Drives a queue by threads. Each receiver takes until the queue has ended, and each sender sends the numbers from 1 to
+/// `items` as bodies of one word, each in a thread of its own; after Empty, and after Full, they try again with a back-off.
+/// When all senders are joined, they meet the closer, and it closes; when all receivers are joined too, all passes meet, and
+/// the receipts are audited with the close's total. A worker asks its own gate after each begin and after each answer; there
+/// is one gate for each worker, the senders' first.
 ///
 /// A thread that is refused ends the starting of further ones, and the workers that run go on to their end. So do they
 /// where one of them reaches its limit on turns or finds no memory for a receipt.

@@ -94,9 +94,9 @@ pub(crate) fn send_body<G: Gate>(
     Sent::Answered(sender, answer)
 }
 
-/// Sends the bodies from 1 to `items`, each again until it is accepted, and keeps a receipt of each. In a run the answer is
-/// Full until then: the queue is closed when all senders are joined, and its life is longer than any sends that they can
-/// begin. A worn sender stops. The pass is given back, but where the worker reached its limit.
+/// Sends the numbers from 1 to `items` as bodies of one word, each again until it is accepted, and keeps a receipt of each. In
+/// a run the answer is Full until then: the queue is closed when all senders are joined, and its life is longer than any sends
+/// that they can begin. A worn sender stops. The pass is given back, but where the worker reached its limit.
 pub(crate) fn send_all<G: Gate, R: Wait>(
     rt: &R,
     alloc: Global,
