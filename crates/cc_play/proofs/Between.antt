@@ -167,10 +167,9 @@ planned plan (Pass.Sender n) row begun k lawful named next =
     let on : nat_lt row plan.config.senders ≡ true = grind (arith, nat_tests, high) in
     record { side = λ rest. rw on (send_side k rest of); few = omega (arith, inside, lawful.sends (n - 1) [] there) }
 planned plan (Pass.Receiver n) row begun k lawful named next =
-    let one : plan.config.groups * plan.config.receivers ≡ plan.config.receivers = rw lawful.groups (omega arith) in
     let here = chosen (within 1 (plan.config.groups * plan.config.receivers) n) (plan.config.senders + (n - 1)) row named in
     let now = chosen (nat_lt begun (get_or plan.receivers (n - 1) 0)) Call.Take k next in
-    let low : n - 1 < plan.config.receivers = grind (arith, nat_tests, one, here.0) in
+    let low : n - 1 < plan.config.groups * plan.config.receivers = grind (arith, nat_tests, here.0) in
     let there : n - 1 < length plan.receivers = omega (arith, low, lawful.receivers) in
     let inside : begun < get_or plan.receivers (n - 1) 0 = grind (arith, nat_tests, now.0) in
     let off : nat_lt row plan.config.senders ≡ false = grind (arith, nat_tests, here.1) in

@@ -1,5 +1,5 @@
 -- One entry of a schedule after another.
-use Rattle.std.proofs.Common.{◌≡◌, ◌<◌, ◌≤◌, ℕ, suc, ◌+◌, List, [], ◌∷◌, ◌++◌, length, get_or, take, drop, replicate, sym, ap, ◌∙◌, subst, arith, add-one}
+use Rattle.std.proofs.Common.{◌≡◌, ◌<◌, ◌≤◌, ℕ, suc, ◌+◌, ◌*◌, List, [], ◌∷◌, ◌++◌, length, get_or, take, drop, replicate, sym, ap, ◌∙◌, subst, arith, add-one}
 use Rattle.std.proofs.lemmas.Grind.{common_steps}
 use Rattle.std.proofs.Math.Seq.{drop-cons}
 use Rattle.std.proofs.lemmas.List.{drop_all, length-replicate, get_or-replicate}
@@ -19,9 +19,12 @@ written_back n xs ys same all = grind (arith, common_steps)
 pub back : (plan : PlanValue) (m : View) (n : ℕ) (xs ys : List ℕ) (run : List Move) → length ys ≡ length xs → n ≡ length xs → IsAt plan m ys run → IsAt plan m (take n (ys ++ drop (length ys) xs)) run
 back plan m n xs ys run same all at = rw (written_back n xs ys same all) at
 
--- the passes of one group
-pub all_passes : (plan : PlanValue) → Lawful plan → plan.config.senders + plan.config.receivers ≡ passes (setting_of plan)
-all_passes plan lawful = rw lawful.groups (omega arith)
+-- a row for each list of calls
+pub all_passes : (plan : PlanValue) (senders receivers : ℕ) → Lawful plan → senders ≡ length plan.senders → receivers ≡ length plan.receivers → senders + receivers ≡ passes (setting_of plan)
+all_passes plan senders receivers lawful s r =
+    let each : senders ≡ plan.config.senders = s ∙ lawful.senders in
+    let others : receivers ≡ plan.config.groups * plan.config.receivers = r ∙ lawful.receivers in
+    rw (each, others)
 
 -- the opening
 pub opened : (plan : PlanValue) (m : View) (begun : List ℕ) (n : ℕ) → IsOpened Served.List plan.config m → begun ≡ replicate n 0 → n ≡ passes (setting_of plan) → IsAt plan m begun []

@@ -2,6 +2,7 @@
 use Rattle.std.proofs.Common.{◌≡◌, ◌<◌, ◌==◌, ℕ, zero, suc, ◌+◌, ◌-◌, List, ◌∷◌, length, get_or, set, Bool, true, false, cond, Option, Some, None, Ok, refl, sym, ap, ◌∙◌, subst, arith, rules}
 use Rattle.std.proofs.lemmas.Bool.Decides.{nat_tests}
 use Rattle.std.proofs.lemmas.List.{get_or-set_same, get_or-set_other}
+use Rattle.cc_model.specs.Body.{HasBody}
 use Rattle.cc_model.specs.Items.{known_at}
 use Rattle.cc_play.specs.Names.{Answer, Call, Pass, Setting, Event, Kind, Place, Move}
 use Rattle.cc_runs.specs.Lines.{event_at}
@@ -82,16 +83,16 @@ module _ (plan : PlanValue) (who : Pass) (row : ℕ) (named : index_of (setting_
           rw same (get_or-set_same begun row (n + 1) 0 inside ∙ ap (λ (x : ℕ). x + 1) (sym is ∙ counts row inside))
       by false e = get_or-set_other begun row r (n + 1) 0 (λ same. grind (arith, nat_tests)) ∙ counts r within
 
-  pub begun_now : (m m' : View) (begun : List ℕ) (run : List Move) (n : ℕ) (k : Call) → IsAt plan m begun run → row < length begun → get_or begun row 0 ≡ n → place_in plan run row ≡ Place.Idle → next_call plan who n ≡ Some k → begin_fault m who k ≡ Ok tt
+  pub begun_now : (m m' : View) (begun : List ℕ) (run : List Move) (n : ℕ) (k : Call) → IsAt plan m begun run → row < length begun → get_or begun row 0 ≡ n → place_in plan run row ≡ Place.Idle → next_call plan who n ≡ Some k → HasBody k → begin_fault m who k ≡ Ok tt
       → HasBegun m (index_of m.setting who) k (known_at who m.history) m' → IsAt plan m' (set begun row (n + 1)) (begins plan who row run)
   unfolding state_in
-  begun_now m m' begun run n k at within is at_rest next free did =
+  begun_now m m' begun run n k at within is at_rest next whole free did =
       let here : index_of m.setting who ≡ Some row = index m begun run at in
       let h : IsAfter m (Move.Begin row k (known_at who m.history)) m' = subst (λ (o : Option ℕ). HasBegun m o k (known_at who m.history) m') here did in
       let knows : known_at who m.history ≡ known_at who (reached (setting_of plan) run).history = ap (λ (s : State). known_at who s.history) at.state in
       let call : next_call plan who (begun_in row run) ≡ Some k = ap (next_call plan who) (sym (at.counts row within) ∙ is) ∙ next in
       let begins_so : begins plan who row run ≡ Move.Begin row k (known_at who m.history) ∷ run = rw (at_rest, call, ← knows) refl in
-      let may : May m.setting (state_in m) (Move.Begin row k (known_at who m.history)) = may_begin m who k (known_at who m.history) row here free (omega arith) in
+      let may : May m.setting (state_in m) (Move.Begin row k (known_at who m.history)) = may_begin m who k (known_at who m.history) row here whole free (omega arith) in
       rw begins_so (record {
         moves = (at.moves, subst (λ (s : State). May (setting_of plan) s (Move.Begin row k (known_at who m.history))) at.state (subst (λ (c : Setting). May c (state_in m) (Move.Begin row k (known_at who m.history))) at.setting may));
         setting = h.setting ∙ at.setting;
@@ -154,14 +155,14 @@ module _ (plan : PlanValue) (who : Pass) (row : ℕ) (named : index_of (setting_
 
   -- the pass was idle, and had a call to begin
   pub begun_turned : (m m1 m2 m3 : View) (begun : List ℕ) (k : Call) (e : Event) (a : Option Answer) → row < length begun → next_call plan who (get_or begun row 0) ≡ Some k
-      → ((state_in m).stand row).place ≡ Place.Idle → begin_fault m who k ≡ Ok tt → HasBegun m (index_of m.setting who) k (known_at who m.history) m1
+      → ((state_in m).stand row).place ≡ Place.Idle → HasBody k → begin_fault m who k ≡ Ok tt → HasBegun m (index_of m.setting who) k (known_at who m.history) m1
       → e ≡ event_of m1 who → HasStepped m1 (index_of m1.setting who) e m2
       → a ≡ answer_of m2 who → HasTaken m2 (index_of m2.setting who) a m3 → HasTurned plan who row m m3 begun (set begun row (get_or begun row 0 + 1)) true
   unfolding turn
-  begun_turned m m1 m2 m3 begun k e a within next idle free begin is did told took = record {
+  begun_turned m m1 m2 m3 begun k e a within next idle whole free begin is did told took = record {
     at = λ run at.
         let at_rest : place_in plan run row ≡ Place.Idle = sym (ap (λ (s : State). (s.stand row).place) at.state) ∙ idle in
-        let first = begun_now m m1 begun run (get_or begun row 0) k at within refl at_rest next free begin in
+        let first = begun_now m m1 begun run (get_or begun row 0) k at within refl at_rest next whole free begin in
         let counted : List ℕ = set begun row (get_or begun row 0 + 1) in
         answered m2 m3 counted (steps plan row (begins plan who row run)) a (stepped m1 m2 counted (begins plan who row run) e first is did) told took;
     ended = λ run at more. cc;

@@ -1,5 +1,6 @@
 //! Following a schedule: which pass does its next atomic step, begins its next call, has its answer taken.
 ghost use Rattle.std.specs.Prelude.{◌≡◌, ◌<◌, Some, Ok, List, length, IfOk, IfSome, OnOk, ◌^◌, ◌-◌};
+ghost use Rattle.cc_model.specs.Body.{HasBody};
 ghost use Rattle.cc_model.specs.Items.{known_at};
 ghost use Rattle.cc_play.specs.Names.{Move};
 ghost use Rattle.cc_runs.specs.Run.{passes, reached, IsRun};
@@ -34,7 +35,8 @@ fn next_call(plan: &Plan, pass: Pass, begun: usize) -> Option<Call>
 /// Begins a call that the pass may begin, so that only memory can be refused.
 fn begin(machine: &mut Machine, pass: Pass, call: Call) -> Result<(), AllocError>
     requires { begin_fault machine.old pass call ≡ Ok tt }
-    ensures { OnOk result (HasBegun machine.old (index_of machine.old.setting pass) call (known_at pass machine.old.history) machine.new) }
+    ensures begun { OnOk result (HasBegun machine.old (index_of machine.old.setting pass) call (known_at pass machine.old.history) machine.new) }
+    ensures body { HasBody call }
 {
     match machine.begin(pass, call) {
         Ok(()) => Ok(()),
@@ -120,7 +122,7 @@ pub fn play_schedule(alloc: Global, plan: &Plan) -> Result<Machine, AllocError>
         Err(OpenFault::NoMemory) => return Err(AllocError),
         Err(OpenFault::Config(_)) => unreachable!(),
     };
-    let rows = plan.config.senders as usize + plan.config.receivers as usize;
+    let rows = plan.senders.len() + plan.receivers.len();
     let mut begun = vec![in alloc; 0usize; rows]?;
     for (pass, events) in plan.schedule.iter() {
         follow_entry(&mut machine, begun.as_mut_slice(), plan, *pass, *events)?;
