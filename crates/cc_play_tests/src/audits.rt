@@ -41,7 +41,10 @@ const RECEIPTS: &str = r#"{"accepted":[],"taken":[]} => audit clean
 {"total":18446744073709551615,"accepted":[[1,1,18446744073709551615,5]],"taken":[]} => audit fault 7 place 18446744073709551615
 {"total":0,"accepted":[[1,1,0,5],[1,2,1,6],[2,1,1,7]],"taken":[]} => audit fault 7 place 0
 {"accepted":[[1,1,0,5],[2,9,1,5],[1,2,2,5]],"taken":[]} => audit clean
-{"accepted":[[1,3,0,5],[2,1,1,5],[1,2,2,5],[1,4,3,5]],"taken":[]} => audit fault 6 place 2"#;
+{"accepted":[[1,3,0,5],[2,1,1,5],[1,2,2,5],[1,4,3,5]],"taken":[]} => audit fault 6 place 2
+{"version":2,"accepted":[[1,1,0,[5]]],"taken":[[1,0,1,1,[5,0]]]} => audit fault 4 place 0
+{"version":2,"accepted":[[1,1,0,[5,6,7,8]]],"taken":[[512,0,1,1,[5,6,7,9]]]} => audit fault 4 place 0
+{"version":2,"accepted":[[1,1,0,[5,6,7,8]]],"taken":[[512,0,1,1,[5,6,7,8]]]} => audit clean"#;
 
 #[test]
 fn receipts_are_audited(rt: HostRuntime) {

@@ -227,9 +227,74 @@ E 0 s1 close -> shut 0
 E 1 s1 close -> already 0
 audit clean"#;
 
+/// The same of plans of version 2.
+const PLANS_OF_VERSION_2: &str = r#"each of two groups takes the item
+{"version":2,"groups":2,"capacity":2,"bound":2,"life":10,"senders":[[[7,8]]],"receivers":[1,1],"schedule":[["s1",100],["r1",100],["r2",100]]}
+E 0 s1 send 7 8 -> accepted 0
+D 1 0 r1 take -> got 0 s1 1 7 8
+D 2 0 r2 take -> got 0 s1 1 7 8
+audit clean
+
+two words: just before the linking store
+{"version":2,"groups":2,"capacity":2,"bound":2,"life":10,"senders":[[[7,8]]],"receivers":[1,1],"schedule":[["s1",22]]}
+E 0 s1 send 7 8 -> pending
+audit clean
+
+two words: just at it
+{"version":2,"groups":2,"capacity":2,"bound":2,"life":10,"senders":[[[7,8]]],"receivers":[1,1],"schedule":[["s1",23]]}
+E 0 s1 send 7 8 -> accepted 0
+audit clean
+
+four words: just before the linking store
+{"version":2,"groups":1,"capacity":2,"bound":2,"life":10,"senders":[[[1,0,18446744073709551615,4]]],"receivers":[0],"schedule":[["s1",28]]}
+E 0 s1 send 1 0 18446744073709551615 4 -> pending
+audit clean
+
+four words: just at it
+{"version":2,"groups":1,"capacity":2,"bound":2,"life":10,"senders":[[[1,0,18446744073709551615,4]]],"receivers":[0],"schedule":[["s1",29]]}
+E 0 s1 send 1 0 18446744073709551615 4 -> accepted 0
+audit clean
+
+four words are got: just before the add
+{"version":2,"groups":1,"capacity":2,"bound":2,"life":10,"senders":[[[1,2,3,4]]],"receivers":[1],"schedule":[["s1",37],["r1",16]]}
+E 0 s1 send 1 2 3 4 -> accepted 0
+D 1 0 r1 take -> pending
+audit clean
+
+four words are got: just at it
+{"version":2,"groups":1,"capacity":2,"bound":2,"life":10,"senders":[[[1,2,3,4]]],"receivers":[1],"schedule":[["s1",37],["r1",17]]}
+E 0 s1 send 1 2 3 4 -> accepted 0
+D 1 0 r1 take -> got 0 s1 1 1 2 3 4
+audit clean
+
+there is no room until both groups took the item
+{"version":2,"groups":2,"capacity":1,"bound":2,"life":10,"senders":[[[5],[6],[6],[6],"close"]],"receivers":[3,3],"schedule":[["s1",48],["r1",23],["s1",20],["r2",23],["s1",28],["r1",23],["s1",100],["r2",100],["r1",100]]}
+E 0 s1 send 5 -> accepted 0
+E 1 s1 send 6 -> full
+E 2 s1 send 6 -> full
+E 3 s1 send 6 -> accepted 1
+E 4 s1 close -> shut 2
+D 1 0 r1 take -> got 0 s1 1 5
+D 1 1 r1 take -> got 1 s1 4 6
+D 1 2 r1 take -> ended 2
+D 2 0 r2 take -> got 0 s1 1 5
+D 2 1 r2 take -> got 1 s1 4 6
+D 2 2 r2 take -> ended 2
+audit clean
+
+receivers are numbered through
+{"version":2,"groups":2,"capacity":2,"bound":2,"life":10,"senders":[[[7],[8,9]]],"receivers":[1,1,0,2],"schedule":[["r3",100],["s1",100],["r2",100],["r4",100],["r1",100]]}
+E 0 s1 send 7 -> accepted 0
+E 1 s1 send 8 9 -> accepted 1
+D 1 0 r2 take -> got 0 s1 1 7
+D 1 1 r1 take -> got 1 s1 2 8 9
+D 2 0 r4 take -> got 0 s1 1 7
+D 2 1 r4 take -> got 1 s1 2 8 9
+audit clean"#;
+
 #[test]
 fn plans_are_played(rt: HostRuntime) {
-    for row in PLANS.split("\n\n") {
+    for row in PLANS.split("\n\n").chain(PLANS_OF_VERSION_2.split("\n\n")) {
         let (title, rest) = row.split_once('\n').unwrap_or((row, ""));
         let (plan, report) = rest.split_once('\n').unwrap_or((rest, ""));
         let outcome = played(rt.alloc(), plan.as_bytes());
