@@ -98,18 +98,16 @@ fn a_plan_is_read(rt: HostRuntime) -> Result<(), Fail> {
     assert_eq!(rt; version, 1);
     assert_eq!(rt; config, wanted);
     assert_eq!(rt; senders.len(), 2);
-    for (i, calls) in senders.iter().enumerate() {
-        let wanted: &[Call] = if i == 0 {
-            &[
-                Call::Send(Body::one(5)),
-                Call::Close,
-                Call::Send(Body::one(u64::MAX)),
-            ]
-        } else {
-            &[]
-        };
-        assert_eq!(rt; calls.as_slice(), wanted);
-    }
+    let [first, second] = senders.as_slice() else {
+        return Ok(());
+    };
+    let wanted = [
+        Call::Send(Body::one(5)),
+        Call::Close,
+        Call::Send(Body::one(u64::MAX)),
+    ];
+    assert_eq!(rt; first.as_slice(), wanted.as_slice());
+    assert!(rt; second.is_empty());
     assert_eq!(rt; receivers.as_slice(), [0, 65_536].as_slice());
     let wanted = [
         (Pass::Sender(2), 100_000),
@@ -150,21 +148,20 @@ fn a_plan_of_groups_is_read(rt: HostRuntime) -> Result<(), Fail> {
     assert_eq!(rt; version, 2);
     assert_eq!(rt; config, wanted);
     assert_eq!(rt; senders.len(), 2);
-    for (i, calls) in senders.iter().enumerate() {
-        let wanted: &[Call] = if i == 0 {
-            &[
-                Call::Send(Body::one(5)),
-                Call::Close,
-                Call::Send(Body::three(1, 2, 3)),
-            ]
-        } else {
-            &[
-                Call::Send(Body::four(1, 2, 3, u64::MAX)),
-                Call::Send(Body::two(7, 8)),
-            ]
-        };
-        assert_eq!(rt; calls.as_slice(), wanted);
-    }
+    let [first, second] = senders.as_slice() else {
+        return Ok(());
+    };
+    let wanted = [
+        Call::Send(Body::one(5)),
+        Call::Close,
+        Call::Send(Body::three(1, 2, 3)),
+    ];
+    assert_eq!(rt; first.as_slice(), wanted.as_slice());
+    let wanted = [
+        Call::Send(Body::four(1, 2, 3, u64::MAX)),
+        Call::Send(Body::two(7, 8)),
+    ];
+    assert_eq!(rt; second.as_slice(), wanted.as_slice());
     assert_eq!(rt; receivers.as_slice(), [0, 1, 2, 3, 4, 65_536].as_slice());
     assert_eq!(rt; schedule.as_slice(), [(Pass::Receiver(6), 1)].as_slice());
     Ok(())
@@ -439,11 +436,11 @@ fn lists_have_limits(rt: HostRuntime) -> Result<(), Fail> {
 }
 
 /// What is answered to a plan of version 2 with so many groups, so many receivers in all, and this schedule.
-fn fault_of_groups(
+fn fault_of_groups<'a>(
     alloc: Global,
-    groups: &str,
+    groups: &'a str,
     receivers: usize,
-    schedule: &str,
+    schedule: &'a str,
 ) -> Result<String, AllocError> {
     let keys = [
         ("version", "2"),
