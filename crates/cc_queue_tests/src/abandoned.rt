@@ -1,7 +1,9 @@
 //! Calls that are given up.
-use crate::calls::{SMALL, begin_send, keep_waiting, opened, take, turn_close, turn_send};
+use crate::calls::{
+    SMALL, accepted, begin_send, keep_waiting, opened, take, turn_close, turn_send,
+};
 use cc_audit::{SendReceipt, TakeReceipt, Verdict, audit};
-use cc_model::{CloseAnswer, Item, SendAnswer, TakeAnswer};
+use cc_model::{Body, CloseAnswer, Item, TakeAnswer};
 use cc_queue::begin_close;
 use std::test::Fail;
 
@@ -9,8 +11,8 @@ use std::test::Fail;
 #[test]
 fn chain_stops(rt: HostRuntime) {
     let (queue, first, second, _receiver) = opened(&rt, rt.alloc(), &SMALL);
-    begin_send(&rt, &queue, first, 7).abandon();
-    let second = begin_send(&rt, &queue, second, 9);
+    begin_send(&rt, &queue, first, Body::one(7)).abandon();
+    let second = begin_send(&rt, &queue, second, Body::one(9));
     keep_waiting(&rt, &queue, second, 1000).abandon();
 }
 
@@ -19,24 +21,18 @@ fn chain_stops(rt: HostRuntime) {
 #[test]
 fn served_though_abandoned(rt: HostRuntime) -> Result<(), Fail> {
     let (queue, first, second, receiver) = opened(&rt, rt.alloc(), &SMALL);
-    let first = begin_send(&rt, &queue, first, 7);
-    begin_send(&rt, &queue, second, 9).abandon();
-    let (first, answer, served) = turn_send(&rt, &queue, first);
-    assert_eq!(rt; answer, SendAnswer::Accepted { place: 0 });
-    assert_eq!(rt; served, 2);
-    let (receiver, answer) = take(&rt, &queue, receiver);
-    assert_eq!(rt; answer, TakeAnswer::Got(item(0, 1, 7)));
-    let (_, answer) = take(&rt, &queue, receiver);
-    assert_eq!(rt; answer, TakeAnswer::Got(item(1, 2, 9)));
+    let first = begin_send(&rt, &queue, first, Body::one(7));
+    begin_send(&rt, &queue, second, Body::one(9)).abandon();
+    let first = turn_send(&rt, &queue, first, accepted(0), 2);
+    let receiver = take(&rt, &queue, receiver, TakeAnswer::Got(item(0, 1, 7)));
+    take(&rt, &queue, receiver, TakeAnswer::Got(item(1, 2, 9)));
     let pending = begin_close(&queue, first);
-    let (_, answer, served) = turn_close(&rt, &queue, pending);
-    assert_eq!(rt; answer, CloseAnswer::Shut { total: 2 });
-    assert_eq!(rt; served, 1);
+    turn_close(&rt, &queue, pending, CloseAnswer::Shut { total: 2 }, 1);
     let sends = [SendReceipt {
         sender: 1,
         number: 1,
         place: 0,
-        body: 7,
+        body: Body::one(7),
     }];
     let takes = [taken(item(0, 1, 7)), taken(item(1, 2, 9))];
     let verdict = audit(rt.alloc(), &sends, &takes, Some(2))?;
@@ -50,7 +46,7 @@ fn item(place: u64, sender: u32, body: u64) -> Item {
         place,
         sender,
         number: 1,
-        body,
+        body: Body::one(body),
     }
 }
 

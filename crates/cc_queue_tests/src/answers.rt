@@ -1,20 +1,14 @@
 //! Each answer of each call, on one thread.
-use crate::calls::{
-    SMALL, begin_send, close, opened, opened_wide, send, take, turn_close, turn_send, turn_take,
-    wait_send, wait_take,
-};
-use cc_model::{CloseAnswer, Config, Item, SendAnswer, TakeAnswer};
-use cc_queue::{begin_close, begin_take, meet, send_until};
+ghost use Rattle.cc_steps.specs.Walk.{IsOf};
 
-/// The answer of a take that got this item.
-fn got(place: u64, sender: u32, number: u32, body: u64) -> TakeAnswer {
-    TakeAnswer::Got(Item {
-        place,
-        sender,
-        number,
-        body,
-    })
-}
+use crate::calls::{
+    SMALL, accepted, begin_send, close, got, opened, opened_wide, send, take, turn_close,
+    turn_send, turn_take, wait_send, wait_take,
+};
+use cc_model::{Body, CloseAnswer, Config, SendAnswer, TakeAnswer};
+use cc_queue::{Queue, Sender, begin_close, begin_take, meet, send_until};
+use std::process::Abort;
+use std::sync::Wait;
 
 const ENDED: TakeAnswer = TakeAnswer::Ended { total: 1 };
 
@@ -22,31 +16,25 @@ const ENDED: TakeAnswer = TakeAnswer::Ended { total: 1 };
 #[test]
 fn two_sends_combined(rt: HostRuntime) {
     let (queue, first, second, _receiver) = opened(&rt, rt.alloc(), &SMALL);
-    let first = begin_send(&rt, &queue, first, 7);
-    let second = begin_send(&rt, &queue, second, 9);
+    let first = begin_send(&rt, &queue, first, Body::one(7));
+    let second = begin_send(&rt, &queue, second, Body::one(9));
     let second = wait_send(&rt, &queue, second);
-    let (_, answer, served) = turn_send(&rt, &queue, first);
-    assert_eq!(rt; answer, SendAnswer::Accepted { place: 0 });
-    assert_eq!(rt; served, 2);
-    let (_, answer, served) = turn_send(&rt, &queue, second);
-    assert_eq!(rt; answer, SendAnswer::Accepted { place: 1 });
-    assert_eq!(rt; served, 0);
+    turn_send(&rt, &queue, first, accepted(0), 2);
+    turn_send(&rt, &queue, second, accepted(1), 0);
 }
 
 /// A receiver that met a sender takes the first item of two.
 #[test]
 fn take_after_sends(rt: HostRuntime) {
     let (queue, first, second, mut receiver) = opened(&rt, rt.alloc(), &SMALL);
-    let first = begin_send(&rt, &queue, first, 7);
-    let second = begin_send(&rt, &queue, second, 9);
+    let first = begin_send(&rt, &queue, first, Body::one(7));
+    let second = begin_send(&rt, &queue, second, Body::one(9));
     let second = wait_send(&rt, &queue, second);
-    let (mut first, _, _) = turn_send(&rt, &queue, first);
-    let (_second, _, _) = turn_send(&rt, &queue, second);
+    let mut first = turn_send(&rt, &queue, first, accepted(0), 2);
+    turn_send(&rt, &queue, second, accepted(1), 0);
     meet(&mut first, &mut receiver);
     let taking = begin_take(&queue, receiver);
-    let (_receiver, answer, served) = turn_take(&rt, &queue, taking);
-    assert_eq!(rt; answer, got(0, 1, 1, 7));
-    assert_eq!(rt; served, 1);
+    turn_take(&rt, &queue, taking, got(0, 1, 1, Body::one(7)), 1);
 }
 
 /// A worn sender gets itself back, and may close still.
@@ -59,9 +47,8 @@ fn worn_sender(rt: HostRuntime) {
     let (queue, first, _second, _receiver) = opened(&rt, rt.alloc(), &once);
     assert!(rt; !first.is_worn());
     assert_eq!(rt; first.begun(), 0);
-    let (first, answer) = send(&rt, &queue, first, 7);
-    assert_eq!(rt; answer, SendAnswer::Accepted { place: 0 });
-    match cc_queue::begin_send(&queue, first, 9) {
+    let first = send(&rt, &queue, first, Body::one(7), accepted(0));
+    match cc_queue::begin_send(&queue, first, Body::one(9)) {
         Ok(pending) => {
             pending.abandon();
             panic!(rt; "a second send was begun")
@@ -69,8 +56,7 @@ fn worn_sender(rt: HostRuntime) {
         Err(first) => {
             assert!(rt; first.is_worn());
             assert_eq!(rt; first.begun(), 1);
-            let (_, answer) = close(&rt, &queue, first);
-            assert_eq!(rt; answer, CloseAnswer::Shut { total: 1 });
+            close(&rt, &queue, first, CloseAnswer::Shut { total: 1 });
         }
     }
 }
@@ -83,14 +69,10 @@ fn full_until_taken(rt: HostRuntime) {
         ..SMALL
     };
     let (queue, first, second, receiver) = opened(&rt, rt.alloc(), &narrow);
-    let (first, answer) = send(&rt, &queue, first, 5);
-    assert_eq!(rt; answer, SendAnswer::Accepted { place: 0 });
-    let (_, answer) = send(&rt, &queue, first, 6);
-    assert_eq!(rt; answer, SendAnswer::Full);
-    let (_, answer) = take(&rt, &queue, receiver);
-    assert_eq!(rt; answer, got(0, 1, 1, 5));
-    let (_, answer) = send(&rt, &queue, second, 7);
-    assert_eq!(rt; answer, SendAnswer::Accepted { place: 1 });
+    let first = send(&rt, &queue, first, Body::one(5), accepted(0));
+    send(&rt, &queue, first, Body::one(6), SendAnswer::Full);
+    take(&rt, &queue, receiver, got(0, 1, 1, Body::one(5)));
+    send(&rt, &queue, second, Body::one(7), accepted(1));
 }
 
 /// A send that is made until it is accepted tries again where the queue is full, until its sender is worn. It ends where the
@@ -103,50 +85,59 @@ fn sent_until_accepted(rt: HostRuntime) {
         ..SMALL
     };
     let (queue, first, second, receiver) = opened(&rt, rt.alloc(), &narrow);
-    let Ok((first, answer)) = send_until(&queue, &rt, first, 5) else {
-        panic!(rt; "the first sender is worn")
-    };
-    assert_eq!(rt; answer, SendAnswer::Accepted { place: 0 });
-    let Err(first) = send_until(&queue, &rt, first, 6) else {
-        panic!(rt; "a send to a full queue was answered")
-    };
+    let first = until_answered(&rt, &queue, first, Body::one(5), accepted(0));
+    let first = until_worn(&rt, &queue, first, Body::one(6));
     assert_eq!(rt; first.begun(), 3);
-    let (_, answer) = take(&rt, &queue, receiver);
-    assert_eq!(rt; answer, got(0, 1, 1, 5));
-    let Err(first) = send_until(&queue, &rt, first, 6) else {
-        panic!(rt; "a worn sender sent")
-    };
-    let Ok((second, answer)) = send_until(&queue, &rt, second, 7) else {
-        panic!(rt; "the second sender is worn")
-    };
-    assert_eq!(rt; answer, SendAnswer::Accepted { place: 1 });
-    let (_, answer) = close(&rt, &queue, first);
-    assert_eq!(rt; answer, CloseAnswer::Shut { total: 2 });
-    let Ok((second, answer)) = send_until(&queue, &rt, second, 8) else {
-        panic!(rt; "the second sender is worn")
-    };
-    assert_eq!(rt; answer, SendAnswer::Closed);
+    take(&rt, &queue, receiver, got(0, 1, 1, Body::one(5)));
+    let first = until_worn(&rt, &queue, first, Body::one(6));
+    let second = until_answered(&rt, &queue, second, Body::one(7), accepted(1));
+    close(&rt, &queue, first, CloseAnswer::Shut { total: 2 });
+    let second = until_answered(&rt, &queue, second, Body::one(8), SendAnswer::Closed);
     assert_eq!(rt; second.begun(), 2);
+}
+
+/// A send that is made until it is answered so, and not that the queue is full.
+fn until_answered<R: Abort + Wait>(
+    rt: &R,
+    queue: &Queue,
+    sender: Sender,
+    body: Body,
+    expected: SendAnswer,
+) -> Sender
+    requires { IsOf queue.now sender }
+    ensures { IsOf queue.now result }
+{
+    match send_until(queue, rt, sender, body) {
+        Ok((sender, answer)) => {
+            assert_eq!(rt; answer, expected);
+            sender
+        }
+        Err(_) => panic!(rt; "the sender is worn"),
+    }
+}
+
+/// A send that is made until its sender is worn.
+fn until_worn<R: Abort + Wait>(rt: &R, queue: &Queue, sender: Sender, body: Body) -> Sender
+    requires { IsOf queue.now sender }
+    ensures { IsOf queue.now result }
+{
+    match send_until(queue, rt, sender, body) {
+        Ok((_, answer)) => panic!(rt; "the send is answered {answer:?}"),
+        Err(sender) => sender,
+    }
 }
 
 /// After a close sends and closes are told so, and the receiver takes what is left and then finds the end, each time.
 #[test]
 fn close_and_drain(rt: HostRuntime) {
     let (queue, first, _second, receiver) = opened(&rt, rt.alloc(), &SMALL);
-    let (first, answer) = send(&rt, &queue, first, 5);
-    assert_eq!(rt; answer, SendAnswer::Accepted { place: 0 });
-    let (first, answer) = close(&rt, &queue, first);
-    assert_eq!(rt; answer, CloseAnswer::Shut { total: 1 });
-    let (first, answer) = send(&rt, &queue, first, 6);
-    assert_eq!(rt; answer, SendAnswer::Closed);
-    let (_, answer) = close(&rt, &queue, first);
-    assert_eq!(rt; answer, CloseAnswer::Already { total: 1 });
-    let (receiver, answer) = take(&rt, &queue, receiver);
-    assert_eq!(rt; answer, got(0, 1, 1, 5));
-    let (receiver, answer) = take(&rt, &queue, receiver);
-    assert_eq!(rt; answer, ENDED);
-    let (_, answer) = take(&rt, &queue, receiver);
-    assert_eq!(rt; answer, ENDED);
+    let first = send(&rt, &queue, first, Body::one(5), accepted(0));
+    let first = close(&rt, &queue, first, CloseAnswer::Shut { total: 1 });
+    let first = send(&rt, &queue, first, Body::one(6), SendAnswer::Closed);
+    close(&rt, &queue, first, CloseAnswer::Already { total: 1 });
+    let receiver = take(&rt, &queue, receiver, got(0, 1, 1, Body::one(5)));
+    let receiver = take(&rt, &queue, receiver, ENDED);
+    take(&rt, &queue, receiver, ENDED);
 }
 
 /// A close isn't refused for want of room.
@@ -157,10 +148,8 @@ fn close_of_a_full_queue(rt: HostRuntime) {
         ..SMALL
     };
     let (queue, first, _second, _receiver) = opened(&rt, rt.alloc(), &narrow);
-    let (first, answer) = send(&rt, &queue, first, 5);
-    assert_eq!(rt; answer, SendAnswer::Accepted { place: 0 });
-    let (_, answer) = close(&rt, &queue, first);
-    assert_eq!(rt; answer, CloseAnswer::Shut { total: 1 });
+    let first = send(&rt, &queue, first, Body::one(5), accepted(0));
+    close(&rt, &queue, first, CloseAnswer::Shut { total: 1 });
 }
 
 /// A queue that has accepted as many items as its life allows is spent, full or not.
@@ -172,14 +161,10 @@ fn life_is_spent(rt: HostRuntime) {
         ..SMALL
     };
     let (queue, first, _second, receiver) = opened(&rt, rt.alloc(), &brief);
-    let (first, answer) = send(&rt, &queue, first, 5);
-    assert_eq!(rt; answer, SendAnswer::Accepted { place: 0 });
-    let (first, answer) = send(&rt, &queue, first, 6);
-    assert_eq!(rt; answer, SendAnswer::Spent);
-    let (_, answer) = take(&rt, &queue, receiver);
-    assert_eq!(rt; answer, got(0, 1, 1, 5));
-    let (_, answer) = send(&rt, &queue, first, 6);
-    assert_eq!(rt; answer, SendAnswer::Spent);
+    let first = send(&rt, &queue, first, Body::one(5), accepted(0));
+    let first = send(&rt, &queue, first, Body::one(6), SendAnswer::Spent);
+    take(&rt, &queue, receiver, got(0, 1, 1, Body::one(5)));
+    send(&rt, &queue, first, Body::one(6), SendAnswer::Spent);
 }
 
 /// The close that exchanged first shuts the send out that it serves next.
@@ -187,14 +172,10 @@ fn life_is_spent(rt: HostRuntime) {
 fn close_before_a_send(rt: HostRuntime) {
     let (queue, first, second, _receiver) = opened(&rt, rt.alloc(), &SMALL);
     let first = begin_close(&queue, first);
-    let second = begin_send(&rt, &queue, second, 9);
+    let second = begin_send(&rt, &queue, second, Body::one(9));
     let second = wait_send(&rt, &queue, second);
-    let (_, answer, served) = turn_close(&rt, &queue, first);
-    assert_eq!(rt; answer, CloseAnswer::Shut { total: 0 });
-    assert_eq!(rt; served, 2);
-    let (_, answer, served) = turn_send(&rt, &queue, second);
-    assert_eq!(rt; answer, SendAnswer::Closed);
-    assert_eq!(rt; served, 0);
+    turn_close(&rt, &queue, first, CloseAnswer::Shut { total: 0 }, 2);
+    turn_send(&rt, &queue, second, SendAnswer::Closed, 0);
 }
 
 /// The take that exchanged first gets the first item, and serves the other take.
@@ -205,28 +186,20 @@ fn two_takes_combined(rt: HostRuntime) {
         ..SMALL
     };
     let (queue, first, receiver, other) = opened_wide(&rt, rt.alloc(), &wide);
-    let (first, _) = send(&rt, &queue, first, 1);
-    let (_, answer) = send(&rt, &queue, first, 2);
-    assert_eq!(rt; answer, SendAnswer::Accepted { place: 1 });
+    let first = send(&rt, &queue, first, Body::one(1), accepted(0));
+    send(&rt, &queue, first, Body::one(2), accepted(1));
     let taking = begin_take(&queue, receiver);
     let behind = begin_take(&queue, other);
     let behind = wait_take(&rt, &queue, behind);
-    let (_, answer, served) = turn_take(&rt, &queue, taking);
-    assert_eq!(rt; answer, got(0, 1, 1, 1));
-    assert_eq!(rt; served, 2);
-    let (_, answer, served) = turn_take(&rt, &queue, behind);
-    assert_eq!(rt; answer, got(1, 1, 2, 2));
-    assert_eq!(rt; served, 0);
+    turn_take(&rt, &queue, taking, got(0, 1, 1, Body::one(1)), 2);
+    turn_take(&rt, &queue, behind, got(1, 1, 2, Body::one(2)), 0);
 }
 
 /// A take of a queue in which nothing is.
 #[test]
 fn nothing_to_take(rt: HostRuntime) {
     let (queue, first, _second, receiver) = opened(&rt, rt.alloc(), &SMALL);
-    let (receiver, answer) = take(&rt, &queue, receiver);
-    assert_eq!(rt; answer, TakeAnswer::Empty);
-    let (_, answer) = send(&rt, &queue, first, u64::MAX);
-    assert_eq!(rt; answer, SendAnswer::Accepted { place: 0 });
-    let (_, answer) = take(&rt, &queue, receiver);
-    assert_eq!(rt; answer, got(0, 1, 1, u64::MAX));
+    let receiver = take(&rt, &queue, receiver, TakeAnswer::Empty);
+    send(&rt, &queue, first, Body::one(u64::MAX), accepted(0));
+    take(&rt, &queue, receiver, got(0, 1, 1, Body::one(u64::MAX)));
 }

@@ -31,7 +31,7 @@ fn begin_request<R: Abort>(
         beside.begun(rt, pass, Call::Close);
         return HeldSender::Closing(cc_queue::begin_close(queue, sender));
     }
-    let body = u64::from(beside.dice.roll(1000));
+    let body = beside.dice.roll_body();
     match cc_queue::begin_send(queue, sender, body) {
         Ok(pending) => {
             beside.begun(rt, pass, Call::Send(body));

@@ -2,7 +2,8 @@
 ghost use Rattle.std.specs.Prelude.{◌≤◌};
 
 use cc_machine::{BeginFault, Event, Kind, Machine};
-use cc_model::{Answer, Call, CloseAnswer, Config, Pass, SendAnswer, TakeAnswer};
+use cc_model::{Answer, Body, Call, CloseAnswer, Config, Pass, SendAnswer, TakeAnswer};
+use cc_queue_threads::body_of;
 use std::alloc::Global;
 use std::process::Abort;
 
@@ -22,6 +23,11 @@ impl Dice {
             .wrapping_add(1442695040888963407);
         let number = u32::try_from(self.0 >> 33).unwrap_or(0);
         number.checked_rem(bound).unwrap_or(0)
+    }
+
+    /// A body of one to four words.
+    pub fn roll_body(&mut self) -> Body {
+        body_of(u64::from(self.roll(1000)))
     }
 }
 

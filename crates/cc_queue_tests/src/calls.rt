@@ -2,7 +2,7 @@
 ghost use Rattle.std.specs.Prelude.{◌≡◌, ◌+◌, ◌≤◌, length, Ok};
 ghost use Rattle.cc_steps.specs.Walk.{IsOf, fresh, fresh_from};
 
-use cc_model::{CloseAnswer, Config, SendAnswer, TakeAnswer};
+use cc_model::{Body, CloseAnswer, Config, Item, SendAnswer, TakeAnswer};
 use cc_queue::{
     CloseTurn, PendingClose, PendingSend, PendingTake, Queue, Receiver, SendTurn, Sender, TakeTurn,
 };
@@ -81,8 +81,23 @@ pub fn opened_wide<R: Abort>(
     (queue, sender, first, second)
 }
 
+/// The answer of a send that was accepted at this place.
+pub fn accepted(place: u64) -> SendAnswer {
+    SendAnswer::Accepted { place }
+}
+
+/// The answer of a take that got this item.
+pub fn got(place: u64, sender: u32, number: u32, body: Body) -> TakeAnswer {
+    TakeAnswer::Got(Item {
+        place,
+        sender,
+        number,
+        body,
+    })
+}
+
 /// Begins a send that the sender may begin.
-pub fn begin_send<R: Abort>(rt: &R, queue: &Queue, sender: Sender, body: u64) -> PendingSend
+pub fn begin_send<R: Abort>(rt: &R, queue: &Queue, sender: Sender, body: Body) -> PendingSend
     requires { IsOf queue.now sender }
     ensures { IsOf queue.now result }
 {
@@ -92,10 +107,16 @@ pub fn begin_send<R: Abort>(rt: &R, queue: &Queue, sender: Sender, body: u64) ->
     }
 }
 
-/// A turn of a send that is answered: the answer, and how many calls the turn served.
-pub fn turn_send<R: Abort>(rt: &R, queue: &Queue, pending: PendingSend) -> (Sender, SendAnswer, u32)
+/// A turn of a send that is answered so, and serves so many calls.
+pub fn turn_send<R: Abort>(
+    rt: &R,
+    queue: &Queue,
+    pending: PendingSend,
+    expected: SendAnswer,
+    serves: u32,
+) -> Sender
     requires { IsOf queue.now pending }
-    ensures { IsOf queue.now result.0 }
+    ensures { IsOf queue.now result }
 {
     match cc_queue::turn_send(queue, pending) {
         SendTurn::Waiting(pending) => {
@@ -106,7 +127,10 @@ pub fn turn_send<R: Abort>(rt: &R, queue: &Queue, pending: PendingSend) -> (Send
             sender,
             answer,
             served,
-        } => (sender, answer, served),
+        } => {
+            assert_eq!(rt; (answer, served), (expected, serves));
+            sender
+        }
     }
 }
 
@@ -137,14 +161,16 @@ pub fn keep_waiting<R: Abort>(
     pending
 }
 
-/// A turn of a close that is answered.
+/// A turn of a close that is answered so, and serves so many calls.
 pub fn turn_close<R: Abort>(
     rt: &R,
     queue: &Queue,
     pending: PendingClose,
-) -> (Sender, CloseAnswer, u32)
+    expected: CloseAnswer,
+    serves: u32,
+) -> Sender
     requires { IsOf queue.now pending }
-    ensures { IsOf queue.now result.0 }
+    ensures { IsOf queue.now result }
 {
     match cc_queue::turn_close(queue, pending) {
         CloseTurn::Waiting(pending) => {
@@ -155,18 +181,23 @@ pub fn turn_close<R: Abort>(
             sender,
             answer,
             served,
-        } => (sender, answer, served),
+        } => {
+            assert_eq!(rt; (answer, served), (expected, serves));
+            sender
+        }
     }
 }
 
-/// A turn of a take that is answered.
+/// A turn of a take that is answered so, and serves so many calls.
 pub fn turn_take<R: Abort>(
     rt: &R,
     queue: &Queue,
     pending: PendingTake,
-) -> (Receiver, TakeAnswer, u32)
+    expected: TakeAnswer,
+    serves: u32,
+) -> Receiver
     requires { IsOf queue.now pending }
-    ensures { IsOf queue.now result.0 }
+    ensures { IsOf queue.now result }
 {
     match cc_queue::turn_take(queue, pending) {
         TakeTurn::Waiting(pending) => {
@@ -177,7 +208,10 @@ pub fn turn_take<R: Abort>(
             receiver,
             answer,
             served,
-        } => (receiver, answer, served),
+        } => {
+            assert_eq!(rt; (answer, served), (expected, serves));
+            receiver
+        }
     }
 }
 
@@ -192,35 +226,35 @@ pub fn wait_take<R: Abort>(rt: &R, queue: &Queue, pending: PendingTake) -> Pendi
     }
 }
 
-/// A send of its own, to its answer.
-pub fn send<R: Abort>(rt: &R, queue: &Queue, sender: Sender, body: u64) -> (Sender, SendAnswer)
+/// A send of its own, which is answered so.
+pub fn send<R: Abort>(
+    rt: &R,
+    queue: &Queue,
+    sender: Sender,
+    body: Body,
+    expected: SendAnswer,
+) -> Sender
     requires { IsOf queue.now sender }
-    ensures { IsOf queue.now result.0 }
+    ensures { IsOf queue.now result }
 {
     let pending = begin_send(rt, queue, sender, body);
-    let (sender, answer, served) = turn_send(rt, queue, pending);
-    assert_eq!(rt; served, 1);
-    (sender, answer)
+    turn_send(rt, queue, pending, expected, 1)
 }
 
-/// A close of its own, to its answer.
-pub fn close<R: Abort>(rt: &R, queue: &Queue, sender: Sender) -> (Sender, CloseAnswer)
+/// A close of its own, which is answered so.
+pub fn close<R: Abort>(rt: &R, queue: &Queue, sender: Sender, expected: CloseAnswer) -> Sender
     requires { IsOf queue.now sender }
-    ensures { IsOf queue.now result.0 }
+    ensures { IsOf queue.now result }
 {
     let pending = cc_queue::begin_close(queue, sender);
-    let (sender, answer, served) = turn_close(rt, queue, pending);
-    assert_eq!(rt; served, 1);
-    (sender, answer)
+    turn_close(rt, queue, pending, expected, 1)
 }
 
-/// A take of its own, to its answer.
-pub fn take<R: Abort>(rt: &R, queue: &Queue, receiver: Receiver) -> (Receiver, TakeAnswer)
+/// A take of its own, which is answered so.
+pub fn take<R: Abort>(rt: &R, queue: &Queue, receiver: Receiver, expected: TakeAnswer) -> Receiver
     requires { IsOf queue.now receiver }
-    ensures { IsOf queue.now result.0 }
+    ensures { IsOf queue.now result }
 {
     let pending = cc_queue::begin_take(queue, receiver);
-    let (receiver, answer, served) = turn_take(rt, queue, pending);
-    assert_eq!(rt; served, 1);
-    (receiver, answer)
+    turn_take(rt, queue, pending, expected, 1)
 }

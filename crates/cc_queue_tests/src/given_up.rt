@@ -1,17 +1,19 @@
 //! What the workers of a round were told, and what they gave up; and the judgement on it.
 use cc_audit::{SendReceipt, TakeReceipt, Verdict, audit};
-use cc_model::Item;
+use cc_model::{Body, Item};
+use cc_queue_threads::body_of as numbered;
 use std::alloc::{AllocError, Global};
 
 /// A sender's number that no worker has.
 const NOBODY: u32 = 64;
 
 /// The body of a send, which tells it from any other.
-pub fn body_of(sender: u32, number: u32) -> u64 {
-    u64::from(sender)
-        .wrapping_mul(1_000_003)
-        .wrapping_add(u64::from(number))
-        << 7
+pub fn body_of(sender: u32, number: u32) -> Body {
+    numbered(
+        u64::from(sender)
+            .wrapping_mul(1_000_003)
+            .wrapping_add(u64::from(number)),
+    )
 }
 
 /// What a worker leaves, or all workers of a round.
@@ -134,7 +136,7 @@ impl Told {
             sender: NOBODY,
             number: gap,
             place,
-            body: 0,
+            body: Body::one(0),
         };
         let mut is_told = false;
         for send in &self.sends {

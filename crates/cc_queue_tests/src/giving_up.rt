@@ -7,7 +7,7 @@ use crate::beside::Dice;
 use crate::calls::{self, next_receiver, next_sender};
 use crate::given_up::{Told, body_of};
 use cc_audit::{SendReceipt, TakeReceipt, Verdict, audit};
-use cc_model::{Config, Item, SendAnswer, TakeAnswer};
+use cc_model::{Body, Config, Item, SendAnswer, TakeAnswer};
 use cc_queue::{
     PendingSend, PendingTake, Queue, Receiver, SendTurn, Sender, TakeTurn, begin_send, begin_take,
     meet, turn_send, turn_take,
@@ -345,11 +345,8 @@ fn send_for_both<R: Abort>(rt: &R, queue: &Queue, one: Sender, two: Sender) -> S
 {
     let first = calls::begin_send(rt, queue, one, body_of(1, 1));
     calls::begin_send(rt, queue, two, body_of(2, 1)).abandon();
-    let (one, answer, served) = calls::turn_send(rt, queue, first);
-    assert_eq!(rt; answer, SendAnswer::Accepted { place: 0 });
-    assert_eq!(rt; served, 2);
-    let (one, answer) = calls::send(rt, queue, one, body_of(1, 2));
-    assert_eq!(rt; answer, SendAnswer::Accepted { place: 2 });
+    let one = calls::turn_send(rt, queue, first, calls::accepted(0), 2);
+    let one = calls::send(rt, queue, one, body_of(1, 2), calls::accepted(2));
     one
 }
 
@@ -361,11 +358,8 @@ fn take_for_both<R: Abort>(rt: &R, queue: &Queue, left: Receiver, right: Receive
 {
     let taking = begin_take(queue, left);
     begin_take(queue, right).abandon();
-    let (left, answer, served) = calls::turn_take(rt, queue, taking);
-    assert_eq!(rt; answer, TakeAnswer::Got(item_of(0, 1, 1)));
-    assert_eq!(rt; served, 2);
-    let (left, answer) = calls::take(rt, queue, left);
-    assert_eq!(rt; answer, TakeAnswer::Got(item_of(2, 1, 2)));
+    let left = calls::turn_take(rt, queue, taking, TakeAnswer::Got(item_of(0, 1, 1)), 2);
+    let left = calls::take(rt, queue, left, TakeAnswer::Got(item_of(2, 1, 2)));
     left
 }
 
@@ -377,8 +371,7 @@ fn an_item_that_nobody_was_told_of(rt: HostRuntime) -> Result<(), Fail> {
     let mut one = send_for_both(&rt, &queue, one, two);
     let mut left = take_for_both(&rt, &queue, left, right);
     meet(&mut one, &mut left);
-    let (_, answer) = calls::send(&rt, &queue, one, 5);
-    assert_eq!(rt; answer, SendAnswer::Accepted { place: 3 });
+    calls::send(&rt, &queue, one, Body::one(5), calls::accepted(3));
     let mut told = Told::new(rt.alloc());
     told.add_send(sent(0, 1, 1));
     told.add_send(sent(2, 1, 2));

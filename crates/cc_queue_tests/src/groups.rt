@@ -1,6 +1,7 @@
 //! Two groups of one receiver each: every group gets every item, and a node is free when both have it.
-use crate::calls::{SMALL, close, opened_wide, send, take};
-use cc_queue::{CloseAnswer, Config, Item, SendAnswer, TakeAnswer};
+use crate::calls::{SMALL, accepted, close, got, opened_wide, send, take};
+use cc_model::Body;
+use cc_queue::{CloseAnswer, Config, SendAnswer, TakeAnswer};
 
 const PAIR: Config = Config {
     senders: 1,
@@ -10,49 +11,23 @@ const PAIR: Config = Config {
     ..SMALL
 };
 
-/// The first item of the sender's, and the second, which was its fourth send.
-const FIVE: Item = Item {
-    place: 0,
-    sender: 1,
-    number: 1,
-    body: 5,
-};
-
-const SIX: Item = Item {
-    place: 1,
-    sender: 1,
-    number: 4,
-    body: 6,
-};
-
 /// A queue for one item is full until both groups have taken it.
 #[test]
 fn full_until_each_group_took(rt: HostRuntime) {
     let (queue, sender, one, two) = opened_wide(&rt, rt.alloc(), &PAIR);
     assert_eq!(rt; one.group(), 1);
     assert_eq!(rt; two.group(), 2);
-    let (sender, answer) = send(&rt, &queue, sender, 5);
-    assert_eq!(rt; answer, SendAnswer::Accepted { place: 0 });
-    let (sender, answer) = send(&rt, &queue, sender, 6);
-    assert_eq!(rt; answer, SendAnswer::Full);
-    let (one, answer) = take(&rt, &queue, one);
-    assert_eq!(rt; answer, TakeAnswer::Got(FIVE));
-    let (sender, answer) = send(&rt, &queue, sender, 6);
-    assert_eq!(rt; answer, SendAnswer::Full);
-    let (two, answer) = take(&rt, &queue, two);
-    assert_eq!(rt; answer, TakeAnswer::Got(FIVE));
-    let (sender, answer) = send(&rt, &queue, sender, 6);
-    assert_eq!(rt; answer, SendAnswer::Accepted { place: 1 });
-    let (one, answer) = take(&rt, &queue, one);
-    assert_eq!(rt; answer, TakeAnswer::Got(SIX));
-    let (_, answer) = close(&rt, &queue, sender);
-    assert_eq!(rt; answer, CloseAnswer::Shut { total: 2 });
-    let (two, answer) = take(&rt, &queue, two);
-    assert_eq!(rt; answer, TakeAnswer::Got(SIX));
-    let (_, answer) = take(&rt, &queue, two);
-    assert_eq!(rt; answer, TakeAnswer::Ended { total: 2 });
-    let (_, answer) = take(&rt, &queue, one);
-    assert_eq!(rt; answer, TakeAnswer::Ended { total: 2 });
+    let sender = send(&rt, &queue, sender, Body::one(5), accepted(0));
+    let sender = send(&rt, &queue, sender, Body::one(6), SendAnswer::Full);
+    let one = take(&rt, &queue, one, got(0, 1, 1, Body::one(5)));
+    let sender = send(&rt, &queue, sender, Body::one(6), SendAnswer::Full);
+    let two = take(&rt, &queue, two, got(0, 1, 1, Body::one(5)));
+    let sender = send(&rt, &queue, sender, Body::one(6), accepted(1));
+    let one = take(&rt, &queue, one, got(1, 1, 4, Body::one(6)));
+    close(&rt, &queue, sender, CloseAnswer::Shut { total: 2 });
+    let two = take(&rt, &queue, two, got(1, 1, 4, Body::one(6)));
+    take(&rt, &queue, two, TakeAnswer::Ended { total: 2 });
+    take(&rt, &queue, one, TakeAnswer::Ended { total: 2 });
 }
 
 /// Receivers are numbered through, and each knows its number and its group: three groups of two. Senders are numbered too.
