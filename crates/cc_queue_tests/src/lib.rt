@@ -10,6 +10,8 @@ mod as_the_machine;
 #[cfg(test)]
 mod beside;
 #[cfg(test)]
+mod bodies;
+#[cfg(test)]
 mod calls;
 #[cfg(test)]
 mod given_up;
