@@ -346,8 +346,7 @@ fn send_for_both<R: Abort>(rt: &R, queue: &Queue, one: Sender, two: Sender) -> S
     let first = calls::begin_send(rt, queue, one, body_of(1, 1));
     calls::begin_send(rt, queue, two, body_of(2, 1)).abandon();
     let one = calls::turn_send(rt, queue, first, calls::accepted(0), 2);
-    let one = calls::send(rt, queue, one, body_of(1, 2), calls::accepted(2));
-    one
+    calls::send(rt, queue, one, body_of(1, 2), calls::accepted(2))
 }
 
 /// A take that serves another's, which was given up; and one more.
@@ -359,8 +358,7 @@ fn take_for_both<R: Abort>(rt: &R, queue: &Queue, left: Receiver, right: Receive
     let taking = begin_take(queue, left);
     begin_take(queue, right).abandon();
     let left = calls::turn_take(rt, queue, taking, TakeAnswer::Got(item_of(0, 1, 1)), 2);
-    let left = calls::take(rt, queue, left, TakeAnswer::Got(item_of(2, 1, 2)));
-    left
+    calls::take(rt, queue, left, TakeAnswer::Got(item_of(2, 1, 2)))
 }
 
 /// One turn of each side serves a call that was given up. The item of that send went to that take, and nobody was told of
