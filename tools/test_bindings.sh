@@ -44,6 +44,7 @@ build_c() {
 }
 run_c() {
     prints '30000 items' "$room/$1/consume" && prints '1000 items in each of 2 groups' "$room/$1/groups_threads" &&
+        prints '2000 bodies of one to four words' "$room/$1/words" &&
         prints '1000 items through room for one' "$room/$1/waits" && prints '' "$room/$1/headers" &&
         prints 'all memory is free' "$room/$1/memory" && prints '4000 boxes' "$room/$1/hand_over" &&
         prints "fits: library $version, header $version" "$room/$1/version"
@@ -126,6 +127,7 @@ else
     if has valgrind; then
         step 'C: consume under valgrind' "${valgrind[@]}" "$room/plain/consume" 300
         step 'C: groups_threads under valgrind' "${valgrind[@]}" "$room/plain/groups_threads"
+        step 'C: words under valgrind' "${valgrind[@]}" "$room/plain/words"
         step 'C: waits under valgrind' "${valgrind[@]}" "$room/plain/waits"
         step 'C: memory under valgrind' "${valgrind[@]}" "$room/plain/memory"
         step 'C: hand_over under valgrind' "${valgrind[@]}" "$room/plain/hand_over"

@@ -27,6 +27,17 @@ static int one_item(struct service *service) {
     return vahepito_take(&service->receiver, &item, &number) == VAHEPITO_ENDED && number == 1 ? 0 : 11;
 }
 
+/* A body of two words so, by the calls that wait. */
+static int two_words(struct service *service) {
+    const uint64_t words[2] = {7, 8};
+    vahepito_words_item item;
+    if (vahepito_send_words(&service->sender, words, 2, NULL) != VAHEPITO_ACCEPTED) return 12;
+    if (vahepito_take_words(&service->receiver, &item, NULL) != VAHEPITO_GOT) return 13;
+    if (item.count != 2 || item.words[0] != 7 || item.words[1] != 8) return 14;
+    if (vahepito_begin_take(&service->receiver) != VAHEPITO_BEGUN) return 15;
+    return vahepito_finish_take_words(&service->receiver, NULL, NULL) == VAHEPITO_EMPTY ? 0 : 16;
+}
+
 int main(void) {
     const vahepito_config config = {1, 1, 1, 8, (uint64_t)1 << 48, UINT32_MAX};
     struct service service = {VAHEPITO_PASS_EMPTY, VAHEPITO_PASS_EMPTY};
@@ -39,5 +50,8 @@ int main(void) {
     if (vahepito_open(&config, &service.sender, 1, &service.receiver, 1) != VAHEPITO_DONE) return 22;
     failed = one_item(&service);
     if (vahepito_drop(&service.sender) != VAHEPITO_DONE || vahepito_drop(&service.receiver) != VAHEPITO_DONE) return 23;
+    if (vahepito_open_words(&config, 1, 2, &service.sender, 1, &service.receiver, 1) != VAHEPITO_DONE) return 24;
+    if (!failed) failed = two_words(&service);
+    if (vahepito_drop(&service.sender) != VAHEPITO_DONE || vahepito_drop(&service.receiver) != VAHEPITO_DONE) return 25;
     return failed;
 }

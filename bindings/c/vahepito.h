@@ -16,13 +16,17 @@
  *
  * An item takes up room until each group has taken it.
  *
+ * A body is one word of 64 bits. A queue of vahepito_open_words has bodies of one to four words, up to as many as its
+ * opening says: they are sent by the calls whose names end in _words, and taken by such calls alone; the other calls of a
+ * sender send one word there too.
+ *
  * A call (a send, a close or a take) is begun, and then asked for its answer in turns. No call waits: where its answer is
  * not there yet a turn says so, and the caller decides how to pass the time (sched_yield, a back-off) before the next
  * turn; vahepito_wait.h has calls that wait so. The turn that finds its pass first in line serves other passes' calls too, at most `bound` of them. So a call
  * that was begun is to be turned to its end: where it is left, or its handle dropped, no pass of its side (the
  * senders, or the receivers of its group) may get an answer any more.
  *
- * No call but the two openings takes memory.
+ * No call but the three openings takes memory.
  *
  * What the caller owes, and nothing checks:
  * - A handle begins as VAHEPITO_PASS_EMPTY, or all zero, and is filled by an opening alone. Its bytes are neither changed nor copied to a second
@@ -53,9 +57,9 @@
 extern "C" {
 #endif
 
-/* The version of this header, 0.1.0: a million times the first of its three numbers, a thousand times the second, and the
+/* The version of this header, 0.2.0: a million times the first of its three numbers, a thousand times the second, and the
  * third. */
-#define VAHEPITO_VERSION 1000
+#define VAHEPITO_VERSION 2000
 
 /* What a queue is opened with. The bytes behind per_sender are not read. */
 typedef struct {
@@ -90,6 +94,18 @@ typedef struct {
     uint32_t number; /* which of its sender's sends, from 1 */
     uint64_t body;   /* what was sent */
 } vahepito_item;
+
+/* How many words a body has at most. */
+#define VAHEPITO_MOST_WORDS 4
+
+/* An item that was taken, with all words of its body. */
+typedef struct {
+    uint64_t place;  /* which of the accepted items it is, from 0 */
+    uint32_t sender; /* whose, from 1 */
+    uint32_t number; /* which of its sender's sends, from 1 */
+    size_t count;    /* how many words were sent, from 1 */
+    uint64_t words[VAHEPITO_MOST_WORDS]; /* what was sent, and 0 behind it */
+} vahepito_words_item;
 
 /* What a call tells. Each call names those that it may tell. */
 enum {
@@ -139,7 +155,14 @@ enum {
     VAHEPITO_BAD_GROUPS = 26,
 
     /* vahepito_check_version: the library isn't of this header's version */
-    VAHEPITO_BAD_VERSION = 27
+    VAHEPITO_BAD_VERSION = 27,
+
+    /* the number of words is not from 1 to 4: of vahepito_open_words, or of a send of words */
+    VAHEPITO_BAD_WORDS = 28,
+    /* a send of words: a body of this queue has fewer; nothing has changed */
+    VAHEPITO_LONG = 29,
+    /* a take of an item of one word: bodies of this queue may have more; nothing has changed */
+    VAHEPITO_WIDE = 30
 };
 
 /* The version of the library, as VAHEPITO_VERSION is that of the header. This call and the next are the same in every
@@ -175,6 +198,14 @@ uint32_t vahepito_open(const vahepito_config *config, vahepito_pass *senders, si
 uint32_t vahepito_open_groups(const vahepito_config *config, uint32_t groups, vahepito_pass *senders, size_t sender_count,
                               vahepito_pass *receivers, size_t receiver_count);
 
+/* Opens a queue of so many groups, whose bodies have so many words at most, 1 to 4, and fills the handles. All else is as of
+ * vahepito_open_groups, which is this call with one word. Its items are taken by vahepito_turn_take_words and
+ * vahepito_try_take_words; where a body may have more words than one, the calls that give an item of one word tell WIDE.
+ * DONE; BAD_SENDERS to BAD_PER_SENDER, then BAD_GROUPS, then BAD_WORDS, then BAD_HANDLES, then NO_MEMORY: no handle was
+ * changed. */
+uint32_t vahepito_open_words(const vahepito_config *config, uint32_t groups, uint32_t words, vahepito_pass *senders,
+                             size_t sender_count, vahepito_pass *receivers, size_t receiver_count);
+
 /* The group of a receiver, from 1. The thread that holds the handle calls.
  * DONE with the group. NO_PASS, WRONG_SIDE, BUSY as everywhere. Nothing changes. */
 uint32_t vahepito_group(vahepito_pass *receiver, uint32_t *group);
@@ -183,13 +214,20 @@ uint32_t vahepito_group(vahepito_pass *receiver, uint32_t *group);
  * BEGUN: turn it. NO_PASS, WRONG_SIDE, BUSY, WORN: nothing has changed. */
 uint32_t vahepito_begin_send(vahepito_pass *sender, uint64_t body);
 
-/* One turn of a send. The thread that holds the handle calls.
+/* Begins a send of so many words, which are copied. The thread that holds the handle calls.
+ * BEGUN: turn it. NO_PASS, WRONG_SIDE, BUSY, then BAD_WORDS, LONG, then WORN: nothing has changed. */
+uint32_t vahepito_begin_send_words(vahepito_pass *sender, const uint64_t *words, size_t count);
+
+/* One turn of a send, of one word or of several. The thread that holds the handle calls.
  * ACCEPTED with the place, FULL, CLOSED, SPENT: the sender is idle again, and this turn served so many calls (0 where
  * another pass served it). WAITING: turn again. NO_PASS, WRONG_SIDE, NOT_BEGUN: nothing has changed. */
 uint32_t vahepito_turn_send(vahepito_pass *sender, uint64_t *place, uint32_t *served);
 
 /* Begins a send, and turns it once: the codes of both. After WAITING go on with vahepito_turn_send. */
 uint32_t vahepito_try_send(vahepito_pass *sender, uint64_t body, uint64_t *place, uint32_t *served);
+
+/* The same of so many words: the codes of vahepito_begin_send_words and vahepito_turn_send. */
+uint32_t vahepito_try_send_words(vahepito_pass *sender, const uint64_t *words, size_t count, uint64_t *place, uint32_t *served);
 
 /* Whether the sender has begun as many sends as it may: its next send is told WORN. The thread that holds the handle
  * calls.
@@ -211,11 +249,16 @@ uint32_t vahepito_begin_take(vahepito_pass *receiver);
 
 /* One turn of a take. The thread that holds the handle calls.
  * GOT with the item, EMPTY, ENDED with the total: the receiver is idle again, and this turn served so many calls.
- * WAITING: turn again. NO_PASS, WRONG_SIDE, NOT_BEGUN: nothing has changed. */
+ * WAITING: turn again. NO_PASS, WRONG_SIDE, NOT_BEGUN; WIDE, of any pass of a queue whose bodies may have several words:
+ * nothing has changed. */
 uint32_t vahepito_turn_take(vahepito_pass *receiver, vahepito_item *item, uint64_t *total, uint32_t *served);
 
 /* Begins a take, and turns it once: the codes of both. After WAITING go on with vahepito_turn_take. */
 uint32_t vahepito_try_take(vahepito_pass *receiver, vahepito_item *item, uint64_t *total, uint32_t *served);
+
+/* The same two calls, of an item with all words of its body. They never tell WIDE. */
+uint32_t vahepito_turn_take_words(vahepito_pass *receiver, vahepito_words_item *item, uint64_t *total, uint32_t *served);
+uint32_t vahepito_try_take_words(vahepito_pass *receiver, vahepito_words_item *item, uint64_t *total, uint32_t *served);
 
 /* Lets a pass go at any moment, and leaves the handle empty. A call that was begun is given up: it may stay in the queue
  * unanswered, and stop its side, as said above. The last handle of a queue frees it. The thread that holds the handle
@@ -223,7 +266,7 @@ uint32_t vahepito_try_take(vahepito_pass *receiver, vahepito_item *item, uint64_
  * DONE, NO_PASS. */
 uint32_t vahepito_drop(vahepito_pass *pass);
 
-/* What the thread sanitizer is told. A body is handed over under a place of this table, one for all bodies of one hash: so
+/* What the thread sanitizer is told. Each word of a body is handed over under a place of this table, one for all words of one hash: so
  * what was done before its send comes before what is done after its take, and hardly anything else does. */
 #if !defined(VAHEPITO_UNTOLD) && defined(__SANITIZE_THREAD__)
 #define VAHEPITO_TOLD 1
@@ -240,12 +283,22 @@ void __tsan_release(void *address);
 /* One table for all files of a program. */
 __attribute__((weak)) uint64_t vahepito_handed_over[4096];
 
-static inline void *vahepito_hand(uint64_t body) {
-    return &vahepito_handed_over[(body * UINT64_C(0x9e3779b97f4a7c15)) >> 52];
+static inline void *vahepito_hand(uint64_t word) {
+    return &vahepito_handed_over[(word * UINT64_C(0x9e3779b97f4a7c15)) >> 52];
+}
+
+static inline void vahepito_hand_words(const uint64_t *words, size_t count) {
+    for (size_t at = 0; at < count; at++) __tsan_release(vahepito_hand(words[at]));
 }
 
 static inline uint32_t vahepito_got(uint32_t code, const vahepito_item *item) {
     if (code == VAHEPITO_GOT) __tsan_acquire(vahepito_hand(item->body));
+    return code;
+}
+
+static inline uint32_t vahepito_got_words(uint32_t code, const vahepito_words_item *item) {
+    if (code == VAHEPITO_GOT)
+        for (size_t at = 0; at < item->count; at++) __tsan_acquire(vahepito_hand(item->words[at]));
     return code;
 }
 
@@ -259,6 +312,16 @@ static inline uint32_t vahepito_try_send_told(vahepito_pass *sender, uint64_t bo
     return vahepito_try_send(sender, body, place, served);
 }
 
+static inline uint32_t vahepito_begin_send_words_told(vahepito_pass *sender, const uint64_t *words, size_t count) {
+    vahepito_hand_words(words, count);
+    return vahepito_begin_send_words(sender, words, count);
+}
+
+static inline uint32_t vahepito_try_send_words_told(vahepito_pass *sender, const uint64_t *words, size_t count, uint64_t *place, uint32_t *served) {
+    vahepito_hand_words(words, count);
+    return vahepito_try_send_words(sender, words, count, place, served);
+}
+
 static inline uint32_t vahepito_turn_take_told(vahepito_pass *receiver, vahepito_item *item, uint64_t *total, uint32_t *served) {
     return vahepito_got(vahepito_turn_take(receiver, item, total, served), item);
 }
@@ -267,10 +330,22 @@ static inline uint32_t vahepito_try_take_told(vahepito_pass *receiver, vahepito_
     return vahepito_got(vahepito_try_take(receiver, item, total, served), item);
 }
 
+static inline uint32_t vahepito_turn_take_words_told(vahepito_pass *receiver, vahepito_words_item *item, uint64_t *total, uint32_t *served) {
+    return vahepito_got_words(vahepito_turn_take_words(receiver, item, total, served), item);
+}
+
+static inline uint32_t vahepito_try_take_words_told(vahepito_pass *receiver, vahepito_words_item *item, uint64_t *total, uint32_t *served) {
+    return vahepito_got_words(vahepito_try_take_words(receiver, item, total, served), item);
+}
+
 #define vahepito_begin_send vahepito_begin_send_told
 #define vahepito_try_send vahepito_try_send_told
 #define vahepito_turn_take vahepito_turn_take_told
 #define vahepito_try_take vahepito_try_take_told
+#define vahepito_begin_send_words vahepito_begin_send_words_told
+#define vahepito_try_send_words vahepito_try_send_words_told
+#define vahepito_turn_take_words vahepito_turn_take_words_told
+#define vahepito_try_take_words vahepito_try_take_words_told
 #endif
 
 #ifdef __cplusplus

@@ -4,10 +4,13 @@
  *     what waits               until
  *     vahepito_send            the item is accepted, or will never be
  *     vahepito_take            there is an item, or the queue has ended
+ *     vahepito_send_words      as vahepito_send, of a body of several words
+ *     vahepito_take_words      as vahepito_take, of an item with all its words
  *     vahepito_close           the queue is closed
  *     vahepito_finish_send     a send that was begun is answered, maybe by FULL
  *     vahepito_finish_close    a close that was begun is answered
  *     vahepito_finish_take     a take that was begun is answered, maybe by EMPTY
+ *     vahepito_finish_take_words   the same, of an item with all its words
  *
  * A call that waits for room or for an item tries again and again: for some 260 rounds, in which it spins and then yields
  * the processor, and from then on after a sleep of 50 microseconds, which doubles up to a millisecond. Between two tries
@@ -163,15 +166,27 @@ static inline uint32_t vahepito_finish_take(vahepito_pass *receiver, vahepito_it
     return code;
 }
 
-/* Sends this body, and waits for room. Each try counts as one of the sends that the sender may begin: 17 before it sleeps, and
+/* The same of an item with all words of its body. */
+static inline uint32_t vahepito_finish_take_words(vahepito_pass *receiver, vahepito_words_item *item, uint64_t *total) {
+    vahepito_backoff backoff = VAHEPITO_BACKOFF;
+    vahepito_words_item got = {0, 0, 0, 0, {0}};
+    uint64_t told = 0;
+    uint32_t served = 0, code;
+    while ((code = vahepito_turn_take_words(receiver, &got, &told, &served)) == VAHEPITO_WAITING) vahepito_between_turns(&backoff);
+    if (item) *item = got;
+    if (total) *total = told;
+    return code;
+}
+
+/* Sends a body of so many words, and waits for room. Each try counts as one of the sends that the sender may begin: 17 before it sleeps, and
  * then at most a thousand in a second but for the first few. So a sender that waits again and again is WORN in the end
  * (README.md says when, and how a program goes on).
  * ACCEPTED with the place; CLOSED, SPENT: not accepted, and nothing will be. NO_PASS, WRONG_SIDE, BUSY, WORN: not
- * accepted. */
-static inline uint32_t vahepito_send(vahepito_pass *sender, uint64_t body, uint64_t *place) {
+ * accepted. BAD_WORDS, LONG: no such body is sent. */
+static inline uint32_t vahepito_send_words(vahepito_pass *sender, const uint64_t *words, size_t count, uint64_t *place) {
     vahepito_backoff backoff = VAHEPITO_BACKOFF;
     for (;;) {
-        uint32_t code = vahepito_begin_send(sender, body);
+        uint32_t code = count == 1 ? vahepito_begin_send(sender, *words) : vahepito_begin_send_words(sender, words, count);
         if (place) *place = 0;
         if (code == VAHEPITO_BEGUN) code = vahepito_finish_send(sender, place);
         if (code != VAHEPITO_FULL) return code;
@@ -179,19 +194,45 @@ static inline uint32_t vahepito_send(vahepito_pass *sender, uint64_t body, uint6
     }
 }
 
+/* The same of one word. It never tells BAD_WORDS or LONG. */
+static inline uint32_t vahepito_send(vahepito_pass *sender, uint64_t body, uint64_t *place) {
+    return vahepito_send_words(sender, &body, 1, place);
+}
+
 /* Takes an item, and waits until there is one.
- * GOT with the item; ENDED with the total: there will be none any more. NO_PASS, WRONG_SIDE, BUSY: nothing has changed. */
+ * GOT with the item; ENDED with the total: there will be none any more. NO_PASS, WRONG_SIDE, BUSY, WIDE: nothing has
+ * changed. */
 static inline uint32_t vahepito_take(vahepito_pass *receiver, vahepito_item *item, uint64_t *total) {
-    const vahepito_item none = {0, 0, 0, 0};
     vahepito_backoff backoff = VAHEPITO_BACKOFF;
+    vahepito_item got = {0, 0, 0, 0};
+    uint64_t told = 0;
+    uint32_t served = 0, code;
     for (;;) {
-        uint32_t code = vahepito_begin_take(receiver);
-        if (item) *item = none;
-        if (total) *total = 0;
-        if (code == VAHEPITO_BEGUN) code = vahepito_finish_take(receiver, item, total);
-        if (code != VAHEPITO_EMPTY) return code;
+        code = vahepito_try_take(receiver, &got, &told, &served);
+        if (code == VAHEPITO_WAITING) code = vahepito_finish_take(receiver, &got, &told);
+        if (code != VAHEPITO_EMPTY) break;
         vahepito_between_tries(&backoff);
     }
+    if (item) *item = got;
+    if (total) *total = told;
+    return code;
+}
+
+/* The same of an item with all words of its body. It never tells WIDE. */
+static inline uint32_t vahepito_take_words(vahepito_pass *receiver, vahepito_words_item *item, uint64_t *total) {
+    vahepito_backoff backoff = VAHEPITO_BACKOFF;
+    vahepito_words_item got = {0, 0, 0, 0, {0}};
+    uint64_t told = 0;
+    uint32_t served = 0, code;
+    for (;;) {
+        code = vahepito_try_take_words(receiver, &got, &told, &served);
+        if (code == VAHEPITO_WAITING) code = vahepito_finish_take_words(receiver, &got, &told);
+        if (code != VAHEPITO_EMPTY) break;
+        vahepito_between_tries(&backoff);
+    }
+    if (item) *item = got;
+    if (total) *total = told;
+    return code;
 }
 
 /* Closes the queue: nothing is accepted after it, and receivers are told the end once they have taken what was.

@@ -5,7 +5,8 @@ use Rattle.std.specs.List.{remove}
 use Rattle.cc_steps.specs.Topic.{Topic}
 use Rattle.cc_steps.specs.Walk.{Walk, IsOf, fresh, fresh_from}
 use Rattle.cc_binding.specs.Names.{Pass}
-use Rattle.cc_binding.specs.Handles.{pass_in}
+use Rattle.cc_binding.specs.Passes.{Holding, holding}
+use Rattle.cc_binding.specs.Handles.{in_box}
 use Rattle.cc_binding.specs.Opened.{HoldFresh}
 
 -- the first seat of a row of fresh ones
@@ -22,15 +23,15 @@ pub other_seats : (z : Topic) (p next : ℕ) (ws rest : List Walk) → next ≡ 
 other_seats z p next [] rest after some f is = absurd (omega (arith, some))
 other_seats z p next (x ∷ ws) rest after some f is = subst (λ (y : ℕ × List Walk). fresh_from z y.0 y.1) (λ i. (sym after i, sym is i)) f.1
 
-module _ {X : Type 0} (held : X → Option Pass) (side : Walk → Pass) (z : Topic) where
+module _ {X : Type 0} (held : X → Holding) (side : Walk → Pass) (words : ℕ) (z : Topic) where
   -- one more holder, of the next fresh pass
-  hold_push : (p n : ℕ) (xs : List X) (x : X) → held x ≡ Some (side (fresh z n)) → n ≡ p + length xs → HoldFresh xs held side z p → HoldFresh (xs ++ x ∷ []) held side z p
-  hold_push p n [] x is at h = (is ∙ ap (λ (k : ℕ). Some (side (fresh z k))) (omega (arith, at)), tt)
+  hold_push : (p n : ℕ) (xs : List X) (x : X) → held x ≡ holding words (side (fresh z n)) → n ≡ p + length xs → HoldFresh xs held side words z p → HoldFresh (xs ++ x ∷ []) held side words z p
+  hold_push p n [] x is at h = (is ∙ ap (λ (k : ℕ). holding words (side (fresh z k))) (omega (arith, at)), tt)
   hold_push p n (y ∷ xs) x is at h = (h.0, hold_push (p + 1) n xs x is (omega (arith, at)) h.1)
 
-  pub next_held : (first p : ℕ) (ws : List Walk) (done done' : List X) (w : Walk) (x : X) → 0 < length ws → fresh_from z p ws → w ≡ slice_index_or ws 0 w → held x ≡ Some (side w) → p ≡ first + length done → HoldFresh done held side z first → done' ≡ done ++ x ∷ [] → HoldFresh done' held side z first
+  pub next_held : (first p : ℕ) (ws : List Walk) (done done' : List X) (w : Walk) (x : X) → 0 < length ws → fresh_from z p ws → w ≡ slice_index_or ws 0 w → held x ≡ holding words (side w) → p ≡ first + length done → HoldFresh done held side words z first → done' ≡ done ++ x ∷ [] → HoldFresh done' held side words z first
   next_held first p ws done done' w x some f is holds at before is' =
-      subst (λ (ys : List X). HoldFresh ys held side z first) (sym is') (hold_push first p done x (holds ∙ ap (λ (v : Walk). Some (side v)) (first_seat z p ws w some f is)) at before)
+      subst (λ (ys : List X). HoldFresh ys held side words z first) (sym is') (hold_push first p done x (holds ∙ ap (λ (v : Walk). holding words (side v)) (first_seat z p ws w some f is)) at before)
 
 abbrev head_of : {Y : Type 0} → Y → List Y → Y
 head_of d [] = d
@@ -41,12 +42,12 @@ rest_of [] = []
 rest_of (y ∷ ys) = ys
 
 -- handles that were filled with these hold what these hold
-pub filled : {H B : Type 0} (handle : H → Option (Option Pass)) (box : B → Option Pass) (side : Walk → Pass) (z : Topic) (p : ℕ) (hs : List H) (bs : List B)
-    → map handle hs ≡ map (λ b. Some (box b)) bs → HoldFresh bs box side z p → HoldFresh hs (λ h. pass_in (handle h)) side z p
-filled handle box side z p [] bs e f = tt
-filled handle box side z p (h ∷ hs) [] e f = absurd (omega (arith, ap length e))
-filled handle box side z p (h ∷ hs) (b ∷ bs) e f =
-    (ap (λ ys. pass_in (head_of None ys)) e ∙ f.0, filled handle box side z (p + 1) hs bs (ap rest_of e) f.1)
+pub filled : {H B : Type 0} (handle : H → Option Holding) (box : B → Holding) (side : Walk → Pass) (words : ℕ) (z : Topic) (p : ℕ) (hs : List H) (bs : List B)
+    → map handle hs ≡ map (λ b. Some (box b)) bs → HoldFresh bs box side words z p → HoldFresh hs (λ h. in_box (handle h)) side words z p
+filled handle box side words z p [] bs e f = tt
+filled handle box side words z p (h ∷ hs) [] e f = absurd (omega (arith, ap length e))
+filled handle box side words z p (h ∷ hs) (b ∷ bs) e f =
+    (ap (λ ys. in_box (head_of None ys)) e ∙ f.0, filled handle box side words z (p + 1) hs bs (ap rest_of e) f.1)
 
 module _ {H B Y : Type 0} (f : H → Y) (g : B → Y) where
   -- a handle more was filled

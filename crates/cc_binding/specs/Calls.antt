@@ -1,11 +1,13 @@
 -- What each call of a handle tells, by the pass that stood behind it before and the one that stands there afterwards.
-use Rattle.std.specs.Prelude.{◌≡◌, ◌≢◌, ℕ, ◌≤◌, nat_le, if◌then◌else◌, [], ◌∷◌, Option, Some, None}
+use Rattle.std.specs.Prelude.{◌≡◌, ◌≢◌, ℕ, ◌≤◌, Bool, true, false, nat_le, if◌then◌else◌, List, [], ◌∷◌, length, Option, Some, None, Ok, Err}
+use Rattle.std.specs.declared.result.Result.{Result}
 use Rattle.cc_model.specs.Body.{body_of}
-use Rattle.cc_binding.specs.Names.{Call, Answer, SendAnswer, CloseAnswer, TakeAnswer, Pass, Told, Taken}
+use Rattle.cc_binding.specs.Names.{Body, Call, Answer, SendAnswer, CloseAnswer, TakeAnswer, Pass, Told, Taken}
 use Rattle.cc_steps.specs.Walk.{Walk}
 use Rattle.cc_queue.specs.Calls.{Begun, Waited, Answered}
 use Rattle.cc_queue.specs.Group.{Ranked}
-use Rattle.cc_binding.specs.declared.codes.TheConstants.{DONE, NO_PASS, WRONG_SIDE, BUSY, NOT_BEGUN, WORN, BEGUN, WAITING, FRESH}
+use Rattle.cc_binding.specs.declared.codes.TheConstants.{DONE, NO_PASS, WRONG_SIDE, BUSY, NOT_BEGUN, WORN, BEGUN, WAITING, FRESH, BAD_WORDS, LONG, WIDE}
+use Rattle.cc_binding.specs.Items.{Form, are_few}
 use Rattle.cc_binding.specs.Told.{only, sent_as, closed_as, none_taken, taken_as}
 
 -- why a pass that is no idle sender doesn't begin a sender's call
@@ -41,14 +43,23 @@ pub record Tries {T : Type 0} (alone : ℕ → T) (Begins : Option Pass → Opti
 
 -- ---- a send
 
--- an idle sender begins a send of this body, or is worn and stays as it is
-abbrev pub SenderBegins : ℕ → Walk → Option Pass → ℕ → Type 0
-SenderBegins body v (Some (Pass.Sending w)) code = (code ≡ BEGUN) × Begun v (Call.Send (body_of (body ∷ []))) w
-SenderBegins body v (Some (Pass.Sender w)) code = (code ≡ WORN) × (w ≡ v) × (v.setting.config.per_sender ≤ v.stand.begun)
-SenderBegins body v _ code = ⊥
+-- the body of these words, where there are one to four of them, and a body of the queue may have so many; or why not
+abbrev pub fitting : ℕ → List ℕ → Result Body ℕ
+fitting most words = if are_few (length words) then (if nat_le (length words) most then Ok (body_of words) else Err LONG) else Err BAD_WORDS
+
+-- the body of this word alone
+abbrev pub single : ℕ → Result Body ℕ
+single word = Ok (body_of (word ∷ []))
+
+-- an idle sender begins a send of this body, or is worn and stays as it is; and where there is no body it stays so too
+abbrev pub SenderBegins : Result Body ℕ → Walk → Option Pass → ℕ → Type 0
+SenderBegins (Err why) v new code = (new ≡ Some (Pass.Sender v)) × (code ≡ why)
+SenderBegins (Ok body) v (Some (Pass.Sending w)) code = (code ≡ BEGUN) × Begun v (Call.Send body) w
+SenderBegins (Ok body) v (Some (Pass.Sender w)) code = (code ≡ WORN) × (w ≡ v) × (v.setting.config.per_sender ≤ v.stand.begun)
+SenderBegins (Ok body) v _ code = ⊥
 
 -- the begin of a send: where it can't be begun, the pass stays as it is
-abbrev pub BeginsSend : ℕ → Option Pass → Option Pass → ℕ → Type 0
+abbrev pub BeginsSend : Result Body ℕ → Option Pass → Option Pass → ℕ → Type 0
 BeginsSend body (Some (Pass.Sender v)) new code = SenderBegins body v new code
 BeginsSend body (Some p) new code = (new ≡ Some p) × (code ≡ no_idle_sender p)
 BeginsSend body None new code = (new ≡ None) × (code ≡ NO_PASS)
@@ -72,7 +83,7 @@ TurnsSend (Some p) new told = (new ≡ Some p) × (told ≡ only (no_pending_sen
 TurnsSend None new told = (new ≡ None) × (told ≡ only NO_PASS)
 
 -- a begin of a send, and where it was begun a turn of it
-abbrev pub TriesSend : ℕ → Option Pass → Option Pass → Told → Type 0
+abbrev pub TriesSend : Result Body ℕ → Option Pass → Option Pass → Told → Type 0
 TriesSend body = Tries only (BeginsSend body) TurnsSend
 
 -- whether a sender is worn; nothing changes
@@ -128,27 +139,33 @@ BeginsTake (Some (Pass.Receiver v)) new code = ReceiverBegins v new code
 BeginsTake (Some p) new code = (new ≡ Some p) × (code ≡ no_idle_receiver p)
 BeginsTake None new code = (new ≡ None) × (code ≡ NO_PASS)
 
--- a take was answered in this turn, and this is told of it
-pub record TakeIsTold (v w : Walk) (told : Taken) : Type 0 where
-  pub given : TakeAnswer
-  pub told_is : told ≡ taken_as given told.served
-  pub answered : Answered v (Answer.Take given) told.served w
+module _ {I : Type 0} (form : Form I) where
+  -- a take was answered in this turn, and this is told of it
+  pub record TakeIsTold (v w : Walk) (told : Taken I) : Type 0 where
+    pub given : TakeAnswer
+    pub told_is : told ≡ taken_as form given told.served
+    pub answered : Answered v (Answer.Take given) told.served w
 
--- a pending take waits, or is done
-abbrev pub TakeTurns : Walk → Option Pass → Taken → Type 0
-TakeTurns v (Some (Pass.Taking w)) told = (told ≡ none_taken WAITING) × Waited v w
-TakeTurns v (Some (Pass.Receiver w)) told = TakeIsTold v w told
-TakeTurns v _ told = ⊥
+  -- a pending take waits, or is done
+  abbrev pub TakeTurns : Walk → Option Pass → Taken I → Type 0
+  TakeTurns v (Some (Pass.Taking w)) told = (told ≡ none_taken form WAITING) × Waited v w
+  TakeTurns v (Some (Pass.Receiver w)) told = TakeIsTold v w told
+  TakeTurns v _ told = ⊥
 
--- a turn of a take
-abbrev pub TurnsTake : Option Pass → Option Pass → Taken → Type 0
-TurnsTake (Some (Pass.Taking v)) new told = TakeTurns v new told
-TurnsTake (Some p) new told = (new ≡ Some p) × (told ≡ none_taken (no_pending_take p))
-TurnsTake None new told = (new ≡ None) × (told ≡ none_taken NO_PASS)
+  -- a turn of a take
+  abbrev pub TurnsTake : Option Pass → Option Pass → Taken I → Type 0
+  TurnsTake (Some (Pass.Taking v)) new told = TakeTurns v new told
+  TurnsTake (Some p) new told = (new ≡ Some p) × (told ≡ none_taken form (no_pending_take p))
+  TurnsTake None new told = (new ≡ None) × (told ≡ none_taken form NO_PASS)
 
--- a begin of a take, and where it was begun a turn of it
-abbrev pub TriesTake : Option Pass → Option Pass → Taken → Type 0
-TriesTake = Tries none_taken BeginsTake TurnsTake
+  -- a begin of a take, and where it was begun a turn of it
+  abbrev pub TriesTake : Option Pass → Option Pass → Taken I → Type 0
+  TriesTake = Tries (none_taken form) BeginsTake TurnsTake
+
+  -- a call that tells an item isn't made where a body of the queue may have more words than the item has room for
+  abbrev pub IfRoom : Bool → (Option Pass → Option Pass → Taken I → Type 0) → Option Pass → Option Pass → Taken I → Type 0
+  IfRoom true Tells old new told = Tells old new told
+  IfRoom false Tells old new told = (new ≡ old) × (told ≡ none_taken form WIDE)
 
 -- the group of a receiver that has no call, from 1; nothing changes
 abbrev pub TellsGroup : Option Pass → Option Pass → ℕ → ℕ → Type 0

@@ -1,16 +1,24 @@
 -- Handles.
 use Rattle.std.specs.Prelude.{◌≡◌, ℕ, Bool, not, IsTrue, if◌then◌else◌, Option, Some, None}
 use Rattle.cc_binding.specs.Names.{Pass}
+use Rattle.cc_binding.specs.Passes.{Holding}
 use Rattle.cc_binding.specs.declared.handle.Handle.{Handle}
 use Rattle.cc_binding.specs.declared.codes.TheConstants.{DONE, NO_PASS}
 
--- the pass behind a handle
-abbrev pub pass_in : Option (Option Pass) → Option Pass
-pass_in None = None
-pass_in (Some p) = p
+-- what a handle holds: an empty one has no pass, and its bodies no words
+abbrev pub in_box : Option Holding → Holding
+in_box None = record { pass = None; words = 0 }
+in_box (Some k) = k
+
+abbrev pub held_by : Handle → Holding
+held_by h = in_box h.boxed.value
 
 abbrev pub pass_of : Handle → Option Pass
-pass_of h = pass_in h.boxed.value
+pass_of h = (held_by h).pass
+
+-- how many words a body of its queue has at most
+abbrev pub longest_of : Handle → ℕ
+longest_of h = (held_by h).words
 
 -- it holds none
 abbrev pub is_empty : Handle → Bool

@@ -1,4 +1,5 @@
 -- The types that specs, proofs and contracts of this crate speak of. A variant stands behind its type, as `Pass.Sender`.
+pub use Rattle.cc_model.specs.declared.body.Body.{Body}
 pub use Rattle.cc_model.specs.declared.call.Call.{Call}
 pub use Rattle.cc_model.specs.declared.call.Item.{Item}
 pub use Rattle.cc_model.specs.declared.call.SendAnswer.{SendAnswer}
@@ -10,6 +11,7 @@ pub use Rattle.cc_model.specs.declared.config.ConfigFault.{ConfigFault}
 pub use Rattle.cc_runs.specs.declared.setting.Served.{Served}
 pub use Rattle.cc_binding.specs.declared.held.Pass.{Pass}
 pub use Rattle.cc_binding.specs.declared.opening.Settings.{Settings}
+pub use Rattle.cc_binding.specs.declared.items.TakenItem.{TakenItem}
+pub use Rattle.cc_binding.specs.declared.items.TakenWords.{TakenWords}
 pub use Rattle.cc_binding.specs.declared.told.Told.{Told}
-pub use Rattle.cc_binding.specs.declared.told.TakenItem.{TakenItem}
 pub use Rattle.cc_binding.specs.declared.told.Taken.{Taken}

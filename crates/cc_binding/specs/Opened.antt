@@ -1,5 +1,5 @@
 -- The opening of a queue, over two rows of handles.
-use Rattle.std.specs.Prelude.{◌≡◌, ℕ, ◌+◌, ◌*◌, Bool, ◌&&◌, nat_eq, if◌then◌else◌, List, [], ◌∷◌, length, Option, Some, Ok, Err}
+use Rattle.std.specs.Prelude.{◌≡◌, ℕ, ◌+◌, ◌*◌, Bool, ◌&&◌, nat_eq, if◌then◌else◌, List, [], ◌∷◌, length, Ok, Err}
 use Rattle.std.specs.List.{list_all}
 use Rattle.std.specs.declared.result.Result.{Result}
 use Rattle.cc_model.specs.Config.{config_fault}
@@ -7,8 +7,10 @@ use Rattle.cc_binding.specs.Names.{Config, ConfigFault, Served, Pass, Settings}
 use Rattle.cc_steps.specs.Topic.{Topic}
 use Rattle.cc_steps.specs.Walk.{Walk, fresh}
 use Rattle.cc_binding.specs.declared.handle.Handle.{Handle}
-use Rattle.cc_binding.specs.declared.codes.TheConstants.{DONE, BAD_SENDERS, BAD_RECEIVERS, BAD_CAPACITY, BAD_BOUND, BAD_LIFE, BAD_PER_SENDER, BAD_HANDLES, BAD_GROUPS}
-use Rattle.cc_binding.specs.Handles.{pass_of, is_empty}
+use Rattle.cc_binding.specs.declared.codes.TheConstants.{DONE, BAD_SENDERS, BAD_RECEIVERS, BAD_CAPACITY, BAD_BOUND, BAD_LIFE, BAD_PER_SENDER, BAD_HANDLES, BAD_GROUPS, BAD_WORDS}
+use Rattle.cc_binding.specs.Items.{are_few}
+use Rattle.cc_binding.specs.Handles.{held_by, is_empty}
+use Rattle.cc_binding.specs.Passes.{Holding, holding}
 
 -- the configuration, as C gives it, of so many groups
 abbrev pub config_of : Settings → ℕ → Config
@@ -28,23 +30,25 @@ field_code ConfigFault.Groups = BAD_GROUPS
 abbrev pub are_free : ℕ → List Handle → Bool
 are_free count hs = nat_eq (length hs) count && list_all is_empty hs
 
--- why a queue isn't opened, memory apart: the first field out of its range, then the handles; DONE where nothing is wrong
-abbrev pub checked_as : Result (Unit {0}) ConfigFault → Bool → ℕ
-checked_as (Err f) free = field_code f
-checked_as (Ok u) free = if free then DONE else BAD_HANDLES
+-- why a queue isn't opened, memory apart: the first field out of its range, then the words of a body, then the handles; DONE
+-- where nothing is wrong
+abbrev pub checked_as : Result (Unit {0}) ConfigFault → Bool → Bool → ℕ
+checked_as (Err f) few free = field_code f
+checked_as (Ok u) few free = if few then (if free then DONE else BAD_HANDLES) else BAD_WORDS
 
-abbrev pub refusal : Config → List Handle → List Handle → ℕ
-refusal c senders receivers = checked_as (config_fault c) (are_free c.senders senders && are_free (c.groups * c.receivers) receivers)
+abbrev pub refusal : Config → ℕ → List Handle → List Handle → ℕ
+refusal c words senders receivers = checked_as (config_fault c) (are_few words) (are_free c.senders senders && are_free (c.groups * c.receivers) receivers)
 
--- these hold, one after another, the passes of this queue from p on, each one its own, which has no call and has seen nothing
-abbrev pub HoldFresh : {X : Type 0} → List X → (X → Option Pass) → (Walk → Pass) → Topic → ℕ → Type 0
-HoldFresh [] held side z p = Unit {0}
-HoldFresh (x ∷ xs) held side z p = (held x ≡ Some (side (fresh z p))) × HoldFresh xs held side z (p + 1)
+-- these hold, one after another, the passes of this queue of bodies of so many words from p on, each one its own, which has no
+-- call and has seen nothing
+abbrev pub HoldFresh : {X : Type 0} → List X → (X → Holding) → (Walk → Pass) → ℕ → Topic → ℕ → Type 0
+HoldFresh [] held side words z p = Unit {0}
+HoldFresh (x ∷ xs) held side words z p = (held x ≡ holding words (side (fresh z p))) × HoldFresh xs held side words z (p + 1)
 
--- the handles are those of the senders and of the receivers of one queue with this configuration, in order, so those of a
--- group stand together
-pub record HaveOpened (c : Config) (senders receivers : List Handle) : Type 0 where
+-- the handles are those of the senders and of the receivers of one queue with this configuration, whose bodies have so many
+-- words at most, in order, so those of a group stand together
+pub record HaveOpened (c : Config) (words : ℕ) (senders receivers : List Handle) : Type 0 where
   pub queue : Topic
   pub setting : queue.setting ≡ record { served = Served.List; config = c }
-  pub senders_hold : HoldFresh senders pass_of Pass.Sender queue 0
-  pub receivers_hold : HoldFresh receivers pass_of Pass.Receiver queue c.senders
+  pub senders_hold : HoldFresh senders held_by Pass.Sender words queue 0
+  pub receivers_hold : HoldFresh receivers held_by Pass.Receiver words queue c.senders

@@ -52,7 +52,8 @@ fn turned(queue: &Queue, pass: Pass) -> (Pass, Told)
 impl Held {
     /// Begins a close.
     pub fn begin_close(&mut self) -> u32
-        ensures { BeginsClose self.old self.new result }
+        ensures begins { BeginsClose self.old.pass self.new.pass result }
+        ensures same { self.new.words ≡ self.old.words }
     {
         let Some(pass) = self.pass.take() else {
             return NO_PASS;
@@ -64,7 +65,8 @@ impl Held {
 
     /// One turn of a close.
     pub fn turn_close(&mut self) -> Told
-        ensures { TurnsClose self.old self.new result }
+        ensures turns { TurnsClose self.old.pass self.new.pass result }
+        ensures same { self.new.words ≡ self.old.words }
     {
         let Some(pass) = self.pass.take() else {
             return Told::only(NO_PASS);

@@ -69,3 +69,12 @@ pub const ENDED: u32 = 25;
 
 /// The number of groups is out of its range.
 pub const BAD_GROUPS: u32 = 26;
+
+/// The number of words of a body is out of its range; 27 is a code of the header alone.
+pub const BAD_WORDS: u32 = 28;
+
+/// The body has more words than a body of its queue may have.
+pub const LONG: u32 = 29;
+
+/// A body of the queue may have more words than the item has room for.
+pub const WIDE: u32 = 30;

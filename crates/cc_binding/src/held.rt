@@ -1,7 +1,7 @@
 //! What stands behind a handle.
 ghost use Rattle.std.specs.Prelude.{◌≡◌, Some};
 ghost use Rattle.cc_steps.specs.Walk.{IsOf};
-ghost use Rattle.cc_binding.specs.Passes.{walk_of};
+ghost use Rattle.cc_binding.specs.Passes.{walk_of, holding};
 
 use cc_queue::{PendingClose, PendingSend, PendingTake, Queue, Receiver, Sender};
 use std::marker::Model;
@@ -24,31 +24,32 @@ type Spare = [u64; 8];
 #[repr(C)]
 pub struct Held {
     pub(crate) queue: Queue,
+    /// How many words a body of the queue has at most.
+    pub(crate) longest: u32,
     before: Spare,
     pub(crate) pass: Option<Pass>,
     behind: Spare,
 }
 
 impl Model for Held {
-    ghost use Rattle.std.specs.Prelude.{Option};
-    ghost use Rattle.cc_binding.specs.Names.{Pass};
-    ghost use Rattle.cc_binding.specs.Passes.{IsPassOf};
+    ghost use Rattle.cc_binding.specs.Passes.{Holding, IsPassOf};
 
-    ghost Value = { Option Pass };
+    ghost Value = { Holding };
 
-    ghost view = { λ k. k.pass };
+    ghost view = { λ k. record { pass = k.pass; words = k.longest } };
 
     ghost invariant = { λ k. IsPassOf k.queue k.pass };
 }
 
 impl Held {
-    /// A pass and a share of its queue.
-    pub(crate) fn new(queue: Queue, pass: Pass) -> Held
+    /// A pass and a share of its queue, whose bodies have so many words at most.
+    pub(crate) fn new(queue: Queue, longest: u32, pass: Pass) -> Held
         requires { IsOf queue (walk_of pass) }
-        ensures { result ≡ Some pass }
+        ensures { result ≡ holding longest pass }
     {
         Held {
             queue,
+            longest,
             before: [0; 8],
             pass: Some(pass),
             behind: [0; 8],
@@ -71,6 +72,7 @@ impl Drop for Held {
     fn drop(self) {
         let Held {
             queue: _,
+            longest: _,
             before: _,
             pass,
             behind: _,

@@ -7,22 +7,24 @@
 //! What each call tells is said in `specs/Calls.antt`, and of the opening in `specs/Opened.antt`.
 #![tactic(auto)]
 
-ghost use Rattle.std.specs.Prelude.{◌≡◌, ◌≢◌};
+ghost use Rattle.std.specs.Prelude.{◌≡◌, ◌≢◌, nat_le};
 ghost use Rattle.std.specs.Mem.{type_size};
 ghost use Rattle.cc_binding.specs.contracts.opening.Settings as settings_type;
 ghost use Rattle.cc_binding.specs.contracts.handle.Handle as handle_type;
-ghost use Rattle.cc_binding.specs.contracts.told.TakenItem as item_type;
+ghost use Rattle.cc_binding.specs.contracts.items.TakenItem as item_type;
 ghost use Rattle.cc_binding.specs.declared.version.TheConstants.{VERSION};
-ghost use Rattle.cc_binding.specs.declared.codes.TheConstants.{BAD_GROUPS};
+ghost use Rattle.cc_binding.specs.declared.codes.TheConstants.{BAD_GROUPS, BAD_WORDS};
+ghost use Rattle.cc_binding.specs.Items.{one_word, all_words};
 ghost use Rattle.cc_binding.specs.Opened.{config_of, refusal, HaveOpened};
-ghost use Rattle.cc_binding.specs.Handles.{pass_of, IsDropped};
-ghost use Rattle.cc_binding.specs.Calls.{BeginsSend, TurnsSend, TriesSend, TellsWorn, BeginsClose, TurnsClose, BeginsTake, TurnsTake, TriesTake, TellsGroup};
+ghost use Rattle.cc_binding.specs.Handles.{pass_of, longest_of, IsDropped};
+ghost use Rattle.cc_binding.specs.Calls.{single, fitting, IfRoom, BeginsSend, TurnsSend, TriesSend, TellsWorn, BeginsClose, TurnsClose, BeginsTake, TurnsTake, TriesTake, TellsGroup};
 
 mod boxed;
 mod closes;
 mod codes;
 mod handle;
 mod held;
+mod items;
 mod loose;
 mod opening;
 mod refusals;
@@ -31,12 +33,15 @@ mod takes;
 mod told;
 mod version;
 
+use cc_model::Body;
 use codes::{DONE, NO_MEMORY, NO_PASS};
 use handle::Handle;
+use items::{TakenItem, TakenWords};
 use opening::{Settings, check, open};
 use std::alloc::Global;
 use std::mem::size_of;
-use told::{Taken, TakenItem, Told};
+use takes::{try_take, turn_take};
+use told::Told;
 use version::VERSION;
 
 /// The version of the library, which a caller compares with the one that it was written for: a million times the first of
@@ -61,8 +66,8 @@ pub extern "C" fn vahepito_sizes(config: &mut usize, pass: &mut usize, item: &mu
     *item = size_of::<TakenItem>();
 }
 
-/// Opens a queue of one group of receivers, and fills a handle for each sender and each receiver. It never tells
-/// BAD_GROUPS, a code that its callers may not know.
+/// Opens a queue of one group of receivers and of bodies of one word, and fills a handle for each sender and each receiver. It
+/// never tells BAD_GROUPS or BAD_WORDS, codes that its callers may not know.
 #[unsafe(no_mangle)]
 pub extern "C" fn vahepito_open(
     alloc: Global,
@@ -70,17 +75,17 @@ pub extern "C" fn vahepito_open(
     senders: &mut [Handle],
     receivers: &mut [Handle],
 ) -> u32
-    ensures refused { refusal (config_of config.now 1) senders.old receivers.old ≢ DONE → result ≡ refusal (config_of config.now 1) senders.old receivers.old }
-    ensures memory { refusal (config_of config.now 1) senders.old receivers.old ≡ DONE → result ≢ DONE → result ≡ NO_MEMORY }
-    ensures opened { result ≡ DONE → HaveOpened (config_of config.now 1) senders.new receivers.new }
-    ensures known { result ≢ BAD_GROUPS }
+    ensures refused { refusal (config_of config.now 1) 1 senders.old receivers.old ≢ DONE → result ≡ refusal (config_of config.now 1) 1 senders.old receivers.old }
+    ensures memory { refusal (config_of config.now 1) 1 senders.old receivers.old ≡ DONE → result ≢ DONE → result ≡ NO_MEMORY }
+    ensures opened { result ≡ DONE → HaveOpened (config_of config.now 1) 1 senders.new receivers.new }
+    ensures known { (result ≢ BAD_GROUPS) × (result ≢ BAD_WORDS) }
     ensures same { result ≢ DONE → (senders.new ≡ senders.old) × (receivers.new ≡ receivers.old) }
 {
     vahepito_open_groups(alloc, config, 1, senders, receivers)
 }
 
-/// Opens a queue of so many groups of receivers, and fills a handle for each sender and each receiver. The receivers of a
-/// group stand together, the first group first.
+/// Opens a queue of so many groups of receivers and of bodies of one word, and fills a handle for each sender and each
+/// receiver. The receivers of a group stand together, the first group first. It never tells BAD_WORDS.
 #[unsafe(no_mangle)]
 pub extern "C" fn vahepito_open_groups(
     alloc: Global,
@@ -89,16 +94,35 @@ pub extern "C" fn vahepito_open_groups(
     senders: &mut [Handle],
     receivers: &mut [Handle],
 ) -> u32
-    ensures refused { refusal (config_of config.now groups) senders.old receivers.old ≢ DONE → result ≡ refusal (config_of config.now groups) senders.old receivers.old }
-    ensures memory { refusal (config_of config.now groups) senders.old receivers.old ≡ DONE → result ≢ DONE → result ≡ NO_MEMORY }
-    ensures opened { result ≡ DONE → HaveOpened (config_of config.now groups) senders.new receivers.new }
+    ensures refused { refusal (config_of config.now groups) 1 senders.old receivers.old ≢ DONE → result ≡ refusal (config_of config.now groups) 1 senders.old receivers.old }
+    ensures memory { refusal (config_of config.now groups) 1 senders.old receivers.old ≡ DONE → result ≢ DONE → result ≡ NO_MEMORY }
+    ensures opened { result ≡ DONE → HaveOpened (config_of config.now groups) 1 senders.new receivers.new }
+    ensures known { result ≢ BAD_WORDS }
     ensures same { result ≢ DONE → (senders.new ≡ senders.old) × (receivers.new ≡ receivers.old) }
 {
-    let config = match check(&config.config(groups), senders, receivers) {
+    vahepito_open_words(alloc, config, groups, 1, senders, receivers)
+}
+
+/// Opens a queue of so many groups of receivers and of bodies of so many words at most, and fills the handles so.
+#[unsafe(no_mangle)]
+pub extern "C" fn vahepito_open_words(
+    alloc: Global,
+    config: &Settings,
+    groups: u32,
+    words: u32,
+    senders: &mut [Handle],
+    receivers: &mut [Handle],
+) -> u32
+    ensures refused { refusal (config_of config.now groups) words senders.old receivers.old ≢ DONE → result ≡ refusal (config_of config.now groups) words senders.old receivers.old }
+    ensures memory { refusal (config_of config.now groups) words senders.old receivers.old ≡ DONE → result ≢ DONE → result ≡ NO_MEMORY }
+    ensures opened { result ≡ DONE → HaveOpened (config_of config.now groups) words senders.new receivers.new }
+    ensures same { result ≢ DONE → (senders.new ≡ senders.old) × (receivers.new ≡ receivers.old) }
+{
+    let config = match check(&config.config(groups), words, senders, receivers) {
         Ok(config) => config,
         Err(code) => return code,
     };
-    match open(alloc, &config, senders, receivers) {
+    match open(alloc, &config, words, senders, receivers) {
         Ok(()) => DONE,
         Err(_) => NO_MEMORY,
     }
@@ -107,11 +131,31 @@ pub extern "C" fn vahepito_open_groups(
 /// Begins a send of this body.
 #[unsafe(no_mangle)]
 pub extern "C" fn vahepito_begin_send(alloc: Global, sender: &mut Handle, body: u64) -> u32
-    ensures { BeginsSend body (pass_of sender.old) (pass_of sender.new) result }
+    ensures begins { BeginsSend (single body) (pass_of sender.old) (pass_of sender.new) result }
+    ensures same { longest_of sender.new ≡ longest_of sender.old }
 {
     let Some(mut held) = sender.take(alloc) else {
         return NO_PASS;
     };
+    let code = held.begin_send(Ok(Body::one(body)));
+    *sender = Handle::of(held);
+    code
+}
+
+/// Begins a send of these words, where a body of the queue may have so many.
+#[unsafe(no_mangle)]
+pub extern "C" fn vahepito_begin_send_words(
+    alloc: Global,
+    sender: &mut Handle,
+    words: &[u64],
+) -> u32
+    ensures begins { BeginsSend (fitting (longest_of sender.old) words.now) (pass_of sender.old) (pass_of sender.new) result }
+    ensures same { longest_of sender.new ≡ longest_of sender.old }
+{
+    let Some(mut held) = sender.take(alloc) else {
+        return NO_PASS;
+    };
+    let body = held.fitting(words);
     let code = held.begin_send(body);
     *sender = Handle::of(held);
     code
@@ -125,7 +169,8 @@ pub extern "C" fn vahepito_turn_send(
     place: &mut u64,
     served: &mut u32,
 ) -> u32
-    ensures { TurnsSend (pass_of sender.old) (pass_of sender.new) (record { code = result; number = place.new; served = served.new }) }
+    ensures turns { TurnsSend (pass_of sender.old) (pass_of sender.new) (record { code = result; number = place.new; served = served.new }) }
+    ensures same { longest_of sender.new ≡ longest_of sender.old }
 {
     let told = match sender.take(alloc) {
         Some(mut held) => {
@@ -149,10 +194,37 @@ pub extern "C" fn vahepito_try_send(
     place: &mut u64,
     served: &mut u32,
 ) -> u32
-    ensures { TriesSend body (pass_of sender.old) (pass_of sender.new) (record { code = result; number = place.new; served = served.new }) }
+    ensures tries { TriesSend (single body) (pass_of sender.old) (pass_of sender.new) (record { code = result; number = place.new; served = served.new }) }
+    ensures same { longest_of sender.new ≡ longest_of sender.old }
 {
     let told = match sender.take(alloc) {
         Some(mut held) => {
+            let told = held.try_send(Ok(Body::one(body)));
+            *sender = Handle::of(held);
+            told
+        }
+        None => Told::only(NO_PASS),
+    };
+    *place = told.number;
+    *served = told.served;
+    told.code
+}
+
+/// Begins a send of these words, where a body of the queue may have so many, and where it was begun turns it once.
+#[unsafe(no_mangle)]
+pub extern "C" fn vahepito_try_send_words(
+    alloc: Global,
+    sender: &mut Handle,
+    words: &[u64],
+    place: &mut u64,
+    served: &mut u32,
+) -> u32
+    ensures tries { TriesSend (fitting (longest_of sender.old) words.now) (pass_of sender.old) (pass_of sender.new) (record { code = result; number = place.new; served = served.new }) }
+    ensures same { longest_of sender.new ≡ longest_of sender.old }
+{
+    let told = match sender.take(alloc) {
+        Some(mut held) => {
+            let body = held.fitting(words);
             let told = held.try_send(body);
             *sender = Handle::of(held);
             told
@@ -167,7 +239,8 @@ pub extern "C" fn vahepito_try_send(
 /// Whether the sender has begun as many sends as it may.
 #[unsafe(no_mangle)]
 pub extern "C" fn vahepito_is_worn(alloc: Global, sender: &mut Handle) -> u32
-    ensures { TellsWorn (pass_of sender.old) (pass_of sender.new) result }
+    ensures tells { TellsWorn (pass_of sender.old) (pass_of sender.new) result }
+    ensures same { longest_of sender.new ≡ longest_of sender.old }
 {
     let Some(mut held) = sender.take(alloc) else {
         return NO_PASS;
@@ -180,7 +253,8 @@ pub extern "C" fn vahepito_is_worn(alloc: Global, sender: &mut Handle) -> u32
 /// Begins a close.
 #[unsafe(no_mangle)]
 pub extern "C" fn vahepito_begin_close(alloc: Global, sender: &mut Handle) -> u32
-    ensures { BeginsClose (pass_of sender.old) (pass_of sender.new) result }
+    ensures begins { BeginsClose (pass_of sender.old) (pass_of sender.new) result }
+    ensures same { longest_of sender.new ≡ longest_of sender.old }
 {
     let Some(mut held) = sender.take(alloc) else {
         return NO_PASS;
@@ -198,7 +272,8 @@ pub extern "C" fn vahepito_turn_close(
     total: &mut u64,
     served: &mut u32,
 ) -> u32
-    ensures { TurnsClose (pass_of sender.old) (pass_of sender.new) (record { code = result; number = total.new; served = served.new }) }
+    ensures turns { TurnsClose (pass_of sender.old) (pass_of sender.new) (record { code = result; number = total.new; served = served.new }) }
+    ensures same { longest_of sender.new ≡ longest_of sender.old }
 {
     let told = match sender.take(alloc) {
         Some(mut held) => {
@@ -216,7 +291,8 @@ pub extern "C" fn vahepito_turn_close(
 /// Begins a take.
 #[unsafe(no_mangle)]
 pub extern "C" fn vahepito_begin_take(alloc: Global, receiver: &mut Handle) -> u32
-    ensures { BeginsTake (pass_of receiver.old) (pass_of receiver.new) result }
+    ensures begins { BeginsTake (pass_of receiver.old) (pass_of receiver.new) result }
+    ensures same { longest_of receiver.new ≡ longest_of receiver.old }
 {
     let Some(mut held) = receiver.take(alloc) else {
         return NO_PASS;
@@ -235,16 +311,10 @@ pub extern "C" fn vahepito_turn_take(
     total: &mut u64,
     served: &mut u32,
 ) -> u32
-    ensures { TurnsTake (pass_of receiver.old) (pass_of receiver.new) (record { code = result; item = item.new; total = total.new; served = served.new }) }
+    ensures turns { IfRoom one_word (nat_le (longest_of receiver.old) one_word.room) (TurnsTake one_word) (pass_of receiver.old) (pass_of receiver.new) (record { code = result; item = item.new; total = total.new; served = served.new }) }
+    ensures same { longest_of receiver.new ≡ longest_of receiver.old }
 {
-    let told = match receiver.take(alloc) {
-        Some(mut held) => {
-            let told = held.turn_take();
-            *receiver = Handle::of(held);
-            told
-        }
-        None => Taken::only(NO_PASS),
-    };
+    let told = turn_take::<TakenItem>(alloc, receiver);
     *item = told.item;
     *total = told.total;
     *served = told.served;
@@ -260,16 +330,48 @@ pub extern "C" fn vahepito_try_take(
     total: &mut u64,
     served: &mut u32,
 ) -> u32
-    ensures { TriesTake (pass_of receiver.old) (pass_of receiver.new) (record { code = result; item = item.new; total = total.new; served = served.new }) }
+    ensures tries { IfRoom one_word (nat_le (longest_of receiver.old) one_word.room) (TriesTake one_word) (pass_of receiver.old) (pass_of receiver.new) (record { code = result; item = item.new; total = total.new; served = served.new }) }
+    ensures same { longest_of receiver.new ≡ longest_of receiver.old }
 {
-    let told = match receiver.take(alloc) {
-        Some(mut held) => {
-            let told = held.try_take();
-            *receiver = Handle::of(held);
-            told
-        }
-        None => Taken::only(NO_PASS),
-    };
+    let told = try_take::<TakenItem>(alloc, receiver);
+    *item = told.item;
+    *total = told.total;
+    *served = told.served;
+    told.code
+}
+
+/// One turn of a take that was begun, of an item with all words of its body.
+#[unsafe(no_mangle)]
+pub extern "C" fn vahepito_turn_take_words(
+    alloc: Global,
+    receiver: &mut Handle,
+    item: &mut TakenWords,
+    total: &mut u64,
+    served: &mut u32,
+) -> u32
+    ensures turns { IfRoom all_words (nat_le (longest_of receiver.old) all_words.room) (TurnsTake all_words) (pass_of receiver.old) (pass_of receiver.new) (record { code = result; item = item.new; total = total.new; served = served.new }) }
+    ensures same { longest_of receiver.new ≡ longest_of receiver.old }
+{
+    let told = turn_take::<TakenWords>(alloc, receiver);
+    *item = told.item;
+    *total = told.total;
+    *served = told.served;
+    told.code
+}
+
+/// Begins a take, and where it was begun turns it once, of an item with all words of its body.
+#[unsafe(no_mangle)]
+pub extern "C" fn vahepito_try_take_words(
+    alloc: Global,
+    receiver: &mut Handle,
+    item: &mut TakenWords,
+    total: &mut u64,
+    served: &mut u32,
+) -> u32
+    ensures tries { IfRoom all_words (nat_le (longest_of receiver.old) all_words.room) (TriesTake all_words) (pass_of receiver.old) (pass_of receiver.new) (record { code = result; item = item.new; total = total.new; served = served.new }) }
+    ensures same { longest_of receiver.new ≡ longest_of receiver.old }
+{
+    let told = try_take::<TakenWords>(alloc, receiver);
     *item = told.item;
     *total = told.total;
     *served = told.served;
@@ -279,7 +381,8 @@ pub extern "C" fn vahepito_try_take(
 /// The group of the receiver, from 1.
 #[unsafe(no_mangle)]
 pub extern "C" fn vahepito_group(alloc: Global, receiver: &mut Handle, group: &mut u32) -> u32
-    ensures { TellsGroup (pass_of receiver.old) (pass_of receiver.new) result group.new }
+    ensures tells { TellsGroup (pass_of receiver.old) (pass_of receiver.new) result group.new }
+    ensures same { longest_of receiver.new ≡ longest_of receiver.old }
 {
     let (code, number) = match receiver.take(alloc) {
         Some(held) => {

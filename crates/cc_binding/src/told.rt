@@ -1,9 +1,10 @@
 //! What a call tells, and the answers of a queue as that.
 ghost use Rattle.std.specs.Prelude.{◌≡◌};
-ghost use Rattle.cc_binding.specs.Told.{only, none_taken, sent_as, closed_as, taken_as, item_of};
+ghost use Rattle.cc_binding.specs.Told.{only, none_taken, sent_as, closed_as, taken_as};
 
 use crate::codes::{ACCEPTED, ALREADY, CLOSED, EMPTY, ENDED, FULL, GOT, SHUT, SPENT};
-use cc_model::{CloseAnswer, Item, SendAnswer, TakeAnswer};
+use crate::items::ItemForm;
+use cc_model::{CloseAnswer, SendAnswer, TakeAnswer};
 use cc_runs::words_in;
 
 /// What a call of a sender tells.
@@ -16,35 +17,17 @@ pub struct Told {
     pub served: u32,
 }
 
-/// An item as C gets it.
-#[repr(C)]
-#[derive(Clone, Copy)]
-pub struct TakenItem {
-    pub place: u64,
-    pub sender: u32,
-    pub number: u32,
-    pub body: u64,
-}
-
 /// What a take tells.
 #[derive(Clone, Copy)]
-pub struct Taken {
+pub struct Taken<I> {
     pub code: u32,
     /// The item that was got; else 0 in each field.
-    pub item: TakenItem,
+    pub item: I,
     /// The total, where the queue has ended; else 0.
     pub total: u64,
     /// How many calls the turn served.
     pub served: u32,
 }
-
-/// No item.
-const NO_ITEM: TakenItem = TakenItem {
-    place: 0,
-    sender: 0,
-    number: 0,
-    body: 0,
-};
 
 impl Told {
     /// A code alone.
@@ -91,41 +74,27 @@ impl Told {
     }
 }
 
-impl TakenItem {
-    /// An item of the queue.
-    fn of(item: Item) -> TakenItem
-        ensures { result ≡ item_of item }
-    {
-        TakenItem {
-            place: item.place,
-            sender: item.sender,
-            number: item.number,
-            body: words_in(item.body).first,
-        }
-    }
-}
-
-impl Taken {
+impl<I: ItemForm> Taken<I> {
     /// A code alone.
-    pub fn only(code: u32) -> Taken
-        ensures { result ≡ none_taken code }
+    pub fn only(code: u32) -> Taken<I>
+        ensures { result ≡ none_taken I.form code }
     {
         Taken {
             code,
-            item: NO_ITEM,
+            item: I::none(),
             total: 0,
             served: 0,
         }
     }
 
     /// The answer of a take.
-    pub fn taken(answer: TakeAnswer, served: u32) -> Taken
-        ensures { result ≡ taken_as answer served }
+    pub fn taken(answer: TakeAnswer, served: u32) -> Taken<I>
+        ensures { result ≡ taken_as I.form answer served }
     {
         let (code, item, total) = match answer {
-            TakeAnswer::Got(item) => (GOT, TakenItem::of(item), 0),
-            TakeAnswer::Empty => (EMPTY, NO_ITEM, 0),
-            TakeAnswer::Ended { total } => (ENDED, NO_ITEM, total),
+            TakeAnswer::Got(item) => (GOT, I::of(item), 0),
+            TakeAnswer::Empty => (EMPTY, I::none(), 0),
+            TakeAnswer::Ended { total } => (ENDED, I::none(), total),
         };
         Taken {
             code,

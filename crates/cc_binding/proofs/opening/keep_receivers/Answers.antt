@@ -19,5 +19,5 @@ loop-row-preserved c =
       search rules,
       other_seats _ (c.args.first + c.loop-row._row) (c.args.first + (c.loop-row._row + 1)) c.loop-row.receivers.items _ (omega arith) some i.1 c.remove.ensures.items,
       search rules,
-      next_held (λ b. b.value) Pass.Receiver _ c.args.first (c.args.first + c.loop-row._row) c.loop-row.receivers.items c.loop-row.all.items c.push.new.self.items c.remove.result c.in_ok-held.field-0 some i.1 c.remove.ensures.value c.in_ok-held.ensures (omega (arith, i.2)) i.3 c.in_ok-push.ensures.items,
+      next_held (λ b. b.value) Pass.Receiver c.args.words _ c.args.first (c.args.first + c.loop-row._row) c.loop-row.receivers.items c.loop-row.all.items c.push.new.self.items c.remove.result c.in_ok-held.field-0 some i.1 c.remove.ensures.value c.in_ok-held.ensures (omega (arith, i.2)) i.3 c.in_ok-push.ensures.items,
     )

@@ -19,5 +19,5 @@ loop-row-preserved c =
       search rules,
       other_seats _ c.loop-row._row (c.loop-row._row + 1) c.loop-row.senders.items _ (omega arith) some i.1 c.remove.ensures.items,
       search rules,
-      next_held (λ b. b.value) Pass.Sender _ 0 c.loop-row._row c.loop-row.senders.items c.loop-row.all.items c.push.new.self.items c.remove.result c.in_ok-held.field-0 some i.1 c.remove.ensures.value c.in_ok-held.ensures (omega (arith, i.2)) i.3 c.in_ok-push.ensures.items,
+      next_held (λ b. b.value) Pass.Sender c.args.words _ 0 c.loop-row._row c.loop-row.senders.items c.loop-row.all.items c.push.new.self.items c.remove.result c.in_ok-held.field-0 some i.1 c.remove.ensures.value c.in_ok-held.ensures (omega (arith, i.2)) i.3 c.in_ok-push.ensures.items,
     )

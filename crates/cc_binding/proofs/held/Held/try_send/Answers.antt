@@ -5,12 +5,12 @@ use Rattle.cc_binding.specs.Calls.{BeginsSend, TurnsSend}
 use Rattle.cc_binding.proofs.Trying.{refused, turned}
 use Rattle.cc_binding.proofs.held.Held.try_send.Goals as goal
 
-pub returns-in_default : goal.returns-in_default
-returns-in_default c = refused only (BeginsSend c.args.body) TurnsSend c.args.self.now None c.take.new.self NO_PASS c.only.result (search rules) (search rules) (search rules) (search rules)
+pub returns-in_default-clause-tries : goal.returns-in_default-clause-tries
+returns-in_default-clause-tries c = refused only (BeginsSend c.args.body) TurnsSend c.args.self.now.pass None c.take.new.self NO_PASS c.only.result (search rules) (search rules) (search rules) (search rules)
 
-pub returns-then-code-ne-BEGUN : goal.returns-then-code-ne-BEGUN
-returns-then-code-ne-BEGUN c =
-    refused only (BeginsSend c.args.body) TurnsSend c.args.self.now (Some c.begun-pass.result.0) c.put.new.place c.begun-pass.result.1 c.only-then-code-ne-BEGUN.result (search rules) (search rules) (search rules) (search rules)
+pub returns-then-code-ne-BEGUN-clause-tries : goal.returns-then-code-ne-BEGUN-clause-tries
+returns-then-code-ne-BEGUN-clause-tries c =
+    refused only (BeginsSend c.args.body) TurnsSend c.args.self.now.pass (Some c.begun-pass.result.0) c.put.new.place c.begun-pass.result.1 c.only-then-code-ne-BEGUN.result (search rules) (search rules) (search rules) (search rules)
 
-pub returns : goal.returns
-returns c = turned only (BeginsSend c.args.body) TurnsSend c.args.self.now (Some c.begun-pass.result.0) c.put-2.new.place c.begun-pass.result.1 c.turned-pass.result.1 (search rules) (search rules) (search rules)
+pub returns-clause-tries : goal.returns-clause-tries
+returns-clause-tries c = turned only (BeginsSend c.args.body) TurnsSend c.args.self.now.pass (Some c.begun-pass.result.0) c.put-2.new.place c.begun-pass.result.1 c.turned-pass.result.1 (search rules) (search rules) (search rules)
