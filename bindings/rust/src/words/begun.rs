@@ -1,14 +1,14 @@
 //! Calls that were begun by a guard, and by passes that are gone.
-use crate::words::handle::{Handle, Taken, Told, code};
+use crate::words::handle::{Handle, TakeCalls, Taken, Told, code};
 use std::fmt;
 use std::sync::atomic::{AtomicUsize, Ordering};
 use std::sync::{Mutex, MutexGuard, PoisonError};
 
 /// What a call tells at its end.
-pub enum Answer {
+pub enum Answer<I> {
     Sent(Told),
     Closed(Told),
-    Taken(Taken),
+    Taken(Taken<I>),
 }
 
 /// What was begun.
@@ -20,15 +20,15 @@ pub enum Kind {
 }
 
 /// A pass whose call was begun.
-struct Call {
+struct Call<I> {
     handle: Handle,
     kind: Kind,
-    answer: Option<Answer>,
+    answer: Option<Answer<I>>,
     /// Whether nobody comes for the answer.
     gone: bool,
 }
 
-impl Call {
+impl<I: TakeCalls> Call<I> {
     /// One turn, unless it is answered. Tells whether it is.
     fn turn(&mut self) -> bool {
         if self.answer.is_none() {
@@ -55,25 +55,25 @@ impl Call {
 /// The calls of one side (the senders, or the receivers of a group) that were begun by a guard, in a
 /// place for each pass. Its pass turns it there; and so does whoever waits on that side, once that takes
 /// long, so that none of them stops it for good: whether its guard is held, dropped or forgotten, or the
-/// pass is.
-pub struct Begun {
+/// pass is. Their takes tell items of this form.
+pub struct Begun<I> {
     /// How many there are, and how many of them are of passes that are gone.
     count: AtomicUsize,
     gone: AtomicUsize,
-    places: Box<[Mutex<Option<Call>>]>,
+    places: Box<[Mutex<Option<Call<I>>>]>,
 }
 
-impl Begun {
+impl<I: TakeCalls> Begun<I> {
     /// With a place for each of so many passes.
-    pub fn new(passes: usize) -> Begun {
+    pub fn new(passes: usize) -> Begun<I> {
         Begun {
             count: AtomicUsize::new(0),
             gone: AtomicUsize::new(0),
-            places: (0..passes).map(|_| Mutex::default()).collect(),
+            places: (0..passes).map(|_| Mutex::new(None)).collect(),
         }
     }
 
-    fn lock(&self, place: usize) -> MutexGuard<'_, Option<Call>> {
+    fn lock(&self, place: usize) -> MutexGuard<'_, Option<Call<I>>> {
         let place = &self.places[place];
         place.lock().unwrap_or_else(PoisonError::into_inner)
     }
@@ -95,7 +95,7 @@ impl Begun {
 
     /// One turn of this call. Where it is answered it stands here no more, and its handle goes into this
     /// empty one. It never waits: where another turns it at this moment, it isn't answered yet.
-    pub fn turn(&self, place: usize, handle: &mut Handle) -> Option<Answer> {
+    pub fn turn(&self, place: usize, handle: &mut Handle) -> Option<Answer<I>> {
         let mut call = self.places[place].try_lock().ok()?;
         if !call.as_mut()?.turn() {
             return None;
@@ -130,7 +130,7 @@ impl Begun {
             let Ok(mut call) = place.try_lock() else {
                 continue;
             };
-            let turns = |it: &mut Call| (all || it.gone) && it.turn() && it.gone;
+            let turns = |it: &mut Call<I>| (all || it.gone) && it.turn() && it.gone;
             if call.as_mut().is_some_and(turns) {
                 *call = None;
                 self.gone.fetch_sub(1, Ordering::SeqCst);
@@ -140,7 +140,7 @@ impl Begun {
     }
 }
 
-impl fmt::Debug for Begun {
+impl<I> fmt::Debug for Begun<I> {
     fn fmt(&self, f: &mut fmt::Formatter<'_>) -> fmt::Result {
         f.debug_struct("Begun")
             .field("count", &self.count)

@@ -1,7 +1,7 @@
 //! What a queue is opened with, and its opening.
 use crate::words::begun::Begun;
 use crate::words::handle::{self, Handle, code, unexpected};
-use crate::words::{OpenError, Receiver, Sender};
+use crate::words::{Item, ItemForm, OpenError, Receiver, Sender, WordsItem};
 use std::sync::Arc;
 use std::sync::atomic::{AtomicUsize, Ordering};
 
@@ -48,15 +48,16 @@ impl Config {
     }
 }
 
-/// How many senders are left, and how many receivers of each group; and the calls of both that were
-/// begun by guards.
+/// The senders of a queue, and its receivers by their groups.
+type Opened<I> = (Vec<Sender>, Vec<Vec<Receiver<I>>>);
+
+/// How many senders are left, and how many receivers of each group; and the senders' calls that were
+/// begun by guards, of which none is a take.
 #[derive(Debug)]
 pub(crate) struct Left {
     pub senders: AtomicUsize,
     pub receivers: Box<[AtomicUsize]>,
-    pub sends: Begun,
-    /// By groups.
-    pub takes: Box<[Begun]>,
+    pub sends: Begun<Item>,
 }
 
 impl Left {
@@ -88,6 +89,7 @@ fn told(code: u32) -> Result<(), OpenError> {
         code::BAD_LIFE => Err(OpenError::Life),
         code::BAD_PER_SENDER => Err(OpenError::PerSender),
         code::BAD_GROUPS => Err(OpenError::Groups),
+        code::BAD_WORDS => Err(OpenError::Words),
         code::NO_MEMORY => Err(OpenError::NoMemory),
         code => unexpected(code),
     }
@@ -153,28 +155,55 @@ pub fn open(config: Config) -> Result<(Vec<Sender>, Vec<Receiver>), OpenError> {
 ///
 /// As of [`open`]: another library; the first field of the configuration that is out of its range;
 /// then the number of groups, where it isn't from 1 to 8; else want of memory.
-pub fn open_groups(
-    config: Config,
-    groups: u32,
-) -> Result<(Vec<Sender>, Vec<Vec<Receiver>>), OpenError> {
+pub fn open_groups(config: Config, groups: u32) -> Result<Opened<Item>, OpenError> {
+    open_all(config, groups, 1)
+}
+
+/// Opens a queue whose bodies have one to so many words, four at most, and gives its senders, and its
+/// receivers by their groups, as [`open_groups`].
+///
+/// [`Sender::send_words`] and its like send a body of several words, and the others one of one word.
+/// The receivers give all words of each ([`WordsItem::words`]).
+///
+/// ```
+/// use vahepito::words::{Config, open_words};
+///
+/// let (mut senders, mut groups) = open_words(Config::new(1, 1, 16), 1, 3)?;
+/// senders[0].send_words(&[7, 8, 9]).unwrap();
+/// senders[0].send(10).unwrap();
+/// let bodies: Vec<_> = groups[0][0].try_iter().map(|item| item.words().to_vec()).collect();
+/// assert_eq!(bodies, [vec![7, 8, 9], vec![10]]);
+/// # Ok::<(), vahepito::words::OpenError>(())
+/// ```
+///
+/// # Errors
+///
+/// As of [`open_groups`]; and behind the number of groups that of the words, where it isn't from 1 to 4.
+pub fn open_words(config: Config, groups: u32, words: u32) -> Result<Opened<WordsItem>, OpenError> {
+    open_all(config, groups, words)
+}
+
+/// Opens a queue whose receivers give items of this form, which have room for so many words.
+fn open_all<I: ItemForm>(config: Config, groups: u32, words: u32) -> Result<Opened<I>, OpenError> {
     handle::check_library()?;
     let mut senders = empty_handles(1, config.senders);
     let mut receivers = empty_handles(groups, config.receivers);
-    told(handle::open(&config, groups, &mut senders, &mut receivers))?;
+    let code = handle::open(&config, groups, words, &mut senders, &mut receivers);
+    told(code)?;
     let in_each = config.receivers as usize;
     let left = Arc::new(Left {
         senders: AtomicUsize::new(senders.len()),
         receivers: (0..groups).map(|_| AtomicUsize::new(in_each)).collect(),
         sends: Begun::new(senders.len()),
-        takes: (0..groups).map(|_| Begun::new(in_each)).collect(),
     });
+    let takes: Arc<[_]> = (0..groups).map(|_| Begun::new(in_each)).collect();
     let senders = (1..)
         .zip(senders)
         .map(|(number, handle)| Sender::new(handle, number, &left))
         .collect();
     let mut receivers = (1..)
         .zip(receivers)
-        .map(|(number, handle)| Receiver::new(handle, number, &left));
+        .map(|(number, handle)| Receiver::new(handle, number, &left, &takes));
     let groups = (0..groups)
         .map(|_| receivers.by_ref().take(in_each).collect())
         .collect();

@@ -3,7 +3,7 @@ use std::error::Error;
 use std::fmt::{Display, Formatter, Result};
 
 /// Why a queue wasn't opened: another library, the first field of its configuration that is out of
-/// its range, its number of groups, or want of memory.
+/// its range, its number of groups, its number of words, or want of memory.
 #[derive(Clone, Copy, Debug, PartialEq, Eq, Hash)]
 #[non_exhaustive]
 pub enum OpenError {
@@ -21,6 +21,8 @@ pub enum OpenError {
     PerSender,
     /// The number of groups isn't from 1 to 8.
     Groups,
+    /// The most words of a body aren't from 1 to 4.
+    Words,
     /// Memory was refused.
     NoMemory,
     /// The linked library isn't the one that this crate is for: it is of another version, or of the
@@ -129,6 +131,7 @@ impl Display for OpenError {
             OpenError::Life => "the life isn't from 1 to 2^48",
             OpenError::PerSender => "the number of sends of a sender is 0",
             OpenError::Groups => "the number of groups isn't from 1 to 8",
+            OpenError::Words => "the number of words isn't from 1 to 4",
             OpenError::NoMemory => "there is no memory for the queue",
             OpenError::OtherLibrary { linked, wanted } => {
                 let (library, crate_for) = (Version(linked), Version(wanted));

@@ -2,7 +2,7 @@
 //! keeps what they ask for. All unsafe code of this crate is here.
 #![allow(unsafe_code)]
 
-use crate::words::{Config, Item, OpenError};
+use crate::words::{Config, Item, OpenError, WordsItem};
 use std::ffi::c_void;
 use std::mem::{offset_of, size_of};
 use std::ptr::null_mut;
@@ -31,6 +31,8 @@ pub mod code {
     pub const EMPTY: u32 = 24;
     pub const ENDED: u32 = 25;
     pub const BAD_GROUPS: u32 = 26;
+    pub const BAD_WORDS: u32 = 28;
+    pub const LONG: u32 = 29;
 }
 
 /// A code that the call doesn't tell.
@@ -57,6 +59,7 @@ const _: () = {
     assert!(size_of::<Item>() == 24);
     assert!(offset_of!(Item, place) == 0 && offset_of!(Item, sender) == 8);
     assert!(offset_of!(Item, number) == 12 && offset_of!(Item, body) == 16);
+    assert!(WordsItem::IS_LAID_OUT);
 };
 
 /// The version that this crate is for, as the library tells its own: this crate's own version.
@@ -75,17 +78,26 @@ const fn number(digits: &str) -> u32 {
 unsafe extern "C" {
     safe fn vahepito_version() -> u32;
     safe fn vahepito_sizes(config: &mut usize, pass: &mut usize, item: &mut usize);
-    fn vahepito_open_groups(
+    fn vahepito_open_words(
         config: &Config,
         groups: u32,
+        words: u32,
         senders: *mut Handle,
         sender_count: usize,
         receivers: *mut Handle,
         receiver_count: usize,
     ) -> u32;
     fn vahepito_begin_send(sender: &mut Pass, body: u64) -> u32;
+    fn vahepito_begin_send_words(sender: &mut Pass, words: *const u64, count: usize) -> u32;
     fn vahepito_turn_send(sender: &mut Pass, place: &mut u64, served: &mut u32) -> u32;
     fn vahepito_try_send(sender: &mut Pass, body: u64, place: &mut u64, served: &mut u32) -> u32;
+    fn vahepito_try_send_words(
+        sender: &mut Pass,
+        words: *const u64,
+        count: usize,
+        place: &mut u64,
+        served: &mut u32,
+    ) -> u32;
     fn vahepito_is_worn(sender: &mut Pass) -> u32;
     fn vahepito_begin_close(sender: &mut Pass) -> u32;
     fn vahepito_turn_close(sender: &mut Pass, total: &mut u64, served: &mut u32) -> u32;
@@ -102,6 +114,18 @@ unsafe extern "C" {
         total: &mut u64,
         served: &mut u32,
     ) -> u32;
+    fn vahepito_turn_take_words(
+        receiver: &mut Pass,
+        item: &mut WordsItem,
+        total: &mut u64,
+        served: &mut u32,
+    ) -> u32;
+    fn vahepito_try_take_words(
+        receiver: &mut Pass,
+        item: &mut WordsItem,
+        total: &mut u64,
+        served: &mut u32,
+    ) -> u32;
     fn vahepito_group(receiver: &mut Pass, group: &mut u32) -> u32;
     fn vahepito_drop(pass: &mut Pass) -> u32;
 }
@@ -115,9 +139,9 @@ pub struct Told {
 }
 
 /// What a take tells: the item or the total where the code has one, and how many calls were served.
-pub struct Taken {
+pub struct Taken<I> {
     pub code: u32,
-    pub item: Item,
+    pub item: I,
     pub total: u64,
     pub served: u32,
 }
@@ -136,11 +160,11 @@ impl Told {
     }
 }
 
-impl Taken {
+impl<I: TakeCalls> Taken<I> {
     /// The same of a take.
     #[inline]
-    fn by(call: impl FnOnce(&mut Item, &mut u64, &mut u32) -> u32) -> Taken {
-        let (mut item, mut total, mut served) = (NO_ITEM, 0, 0);
+    fn by(call: impl FnOnce(&mut I, &mut u64, &mut u32) -> u32) -> Taken<I> {
+        let (mut item, mut total, mut served) = (I::NONE, 0, 0);
         let code = call(&mut item, &mut total, &mut served);
         Taken {
             code,
@@ -151,12 +175,22 @@ impl Taken {
     }
 }
 
-const NO_ITEM: Item = Item {
-    place: 0,
-    sender: 0,
-    number: 0,
-    body: 0,
-};
+/// What is sent, by its calls: a word, or one to four of them.
+pub trait SendCalls: Copy {
+    fn begin_send(self, handle: &mut Handle) -> u32;
+
+    fn try_send(self, handle: &mut Handle, place: &mut u64, served: &mut u32) -> u32;
+}
+
+/// An item that is taken, by its calls: of one word, or of one to four.
+pub trait TakeCalls: Copy {
+    /// No item.
+    const NONE: Self;
+
+    fn turn_take(handle: &mut Handle, item: &mut Self, total: &mut u64, served: &mut u32) -> u32;
+
+    fn try_take(handle: &mut Handle, item: &mut Self, total: &mut u64, served: &mut u32) -> u32;
+}
 
 /// One pass of a queue. It is empty, or `open` filled it; it isn't copied, and its drop lets the
 /// pass go.
@@ -168,9 +202,77 @@ pub struct Handle(Pass);
 // orders what was done on either.
 unsafe impl Send for Handle {}
 
-// SAFETY, of all the calls below: the handle is empty or was filled by `vahepito_open_groups`, since
+// SAFETY, of all the calls below: the handle is empty or was filled by `vahepito_open_words`, since
 // the field is private; it is the only one of its pass, and this call's alone, by `&mut`; each other
-// pointer is that of a variable of its own.
+// pointer is that of a variable of its own, or of a slice with its length.
+impl SendCalls for u64 {
+    #[inline]
+    fn begin_send(self, handle: &mut Handle) -> u32 {
+        unsafe { vahepito_begin_send(&mut handle.0, self) }
+    }
+
+    #[inline]
+    fn try_send(self, handle: &mut Handle, place: &mut u64, served: &mut u32) -> u32 {
+        unsafe { vahepito_try_send(&mut handle.0, self, place, served) }
+    }
+}
+
+impl SendCalls for &[u64] {
+    #[inline]
+    fn begin_send(self, handle: &mut Handle) -> u32 {
+        unsafe { vahepito_begin_send_words(&mut handle.0, self.as_ptr(), self.len()) }
+    }
+
+    #[inline]
+    fn try_send(self, handle: &mut Handle, place: &mut u64, served: &mut u32) -> u32 {
+        let (words, count) = (self.as_ptr(), self.len());
+        unsafe { vahepito_try_send_words(&mut handle.0, words, count, place, served) }
+    }
+}
+
+impl TakeCalls for Item {
+    const NONE: Item = Item {
+        place: 0,
+        sender: 0,
+        number: 0,
+        body: 0,
+    };
+
+    #[inline]
+    fn turn_take(handle: &mut Handle, item: &mut Item, total: &mut u64, served: &mut u32) -> u32 {
+        unsafe { vahepito_turn_take(&mut handle.0, item, total, served) }
+    }
+
+    #[inline]
+    fn try_take(handle: &mut Handle, item: &mut Item, total: &mut u64, served: &mut u32) -> u32 {
+        unsafe { vahepito_try_take(&mut handle.0, item, total, served) }
+    }
+}
+
+impl TakeCalls for WordsItem {
+    const NONE: WordsItem = WordsItem::NONE;
+
+    #[inline]
+    fn turn_take(
+        handle: &mut Handle,
+        item: &mut WordsItem,
+        total: &mut u64,
+        served: &mut u32,
+    ) -> u32 {
+        unsafe { vahepito_turn_take_words(&mut handle.0, item, total, served) }
+    }
+
+    #[inline]
+    fn try_take(
+        handle: &mut Handle,
+        item: &mut WordsItem,
+        total: &mut u64,
+        served: &mut u32,
+    ) -> u32 {
+        unsafe { vahepito_try_take_words(&mut handle.0, item, total, served) }
+    }
+}
+
 impl Handle {
     pub const fn empty() -> Handle {
         Handle(Pass {
@@ -180,8 +282,8 @@ impl Handle {
     }
 
     #[inline]
-    pub fn begin_send(&mut self, body: u64) -> u32 {
-        unsafe { vahepito_begin_send(&mut self.0, body) }
+    pub fn begin_send(&mut self, body: impl SendCalls) -> u32 {
+        body.begin_send(self)
     }
 
     #[inline]
@@ -190,8 +292,8 @@ impl Handle {
     }
 
     #[inline]
-    pub fn try_send(&mut self, body: u64) -> Told {
-        Told::by(|number, served| unsafe { vahepito_try_send(&mut self.0, body, number, served) })
+    pub fn try_send(&mut self, body: impl SendCalls) -> Told {
+        Told::by(|number, served| body.try_send(self, number, served))
     }
 
     #[inline]
@@ -213,25 +315,24 @@ impl Handle {
     }
 
     #[inline]
-    pub fn turn_take(&mut self) -> Taken {
-        Taken::by(|item, total, served| unsafe {
-            vahepito_turn_take(&mut self.0, item, total, served)
-        })
+    pub fn turn_take<I: TakeCalls>(&mut self) -> Taken<I> {
+        Taken::by(|item, total, served| I::turn_take(self, item, total, served))
     }
 
     #[inline]
-    pub fn try_take(&mut self) -> Taken {
-        Taken::by(|item, total, served| unsafe {
-            vahepito_try_take(&mut self.0, item, total, served)
-        })
+    pub fn try_take<I: TakeCalls>(&mut self) -> Taken<I> {
+        Taken::by(|item, total, served| I::try_take(self, item, total, served))
     }
 
     /// The same, and reads a GOT item where the library wrote it, field by field: to copy it as a whole
     /// waits until all its fields are written.
     #[inline]
-    pub fn try_take_as<R>(&mut self, read: impl FnOnce(&Item) -> R) -> Result<R, Taken> {
-        let (mut item, mut total, mut served) = (NO_ITEM, 0, 0);
-        let code = unsafe { vahepito_try_take(&mut self.0, &mut item, &mut total, &mut served) };
+    pub fn try_take_as<I: TakeCalls, R>(
+        &mut self,
+        read: impl FnOnce(&I) -> R,
+    ) -> Result<R, Taken<I>> {
+        let (mut item, mut total, mut served) = (I::NONE, 0, 0);
+        let code = I::try_take(self, &mut item, &mut total, &mut served);
         if code == code::GOT {
             return Ok(read(&item));
         }
@@ -276,12 +377,19 @@ pub fn check_library() -> Result<(), OpenError> {
 }
 
 /// Fills the handles, all of which are empty.
-pub fn open(config: &Config, groups: u32, senders: &mut [Handle], receivers: &mut [Handle]) -> u32 {
+pub fn open(
+    config: &Config,
+    groups: u32,
+    words: u32,
+    senders: &mut [Handle],
+    receivers: &mut [Handle],
+) -> u32 {
     // SAFETY: the pointers and counts are those of two slices, and the handles of both are empty.
     unsafe {
-        vahepito_open_groups(
+        vahepito_open_words(
             config,
             groups,
+            words,
             senders.as_mut_ptr(),
             senders.len(),
             receivers.as_mut_ptr(),
@@ -319,6 +427,7 @@ mod tests {
             "BUSY",
             "NOT_BEGUN",
             "BAD_VERSION",
+            "WIDE",
         ] {
             assert!(header.remove(never).is_some(), "{never}");
         }
@@ -345,6 +454,8 @@ mod tests {
             ("EMPTY", EMPTY),
             ("ENDED", ENDED),
             ("BAD_GROUPS", BAD_GROUPS),
+            ("BAD_WORDS", BAD_WORDS),
+            ("LONG", LONG),
         ];
         assert_eq!(header, BTreeMap::from(here));
     }
@@ -376,9 +487,9 @@ mod tests {
             names
         };
         let mut header = names(HEADER, ["uint32_t vahepito_", "void vahepito_"]);
-        assert_eq!(header.len(), 15);
-        // This crate opens each queue by `open_groups`.
-        header.retain(|&name| name != "open");
+        assert_eq!(header.len(), 20);
+        // This crate opens each queue by `open_words`.
+        header.retain(|&name| name != "open" && name != "open_groups");
         let here = names(code, ["    fn vahepito_", "    safe fn vahepito_"]);
         assert_eq!(here, header);
     }

@@ -5,12 +5,14 @@ mod begun;
 mod config;
 mod error;
 mod handle;
+mod item;
 mod receiver;
 mod sender;
 
-pub use config::{Config, open, open_groups};
+pub use config::{Config, open, open_groups, open_words};
 pub use error::{OpenError, RecvError, SendError, TryRecvError, TrySendError, Worn};
-pub use receiver::{IntoIter, Item, Iter, PendingRecv, Receiver, TryIter};
+pub use item::{Item, ItemForm, WordsItem};
+pub use receiver::{IntoIter, Iter, PendingRecv, Receiver, TryIter};
 pub use sender::{Closed, PendingClose, PendingSend, Sender};
 
 /// What one turn of a guard told.

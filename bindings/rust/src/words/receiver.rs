@@ -4,47 +4,38 @@ use crate::words::begun::{Answer, Begun, Kind};
 use crate::words::config::Left;
 use crate::words::handle::{Handle, Taken, code, unexpected};
 use crate::words::sender::another;
-use crate::words::{RecvError, TryRecvError, Turn};
+use crate::words::{Item, ItemForm, RecvError, TryRecvError, Turn};
 use std::fmt;
 use std::iter::FusedIterator;
 use std::mem;
 use std::sync::Arc;
 use std::sync::atomic::Ordering;
 
-/// An item that was taken.
-#[derive(Clone, Copy, Debug, PartialEq, Eq, Hash)]
-#[repr(C)]
-pub struct Item {
-    /// Which of the items it is that the queue accepted, from 0.
-    pub place: u64,
-    /// The number of its sender, from 1.
-    pub sender: u32,
-    /// Which of its sender's sends it is, from 1. Sends that weren't accepted count too.
-    pub number: u32,
-    /// What was sent.
-    pub body: u64,
-}
-
 /// One receiver of a queue.
 ///
 /// It goes to another thread, and is used by one thread at a time: its calls take it by `&mut`, so
 /// there is nothing to share by `&`. It isn't cloned: a queue has as many as it was opened with.
 ///
+/// It gives items of one word; that of a queue of [`open_words`](crate::words::open_words) gives items
+/// with all their words.
+///
 /// Its drop turns a call that was begun for some rounds, and then leaves it to those that wait in
 /// its group; an item that this call got is lost.
-pub struct Receiver {
+pub struct Receiver<I: ItemForm = Item> {
     handle: Handle,
     number: u32,
     group: u32,
     left: Arc<Left>,
+    /// The calls that were begun by guards, by groups.
+    takes: Arc<[Begun<I>]>,
     /// What a take got whose guard was dropped or forgotten. No call is begun where there is one.
-    kept: Option<Item>,
+    kept: Option<I>,
     /// Whether it has a call that was begun by a guard. The handle stands with it then, and this one is
     /// empty.
     stands: bool,
 }
 
-fn taken(taken: &Taken) -> Result<Item, TryRecvError> {
+fn taken<I: ItemForm>(taken: &Taken<I>) -> Result<I, TryRecvError> {
     match taken.code {
         code::GOT => Ok(taken.item),
         code::EMPTY => Err(TryRecvError::Empty),
@@ -53,8 +44,13 @@ fn taken(taken: &Taken) -> Result<Item, TryRecvError> {
     }
 }
 
-impl Receiver {
-    pub(crate) fn new(mut handle: Handle, number: u32, left: &Arc<Left>) -> Receiver {
+impl<I: ItemForm> Receiver<I> {
+    pub(crate) fn new(
+        mut handle: Handle,
+        number: u32,
+        left: &Arc<Left>,
+        takes: &Arc<[Begun<I>]>,
+    ) -> Receiver<I> {
         let group = match handle.group() {
             (code::DONE, group) => group,
             (code, _) => unexpected(code),
@@ -64,6 +60,7 @@ impl Receiver {
             number,
             group,
             left: left.clone(),
+            takes: takes.clone(),
             kept: None,
             stands: false,
         }
@@ -101,13 +98,13 @@ impl Receiver {
     /// # Ok::<(), vahepito::OpenError>(())
     /// ```
     #[inline]
-    pub fn try_recv(&mut self) -> Result<Item, TryRecvError> {
-        self.try_recv_as(Item::clone)
+    pub fn try_recv(&mut self) -> Result<I, TryRecvError> {
+        self.try_recv_as(I::clone)
     }
 
     /// The same, and gives what this reads of the item.
     #[inline]
-    pub(crate) fn try_recv_as<R>(&mut self, read: impl Fn(&Item) -> R) -> Result<R, TryRecvError> {
+    pub(crate) fn try_recv_as<R>(&mut self, read: impl Fn(&I) -> R) -> Result<R, TryRecvError> {
         if self.kept.is_some() {
             return self.go_on_taking(None).map(|item| read(&item));
         }
@@ -119,7 +116,7 @@ impl Receiver {
 
     /// Goes on where the first turn didn't get an item, or there is one already.
     #[inline(never)]
-    fn go_on_taking(&mut self, mut told: Option<Taken>) -> Result<Item, TryRecvError> {
+    fn go_on_taking(&mut self, mut told: Option<Taken<I>>) -> Result<I, TryRecvError> {
         loop {
             if let Some(item) = self.kept.take() {
                 return Ok(item);
@@ -141,7 +138,7 @@ impl Receiver {
     /// # Errors
     ///
     /// The queue is closed, and its group has taken all its items.
-    pub fn recv(&mut self) -> Result<Item, RecvError> {
+    pub fn recv(&mut self) -> Result<I, RecvError> {
         let mut backoff = Backoff::new();
         loop {
             match self.try_recv() {
@@ -153,12 +150,12 @@ impl Receiver {
     }
 
     /// Takes items until the end, by [`recv`](Receiver::recv).
-    pub fn iter(&mut self) -> Iter<'_> {
+    pub fn iter(&mut self) -> Iter<'_, I> {
         Iter { receiver: self }
     }
 
     /// Takes items as long as there are some, by [`try_recv`](Receiver::try_recv).
-    pub fn try_iter(&mut self) -> TryIter<'_> {
+    pub fn try_iter(&mut self) -> TryIter<'_, I> {
         TryIter { receiver: self }
     }
 
@@ -177,7 +174,7 @@ impl Receiver {
     /// assert_eq!(pending.wait().map(|item| item.body), Ok(7));
     /// # Ok::<(), vahepito::OpenError>(())
     /// ```
-    pub fn begin(&mut self) -> PendingRecv<'_> {
+    pub fn begin(&mut self) -> PendingRecv<'_, I> {
         self.settle();
         if self.kept.is_none() {
             match self.handle.begin_take() {
@@ -192,8 +189,8 @@ impl Receiver {
     }
 
     /// The calls of its group that were begun, and its place among them.
-    fn begun(&self) -> (&Begun, usize) {
-        let begun = &self.left.takes[self.group as usize - 1];
+    fn begun(&self) -> (&Begun<I>, usize) {
+        let begun = &self.takes[self.group as usize - 1];
         (begun, (self.number as usize - 1) % begun.places())
     }
 
@@ -207,7 +204,7 @@ impl Receiver {
 
     /// One turn of a take that no guard has; where that waits, also of those that are gone, and of all
     /// that were begun where it takes long.
-    fn turn_take(&mut self, long: bool) -> Option<Result<Item, TryRecvError>> {
+    fn turn_take(&mut self, long: bool) -> Option<Result<I, TryRecvError>> {
         let told = self.handle.turn_take();
         if told.code == code::WAITING {
             self.begun().0.turn_others(long);
@@ -217,7 +214,7 @@ impl Receiver {
     }
 
     /// The same of the call that was begun by a guard.
-    fn turn_begun(&mut self, long: bool) -> Option<Taken> {
+    fn turn_begun(&mut self, long: bool) -> Option<Taken<I>> {
         let mut handle = Handle::empty();
         let (begun, place) = self.begun();
         match begun.turn(place, &mut handle) {
@@ -235,7 +232,7 @@ impl Receiver {
     }
 
     /// One turn of a guard, which gives first what was kept.
-    fn turn_guard(&mut self, long: bool) -> Option<(Result<Item, TryRecvError>, u32)> {
+    fn turn_guard(&mut self, long: bool) -> Option<(Result<I, TryRecvError>, u32)> {
         if let Some(item) = self.kept.take() {
             return Some((Ok(item), 0));
         }
@@ -263,7 +260,7 @@ impl Receiver {
     }
 }
 
-impl Drop for Receiver {
+impl<I: ItemForm> Drop for Receiver<I> {
     fn drop(&mut self) {
         let settled = self.settle_shortly();
         let group = self.group as usize - 1;
@@ -275,7 +272,7 @@ impl Drop for Receiver {
     }
 }
 
-impl fmt::Debug for Receiver {
+impl<I: ItemForm> fmt::Debug for Receiver<I> {
     fn fmt(&self, f: &mut fmt::Formatter<'_>) -> fmt::Result {
         f.debug_struct("Receiver")
             .field("number", &self.number)
@@ -289,16 +286,16 @@ impl fmt::Debug for Receiver {
 /// call gives it.
 #[derive(Debug)]
 #[must_use = "a call that was begun is to be turned until it is done"]
-pub struct PendingRecv<'a> {
-    receiver: &'a mut Receiver,
+pub struct PendingRecv<'a, I: ItemForm = Item> {
+    receiver: &'a mut Receiver<I>,
     /// How many of its turns told that it waits.
     waited: u32,
 }
 
-impl PendingRecv<'_> {
+impl<I: ItemForm> PendingRecv<'_, I> {
     /// One turn: looks once whether the answer is there, and serves the calls of its group's other
     /// receivers with its own where it is this call's part to do so. It never waits.
-    pub fn turn(mut self) -> Turn<Self, Result<Item, TryRecvError>> {
+    pub fn turn(mut self) -> Turn<Self, Result<I, TryRecvError>> {
         match self.receiver.turn_guard(takes_long(&mut self.waited)) {
             None => Turn::Waiting(self),
             Some((answer, served)) => Turn::Done { answer, served },
@@ -306,12 +303,12 @@ impl PendingRecv<'_> {
     }
 
     /// Turns until the answer, and spins or yields in between.
-    pub fn wait(self) -> Result<Item, TryRecvError> {
+    pub fn wait(self) -> Result<I, TryRecvError> {
         turn_until(|long| self.receiver.turn_guard(long)).0
     }
 }
 
-impl Drop for PendingRecv<'_> {
+impl<I: ItemForm> Drop for PendingRecv<'_, I> {
     fn drop(&mut self) {
         self.receiver.settle_shortly();
     }
@@ -319,63 +316,63 @@ impl Drop for PendingRecv<'_> {
 
 /// Takes items until the end: see [`Receiver::iter`].
 #[derive(Debug)]
-pub struct Iter<'a> {
-    receiver: &'a mut Receiver,
+pub struct Iter<'a, I: ItemForm = Item> {
+    receiver: &'a mut Receiver<I>,
 }
 
 /// Takes items as long as there are some: see [`Receiver::try_iter`].
 #[derive(Debug)]
-pub struct TryIter<'a> {
-    receiver: &'a mut Receiver,
+pub struct TryIter<'a, I: ItemForm = Item> {
+    receiver: &'a mut Receiver<I>,
 }
 
 /// Takes items until the end, and has the receiver.
 #[derive(Debug)]
-pub struct IntoIter {
-    receiver: Receiver,
+pub struct IntoIter<I: ItemForm = Item> {
+    receiver: Receiver<I>,
 }
 
-impl Iterator for Iter<'_> {
-    type Item = Item;
+impl<I: ItemForm> Iterator for Iter<'_, I> {
+    type Item = I;
 
-    fn next(&mut self) -> Option<Item> {
+    fn next(&mut self) -> Option<I> {
         self.receiver.recv().ok()
     }
 }
 
-impl Iterator for TryIter<'_> {
-    type Item = Item;
+impl<I: ItemForm> Iterator for TryIter<'_, I> {
+    type Item = I;
 
-    fn next(&mut self) -> Option<Item> {
+    fn next(&mut self) -> Option<I> {
         self.receiver.try_recv().ok()
     }
 }
 
-impl Iterator for IntoIter {
-    type Item = Item;
+impl<I: ItemForm> Iterator for IntoIter<I> {
+    type Item = I;
 
-    fn next(&mut self) -> Option<Item> {
+    fn next(&mut self) -> Option<I> {
         self.receiver.recv().ok()
     }
 }
 
-impl FusedIterator for Iter<'_> {}
-impl FusedIterator for IntoIter {}
+impl<I: ItemForm> FusedIterator for Iter<'_, I> {}
+impl<I: ItemForm> FusedIterator for IntoIter<I> {}
 
-impl<'a> IntoIterator for &'a mut Receiver {
-    type Item = Item;
-    type IntoIter = Iter<'a>;
+impl<'a, I: ItemForm> IntoIterator for &'a mut Receiver<I> {
+    type Item = I;
+    type IntoIter = Iter<'a, I>;
 
-    fn into_iter(self) -> Iter<'a> {
+    fn into_iter(self) -> Iter<'a, I> {
         self.iter()
     }
 }
 
-impl IntoIterator for Receiver {
-    type Item = Item;
-    type IntoIter = IntoIter;
+impl<I: ItemForm> IntoIterator for Receiver<I> {
+    type Item = I;
+    type IntoIter = IntoIter<I>;
 
-    fn into_iter(self) -> IntoIter {
+    fn into_iter(self) -> IntoIter<I> {
         IntoIter { receiver: self }
     }
 }

@@ -2,8 +2,8 @@
 use crate::words::backoff::{Backoff, takes_long, turn_shortly, turn_until};
 use crate::words::begun::{Answer, Kind};
 use crate::words::config::Left;
-use crate::words::handle::{Handle, Told, code, unexpected};
-use crate::words::{SendError, TrySendError, Turn, Worn};
+use crate::words::handle::{Handle, SendCalls, Told, code, unexpected};
+use crate::words::{Item, SendError, TrySendError, Turn, Worn};
 use std::fmt;
 use std::mem;
 use std::sync::Arc;
@@ -55,13 +55,23 @@ pub(crate) fn another() -> ! {
     unreachable!("a call is answered as it was begun")
 }
 
+/// A body that no sender of its queue sends, or a code that isn't told.
+#[cold]
+fn not_sent(code: u32) -> ! {
+    match code {
+        code::BAD_WORDS => panic!("a body has from 1 to 4 words"),
+        code::LONG => panic!("the bodies of this queue have fewer words"),
+        code => unexpected(code),
+    }
+}
+
 fn sent(told: &Told) -> Result<u64, TrySendError> {
     match told.code {
         code::ACCEPTED => Ok(told.number),
         code::FULL => Err(TrySendError::Full),
         code::CLOSED => Err(TrySendError::Closed),
         code::SPENT => Err(TrySendError::Spent),
-        code => unexpected(code),
+        code => not_sent(code),
     }
 }
 
@@ -123,6 +133,26 @@ impl Sender {
     /// ```
     #[inline]
     pub fn try_send(&mut self, body: u64) -> Result<u64, TrySendError> {
+        self.try_send_body(body)
+    }
+
+    /// Sends a body of several words, as [`try_send`](Sender::try_send) of one.
+    ///
+    /// # Errors
+    ///
+    /// As of [`try_send`](Sender::try_send).
+    ///
+    /// # Panics
+    ///
+    /// There is no word, or there are more than a body of the queue may have: as many as were said to
+    /// [`open_words`](crate::words::open_words), and else one.
+    #[inline]
+    pub fn try_send_words(&mut self, words: &[u64]) -> Result<u64, TrySendError> {
+        self.try_send_body(words)
+    }
+
+    #[inline]
+    fn try_send_body(&mut self, body: impl SendCalls) -> Result<u64, TrySendError> {
         let told = self.handle.try_send(body);
         match told.code {
             code::ACCEPTED => Ok(told.number),
@@ -132,7 +162,7 @@ impl Sender {
 
     /// Goes on where the first turn didn't tell that the item is accepted.
     #[inline(never)]
-    fn go_on_sending(&mut self, body: u64, mut told: Told) -> Result<u64, TrySendError> {
+    fn go_on_sending(&mut self, body: impl SendCalls, mut told: Told) -> Result<u64, TrySendError> {
         loop {
             match told.code {
                 code::WAITING => return turn_until(|long| self.turn_send(long)),
@@ -157,10 +187,28 @@ impl Sender {
     /// full. Where another group was behind that one, it may still make room, for at most `capacity`
     /// items, until it has caught up; then the queue stays full.
     pub fn send(&mut self, body: u64) -> Result<u64, SendError> {
+        self.send_body(body)
+    }
+
+    /// Sends a body of several words, and tries again as long as the queue is full, as
+    /// [`send`](Sender::send) of one.
+    ///
+    /// # Errors
+    ///
+    /// As of [`send`](Sender::send).
+    ///
+    /// # Panics
+    ///
+    /// As [`try_send_words`](Sender::try_send_words).
+    pub fn send_words(&mut self, words: &[u64]) -> Result<u64, SendError> {
+        self.send_body(words)
+    }
+
+    fn send_body(&mut self, body: impl SendCalls) -> Result<u64, SendError> {
         let mut backoff = Backoff::new();
         let mut lost = false;
         loop {
-            match self.try_send(body) {
+            match self.try_send_body(body) {
                 Ok(place) => return Ok(place),
                 Err(TrySendError::Closed) => return Err(SendError::Closed),
                 Err(TrySendError::Spent) => return Err(SendError::Spent),
@@ -219,11 +267,29 @@ impl Sender {
     /// # Ok::<(), Box<dyn std::error::Error>>(())
     /// ```
     pub fn begin(&mut self, body: u64) -> Result<PendingSend<'_>, Worn> {
+        self.begin_body(body)
+    }
+
+    /// Begins a send of a body of several words, and does nothing more, as [`begin`](Sender::begin) of
+    /// one.
+    ///
+    /// # Errors
+    ///
+    /// As of [`begin`](Sender::begin).
+    ///
+    /// # Panics
+    ///
+    /// As [`try_send_words`](Sender::try_send_words).
+    pub fn begin_words(&mut self, words: &[u64]) -> Result<PendingSend<'_>, Worn> {
+        self.begin_body(words)
+    }
+
+    fn begin_body(&mut self, body: impl SendCalls) -> Result<PendingSend<'_>, Worn> {
         self.settle();
         match self.handle.begin_send(body) {
             code::BEGUN => self.stand(Kind::Send),
             code::WORN => return Err(Worn),
-            code => unexpected(code),
+            code => not_sent(code),
         }
         Ok(PendingSend {
             sender: self,
@@ -268,7 +334,7 @@ impl Sender {
     }
 
     /// The same of the call that was begun by a guard.
-    fn turn_begun(&mut self, long: bool) -> Option<Answer> {
+    fn turn_begun(&mut self, long: bool) -> Option<Answer<Item>> {
         let answer = self.left.sends.turn(self.place(), &mut self.handle);
         match answer {
             Some(_) => self.stands = false,
