@@ -33,6 +33,7 @@ fn exchange(words: &Words, seat: &mut PassSeat, chain: Chain, node: u64, call: C
 
 /// Begins a send or a close: writes the request words into the node that the exchange left, which is given, and links
 /// it to the own one.
+#[inline(always)]
 pub fn begin_request(
     words: &Words,
     seat: &mut PassSeat,

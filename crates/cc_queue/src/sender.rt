@@ -13,6 +13,7 @@ use cc_model::{Body, Call};
 use cc_runs::{BodyWords, Request, packed, words_in};
 
 /// Begins a send of this body. Err hands the sender back unchanged, where it has begun as many sends as one sender may.
+#[inline(always)]
 pub fn begin_send(queue: &Queue, sender: Sender, body: Body) -> Result<PendingSend, Sender>
     requires { IsOf queue.now sender }
     ensures begun { IfOk result (λ q. Begun sender (Call.Send body) q) }
