@@ -1,9 +1,8 @@
 //! Bodies of one to four words, on one thread and on several.
-use std::panic::{AssertUnwindSafe, catch_unwind};
 use std::thread;
 use vahepito::words::{
-    Config, OpenError, Receiver, RecvError, Sender, TryRecvError, TrySendError, Turn, WordsItem,
-    Worn, open, open_words,
+    Config, OpenError, Receiver, RecvError, Sender, TryRecvError, TrySendError, Turn, WordsError,
+    WordsItem, Worn, open, open_words,
 };
 
 const SMALL: Config = Config::new(1, 1, 8);
@@ -65,37 +64,36 @@ fn the_number_of_words_is_refused_behind_that_of_the_groups() {
     assert_eq!(told, "the number of words isn't from 1 to 4");
 }
 
-/// What this says where it panics.
-fn panics<R>(call: impl FnOnce() -> R) -> Option<String> {
-    let panic = catch_unwind(AssertUnwindSafe(call)).err()?;
-    Some(panic.downcast_ref::<&str>().unwrap().to_string())
-}
-
 #[test]
-fn a_body_of_another_number_of_words_panics_and_isnt_sent() {
-    let one_to_four = Some("a body has from 1 to 4 words".to_string());
-    let fewer = Some("the bodies of this queue have fewer words".to_string());
+fn a_body_of_another_number_of_words_is_refused_and_isnt_sent() {
     for most in 1..=4 {
-        let (mut sender, mut receiver) = pair(SMALL, most);
-        for count in 0..=5 {
+        let (mut sender, mut receiver) = pair(SMALL, most as u32);
+        for count in (0..=5).filter(|count| !(1..=most).contains(count)) {
             let words = &FIVE[..count];
-            let wanted = match count {
-                0 | 5 => &one_to_four,
-                _ if count > most as usize => &fewer,
-                _ => continue,
-            };
-            assert_eq!(&panics(|| sender.try_send_words(words)), wanted);
-            assert_eq!(&panics(|| sender.send_words(words)), wanted);
-            assert_eq!(&panics(|| sender.begin_words(words).map(drop)), wanted);
+            assert_eq!(
+                sender.try_send_words(words),
+                Err(WordsError::Count { most })
+            );
+            assert_eq!(sender.send_words(words), Err(WordsError::Count { most }));
+            let begun = sender.begin_words(words).map(drop);
+            assert_eq!(begun, Err(WordsError::Count { most }));
         }
         assert_eq!(receiver.try_recv(), Err(TryRecvError::Empty));
         // None of them was begun.
-        assert_eq!(sender.send_words(&FIVE[..most as usize]), Ok(0));
+        assert_eq!(sender.send_words(&FIVE[..most]), Ok(0));
         let item = receiver.recv().unwrap();
-        assert_eq!((item.number, item.words()), (1, &FIVE[..most as usize]));
+        assert_eq!((item.number, item.words()), (1, &FIVE[..most]));
     }
     let (mut senders, _receivers) = open(SMALL).unwrap();
-    assert_eq!(panics(|| senders[0].send_words(&[1, 2])), fewer);
+    let refused = senders[0].send_words(&[1, 2]).unwrap_err();
+    assert_eq!(refused, WordsError::Count { most: 1 });
+    assert_eq!(
+        refused.to_string(),
+        "the bodies of this queue have one word"
+    );
+    let told = WordsError::<Worn>::Count { most: 3 }.to_string();
+    assert_eq!(told, "the bodies of this queue have from 1 to 3 words");
+    assert_eq!(WordsError::Send(Worn).to_string(), Worn.to_string());
 }
 
 #[test]
@@ -107,18 +105,30 @@ fn full_closed_spent_and_worn_are_told_of_words_too() {
     };
     let (mut sender, mut receiver) = pair(config, 2);
     assert_eq!(sender.try_send_words(&[1, 2]), Ok(0));
-    assert_eq!(sender.try_send_words(&[3, 4]), Err(TrySendError::Full));
+    assert_eq!(
+        sender.try_send_words(&[3, 4]),
+        Err(TrySendError::Full.into())
+    );
     assert_eq!(receiver.recv().unwrap().words(), [1, 2]);
     assert_eq!(sender.try_send_words(&[5, 6]), Ok(1));
     assert_eq!(receiver.recv().unwrap().words(), [5, 6]);
-    assert_eq!(sender.try_send_words(&[7, 8]), Err(TrySendError::Spent));
-    assert_eq!(sender.try_send_words(&[9, 10]), Err(TrySendError::Worn));
-    assert_eq!(sender.begin_words(&[9, 10]).unwrap_err(), Worn);
+    assert_eq!(
+        sender.try_send_words(&[7, 8]),
+        Err(TrySendError::Spent.into())
+    );
+    assert_eq!(
+        sender.try_send_words(&[9, 10]),
+        Err(TrySendError::Worn.into())
+    );
+    assert_eq!(sender.begin_words(&[9, 10]).unwrap_err(), Worn.into());
     sender.close();
     assert_eq!(receiver.recv(), Err(RecvError { total: 2 }));
     let (mut sender, _receiver) = pair(SMALL, 2);
     sender.close();
-    assert_eq!(sender.try_send_words(&[1, 2]), Err(TrySendError::Closed));
+    assert_eq!(
+        sender.try_send_words(&[1, 2]),
+        Err(TrySendError::Closed.into())
+    );
 }
 
 #[test]

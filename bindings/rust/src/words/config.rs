@@ -58,6 +58,8 @@ pub(crate) struct Left {
     pub senders: AtomicUsize,
     pub receivers: Box<[AtomicUsize]>,
     pub sends: Begun<Item>,
+    /// How many words a body may have.
+    pub longest: usize,
 }
 
 impl Left {
@@ -195,6 +197,7 @@ fn open_all<I: ItemForm>(config: Config, groups: u32, words: u32) -> Result<Open
         senders: AtomicUsize::new(senders.len()),
         receivers: (0..groups).map(|_| AtomicUsize::new(in_each)).collect(),
         sends: Begun::new(senders.len()),
+        longest: words as usize,
     });
     let takes: Arc<[_]> = (0..groups).map(|_| Begun::new(in_each)).collect();
     let senders = (1..)

@@ -87,6 +87,25 @@ pub struct RecvError {
 #[derive(Clone, Copy, Debug, PartialEq, Eq, Hash)]
 pub struct Worn;
 
+/// Why a body of several words wasn't sent.
+#[derive(Clone, Copy, Debug, PartialEq, Eq, Hash)]
+pub enum WordsError<E> {
+    /// There is no word, or there are more than a body of the queue may have. The queue wasn't asked.
+    Count {
+        /// How many it may have: as many as were said to [`open_words`](crate::words::open_words), and
+        /// else one.
+        most: usize,
+    },
+    /// Why a body of one word wouldn't have been sent either.
+    Send(E),
+}
+
+impl<E> From<E> for WordsError<E> {
+    fn from(error: E) -> WordsError<E> {
+        WordsError::Send(error)
+    }
+}
+
 impl From<Worn> for TrySendError {
     fn from(_: Worn) -> TrySendError {
         TrySendError::Worn
@@ -188,6 +207,27 @@ impl Display for RecvError {
 impl Display for Worn {
     fn fmt(&self, f: &mut Formatter<'_>) -> Result {
         f.write_str(WORN)
+    }
+}
+
+impl<E: Display> Display for WordsError<E> {
+    fn fmt(&self, f: &mut Formatter<'_>) -> Result {
+        match self {
+            WordsError::Count { most: 1 } => f.write_str("the bodies of this queue have one word"),
+            WordsError::Count { most } => {
+                write!(f, "the bodies of this queue have from 1 to {most} words")
+            }
+            WordsError::Send(error) => error.fmt(f),
+        }
+    }
+}
+
+impl<E: Error> Error for WordsError<E> {
+    fn source(&self) -> Option<&(dyn Error + 'static)> {
+        match self {
+            WordsError::Count { .. } => None,
+            WordsError::Send(error) => error.source(),
+        }
     }
 }
 

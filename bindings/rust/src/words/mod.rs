@@ -10,7 +10,7 @@ mod receiver;
 mod sender;
 
 pub use config::{Config, open, open_groups, open_words};
-pub use error::{OpenError, RecvError, SendError, TryRecvError, TrySendError, Worn};
+pub use error::{OpenError, RecvError, SendError, TryRecvError, TrySendError, WordsError, Worn};
 pub use item::{Item, ItemForm, WordsItem};
 pub use receiver::{IntoIter, Iter, PendingRecv, Receiver, TryIter};
 pub use sender::{Closed, PendingClose, PendingSend, Sender};

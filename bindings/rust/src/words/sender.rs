@@ -3,7 +3,7 @@ use crate::words::backoff::{Backoff, takes_long, turn_shortly, turn_until};
 use crate::words::begun::{Answer, Kind};
 use crate::words::config::Left;
 use crate::words::handle::{Handle, SendCalls, Told, code, unexpected};
-use crate::words::{Item, SendError, TrySendError, Turn, Worn};
+use crate::words::{Item, SendError, TrySendError, Turn, WordsError, Worn};
 use std::fmt;
 use std::mem;
 use std::sync::Arc;
@@ -55,23 +55,13 @@ pub(crate) fn another() -> ! {
     unreachable!("a call is answered as it was begun")
 }
 
-/// A body that no sender of its queue sends, or a code that isn't told.
-#[cold]
-fn not_sent(code: u32) -> ! {
-    match code {
-        code::BAD_WORDS => panic!("a body has from 1 to 4 words"),
-        code::LONG => panic!("the bodies of this queue have fewer words"),
-        code => unexpected(code),
-    }
-}
-
 fn sent(told: &Told) -> Result<u64, TrySendError> {
     match told.code {
         code::ACCEPTED => Ok(told.number),
         code::FULL => Err(TrySendError::Full),
         code::CLOSED => Err(TrySendError::Closed),
         code::SPENT => Err(TrySendError::Spent),
-        code => not_sent(code),
+        code => unexpected(code),
     }
 }
 
@@ -140,15 +130,22 @@ impl Sender {
     ///
     /// # Errors
     ///
-    /// As of [`try_send`](Sender::try_send).
-    ///
-    /// # Panics
-    ///
-    /// There is no word, or there are more than a body of the queue may have: as many as were said to
-    /// [`open_words`](crate::words::open_words), and else one.
+    /// See [`WordsError`]: a body of the queue can't have so many words; else as of
+    /// [`try_send`](Sender::try_send).
     #[inline]
-    pub fn try_send_words(&mut self, words: &[u64]) -> Result<u64, TrySendError> {
-        self.try_send_body(words)
+    pub fn try_send_words(&mut self, words: &[u64]) -> Result<u64, WordsError<TrySendError>> {
+        let body = self.fitting(words)?;
+        Ok(self.try_send_body(body)?)
+    }
+
+    /// The words, where a body of the queue may have so many.
+    #[inline]
+    fn fitting<'a, E>(&self, words: &'a [u64]) -> Result<&'a [u64], WordsError<E>> {
+        let most = self.left.longest;
+        match (1..=most).contains(&words.len()) {
+            true => Ok(words),
+            false => Err(WordsError::Count { most }),
+        }
     }
 
     #[inline]
@@ -195,13 +192,11 @@ impl Sender {
     ///
     /// # Errors
     ///
-    /// As of [`send`](Sender::send).
-    ///
-    /// # Panics
-    ///
-    /// As [`try_send_words`](Sender::try_send_words).
-    pub fn send_words(&mut self, words: &[u64]) -> Result<u64, SendError> {
-        self.send_body(words)
+    /// See [`WordsError`]: a body of the queue can't have so many words; else as of
+    /// [`send`](Sender::send).
+    pub fn send_words(&mut self, words: &[u64]) -> Result<u64, WordsError<SendError>> {
+        let body = self.fitting(words)?;
+        Ok(self.send_body(body)?)
     }
 
     fn send_body(&mut self, body: impl SendCalls) -> Result<u64, SendError> {
@@ -275,13 +270,11 @@ impl Sender {
     ///
     /// # Errors
     ///
-    /// As of [`begin`](Sender::begin).
-    ///
-    /// # Panics
-    ///
-    /// As [`try_send_words`](Sender::try_send_words).
-    pub fn begin_words(&mut self, words: &[u64]) -> Result<PendingSend<'_>, Worn> {
-        self.begin_body(words)
+    /// See [`WordsError`]: a body of the queue can't have so many words; else as of
+    /// [`begin`](Sender::begin).
+    pub fn begin_words(&mut self, words: &[u64]) -> Result<PendingSend<'_>, WordsError<Worn>> {
+        let body = self.fitting(words)?;
+        Ok(self.begin_body(body)?)
     }
 
     fn begin_body(&mut self, body: impl SendCalls) -> Result<PendingSend<'_>, Worn> {
@@ -289,7 +282,7 @@ impl Sender {
         match self.handle.begin_send(body) {
             code::BEGUN => self.stand(Kind::Send),
             code::WORN => return Err(Worn),
-            code => not_sent(code),
+            code => unexpected(code),
         }
         Ok(PendingSend {
             sender: self,
