@@ -178,9 +178,9 @@ static inline uint32_t vahepito_finish_take_words(vahepito_pass *receiver, vahep
     return code;
 }
 
-/* Sends a body of so many words, and waits for room. Each try counts as one of the sends that the sender may begin: 17 before it sleeps, and
- * then at most a thousand in a second but for the first few. So a sender that waits again and again is WORN in the end
- * (README.md says when, and how a program goes on).
+/* Sends a body of so many words, and waits for room. Each try counts as one of the sends that the sender may begin:
+ * 17 before it sleeps, and then at most a thousand in a second but for the first few. So a sender that waits again and
+ * again is WORN in the end (README.md says when, and how a program goes on).
  * ACCEPTED with the place; CLOSED, SPENT: not accepted, and nothing will be. NO_PASS, WRONG_SIDE, BUSY, WORN: not
  * accepted. BAD_WORDS, LONG: no such body is sent. */
 static inline uint32_t vahepito_send_words(vahepito_pass *sender, const uint64_t *words, size_t count, uint64_t *place) {
