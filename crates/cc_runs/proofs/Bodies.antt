@@ -83,12 +83,12 @@ word_in (suc (suc (suc (suc n)))) words i few low = absurd (omega (arith, few))
 of_three_parts : (tag further : ℕ) → further ≡ tag / 2 ^ 48 % 4 → further * 2 ^ 48 + (tag / 2 ^ 32 % 2 ^ 16 % 2 ^ 16 * 2 ^ 32 + tag % 2 ^ 32) ≡ tag % 2 ^ 50
 of_three_parts tag further is = omega (arith, is)
 
-few_told : (tag : ℕ) → further_words tag ≤ 3
-few_told tag = omega arith
+pub few_further : (tag : ℕ) → further_words tag ≤ 3
+few_further tag = omega arith
 
 -- its tag is the one that it was made of, as far as that tells something
 pub tag_cut : (p : Parcel) → tag_of (item_in p) ≡ p.tag % 2 ^ 50
-tag_cut p = of_three_parts p.tag _ (further_in (further_words p.tag) p.body (few_told p.tag))
+tag_cut p = of_three_parts p.tag _ (further_in (further_words p.tag) p.body (few_further p.tag))
 
 pub further_same : (p : Parcel) → further_words (tag_of (item_in p)) ≡ further_words p.tag
 further_same p = ap further_words (tag_cut p) ∙ cut p.tag
@@ -98,4 +98,4 @@ further_same p = ap further_words (tag_cut p) ∙ cut p.tag
 
 -- and so are its words
 pub word_same : (p : Parcel) (i : ℕ) → i ≤ further_words (tag_of (item_in p)) → word (body_words (item_in p)) i ≡ word p.body i
-word_same p i low = word_in (further_words p.tag) p.body i (few_told p.tag) (omega (arith, low, further_same p))
+word_same p i low = word_in (further_words p.tag) p.body i (few_further p.tag) (omega (arith, low, further_same p))

@@ -6,7 +6,7 @@ use Rattle.cc_model.specs.Config.{config_fault}
 use Rattle.cc_model.specs.Items.{calls_of}
 use Rattle.cc_runs.specs.Names.{Entry, Pass, Item, Answer, TakeAnswer, Setting, Served, Chain, NodeField, Word, Job, Sending, Stand, Place, Move}
 use Rattle.cc_runs.specs.Codes.{ret_of, code_of, request_in, further_words, word, tag_of}
-use Rattle.cc_runs.proofs.ReadWords.{few_further}
+use Rattle.cc_runs.proofs.Bodies.{few_further}
 use Rattle.cc_runs.proofs.Chains.Sides.{asks_word}
 use Rattle.cc_runs.specs.State.{side, State, chain_of, pass_at, word_of}
 use Rattle.cc_runs.specs.Lines.{operation}

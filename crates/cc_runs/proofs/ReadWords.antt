@@ -3,7 +3,7 @@ use Rattle.std.proofs.Common.{◌≡◌, ◌≢◌, ℕ, zero, suc, ◌/◌, ◌
 use Rattle.std.proofs.lemmas.Bool.{cases_eq, ltb-true, ltb-false}
 use Rattle.cc_runs.specs.Names.{Body, Item, BodyWords, Parcel}
 use Rattle.cc_runs.specs.Codes.{word, with_word, further_words, tag_sender, tag_number, item_in, item_of, behind}
-use Rattle.cc_runs.proofs.Bodies.{body_same}
+use Rattle.cc_runs.proofs.Bodies.{body_same, few_further}
 
 -- the word that was read
 word_here : (body : BodyWords) (i value : ℕ) → i ≤ 3 → word (with_word body i value) i ≡ value
@@ -36,10 +36,6 @@ word_other body (suc (suc (suc zero))) value (suc (suc zero)) ne = refl
 word_other body (suc (suc (suc zero))) value (suc (suc (suc zero))) ne = absurd (ne refl)
 word_other body (suc (suc (suc zero))) value (suc (suc (suc (suc j)))) ne = refl
 word_other body (suc (suc (suc (suc i)))) value j ne = refl
-
--- a tag tells of four words at most
-pub few_further : (tag : ℕ) → further_words tag ≤ 3
-few_further tag = omega arith
 
 -- the first words are these, and so is the next one
 pub next_word : (body : BodyWords) (words : ℕ → ℕ) (i value : ℕ) → i ≤ 3 → value ≡ words i → ((j : ℕ) → j < i → word body j ≡ words j) → (j : ℕ) → j ≤ i → word (with_word body i value) j ≡ words j

@@ -8,7 +8,7 @@ use Rattle.cc_runs.specs.Codes.{item_of, tag_of, further_words, request_in, ret_
 use Rattle.cc_runs.specs.State.{side, with_side, noted}
 use Rattle.cc_runs.specs.Lines.{serves, after_exchange, after_answer, after_ret}
 use Rattle.cc_runs.specs.Run.{IsFinished}
-use Rattle.cc_runs.proofs.ReadWords.{few_further}
+use Rattle.cc_runs.proofs.Bodies.{few_further}
 use Rattle.cc_runs.proofs.Chains.View.{post_of, out, request_long, answer_long, all_told, all_wrote}
 use Rattle.cc_runs.proofs.Chains.Registers.{IsChainOf, HasSide, HasCall, IsAnswer, HasService, coded_words, HasRead, reads, tag_word, words_told}
 

@@ -6,7 +6,7 @@ use Rattle.cc_runs.specs.Codes.{request_in, further_words, word}
 use Rattle.cc_runs.specs.State.{State, chain_of}
 use Rattle.cc_runs.specs.Run.{passes}
 use Rattle.cc_runs.proofs.Chains.Registers.{HasAsked, calls_on, answers_on, call_at}
-use Rattle.cc_runs.proofs.ReadWords.{few_further}
+use Rattle.cc_runs.proofs.Bodies.{few_further}
 use Rattle.cc_runs.proofs.Chains.Sides.{asks_word}
 use Rattle.cc_runs.proofs.Chains.Own.{sends_has}
 use Rattle.cc_runs.proofs.Chains.Others.{IsOn}

@@ -7,7 +7,7 @@ use Rattle.cc_runs.specs.CountLines as count_side
 use Rattle.cc_runs.specs.SendLines as send_side
 use Rattle.cc_runs.specs.TakeLines as take_side
 use Rattle.cc_runs.specs.Lines.{event_at, group_of}
-use Rattle.cc_runs.proofs.ReadWords.{few_further}
+use Rattle.cc_runs.proofs.Bodies.{few_further}
 use Rattle.cc_runs.proofs.Chains.View.{members}
 use Rattle.cc_runs.proofs.Chains.Sides.{asks_word}
 use Rattle.cc_runs.proofs.Chains.Registers.{IsChain, Counts, Sends, Takes, HasSend}

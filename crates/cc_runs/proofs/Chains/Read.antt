@@ -8,7 +8,8 @@ use Rattle.cc_runs.specs.Run.{IsFinished}
 use Rattle.cc_runs.proofs.Combining.Stay as by_stay
 use Rattle.cc_runs.proofs.Combining.WriteRequest as by_writerequest
 use Rattle.cc_runs.proofs.Combining.End as by_end
-use Rattle.cc_runs.proofs.ReadWords.{few_further, next_word, one_item, behind_word}
+use Rattle.cc_runs.proofs.Bodies.{few_further}
+use Rattle.cc_runs.proofs.ReadWords.{next_word, one_item, behind_word}
 use Rattle.cc_runs.proofs.Chains.View.{view, members, pass_on, post_of, post_at, request_long, asked_words, answer_words, answer_long}
 use Rattle.cc_runs.proofs.Chains.Bridge as bridge
 use Rattle.cc_runs.proofs.Chains.Sides as sides

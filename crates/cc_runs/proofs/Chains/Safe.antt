@@ -8,7 +8,7 @@ use Rattle.cc_runs.specs.Words.{groups, layout_of, is_node_field, exists}
 use Rattle.cc_runs.specs.State.{State}
 use Rattle.cc_runs.specs.Ready.{IsSafe, HasOpenCall, WhileUndecided, IsOpenAt}
 use Rattle.cc_runs.proofs.Ranges.{InRange}
-use Rattle.cc_runs.proofs.ReadWords.{few_further}
+use Rattle.cc_runs.proofs.Bodies.{few_further}
 use Rattle.cc_runs.proofs.Chains.View.{members, pass_on, post_of, post_at, send_stage}
 use Rattle.cc_runs.proofs.Chains.Registers.{IsChain, calls_on, answers_on, call_at, answer_at, OnSend, OnTake, HasCall, HasService, HasRead}
 use Rattle.cc_runs.proofs.Chains.Ties.{Holds, send_in}

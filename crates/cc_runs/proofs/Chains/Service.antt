@@ -10,7 +10,8 @@ use Rattle.cc_runs.specs.TakeLines as take_side
 use Rattle.cc_runs.specs.SendLines.{after}
 use Rattle.cc_runs.specs.ServiceLine.{Next, On, Decides, place_of, answer_of}
 use Rattle.cc_runs.proofs.Chains.View.{post_of, serving}
-use Rattle.cc_runs.proofs.ReadWords.{few_further, next_word, behind_word}
+use Rattle.cc_runs.proofs.Bodies.{few_further}
+use Rattle.cc_runs.proofs.ReadWords.{next_word, behind_word}
 use Rattle.cc_runs.proofs.Chains.Registers.{HasService, HasAsked, IsAnswer}
 
 -- the step from here to there, of the service of call e, whose answer, once decided, is a

@@ -3,7 +3,8 @@ use Rattle.std.proofs.Common.{◌≡◌, ◌≢◌, ℕ, zero, suc, ◌+◌, ◌
 use Rattle.cc_runs.specs.Names.{Item, Setting, Chain, NodeField, Word, Job, Request, Place}
 use Rattle.cc_runs.specs.Codes.{tag_of, body_words, further_words, word}
 use Rattle.cc_runs.specs.State.{State}
-use Rattle.cc_runs.proofs.ReadWords.{few_further, behind_word}
+use Rattle.cc_runs.proofs.Bodies.{few_further}
+use Rattle.cc_runs.proofs.ReadWords.{behind_word}
 use Rattle.cc_runs.proofs.Chains.View.{asks_in, view, pass_on, post_at, post_of, cell_of, words_of, request_words, answer_words, told_words, all_wrote, all_told, no_word, entering, serving}
 use Rattle.cc_runs.proofs.Chains.Frame.{put_here, word_apart, cell_apart}
 use Rattle.cc_runs.proofs.Chains.Bridge.{standing, after, is_at, was_at, others, before_at, words_at}

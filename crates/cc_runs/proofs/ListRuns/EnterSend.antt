@@ -5,7 +5,8 @@ use Rattle.cc_model.specs.Items.{handed_to_all}
 use Rattle.cc_runs.specs.Names.{Config, Entry, Chain, NodeField, Word, Job, Place, Sending, Stand, Request}
 use Rattle.cc_runs.specs.State.{State, chain_of, hold}
 use Rattle.cc_runs.specs.Codes.{request_in, further_words, word, with_asked}
-use Rattle.cc_runs.proofs.ReadWords.{few_further, next_word}
+use Rattle.cc_runs.proofs.Bodies.{few_further}
+use Rattle.cc_runs.proofs.ReadWords.{next_word}
 use Rattle.cc_runs.proofs.Chains.Registers.{HasAsked, HasRequest}
 use Rattle.cc_runs.specs.Run.{IsIdle, passes}
 use Rattle.cc_runs.proofs.LinkedList.Queue.{Queue}

@@ -6,7 +6,8 @@ use Rattle.cc_runs.specs.Names.{Config, ItemField, Object as Obj, Word, Parcel, 
 use Rattle.cc_runs.specs.Words.{put, object_number}
 use Rattle.cc_runs.specs.Codes.{further_words, word, with_read}
 use Rattle.cc_runs.specs.State.{word_of, stored}
-use Rattle.cc_runs.proofs.ReadWords.{few_further, next_word, behind_word}
+use Rattle.cc_runs.proofs.Bodies.{few_further}
+use Rattle.cc_runs.proofs.ReadWords.{next_word, behind_word}
 use Rattle.cc_runs.proofs.Chains.View.{words_of}
 use Rattle.cc_runs.specs.ServiceLine.{Next, On, Decides, DecidesAndOn, Tells}
 use Rattle.cc_runs.specs.TakeLines.{line, by_next, by_tag, operation}

@@ -10,7 +10,8 @@ use Rattle.cc_runs.specs.Names.{Config, Answer, TakeAnswer, Chain, ItemField, Ob
 use Rattle.cc_runs.specs.Words.{groups, put}
 use Rattle.cc_runs.specs.State.{noted, word_of, stored}
 use Rattle.cc_runs.specs.Codes.{item_in, further_words, word, no_words, with_read, behind, parcel as parcel_of}
-use Rattle.cc_runs.proofs.ReadWords.{few_further, one_item}
+use Rattle.cc_runs.proofs.Bodies.{few_further}
+use Rattle.cc_runs.proofs.ReadWords.{one_item}
 use Rattle.cc_runs.proofs.Chains.View.{words_of}
 use Rattle.cc_runs.specs.TakeLines.{operation, goes, decides}
 use Rattle.cc_runs.proofs.Chains.Facts.{noted_none}
