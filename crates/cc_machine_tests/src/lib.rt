@@ -6,6 +6,4 @@ mod counters;
 #[cfg(test)]
 mod groups;
 #[cfg(test)]
-mod groups_in_any_order;
-#[cfg(test)]
 mod machines;
