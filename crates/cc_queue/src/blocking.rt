@@ -16,6 +16,7 @@ use crossbeam_utils::Backoff;
 use std::sync::Wait;
 
 /// Waits for the answer of a send.
+#[inline(always)]
 fn await_send<R: Wait>(queue: &Queue, rt: &R, pending: PendingSend) -> (Sender, SendAnswer)
     requires { IsOf queue.now pending }
     ensures { Ended pending (Answer.Send result.1) result.0 }
@@ -60,6 +61,7 @@ fn await_close<R: Wait>(queue: &Queue, rt: &R, pending: PendingClose) -> (Sender
 }
 
 /// Waits for the answer of a take.
+#[inline(always)]
 fn await_take<R: Wait>(queue: &Queue, rt: &R, pending: PendingTake) -> (Receiver, TakeAnswer)
     requires { IsOf queue.now pending }
     ensures { Ended pending (Answer.Take result.1) result.0 }
@@ -83,6 +85,7 @@ fn await_take<R: Wait>(queue: &Queue, rt: &R, pending: PendingTake) -> (Receiver
 
 /// Sends this body, and waits for the answer; it doesn't try again where the queue was full. Err hands the sender back
 /// unchanged, where it has begun as many sends as one sender may.
+#[inline(always)]
 pub fn send<R: Wait>(
     queue: &Queue,
     rt: &R,
@@ -109,6 +112,7 @@ pub fn close<R: Wait>(queue: &Queue, rt: &R, sender: Sender) -> (Sender, CloseAn
 }
 
 /// Takes, and waits for the answer.
+#[inline(always)]
 pub fn take<R: Wait>(queue: &Queue, rt: &R, receiver: Receiver) -> (Receiver, TakeAnswer)
     requires { IsOf queue.now receiver }
     ensures { Completed receiver Call.Take (Answer.Take result.1) result.0 }

@@ -58,6 +58,7 @@ pub fn begin_close(queue: &Queue, sender: Sender) -> PendingClose
 
 /// One turn of a send: reads the state once. Where it is 1 the call waits; where it is 0 this pass serves its own call
 /// and others', at most `bound` of them; and then the answer is read.
+#[inline(always)]
 pub fn turn_send(queue: &Queue, pending: PendingSend) -> SendTurn
     requires { IsOf queue.now pending }
     ensures { TurnedSend pending result }

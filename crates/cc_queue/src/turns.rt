@@ -37,7 +37,40 @@ pub fn await_answer(
     }
 }
 
+/// `await_answer` on the senders' chain: compiled for it alone, and once for all who call.
+#[inline(never)]
+fn await_request(words: &Words, seat: &mut PassSeat, config: &Config, node: u64) -> Option<u32>
+    requires here { IsServing words.now config.now Chain.Send seat.old }
+    requires at { seat.old.stand ≡ record { begun = seat.old.stand.begun; node = node; place = Place.ReadState } }
+    requires bound { 0 < config.now.bound }
+    ensures waits { IfNone result (Waits seat.old seat.new) }
+    ensures done { IfSome result (λ n. Works seat.old Place.ReadAnswer (turned config.now n) seat.new) }
+    ensures few { IfSome result (λ n. n ≤ config.now.bound) }
+{
+    await_answer(words, seat, config, Chain::Send, node)
+}
+
+/// `await_answer` on a group's chain, in the same way.
+#[inline(never)]
+fn await_item(
+    words: &Words,
+    seat: &mut PassSeat,
+    config: &Config,
+    group: u32,
+    node: u64,
+) -> Option<u32>
+    requires here { IsServing words.now config.now (Chain.Take group) seat.old }
+    requires at { seat.old.stand ≡ record { begun = seat.old.stand.begun; node = node; place = Place.ReadState } }
+    requires bound { 0 < config.now.bound }
+    ensures waits { IfNone result (Waits seat.old seat.new) }
+    ensures done { IfSome result (λ n. Works seat.old Place.ReadAnswer (turned config.now n) seat.new) }
+    ensures few { IfSome result (λ n. n ≤ config.now.bound) }
+{
+    await_answer(words, seat, config, Chain::Take(group), node)
+}
+
 /// Reads the answer word of a send or a close.
+#[inline(always)]
 pub fn read_request_answer(words: &Words, seat: &mut PassSeat, node: u64) -> u64
     requires here { IsOnList words.now Chain.Send seat.old }
     requires at { seat.old.stand ≡ record { begun = seat.old.stand.begun; node = node; place = Place.ReadAnswer } }
@@ -48,6 +81,7 @@ pub fn read_request_answer(words: &Words, seat: &mut PassSeat, node: u64) -> u64
 }
 
 /// Reads the answer of a take, and of an item its tag and its body too.
+#[inline(always)]
 pub fn read_take_answer(words: &Words, seat: &mut PassSeat, group: u32, node: u64) -> TakeAnswer
     requires here { IsOnList words.now (Chain.Take group) seat.old }
     requires at { seat.old.stand ≡ record { begun = seat.old.stand.begun; node = node; place = Place.ReadAnswer } }
@@ -69,6 +103,7 @@ pub fn read_take_answer(words: &Words, seat: &mut PassSeat, group: u32, node: u6
 }
 
 /// A turn of a send or a close: its answer word, and how many calls were served, where it doesn't wait.
+#[inline(always)]
 pub fn turn_request(
     words: &Words,
     seat: &mut PassSeat,
@@ -83,11 +118,12 @@ pub fn turn_request(
     ensures few { IfSome result (λ r. r.1 ≤ config.now.bound) }
     ensures told { IfSome result (λ r. IsToldAt seat.new (Place.Finished (list_reads r.0))) }
 {
-    let served = await_answer(words, seat, config, Chain::Send, node)?;
+    let served = await_request(words, seat, config, node)?;
     Some((read_request_answer(words, seat, node), served))
 }
 
 /// A turn of a take: its answer, and how many calls were served, where it doesn't wait.
+#[inline(always)]
 pub fn turn_take(
     words: &Words,
     seat: &mut PassSeat,
@@ -103,6 +139,6 @@ pub fn turn_take(
     ensures few { IfSome result (λ r. r.1 ≤ config.now.bound) }
     ensures told { IfSome result (λ r. IsToldAt seat.new (Place.Finished (Answer.Take r.0))) }
 {
-    let served = await_answer(words, seat, config, Chain::Take(group), node)?;
+    let served = await_item(words, seat, config, group, node)?;
     Some((read_take_answer(words, seat, group, node), served))
 }
