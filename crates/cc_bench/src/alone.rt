@@ -3,26 +3,26 @@ ghost use Rattle.std.specs.Prelude.{◌≡◌, Ok};
 ghost use Rattle.cc_steps.specs.Walk.{IsOf};
 ghost use Rattle.cc_bench.specs.Work.{CameFrom};
 
-use crate::load::Load;
+use crate::load::{Load, body};
 use cc_model::TakeAnswer;
 use cc_queue::{Opened, Queue, Receiver, Sender, send, take};
 use std::sync::Wait;
 
-/// Sends and takes these items, one after another; gives how many were got.
-fn each_in_turn<R: Wait>(
+/// Sends and takes so many items, one after another, with bodies of so many words; gives how many were got.
+fn each_in_turn<R: Wait, const WORDS: u64>(
     rt: &R,
     queue: &Queue,
     sender: Sender,
     receiver: Receiver,
-    load: Load,
+    items: u64,
 ) -> u64
     requires { IsOf queue.now sender × IsOf queue.now receiver }
 {
     let mut sender = sender;
     let mut receiver = receiver;
     let mut passed = 0u64;
-    for number in 0..load.items {
-        let Ok((after, _)) = send(queue, rt, sender, load.body(number)) else {
+    for number in 0..items {
+        let Ok((after, _)) = send(queue, rt, sender, body::<WORDS>(number)) else {
             return passed;
         };
         sender = after;
@@ -44,8 +44,14 @@ pub fn send_and_take<R: Wait>(rt: &R, opened: Opened, load: Load) -> u64
         mut senders,
         mut receivers,
     } = opened;
+    let Load { items, words } = load;
     match (senders.pop(), receivers.pop()) {
-        (Some(sender), Some(receiver)) => each_in_turn(rt, &queue, sender, receiver, load),
+        (Some(sender), Some(receiver)) => match words {
+            2 => each_in_turn::<R, 2>(rt, &queue, sender, receiver, items),
+            3 => each_in_turn::<R, 3>(rt, &queue, sender, receiver, items),
+            4 => each_in_turn::<R, 4>(rt, &queue, sender, receiver, items),
+            _ => each_in_turn::<R, 1>(rt, &queue, sender, receiver, items),
+        },
         _ => 0,
     }
 }

@@ -8,18 +8,17 @@ pub struct Load {
     pub words: u64,
 }
 
-impl Load {
-    /// The body of the item of this number, whose words count up from there: one word, where it isn't to have two to four.
-    #[inline(always)]
-    pub fn body(&self, number: u64) -> Body {
-        let second = number.wrapping_add(1);
-        let third = number.wrapping_add(2);
-        let fourth = number.wrapping_add(3);
-        match self.words {
-            2 => Body::two(number, second),
-            3 => Body::three(number, second, third),
-            4 => Body::four(number, second, third, fourth),
-            _ => Body::one(number),
-        }
+/// The body of the item of this number, whose words count up from there: one word, where it isn't to have two to four. Their
+/// number is a parameter of the function, so that a loop over items doesn't ask for it at each.
+#[inline(always)]
+pub fn body<const WORDS: u64>(number: u64) -> Body {
+    let second = number.wrapping_add(1);
+    let third = number.wrapping_add(2);
+    let fourth = number.wrapping_add(3);
+    match WORDS {
+        2 => Body::two(number, second),
+        3 => Body::three(number, second, third),
+        4 => Body::four(number, second, third, fourth),
+        _ => Body::one(number),
     }
 }

@@ -3,7 +3,7 @@ ghost use Rattle.std.specs.Prelude.{◌≡◌, IfOk, OnOk, All, Ok};
 ghost use Rattle.cc_steps.specs.Walk.{IsOf};
 ghost use Rattle.cc_bench.specs.Work.{Belongs, CameFrom};
 
-use crate::load::Load;
+use crate::load::{Load, body};
 use cc_model::{SendAnswer, TakeAnswer};
 use cc_queue::{Opened, Queue, Receiver, Sender, close, send_until, take_until};
 use std::alloc::{AllocError, Global};
@@ -18,13 +18,20 @@ pub enum Worker {
     Takes(Receiver),
 }
 
-/// Sends these items, each again where the queue is full; the last sender that ends closes the queue.
-fn send_all<R: Wait>(rt: &R, queue: &Queue, sender: Sender, load: Load, left: &AtomicU64) -> u64
+/// Sends so many items with bodies of so many words, each again where the queue is full; the last sender that ends closes
+/// the queue.
+fn send_all<R: Wait, const WORDS: u64>(
+    rt: &R,
+    queue: &Queue,
+    sender: Sender,
+    items: u64,
+    left: &AtomicU64,
+) -> u64
     requires { IsOf queue.now sender }
 {
     let mut sender = sender;
-    for number in 0..load.items {
-        let body = load.body(number);
+    for number in 0..items {
+        let body = body::<WORDS>(number);
         let Ok((after, SendAnswer::Accepted { place: _ })) = send_until(queue, rt, sender, body)
         else {
             return 0;
@@ -59,7 +66,12 @@ fn work<R: Wait>(rt: &R, queue: &Queue, worker: Worker, load: Load, left: &Atomi
     requires { Belongs queue.now worker }
 {
     match worker {
-        Worker::Sends(sender) => send_all(rt, queue, sender, load, left),
+        Worker::Sends(sender) => match load.words {
+            2 => send_all::<R, 2>(rt, queue, sender, load.items, left),
+            3 => send_all::<R, 3>(rt, queue, sender, load.items, left),
+            4 => send_all::<R, 4>(rt, queue, sender, load.items, left),
+            _ => send_all::<R, 1>(rt, queue, sender, load.items, left),
+        },
         Worker::Takes(receiver) => take_all(rt, queue, receiver),
     }
 }
