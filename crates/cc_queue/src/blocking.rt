@@ -129,6 +129,7 @@ fn rest(backoff: &Backoff) {
 }
 
 /// Takes until there is an item, or the queue has ended.
+#[inline(always)]
 pub fn take_until<R: Wait>(queue: &Queue, rt: &R, receiver: Receiver) -> (Receiver, TakeAnswer)
     requires { IsOf queue.now receiver }
     ensures { TakenUntil receiver result.1 result.0 }
@@ -150,6 +151,7 @@ pub fn take_until<R: Wait>(queue: &Queue, rt: &R, receiver: Receiver) -> (Receiv
 /// Sends this body, again where the queue was full, until it is accepted, or told that none will be: the queue is closed, or
 /// has had all its items. Err hands the sender back where it has begun as many sends as one sender may, each of which since
 /// this call was told that the queue is full; and unchanged where it had begun so many before.
+#[inline(always)]
 pub fn send_until<R: Wait>(
     queue: &Queue,
     rt: &R,
