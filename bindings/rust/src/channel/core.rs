@@ -22,6 +22,8 @@ struct Sends {
 
 /// What is under the lock of a sender's seat.
 struct Sending {
+    /// The number of the seat.
+    seat: usize,
     /// None until it is used for the first time.
     pass: Option<Sends>,
     /// By which its items are put into slots.
@@ -30,6 +32,8 @@ struct Sending {
 
 /// What is under the lock of a receiver's seat.
 struct Taking {
+    /// The numbers of its group and of the seat.
+    seat: (usize, usize),
     /// None until it is used for the first time.
     pass: Option<Seated<words::Receiver>>,
     /// The slots that it has emptied.
@@ -67,10 +71,10 @@ struct Seats<L> {
 
 impl<L> Seats<L> {
     /// With this under their locks. One handle has the first seat.
-    fn new(mut locked: impl FnMut() -> L) -> Seats<L> {
-        let seat = |_| {
+    fn new(mut locked: impl FnMut(usize) -> L) -> Seats<L> {
+        let seat = |number| {
             Padded(Seat {
-                locked: SeatLock::new(locked()),
+                locked: SeatLock::new(locked(number)),
                 count: AtomicU64::new(0),
             })
         };
@@ -187,9 +191,10 @@ impl<T> Core<T> {
         let count = config.capacity as usize + hands * Slots::<T>::IN_HAND;
         let mut slots = slots(count, PASSES);
         let mut reader = slots.reader();
-        let group = |_| Group {
+        let group = |group| Group {
             items: Event::new(),
-            seats: Seats::new(|| Taking {
+            seats: Seats::new(|seat| Taking {
+                seat: (group, seat),
                 pass: None,
                 hand: Hand::empty(),
                 reader: reader.take(),
@@ -197,8 +202,9 @@ impl<T> Core<T> {
             left: AtomicUsize::new(0),
             letting_go: AtomicBool::new(false),
         };
-        let groups = (0..groups).map(group).collect();
-        let senders = Seats::new(|| Sending {
+        let groups = (0..groups as usize).map(group).collect();
+        let senders = Seats::new(|seat| Sending {
+            seat,
             pass: None,
             owner: slots.owner(),
         });
@@ -255,39 +261,69 @@ impl<T> Core<T> {
     /// Sends an item, or hands it back.
     #[inline]
     pub fn try_send(&self, seat: usize, item: T) -> Result<(), (Refusal, T)> {
-        let sent = self.send_once(seat, item);
+        let sends = self.senders.at(seat);
+        let sent = self.send_once(sends, item);
         if self.lost.load(Ordering::SeqCst) != 0 {
-            return self.without_the_lost(seat, sent);
+            return self.without_the_lost(sends, sent);
         }
         sent
     }
 
     #[inline]
-    fn send_once(&self, seat: usize, item: T) -> Result<(), (Refusal, T)> {
-        let sends = self.senders.at(seat);
-        sends.locked.with(|Sending { pass, owner }| {
-            // There is no slot where receivers of several groups that threads share copy many items at
-            // once. They ring after it.
-            let put = self.slots.put(owner, item);
-            let held = put.map_err(|item| (Refusal::Full, item))?;
-            let sent = match pass {
-                Some(sends) if sends.is_first => sends.at.pass.try_send(held.word()),
-                _ => {
-                    let sends = pass.get_or_insert_with(|| self.first_sends(seat));
-                    self.send_here(sends, held.word())
-                }
-            };
-            if let Err(told) = sent {
-                self.go_on_sending(seat, pass, owner, held, told)?;
-            }
+    fn send_once(&self, sends: &Seat<Sending>, item: T) -> Result<(), (Refusal, T)> {
+        sends.locked.with(|sending| {
+            self.send_locked(sending, item)?;
             sends.count_one();
             Ok(())
         })?;
         match &*self.groups {
             [group] => group.items.ring(),
-            groups => groups.iter().for_each(|group| group.items.ring()),
+            _ => self.ring_in_groups(),
         }
         Ok(())
+    }
+
+    #[inline(never)]
+    fn ring_in_groups(&self) {
+        self.groups.iter().for_each(|group| group.items.ring());
+    }
+
+    /// Sends by a seat whose lock is held. What isn't done here, of one call after another, is done by
+    /// calls that aren't inlined, so that those few steps need few registers.
+    #[inline]
+    fn send_locked(&self, sending: &mut Sending, item: T) -> Result<(), (Refusal, T)> {
+        let held = match self.slots.put_into_own(&mut sending.owner, item) {
+            Ok(held) => held,
+            Err(item) => return self.send_by_lists(sending, item),
+        };
+        match &mut sending.pass {
+            Some(sends) if sends.is_first => match sends.at.pass.try_send_at_once(held.word()) {
+                Ok(_) => Ok(()),
+                Err(told) => self.go_on_sending(sending, held, told),
+            },
+            _ => self.send_held(sending, held),
+        }
+    }
+
+    /// Sends an item by a slot of the lists.
+    #[inline(never)]
+    fn send_by_lists(&self, sending: &mut Sending, item: T) -> Result<(), (Refusal, T)> {
+        // There is no slot where receivers of several groups that threads share copy many items at
+        // once. They ring after it.
+        let put = self.slots.put_into_lists(&mut sending.owner, item);
+        let held = put.map_err(|item| (Refusal::Full, item))?;
+        self.send_held(sending, held)
+    }
+
+    /// Sends an item that was put, also where the seat sends for the first time.
+    #[inline(never)]
+    fn send_held(&self, sending: &mut Sending, held: Held) -> Result<(), (Refusal, T)> {
+        let Sending { seat, pass, .. } = sending;
+        let sends = pass.get_or_insert_with(|| self.first_sends(*seat));
+        match self.send_here(sends, held.word()) {
+            Ok(_) => Ok(()),
+            Err(told) => self.send_elsewhere(sending, held, told),
+        }
     }
 
     #[cold]
@@ -308,19 +344,32 @@ impl<T> Core<T> {
         }
     }
 
-    /// Goes on where a queue didn't accept the word of this item: to a further queue, where this one is
-    /// used up, or closed with one behind it. Or else takes the item back.
+    /// Goes on where the first turn of a send didn't tell that the item is accepted.
     #[inline(never)]
     fn go_on_sending(
         &self,
-        seat: usize,
-        pass: &mut Option<Sends>,
-        owner: &mut Owner,
+        sending: &mut Sending,
+        held: Held,
+        told: words::Told,
+    ) -> Result<(), (Refusal, T)> {
+        let sends = sending.pass.as_mut().expect("a queue was asked");
+        match sends.at.pass.go_on_sending(held.word(), told) {
+            Ok(_) => Ok(()),
+            Err(told) => self.send_elsewhere(sending, held, told),
+        }
+    }
+
+    /// Goes on where a queue didn't accept the word of this item: to a further queue, where this one is
+    /// used up, or closed with one behind it. Or else takes the item back.
+    fn send_elsewhere(
+        &self,
+        sending: &mut Sending,
         held: Held,
         told: words::TrySendError,
     ) -> Result<(), (Refusal, T)> {
+        let Sending { seat, pass, owner } = sending;
         let sends = pass.as_mut().expect("a queue was asked");
-        self.send_further(seat, sends, held.word(), told)
+        self.send_further(*seat, sends, held.word(), told)
             .map_err(|refusal| (refusal, self.take_back(held, owner)))
     }
 
@@ -407,13 +456,13 @@ impl<T> Core<T> {
     #[cold]
     fn without_the_lost(
         &self,
-        seat: usize,
+        sends: &Seat<Sending>,
         sent: Result<(), (Refusal, T)>,
     ) -> Result<(), (Refusal, T)> {
         let mut panic = self.let_go();
         let sent = match sent {
             Err((Refusal::Full | Refusal::NoMemory, item)) => {
-                let sent = self.send_once(seat, item);
+                let sent = self.send_once(sends, item);
                 panic = panic.or(self.let_go());
                 sent
             }
@@ -426,7 +475,8 @@ impl<T> Core<T> {
     #[inline]
     pub fn try_recv(&self, group: usize, seat: usize) -> Result<T, NoItem> {
         if let [only] = &*self.groups {
-            let item = self.take_word(only, (group, seat), |owner, word, hand, reader| {
+            let takes = only.seats.at(seat);
+            let item = self.take_word(takes, |owner, word, hand, reader| {
                 self.slots.take_alone(reader, owner, word, hand)
             })?;
             self.room.ring();
@@ -438,8 +488,8 @@ impl<T> Core<T> {
     /// The same where each group gets a copy, which is made once the seat is let go.
     #[inline(never)]
     fn try_recv_of_groups(&self, group: usize, seat: usize) -> Result<T, NoItem> {
-        let takes = &self.groups[group];
-        let got = self.take_word(takes, (group, seat), |owner, word, _, _| (owner, word));
+        let takes = self.groups[group].seats.at(seat);
+        let got = self.take_word(takes, |owner, word, _, _| (owner, word));
         let (owner, word) = got?;
         let _rings = Rings(&self.room);
         Ok(self.slots.take(group, owner, word))
@@ -450,47 +500,46 @@ impl<T> Core<T> {
     #[inline]
     fn take_word<R>(
         &self,
-        group: &Group,
-        (number, seat): (usize, usize),
+        takes: &Seat<Taking>,
         got: impl FnOnce(usize, u64, &mut Hand, Option<&mut Reader>) -> R,
     ) -> Result<R, NoItem> {
-        let takes = group.seats.at(seat);
-        takes.locked.with(|Taking { pass, hand, reader }| {
-            let at = pass.get_or_insert_with(|| self.first_takes(number, seat));
-            let taken = at.pass.try_recv_as(|item| (item.sender, item.body));
-            let (sender, word) = match taken {
-                Ok(item) => item,
-                Err(told) => self.go_on_taking((number, seat), at, told)?,
+        takes.locked.with(|taking| {
+            let (sender, word) = match &mut taking.pass {
+                Some(at) => match at.pass.try_recv_at_once(|item| (item.sender, item.body)) {
+                    Ok(item) => item,
+                    Err(told) => self.go_on_taking(taking, told)?,
+                },
+                None => self.go_on_taking(taking, None)?,
             };
-            let got = got(sender as usize - 1, word, hand, reader.as_mut());
+            let reader = taking.reader.as_mut();
+            let got = got(sender as usize - 1, word, &mut taking.hand, reader);
             takes.count_one();
             Ok(got)
         })
     }
 
-    #[cold]
-    fn first_takes(&self, group: usize, seat: usize) -> Seated<words::Receiver> {
-        self.line.first_receiver(group, seat)
-    }
-
-    /// Goes on where a queue gave no word: to a further one where this one has ended.
+    /// Goes on where the first turn of a take gave no word, or there was none yet, also where the seat
+    /// takes for the first time: to a further queue where this one has ended.
     #[inline(never)]
     fn go_on_taking(
         &self,
-        seat: (usize, usize),
-        at: &mut Seated<words::Receiver>,
-        mut told: words::TryRecvError,
+        taking: &mut Taking,
+        told: Option<words::Taken<words::Item>>,
     ) -> Result<(u32, u64), NoItem> {
+        let (group, seat) = taking.seat;
+        let first = || self.line.first_receiver(group, seat);
+        let at = taking.pass.get_or_insert_with(first);
+        let mut taken = at.pass.go_on_taking(told);
         loop {
-            if told == words::TryRecvError::Empty {
-                return Err(NoItem::Empty);
-            }
-            if !self.line.receiver_goes_on(seat, at) {
-                return Err(NoItem::Ended);
-            }
-            match at.pass.try_recv() {
+            match taken {
                 Ok(item) => return Ok((item.sender, item.body)),
-                Err(next) => told = next,
+                Err(words::TryRecvError::Empty) => return Err(NoItem::Empty),
+                Err(words::TryRecvError::Ended { .. }) => {
+                    if !self.line.receiver_goes_on(taking.seat, at) {
+                        return Err(NoItem::Ended);
+                    }
+                    taken = at.pass.try_recv();
+                }
             }
         }
     }
@@ -558,9 +607,9 @@ impl<T> Core<T> {
             // Who finds another at it leaves it to that one, who looks once more when it is done. So a
             // drop of an item that sends again doesn't come here again.
             while left != 0 && !group.letting_go.swap(true, Ordering::SeqCst) {
-                let seat = (number, left - 1);
+                let takes = group.seats.at(left - 1);
                 while let Ok((owner, word)) =
-                    self.take_word(group, seat, |owner, word, _, _| (owner, word))
+                    self.take_word(takes, |owner, word, _, _| (owner, word))
                 {
                     let drops = || drop(self.slots.pass_over(number, owner, word));
                     panic = panic.or(catch_unwind(AssertUnwindSafe(drops)).err());

@@ -184,18 +184,16 @@ impl<T> Slots<T> {
         }
     }
 
-    /// Puts an item into a slot, if one is free: one in the owner's hand, or else the next of its own, or
-    /// else one of its list, or of another's. While its own ones are in use it looks for one seldom.
+    /// Puts an item into the next of an owner's own slots, if that is free. Where the owner has others in
+    /// hand it doesn't look: so while its own ones are in use it looks seldom.
     #[inline]
-    pub fn put(&self, owner: &mut Owner, item: T) -> Result<Held, T> {
+    pub fn put_into_own(&self, owner: &mut Owner, item: T) -> Result<Held, T> {
         let own = usize::from(owner.number) * Self::OWN + usize::from(owner.next) % Self::OWN;
-        let Some(slot) = self.slots.get(own) else {
-            return Err(item);
+        let slot = match self.slots.get(own) {
+            // By the acquire, whoever took the last item from there is done.
+            Some(slot) if owner.hand.count == 0 && slot.state.load(Ordering::Acquire) == 0 => slot,
+            _ => return Err(item),
         };
-        // By the acquire, whoever took the last item from there is done.
-        if owner.hand.count != 0 || slot.state.load(Ordering::Acquire) != 0 {
-            return self.put_elsewhere(owner, item);
-        }
         owner.next = owner.next.wrapping_add(1);
         // SAFETY: the slot's state is 0, and it is its owner's own, which is here: nobody else reads it
         // or writes to it.
@@ -204,9 +202,9 @@ impl<T> Slots<T> {
         Ok(Held(own as u32))
     }
 
-    /// Puts it into a slot of the lists.
-    #[inline(never)]
-    fn put_elsewhere(&self, owner: &mut Owner, item: T) -> Result<Held, T> {
+    /// Puts it into a slot of the lists, if one is free: one in the owner's hand, or else one of its list,
+    /// or of another's.
+    pub fn put_into_lists(&self, owner: &mut Owner, item: T) -> Result<Held, T> {
         let Some(free) = self.free(owner.number.into(), &mut owner.hand) else {
             return Err(item);
         };
@@ -372,10 +370,9 @@ impl<T> Slots<T> {
     ) -> T {
         // Where there is a reader, there is one group.
         assert!(reader.is_some() || self.has_one_group());
-        let slot = self.slot(word);
-        let can = slot.is_some_and(|slot| self.claim_whole(reader, slot));
-        let Some(slot) = slot.filter(|_| can) else {
-            panic!("an item was given to a group twice");
+        let slot = match self.slot(word) {
+            Some(slot) if self.claim_whole(reader, slot) => slot,
+            _ => given_twice(),
         };
         // SAFETY: the item was put, and the claim of its one group was made here.
         let item = unsafe { (*slot.item.get()).assume_init_read() };
@@ -420,10 +417,9 @@ impl<T> Slots<T> {
         let before = self.slot(word).map_or(0, |slot| {
             slot.state.fetch_and(!(1 << group), Ordering::AcqRel)
         });
-        assert!(
-            before & 1 << group != 0,
-            "an item was given to a group twice"
-        );
+        if before & 1 << group == 0 {
+            given_twice();
+        }
         Reading {
             slots: self,
             at: word as usize,
@@ -432,6 +428,12 @@ impl<T> Slots<T> {
             is_last: rests(before) == 1 << group,
         }
     }
+}
+
+/// The queue named a slot again whose item the group had.
+#[cold]
+fn given_twice() -> ! {
+    panic!("an item was given to a group twice")
 }
 
 /// A claim that was made: no other reader of this group has the item.
@@ -506,6 +508,13 @@ mod tests {
     use std::sync::Arc;
     use std::thread;
 
+    /// Puts an item where it can.
+    fn put<T>(slots: &Slots<T>, owner: &mut Owner, item: T) -> Option<u64> {
+        let put = slots.put_into_own(owner, item);
+        let put = put.or_else(|item| slots.put_into_lists(owner, item));
+        put.ok().map(|held| held.word())
+    }
+
     /// Whether this panics.
     fn refused<R>(call: impl FnOnce() -> R) -> bool {
         catch_unwind(AssertUnwindSafe(call)).is_err()
@@ -522,7 +531,7 @@ mod tests {
             assert!(slots.reader().is_none());
             let item = Arc::new(7);
             let words: Vec<u64> = (0..10)
-                .map(|_| slots.put(&mut owner, item.clone()).ok().unwrap().word())
+                .map(|_| put(&slots, &mut owner, item.clone()).unwrap())
                 .collect();
             assert!(refused(|| slots.take_alone(None, 0, words[0], hand)));
             if shares {
@@ -566,8 +575,7 @@ mod tests {
             for round in 0..50_usize {
                 let mut words = vec![];
                 for owner in [&mut owner, &mut other] {
-                    let puts = (0..100).map_while(|_| slots.put(owner, round).ok());
-                    words.extend(puts.map(|held| held.word()));
+                    words.extend((0..100).map_while(|_| put(&slots, owner, round)));
                 }
                 words.sort();
                 words.dedup();
@@ -590,7 +598,7 @@ mod tests {
         let mut owner = slots.owner();
         slots.reader().map(|reader| slots.share(reader));
         for _ in 0..50 {
-            let word = slots.put(&mut owner, Box::new(7)).ok().unwrap().word();
+            let word = put(&slots, &mut owner, Box::new(7)).unwrap();
             let takes = || slots.take_alone(None, 0, word, &mut Hand::empty());
             let had = thread::scope(|scope| {
                 let threads = [(); 3].map(|()| scope.spawn(|| !refused(takes)));

@@ -290,9 +290,19 @@ impl Handle {
         Told::by(|number, served| unsafe { vahepito_turn_send(&mut self.0, number, served) })
     }
 
+    /// The place, where the code is ACCEPTED. What else is told is put together only then.
     #[inline]
-    pub fn try_send(&mut self, body: impl SendCalls) -> Told {
-        Told::by(|number, served| body.try_send(self, number, served))
+    pub fn try_send(&mut self, body: impl SendCalls) -> Result<u64, Told> {
+        let (mut number, mut served) = (0, 0);
+        let code = body.try_send(self, &mut number, &mut served);
+        if code == code::ACCEPTED {
+            return Ok(number);
+        }
+        Err(Told {
+            code,
+            number,
+            served,
+        })
     }
 
     #[inline]

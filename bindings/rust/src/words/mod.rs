@@ -15,6 +15,8 @@ pub use item::{Item, ItemForm, WordsItem};
 pub use receiver::{IntoIter, Iter, PendingRecv, Receiver, TryIter};
 pub use sender::{Closed, PendingClose, PendingSend, Sender};
 
+pub(crate) use handle::{Taken, Told};
+
 /// What one turn of a guard told.
 #[derive(Debug)]
 #[must_use = "a call that was begun is to be turned until it is done"]

@@ -99,24 +99,26 @@ impl<I: ItemForm> Receiver<I> {
     /// ```
     #[inline]
     pub fn try_recv(&mut self) -> Result<I, TryRecvError> {
-        self.try_recv_as(I::clone)
+        let taken = self.try_recv_at_once(I::clone);
+        taken.or_else(|told| self.go_on_taking(told))
     }
 
-    /// The same, and gives what this reads of the item.
+    /// Begins a take and turns it once, where none is kept, and gives what this reads of the item. Where
+    /// that doesn't get one, `go_on_taking` has to follow.
     #[inline]
-    pub(crate) fn try_recv_as<R>(&mut self, read: impl Fn(&I) -> R) -> Result<R, TryRecvError> {
+    pub(crate) fn try_recv_at_once<R>(
+        &mut self,
+        read: impl FnOnce(&I) -> R,
+    ) -> Result<R, Option<Taken<I>>> {
         if self.kept.is_some() {
-            return self.go_on_taking(None).map(|item| read(&item));
+            return Err(None);
         }
-        match self.handle.try_take_as(&read) {
-            Ok(got) => Ok(got),
-            Err(told) => self.go_on_taking(Some(told)).map(|item| read(&item)),
-        }
+        self.handle.try_take_as(read).map_err(Some)
     }
 
     /// Goes on where the first turn didn't get an item, or there is one already.
     #[inline(never)]
-    fn go_on_taking(&mut self, mut told: Option<Taken<I>>) -> Result<I, TryRecvError> {
+    pub(crate) fn go_on_taking(&mut self, mut told: Option<Taken<I>>) -> Result<I, TryRecvError> {
         loop {
             if let Some(item) = self.kept.take() {
                 return Ok(item);

@@ -150,16 +150,24 @@ impl Sender {
 
     #[inline]
     fn try_send_body(&mut self, body: impl SendCalls) -> Result<u64, TrySendError> {
-        let told = self.handle.try_send(body);
-        match told.code {
-            code::ACCEPTED => Ok(told.number),
-            _ => self.go_on_sending(body, told),
-        }
+        let sent = self.try_send_at_once(body);
+        sent.or_else(|told| self.go_on_sending(body, told))
+    }
+
+    /// Begins a send and turns it once. Where that doesn't tell that the item is accepted,
+    /// `go_on_sending` has to follow.
+    #[inline]
+    pub(crate) fn try_send_at_once(&mut self, body: impl SendCalls) -> Result<u64, Told> {
+        self.handle.try_send(body)
     }
 
     /// Goes on where the first turn didn't tell that the item is accepted.
     #[inline(never)]
-    fn go_on_sending(&mut self, body: impl SendCalls, mut told: Told) -> Result<u64, TrySendError> {
+    pub(crate) fn go_on_sending(
+        &mut self,
+        body: impl SendCalls,
+        mut told: Told,
+    ) -> Result<u64, TrySendError> {
         loop {
             match told.code {
                 code::WAITING => return turn_until(|long| self.turn_send(long)),
@@ -167,7 +175,10 @@ impl Sender {
                 _ if self.stands => self.settle(),
                 _ => return sent(&told),
             }
-            told = self.handle.try_send(body);
+            match self.handle.try_send(body) {
+                Ok(place) => return Ok(place),
+                Err(next) => told = next,
+            }
         }
     }
 
