@@ -18,9 +18,22 @@
  * wait for it. Nobody is woken: who sleeps sees an item at most a millisecond late, and who waits for hours takes a
  * little processor time all the while.
  *
- * A take may try in each of these rounds. A try of a send is a send that was begun, and uses up one of the `per_sender`
- * that its sender may begin: so a send tries after 1, 2, 4, 8, .. of the rounds in which it yields, 17 times before it
- * sleeps, and then after each sleep. It sees room at most about twice as late as if it had tried all the time.
+ * A take may try in each of these rounds, as often as it likes. A try of a send is a send that was begun, and uses up one
+ * of the `per_sender` that its sender may begin, as no call looks for room without beginning a send. So a send tries
+ * seldom: after 1, 2, 4, 8, .. of the rounds in which it yields, 17 times before it sleeps; and its sleeps go on to grow
+ * beyond the millisecond, each by a 32nd, up to a tenth of a second. It sees room at most about twice as late as if it
+ * had tried all the time, and where it has waited for long at most a millisecond and a 32nd of its wait late. A sender
+ * that may begin 2^32 - 1 sends is worn after this time, where each of its sends waits so long:
+ *
+ *     each waits          tries of each      WORN after
+ *     not at all          1                  an hour, where it never pauses
+ *     0.1 ms              17                 seven hours
+ *     1 ms                22                 two days
+ *     10 ms               31                 sixteen days
+ *     a second            135                a year
+ *     without end         ten a second       thirteen years
+ *
+ * README.md says how a program goes on then.
  *
  * Of each call the thread that holds the handle calls. An out-parameter may be NULL, and needs no value before; it is
  * written, with 0 where the code tells nothing of it. All else that vahepito.h says of handles holds here.
@@ -62,7 +75,8 @@ typedef struct {
 enum {
     VAHEPITO_SPINS = 7,           /* so many rounds spin, each twice as long as the one before */
     VAHEPITO_YIELDS = 256,        /* so many rounds more give the processor to another thread */
-    VAHEPITO_LONGEST_SLEEP = 1000 /* how many microseconds a round sleeps at most */
+    VAHEPITO_LONGEST_SLEEP = 1000, /* how many microseconds a round sleeps at most */
+    VAHEPITO_LONGEST_SEND_SLEEP = 100000 /* the same of a send that waits for room */
 };
 
 /* Tells the processor that this thread spins. */
@@ -123,9 +137,16 @@ static inline void vahepito_between_tries(vahepito_backoff *backoff) {
     }
 }
 
-/* The same for a sender, each of whose tries is used up: so many rounds of yields pass as have passed before. */
+/* The same for a sender, each of whose tries is used up: so many rounds of yields pass as have passed before, and a sleep
+ * of a millisecond or more is followed by one that is a 32nd longer, up to a tenth of a second. */
 static inline void vahepito_between_sends(vahepito_backoff *backoff) {
     uint32_t rounds = 1;
+    if (backoff->round >= VAHEPITO_SPINS + VAHEPITO_YIELDS && backoff->microseconds >= VAHEPITO_LONGEST_SLEEP) {
+        vahepito_sleep(backoff->microseconds);
+        backoff->microseconds += backoff->microseconds / 32;
+        if (backoff->microseconds > VAHEPITO_LONGEST_SEND_SLEEP) backoff->microseconds = VAHEPITO_LONGEST_SEND_SLEEP;
+        return;
+    }
     if (backoff->round >= VAHEPITO_SPINS && backoff->round < VAHEPITO_SPINS + VAHEPITO_YIELDS - 1)
         rounds += backoff->round - VAHEPITO_SPINS;
     while (rounds-- > 0) vahepito_between_tries(backoff);
@@ -178,9 +199,8 @@ static inline uint32_t vahepito_finish_take_words(vahepito_pass *receiver, vahep
     return code;
 }
 
-/* Sends a body of so many words, and waits for room. Each try counts as one of the sends that the sender may begin:
- * 17 before it sleeps, and then at most a thousand in a second but for the first few. So a sender that waits again and
- * again is WORN in the end (README.md says when, and how a program goes on).
+/* Sends a body of so many words, and waits for room. Each try counts as one of the sends that the sender may begin (the
+ * head of this header says how many there are), so a sender that waits again and again is WORN in the end.
  * ACCEPTED with the place; CLOSED, SPENT: not accepted, and nothing will be. NO_PASS, WRONG_SIDE, BUSY, WORN: not
  * accepted. BAD_WORDS, LONG: no such body is sent. */
 static inline uint32_t vahepito_send_words(vahepito_pass *sender, const uint64_t *words, size_t count, uint64_t *place) {

@@ -194,21 +194,31 @@ static void *sends_second(void *sender) {
     return NULL;
 }
 
-/* A send that waits tries seldom, since each try is used up: 17 times before it sleeps, and then at most once in a
- * millisecond but for the first few. */
-static void tries_are_few(void) {
+/* How many sends are begun for one that waits for room, and how long that takes: the receiver lets so many times 20 ms
+ * pass before it makes room. */
+static uint32_t tries_in(int rounds, uint64_t *time) {
     vahepito_item item;
     open_for(1, (uint64_t)1 << 48, UINT32_MAX);
     check(vahepito_send(&senders[0], 1, NULL) == VAHEPITO_ACCEPTED, "there is room for one");
     const uint64_t before = milliseconds();
     start(&sending[1], sends_second, &senders[1]);
-    let_them_sleep();
+    while (rounds-- > 0) let_them_sleep();
     check(vahepito_take(&receivers[0], &item, NULL) == VAHEPITO_GOT && item.body == 1, "the first is taken");
     check(!pthread_join(sending[1], NULL), "a sender ends");
-    const uint64_t time = milliseconds() - before;
+    *time = milliseconds() - before;
     check(vahepito_take(&receivers[0], &item, NULL) == VAHEPITO_GOT && item.body == 2, "and the second");
-    check(item.number <= 24 + time, "few sends were begun for it");
     drop_all();
+    return item.number;
+}
+
+/* A send that waits tries seldom, since each try is used up: 17 times before it sleeps, and then at most once in a
+ * millisecond but for the first few; and where it waits for long, more seldom still. */
+static void tries_are_few(void) {
+    uint64_t time;
+    uint32_t tries = tries_in(1, &time);
+    check(tries <= 24 + time, "few sends were begun for it");
+    tries = tries_in(20, &time);
+    check(time >= 400 && tries <= time / 2, "and fewer in each millisecond of a long wait");
 }
 
 int main(void) {
