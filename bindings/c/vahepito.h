@@ -28,6 +28,14 @@
  *
  * No call but the three openings takes memory.
  *
+ * Apart from what is proved, the code does this, since each of its steps on shared words is sequentially consistent and sees
+ * all steps before it; tests look for it:
+ * - A take that begins after a send was answered finds the item, unless another take of its group had it; and a send that
+ *   begins after takes were answered finds the room that they made. "After" is by any order that the program has: on one
+ *   thread, behind a join, a lock or a flag.
+ * - What was written to memory before a send is seen after the take of its item. So a body may be a pointer.
+ * That a call which waits is ever served isn't promised, nor in which order those are that wait.
+ *
  * What the caller owes, and nothing checks:
  * - A handle begins as VAHEPITO_PASS_EMPTY, or all zero, and is filled by an opening alone. Its bytes are neither changed nor copied to a second
  *   handle that is used; a handle may be moved to another place, and the old place is then not used.
