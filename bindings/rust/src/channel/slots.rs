@@ -596,7 +596,8 @@ mod tests {
     fn one_of_many_has_the_item() {
         let mut slots = Slots::of_one_group(8, 1);
         let mut owner = slots.owner();
-        slots.reader().map(|reader| slots.share(reader));
+        let reader = slots.reader().unwrap();
+        slots.share(reader);
         for _ in 0..50 {
             let word = put(&slots, &mut owner, Box::new(7)).unwrap();
             let takes = || slots.take_alone(None, 0, word, &mut Hand::empty());

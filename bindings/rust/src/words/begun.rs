@@ -130,8 +130,10 @@ impl<I: TakeCalls> Begun<I> {
             let Ok(mut call) = place.try_lock() else {
                 continue;
             };
-            let turns = |it: &mut Call<I>| (all || it.gone) && it.turn() && it.gone;
-            if call.as_mut().is_some_and(turns) {
+            let Some(it) = call.as_mut().filter(|it| all || it.gone) else {
+                continue;
+            };
+            if it.turn() && it.gone {
                 *call = None;
                 self.gone.fetch_sub(1, Ordering::SeqCst);
                 self.count.fetch_sub(1, Ordering::SeqCst);
