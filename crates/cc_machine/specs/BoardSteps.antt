@@ -47,6 +47,20 @@ HasRoom h x at = WhileUndecided at (HasAnswerRoom h x)
 abbrev pub stand_of : Stepper → Place → Stand
 stand_of who at = record { begun = who.begun; node = who.node; place = at }
 
+-- where it stands before its step
+abbrev pub place_of : Board → Stepper → Place
+place_of b who = ((state_of b).stand who.pass).place
+
+-- it serves a request of a sender
+abbrev pub IsSending : Place → Type 0
+IsSending (Place.Sending job service) = Unit {0}
+IsSending _ = ⊥
+
+-- it serves a take
+abbrev pub IsTaking : Place → Type 0
+IsTaking (Place.Taking job service) = Unit {0}
+IsTaking _ = ⊥
+
 -- the step of this stepper, at this place, can be done
 pub record CanStep (b : Board) (who : Stepper) (at : Place) : Type 0 where
   pub laid : IsLaid b

@@ -1,5 +1,5 @@
 ghost use Rattle.std.specs.Prelude.{◌≡◌, ◌<◌, ◌/◌, ℕ, Some, length, IfSome, IfNone};
-ghost use Rattle.cc_machine.specs.BoardSteps.{state_of, IsLaid, CanStep, Stepped, stepper_at, Moved};
+ghost use Rattle.cc_machine.specs.BoardSteps.{state_of, place_of, IsLaid, CanStep, Stepped, stepper_at, Moved};
 ghost use Rattle.cc_runs.specs.State.{chain_of};
 ghost use Rattle.cc_runs.specs.Lines.{event_at, group_of};
 ghost use Rattle.cc_machine.specs.Machine.{index_of, waits_at};
@@ -69,13 +69,16 @@ impl Board {
         self.load(Word::Node(self.chain(pass), stand.node, NodeField::State)) == 1
     }
 
-    fn step(&mut self, who: Stepper, place: Place) -> Option<Kind>
-        requires { CanStep self.old who place }
-        ensures some { IfSome result (λ kind. Stepped self.old who place kind self.new) }
+    /// The step at the place where the pass stands. Each arm reads of that place only what its step needs.
+    #[tactic(auto, unfolding(crate::specs::View::state_in))]
+    fn step(&mut self, who: Stepper) -> Option<Kind>
+        requires pass { who.pass < length self.old.stands.items }
+        requires can { CanStep self.old who (place_of self.old who) }
+        ensures some { IfSome result (λ kind. Stepped self.old who (place_of self.old who) kind self.new) }
         ensures none { IfNone result (self.new ≡ self.old) }
-        ensures idle { IfNone result (event_at place ≡ Event.Idle) }
+        ensures idle { IfNone result (event_at (place_of self.old who) ≡ Event.Idle) }
     {
-        match place {
+        match self.stands[who.pass].place {
             Place::ResetNext { call } => Some(self.reset_next(who, call)),
             Place::ResetState { call } => Some(self.reset_state(who, call)),
             Place::Exchange { call } => Some(self.exchange(who, call)),
@@ -101,26 +104,26 @@ impl Board {
                 Some(self.read_answer_body(who, parcel, index))
             }
             Place::Counting { job, service } => Some(self.count(who, job, service)),
-            Place::Sending { job, service } => Some(self.send(who, job, service)),
-            Place::Taking { job, service } => Some(self.take(who, job, service)),
+            Place::Sending { .. } => Some(self.send(who)),
+            Place::Taking { .. } => Some(self.take(who)),
             Place::Idle | Place::Finished { .. } => None,
         }
     }
 
     /// The next atomic step of a pass, where it has one.
+    #[tactic(auto, unfolding(crate::specs::View::state_in))]
     pub fn event(&mut self, pass: usize) -> Event
         requires pass { pass < length self.old.stands.items }
         requires can { CanStep self.old (stepper_at self.old pass) ((state_of self.old).stand pass).place }
         ensures { Moved self.old pass result self.new }
     {
-        let stand = self.stand(pass);
         let who = Stepper {
             pass,
             chain: self.chain(pass),
-            begun: stand.begun,
-            node: stand.node,
+            begun: self.stands[pass].begun,
+            node: self.stands[pass].node,
         };
-        match self.step(who, stand.place) {
+        match self.step(who) {
             Some(kind) => Event::Did(kind),
             None => Event::Idle,
         }

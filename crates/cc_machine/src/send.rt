@@ -1,4 +1,5 @@
-ghost use Rattle.cc_machine.specs.BoardSteps.{CanStep, Stepped};
+ghost use Rattle.std.specs.Prelude.{◌<◌, length};
+ghost use Rattle.cc_machine.specs.BoardSteps.{place_of, IsSending, CanStep, Stepped};
 
 use crate::board::{Board, Stepper};
 use cc_model::{Answer, CloseAnswer, SendAnswer};
@@ -384,11 +385,18 @@ impl Board {
         Kind::WriteObject
     }
 
-    pub fn send(&mut self, who: Stepper, job: Job, service: Sending) -> Kind
-        requires { CanStep self.old who (Place.Sending job service) }
-        ensures { Stepped self.old who (Place.Sending job service) result self.new }
+    #[tactic(auto, unfolding(crate::specs::View::state_in))]
+    pub fn send(&mut self, who: Stepper) -> Kind
+        requires pass { who.pass < length self.old.stands.items }
+        requires at { IsSending (place_of self.old who) }
+        requires can { CanStep self.old who (place_of self.old who) }
+        ensures { Stepped self.old who (place_of self.old who) result self.new }
     {
-        match service {
+        let Place::Sending { job, service } = &self.stands[who.pass].place else {
+            unreachable!()
+        };
+        let job = *job;
+        match *service {
             Sending::ReadTag => self.read_tag(who, job),
             Sending::ReadBody { request, index } => self.read_body(who, job, request, index),
             Sending::ReadShut { request } => self.read_shut(who, job, request),

@@ -1,4 +1,5 @@
-ghost use Rattle.cc_machine.specs.BoardSteps.{CanStep, Stepped};
+ghost use Rattle.std.specs.Prelude.{◌<◌, length};
+ghost use Rattle.cc_machine.specs.BoardSteps.{place_of, IsTaking, CanStep, Stepped};
 
 use crate::board::{Board, Stepper};
 use cc_model::{Answer, TakeAnswer};
@@ -170,11 +171,18 @@ impl Board {
         Kind::AddPassed
     }
 
-    pub fn take(&mut self, who: Stepper, job: Job, service: Taking) -> Kind
-        requires { CanStep self.old who (Place.Taking job service) }
-        ensures { Stepped self.old who (Place.Taking job service) result self.new }
+    #[tactic(auto, unfolding(crate::specs::View::state_in))]
+    pub fn take(&mut self, who: Stepper) -> Kind
+        requires pass { who.pass < length self.old.stands.items }
+        requires at { IsTaking (place_of self.old who) }
+        requires can { CanStep self.old who (place_of self.old who) }
+        ensures { Stepped self.old who (place_of self.old who) result self.new }
     {
-        match service {
+        let Place::Taking { job, service } = &self.stands[who.pass].place else {
+            unreachable!()
+        };
+        let job = *job;
+        match *service {
             Taking::ReadHead => self.read_head(who, job),
             Taking::ReadTaken { dummy } => self.read_taken(who, job, dummy),
             Taking::ReadDummyNext { dummy, taken } => self.read_dummy_next(who, job, dummy, taken),
