@@ -28,8 +28,8 @@ impl Board {
         requires { CanStep self.old who (Place.ResetNext call) }
         ensures { Stepped self.old who (Place.ResetNext call) result self.new }
     {
-        self.store(Word::Node(who.chain, who.node, NodeField::Next), 0);
         self.go(who, Place::ResetState { call });
+        self.store(Word::Node(who.chain, who.node, NodeField::Next), 0);
         Kind::ResetNext
     }
 
@@ -37,8 +37,8 @@ impl Board {
         requires { CanStep self.old who (Place.ResetState call) }
         ensures { Stepped self.old who (Place.ResetState call) result self.new }
     {
-        self.store(Word::Node(who.chain, who.node, NodeField::State), 1);
         self.go(who, Place::Exchange { call });
+        self.store(Word::Node(who.chain, who.node, NodeField::State), 1);
         Kind::ResetState
     }
 
@@ -49,7 +49,6 @@ impl Board {
         let word = Word::Tail(who.chain);
         let found = self.load(word);
         self.enter(who.chain, call);
-        self.store(word, who.node + 1);
         let place = match who.chain {
             Chain::Send => Place::WriteTag {
                 put: who.node,
@@ -64,6 +63,7 @@ impl Board {
             },
             place,
         );
+        self.store(word, who.node + 1);
         Kind::Exchange
     }
 
@@ -71,7 +71,6 @@ impl Board {
         requires { CanStep self.old who (Place.WriteTag put request) }
         ensures { Stepped self.old who (Place.WriteTag put request) result self.new }
     {
-        self.store(Word::Node(who.chain, who.node, NodeField::Tag), request.tag);
         self.go(
             who,
             Place::WriteBody {
@@ -80,6 +79,7 @@ impl Board {
                 index: 0,
             },
         );
+        self.store(Word::Node(who.chain, who.node, NodeField::Tag), request.tag);
         Kind::WriteRequest
     }
 
@@ -87,10 +87,6 @@ impl Board {
         requires { CanStep self.old who (Place.WriteBody put request index) }
         ensures { Stepped self.old who (Place.WriteBody put request index) result self.new }
     {
-        self.store(
-            Word::Node(who.chain, who.node, NodeField::Body(index)),
-            request.body.word(index),
-        );
         let place = if index < further_words(request.tag) {
             Place::WriteBody {
                 put,
@@ -101,6 +97,10 @@ impl Board {
             Place::Link { put }
         };
         self.go(who, place);
+        self.store(
+            Word::Node(who.chain, who.node, NodeField::Body(index)),
+            request.body.word(index),
+        );
         Kind::WriteRequest
     }
 
@@ -108,8 +108,8 @@ impl Board {
         requires { CanStep self.old who (Place.Link put) }
         ensures { Stepped self.old who (Place.Link put) result self.new }
     {
-        self.store(Word::Node(who.chain, who.node, NodeField::Next), put + 1);
         self.go(who, Place::ReadState);
+        self.store(Word::Node(who.chain, who.node, NodeField::Next), put + 1);
         Kind::Link
     }
 
@@ -168,15 +168,15 @@ impl Board {
         requires { CanStep self.old who (Place.WriteAnswer job answer) }
         ensures { Stepped self.old who (Place.WriteAnswer job answer) result self.new }
     {
-        self.store(
-            Word::Node(who.chain, job.round.at, NodeField::Ret),
-            ret_of(self.setting.served, answer),
-        );
         let place = match answer {
             Answer::Take(TakeAnswer::Got(item)) => Place::WriteAnswerTag { job, item },
             _ => Place::MarkDone { job },
         };
         self.go(who, place);
+        self.store(
+            Word::Node(who.chain, job.round.at, NodeField::Ret),
+            ret_of(self.setting.served, answer),
+        );
         Kind::WriteAnswer
     }
 
@@ -184,10 +184,6 @@ impl Board {
         requires { CanStep self.old who (Place.WriteAnswerTag job item) }
         ensures { Stepped self.old who (Place.WriteAnswerTag job item) result self.new }
     {
-        self.store(
-            Word::Node(who.chain, job.round.at, NodeField::Tag),
-            tag_of(item),
-        );
         self.go(
             who,
             Place::WriteAnswerBody {
@@ -196,6 +192,10 @@ impl Board {
                 index: 0,
             },
         );
+        self.store(
+            Word::Node(who.chain, job.round.at, NodeField::Tag),
+            tag_of(item),
+        );
         Kind::WriteAnswer
     }
 
@@ -203,10 +203,6 @@ impl Board {
         requires { CanStep self.old who (Place.WriteAnswerBody job item index) }
         ensures { Stepped self.old who (Place.WriteAnswerBody job item index) result self.new }
     {
-        self.store(
-            Word::Node(who.chain, job.round.at, NodeField::Body(index)),
-            body_words(item).word(index),
-        );
         let place = if index < further_words(tag_of(item)) {
             Place::WriteAnswerBody {
                 job,
@@ -217,6 +213,10 @@ impl Board {
             Place::MarkDone { job }
         };
         self.go(who, place);
+        self.store(
+            Word::Node(who.chain, job.round.at, NodeField::Body(index)),
+            body_words(item).word(index),
+        );
         Kind::WriteAnswer
     }
 
@@ -224,7 +224,6 @@ impl Board {
         requires { CanStep self.old who (Place.MarkDone job) }
         ensures { Stepped self.old who (Place.MarkDone job) result self.new }
     {
-        self.store(Word::Node(who.chain, job.round.at, NodeField::State), 2);
         let served = job.round.served + 1;
         let place = if served == self.setting.config.bound {
             Place::HandOver { at: job.next }
@@ -237,6 +236,7 @@ impl Board {
             }
         };
         self.go(who, place);
+        self.store(Word::Node(who.chain, job.round.at, NodeField::State), 2);
         Kind::MarkDone
     }
 
@@ -244,8 +244,8 @@ impl Board {
         requires { CanStep self.old who (Place.HandOver at) }
         ensures { Stepped self.old who (Place.HandOver at) result self.new }
     {
-        self.store(Word::Node(who.chain, at, NodeField::State), 0);
         self.go(who, Place::ReadAnswer);
+        self.store(Word::Node(who.chain, at, NodeField::State), 0);
         Kind::HandOver
     }
 

@@ -59,8 +59,8 @@ impl Board {
     {
         let answer = Answer::Send(SendAnswer::Accepted { place: count });
         self.decide(who.chain, answer);
-        self.store(Word::Object(Object::Count), count + 1);
         self.go(who, Place::WriteAnswer { job, answer });
+        self.store(Word::Object(Object::Count), count + 1);
         Kind::WriteObject
     }
 

@@ -140,7 +140,6 @@ impl Board {
         let answer = Answer::Close(CloseAnswer::Shut { total });
         self.decide(who.chain, answer);
         let mark = self.setting.config.capacity as u64 + 1;
-        self.store(Word::Item(last, ItemField::Next), mark + 1);
         self.go(
             who,
             Place::Sending {
@@ -148,6 +147,7 @@ impl Board {
                 service: Sending::WriteLastMark { total },
             },
         );
+        self.store(Word::Item(last, ItemField::Next), mark + 1);
         Kind::LinkLast
     }
 
@@ -156,7 +156,6 @@ impl Board {
         ensures { Stepped self.old who (Place.Sending job (Sending.WriteLastMark total)) result self.new }
     {
         let mark = self.setting.config.capacity as u64 + 1;
-        self.store(Word::Object(Object::Last), mark + 1);
         self.go(
             who,
             Place::Sending {
@@ -164,6 +163,7 @@ impl Board {
                 service: Sending::WriteShut { total },
             },
         );
+        self.store(Word::Object(Object::Last), mark + 1);
         Kind::WriteObject
     }
 
@@ -171,9 +171,9 @@ impl Board {
         requires { CanStep self.old who (Place.Sending job (Sending.WriteShut total)) }
         ensures { Stepped self.old who (Place.Sending job (Sending.WriteShut total)) result self.new }
     {
-        self.store(Word::Object(Object::Shut), 1);
         let answer = Answer::Close(CloseAnswer::Shut { total });
         self.go(who, Place::WriteAnswer { job, answer });
+        self.store(Word::Object(Object::Shut), 1);
         Kind::WriteObject
     }
 
@@ -232,7 +232,6 @@ impl Board {
         requires { CanStep self.old who (Place.Sending job (Sending.ResetPassed parcel node)) }
         ensures { Stepped self.old who (Place.Sending job (Sending.ResetPassed parcel node)) result self.new }
     {
-        self.store(Word::Item(node, ItemField::Passed), 0);
         self.go(
             who,
             Place::Sending {
@@ -240,6 +239,7 @@ impl Board {
                 service: Sending::ResetItemNext { parcel, node },
             },
         );
+        self.store(Word::Item(node, ItemField::Passed), 0);
         Kind::ResetListNode
     }
 
@@ -247,7 +247,6 @@ impl Board {
         requires { CanStep self.old who (Place.Sending job (Sending.ResetItemNext parcel node)) }
         ensures { Stepped self.old who (Place.Sending job (Sending.ResetItemNext parcel node)) result self.new }
     {
-        self.store(Word::Item(node, ItemField::Next), 0);
         self.go(
             who,
             Place::Sending {
@@ -255,6 +254,7 @@ impl Board {
                 service: Sending::WriteItemTag { parcel, node },
             },
         );
+        self.store(Word::Item(node, ItemField::Next), 0);
         Kind::ResetListNode
     }
 
@@ -262,7 +262,6 @@ impl Board {
         requires { CanStep self.old who (Place.Sending job (Sending.WriteItemTag parcel node)) }
         ensures { Stepped self.old who (Place.Sending job (Sending.WriteItemTag parcel node)) result self.new }
     {
-        self.store(Word::Item(node, ItemField::Tag), parcel.tag);
         self.go(
             who,
             Place::Sending {
@@ -274,6 +273,7 @@ impl Board {
                 },
             },
         );
+        self.store(Word::Item(node, ItemField::Tag), parcel.tag);
         Kind::WriteItem
     }
 
@@ -288,10 +288,6 @@ impl Board {
         requires { CanStep self.old who (Place.Sending job (Sending.WriteItemBody parcel node index)) }
         ensures { Stepped self.old who (Place.Sending job (Sending.WriteItemBody parcel node index)) result self.new }
     {
-        self.store(
-            Word::Item(node, ItemField::Body(index)),
-            parcel.body.word(index),
-        );
         let service = if index < further_words(parcel.tag) {
             Sending::WriteItemBody {
                 parcel,
@@ -305,6 +301,10 @@ impl Board {
             }
         };
         self.go(who, Place::Sending { job, service });
+        self.store(
+            Word::Item(node, ItemField::Body(index)),
+            parcel.body.word(index),
+        );
         Kind::WriteItem
     }
 
@@ -333,7 +333,6 @@ impl Board {
     {
         let answer = Answer::Send(SendAnswer::Accepted { place });
         self.decide(who.chain, answer);
-        self.store(Word::Item(last, ItemField::Next), node + 1);
         self.go(
             who,
             Place::Sending {
@@ -341,6 +340,7 @@ impl Board {
                 service: Sending::WriteLast { place, node },
             },
         );
+        self.store(Word::Item(last, ItemField::Next), node + 1);
         Kind::LinkLast
     }
 
@@ -348,7 +348,6 @@ impl Board {
         requires { CanStep self.old who (Place.Sending job (Sending.WriteLast place node)) }
         ensures { Stepped self.old who (Place.Sending job (Sending.WriteLast place node)) result self.new }
     {
-        self.store(Word::Object(Object::Last), node + 1);
         self.go(
             who,
             Place::Sending {
@@ -356,6 +355,7 @@ impl Board {
                 service: Sending::WriteCount { place, node },
             },
         );
+        self.store(Word::Object(Object::Last), node + 1);
         Kind::WriteObject
     }
 
@@ -363,7 +363,6 @@ impl Board {
         requires { CanStep self.old who (Place.Sending job (Sending.WriteCount place node)) }
         ensures { Stepped self.old who (Place.Sending job (Sending.WriteCount place node)) result self.new }
     {
-        self.store(Word::Object(Object::Count), place + 1);
         self.go(
             who,
             Place::Sending {
@@ -371,6 +370,7 @@ impl Board {
                 service: Sending::WriteCursor { place, node },
             },
         );
+        self.store(Word::Object(Object::Count), place + 1);
         Kind::WriteObject
     }
 
@@ -379,9 +379,9 @@ impl Board {
         ensures { Stepped self.old who (Place.Sending job (Sending.WriteCursor place node)) result self.new }
     {
         let ordinary = self.setting.config.capacity as u64 + 1;
-        self.store(Word::Object(Object::Cursor), node_after(node, ordinary));
         let answer = Answer::Send(SendAnswer::Accepted { place });
         self.go(who, Place::WriteAnswer { job, answer });
+        self.store(Word::Object(Object::Cursor), node_after(node, ordinary));
         Kind::WriteObject
     }
 

@@ -132,7 +132,6 @@ impl Board {
         requires { CanStep self.old who (Place.Taking job (Taking.WriteHead dummy node parcel)) }
         ensures { Stepped self.old who (Place.Taking job (Taking.WriteHead dummy node parcel)) result self.new }
     {
-        self.store(Word::Object(Object::Head(who.group())), node + 1);
         self.go(
             who,
             Place::Taking {
@@ -140,6 +139,7 @@ impl Board {
                 service: Taking::WriteTaken { dummy, parcel },
             },
         );
+        self.store(Word::Object(Object::Head(who.group())), node + 1);
         Kind::WriteObject
     }
 
@@ -147,7 +147,6 @@ impl Board {
         requires { CanStep self.old who (Place.Taking job (Taking.WriteTaken dummy parcel)) }
         ensures { Stepped self.old who (Place.Taking job (Taking.WriteTaken dummy parcel)) result self.new }
     {
-        self.store(Word::Object(Object::Taken(who.group())), parcel.place + 1);
         self.go(
             who,
             Place::Taking {
@@ -155,6 +154,7 @@ impl Board {
                 service: Taking::AddPassed { dummy, parcel },
             },
         );
+        self.store(Word::Object(Object::Taken(who.group())), parcel.place + 1);
         Kind::WriteObject
     }
 
@@ -166,8 +166,8 @@ impl Board {
         let found = self.load(word);
         let answer = Answer::Take(TakeAnswer::Got(item_of(parcel.place, parcel.tag, parcel.body)));
         self.decide(who.chain, answer);
-        self.store(word, found + 1);
         self.go(who, Place::WriteAnswer { job, answer });
+        self.store(word, found + 1);
         Kind::AddPassed
     }
 
