@@ -95,7 +95,7 @@ there_side s n (Chain.Take g) h ok e = omega (arith, group_in s n g ok, e)
 pub has_side : (b : Board) → IsLawful b → (p : ℕ) → p < passes b.setting → HasSide (chain_of b.setting.config p) (state_of b).history
 has_side b l p near = there_side b.setting.served (groups b.setting.config) (chain_of b.setting.config p) (state_of b).history (chain_is b.setting p near) (many_sides b l)
 
-is_there : (s : Served) (c : Config) (x : Chain) → IsChainOf s (groups c) x → IsThere c x
+pub is_there : (s : Served) (c : Config) (x : Chain) → IsChainOf s (groups c) x → IsThere c x
 is_there s c Chain.Send ok = tt
 is_there s c (Chain.Take g) ok = group_in s (groups c) g ok
 

@@ -2,7 +2,7 @@
 use Rattle.std.proofs.Common.{◌≡◌, ◌≢◌, ◌<◌, arith, ℕ, length, Option, Some, None, Result, Ok, Err, OnOk, OnErr, refl, sym, ap, subst, ◌∙◌}
 use Rattle.cc_model.specs.Record.{Record, empty, of_group}
 use Rattle.cc_model.specs.HistoryRoom.{lists}
-use Rattle.cc_machine.specs.Names.{Call, Answer, Setting, Served, BeginFault, Known, Chain, Board, Event, Place, Sending}
+use Rattle.cc_machine.specs.Names.{Call, Answer, Config, Setting, Served, BeginFault, Known, Chain, Board, Event, Place, Sending}
 use Rattle.cc_runs.specs.State.{State, chain_of, word_of}
 use Rattle.cc_runs.specs.Lines.{operation, enters, decides}
 use Rattle.cc_runs.specs.Step.{stepped}
@@ -18,7 +18,10 @@ use Rattle.cc_runs.specs.Run.{passes}
 use Rattle.cc_runs.proofs.Chains.Registers.{HasSide}
 use Rattle.cc_machine.specs.Known.{HasCounted}
 use Rattle.cc_machine.specs.Lawful.{IsLawful, IsMachine}
-use Rattle.cc_machine.proofs.LawfulMoves.{history_in, has_side}
+use Rattle.cc_machine.proofs.LawfulMoves.{history_in, has_side, is_there}
+use Rattle.cc_runs.specs.OnChain.{IsThere}
+use Rattle.cc_runs.proofs.Ranges.{in_range}
+use Rattle.cc_runs.proofs.Chains.Serving.{chain_is}
 use Rattle.cc_machine.proofs.KnownMoves.{IsCounted, counted, counted_still}
 
 -- ---- calls that leave the history
@@ -69,6 +72,22 @@ machine_opened b c k is l same opened i =
 
 -- ---- a step
 
+-- a step leaves the setting
+pub stepped_setting : (v w : View) (p : ℕ) (e : Event) → HasStepped v (Some p) e w → w.setting ≡ v.setting
+stepped_setting v w p (Event.Did kind) h = h.setting
+stepped_setting v w p Event.Idle h = ap (λ (m : View). m.setting) h
+
+group_there : (c : Config) (x : Chain) → 0 < groups c → IsThere c x → group_of x < groups c
+group_there c Chain.Send some there = some
+group_there c (Chain.Take g) some there = there
+
+-- the group of a pass is one of the history
+pub group_inside : (b : Board) (p : ℕ) → IsLawful b → p < passes b.setting → group_of (chain_of b.setting.config p) < length b.history.takes
+group_inside b p l near =
+    let some : 0 < groups b.setting.config = omega (arith, (in_range b.setting.config l.checked).groups) in
+    let within = group_there b.setting.config (chain_of b.setting.config p) some (is_there b.setting.served b.setting.config (chain_of b.setting.config p) (chain_is b.setting p near)) in
+    omega (arith, within, l.laid.groups)
+
 -- an answer is only decided where a call has none
 decided : (c : Setting) (at : Place) (found : ℕ) (P : Type 0) → WhileUndecided at P → decides c at found ≢ None → P
 decided c (Place.Counting job service) found P waits some = waits
@@ -98,14 +117,12 @@ idle old new k n g inside m l is c =
     machine new n (ap (λ (z : View). z.setting.served) is ∙ m.served_is) l
     (counted_still (lists old.history) (lists new.history) k n g (few_groups old g m.lawful.laid inside) (ap (λ (z : View). z.history) is) (counted_in old k m) c)
 
-pub machine_stepped : (old new : Board) (k n : Known) (i : Option ℕ) (g : ℕ) (e : Event) → IsMachine old k → ((p : ℕ) → i ≡ Some p → p < passes old.setting) → ((p : ℕ) → i ≡ Some p → IsReady old.setting (state_of old) p) → IsLawful new →
-    ((p : ℕ) → i ≡ Some p → group_of (chain_of old.setting.config p) ≡ g) → g < length old.history.takes →
-    HasStepped (view_of old) i e (view_of new) → HasCounted k (lists new.history) (length old.history.sends.lists.answers) g (length (of_group (lists old.history) g).answers) n → IsMachine new n
-machine_stepped old new k n None g (Event.Did kind) m near ready l at inside h c = absurd h
-machine_stepped old new k n None g Event.Idle m near ready l at inside h c = idle old new k n g inside m l h c
-machine_stepped old new k n (Some p) g Event.Idle m near ready l at inside h c = idle old new k n g inside m l h c
-machine_stepped old new k n (Some p) g (Event.Did kind) m near ready l at inside h c =
+pub machine_stepped : (old new : Board) (k n : Known) (p g : ℕ) (e : Event) → IsMachine old k → p < passes old.setting → IsReady old.setting (state_of old) p → IsLawful new →
+    group_of (chain_of old.setting.config p) ≡ g → g < length old.history.takes →
+    HasStepped (view_of old) (Some p) e (view_of new) → HasCounted k (lists new.history) (length old.history.sends.lists.answers) g (length (of_group (lists old.history) g).answers) n → IsMachine new n
+machine_stepped old new k n p g Event.Idle m near ready l at inside h c = idle old new k n g inside m l h c
+machine_stepped old new k n p g (Event.Did kind) m near ready l at inside h c =
     machine new n (ap (λ (z : Setting). z.served) h.setting ∙ m.served_is) l
-    (stepped_counts old.setting (state_of old) p g (lists new.history) k n (few_groups old g m.lawful.laid inside) (has_side old m.lawful p (near p refl)) (at p refl) (ready p refl) (sym (history_in (view_of new)) ∙ ap (λ (s : State). s.history) h.state)
+    (stepped_counts old.setting (state_of old) p g (lists new.history) k n (few_groups old g m.lawful.laid inside) (has_side old m.lawful p near) at ready (sym (history_in (view_of new)) ∙ ap (λ (s : State). s.history) h.state)
     (subst (λ (z : Record). IsCounted z k) (sym (history_in (view_of old))) (counted_in old k m))
     (subst (λ (z : Record). HasCounted k (lists new.history) (length z.sends.answers) g (length (of_group z g).answers) n) (sym (history_in (view_of old))) c))

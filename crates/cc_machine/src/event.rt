@@ -1,12 +1,10 @@
-ghost use Rattle.std.specs.Prelude.{◌≡◌, ◌<◌, ◌/◌, ℕ, Some, length, IfSome, IfNone};
+ghost use Rattle.std.specs.Prelude.{◌≡◌, ◌<◌, ◌/◌, length, IfSome, IfNone};
 ghost use Rattle.cc_machine.specs.BoardSteps.{state_of, place_of, IsLaid, CanStep, Stepped, stepper_at, Moved};
 ghost use Rattle.cc_runs.specs.State.{chain_of};
-ghost use Rattle.cc_runs.specs.Lines.{event_at, group_of};
-ghost use Rattle.cc_machine.specs.Machine.{index_of, waits_at};
+ghost use Rattle.cc_runs.specs.Lines.{event_at};
+ghost use Rattle.cc_machine.specs.Machine.{waits_at};
 
 use crate::board::{Board, Stepper};
-use crate::row::row;
-use cc_model::Pass;
 use cc_runs::{Chain, Event, Kind, NodeField, Place, Stand, Word};
 
 /// A quotient, without a division where it is 0, as is the group of every receiver where there is one group.
@@ -40,19 +38,18 @@ impl Board {
         }
     }
 
-    /// The group of a receiver, from 0; 0 for a sender, and for a name that no pass has.
-    pub fn group(&self, pass: Pass) -> usize
+    /// The pass at this place of the row, as it stands.
+    #[tactic(auto, unfolding(crate::specs::View::state_in))]
+    pub fn stepper(&self, pass: usize) -> Stepper
         requires laid { IsLaid self.now }
-        requires some { 0 < length self.now.history.takes }
-        ensures chain { (p : ℕ) → index_of self.now.setting pass ≡ Some p → group_of (chain_of self.now.setting.config p) ≡ result }
-        ensures inside { result < length self.now.history.takes }
+        requires pass { pass < length self.now.stands.items }
+        ensures { result ≡ stepper_at self.now pass }
     {
-        let Some(place) = row(&self.setting, pass) else {
-            return 0;
-        };
-        match self.chain(place) {
-            Chain::Send => 0,
-            Chain::Take(group) => group as usize,
+        Stepper {
+            pass,
+            chain: self.chain(pass),
+            begun: self.stands[pass].begun,
+            node: self.stands[pass].node,
         }
     }
 
@@ -111,18 +108,12 @@ impl Board {
     }
 
     /// The next atomic step of a pass, where it has one.
-    #[tactic(auto, unfolding(crate::specs::View::state_in))]
-    pub fn event(&mut self, pass: usize) -> Event
-        requires pass { pass < length self.old.stands.items }
-        requires can { CanStep self.old (stepper_at self.old pass) ((state_of self.old).stand pass).place }
-        ensures { Moved self.old pass result self.new }
+    pub fn event(&mut self, who: Stepper) -> Event
+        requires pass { who.pass < length self.old.stands.items }
+        requires who { who ≡ stepper_at self.old who.pass }
+        requires can { CanStep self.old who (place_of self.old who) }
+        ensures { Moved self.old who.pass result self.new }
     {
-        let who = Stepper {
-            pass,
-            chain: self.chain(pass),
-            begun: self.stands[pass].begun,
-            node: self.stands[pass].node,
-        };
         match self.step(who) {
             Some(kind) => Event::Did(kind),
             None => Event::Idle,

@@ -92,10 +92,14 @@ impl Machine {
         ensures state { HasStepped self.old (index_of self.old.setting pass) result self.new }
         ensures run { IsReached self.new }
     {
+        let Some(index) = row(&self.board.setting, pass) else {
+            return Event::Idle;
+        };
+        let who = self.board.stepper(index);
+        let group = who.group() as usize;
         let sent = self.board.history.sends().answers().len();
-        let group = self.board.group(pass);
         let taken = self.board.history.takes(group).answers().len();
-        let event = self.board.event_by(pass);
+        let event = self.board.event_of(who);
         self.known.count(&self.board.history, sent, group, taken);
         event
     }

@@ -4,15 +4,15 @@ ghost use Rattle.std.specs.Bool.{OnTrue};
 ghost use Rattle.cc_model.specs.Config.{config_fault};
 ghost use Rattle.cc_model.specs.Items.{known_at};
 ghost use Rattle.cc_runs.specs.Ready.{IsReady};
-ghost use Rattle.cc_machine.specs.BoardSteps.{view_of, state_of, side_room, IsLaid};
+ghost use Rattle.cc_machine.specs.BoardSteps.{view_of, state_of, stepper_at, side_room, IsLaid};
 ghost use Rattle.cc_runs.specs.Run.{passes};
-ghost use Rattle.cc_machine.specs.Machine.{IsOpened, OnSide, index_of, begin_fault, IsBeginFault, HasBegun, event_of, HasStepped, answer_of, HasTaken};
+ghost use Rattle.cc_machine.specs.Machine.{IsOpened, OnSide, index_of, begin_fault, IsBeginFault, HasBegun, event_in, event_of, HasStepped, answer_of, HasTaken};
 ghost use Rattle.cc_runs.specs.Opening.{IsOpenFault};
 ghost use Rattle.cc_runs.specs.OnChain.{IsThere};
 ghost use Rattle.cc_machine.specs.Lawful.{if_to_come, to_come, all_coming, HasRoomToCome, LacksRoom, IsLawful};
 ghost use Rattle.cc_runs.specs.State.{chain_of};
 
-use crate::board::Board;
+use crate::board::{Board, Stepper};
 use crate::fault::BeginFault;
 use crate::open::open;
 use crate::row::row;
@@ -158,6 +158,19 @@ impl Board {
         Ok(())
     }
 
+    /// Does the next step of a pass as it stands, where it has one.
+    pub fn event_of(&mut self, who: Stepper) -> Event
+        requires lawful { IsLawful self.old }
+        requires pass { who.pass < passes self.old.setting }
+        requires who { who ≡ stepper_at self.old who.pass }
+        requires ready { (p : ℕ) → p < passes self.old.setting → IsReady self.old.setting (state_of self.old) p }
+        ensures event { result ≡ event_in (view_of self.old) (Some who.pass) }
+        ensures state { HasStepped (view_of self.old) (Some who.pass) result (view_of self.new) }
+        ensures lawful { IsLawful self.new }
+    {
+        self.event(who)
+    }
+
     /// Does the next step of a pass, where it has one.
     pub fn event_by(&mut self, pass: Pass) -> Event
         requires lawful { IsLawful self.old }
@@ -167,7 +180,10 @@ impl Board {
         ensures lawful { IsLawful self.new }
     {
         match row(&self.setting, pass) {
-            Some(index) => self.event(index),
+            Some(index) => {
+                let who = self.stepper(index);
+                self.event_of(who)
+            }
             None => Event::Idle,
         }
     }
