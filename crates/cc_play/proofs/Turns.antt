@@ -145,7 +145,7 @@ module _ (plan : PlanValue) (who : Pass) (row : ℕ) (named : index_of (setting_
 
   -- the pass had a step
   pub did_turned : (m m1 m2 : View) (begun : List ℕ) (kind : Kind) (a : Option Answer) → Event.Did kind ≡ event_of m who → HasStepped m (index_of m.setting who) (Event.Did kind) m1
-      → a ≡ answer_of m1 who → HasTaken m1 (index_of m1.setting who) a m2 → HasTurned plan who row m m2 begun begun true
+      → a ≡ answer_of m1 who → HasTaken m1 (index_of m1.setting who) a m2 → HasTurned plan who row m m2 begun begun (Event.Did kind)
   did_turned m m1 m2 begun kind a is did told took = record {
     at = λ run at.
         let does : event_at (place_in plan run row) ≡ Event.Did kind = sym (is ∙ event_here m begun run at) in
@@ -157,7 +157,7 @@ module _ (plan : PlanValue) (who : Pass) (row : ℕ) (named : index_of (setting_
   pub begun_turned : (m m1 m2 m3 : View) (begun : List ℕ) (k : Call) (e : Event) (a : Option Answer) → row < length begun → next_call plan who (get_or begun row 0) ≡ Some k
       → ((state_in m).stand row).place ≡ Place.Idle → HasBody k → begin_fault m who k ≡ Ok tt → HasBegun m (index_of m.setting who) k (known_at who m.history) m1
       → e ≡ event_of m1 who → HasStepped m1 (index_of m1.setting who) e m2
-      → a ≡ answer_of m2 who → HasTaken m2 (index_of m2.setting who) a m3 → HasTurned plan who row m m3 begun (set begun row (get_or begun row 0 + 1)) true
+      → a ≡ answer_of m2 who → HasTaken m2 (index_of m2.setting who) a m3 → HasTurned plan who row m m3 begun (set begun row (get_or begun row 0 + 1)) (Event.Did Kind.ResetNext)
   unfolding turn
   begun_turned m m1 m2 m3 begun k e a within next idle whole free begin is did told took = record {
     at = λ run at.
@@ -170,7 +170,7 @@ module _ (plan : PlanValue) (who : Pass) (row : ℕ) (named : index_of (setting_
 
   -- the pass had neither a step nor a call to begin
   pub none_turned : (m m1 : View) (begun : List ℕ) → row < length begun → told_at ((state_in m).stand row).place ≡ None → Event.Idle ≡ event_of m who → HasStepped m (index_of m.setting who) Event.Idle m1
-      → next_call plan who (get_or begun row 0) ≡ None → HasTurned plan who row m m1 begun begun false
+      → next_call plan who (get_or begun row 0) ≡ None → HasTurned plan who row m m1 begun begun Event.Idle
   none_turned m m1 begun inside untold is did next = record {
     at = λ run at. rw (unmoved run at) (still run at);
     ended = λ run at more. ended run (stepless run at) (none run at);
@@ -217,24 +217,25 @@ module _ (plan : PlanValue) (who : Pass) (row : ℕ) (named : index_of (setting_
       subst (λ (k : ℕ). IsAt plan m begun (turns plan who row k run)) next
       (still_turn m begun (turns plan who row (n + more) run) reads same (still_turns m begun run reads same n more at))
 
-  -- a pass that waits reads on to the end of its entry
-  pub waited_turned : (m m1 : View) (begun begun1 : List ℕ) (n events : ℕ) → n < events
-      → ((run : List Move) → IsAt plan m begun run → IsAt plan m1 begun1 (turns plan who row n run)) → StandsStill m1 (index_of m1.setting who)
-      → (run : List Move) → IsAt plan m begun run → IsAt plan m1 begun1 (entry plan who (index_of (setting_of plan) who) events run)
-  waited_turned m m1 begun begun1 n events less turned waits run at =
-      let now : IsAt plan m1 begun1 (turns plan who row n run) = turned run at in
-      let still : StandsStill m1 (Some row) = subst (λ (o : Option ℕ). StandsStill m1 o) (index m1 begun1 (turns plan who row n run) now) waits in
-      let rest : n + (events - n) ≡ events = omega arith in
-      rw named (subst (λ (k : ℕ). IsAt plan m1 begun1 (turns plan who row k run)) rest (still_turns m1 begun1 run still.0 still.1 n (events - n) now))
+  -- a pass that waits after a turn reads on to the end of its entry
+  pub waited_turned : (m m1 m2 : View) (begun begun1 begun2 : List ℕ) (n events : ℕ) {event : Event} → n < events
+      → ((run : List Move) → IsAt plan m begun run → IsAt plan m1 begun1 (turns plan who row n run))
+      → HasTurned plan who row m1 m2 begun1 begun2 event → StandsStill m2 (index_of m2.setting who)
+      → (run : List Move) → IsAt plan m begun run → IsAt plan m2 begun2 (entry plan who (index_of (setting_of plan) who) events run)
+  waited_turned m m1 m2 begun begun1 begun2 n events less turned last waits run at =
+      let now : IsAt plan m2 begun2 (turns plan who row (suc n) run) = last.at (turns plan who row n run) (turned run at) in
+      let still : StandsStill m2 (Some row) = subst (λ (o : Option ℕ). StandsStill m2 o) (index m2 begun2 (turns plan who row (suc n) run) now) waits in
+      let rest : suc n + (events - suc n) ≡ events = omega arith in
+      rw named (subst (λ (k : ℕ). IsAt plan m2 begun2 (turns plan who row k run)) rest (still_turns m2 begun2 run still.0 still.1 (suc n) (events - suc n) now))
 
   pub all_turned : (m m' : View) (begun begun' : List ℕ) (n events : ℕ) → n ≡ events
       → ((run : List Move) → IsAt plan m begun run → IsAt plan m' begun' (turns plan who row n run))
       → (run : List Move) → IsAt plan m begun run → IsAt plan m' begun' (entry plan who (index_of (setting_of plan) who) events run)
   all_turned m m' begun begun' n events all turned run at = rw (named, ← all) (turned run at)
 
-  pub no_more_turned : (m m1 m2 : View) (begun begun1 begun2 : List ℕ) (n events : ℕ) {more : Bool} → n < events
+  pub no_more_turned : (m m1 m2 : View) (begun begun1 begun2 : List ℕ) (n events : ℕ) {event : Event} → n < events
       → ((run : List Move) → IsAt plan m begun run → IsAt plan m1 begun1 (turns plan who row n run))
-      → HasTurned plan who row m1 m2 begun1 begun2 more → more ≡ false
+      → HasTurned plan who row m1 m2 begun1 begun2 event → event ≡ Event.Idle
       → (run : List Move) → IsAt plan m begun run → IsAt plan m2 begun2 (entry plan who (index_of (setting_of plan) who) events run)
   no_more_turned m m1 m2 begun begun1 begun2 n events less turned last none run at =
       let now : IsAt plan m2 begun2 (turns plan who row (suc n) run) = last.at (turns plan who row n run) (turned run at) in

@@ -10,7 +10,7 @@ ghost use Rattle.cc_plan.specs.Plan.{plan_value};
 ghost use Rattle.cc_plan.specs.PlanLaws.{Lawful};
 ghost use Rattle.cc_play.specs.Schedule.{setting_of, next_call, IsAt, IsBetweenTurns, HasTurned, entry, run_of};
 
-use cc_machine::{BeginFault, Event, Machine, OpenFault};
+use cc_machine::{BeginFault, Event, Kind, Machine, OpenFault};
 use cc_model::{Call, Pass};
 use cc_plan::Plan;
 use std::alloc::{AllocError, Global};
@@ -46,26 +46,26 @@ fn begin(machine: &mut Machine, pass: Pass, call: Call) -> Result<(), AllocError
 }
 
 /// One event of a pass, before which it begins its next call where it is idle, and after which the answer of a finished
-/// call is taken; whether the pass had an event to do.
+/// call is taken. It answers the event, which is the first step of a call where one began, and Idle where the pass had none.
 fn turn(
     machine: &mut Machine,
     begun: &mut [usize],
     plan: &Plan,
     pass: Pass,
     row: usize,
-) -> Result<bool, AllocError>
+) -> Result<Event, AllocError>
     requires lawful { Lawful (plan_value plan.now) }
     requires pass { index_of (setting_of (plan_value plan.now)) pass ≡ Some row }
     requires row { row < length begun.old }
     requires between { IsBetweenTurns (plan_value plan.now) machine.old begun.old }
-    ensures turned { IfOk result (λ more. HasTurned (plan_value plan.now) pass row machine.old machine.new begun.old begun.new more) }
+    ensures turned { IfOk result (λ event. HasTurned (plan_value plan.now) pass row machine.old machine.new begun.old begun.new event) }
     ensures between { OnOk result (IsBetweenTurns (plan_value plan.now) machine.new begun.new) }
     ensures rows { length begun.new ≡ length begun.old }
 {
     match machine.event(pass) {
-        Event::Did(_) => {
+        Event::Did(kind) => {
             machine.answer(pass);
-            Ok(true)
+            Ok(Event::Did(kind))
         }
         Event::Idle => match next_call(plan, pass, begun[row]) {
             Some(call) => {
@@ -73,9 +73,9 @@ fn turn(
                 begun[row] += 1;
                 machine.event(pass);
                 machine.answer(pass);
-                Ok(true)
+                Ok(Event::Did(Kind::ResetNext))
             }
-            None => Ok(false),
+            None => Ok(Event::Idle),
         },
     }
 }
@@ -101,11 +101,14 @@ fn follow_entry(
         return Ok(());
     };
     for _done in 0..events {
-        if machine.is_waiting(pass) {
-            return Ok(());
-        }
-        if !turn(machine, begun, plan, pass, row)? {
-            return Ok(());
+        match turn(machine, begun, plan, pass, row)? {
+            Event::Did(Kind::ReadState) => {
+                if machine.is_waiting(pass) {
+                    return Ok(());
+                }
+            }
+            Event::Did(_) => {}
+            Event::Idle => return Ok(()),
         }
     }
     Ok(())
