@@ -64,7 +64,9 @@ fn turn(
 {
     match machine.event(pass) {
         Event::Did(kind) => {
-            machine.answer(pass);
+            if kind == Kind::ReadAnswer {
+                machine.answer(pass);
+            }
             Ok(Event::Did(kind))
         }
         Event::Idle => match next_call(plan, pass, begun[row]) {
