@@ -16,7 +16,7 @@ use cc_plan::Plan;
 use std::alloc::{AllocError, Global};
 
 /// The call that a pass makes after so many calls, where the plan has one.
-fn next_call(plan: &Plan, pass: Pass, begun: usize) -> Option<Call>
+pub fn next_call(plan: &Plan, pass: Pass, begun: usize) -> Option<Call>
     ensures call { result ≡ next_call (plan_value plan.now) pass begun }
     ensures countable { IfSome result (λ _. begun < 2 ^ 64 - 1) }
 {
@@ -33,7 +33,7 @@ fn next_call(plan: &Plan, pass: Pass, begun: usize) -> Option<Call>
 }
 
 /// Begins a call that the pass may begin, so that only memory can be refused.
-fn begin(machine: &mut Machine, pass: Pass, call: Call) -> Result<(), AllocError>
+pub fn begin(machine: &mut Machine, pass: Pass, call: Call) -> Result<(), AllocError>
     requires { begin_fault machine.old pass call ≡ Ok tt }
     ensures begun { OnOk result (HasBegun machine.old (index_of machine.old.setting pass) call (known_at pass machine.old.history) machine.new) }
     ensures body { HasBody call }
