@@ -777,6 +777,7 @@ NO_JSON = {
     "word_with_a_leading_zero": words(senders="[[[7,08]]]"),
     "word_too_large_for_a_float": words(senders="[[[7,1e400]]]"),
     "groups_with_a_plus": words(groups="+2"),
+    "text_behind_what_is_no_plan": '{"capacity":0,"bound":0} x',
 }
 
 # Bytes that are no text in UTF-8: name, input.
@@ -882,6 +883,45 @@ REFUSED_PLANS = {
         "pass_name_of_zero_among_groups": words(schedule='[["r9",1],["r0",1]]'),
         "entry_with_a_group": words(schedule='[["r",1,1]]'),
         "receipts_of_words_as_a_plan": '{"version":2,"accepted":[],"taken":[]}',
+        "root_is_an_empty_list": "[]",
+        "unknown_key_first": '{"x":1,' + plan(capacity="0")[1:],
+        "unknown_key_that_begins_as_one_that_is_known": plan(**{"capacit\\u0079s": "1"}),
+        "total_in_a_plan": plan(total="1"),
+        "version_one_as_a_text": plan(version='"1"'),
+        "groups_without_version_two": plan(groups="1"),
+        "capacity_is_a_list": plan(capacity="[2]"),
+        "bound_is_true": plan(bound="true"),
+        "life_is_an_empty_object": plan(life="{}"),
+        "senders_is_a_number": plan(senders="7"),
+        "senders_is_an_empty_object": plan(senders="{}"),
+        "call_is_a_text": plan(senders='[["open"]]'),
+        "body_is_null_behind_another": plan(senders="[[7],[null]]"),
+        "receiver_is_a_text": plan(receivers='["1"]'),
+        "schedule_is_an_empty_object": plan(schedule="{}"),
+        "events_as_a_text": plan(schedule='[["s1","1"]]'),
+        "pass_name_with_a_plus": plan(schedule='[["s+1",1]]'),
+        "pass_name_with_a_letter_behind": plan(schedule='[["s1x",1]]'),
+        "pass_name_of_zero_before_another": plan(schedule='[["s0",100],["r1",100]]'),
+        "pass_name_behind_events_of_zero": plan(schedule='[["s1",0],["s01",1]]'),
+        "without_bound": plan(bound=None),
+        "without_life": plan(life=None),
+        "without_senders": plan(senders=None),
+        "without_receivers": plan(receivers=None),
+        "version_two_first_of_a_plan_of_numbers": '{"version":2,' + ONE[1:],
+        "version_two_alone": '{"version":2}',
+        "version_one_with_groups": words(version="1"),
+        "words_and_an_unknown_key_alone": words(x="1"),
+        "words_without_groups_of_capacity_zero": words(groups=None, capacity="0"),
+        "words_without_capacity": words(capacity=None),
+        "words_without_bound": words(bound=None),
+        "words_without_senders": words(senders=None),
+        "words_without_schedule": words(schedule=None),
+        "groups_is_a_list_of_one": words(groups="[2]"),
+        "close_in_capitals_among_bodies": words(senders='[["Close"]]'),
+        "body_of_one_word_in_a_body": words(senders="[[[[7]]]]"),
+        "body_is_an_empty_object": words(senders="[[{}]]"),
+        "body_is_a_number_before_all_ranges": words(groups="9", capacity="0", bound="0", senders="[[7]]", receivers="[]"),
+        "pass_name_of_a_group_with_a_leading_zero": words(schedule='[["r02",1]]'),
     },
     "P3 version": {
         "version_before_capacity": plan(version="0", capacity="0"),
@@ -890,6 +930,9 @@ REFUSED_PLANS = {
         "version_two_and_an_exponent_alone": plan(version="2e0"),
         "version_two_below_zero_alone": plan(version="-2"),
         "version_two_past_a_word": plan(version="18446744073709551618"),
+        "version_zero": plan(version="0"),
+        "version_three_before_capacity": plan(version="3", capacity="0"),
+        "version_three_first": '{"version":3,' + ONE[1:],
     },
     "P3 groups": {
         "groups_zero": words(groups="0", capacity="0"),
@@ -900,29 +943,39 @@ REFUSED_PLANS = {
         "groups_with_an_exponent": words(groups="2e0"),
         "groups_past_a_word": words(groups="18446744073709551618"),
         "groups_behind_a_duplicate": WORDS[:-1] + ',"groups":9}',
+        "groups_zero_alone": words(groups="0"),
+        "groups_nine_alone": words(groups="9"),
+        "groups_nine_before_all_ranges": words(groups="9", capacity="0", bound="0", receivers="[]"),
     },
     "P3 capacity": {
         "capacity_zero_of_words": words(capacity="0", bound="0"),
         "capacity_past_its_range_of_words": words(capacity="4097", senders="[[[]]]"),
         "capacity_zero": plan(capacity="0", bound="0"),
         "capacity_past_its_range": plan(capacity="4097"),
-        "capacity_below_zero": plan(capacity="-1"),
         "capacity_with_a_point": plan(capacity="2.0"),
         "capacity_with_an_exponent": plan(capacity="2e0"),
         "capacity_of_two_words": plan(capacity="36893488147419103234"),
+        "capacity_zero_alone": plan(capacity="0"),
+        "capacity_behind_bound": changed({"bound": "0", **ROW}, {"bound": "0", "capacity": "0"}),
+        "capacity_past_its_range_of_words_alone": words(capacity="4097"),
+        "capacity_before_the_ranges_behind_it": words(capacity="0", bound="0", senders="[[[]]]", receivers="[]"),
     },
     "P3 bound": {
         "bound_zero": plan(bound="0"),
         "bound_past_its_range": plan(bound="1025"),
         "bound_past_its_range_of_words": words(bound="1025", life="0"),
+        "bound_past_its_range_of_words_alone": words(bound="1025"),
+        "bound_before_the_ranges_behind_it": words(bound="0", life="0", senders="[[[]]]", receivers="[]"),
     },
     "P3 life": {
         "life_past_its_range_of_words": words(life="281474976710657", receivers="[1]"),
         "life_zero": plan(life="0"),
         "life_past_its_range": plan(life="281474976710657"),
-        "life_of_one_and_a_half": plan(life="1.5"),
         "life_too_small_for_a_float": plan(life="1e-400"),
         "life_behind_a_duplicate": ONE[:-1] + ',"life":0}',
+        "life_past_its_range_of_words_alone": words(life="281474976710657"),
+        "life_before_the_ranges_behind_it": plan(life="0", senders="[]", receivers="[]", schedule='[["s1",0]]'),
+        "life_before_the_ranges_behind_it_of_words": words(life="0", senders="[[[]]]", receivers="[]"),
     },
     "P3 senders": {
         "no_senders": plan(senders="[]"),
@@ -942,6 +995,13 @@ REFUSED_PLANS = {
         "no_senders_of_words": words(senders="[]", receivers="[]"),
         "sixty_five_senders_of_words": words(senders="[" + ",".join(["[]"] * 65) + "]"),
         "body_empty_before_receivers": words(senders="[[[]]]", receivers="[1]", schedule='[["s1",0]]'),
+        "body_below_zero_of_a_second_sender": plan(senders="[[7],[-1]]"),
+        "no_senders_before_the_ranges_behind": plan(senders="[]", receivers="[]", schedule='[["s1",0]]'),
+        "no_senders_of_words_alone": words(senders="[]"),
+        "lone_word_with_a_point": words(senders="[[[1.5]]]"),
+        "last_of_two_words_below_zero": words(senders="[[[7,-1]]]"),
+        "body_empty_of_a_second_sender": words(senders="[[[7]],[[]]]"),
+        "body_empty_before_the_ranges_behind": words(senders="[[[]]]", receivers="[]", schedule='[["r3",0]]'),
     },
     "P3 receivers": {
         "one_receiver_of_two_groups": words(receivers="[1]"),
@@ -959,6 +1019,11 @@ REFUSED_PLANS = {
         "no_receivers": plan(receivers="[]"),
         "sixty_five_receivers": plan(receivers="[" + ",".join(["0"] * 65) + "]"),
         "takes_past_their_range": plan(receivers="[65537]"),
+        "takes_past_their_range_behind_others": plan(receivers="[1,65537]"),
+        "no_receivers_before_the_schedule": plan(senders="[[]]", receivers="[]", schedule='[["s1",0]]'),
+        "no_receivers_of_words_before_the_schedule": words(senders="[[[7]]]", receivers="[]", schedule='[["r3",0]]'),
+        "two_receivers_of_three_groups": words(groups="3"),
+        "two_receivers_of_eight_groups": words(groups="8"),
     },
     "P3 schedule": {
         "events_zero": plan(schedule='[["s1",0]]'),
@@ -966,6 +1031,8 @@ REFUSED_PLANS = {
         "events_zero_behind_a_stranger": plan(schedule='[["s2",1],["s1",0]]'),
         "events_zero_of_a_group": words(schedule='[["r3",1],["r2",0]]'),
         "events_past_their_range_of_a_group": words(schedule='[["r2",100001]]'),
+        "events_zero_of_a_stranger": plan(schedule='[["s2",0]]'),
+        "events_zero_of_a_stranger_of_words": words(senders="[[[7]]]", receivers="[0,0]", schedule='[["r3",0]]'),
     },
     "P4 at 0": {
         "stranger_among_receivers": plan(schedule='[["r9",1]]'),
@@ -975,6 +1042,7 @@ REFUSED_PLANS = {
         "stranger_of_a_third_group": words(schedule='[["r3",1],["s2",1]]'),
         "stranger_of_a_second_group": words(groups="1", receivers="[1]", schedule='[["r2",1]]'),
         "stranger_with_one_number_in_each_group": words(receivers="[1,1,1,1]", schedule='[["r5",1],["r4",1]]'),
+        "stranger_among_senders_of_words": words(schedule='[["s2",1]]'),
     },
     "P4 at 1": {
         "stranger_behind_a_sender": plan(senders="[[7],[9]]", schedule='[["s1",1],["s3",1]]'),
@@ -984,6 +1052,8 @@ REFUSED_PLANS = {
         "stranger_behind_the_last_receiver_of_eight_groups": words(
             groups="8", receivers=listed(["0"] * 512), schedule='[["r512",1],["r513",1]]'
         ),
+        "first_of_two_strangers": plan(schedule='[["s1",1],["s3",1],["r2",1]]'),
+        "stranger_behind_a_receiver_of_words": words(schedule='[["r1",1],["r3",1]]'),
     },
 }
 
@@ -993,6 +1063,9 @@ REFUSED_RECEIPTS = {
         "receipts_cut_short": '{"accepted":[],"taken":[]',
         "receipts_with_text_behind": '{"accepted":[],"taken":[]}]',
         "receipts_cut_in_a_body": '{"version":2,"accepted":[[1,1,0,[5,',
+        "receipts_of_nothing": "",
+        "receipts_cut_behind_a_list": '{"accepted":[]',
+        "receipts_one_level_too_deep": "[" * 128 + "]" * 128,
     },
     "P2": {
         "plan_as_receipts": ONE,
@@ -1022,6 +1095,30 @@ REFUSED_RECEIPTS = {
         "receipts_with_groups": '{"version":2,"groups":2,"accepted":[],"taken":[]}',
         "receipts_of_words_without_accepted": '{"version":2,"taken":[]}',
         "words_as_receipts": WORDS,
+        "receipts_of_one_hundred_brackets": "[" * 100 + "]" * 100,
+        "receipts_nested_just_enough": "[" * 127 + "]" * 127,
+        "receipts_are_a_list": "[]",
+        "receipts_without_accepted": '{"taken":[]}',
+        "receipts_version_one_as_a_text": '{"version":"1","accepted":[],"taken":[]}',
+        "receipts_version_is_a_list": '{"version":[2],"accepted":[],"taken":[]}',
+        "receipts_with_an_unknown_key": '{"versions":1,"accepted":[],"taken":[]}',
+        "total_of_one_as_a_text": '{"total":"1","accepted":[],"taken":[]}',
+        "total_is_false": '{"total":false,"accepted":[],"taken":[]}',
+        "accepted_is_an_object": '{"accepted":{},"taken":[]}',
+        "taken_is_null": '{"accepted":[],"taken":null}',
+        "row_of_accepted_is_a_number": '{"accepted":[1],"taken":[]}',
+        "long_row_of_accepted": '{"accepted":[[1,1,0,5,6]],"taken":[]}',
+        "short_row_of_taken": '{"accepted":[],"taken":[[1,0,1,1]]}',
+        "null_in_a_row": '{"accepted":[],"taken":[[1,0,null,1,5]]}',
+        "accepted_body_in_version_one": '{"version":1,"accepted":[[1,1,0,[5]]],"taken":[]}',
+        "taken_number_alone_in_version_two": '{"version":2,"accepted":[],"taken":[[1,0,1,1,5]]}',
+        "list_in_place_of_a_place": '{"version":2,"accepted":[[1,1,[0],[5]]],"taken":[]}',
+        "text_in_an_accepted_body": '{"version":2,"accepted":[[1,1,0,["5"]]],"taken":[]}',
+        "row_of_accepted_without_a_body": '{"version":2,"accepted":[[1,1,0]],"taken":[]}',
+        "number_behind_a_body": '{"version":2,"accepted":[[1,1,0,[5],6]],"taken":[]}',
+        "short_row_with_a_body": '{"version":2,"accepted":[],"taken":[[1,0,1,[5]]]}',
+        "row_of_nothing": '{"version":2,"accepted":[[]],"taken":[]}',
+        "short_row_behind_an_empty_body": '{"version":2,"accepted":[[1,1,0,[]]],"taken":[[1]]}',
     },
     "P3 version": {
         "receipts_version_zero": '{"version":0,"accepted":[],"taken":[]}',
@@ -1029,12 +1126,18 @@ REFUSED_RECEIPTS = {
         "receipts_version_two_with_a_point": '{"version":2.0,"accepted":[[1,1,0,5]],"taken":[]}',
         "receipts_version_of_one_and_a_half": '{"total":1.5,"accepted":[],"taken":[],"version":1.5}',
         "receipts_version_one_with_a_point": '{"version":1.0,"accepted":[],"taken":[]}',
+        "receipts_version_three_alone": '{"version":3,"accepted":[],"taken":[]}',
+        "receipts_version_zero_with_a_row": '{"version":0,"accepted":[[1,1,0,5]],"taken":[]}',
+        "receipts_version_of_one_and_a_half_with_a_row": '{"version":1.5,"accepted":[],"taken":[[1,0,1,1,5]]}',
     },
     "P3 total": {
         "total_with_a_point_of_words": '{"version":2,"total":2.0,"accepted":[[1,1,0,[]]],"taken":[]}',
         "total_before_accepted_in_version_one": '{"version":1,"total":-1,"accepted":[[0,1,0,5]],"taken":[]}',
         "total_below_zero": '{"total":-1,"accepted":[[0,0,0,0]],"taken":[]}',
         "total_of_two_words": '{"total":18446744073709551616,"accepted":[],"taken":[]}',
+        "total_of_one_and_a_half": '{"total":1.5,"accepted":[[0,1,0,5]],"taken":[]}',
+        "total_below_zero_alone": '{"total":-1,"accepted":[],"taken":[]}',
+        "total_of_one_and_a_half_of_words": '{"version":2,"total":1.5,"accepted":[[1,1,0,[]]],"taken":[]}',
     },
     "P3 accepted": {
         "sender_zero": '{"accepted":[[0,1,0,5]],"taken":[]}',
@@ -1049,6 +1152,12 @@ REFUSED_RECEIPTS = {
         "sender_sixty_five_of_words": '{"version":2,"accepted":[[65,1,0,[5]]],"taken":[[513,0,1,1,[5]]]}',
         "number_past_thirty_two_bits_of_words": '{"version":2,"accepted":[[1,4294967296,0,[5]]],"taken":[]}',
         "sender_zero_in_version_one": '{"version":1,"accepted":[[0,1,0,5]],"taken":[]}',
+        "place_below_zero": '{"accepted":[[1,1,-1,5]],"taken":[]}',
+        "accepted_body_past_its_range": '{"accepted":[[1,1,0,18446744073709551616]],"taken":[]}',
+        "accepted_body_empty_before_taken": '{"version":2,"accepted":[[1,1,0,[]]],"taken":[[0,0,1,1,[5]]]}',
+        "accepted_word_below_zero": '{"version":2,"accepted":[[1,1,0,[1,2,3,-4]]],"taken":[]}',
+        "sender_sixty_five_of_words_alone": '{"version":2,"accepted":[[65,1,0,[5]]],"taken":[]}',
+        "number_zero_of_words": '{"version":2,"accepted":[[1,0,0,[5]]],"taken":[]}',
     },
     "P3 taken": {
         "receiver_sixty_five": '{"accepted":[],"taken":[[65,0,1,1,5]]}',
@@ -1061,6 +1170,13 @@ REFUSED_RECEIPTS = {
         "taken_body_empty": '{"version":2,"accepted":[[1,1,0,[5]]],"taken":[[1,0,1,1,[]]]}',
         "taken_body_of_five_words": '{"version":2,"accepted":[],"taken":[[1,0,1,1,[1,2,3,4,5]]]}',
         "taken_word_below_zero": '{"version":2,"accepted":[],"taken":[[1,0,1,1,[5,-6]]]}',
+        "receiver_zero": '{"accepted":[],"taken":[[0,0,1,1,5]]}',
+        "place_of_a_take_with_a_point": '{"accepted":[],"taken":[[1,1.5,1,1,5]]}',
+        "sender_sixty_five_of_a_take_in_version_one": '{"accepted":[],"taken":[[1,0,65,1,5]]}',
+        "body_of_a_take_with_an_exponent": '{"accepted":[],"taken":[[1,0,1,1,1e2]]}',
+        "taken_body_empty_alone": '{"version":2,"accepted":[],"taken":[[1,0,1,1,[]]]}',
+        "taken_word_past_its_range": '{"version":2,"accepted":[],"taken":[[1,0,1,1,[18446744073709551616]]]}',
+        "sender_sixty_five_of_a_take_of_words": '{"version":2,"accepted":[],"taken":[[1,0,65,1,[5]]]}',
     },
 }
 
@@ -1086,18 +1202,28 @@ AUDITED = {
         '"taken":[[3,0,1,1,[7,8]],[4,1,1,2,[9]]]}',
         "receipts_of_words": example("receipts_of_words"),
         "receipts_behind_a_duplicate_version": '{"version":1,"accepted":[[1,1,0,[0]]],"taken":[],"version":2}',
+        "total_is_null": '{"total":null,"accepted":[],"taken":[]}',
+        "total_just_enough": '{"total":1,"accepted":[[1,1,0,5]],"taken":[[1,0,1,1,5]]}',
+        "numbers_with_holes_of_two_senders": '{"accepted":[[1,1,0,5],[2,9,1,5],[1,2,2,5]],"taken":[]}',
+        "body_of_four_words_taken": '{"version":2,"accepted":[[1,1,0,[5,6,7,8]]],"taken":[[512,0,1,1,[5,6,7,8]]]}',
     },
     "audit fault 1 place 0": {
         "accepted_twice_and_more": '{"total":0,"accepted":[[1,1,0,5],[1,1,0,5]],"taken":[[1,0,1,1,5],[1,0,1,1,5]]}',
         "accepted_twice_with_other_words": '{"version":2,"accepted":[[1,1,0,[5]],[1,2,0,[5,6]]],"taken":[[1,0,1,1,[5]]]}',
+        "accepted_twice_of_two_senders": '{"accepted":[[1,1,0,5],[2,1,0,6]],"taken":[]}',
+        "accepted_twice_alike": '{"accepted":[[1,1,0,5],[1,1,0,5]],"taken":[]}',
     },
     "audit fault 2 place 0": {
         "taken_twice": '{"accepted":[[1,1,0,5]],"taken":[[1,0,1,1,5],[2,0,1,1,5]]}',
         "taken_by_two_groups": '{"version":2,"accepted":[[1,1,0,[7,8]]],"taken":[[1,0,1,1,[7,8]],[2,0,1,1,[7,8]]]}',
+        "taken_twice_by_one": '{"accepted":[[1,1,0,5]],"taken":[[1,0,1,1,5],[1,0,1,1,5]]}',
+        "taken_twice_and_never_sent": '{"total":0,"accepted":[],"taken":[[1,0,1,1,5],[1,0,1,1,5]]}',
     },
     "audit fault 3 place 0": {
         "invented": '{"accepted":[],"taken":[[1,0,1,1,5]]}',
         "invented_in_four_words": '{"version":2,"total":0,"accepted":[],"taken":[[512,0,1,1,[0,0,0,0]]]}',
+        "invented_below_a_place_accepted_twice": '{"accepted":[[1,1,3,5],[2,1,3,6]],"taken":[[1,0,1,1,5]]}',
+        "invented_past_the_total": '{"total":0,"accepted":[],"taken":[[1,0,1,1,5]]}',
     },
     "audit fault 3 place 1": {
         "invented_behind_another": '{"version":2,"accepted":[[1,1,0,[5,6]],[1,2,2,[5,6]]],'
@@ -1115,6 +1241,12 @@ AUDITED = {
         "altered_by_the_order_of_words": '{"version":2,"accepted":[[1,1,0,[7,8]]],"taken":[[1,0,1,1,[8,7]]]}',
         "altered_in_the_sender_alone": '{"version":2,"accepted":[[1,1,0,[7,8]]],"taken":[[1,0,2,1,[7,8]]]}',
         "altered_in_the_number_alone": '{"version":2,"total":0,"accepted":[[1,1,0,[7,8]]],"taken":[[1,0,1,2,[7,8]]]}',
+        "altered_past_the_total": '{"total":0,"accepted":[[1,1,0,5]],"taken":[[1,0,1,1,6]]}',
+        "altered_to_a_lesser_body": '{"total":0,"accepted":[[1,1,0,5]],"taken":[[1,0,1,1,4]]}',
+        "altered_in_the_sender": '{"accepted":[[1,1,0,5]],"taken":[[1,0,2,1,5]]}',
+        "altered_in_the_number": '{"accepted":[[1,1,0,5]],"taken":[[1,0,1,2,5]]}',
+        "altered_by_a_word_of_zero_more": '{"version":2,"accepted":[[1,1,0,[0,0,0]]],"taken":[[1,0,1,1,[0,0,0,0]]]}',
+        "altered_in_the_last_of_four_words": '{"version":2,"accepted":[[1,1,0,[5,6,7,8]]],"taken":[[512,0,1,1,[5,6,7,9]]]}',
     },
     "audit fault 4 place 1": {
         "altered_by_a_word_behind_an_item": example("receipts_altered"),
@@ -1125,10 +1257,16 @@ AUDITED = {
         "gap_at_the_front": '{"accepted":[[1,1,0,5],[1,2,1,6]],"taken":[[1,1,1,2,6]]}',
         "gap_below_the_last_place": '{"accepted":[[64,4294967295,%s,0]],"taken":[[64,%s,64,4294967295,0]]}' % (GREATEST, GREATEST),
         "gap_of_words": '{"version":2,"accepted":[[1,1,0,[5,6]],[1,2,1,[7]]],"taken":[[1,1,1,2,[7,0]]]}',
+        "gap_below_what_was_never_sent": '{"accepted":[],"taken":[[1,1,1,1,5]]}',
+        "gap_of_two_senders": '{"accepted":[[1,1,0,5],[2,1,1,6]],"taken":[[1,1,2,1,6]]}',
+        "gap_past_the_total": '{"total":0,"accepted":[[1,1,0,5],[2,1,1,6]],"taken":[[1,1,2,1,6]]}',
+        "gap_below_a_last_place_altered": '{"accepted":[[1,1,%s,5]],"taken":[[1,%s,1,1,5]]}' % (GREATEST, GREATEST),
     },
     "audit fault 6 place 1": {
         "numbers_that_fall": '{"accepted":[[1,2,0,5],[1,1,1,6]],"taken":[]}',
         "numbers_that_fall_of_words": '{"version":2,"accepted":[[1,2,0,[5,6]],[1,1,1,[5,6]]],"taken":[]}',
+        "numbers_that_stay": '{"accepted":[[1,5,0,5],[1,5,1,6]],"taken":[]}',
+        "numbers_that_stay_past_the_total": '{"total":1,"accepted":[[1,1,0,5],[1,1,1,6]],"taken":[]}',
     },
     "audit fault 7 place 1": {
         "more_than_the_total": '{"total":1,"accepted":[[1,1,0,5],[1,2,1,6]],"taken":[]}',
@@ -1138,9 +1276,21 @@ AUDITED = {
         "total_at_the_last_place": '{"total":%s,"accepted":[[64,4294967295,%s,0]],"taken":[]}' % (GREATEST, GREATEST),
         "total_at_the_last_place_of_words": '{"version":2,"total":%s,"accepted":[[64,4294967295,%s,[0,0]]],"taken":[]}'
         % (GREATEST, GREATEST),
+        "total_at_the_last_place_of_another": '{"total":%s,"accepted":[[1,1,%s,5]],"taken":[]}' % (GREATEST, GREATEST),
     },
     "audit fault 1 place " + GREATEST: {
         "last_place_accepted_twice": '{"accepted":[[1,1,%s,5],[2,1,%s,6]],"taken":[]}' % (GREATEST, GREATEST)
+    },
+    "audit fault 6 place 2": {
+        "numbers_that_fall_behind_another_sender": '{"accepted":[[1,3,0,5],[2,1,1,5],[1,2,2,5],[1,4,3,5]],"taken":[]}',
+    },
+    "audit fault 6 place " + GREATEST: {
+        "numbers_that_stay_at_the_last_place": '{"accepted":[[1,1,0,5],[1,1,%s,5]],"taken":[[1,0,1,1,5]]}' % GREATEST,
+    },
+    "audit fault 7 place 0": {
+        "total_of_zero": '{"total":0,"accepted":[[1,1,0,5]],"taken":[]}',
+        "total_of_zero_and_all_taken": '{"total":0,"accepted":[[1,1,0,5]],"taken":[[1,0,1,1,5]]}',
+        "total_of_zero_before_a_place_accepted_twice": '{"total":0,"accepted":[[1,1,0,5],[1,2,1,6],[2,1,1,7]],"taken":[]}',
     },
 }
 
@@ -1299,10 +1449,52 @@ PLAYED = {
         receivers="[1,1,1,1]",
         schedule=entries("s1 3, s2 99, s1 99, s2 99, r2 3, r1 99, r4 99, r2 99, r3 99, r1 99"),
     ),
+    "capacity_of_one": plan(capacity="1"),
+    "greatest_capacity": plan(capacity="4096"),
+    "bound_of_one": plan(bound="1"),
+    "greatest_bound": plan(bound="1024"),
+    "life_of_one_item": plan(life="1"),
+    "greatest_life": plan(life="281474976710656"),
+    "no_sends": plan(senders="[[]]"),
+    "lone_close": plan(senders='[["close"]]'),
+    "greatest_body_alone": plan(senders="[[%s]]" % GREATEST),
+    "no_takes": plan(receivers="[0]"),
+    "most_takes": plan(receivers="[65536]"),
+    "one_event": plan(schedule='[["s1",1]]'),
+    "most_events": plan(schedule='[["s1",100000]]'),
+    "much_escaped": ' {"capacit\\u0079":2 , "bound":2,"life":10,"senders":[[7]], "receivers":[1],"schedule":[["\\u0073\\u0031",1]]} ',
+    "widest_plan": '{"version":1,"schedule":[["s2",100000],["r1",1],["s1",7]],"receivers":[0,65536],'
+    '"senders":[[5,"close",%s],[]],"life":281474976710656,"bound":1024,"capacity":4096}' % GREATEST,
+    "widest_plan_played": '{"schedule":[["s2",100000],["r2",3],["s1",100000],["r2",100000]],"receivers":[0,65536],'
+    '"senders":[[5,"close",%s],[]],"life":281474976710656,"bound":1024,"capacity":4096}' % GREATEST,
+    "greatest_capacity_of_words": words(capacity="4096"),
+    "greatest_bound_of_words": words(bound="1024"),
+    "greatest_life_of_words": words(life="281474976710656"),
+    "no_sends_of_words": words(senders="[[]]"),
+    "lone_close_of_words": words(senders='[["close"]]'),
+    "bodies_of_two_senders": words(senders='[[[7],"close",[7,8]],[[7,8,9]]]'),
+    "greatest_last_word": words(senders="[[[1,2,3,%s]]]" % GREATEST),
+    "most_takes_of_a_second_group": words(receivers="[0,65536]"),
+    "two_receivers_in_each_group": words(receivers="[1,1,1,1]"),
+    "one_event_of_each_group": words(schedule=entries("r1 1, r2 1")),
+    "version_two_stands_last": '{"version":1,"groups":2,"capacity":1,"bound":1,"life":1,"senders":[[[7]]],"receivers":[0,0],'
+    '"schedule":[],"version":2}',
+    "three_groups_of_two_receivers": '{"schedule":[["r6",1]],"receivers":[0,1,2,3,4,65536],'
+    '"senders":[[[5],"close",[1,2,3]],[[1,2,3,%s],[7,8]]],"life":9,"bound":8,"capacity":7,"groups":3,"version":2}' % GREATEST,
+    "three_groups_of_two_receivers_played": words(
+        groups="3",
+        senders='[[[5],"close",[1,2,3]],[[1,2,3,%s],[7,8]]]' % GREATEST,
+        receivers="[0,1,2,3,4,65536]",
+        schedule=entries("s2 99, s1 99, s1 99, r6 99, r4 99, r2 99"),
+    ),
 }
 
 # Plans with the whole report written by hand.
 REPORTED = {
+    "one_item_is_passed_on": (
+        plan(),
+        ["E 0 s1 send 7 -> accepted 0", "D 0 r1 take -> got 0 s1 1 7", CLEAN],
+    ),
     "words_for_two_groups": (
         WORDS,
         ["E 0 s1 send 7 8 -> accepted 0", "D 1 0 r1 take -> got 0 s1 1 7 8", "D 2 0 r2 take -> got 0 s1 1 7 8", CLEAN],
@@ -1347,6 +1539,252 @@ REPORTED = {
             CLEAN,
         ],
     ),
+    "nothing_to_take_yet": (
+        plan(schedule=entries("r1 100, s1 100")),
+        ["E 0 s1 send 7 -> accepted 0", "D 0 r1 take -> empty", CLEAN],
+    ),
+    "two_sends_combined": (
+        plan(senders="[[7],[9]]", receivers="[0]", schedule=entries("s1 3, s2 100, s1 100")),
+        ["E 0 s1 send 7 -> accepted 0", "E 1 s2 send 9 -> accepted 1", CLEAN],
+    ),
+    "bound_1_the_second_waits": (
+        plan(bound="1", senders="[[7],[9]]", receivers="[0]", schedule=entries("s1 3, s2 100, s1 100")),
+        ["E 0 s1 send 7 -> accepted 0", "E 1 s2 send 9 -> pending", CLEAN],
+    ),
+    "bound_1_and_goes_on": (
+        plan(bound="1", senders="[[7],[9]]", receivers="[0]", schedule=entries("s1 3, s2 100, s1 100, s2 100")),
+        ["E 0 s1 send 7 -> accepted 0", "E 1 s2 send 9 -> accepted 1", CLEAN],
+    ),
+    "no_combiner_yet": (
+        plan(senders="[[7],[9]]", receivers="[0]", schedule=entries("s1 3, s2 100")),
+        ["E 0 s1 send 7 -> pending", "E 1 s2 send 9 -> pending", CLEAN],
+    ),
+    "both_exchanged": (
+        plan(senders="[[7],[9]]", receivers="[0]", schedule=entries("s1 3, s2 3, s1 100, s2 100")),
+        ["E 0 s1 send 7 -> accepted 0", "E 1 s2 send 9 -> accepted 1", CLEAN],
+    ),
+    "full": (
+        plan(capacity="1", senders="[[5,6],[7]]", schedule=entries("s1 500, r1 500, s2 500")),
+        [
+            "E 0 s1 send 5 -> accepted 0",
+            "E 1 s1 send 6 -> full",
+            "E 2 s2 send 7 -> accepted 1",
+            "D 0 r1 take -> got 0 s1 1 5",
+            CLEAN,
+        ],
+    ),
+    "close_and_drain": (
+        plan(senders='[[5,"close",6,"close"]]', receivers="[3]", schedule=entries("s1 500, r1 500")),
+        [
+            "E 0 s1 send 5 -> accepted 0",
+            "E 1 s1 close -> shut 1",
+            "E 2 s1 send 6 -> closed",
+            "E 3 s1 close -> already 1",
+            "D 0 r1 take -> got 0 s1 1 5",
+            "D 1 r1 take -> ended 1",
+            "D 2 r1 take -> ended 1",
+            CLEAN,
+        ],
+    ),
+    "a_close_is_never_full": (
+        plan(capacity="1", senders='[[5,"close"]]', receivers="[0]", schedule=entries("s1 500")),
+        ["E 0 s1 send 5 -> accepted 0", "E 1 s1 close -> shut 1", CLEAN],
+    ),
+    "life_is_spent": (
+        plan(capacity="1", life="1", senders="[[5,6]]", receivers="[0]", schedule=entries("s1 500")),
+        ["E 0 s1 send 5 -> accepted 0", "E 1 s1 send 6 -> spent", CLEAN],
+    ),
+    "a_close_that_exchanged_first": (
+        plan(senders='[["close"],[9]]', receivers="[0]", schedule=entries("s1 3, s2 100, s1 100")),
+        ["E 0 s1 close -> shut 0", "E 1 s2 send 9 -> closed", CLEAN],
+    ),
+    "a_take_that_exchanged_first": (
+        plan(schedule=entries("r1 3, s1 100, r1 100")),
+        ["E 0 s1 send 7 -> accepted 0", "D 0 r1 take -> got 0 s1 1 7", CLEAN],
+    ),
+    "takes_combined": (
+        plan(senders="[[1,2]]", receivers="[1,1]", schedule=entries("s1 500, r1 3, r2 100, r1 100")),
+        [
+            "E 0 s1 send 1 -> accepted 0",
+            "E 1 s1 send 2 -> accepted 1",
+            "D 0 r1 take -> got 0 s1 1 1",
+            "D 1 r2 take -> got 1 s1 2 2",
+            CLEAN,
+        ],
+    ),
+    "the_greatest_body": (
+        plan(senders="[[18446744073709551615]]"),
+        ["E 0 s1 send 18446744073709551615 -> accepted 0", "D 0 r1 take -> got 0 s1 1 18446744073709551615", CLEAN],
+    ),
+    "lone_send_before_the_linking_store": (
+        plan(schedule=entries("s1 19")),
+        ["E 0 s1 send 7 -> pending", CLEAN],
+    ),
+    "lone_send_at_the_linking_store": (
+        plan(schedule=entries("s1 20")),
+        ["E 0 s1 send 7 -> accepted 0", CLEAN],
+    ),
+    "a_node_freed_in_between": (
+        plan(capacity="1", senders="[[5],[7,8]]", schedule=entries("s1 100, r1 13, s2 20, r1 1, s2 100")),
+        [
+            "E 0 s1 send 5 -> accepted 0",
+            "E 1 s2 send 7 -> full",
+            "E 2 s2 send 8 -> accepted 1",
+            "D 0 r1 take -> got 0 s1 1 5",
+            CLEAN,
+        ],
+    ),
+    "no_calls_in_full": (
+        plan(senders="[[]]", receivers="[0]", schedule="[]"),
+        [CLEAN],
+    ),
+    "nodes_are_used_again": (
+        plan(capacity="1", senders="[[1,2,3]]", receivers="[3]", schedule=entries("s1 28, r1 23, s1 28, r1 23, s1 28, r1 23")),
+        [
+            "E 0 s1 send 1 -> accepted 0",
+            "E 1 s1 send 2 -> accepted 1",
+            "E 2 s1 send 3 -> accepted 2",
+            "D 0 r1 take -> got 0 s1 1 1",
+            "D 1 r1 take -> got 1 s1 2 2",
+            "D 2 r1 take -> got 2 s1 3 3",
+            CLEAN,
+        ],
+    ),
+    "shut_before_its_linking_store": (
+        plan(senders='[["close"]]', receivers="[0]", schedule=entries("s1 13")),
+        ["E 0 s1 close -> pending", CLEAN],
+    ),
+    "shut_at_its_step": (
+        plan(senders='[["close"]]', receivers="[0]", schedule=entries("s1 14")),
+        ["E 0 s1 close -> shut 0", CLEAN],
+    ),
+    "empty_before_the_load_of_the_next": (
+        plan(senders="[[]]", schedule=entries("r1 8")),
+        ["D 0 r1 take -> pending", CLEAN],
+    ),
+    "empty_at_its_step": (
+        plan(senders="[[]]", schedule=entries("r1 9")),
+        ["D 0 r1 take -> empty", CLEAN],
+    ),
+    "got_before_the_add": (
+        plan(schedule=entries("s1 100, r1 13")),
+        ["E 0 s1 send 7 -> accepted 0", "D 0 r1 take -> pending", CLEAN],
+    ),
+    "got_at_its_step": (
+        plan(schedule=entries("s1 100, r1 14")),
+        ["E 0 s1 send 7 -> accepted 0", "D 0 r1 take -> got 0 s1 1 7", CLEAN],
+    ),
+    "ended_before_the_load_of_the_tag": (
+        plan(senders='[["close"]]', schedule=entries("s1 100, r1 9")),
+        ["E 0 s1 close -> shut 0", "D 0 r1 take -> pending", CLEAN],
+    ),
+    "ended_at_its_step": (
+        plan(senders='[["close"]]', schedule=entries("s1 100, r1 10")),
+        ["E 0 s1 close -> shut 0", "D 0 r1 take -> ended 0", CLEAN],
+    ),
+    "full_before_the_last_load_of_the_scan": (
+        plan(capacity="1", senders="[[5,6]]", receivers="[0]", schedule=entries("s1 42")),
+        ["E 0 s1 send 5 -> accepted 0", "E 1 s1 send 6 -> pending", CLEAN],
+    ),
+    "full_at_its_step": (
+        plan(capacity="1", senders="[[5,6]]", receivers="[0]", schedule=entries("s1 43")),
+        ["E 0 s1 send 5 -> accepted 0", "E 1 s1 send 6 -> full", CLEAN],
+    ),
+    "spent_before_the_load_of_the_count": (
+        plan(life="1", senders="[[5,6]]", receivers="[0]", schedule=entries("s1 39")),
+        ["E 0 s1 send 5 -> accepted 0", "E 1 s1 send 6 -> pending", CLEAN],
+    ),
+    "spent_at_its_step": (
+        plan(life="1", senders="[[5,6]]", receivers="[0]", schedule=entries("s1 40")),
+        ["E 0 s1 send 5 -> accepted 0", "E 1 s1 send 6 -> spent", CLEAN],
+    ),
+    "closed_before_the_load_of_shut": (
+        plan(senders='[["close",6]]', receivers="[0]", schedule=entries("s1 31")),
+        ["E 0 s1 close -> shut 0", "E 1 s1 send 6 -> pending", CLEAN],
+    ),
+    "closed_at_its_step": (
+        plan(senders='[["close",6]]', receivers="[0]", schedule=entries("s1 32")),
+        ["E 0 s1 close -> shut 0", "E 1 s1 send 6 -> closed", CLEAN],
+    ),
+    "already_before_the_load_of_the_count": (
+        plan(senders='[["close","close"]]', receivers="[0]", schedule=entries("s1 32")),
+        ["E 0 s1 close -> shut 0", "E 1 s1 close -> pending", CLEAN],
+    ),
+    "already_at_its_step": (
+        plan(senders='[["close","close"]]', receivers="[0]", schedule=entries("s1 33")),
+        ["E 0 s1 close -> shut 0", "E 1 s1 close -> already 0", CLEAN],
+    ),
+    "four_words_before_the_linking_store": (
+        words(groups="1", senders="[[[1,0,18446744073709551615,4]]]", receivers="[0]", schedule=entries("s1 28")),
+        ["E 0 s1 send 1 0 18446744073709551615 4 -> pending", CLEAN],
+    ),
+    "four_words_at_its_step": (
+        words(groups="1", senders="[[[1,0,18446744073709551615,4]]]", receivers="[0]", schedule=entries("s1 29")),
+        ["E 0 s1 send 1 0 18446744073709551615 4 -> accepted 0", CLEAN],
+    ),
+    "four_words_are_got_before_the_add": (
+        words(groups="1", senders="[[[1,2,3,4]]]", receivers="[1]", schedule=entries("s1 37, r1 16")),
+        ["E 0 s1 send 1 2 3 4 -> accepted 0", "D 1 0 r1 take -> pending", CLEAN],
+    ),
+    "four_words_are_got_at_its_step": (
+        words(groups="1", senders="[[[1,2,3,4]]]", receivers="[1]", schedule=entries("s1 37, r1 17")),
+        ["E 0 s1 send 1 2 3 4 -> accepted 0", "D 1 0 r1 take -> got 0 s1 1 1 2 3 4", CLEAN],
+    ),
+    "there_is_no_room_until_both_groups_took_the_item": (
+        words(capacity="1", senders='[[[5],[6],[6],[6],"close"]]', receivers="[3,3]", schedule=entries("s1 48, r1 23, s1 20, r2 23, s1 28, r1 23, s1 100, r2 100, r1 100")),
+        [
+            "E 0 s1 send 5 -> accepted 0",
+            "E 1 s1 send 6 -> full",
+            "E 2 s1 send 6 -> full",
+            "E 3 s1 send 6 -> accepted 1",
+            "E 4 s1 close -> shut 2",
+            "D 1 0 r1 take -> got 0 s1 1 5",
+            "D 1 1 r1 take -> got 1 s1 4 6",
+            "D 1 2 r1 take -> ended 2",
+            "D 2 0 r2 take -> got 0 s1 1 5",
+            "D 2 1 r2 take -> got 1 s1 4 6",
+            "D 2 2 r2 take -> ended 2",
+            CLEAN,
+        ],
+    ),
+    "receivers_are_numbered_through": (
+        words(senders="[[[7],[8,9]]]", receivers="[1,1,0,2]", schedule=entries("r3 100, s1 100, r2 100, r4 100, r1 100")),
+        [
+            "E 0 s1 send 7 -> accepted 0",
+            "E 1 s1 send 8 9 -> accepted 1",
+            "D 1 0 r2 take -> got 0 s1 1 7",
+            "D 1 1 r1 take -> got 1 s1 2 8 9",
+            "D 2 0 r4 take -> got 0 s1 1 7",
+            "D 2 1 r4 take -> got 1 s1 2 8 9",
+            CLEAN,
+        ],
+    ),
+    "each_kind_of_line": (
+        plan(
+            capacity="1",
+            life="2",
+            senders='[[%s,2,3,4,"close","close",5],[6],["close"]]' % GREATEST,
+            receivers="[2,2,1]",
+            schedule=entries("s1 48, r1 100, s1 1000, r2 100, s2 3, s3 3, r3 3"),
+        ),
+        [
+            "E 0 s1 send %s -> accepted 0" % GREATEST,
+            "E 1 s1 send 2 -> full",
+            "E 2 s1 send 3 -> accepted 1",
+            "E 3 s1 send 4 -> spent",
+            "E 4 s1 close -> shut 2",
+            "E 5 s1 close -> already 2",
+            "E 6 s1 send 5 -> closed",
+            "E 7 s2 send 6 -> pending",
+            "E 8 s3 close -> pending",
+            "D 0 r1 take -> got 0 s1 1 %s" % GREATEST,
+            "D 1 r1 take -> empty",
+            "D 2 r2 take -> got 1 s1 3 3",
+            "D 3 r2 take -> ended 2",
+            "D 4 r3 take -> pending",
+            CLEAN,
+        ],
+    ),
 }
 
 
@@ -1378,6 +1816,86 @@ def ends():
     yield "second_send_at_its_exchange", sends % (37 + 3), [sent, "E 1 s1 send 5 -> pending", CLEAN]
     yield "second_take_before_its_exchange", takes % (32 + 2), [sent, got, CLEAN]
     yield "second_take_at_its_exchange", takes % (32 + 3), [sent, got, "D 1 1 r1 take -> pending", CLEAN]
+
+
+def numbers_that_are_not_whole():
+    """Such a number at each place of a plan that has one, and the fault that comes of it."""
+    numbers = {
+        "a_point": "1.5",
+        "an_exponent": "1e2",
+        "a_sign": "-1",
+        "too_many_digits": "18446744073709551616",
+    }
+    places = {
+        "version": "%s",
+        "capacity": "%s",
+        "bound": "%s",
+        "life": "%s",
+        "senders": "[[1],[1,%s]]",
+        "receivers": "[1,%s]",
+        "schedule": '[["s1",%s]]',
+    }
+    for kind, number in numbers.items():
+        for key, place in places.items():
+            yield "%s_has_%s" % (key, kind), plan(**{key: place % number}), "P3 " + key
+
+
+def numbers_of_receivers():
+    """The fewest and the most receivers of some groups, and one past each; the last of them, and the next."""
+    for groups in (1, 2, 3, 8):
+
+        def of(receivers, schedule="[]"):
+            return words(
+                groups=str(groups), senders="[[]]", receivers=listed(["0"] * receivers), schedule=schedule
+            )
+
+        def named(text):
+            return "%s_of_%d" % (text, groups)
+
+        most = 64 * groups
+        yield named("fewest_receivers"), of(groups), [CLEAN]
+        yield named("last_of_most_receivers"), of(most, entries("r%d 1" % most)), [CLEAN]
+        yield named("stranger_behind_most_receivers"), of(most, entries("r%d 1" % (most + 1))), "P4 at 0"
+        yield named("no_receivers"), of(0), "P3 receivers"
+        yield named("one_receiver_less"), of(groups - 1), "P3 receivers"
+        yield named("one_receiver_more"), of(most + 1), "P3 receivers"
+        yield named("one_receiver_more_in_each"), of(most + groups), "P3 receivers"
+
+
+def lone_sends():
+    """A lone send cut after each event: it is pending from its exchange, event 3, to its linking store, event 20."""
+    for events in range(1, 101):
+        answers = [] if events < 3 else ["pending"] if events < 20 else ["accepted 0"]
+        lines = ["E 0 s1 send 7 -> " + answer for answer in answers]
+        yield "lone_send_cut_at_%03d" % events, plan(schedule=entries("s1 %d" % events)), lines + [CLEAN]
+
+
+# The run in which a node is freed between two sends, of 90 events, and its calls: where each exchanges, where it is decided,
+# what is called, and the answer.
+FREED = [("s1", 28), ("r1", 13), ("s2", 20), ("r1", 1), ("s2", 28)]
+FREED_CALLS = [
+    (3, 20, "E 0 s1 send 5", "accepted 0"),
+    (44, 56, "E 1 s2 send 7", "full"),
+    (65, 82, "E 2 s2 send 8", "accepted 1"),
+    (31, 62, "D 0 r1 take", "got 0 s1 1 5"),
+]
+
+
+def freed_nodes():
+    """That run cut after each event: a call is told from its exchange on, its answer from its deciding event on."""
+    for cut in range(1, 91):
+        schedule, left = [], cut
+        for name, events in FREED:
+            if left > 0:
+                schedule.append("%s %d" % (name, min(events, left)))
+            left -= events
+        text = plan(capacity="1", senders="[[5],[7,8]]", schedule=entries(", ".join(schedule)))
+        lines = [
+            "%s -> %s" % (call, answer if cut >= decided else "pending")
+            for exchanged, decided, call, answer in FREED_CALLS
+            if cut >= exchanged
+        ]
+        yield "freed_node_cut_at_%02d" % cut, text, lines + [CLEAN]
 
 
 def random_plan(dice, groups, entries, body):
@@ -1435,7 +1953,9 @@ def rows():
         yield name, "play", text.encode(), None
     for name, (text, lines) in REPORTED.items():
         yield name, "play", text.encode(), lines
-    for name, text, lines in [*cuts(), *ends()]:
+    for name, text, wanted in [*numbers_that_are_not_whole(), *numbers_of_receivers()]:
+        yield name, "play", text.encode(), wanted
+    for name, text, lines in [*cuts(), *ends(), *lone_sends(), *freed_nodes()]:
         yield name, "play", text.encode(), lines
     for name, text in random_plans():
         yield name, "play", text.encode(), None

@@ -1,8 +1,8 @@
 #!/bin/bash
 # Gives the program that the gate left, as each compiler built it, every input of tests/corpus: NAME.expect has the task
 # and the status in its first line, what must stand on standard error in its second, and then the standard output.
-# Behind these: every front of two plans; inputs of 16 MiB, at the limit and one byte past it; and a large input in little
-# memory, which must end with status 3 and have written nothing.
+# Behind these: every front of two plans; inputs of 16 MiB, at the limit and one byte past it; lists of a plan at their limit
+# and one item past it; and a large input in little memory, which must end with status 3 and have written nothing.
 # Before that, the script shows that it finds a wrong status, line and report.
 # Exit status 0 where all runs did so. It proves and builds nothing: `rt ci` does, or `rt run` in crates/ccq.
 set -u
@@ -47,6 +47,22 @@ head -c "$limit" /dev/zero | tr '\0' ' ' >"$room/spaces"
 { cat "$room/spaces"; printf ' '; } >"$room/more_spaces"
 { printf '['; repeat '{"a":0},' "$((limit - 8))"; printf '0]'; } >"$room/objects"
 
+# A plan with so many sends of its sender, and one with so many entries, of which the last one alone has something to do.
+sends() {
+    printf '{"capacity":2,"bound":2,"life":10,"receivers":[0],"schedule":[["s1",28]],"senders":[[7'
+    repeat ',7' "$((2 * ($1 - 1)))"
+    printf ']]}'
+}
+entries() {
+    printf '{"capacity":2,"bound":2,"life":10,"senders":[[7]],"receivers":[0],"schedule":['
+    repeat '["r1",1],' "$((9 * ($1 - 1)))"
+    printf '["s1",28]]}'
+}
+sends 65536 >"$room/sends"
+sends 65537 >"$room/more_sends"
+entries 65536 >"$room/entries"
+entries 65537 >"$room/more_entries"
+
 # Each front of these plans, less the line's end, is no JSON text. Counts them in `cut`.
 fronts() {
     local plan length k
@@ -75,6 +91,15 @@ large() {
     done
 }
 
+# Lists at the limit, and one past it.
+lists() {
+    printf 'play 0\n\nE 0 s1 send 7 -> accepted 0\naudit clean\n' >"$room/expected"
+    is_as "$1" "$room/sends" "$room/expected" || return 1
+    is_as "$1" "$room/entries" "$room/expected" || return 1
+    is_refused "$1" play "$room/more_sends" 'P3 senders' || return 1
+    is_refused "$1" play "$room/more_entries" 'P3 schedule'
+}
+
 # The script finds what is wrong: a status, a line on standard error, a report; a group, and a word of a body.
 shown=tests/corpus/words_for_two_groups
 for wrong in 's/^play 0$/play 1/' '2s/^$/ccq: reading failed/' 's/accepted 0/accepted 1/' 's/^D 2 0/D 1 1/' 's/1 7 8$/1 7/'; do
@@ -97,9 +122,10 @@ for program in "${builds[@]}"; do
     done
     fronts "$program" || wrong=$((wrong + 1))
     large "$program" || wrong=$((wrong + 1))
+    lists "$program" || wrong=$((wrong + 1))
     if [ "$wrong" != 0 ]; then
         echo "$program: $wrong answers are not the expected ones"
         exit 1
     fi
-    echo "$program: $inputs inputs of tests/corpus, $cut fronts of two plans and six large inputs, each with its status and its bytes"
+    echo "$program: $inputs inputs of tests/corpus, $cut fronts of two plans and ten large inputs, each with its status and its bytes"
 done
