@@ -1,84 +1,199 @@
-//! Receipts and the verdicts on them.
-use crate::outcomes::{audited, is_refused};
-use cc_audit::Verdict;
-use cc_model::Device;
-use cc_play::audit_bytes;
+//! Receipts of histories that no queue leaves, and many of them.
+ghost use Rattle.std.specs.Prelude.{◌≡◌, ◌<◌, length, IfOk};
+
+use cc_audit::{SendReceipt, TakeReceipt, Verdict, audit, send_receipts, take_receipts, total};
+use cc_model::{
+    Answer, Body, Call, CloseAnswer, Entry, History, Item, Pass, SendAnswer, TakeAnswer,
+};
+use std::alloc::{AllocError, Global};
+use std::process::Abort;
 use std::test::Fail;
 
-/// Receipts, and the line of the verdict on them.
-const RECEIPTS: &str = r#"{"accepted":[],"taken":[]} => audit clean
-{"accepted":[[1,1,0,5],[1,2,1,6]],"taken":[[1,1,1,2,6]]} => audit fault 5 place 0
-{"accepted":[[1,1,0,5]],"taken":[[1,0,1,1,5],[2,0,1,1,5]]} => audit fault 2 place 0
-{"accepted":[[1,1,0,5]],"taken":[[1,0,1,1,6]]} => audit fault 4 place 0
-{"accepted":[],"taken":[[1,0,1,1,5]]} => audit fault 3 place 0
-{"accepted":[[1,1,0,5],[2,1,0,6]],"taken":[]} => audit fault 1 place 0
-{"accepted":[[1,2,0,5],[1,1,1,6]],"taken":[]} => audit fault 6 place 1
-{"total":1,"accepted":[[1,1,0,5],[1,2,1,6]],"taken":[]} => audit fault 7 place 1
-{"total":null,"accepted":[],"taken":[]} => audit clean
-{"accepted":[],"taken":[[1,1,1,1,5]]} => audit fault 5 place 0
-{"total":0,"accepted":[[1,1,0,5]],"taken":[[1,0,1,1,6]]} => audit fault 4 place 0
-{"accepted":[[1,1,3,5],[2,1,3,6]],"taken":[[1,0,1,1,5]]} => audit fault 3 place 0
-{"accepted":[[1,5,0,5],[1,5,1,6]],"taken":[]} => audit fault 6 place 1
-{"accepted":[[64,4294967295,18446744073709551615,0]],"taken":[[64,18446744073709551615,64,4294967295,0]]} => audit fault 5 place 0
-{"total":18446744073709551615,"accepted":[[64,4294967295,18446744073709551615,0]],"taken":[]} => audit fault 7 place 18446744073709551615
-{"total":1,"accepted":[[1,1,0,5]],"taken":[[1,0,1,1,5]]} => audit clean
-{"accepted":[[1,1,0,5],[1,1,0,5]],"taken":[]} => audit fault 1 place 0
-{"total":0,"accepted":[[1,1,0,5],[1,1,0,5]],"taken":[[1,0,1,1,5],[1,0,1,1,5]]} => audit fault 1 place 0
-{"accepted":[[1,1,0,5]],"taken":[[1,0,1,1,5],[1,0,1,1,5]]} => audit fault 2 place 0
-{"total":0,"accepted":[],"taken":[[1,0,1,1,5],[1,0,1,1,5]]} => audit fault 2 place 0
-{"total":0,"accepted":[],"taken":[[1,0,1,1,5]]} => audit fault 3 place 0
-{"accepted":[[1,1,0,5]],"taken":[[1,0,2,1,5]]} => audit fault 4 place 0
-{"accepted":[[1,1,0,5]],"taken":[[1,0,1,2,5]]} => audit fault 4 place 0
-{"total":0,"accepted":[[1,1,0,5]],"taken":[[1,0,1,1,4]]} => audit fault 4 place 0
-{"accepted":[[1,1,0,5],[2,1,1,6]],"taken":[[1,1,2,1,6]]} => audit fault 5 place 0
-{"total":0,"accepted":[[1,1,0,5],[2,1,1,6]],"taken":[[1,1,2,1,6]]} => audit fault 5 place 0
-{"total":1,"accepted":[[1,1,0,5],[1,1,1,6]],"taken":[]} => audit fault 6 place 1
-{"total":0,"accepted":[[1,1,0,5]],"taken":[]} => audit fault 7 place 0
-{"total":0,"accepted":[[1,1,0,5]],"taken":[[1,0,1,1,5]]} => audit fault 7 place 0
-{"accepted":[[1,1,18446744073709551615,5],[2,1,18446744073709551615,6]],"taken":[]} => audit fault 1 place 18446744073709551615
-{"accepted":[[1,1,18446744073709551615,5]],"taken":[[1,18446744073709551615,1,1,5]]} => audit fault 5 place 0
-{"accepted":[[1,1,0,5],[1,1,18446744073709551615,5]],"taken":[[1,0,1,1,5]]} => audit fault 6 place 18446744073709551615
-{"total":18446744073709551615,"accepted":[[1,1,18446744073709551615,5]],"taken":[]} => audit fault 7 place 18446744073709551615
-{"total":0,"accepted":[[1,1,0,5],[1,2,1,6],[2,1,1,7]],"taken":[]} => audit fault 7 place 0
-{"accepted":[[1,1,0,5],[2,9,1,5],[1,2,2,5]],"taken":[]} => audit clean
-{"accepted":[[1,3,0,5],[2,1,1,5],[1,2,2,5],[1,4,3,5]],"taken":[]} => audit fault 6 place 2
-{"version":2,"accepted":[[1,1,0,[5]]],"taken":[[1,0,1,1,[5,0]]]} => audit fault 4 place 0
-{"version":2,"accepted":[[1,1,0,[5,6,7,8]]],"taken":[[512,0,1,1,[5,6,7,9]]]} => audit fault 4 place 0
-{"version":2,"accepted":[[1,1,0,[5,6,7,8]]],"taken":[[512,0,1,1,[5,6,7,8]]]} => audit clean"#;
+fn fault(kind: u8, place: u64) -> Verdict {
+    Verdict::Fault { kind, place }
+}
 
-#[test]
-fn receipts_are_audited(rt: HostRuntime) {
-    for row in RECEIPTS.lines() {
-        let (input, line) = row.split_once(" => ").unwrap_or((row, ""));
-        let outcome = audited(rt.alloc(), input.as_bytes());
-        let text = std::str::from_utf8(outcome.output.as_slice()).expect(&rt, "a text");
-        assert_eq!(rt; text.strip_suffix("\n"), Some(line), "{input}");
-        let status = if line == "audit clean" { 0 } else { 1 };
-        assert_eq!(rt; outcome.status, status, "{input}");
-        assert_eq!(rt; outcome.errors.len(), 0, "{input}");
+/// The item at a place of a queue whose 64 senders go round.
+fn item_at(place: u32) -> Item {
+    Item {
+        place: u64::from(place),
+        sender: (place % 64).saturating_add(1),
+        number: (place / 64).saturating_add(1),
+        body: Body::one(u64::from(place)),
     }
 }
 
-/// Receipts that are refused, and why.
-const REFUSED: &str = r#"{"accepted":[[0,1,0,5]],"taken":[]} => P3 accepted
-{"accepted":[[1,1,0]],"taken":[]} => P2
-{"accepted":[] => P1"#;
+/// What its sender was told.
+fn sent(item: Item) -> SendReceipt {
+    SendReceipt {
+        sender: item.sender,
+        number: item.number,
+        place: item.place,
+        body: item.body,
+    }
+}
+
+/// What a receiver was told.
+fn taken(item: Item) -> TakeReceipt {
+    TakeReceipt { receiver: 1, item }
+}
 
 #[test]
-fn receipts_are_refused(rt: HostRuntime) -> Result<(), Fail> {
-    for row in REFUSED.lines() {
-        let (input, fault) = row.split_once(" => ").unwrap_or((row, ""));
-        let outcome = audited(rt.alloc(), input.as_bytes());
-        assert!(rt; is_refused(rt.alloc(), &outcome, fault)?, "{input}");
+fn many_receipts(rt: HostRuntime) -> Result<(), Fail> {
+    const COUNT: u32 = 100_000;
+    let all = Some(u64::from(COUNT));
+    let mut sends = Vec::new(rt.alloc());
+    let mut takes = Vec::new(rt.alloc());
+    for i in 0..COUNT {
+        sends.push(sent(item_at(i * 7919 % COUNT)))?;
+        takes.push(taken(item_at(COUNT - 1 - i)))?;
+    }
+    let last = Item {
+        place: u64::MAX,
+        ..item_at(0)
+    };
+    assert_eq!(rt; audit(rt.alloc(), &sends, &takes, all)?, Verdict::Clean);
+    sends.push(sent(last))?;
+    assert_eq!(rt; audit(rt.alloc(), &sends, &takes, all)?, fault(6, u64::MAX));
+    takes.push(taken(last))?;
+    let gap = fault(5, u64::from(COUNT));
+    assert_eq!(rt; audit(rt.alloc(), &sends, &takes, None)?, gap);
+    Ok(())
+}
+
+/// Writes down a call of a sender, and its answer, if it has one.
+fn add_send(
+    history: &mut History,
+    sender: u32,
+    call: Call,
+    number: u32,
+    answer: Option<Answer>,
+) -> Result<(), AllocError>
+    ensures { length history.new.takes ≡ length history.old.takes }
+{
+    history.reserve_sends(1)?;
+    history.push_sends_call(Entry {
+        pass: Pass::Sender(sender),
+        call,
+        number,
+        known: 0,
+    });
+    if let Some(answer) = answer {
+        history.push_sends_answer(answer);
     }
     Ok(())
 }
 
+/// Writes down a take of a group's receiver, and its answer, if it has one.
+fn add_take(
+    history: &mut History,
+    group: usize,
+    receiver: u32,
+    answer: Option<TakeAnswer>,
+) -> Result<(), AllocError>
+    requires { group < length history.old.takes }
+    ensures { length history.new.takes ≡ length history.old.takes }
+{
+    history.reserve_takes(group, 1)?;
+    history.push_takes_call(
+        group,
+        Entry {
+            pass: Pass::Receiver(receiver),
+            call: Call::Take,
+            number: 0,
+            known: 0,
+        },
+    );
+    if let Some(answer) = answer {
+        history.push_takes_answer(group, Answer::Take(answer));
+    }
+    Ok(())
+}
+
+/// Writes down a send that was accepted, and a take of the first group that got its item.
+fn add_item(history: &mut History, item: Item) -> Result<(), AllocError>
+    requires { 0 < length history.old.takes }
+    ensures { length history.new.takes ≡ length history.old.takes }
+{
+    let answer = Answer::Send(SendAnswer::Accepted { place: item.place });
+    add_send(
+        history,
+        item.sender,
+        Call::Send(item.body),
+        item.number,
+        Some(answer),
+    )?;
+    add_take(history, 0, 1, Some(TakeAnswer::Got(item)))
+}
+
+/// The calls that nobody has an item by: a send that found the queue full, a close, a send behind it, and one without an
+/// answer; a take that found the end, and one without an answer.
+fn add_further(history: &mut History) -> Result<(), AllocError>
+    requires { 0 < length history.old.takes }
+    ensures { length history.new.takes ≡ length history.old.takes }
+{
+    let send = Call::Send(Body::one(9));
+    let full = Answer::Send(SendAnswer::Full);
+    let shut = Answer::Close(CloseAnswer::Shut { total: 3 });
+    let closed = Answer::Send(SendAnswer::Closed);
+    add_send(history, 1, send, 2, Some(full))?;
+    add_send(history, 2, Call::Close, 0, Some(shut))?;
+    add_send(history, 1, send, 3, Some(closed))?;
+    add_send(history, 2, send, 2, None)?;
+    add_take(history, 0, 2, Some(TakeAnswer::Ended { total: 3 }))?;
+    add_take(history, 0, 2, None)
+}
+
+/// Three items were accepted, and the first of two groups took them. The second group took those that are named, by their
+/// places.
+fn two_groups(alloc: Global, second: &str) -> Result<History, AllocError>
+    ensures { IfOk result (λ history. length history.takes ≡ 2) }
+{
+    let mut history = History::new(alloc, 2)?;
+    add_item(&mut history, item_at(0))?;
+    add_item(&mut history, item_at(1))?;
+    add_item(&mut history, item_at(2))?;
+    add_further(&mut history)?;
+    for place in second.bytes() {
+        let item = item_at(u32::from(place % 16));
+        add_take(&mut history, 1, 1, Some(TakeAnswer::Got(item)))?;
+    }
+    Ok(history)
+}
+
+/// Audits the groups of that history: the first one is clean, and the second one has this verdict.
+fn is_audited<R: Abort>(
+    rt: &R,
+    alloc: Global,
+    second: &str,
+    verdict: Verdict,
+) -> Result<(), AllocError> {
+    let history = two_groups(alloc, second)?;
+    let sends = send_receipts(alloc, &history)?;
+    let of_first = take_receipts(alloc, &history, 0)?;
+    let of_second = take_receipts(alloc, &history, 1)?;
+    let all = total(&history);
+    let sent = [sent(item_at(0)), sent(item_at(1)), sent(item_at(2))];
+    let taken = [taken(item_at(0)), taken(item_at(1)), taken(item_at(2))];
+    assert!(rt; sends.as_slice() == sent.as_slice(), "{second}");
+    assert!(rt; of_first.as_slice() == taken.as_slice(), "{second}");
+    assert!(rt; of_second.len() == second.len(), "{second}");
+    assert!(rt; all == Some(3), "{second}");
+    let first = audit(alloc, &sends, &of_first, all)?;
+    assert_eq!(rt; first, Verdict::Clean, "{second}");
+    let found = audit(alloc, &sends, &of_second, all)?;
+    assert_eq!(rt; found, verdict, "{second}");
+    Ok(())
+}
+
 #[test]
-fn the_verdict_is_answered(rt: HostRuntime) {
-    let mut output = Vec::new(rt.alloc());
-    let mut source = Device::new(b"{\"accepted\":[],\"taken\":[[1,0,1,1,5]]}".as_slice());
-    let mut sink = Device::new(&mut output);
-    let outcome = audit_bytes(rt.alloc(), &mut source, &mut sink);
-    assert_eq!(rt; outcome, Ok(Verdict::Fault { kind: 3, place: 0 }));
+fn each_group_is_audited_alone(rt: HostRuntime) -> Result<(), Fail> {
+    let alloc = rt.alloc();
+    is_audited(&rt, alloc, "012", Verdict::Clean)?;
+    is_audited(&rt, alloc, "0", Verdict::Clean)?;
+    is_audited(&rt, alloc, "", Verdict::Clean)?;
+    is_audited(&rt, alloc, "02", fault(5, 1))?;
+    is_audited(&rt, alloc, "12", fault(5, 0))?;
+    is_audited(&rt, alloc, "010", fault(2, 0))?;
+    Ok(())
 }

@@ -1,277 +1,148 @@
 //! Devices that fail, and how often they are called.
-use crate::outcomes::{FIRST, REPORT};
-use cc_audit::Verdict;
-use cc_model::{Device, DeviceFault, Sink, Source};
-use cc_play::play::play;
-use cc_play::{PlayFault, tell};
+use crate::runs::{READS_ALL, Reads, Refusal, Run, Task, WRITES_ALL, Writes, run_by};
+use cc_play::PlayFault;
 use std::alloc::{AllocError, Global};
 use std::process::Abort;
 use std::test::Fail;
 
-/// A source that gives some bytes, so many a call, and then fails at each read.
-#[derive(Drop)]
-struct CutReader<'a> {
-    rest: &'a [u8],
-    gives: usize,
-    calls: u64,
-    failures: u64,
-}
+/// A plan in which one item is passed on.
+const FIRST: &str =
+    r#"{"capacity":2,"bound":2,"life":10,"senders":[[7]],"receivers":[1],"schedule":[["s1",100],["r1",100]]}"#;
 
-impl Source for CutReader<'_> {
-    ghost use Rattle.std.specs.Prelude.{Some};
+/// Its report.
+const REPORT: &str = "E 0 s1 send 7 -> accepted 0
+D 0 r1 take -> got 0 s1 1 7
+audit clean
+";
 
-    ghost bytes_left = { λ s. Some s.rest.now };
+/// A plan in which each kind of call has each kind of answer, or none.
+const EACH_KIND: &str =
+    r#"{"capacity":1,"bound":2,"life":2,"senders":[[18446744073709551615,2,3,4,"close","close",5],[6],["close"]],"receivers":[2,2,1],"schedule":[["s1",48],["r1",100],["s1",1000],["r2",100],["s2",3],["s3",3],["r3",3]]}"#;
 
-    ghost read_failures = { λ s. s.failures };
+/// Its report.
+const LINES: &str = "E 0 s1 send 18446744073709551615 -> accepted 0
+E 1 s1 send 2 -> full
+E 2 s1 send 3 -> accepted 1
+E 3 s1 send 4 -> spent
+E 4 s1 close -> shut 2
+E 5 s1 close -> already 2
+E 6 s1 send 5 -> closed
+E 7 s2 send 6 -> pending
+E 8 s3 close -> pending
+D 0 r1 take -> got 0 s1 1 18446744073709551615
+D 1 r1 take -> empty
+D 2 r2 take -> got 1 s1 3 3
+D 3 r2 take -> ended 2
+D 4 r3 take -> pending
+audit clean
+";
 
-    fn read_some(&mut self, buffer: &mut [u8]) -> Result<usize, DeviceFault> {
-        self.calls = self.calls.saturating_add(1);
-        if self.gives == 0 {
-            self.failures += 1;
-            return Err(DeviceFault);
-        }
-        let n = self.gives.min(self.rest.len()).min(buffer.len());
-        let (now, later) = self.rest.split_at(n);
-        buffer[..n].copy_from_slice(now);
-        self.rest = later;
-        self.gives -= n;
-        Ok(n)
-    }
+/// Receipts whose item was never sent.
+const RECEIPTS: &str = r#"{"accepted":[],"taken":[[1,0,1,1,5]]}"#;
 
-    fn failures(&self) -> u64 {
-        self.failures
-    }
-}
+/// The line of their verdict.
+const VERDICT: &str = "audit fault 3 place 0\n";
 
-/// A source that gives one byte a call.
-#[derive(Drop)]
-struct OneByte<'a> {
-    rest: &'a [u8],
-    calls: u64,
-}
-
-impl Source for OneByte<'_> {
-    ghost use Rattle.std.specs.Prelude.{Some};
-
-    ghost bytes_left = { λ s. Some s.rest.now };
-
-    ghost read_failures = { λ s. 0 };
-
-    fn read_some(&mut self, buffer: &mut [u8]) -> Result<usize, DeviceFault> {
-        self.calls = self.calls.saturating_add(1);
-        if self.rest.is_empty() || buffer.is_empty() {
-            return Ok(0);
-        }
-        let (now, later) = self.rest.split_at(1);
-        buffer[..1].copy_from_slice(now);
-        self.rest = later;
-        Ok(1)
-    }
-
-    fn failures(&self) -> u64 {
-        0
-    }
-}
-
-/// How a sink refuses: by an error, or by taking nothing.
-#[derive(Clone, Copy, PartialEq, Eq)]
-enum Refusal {
-    Error,
-    Nothing,
-}
-
-/// A sink that takes some bytes, at most so many a call, and then refuses each write.
-#[derive(Drop)]
-struct CutWriter {
-    taken: Vec<u8>,
-    takes: usize,
+/// The input by at most so many bytes a read, and its text by at most so many a write.
+fn goes_through<R: Abort>(
+    rt: &R,
+    alloc: Global,
+    task: Task,
+    input: &str,
+    text: &str,
     at_most: usize,
-    refusal: Refusal,
-    /// How much had been taken after each call that took some.
-    ends: Vec<usize>,
-    calls: u64,
-    failures: u64,
+) -> Run {
+    let reads = Reads {
+        at_most,
+        ..READS_ALL
+    };
+    let writes = Writes {
+        at_most,
+        ..WRITES_ALL
+    };
+    let run = run_by(alloc, task, input.as_bytes(), reads, writes);
+    assert!(rt; run.outcome.is_ok(), "{input}");
+    assert!(rt; run.sink.taken.as_slice() == text.as_bytes(), "{input}");
+    assert!(rt; run.failed_reads == 0 && run.sink.failures == 0, "{input}");
+    run
 }
 
-impl CutWriter {
-    ghost use Rattle.std.specs.Prelude.{◌≡◌};
-
-    fn new(alloc: Global, takes: usize, at_most: usize, refusal: Refusal) -> CutWriter
-        ensures { result.failures ≡ 0 }
-    {
-        CutWriter {
-            taken: Vec::new(alloc),
-            takes,
-            at_most,
-            refusal,
-            ends: Vec::new(alloc),
-            calls: 0,
-            failures: 0,
-        }
-    }
+/// Each read but those of one byte comes once more than there are bytes.
+fn goes_through_by_bytes<R: Abort>(rt: &R, alloc: Global, task: Task, input: &str, text: &str) {
+    let run = goes_through(rt, alloc, task, input, text, 1);
+    assert!(rt; run.reads == input.len() as u64 + 1, "{input}");
+    assert!(rt; run.sink.calls == text.len() as u64, "{input}");
 }
 
-impl Sink for CutWriter {
-    ghost use Rattle.std.specs.Prelude.{Some};
+#[test]
+fn one_byte_a_call(rt: HostRuntime) -> Result<(), Fail> {
+    let alloc = rt.alloc();
+    let (plan, report) = long(alloc)?;
+    goes_through_by_bytes(&rt, alloc, Task::Play, FIRST, REPORT);
+    goes_through_by_bytes(&rt, alloc, Task::Play, EACH_KIND, LINES);
+    goes_through_by_bytes(&rt, alloc, Task::Play, &plan, &report);
+    goes_through_by_bytes(&rt, alloc, Task::Audit, RECEIPTS, VERDICT);
+    Ok(())
+}
 
-    ghost bytes_written = { λ s. Some s.taken.items };
-
-    ghost write_failures = { λ s. s.failures };
-
-    fn write_some(&mut self, bytes: &[u8]) -> Result<usize, DeviceFault> {
-        self.calls = self.calls.saturating_add(1);
-        let n = self.takes.min(self.at_most).min(bytes.len());
-        if n == 0 {
-            if self.refusal == Refusal::Nothing || bytes.is_empty() {
-                if !bytes.is_empty() {
-                    self.failures += 1;
-                }
-                return Ok(0);
-            }
-            self.failures += 1;
-            return Err(DeviceFault);
-        }
-        if self.taken.extend_from_slice(&bytes[..n]).is_err() {
-            self.failures += 1;
-            return Err(DeviceFault);
-        }
-        self.takes -= n;
-        if self.ends.push(self.taken.len()).is_err() {
-            self.ends.clear();
-        }
-        Ok(n)
-    }
-
-    fn failures(&self) -> u64 {
-        self.failures
+/// Behind each of the bytes a read fails: this is told, and nothing is written.
+fn reads_fail<R: Abort>(rt: &R, alloc: Global, task: Task, input: &str) {
+    for gives in 0..input.len() + 1 {
+        let reads = Reads { gives, ..READS_ALL };
+        let run = run_by(alloc, task, input.as_bytes(), reads, WRITES_ALL);
+        assert!(rt; matches!(run.outcome, Err(PlayFault::Read)), "{gives}");
+        assert!(rt; run.failed_reads == 1, "{gives}");
+        assert!(rt; run.sink.calls == 0, "{gives}");
     }
 }
 
 #[test]
 fn reads_fail_at_every_byte(rt: HostRuntime) -> Result<(), Fail> {
-    for gives in 0..FIRST.len() + 1 {
-        let mut output = Vec::new(rt.alloc());
-        let mut source = CutReader {
-            rest: FIRST.as_bytes(),
-            gives,
-            calls: 0,
-            failures: 0,
-        };
-        let mut sink = Device::new(&mut output);
-        let outcome = play(rt.alloc(), &mut source, &mut sink);
-        assert_eq!(rt; outcome.err(), Some(PlayFault::Read), "{gives}");
-        assert_eq!(rt; source.failures(), 1, "{gives}");
-        assert_eq!(rt; output.len(), 0, "{gives}");
-    }
-    Ok(())
-}
-
-#[test]
-fn writes_fail_at_every_byte(rt: HostRuntime) -> Result<(), Fail> {
-    let report = REPORT.as_bytes();
-    for refusal in [Refusal::Error, Refusal::Nothing] {
-        for takes in 0..report.len() {
-            let mut source = Device::new(FIRST.as_bytes());
-            let mut sink = CutWriter::new(rt.alloc(), takes, 1, refusal);
-            let outcome = play(rt.alloc(), &mut source, &mut sink);
-            assert_eq!(rt; outcome.err(), Some(PlayFault::Write), "{takes}");
-            assert_eq!(rt; sink.failures(), 1, "{takes}");
-            assert_eq!(rt; sink.taken.as_slice(), &report[..takes]);
-            assert_eq!(rt; sink.calls, takes as u64 + 1, "{takes}");
-        }
-    }
-    let mut source = Device::new(FIRST.as_bytes());
-    let mut sink = CutWriter::new(rt.alloc(), report.len(), 1, Refusal::Error);
-    assert!(rt; play(rt.alloc(), &mut source, &mut sink).is_ok());
-    assert_eq!(rt; sink.taken.as_slice(), report);
-    assert_eq!(rt; sink.failures(), 0);
-    Ok(())
-}
-
-#[test]
-fn devices_are_called_by_the_block(rt: HostRuntime) -> Result<(), Fail> {
     let alloc = rt.alloc();
-    let spaces = vec![in alloc; b' '; 16_777_216]?;
-    let mut source = CutReader {
-        rest: spaces.as_slice(),
-        gives: usize::MAX,
-        calls: 0,
-        failures: 0,
-    };
-    let mut sink = CutWriter::new(alloc, usize::MAX, usize::MAX, Refusal::Error);
-    assert!(rt; play(alloc, &mut source, &mut sink).is_err());
-    assert!(rt; source.calls <= 16_777_216 / 4096);
-    let mut source = Device::new(FIRST.as_bytes());
-    let mut sink = CutWriter::new(alloc, usize::MAX, usize::MAX, Refusal::Error);
-    assert!(rt; play(alloc, &mut source, &mut sink).is_ok());
-    assert_eq!(rt; sink.taken.as_slice(), REPORT.as_bytes());
-    assert_eq!(rt; sink.calls, 1);
+    let (plan, _) = long(alloc)?;
+    reads_fail(&rt, alloc, Task::Play, FIRST);
+    reads_fail(&rt, alloc, Task::Play, &plan);
+    reads_fail(&rt, alloc, Task::Audit, RECEIPTS);
     Ok(())
 }
 
-/// Tells an outcome on standard error, which takes all, or fails at once, behind five bytes, or by taking nothing: the status
-/// is the same, and the line goes out as far as it is taken.
-fn has_status<R: Abort>(
+/// Behind so many bytes a write fails, in each way: this is told, just these bytes stand, and nothing is written behind the
+/// failure.
+fn write_fails<R: Abort>(
     rt: &R,
     alloc: Global,
-    outcome: Result<Verdict, PlayFault>,
-    due: u8,
-    line: &str,
+    task: Task,
+    input: &str,
+    text: &str,
+    takes: usize,
+    at_most: usize,
 ) {
-    for takes in [usize::MAX, 0, 5] {
-        for refusal in [Refusal::Error, Refusal::Nothing] {
-            let mut errors = CutWriter::new(alloc, takes, usize::MAX, refusal);
-            assert_eq!(rt; tell(&mut errors, outcome), due, "{outcome:?}, {takes}");
-            let told = line.len().min(takes);
-            assert_eq!(rt; errors.taken.as_slice(), &line.as_bytes()[..told]);
-        }
+    for refusal in [Refusal::Error, Refusal::Nothing] {
+        let writes = Writes {
+            takes,
+            at_most,
+            refusal,
+        };
+        let run = run_by(alloc, task, input.as_bytes(), READS_ALL, writes);
+        assert!(rt; matches!(run.outcome, Err(PlayFault::Write)), "{takes}");
+        assert!(rt; run.sink.has_front(text, takes), "{takes}");
+        assert!(rt; run.sink.has_failed_once(), "{takes}");
+    }
+}
+
+/// A write fails behind each of the bytes, which go out one by one.
+fn writes_fail<R: Abort>(rt: &R, alloc: Global, task: Task, input: &str, text: &str) {
+    for takes in 0..text.len() {
+        write_fails(rt, alloc, task, input, text, takes, 1);
     }
 }
 
 #[test]
-fn failing_devices_have_a_status(rt: HostRuntime) {
+fn writes_fail_at_every_byte(rt: HostRuntime) {
     let alloc = rt.alloc();
-    let fault = Verdict::Fault { kind: 1, place: 0 };
-    let rows = [
-        (Ok(Verdict::Clean), 0, ""),
-        (Ok(fault), 1, ""),
-        (Err(PlayFault::NoMemory), 3, "ccq: out of memory\n"),
-        (Err(PlayFault::Read), 4, "ccq: reading failed\n"),
-        (Err(PlayFault::Write), 4, "ccq: writing failed\n"),
-    ];
-    for (outcome, due, line) in rows {
-        has_status(&rt, alloc, outcome, due, line);
-    }
-    let stranger =
-        "{\"capacity\":2,\"bound\":2,\"life\":10,\"senders\":[[]],\"receivers\":[0],\"schedule\":[[\"r9\",1]]}";
-    let refused = [
-        ("", "ccq: plan refused: P1\n"),
-        ("{}", "ccq: plan refused: P2\n"),
-        (
-            "{\"capacity\":0,\"bound\":2,\"life\":10,\"senders\":[[]],\"receivers\":[0],\"schedule\":[]}",
-            "ccq: plan refused: P3 capacity\n",
-        ),
-        (stranger, "ccq: plan refused: P4 at 0\n"),
-    ];
-    for (plan, line) in refused {
-        let mut sink = CutWriter::new(alloc, usize::MAX, usize::MAX, Refusal::Error);
-        let outcome = play(alloc, &mut Device::new(plan.as_bytes()), &mut sink);
-        has_status(&rt, alloc, outcome, 2, line);
-    }
-}
-
-#[test]
-fn one_byte_a_read(rt: HostRuntime) -> Result<(), Fail> {
-    let alloc = rt.alloc();
-    let mut source = OneByte {
-        rest: FIRST.as_bytes(),
-        calls: 0,
-    };
-    let mut sink = CutWriter::new(alloc, usize::MAX, usize::MAX, Refusal::Error);
-    assert!(rt; play(alloc, &mut source, &mut sink).is_ok());
-    assert_eq!(rt; source.calls as usize, FIRST.len() + 1);
-    assert_eq!(rt; sink.taken.as_slice(), REPORT.as_bytes());
-    Ok(())
+    writes_fail(&rt, alloc, Task::Play, FIRST, REPORT);
+    writes_fail(&rt, alloc, Task::Play, EACH_KIND, LINES);
+    writes_fail(&rt, alloc, Task::Audit, RECEIPTS, VERDICT);
 }
 
 /// A plan that is read in two blocks, of which the first thousand sends are played, and its report of several blocks. One
@@ -294,67 +165,32 @@ fn long(alloc: Global) -> Result<(String, String), AllocError> {
 }
 
 #[test]
-fn reads_of_a_long_plan_fail_at_every_byte(rt: HostRuntime) -> Result<(), Fail> {
-    let (plan, report) = long(rt.alloc())?;
-    for gives in 0..plan.len() + 1 {
-        let mut output = Vec::new(rt.alloc());
-        let mut source = CutReader {
-            rest: plan.as_bytes(),
-            gives,
-            calls: 0,
-            failures: 0,
-        };
-        let mut sink = Device::new(&mut output);
-        let outcome = play(rt.alloc(), &mut source, &mut sink);
-        assert_eq!(rt; outcome.err(), Some(PlayFault::Read), "{gives}");
-        assert_eq!(rt; output.len(), 0, "{gives}");
-    }
-    let mut source = OneByte {
-        rest: plan.as_bytes(),
-        calls: 0,
-    };
-    let mut sink = CutWriter::new(rt.alloc(), usize::MAX, 1, Refusal::Error);
-    assert!(rt; play(rt.alloc(), &mut source, &mut sink).is_ok());
-    assert_eq!(rt; source.calls as usize, plan.len() + 1);
-    assert_eq!(rt; sink.taken.as_slice(), report.as_bytes());
-    Ok(())
-}
-
-/// Plays the plan into a sink that refuses behind so many bytes: these stand there, and one write failed.
-fn fails_behind<R: Abort>(
-    rt: &R,
-    alloc: Global,
-    plan: &str,
-    report: &str,
-    takes: usize,
-    refusal: Refusal,
-) {
-    let mut sink = CutWriter::new(alloc, takes, usize::MAX, refusal);
-    let outcome = play(alloc, &mut Device::new(plan.as_bytes()), &mut sink);
-    assert_eq!(rt; outcome.err(), Some(PlayFault::Write), "{takes}");
-    assert!(rt; sink.taken.len() == takes, "{takes}");
-    assert!(rt;
-        report.as_bytes().starts_with(sink.taken.as_slice()),
-        "{takes}"
-    );
-    assert_eq!(rt; sink.failures(), 1, "{takes}");
-}
-
-#[test]
 fn writes_fail_at_every_block(rt: HostRuntime) -> Result<(), Fail> {
-    let (plan, report) = long(rt.alloc())?;
-    let mut whole = CutWriter::new(rt.alloc(), usize::MAX, usize::MAX, Refusal::Error);
-    let outcome = play(rt.alloc(), &mut Device::new(plan.as_bytes()), &mut whole);
-    assert!(rt; outcome.is_ok());
-    assert!(rt; whole.taken.as_slice() == report.as_bytes());
-    assert!(rt; whole.ends.len() > 2);
-    for end in &whole.ends {
+    let alloc = rt.alloc();
+    let (plan, report) = long(alloc)?;
+    let whole = goes_through(&rt, alloc, Task::Play, &plan, &report, usize::MAX);
+    assert!(rt; whole.sink.ends.len() > 2);
+    for end in &whole.sink.ends {
         for takes in end.saturating_sub(1)..end.saturating_add(2) {
             if takes < report.len() {
-                fails_behind(&rt, rt.alloc(), &plan, &report, takes, Refusal::Error);
-                fails_behind(&rt, rt.alloc(), &plan, &report, takes, Refusal::Nothing);
+                write_fails(&rt, alloc, Task::Play, &plan, &report, takes, usize::MAX);
             }
         }
     }
+    Ok(())
+}
+
+#[test]
+fn devices_are_called_by_the_block(rt: HostRuntime) -> Result<(), Fail> {
+    let alloc = rt.alloc();
+    let spaces = vec![in alloc; b' '; 16_777_216]?;
+    let read = run_by(alloc, Task::Play, &spaces, READS_ALL, WRITES_ALL);
+    assert!(rt; read.outcome.is_err());
+    assert!(rt; read.reads <= 16_777_216 / 4096);
+    let (plan, report) = long(alloc)?;
+    let written = goes_through(&rt, alloc, Task::Play, &plan, &report, usize::MAX);
+    assert!(rt; written.sink.calls <= report.len() as u64 / 4096 + 1);
+    let written = goes_through(&rt, alloc, Task::Play, FIRST, REPORT, usize::MAX);
+    assert!(rt; written.sink.calls == 1);
     Ok(())
 }

@@ -1,4 +1,5 @@
-//! The tests of playing and auditing, from bytes to bytes.
+//! The tests of the texts, of playing and of auditing, of what the corpus of the program can't show: devices that fail,
+//! histories that no queue leaves, and values that no report tells.
 #![tactic(auto)]
 
 #[cfg(test)]
@@ -6,8 +7,8 @@ mod audits;
 #[cfg(test)]
 mod devices;
 #[cfg(test)]
-mod outcomes;
+mod readers;
 #[cfg(test)]
-mod plays;
+mod runs;
 #[cfg(test)]
-mod refusals;
+mod statuses;

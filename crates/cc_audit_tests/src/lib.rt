@@ -1,5 +1,0 @@
-//! The tests of the audit.
-#![tactic(auto)]
-
-#[cfg(test)]
-mod audits;

@@ -1,0 +1,73 @@
+//! What is read of plans and receipts, where no report tells it.
+use cc_audit::{SendReceipt, TakeReceipt};
+use cc_model::{Body, Config, Item};
+use cc_plan::{read_plan, read_receipts};
+use std::alloc::Global;
+use std::process::Abort;
+
+/// A plan is read as one with this configuration.
+fn is_read<R: Abort>(rt: &R, alloc: Global, input: &str, version: u32, wanted: Config) {
+    let plan = read_plan(alloc, input.as_bytes());
+    assert!(rt; plan.is_ok(), "{input}");
+    if let Ok(plan) = plan {
+        assert_eq!(rt; plan.version, version, "{input}");
+        assert_eq!(rt; plan.config, wanted, "{input}");
+    }
+}
+
+#[test]
+fn plans_are_read(rt: HostRuntime) {
+    let widest =
+        r#"{"version":1,"schedule":[["s2",100000],["r1",1],["s1",7]],"receivers":[0,65536],"senders":[[5,"close",18446744073709551615],[]],"life":281474976710656,"bound":1024,"capacity":4096}"#;
+    let wanted = Config {
+        senders: 2,
+        receivers: 2,
+        capacity: 4096,
+        bound: 1024,
+        life: 1 << 48,
+        per_sender: u32::MAX,
+        groups: 1,
+    };
+    is_read(&rt, rt.alloc(), widest, 1, wanted);
+    let groups =
+        r#"{"schedule":[["r6",1]],"receivers":[0,1,2,3,4,65536],"senders":[[[5],"close",[1,2,3]],[[1,2,3,18446744073709551615],[7,8]]],"life":9,"bound":8,"capacity":7,"groups":3,"version":2}"#;
+    let wanted = Config {
+        senders: 2,
+        receivers: 2,
+        capacity: 7,
+        bound: 8,
+        life: 9,
+        per_sender: u32::MAX,
+        groups: 3,
+    };
+    is_read(&rt, rt.alloc(), groups, 2, wanted);
+}
+
+#[test]
+fn receipts_are_read(rt: HostRuntime) {
+    let input =
+        r#"{"taken":[[512,18446744073709551615,64,4294967295,[0,1,2,18446744073709551615]]],"accepted":[[64,4294967295,18446744073709551614,[5,0]]],"total":18446744073709551613,"version":2}"#;
+    let receipts = read_receipts(rt.alloc(), input.as_bytes());
+    assert!(rt; receipts.is_ok());
+    if let Ok(receipts) = receipts {
+        let sent = SendReceipt {
+            sender: 64,
+            number: u32::MAX,
+            place: u64::MAX - 1,
+            body: Body::two(5, 0),
+        };
+        let item = Item {
+            place: u64::MAX,
+            sender: 64,
+            number: u32::MAX,
+            body: Body::four(0, 1, 2, u64::MAX),
+        };
+        let taken = TakeReceipt {
+            receiver: 512,
+            item,
+        };
+        assert_eq!(rt; receipts.accepted.as_slice(), [sent].as_slice());
+        assert_eq!(rt; receipts.taken.as_slice(), [taken].as_slice());
+        assert_eq!(rt; receipts.total, Some(u64::MAX - 2));
+    }
+}
