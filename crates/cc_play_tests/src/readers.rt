@@ -1,17 +1,25 @@
 //! What is read of plans and receipts, where no report tells it.
 use cc_audit::{SendReceipt, TakeReceipt};
-use cc_model::{Body, Config, Item};
+use cc_model::{Body, Config, Item, Pass};
 use cc_plan::{read_plan, read_receipts};
 use std::alloc::Global;
 use std::process::Abort;
 
-/// A plan is read as one with this configuration.
-fn is_read<R: Abort>(rt: &R, alloc: Global, input: &str, version: u32, wanted: Config) {
+/// A plan is read as one with this configuration, so many takes of each receiver, and a schedule that begins so.
+fn is_read<R: Abort>(
+    rt: &R,
+    alloc: Global,
+    input: &str,
+    wanted: Config,
+    takes: &[u32],
+    first: (Pass, u32),
+) {
     let plan = read_plan(alloc, input.as_bytes());
     assert!(rt; plan.is_ok(), "{input}");
     if let Ok(plan) = plan {
-        assert_eq!(rt; plan.version, version, "{input}");
-        assert_eq!(rt; plan.config, wanted, "{input}");
+        assert!(rt; plan.config == wanted, "{input}");
+        assert!(rt; plan.receivers.as_slice() == takes, "{input}");
+        assert!(rt; plan.schedule.first().copied() == Some(first), "{input}");
     }
 }
 
@@ -28,7 +36,8 @@ fn plans_are_read(rt: HostRuntime) {
         per_sender: u32::MAX,
         groups: 1,
     };
-    is_read(&rt, rt.alloc(), widest, 1, wanted);
+    let first = (Pass::Sender(2), 100_000);
+    is_read(&rt, rt.alloc(), widest, wanted, &[0, 65_536], first);
     let groups =
         r#"{"schedule":[["r6",1]],"receivers":[0,1,2,3,4,65536],"senders":[[[5],"close",[1,2,3]],[[1,2,3,18446744073709551615],[7,8]]],"life":9,"bound":8,"capacity":7,"groups":3,"version":2}"#;
     let wanted = Config {
@@ -40,7 +49,15 @@ fn plans_are_read(rt: HostRuntime) {
         per_sender: u32::MAX,
         groups: 3,
     };
-    is_read(&rt, rt.alloc(), groups, 2, wanted);
+    let first = (Pass::Receiver(6), 1);
+    is_read(
+        &rt,
+        rt.alloc(),
+        groups,
+        wanted,
+        &[0, 1, 2, 3, 4, 65_536],
+        first,
+    );
 }
 
 #[test]
