@@ -1,0 +1,7 @@
+use Rattle.cc_model.proofs.Writing.{then}
+use Rattle.cc_show.specs.Page.{call_text}
+use Rattle.cc_show.proofs.text.write_call.Goals as goal
+
+pub returns-in-Send : goal.returns-in-Send
+unfolding call_text
+returns-in-Send g c = rw c.in-Send.is (then c.text.ensures c.write_body.ensures)

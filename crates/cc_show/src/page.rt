@@ -1,0 +1,790 @@
+//! The fixed text of the page. It is written from page/page.html by tools/page_text.sh.
+
+/// What stands before the run.
+pub const FRONT: &[u8] = b"\
+<!DOCTYPE html>
+<html lang=\"en\">
+<head>
+<meta charset=\"utf-8\">
+<meta name=\"viewport\" content=\"width=device-width, initial-scale=1\">
+<title>CC-Queue, event by event</title>
+<style>
+:root {
+  color-scheme: light dark;
+  --back: #f6f7f9; --card: #ffffff; --ink: #1a2130; --dim: #5c667a; --line: #cfd5df; --mark: #b3261e;
+  --enter: #2f6fd0; --wait: #b06a00; --serve: #1d7f4e; --hand: #8a3fb8; --answer: #0b7f8c; --rest: #7b8496;
+  --touch: #fff0b8; --touch-line: #b98900;
+}
+@media (prefers-color-scheme: dark) {
+  :root {
+    --back: #12161d; --card: #1b212b; --ink: #e7ebf2; --dim: #a3adbf; --line: #39424f; --mark: #ff8a80;
+    --enter: #7fb0ff; --wait: #f0b35a; --serve: #6bd19b; --hand: #d79bff; --answer: #67d3de; --rest: #8d97a8;
+    --touch: #4a3d10; --touch-line: #e3bd4d;
+  }
+}
+* { box-sizing: border-box; }
+body { margin: 0; background: var(--back); color: var(--ink); font: 15px/1.45 system-ui, sans-serif; }
+header, main, footer { max-width: 1280px; margin: 0 auto; padding: 0 16px; }
+header { padding-top: 14px; }
+h1 { font-size: 21px; margin: 0 0 2px; }
+h2 { font-size: 15px; margin: 0 0 6px; }
+h3 { font-size: 13px; margin: 8px 0 4px; color: var(--dim); font-weight: 600; }
+p { margin: 0 0 6px; }
+.dim { color: var(--dim); }
+.card { background: var(--card); border: 1px solid var(--line); border-radius: 8px; padding: 10px 12px; margin: 0 0 12px; overflow: hidden; }
+.two { display: grid; grid-template-columns: repeat(auto-fit, minmax(min(100%, 440px), 1fr)); gap: 0 12px; align-items: start; }
+code, .mono { font-family: ui-monospace, \"DejaVu Sans Mono\", Menlo, monospace; font-size: 13px; }
+#controls { position: sticky; top: 0; z-index: 2; }
+#controls .row { display: flex; flex-wrap: wrap; gap: 6px; align-items: center; }
+button { font: inherit; color: inherit; background: var(--back); border: 1px solid var(--line); border-radius: 6px; padding: 3px 11px; cursor: pointer; }
+button:hover { border-color: var(--ink); }
+:focus-visible { outline: 2px solid var(--enter); outline-offset: 1px; }
+#slider { flex: 1 1 240px; min-width: 120px; accent-color: var(--enter); }
+#where { min-width: 11em; font-variant-numeric: tabular-nums; }
+#told { margin: 8px 0 0; min-height: 2.9em; }
+#told b { font-weight: 650; }
+.bad { background: var(--mark); color: var(--card); padding: 8px 12px; border-radius: 8px; margin: 0 0 12px; font-weight: 600; }
+.good { color: var(--serve); font-weight: 600; }
+#lanes { overflow: auto; max-height: 46vh; position: relative; }
+#lanes svg { display: block; }
+#lanes text { fill: var(--ink); font: 12px system-ui, sans-serif; }
+#lanes .name { font-weight: 650; }
+#lanes .status { fill: var(--dim); }
+#lanes .code { font: 10.5px ui-monospace, \"DejaVu Sans Mono\", monospace; fill: var(--card); text-anchor: middle; }
+#lanes .lane { stroke: var(--line); }
+#lanes .cell { cursor: pointer; }
+#lanes .later { opacity: .28; }
+#lanes .now { fill: none; stroke: var(--ink); stroke-width: 2; }
+.legend span { display: inline-block; margin-right: 12px; }
+.legend i, .dot { display: inline-block; width: 10px; height: 10px; border-radius: 3px; margin-right: 4px; }
+.boxes { display: flex; flex-wrap: wrap; align-items: stretch; gap: 4px 0; list-style: none; margin: 0; padding: 0; }
+.boxes li { display: flex; align-items: center; }
+.box { border: 1.5px solid var(--line); border-radius: 6px; padding: 3px 7px; font-size: 12.5px; line-height: 1.35; background: var(--back); min-width: 74px; }
+.box b { font-size: 13px; }
+.box.touch, tr.touch td, .word.touch { background: var(--touch); border-color: var(--touch-line); }
+.box.serve { border-color: var(--serve); border-width: 2px; }
+.box.wait { border-color: var(--wait); }
+.box.done { border-style: dashed; opacity: .8; }
+.box.free { border-style: dotted; color: var(--dim); }
+.box.dummy { border-style: dashed; }
+.box.prepare { border-color: var(--hand); border-style: dashed; }
+.tagline { display: block; }
+.badge { display: inline-block; border-radius: 4px; padding: 0 5px; margin: 1px 3px 0 0; font-size: 11.5px; border: 1px solid currentColor; color: var(--enter); }
+.badge.t { color: var(--answer); } .badge.c { color: var(--hand); } .badge.w { color: var(--wait); }
+.arrow { padding: 0 5px; color: var(--dim); white-space: nowrap; font-size: 13px; }
+.arrow.none { color: var(--wait); }
+.words { display: flex; flex-wrap: wrap; gap: 4px 6px; margin-top: 8px; }
+.word { border: 1px solid var(--line); border-radius: 5px; padding: 0 6px; font-size: 12.5px; }
+table { border-collapse: collapse; width: 100%; font-size: 13px; }
+td { padding: 1px 8px 1px 0; border: 0; vertical-align: top; }
+.list { max-height: 300px; overflow: auto; }
+.pending { color: var(--wait); }
+pre { margin: 0; max-height: 320px; overflow: auto; white-space: pre-wrap; }
+dl { display: grid; grid-template-columns: auto 1fr; gap: 1px 12px; margin: 0; font-size: 13px; }
+dt { font-weight: 600; } dd { margin: 0; color: var(--dim); }
+footer { padding-bottom: 24px; }
+kbd { border: 1px solid var(--line); border-radius: 4px; padding: 0 4px; font: 12px ui-monospace, monospace; }
+@media (prefers-reduced-motion: no-preference) { .box, .word { transition: background-color .12s; } }
+</style>
+</head>
+<body>
+<header>
+<h1>CC-Queue, event by event</h1>
+<p class=\"dim\" id=\"config\"></p>
+</header>
+<main>
+<noscript><p class=\"bad\">The pictures are drawn by the script of this page, which is turned off. The events and the report stand in its source.</p></noscript>
+<div id=\"alarm\" role=\"alert\"></div>
+<section class=\"card\" id=\"controls\" aria-label=\"Where in the run\">
+<div class=\"row\">
+<button id=\"first\" title=\"Home\">first</button>
+<button id=\"back\" title=\"left arrow\">&#8592; back</button>
+<button id=\"play\" title=\"space\" aria-pressed=\"false\">play</button>
+<button id=\"next\" title=\"right arrow\">next &#8594;</button>
+<button id=\"last\" title=\"End\">last</button>
+<input id=\"slider\" type=\"range\" min=\"0\" value=\"0\" step=\"1\" aria-label=\"event\">
+<span id=\"where\"></span>
+</div>
+<div id=\"told\" aria-live=\"polite\"></div>
+</section>
+<section class=\"card\" aria-labelledby=\"lanes-title\">
+<h2 id=\"lanes-title\">Who does what: a lane for each pass</h2>
+<div id=\"lanes\" tabindex=\"0\" aria-label=\"lanes, scrolls\"></div>
+<p class=\"legend dim\" id=\"legend\"></p>
+</section>
+<div class=\"two\" id=\"chains\"></div>
+<section class=\"card\" aria-labelledby=\"list-title\">
+<h2 id=\"list-title\">The list</h2>
+<div id=\"list\"></div>
+</section>
+<div class=\"two\">
+<section class=\"card\" aria-labelledby=\"history-title\">
+<h2 id=\"history-title\">The history so far</h2>
+<div id=\"history\"></div>
+</section>
+<section class=\"card\" aria-labelledby=\"end-title\">
+<h2 id=\"end-title\">At the end: the report</h2>
+<p id=\"verdict\"></p>
+<pre class=\"mono\" id=\"whole\" tabindex=\"0\"></pre>
+</section>
+</div>
+</main>
+<footer>
+<p class=\"dim\">Keys: <kbd>&#8592;</kbd> <kbd>&#8594;</kbd> one event, <kbd>Page up</kbd> <kbd>Page down</kbd> to the event where a call enters
+the history or is answered, <kbd>Home</kbd> <kbd>End</kbd>, <kbd>space</kbd> plays. The address of this page with
+<code>#event=17</code> opens it after event 17.</p>
+<details><summary>What the kinds of events are</summary><dl id=\"kinds\"></dl></details>
+</footer>
+<script type=\"text/plain\" id=\"run\">";
+
+/// What stands between the run and the report.
+pub const MIDDLE: &[u8] = b"\
+</script>
+<script type=\"text/plain\" id=\"report\">";
+
+/// What stands behind the report.
+pub const BACK: &[u8] = b"\
+</script>
+<script>
+(() => {
+'use strict';
+
+// ---- What the program wrote: the plan's configuration and calls, the events as the machine told them, the report.
+
+const lines = document.getElementById('run').textContent.split('\\n');
+const report = document.getElementById('report').textContent;
+
+const [version, capacity, bound, life, groups, senders, receivers] = lines[0].trim().split(' ').map(Number);
+const rows = senders + groups * receivers;
+
+// \" s 7 8 c\": a send of a body of words, and a close
+function callsOf(line) {
+  const calls = [];
+  for (const word of line.trim().split(' ')) {
+    if (word === 's') calls.push({ send: [] });
+    else if (word === 'c') calls.push({ close: true });
+    else if (word !== '') calls[calls.length - 1].send.push(BigInt(word));
+  }
+  return calls;
+}
+
+const calls = lines.slice(1, 1 + senders).map(callsOf);
+const takes = lines[1 + senders].trim().split(' ').map(Number);
+const numbers = lines[2 + senders].trim().split(' ').filter(word => word !== '').map(Number);
+const told = [];
+for (let i = 0; i + 1 < numbers.length; i += 2) told.push({ row: numbers[i], kind: numbers[i + 1] });
+
+// ---- Kinds of events: a name, two letters, a group of kinds, and what such a step does.
+
+const KINDS = [null,
+  ['ResetState', 'R1', 'enter', 'stores 1, waiting, into the state of its own node'],
+  ['Exchange', 'Ex', 'enter', 'swaps its own node into the tail of its chain: here the call enters the history'],
+  ['ReadState', 'St', 'wait', 'reads the state of its node: 0 to serve, 1 to wait, 2 the answer is there'],
+  ['HandOver', 'Ho', 'hand', 'stores 0, serve, into the state of the node where it stops: who has that node serves next'],
+  ['ReadObject', 'Or', 'serve', 'reads a word of the list'],
+  ['WriteObject', 'Ow', 'serve', 'writes a word of the list'],
+  ['ResetNext', 'R0', 'enter', 'stores null into the next link of its own node'],
+  ['WriteRequest', 'Wq', 'enter', 'writes a word of its request into its node'],
+  ['Link', 'Lk', 'enter', 'links its node to the one that it put into the tail'],
+  ['ReadNext', 'Nx', 'serve', 'reads the next link of the node that it would serve'],
+  ['ReadRequest', 'Rq', 'serve', 'reads a word of the request that it serves'],
+  ['WriteAnswer', 'Wa', 'serve', 'writes a word of the answer'],
+  ['MarkDone', 'Dn', 'hand', 'stores 2, done, into the state of the node that it served'],
+  ['ReadAnswer', 'An', 'answer', 'reads a word of its answer'],
+  ['ReadPassed', 'Ps', 'serve', 'reads how many groups went past a list node: it is free where all have'],
+  ['ResetListNode', 'Rl', 'serve', 'clears a word of the free list node'],
+  ['WriteItem', 'Wi', 'serve', 'writes a word of the item into the list node'],
+  ['LinkLast', 'Ll', 'serve', 'links the list node behind the last one: here the send is accepted, or the queue is shut'],
+  ['ReadDummyNext', 'Dx', 'serve', 'reads the next link of the dummy: null where the list is empty'],
+  ['ReadItem', 'Ri', 'serve', 'reads a word of the item'],
+  ['AddPassed', 'Ap', 'serve', 'adds 1 to the passes of the old dummy: here the item is got'],
+];
+const GROUPS_OF_KINDS = { enter: 'enters its chain', wait: 'reads its state', serve: 'serves', hand: 'marks done, hands over', answer: 'reads its answer' };
+const number = {};
+KINDS.forEach((kind, i) => { if (kind) number[kind[0]] = i; });
+
+// ---- Names of passes, words and answers. A chain is -1 for the senders, or a group from 0.
+
+const passName = row => row < senders ? 's' + (row + 1) : 'r' + (row - senders + 1);
+const chainOf = row => row < senders ? -1 : Math.floor((row - senders) / receivers);
+const chainName = x => x < 0 ? 'send chain' : groups > 1 ? 'take chain of group ' + (x + 1) : 'take chain';
+const tail = x => ({ at: 'tail', x });
+const node = (x, i, field, n) => ({ at: 'node', x, i, field, n });
+const item = (i, field, n) => ({ at: 'item', i, field, n });
+const object = (field, g) => ({ at: 'object', field, g });
+const keyOf = w => [w.at, w.x, w.i, w.field, w.n, w.g].join(' ');
+
+const callText = call => call.take ? 'take' : call.close ? 'close' : 'send ' + call.send.join(' ');
+function answerText(a) {
+  if (!a) return 'pending';
+  if (a.t === 'got') return 'got ' + a.place + ' s' + tagSender(a.tag) + ' ' + tagNumber(a.tag) + ' ' + a.body.slice(0, further(a.tag) + 1).join(' ');
+  return a.n === undefined ? a.t : a.t + ' ' + a.n;
+}
+
+// ---- Words as the algorithm packs them.
+
+const pack = (sender, n, body) => (BigInt(body.length - 1) << 48n) + (BigInt(sender) << 32n) + BigInt(n);
+const further = tag => Number((tag >> 48n) % 4n);
+const tagSender = tag => Number((tag >> 32n) % 65536n);
+const tagNumber = tag => Number(tag % (1n << 32n));
+const CODES = { accepted: 1n, full: 2n, closed: 3n, spent: 4n, shut: 5n, already: 6n, got: 1n, empty: 2n, ended: 3n };
+const coded = a => (CODES[a.t] << 56n) + (a.t === 'got' ? a.place : a.n === undefined ? 0n : a.n);
+function senderReads(ret) {
+  const t = ['', 'accepted', 'full', 'closed', 'spent', 'shut', 'already'][Number(ret >> 56n)];
+  return t === 'accepted' || t === 'shut' || t === 'already' ? { t, n: ret % (1n << 56n) } : { t };
+}
+
+// ---- The state: words, where each pass stands, and the history.
+
+const mem = new Map();
+const read = w => { const v = mem.get(keyOf(w)); return v === undefined ? 0n : v; };
+const write = (w, v) => mem.set(keyOf(w), v);
+const stands = [];
+const history = [];           // the senders' side, and then one for each group
+const side = x => history[x + 1];
+const turns = [];             // of each chain: the calls that its combiner served in its turn
+const turnOf = x => turns[x + 1];
+
+function open() {
+  for (let x = -1; x < groups; x++) {
+    write(tail(x), 1n);
+    history.push({ calls: [], answers: [], marked: 0 });
+    turns.push(null);
+    if (x >= 0) write(object('head', x), 1n);
+  }
+  write(object('last'), 1n);
+  write(object('cursor'), 1n);
+  for (let i = 1; i <= capacity; i++) write(item(i, 'passed'), BigInt(groups));
+  for (let row = 0; row < rows; row++) {
+    const own = row < senders ? row + 1 : (row - senders) % receivers + 1;
+    stands.push({ made: 0, sends: 0, node: own, call: null, place: { at: 'Idle' } });
+  }
+}
+
+function nextCall(row, made) {
+  if (row < senders) return calls[row][made] || null;
+  return made < takes[row - senders] ? { take: true } : null;
+}
+
+// The next step of a pass that stands so: its kind, its word, what it does there, and where that leads.
+function stepAt(x, own, p) {
+  const load = (kind, w, to) => ({ kind, w, does: 'reads', to });
+  const store = (kind, w, v, to) => ({ kind, w, does: 'writes', v: BigInt(v), to: () => to });
+  const decides = (job, answer) => ({ place: { at: 'WriteAnswer', job, answer }, decides: answer });
+  const tells = (job, answer) => ({ place: { at: 'WriteAnswer', job, answer } });
+  const go = (at, more) => ({ place: Object.assign({ at }, more) });
+  const job = p.job;
+  const mark = capacity + 1;
+  const after = at => (at + 1) % (capacity + 1);
+  switch (p.at) {
+    case 'ResetNext': return store('ResetNext', node(x, own, 'next'), 0, go('ResetState', { call: p.call }));
+    case 'ResetState': return store('ResetState', node(x, own, 'state'), 1, go('Exchange', { call: p.call }));
+    case 'Exchange': return { kind: 'Exchange', w: tail(x), does: 'swaps', v: BigInt(own + 1), enters: p.call,
+      to: found => Object.assign(x < 0 ? go('WriteTag', { put: own, call: p.call }) : go('Link', { put: own }), { node: Number(found) - 1 }) };
+    case 'WriteTag': return store('WriteRequest', node(x, own, 'tag'), p.call.tag, go('WriteBody', { put: p.put, call: p.call, i: 0 }));
+    case 'WriteBody': return store('WriteRequest', node(x, own, 'body', p.i), p.call.words[p.i],
+      p.i < further(p.call.tag) ? go('WriteBody', { put: p.put, call: p.call, i: p.i + 1 }) : go('Link', { put: p.put }));
+    case 'Link': return store('Link', node(x, own, 'next'), p.put + 1, go('ReadState'));
+    case 'ReadState': return load('ReadState', node(x, own, 'state'), s => s === 0n ? go('ReadNext', { round: { at: own, served: 0 } }) : s === 1n ? go('ReadState') : go('ReadAnswer'));
+    case 'ReadNext': return load('ReadNext', node(x, p.round.at, 'next'), next => {
+      if (next === 0n) return go('HandOver', { node: p.round.at });
+      const j = { at: p.round.at, served: p.round.served, next: Number(next) - 1 };
+      return x < 0 ? go('ReadTag', { job: j }) : go('ReadHead', { job: j });
+    });
+    case 'WriteAnswer': return store('WriteAnswer', node(x, job.at, 'ret'), coded(p.answer), p.answer.t === 'got' ? go('WriteAnswerTag', { job, answer: p.answer }) : go('MarkDone', { job }));
+    case 'WriteAnswerTag': return store('WriteAnswer', node(x, job.at, 'tag'), p.answer.tag, go('WriteAnswerBody', { job, answer: p.answer, i: 0 }));
+    case 'WriteAnswerBody': return store('WriteAnswer', node(x, job.at, 'body', p.i), p.answer.body[p.i],
+      p.i < further(p.answer.tag) ? go('WriteAnswerBody', { job, answer: p.answer, i: p.i + 1 }) : go('MarkDone', { job }));
+    case 'MarkDone': return store('MarkDone', node(x, job.at, 'state'), 2, job.served + 1 === bound ? go('HandOver', { node: job.next }) : go('ReadNext', { round: { at: job.next, served: job.served + 1 } }));
+    case 'HandOver': return store('HandOver', node(x, p.node, 'state'), 0, go('ReadAnswer'));
+    case 'ReadAnswer': return load('ReadAnswer', node(x, own, 'ret'), ret => {
+      const value = ret % (1n << 56n);
+      if (x < 0) return go('Finished', { answer: senderReads(ret) });
+      const code = ret >> 56n;
+      return code === 1n ? go('ReadAnswerTag', { at_place: value }) : go('Finished', { answer: code === 2n ? { t: 'empty' } : { t: 'ended', n: value } });
+    });
+    case 'ReadAnswerTag': return load('ReadAnswer', node(x, own, 'tag'), tag => go('ReadAnswerBody', { answer: { t: 'got', place: p.at_place, tag, body: [] }, i: 0 }));
+    case 'ReadAnswerBody': return load('ReadAnswer', node(x, own, 'body', p.i), found => {
+      const answer = Object.assign({}, p.answer, { body: p.answer.body.concat([found]) });
+      return p.i < further(answer.tag) ? go('ReadAnswerBody', { answer, i: p.i + 1 }) : go('Finished', { answer });
+    });
+    // a send or a close
+    case 'ReadTag': return load('ReadRequest', node(x, job.at, 'tag'), tag => go('ReadBody', { job, tag, body: [], i: 0 }));
+    case 'ReadBody': return load('ReadRequest', node(x, job.at, 'body', p.i), found => {
+      const body = p.body.concat([found]);
+      return p.i < further(p.tag) ? go('ReadBody', { job, tag: p.tag, body, i: p.i + 1 }) : go('ReadShut', { job, tag: p.tag, body });
+    });
+    case 'ReadShut': return load('ReadObject', object('shut'), shut => shut === 0n ? go('ReadCount', { job, tag: p.tag, body: p.body }) : p.tag === 0n ? go('ReadTotal', { job }) : decides(job, { t: 'closed' }));
+    case 'ReadTotal': return load('ReadObject', object('count'), count => decides(job, { t: 'already', n: count }));
+    case 'ReadCount': return load('ReadObject', object('count'), count => p.tag === 0n ? go('ReadLastToClose', { job, total: count })
+      : count === BigInt(life) ? decides(job, { t: 'spent' }) : go('ReadCursor', { job, place: count, tag: p.tag, body: p.body }));
+    case 'ReadLastToClose': return load('ReadObject', object('last'), last => go('LinkMark', { job, total: p.total, last: Number(last) - 1 }));
+    case 'LinkMark': return store('LinkLast', item(p.last, 'next'), mark + 1, { place: { at: 'WriteLastMark', job, total: p.total }, decides: { t: 'shut', n: p.total } });
+    case 'WriteLastMark': return store('WriteObject', object('last'), mark + 1, go('WriteShut', { job, total: p.total }));
+    case 'WriteShut': return store('WriteObject', object('shut'), 1, tells(job, { t: 'shut', n: p.total }));
+    case 'ReadCursor': return load('ReadObject', object('cursor'), cursor => go('ReadPassed', Object.assign({}, p, { at: 'ReadPassed', scan: Number(cursor), reads: 1 })));
+    case 'ReadPassed': return load('ReadPassed', item(p.scan, 'passed'), passed => passed === BigInt(groups) ? { place: Object.assign({}, p, { at: 'ResetPassed' }) }
+      : p.reads === capacity + 1 ? decides(job, { t: 'full' }) : { place: Object.assign({}, p, { scan: after(p.scan), reads: p.reads + 1 }) });
+    case 'ResetPassed': return store('ResetListNode', item(p.scan, 'passed'), 0, { place: Object.assign({}, p, { at: 'ResetItemNext' }) });
+    case 'ResetItemNext': return store('ResetListNode', item(p.scan, 'next'), 0, { place: Object.assign({}, p, { at: 'WriteItemTag' }) });
+    case 'WriteItemTag': return store('WriteItem', item(p.scan, 'tag'), p.tag, { place: Object.assign({}, p, { at: 'WriteItemBody', i: 0 }) });
+    case 'WriteItemBody': return store('WriteItem', item(p.scan, 'body', p.i), p.body[p.i],
+      { place: Object.assign({}, p, p.i < further(p.tag) ? { i: p.i + 1 } : { at: 'ReadLast' }) });
+    case 'ReadLast': return load('ReadObject', object('last'), last => ({ place: Object.assign({}, p, { at: 'LinkItem', last: Number(last) - 1 }) }));
+    case 'LinkItem': return store('LinkLast', item(p.last, 'next'), p.scan + 1, { place: Object.assign({}, p, { at: 'WriteLast' }), decides: { t: 'accepted', n: p.place } });
+    case 'WriteLast': return store('WriteObject', object('last'), p.scan + 1, { place: Object.assign({}, p, { at: 'WriteCount' }) });
+    case 'WriteCount': return store('WriteObject', object('count'), p.place + 1n, { place: Object.assign({}, p, { at: 'WriteCursor' }) });
+    case 'WriteCursor': return store('WriteObject', object('cursor'), after(p.scan), tells(job, { t: 'accepted', n: p.place }));
+    // a take
+    case 'ReadHead': return load('ReadObject', object('head', x), head => go('ReadTaken', { job, dummy: Number(head) - 1 }));
+    case 'ReadTaken': return load('ReadObject', object('taken', x), taken => go('ReadDummyNext', { job, dummy: p.dummy, taken }));
+    case 'ReadDummyNext': return load('ReadDummyNext', item(p.dummy, 'next'), next => next === 0n ? decides(job, { t: 'empty' })
+      : go('ReadItemTag', { job, dummy: p.dummy, taken: p.taken, scan: Number(next) - 1 }));
+    case 'ReadItemTag': return load('ReadItem', item(p.scan, 'tag'), tag => tag === 0n ? decides(job, { t: 'ended', n: p.taken })
+      : go('ReadItemBody', { job, dummy: p.dummy, scan: p.scan, answer: { t: 'got', place: p.taken, tag, body: [] }, i: 0 }));
+    case 'ReadItemBody': return load('ReadItem', item(p.scan, 'body', p.i), found => {
+      const answer = Object.assign({}, p.answer, { body: p.answer.body.concat([found]) });
+      return { place: Object.assign({}, p, { answer }, p.i < further(answer.tag) ? { i: p.i + 1 } : { at: 'WriteHead' }) };
+    });
+    case 'WriteHead': return store('WriteObject', object('head', x), p.scan + 1, { place: Object.assign({}, p, { at: 'WriteTaken' }) });
+    case 'WriteTaken': return store('WriteObject', object('taken', x), p.answer.place + 1n, { place: Object.assign({}, p, { at: 'AddPassed' }) });
+    case 'AddPassed': return { kind: 'AddPassed', w: item(p.dummy, 'passed'), does: 'adds', v: 1n, to: () => decides(job, p.answer) };
+  }
+  return null;
+}
+
+// One event of a pass: what it changes, in a form that can be undone.
+function happen(row) {
+  const x = chainOf(row);
+  const before = stands[row];
+  let stand = before;
+  if (stand.place.at === 'Idle') {
+    const call = nextCall(row, stand.made);
+    if (!call) return null;
+    const sends = stand.sends + (call.send ? 1 : 0);
+    const made = Object.assign({}, call, { row, tag: call.send ? pack(row + 1, sends, call.send) : 0n });
+    made.words = call.send || [0n];
+    stand = { made: stand.made + 1, sends, node: stand.node, call: made, place: { at: 'ResetNext', call: made } };
+  }
+  const step = stepAt(x, stand.node, stand.place);
+  const found = read(step.w);
+  const value = step.does === 'reads' ? found : step.does === 'adds' ? found + step.v : step.v;
+  const goes = step.to(found);
+  const at = stand.place;
+  const ends = goes.place.at === 'Finished';
+  const after = { made: stand.made, sends: stand.sends, node: goes.node === undefined ? stand.node : goes.node,
+    call: ends ? null : stand.call, place: ends ? { at: 'Idle' } : goes.place };
+  let turn;
+  if (step.kind === 'ReadState' && found === 0n) turn = { row, served: [] };
+  if (step.kind === 'MarkDone') turn = { row, served: turnOf(x).served.concat([side(x).calls[side(x).marked]]) };
+  return { row, x, kind: step.kind, w: step.w, does: step.does, found, value, before, after, at, own: stand.node, call: stand.call,
+    begins: stand !== before, enters: step.enters, decides: goes.decides, marks: step.kind === 'MarkDone',
+    answer: ends ? goes.place.answer : null, turn, turn_before: turnOf(x) };
+}
+
+function redo(e) {
+  if (e.value !== e.found) write(e.w, e.value);
+  stands[e.row] = e.after;
+  const s = side(e.x);
+  if (e.enters) s.calls.push(e.enters);
+  if (e.decides) s.answers.push(e.decides);
+  if (e.marks) s.marked++;
+  if (e.turn) turns[e.x + 1] = e.turn;
+  if (e.kind === 'HandOver') turns[e.x + 1] = null;
+}
+
+function undo(e) {
+  if (e.value !== e.found) write(e.w, e.found);
+  stands[e.row] = e.before;
+  const s = side(e.x);
+  if (e.enters) s.calls.pop();
+  if (e.decides) s.answers.pop();
+  if (e.marks) s.marked--;
+  turns[e.x + 1] = e.turn_before;
+}
+
+// The history as the lines of a report, without the verdict's.
+function historyLines() {
+  const out = [];
+  history.forEach((s, x) => s.calls.forEach((call, k) => {
+    const who = x === 0 ? 'E ' : version === 2 ? 'D ' + x + ' ' : 'D ';
+    out.push(who + k + ' ' + passName(call.row) + ' ' + callText(call) + ' -> ' + answerText(s.answers[k]));
+  }));
+  return out;
+}
+
+// ---- The whole run, once, compared with what the machine told.
+
+const events = [];
+const faults = [];
+open();
+for (const t of told) {
+  const e = happen(t.row);
+  if (!e) { faults.push('Event ' + (events.length + 1) + ' is of ' + passName(t.row) + ', which has no call to make.'); break; }
+  if (number[e.kind] !== t.kind && faults.length === 0) {
+    faults.push('Event ' + (events.length + 1) + ' of ' + passName(t.row) + ' is ' + (KINDS[t.kind] || ['of no kind'])[0] + ' by the machine, and ' + e.kind + ' by this page.');
+  }
+  events.push(e);
+  redo(e);
+}
+const reported = report.split('\\n');
+const verdict = reported[reported.length - 2] || '';
+const mine = historyLines();
+const wrong = Math.max(reported.length - 2, mine.length);
+for (let i = 0; i < wrong; i++) {
+  if (mine[i] !== reported[i] || i >= reported.length - 2) {
+    faults.push('Line ' + (i + 1) + ' of the report is \"' + (i < reported.length - 2 ? reported[i] : '') + '\", and \"' + (mine[i] || '') + '\" by the events of this page.');
+    break;
+  }
+}
+
+// ---- Pictures.
+
+const $ = id => document.getElementById(id);
+const html = (s, ...xs) => s.reduce((out, part, i) => out + part + (i < xs.length ? xs[i] : ''), '');
+const plural = (n, word) => n + ' ' + word + (n === 1 ? '' : 's');
+const acting = [...new Set(events.map(e => e.row))].sort((a, b) => a - b);
+let now = 0;
+
+function valueText(w, v) {
+  const link = n => n === 0n ? 'null' : 'node ' + (n - 1n);
+  if (w.at === 'tail' || w.field === 'next' || w.field === 'head' || w.field === 'last') return link(v);
+  if (w.field === 'cursor') return 'node ' + v;
+  if (w.field === 'state') return v + ' (' + ['serve', 'wait', 'done'][Number(v)] + ')';
+  if (w.field === 'shut') return v === 0n ? '0 (open)' : '1 (shut)';
+  if (w.field === 'passed') return v + ' of ' + plural(groups, 'group');
+  if (w.field === 'tag') return v === 0n ? '0 (close, or none)' : 's' + tagSender(v) + ' send ' + tagNumber(v) + ', ' + plural(further(v) + 1, 'word');
+  if (w.field === 'ret') return v === 0n ? 'none' : w.x < 0 ? answerText(senderReads(v)) : ['none', 'got ' + v % (1n << 56n), 'empty', 'ended ' + v % (1n << 56n)][Number(v >> 56n)];
+  return String(v);
+}
+
+function wordText(w) {
+  const field = w.field === 'body' ? 'word ' + (w.n + 1) + ' of the body' : w.field === 'ret' ? 'answer' : w.field;
+  if (w.at === 'tail') return 'tail of the ' + chainName(w.x);
+  if (w.at === 'node') return field + ' of node ' + w.i + ' in the ' + chainName(w.x);
+  if (w.at === 'item') return field + ' of ' + (w.i === capacity + 1 ? 'the closing mark' : 'list node ' + w.i);
+  return field + (w.g === undefined ? '' : ' of group ' + (w.g + 1)) + ' of the list';
+}
+
+const HEAD_PLACES = new Set(['ResetNext', 'ResetState', 'Exchange', 'WriteTag', 'WriteBody', 'Link']);
+function statusOf(row) {
+  const st = stands[row];
+  const x = chainOf(row);
+  if (!st.call) return { role: 'rest', text: nextCall(row, st.made) ? 'idle' : 'idle, no call left' };
+  const what = callText(st.call);
+  if (HEAD_PLACES.has(st.place.at)) return { role: 'enter', text: 'enters: ' + what };
+  if (st.place.at === 'ReadState') {
+    const s = read(node(x, st.node, 'state'));
+    return s === 1n ? { role: 'wait', text: 'waits: ' + what } : s === 0n ? { role: 'serve', text: 'is to serve: ' + what } : { role: 'answer', text: 'is answered: ' + what };
+  }
+  if (st.place.at.startsWith('ReadAnswer')) return { role: 'answer', text: 'reads its answer: ' + what };
+  const turn = turnOf(x);
+  return { role: 'serve', text: 'combines, ' + (turn ? turn.served.length : 0) + ' of ' + bound + ' served' };
+}
+
+// whose call an event serves, where it is another's
+function servesOther(e) {
+  const p = e.at;
+  if (!p.job) return null;
+  const k = side(e.x).marked - (e.marks && now > 0 && events[now - 1] === e ? 1 : 0);
+  const call = side(e.x).calls[k];
+  return call || null;
+}
+
+function tellEvent() {
+  if (now === 0) return '<b>The opening.</b> Every pass is idle, each tail names node 0 of its chain, and the list is its dummy alone.';
+  const e = events[now - 1];
+  const kind = KINDS[number[e.kind]];
+  const change = e.does === 'reads' ? 'reads <b>' + valueText(e.w, e.found) + '</b> in the'
+    : e.does === 'swaps' ? 'swaps <b>' + valueText(e.w, e.value) + '</b> for <b>' + valueText(e.w, e.found) + '</b> in the'
+    : 'changes <b>' + valueText(e.w, e.found) + '</b> to <b>' + valueText(e.w, e.value) + '</b> in the';
+  let more = '';
+  const other = servesOther(e);
+  if (other) more += ' It serves ' + (other.row === e.row ? 'its own call' : 'the call of ' + passName(other.row)) + ', ' + callText(other) + '.';
+  if (e.begins) more += ' With it begins ' + callText(e.call) + '.';
+  if (e.kind === 'ReadState' && e.found === 1n) more += ' It waits: nothing is changed.';
+  if (e.enters) more += ' <b>The call enters the history.</b>';
+  if (e.decides) more += ' <b>Decided: ' + answerText(e.decides) + '.</b>';
+  if (e.answer) more += ' <b>Told: ' + answerText(e.answer) + '.</b>';
+  return '<b>' + passName(e.row) + ' ' + e.kind + '</b> &#183; ' + change + ' ' + wordText(e.w) + '.' + more + '<br><span class=\"dim\">' + passName(e.row) + ' ' + kind[3] + '.</span>';
+}
+
+const LANE = 24, CELL = 27, LEFT = 252;
+let drawn_lanes = -1;
+function drawLanes() {
+  const box = $('lanes');
+  const width = Math.max(box.clientWidth - 2, LEFT + 4 * CELL);
+  const fits = Math.floor((width - LEFT) / CELL);
+  const lo = Math.max(0, Math.min(now - Math.ceil(fits * 0.7), events.length - fits));
+  const hi = Math.min(events.length, lo + fits);
+  const height = acting.length * LANE + 18;
+  let s = '<svg width=\"' + width + '\" height=\"' + height + '\" role=\"img\" aria-label=\"' + plural(acting.length, 'lane') + ', events ' + (lo + 1) + ' to ' + hi + '. '
+    + acting.map(row => passName(row) + ' ' + statusOf(row).text).slice(0, 40).join('; ') + '\">';
+  const laneOf = new Map();
+  acting.forEach((row, k) => {
+    laneOf.set(row, k);
+    const y = k * LANE + 14;
+    const st = statusOf(row);
+    const text = st.text.length > 30 ? st.text.slice(0, 29) + '\\u2026' : st.text;
+    s += '<line class=\"lane\" x1=\"0\" x2=\"' + width + '\" y1=\"' + (y + LANE / 2) + '\" y2=\"' + (y + LANE / 2) + '\"/>'
+      + '<rect x=\"2\" y=\"' + (y - 6) + '\" width=\"10\" height=\"10\" rx=\"3\" fill=\"var(--' + st.role + ')\"/>'
+      + '<text class=\"name\" x=\"18\" y=\"' + (y + 4) + '\">' + passName(row) + '</text><text class=\"status\" x=\"52\" y=\"' + (y + 4) + '\">' + text + '</text>';
+  });
+  for (let i = lo; i < hi; i++) {
+    const e = events[i];
+    const kind = KINDS[number[e.kind]];
+    const cx = LEFT + (i - lo) * CELL;
+    const y = laneOf.get(e.row) * LANE + 4;
+    s += '<g class=\"cell' + (i >= now ? ' later' : '') + '\" data-event=\"' + (i + 1) + '\"><title>' + (i + 1) + ': ' + passName(e.row) + ' ' + e.kind + '</title>'
+      + '<rect x=\"' + cx + '\" y=\"' + y + '\" width=\"' + (CELL - 2) + '\" height=\"' + (LANE - 4) + '\" rx=\"4\" fill=\"var(--' + kind[2] + ')\"/>'
+      + '<text class=\"code\" x=\"' + (cx + CELL / 2 - 1) + '\" y=\"' + (y + 14) + '\">' + kind[1] + '</text></g>';
+    if (i === now - 1) s += '<rect class=\"now\" x=\"' + (cx - 1) + '\" y=\"' + (y - 1) + '\" width=\"' + CELL + '\" height=\"' + (LANE - 2) + '\" rx=\"5\"/>';
+    if ((i + 1) % 10 === 0) s += '<text class=\"status\" x=\"' + cx + '\" y=\"' + (height - 2) + '\">' + (i + 1) + '</text>';
+  }
+  box.innerHTML = s + '</svg>';
+  if (now > 0 && drawn_lanes !== now) {
+    const y = laneOf.get(events[now - 1].row) * LANE;
+    if (y < box.scrollTop || y + LANE > box.scrollTop + box.clientHeight) box.scrollTop = Math.max(0, y - box.clientHeight / 2);
+  }
+  drawn_lanes = now;
+}
+
+const touched = () => now > 0 ? events[now - 1].w : null;
+function touches(at, x, i) {
+  const w = touched();
+  return w && w.at === at && w.i === i && (at === 'item' || w.x === x);
+}
+
+function nodeBox(x, i, who, call, role, extra) {
+  const state = Number(read(node(x, i, 'state')));
+  const ret = read(node(x, i, 'ret'));
+  return '<span class=\"box ' + role + (touches('node', x, i) ? ' touch' : '') + '\"><b>node ' + i + '</b> ' + extra
+    + '<span class=\"tagline\">' + (who === null ? 'nobody yet' : passName(who) + (call ? ' ' + callText(call) : '')) + '</span>'
+    + '<span class=\"tagline dim\">state ' + state + ' ' + ['serve', 'wait', 'done'][state] + (state === 2 ? ': ' + valueText(node(x, i, 'ret'), ret) : '') + '</span></span>';
+}
+
+// who has this node as the node of a call that has exchanged
+function drawChain(x) {
+  const s = side(x);
+  const holders = new Map();
+  const spare = [];
+  for (let row = 0; row < rows; row++) {
+    if (chainOf(row) !== x) continue;
+    const st = stands[row];
+    if (st.call && !['ResetNext', 'ResetState', 'Exchange'].includes(st.place.at)) holders.set(st.node, row);
+    else spare.push([row, st]);
+  }
+  const last = Number(read(tail(x))) - 1;
+  const turn = turnOf(x);
+  // the served whose answers aren't read yet, then those that wait, in the order of their exchanges, then the node of the tail
+  const done = [], waiting = [];
+  for (const [i, row] of holders) {
+    const k = s.calls.lastIndexOf(stands[row].call);
+    (k < s.marked ? done : waiting).push([k, i, row]);
+  }
+  done.sort((a, b) => a[0] - b[0]);
+  waiting.sort((a, b) => a[0] - b[0]);
+  const at = turn ? combinerAt(turn.row) : -1;
+  let out = '<h3>' + (turn ? '<span class=\"dot\" style=\"background:var(--serve)\"></span>' + passName(turn.row) + ' combines: it served ' + turn.served.length + ' of at most ' + bound
+    + (turn.served.length ? ' (' + turn.served.slice(-6).map(c => passName(c.row) + ' ' + callText(c)).join(', ') + ')' : '') : 'nobody combines') + '</h3><ol class=\"boxes\">';
+  const shown = waiting.slice(0, 24);
+  for (const [, i, row] of shown) {
+    const next = read(node(x, i, 'next'));
+    out += '<li>' + nodeBox(x, i, row, stands[row].call, i === at ? 'serve' : 'wait', i === at ? '<span class=\"badge\">served</span>' : '')
+      + (next === 0n ? '<span class=\"arrow none\" title=\"not linked yet\">&#8943; not linked</span>' : '<span class=\"arrow\">&#8594;</span>') + '</li>';
+  }
+  if (waiting.length > shown.length) out += '<li><span class=\"arrow\">' + (waiting.length - shown.length) + ' more &#8594;</span></li>';
+  const w = touched();
+  out += '<li>' + nodeBox(x, last, null, null, 'free', '<span class=\"badge t' + (w && w.at === 'tail' && w.x === x ? ' word touch' : '') + '\">tail</span>' + (last === at ? '<span class=\"badge\">next to serve</span>' : '')) + '</li></ol>';
+  if (done.length) {
+    out += '<h3>served, and the answer not read yet</h3><ol class=\"boxes\">' + done.slice(0, 24).map(([, i, row]) => '<li>' + nodeBox(x, i, row, stands[row].call, 'done', '') + '<span class=\"arrow\"> </span></li>').join('') + '</ol>';
+  }
+  const own = spare.slice(0, 24).map(([row, st]) => '<span class=\"word' + (touches('node', x, st.node) ? ' touch' : '') + '\">' + passName(row) + ': node ' + st.node + '</span>').join('');
+  if (own) out += '<h3>nodes of passes that are in no chain</h3><div class=\"words\" style=\"margin:0\">' + own + (spare.length > 24 ? '<span class=\"dim\">and ' + (spare.length - 24) + ' more</span>' : '') + '</div>';
+  return out;
+}
+
+// the node that a combiner stands at
+function combinerAt(row) {
+  const p = stands[row].place;
+  return p.round ? p.round.at : p.job ? p.job.at : p.node === undefined ? -1 : p.node;
+}
+
+function drawChains() {
+  for (let x = -1; x < groups; x++) $('chain' + x).innerHTML = drawChain(x);
+}
+
+function drawList() {
+  const ends = [];
+  let first = -1, least = null;
+  for (let g = 0; g < groups; g++) {
+    const taken = read(object('taken', g)), head = Number(read(object('head', g))) - 1;
+    ends.push({ g, taken, head });
+    if (least === null || taken < least) { least = taken; first = head; }
+  }
+  // a group that has moved its head and not yet its count stands further on: begin where no link leads to
+  const linked = new Set();
+  for (const e of ends) if (read(item(e.head, 'next')) !== 0n) linked.add(Number(read(item(e.head, 'next'))) - 1);
+  for (const e of ends) if (read(object('taken', e.g)) === least && !linked.has(e.head)) { first = e.head; break; }
+  const last = Number(read(object('last'))) - 1, cursor = Number(read(object('cursor')));
+  const serving = turnOf(-1) ? stands[turnOf(-1).row].place : null;
+  const prepared = serving && ['ResetItemNext', 'WriteItemTag', 'WriteItemBody', 'ReadLast', 'LinkItem'].includes(serving.at) ? serving.scan : -1;
+  const scanned = serving && serving.at === 'ReadPassed' ? serving.scan : -1;
+  const in_list = new Set();
+  const chain = [];
+  for (let i = first; i >= 0 && !in_list.has(i); ) {
+    in_list.add(i);
+    chain.push(i);
+    i = Number(read(item(i, 'next'))) - 1;
+  }
+  const passed_by_all = i => i !== capacity + 1 && read(item(i, 'passed')) === BigInt(groups);
+  const dummy_of = i => ends.filter(e => e.head === i).map(e => e.g);
+  const furthest = ends.map(e => chain.indexOf(e.head));
+  const one = (i, k) => {
+    const tag = read(item(i, 'tag'));
+    const dummies = dummy_of(i);
+    const free = passed_by_all(i);
+    let badges = dummies.map(g => '<span class=\"badge\">head' + (groups > 1 ? ' of group ' + (g + 1) : '') + '</span>').join('');
+    if (i === last) badges += '<span class=\"badge t\">last</span>';
+    if (i === cursor) badges += '<span class=\"badge c\">cursor</span>';
+    if (i === scanned) badges += '<span class=\"badge w\">looks here</span>';
+    const words = [];
+    if (tag !== 0n) for (let n = 0; n <= further(tag); n++) words.push(read(item(i, 'body', n)));
+    const all_took = k >= 0 && furthest.every(f => f >= k);
+    const role = i === prepared ? 'prepare' : k < 0 || free ? 'free' : all_took ? 'dummy' : 'wait';
+    const what = i === capacity + 1 ? 'the closing mark' : i === prepared ? 'is prepared' : k < 0 || free ? 'free' : all_took ? 'dummy: taken by all' : 's' + tagSender(tag) + ' send ' + tagNumber(tag) + ': ' + words.join(' ');
+    return '<span class=\"box ' + role + (touches('item', 0, i) ? ' touch' : '') + '\"><b>node ' + i + '</b> ' + badges + '<span class=\"tagline\">' + what + '</span>'
+      + (i === capacity + 1 ? '' : '<span class=\"tagline dim\">passed ' + read(item(i, 'passed')) + ' of ' + groups + '</span>') + '</span>';
+  };
+  const shown = chain.length > 30 ? chain.slice(0, 15).concat([-1], chain.slice(-14)) : chain;
+  let out = '<ol class=\"boxes\">' + shown.map(i => i < 0 ? '<li><span class=\"arrow\">' + (chain.length - 29) + ' more &#8594;</span></li>'
+    : '<li>' + one(i, chain.indexOf(i)) + '<span class=\"arrow\">&#8594;</span></li>').join('') + '<li><span class=\"arrow\">null</span></li></ol>';
+  const free = [];
+  for (let i = 0; i <= capacity && free.length < 25; i++) if (!in_list.has(i)) free.push(i);
+  const others = capacity + 1 - chain.filter(i => i <= capacity).length;
+  if (free.length) out += '<h3>' + plural(others, 'node') + ' outside the list</h3><ol class=\"boxes\">' + free.slice(0, 24).map(i => '<li>' + one(i, -1) + '<span class=\"arrow\"> </span></li>').join('')
+    + (others > 24 ? '<li class=\"dim\">and ' + (others - 24) + ' more</li>' : '') + '</ol>';
+  const w = touched();
+  const word = (name, ww) => '<span class=\"word' + (w && keyOf(w) === keyOf(ww) ? ' touch' : '') + '\">' + name + ' <b>' + valueText(ww, read(ww)) + '</b></span>';
+  out += '<div class=\"words\">' + word('last', object('last')) + word('cursor', object('cursor')) + word('count', object('count')) + word('shut', object('shut'))
+    + ends.map(e => word('head' + (groups > 1 ? ' of group ' + (e.g + 1) : ''), object('head', e.g)) + word('taken' + (groups > 1 ? ' by group ' + (e.g + 1) : ''), object('taken', e.g))).join('') + '</div>';
+  $('list').innerHTML = out;
+}
+
+function drawHistory() {
+  let out = '';
+  const e = now > 0 ? events[now - 1] : null;
+  history.forEach((s, x) => {
+    const from = Math.max(0, Math.min(s.answers.length - 20, s.calls.length - 40));
+    out += '<h3>' + (x === 0 ? 'sends and closes' : groups > 1 ? 'takes of group ' + x : 'takes') + ', in the order of their exchanges' + (from ? ' (and ' + from + ' before)' : '') + '</h3>';
+    if (!s.calls.length) { out += '<p class=\"dim\">none</p>'; return; }
+    out += '<table class=\"mono\">' + s.calls.slice(from, from + 60).map((call, d) => {
+      const k = from + d, a = s.answers[k];
+      const fresh = e && e.x === x - 1 && ((e.enters && k === s.calls.length - 1) || (e.decides && k === s.answers.length - 1));
+      return '<tr' + (fresh ? ' class=\"touch\"' : '') + '><td>' + (x === 0 ? 'E ' : 'D ') + k + '</td><td>' + passName(call.row) + ' ' + callText(call) + '</td><td' + (a ? '' : ' class=\"pending\"') + '>' + answerText(a) + '</td></tr>';
+    }).join('') + '</table>';
+  });
+  $('history').innerHTML = out;
+}
+
+function drawEnd() {
+  const at_end = now === events.length;
+  $('verdict').innerHTML = at_end ? 'The verdict on the receipts of the whole history: <span class=\"good\">' + verdict + '</span>' : '<span class=\"dim\">The verdict stands at event ' + events.length + '.</span>';
+  $('whole').textContent = at_end ? report : '';
+}
+
+function draw() {
+  $('where').textContent = 'event ' + now + ' of ' + events.length;
+  $('slider').value = now;
+  $('slider').setAttribute('aria-valuetext', 'event ' + now + ' of ' + events.length);
+  $('told').innerHTML = tellEvent();
+  drawLanes();
+  drawChains();
+  drawList();
+  drawHistory();
+  drawEnd();
+}
+
+function goTo(n, quiet) {
+  n = Math.max(0, Math.min(events.length, n));
+  while (now < n) redo(events[now++]);
+  while (now > n) undo(events[--now]);
+  draw();
+  if (!quiet) keepPlace();
+}
+
+// the place in the address, a moment after the last step
+let place_timer = 0;
+function keepPlace() {
+  clearTimeout(place_timer);
+  place_timer = setTimeout(() => { try { window.history.replaceState(null, '', '#event=' + now); } catch (e) { /* an address that can't be changed */ } }, 200);
+}
+
+const matters = e => e.enters || e.decides;
+function nextThat(from, step) {
+  for (let i = from + step; i > 0 && i <= events.length; i += step) if (matters(events[i - 1])) return i;
+  return step > 0 ? events.length : 0;
+}
+
+let playing = 0;
+function play(on) {
+  clearInterval(playing);
+  playing = on ? setInterval(() => { if (now === events.length) play(false); else goTo(now + 1); }, 350) : 0;
+  $('play').textContent = on ? 'stop' : 'play';
+  $('play').setAttribute('aria-pressed', on ? 'true' : 'false');
+}
+
+function fromAddress() {
+  const m = /^#event=(\\d+)$/.exec(location.hash);
+  return m ? Number(m[1]) : null;
+}
+
+// ---- Once, at the beginning.
+
+const plan_text = 'Capacity ' + capacity + ', bound ' + bound + ', life ' + life + '; ' + plural(senders, 'sender') + ', '
+  + (groups > 1 ? groups + ' groups of ' : '') + plural(receivers, 'receiver') + '; ' + plural(events.length, 'event')
+  + (acting.length < rows ? '; ' + plural(rows - acting.length, 'pass').replace('passs', 'passes') + ' without one' : '') + '.';
+$('config').textContent = plan_text;
+if (faults.length) {
+  $('alarm').innerHTML = '<p class=\"bad\">This page and the program disagree. ' + faults.map(f => '<span></span>').join(' ') + '</p>';
+  $('alarm').querySelectorAll('span').forEach((span, i) => { span.textContent = faults[i]; });
+} else {
+  $('config').innerHTML += ' <span class=\"good\">The kind of each event, and each line of the report, is that of the program.</span>';
+}
+document.body.dataset.check = faults.length ? 'disagrees' : 'agrees';
+for (let x = -1; x < groups; x++) {
+  const card = document.createElement('section');
+  card.className = 'card';
+  card.innerHTML = '<h2>The ' + chainName(x) + '</h2><div id=\"chain' + x + '\"></div>';
+  $('chains').appendChild(card);
+}
+$('legend').innerHTML = Object.keys(GROUPS_OF_KINDS).map(g => '<span><i style=\"background:var(--' + g + ')\"></i>' + GROUPS_OF_KINDS[g] + '</span>').join('') + '<span>Paler: still to come.</span>';
+$('kinds').innerHTML = KINDS.slice(1).map(kind => '<dt><code>' + kind[1] + '</code> ' + kind[0] + '</dt><dd>' + kind[3] + '</dd>').join('');
+$('slider').max = events.length;
+$('slider').addEventListener('input', () => { play(false); goTo(Number($('slider').value)); });
+$('first').addEventListener('click', () => { play(false); goTo(0); });
+$('back').addEventListener('click', () => { play(false); goTo(now - 1); });
+$('next').addEventListener('click', () => { play(false); goTo(now + 1); });
+$('last').addEventListener('click', () => { play(false); goTo(events.length); });
+$('play').addEventListener('click', () => play(!playing));
+$('lanes').addEventListener('click', click => {
+  const cell = click.target.closest('[data-event]');
+  if (cell) { play(false); goTo(Number(cell.dataset.event)); }
+});
+document.addEventListener('keydown', key => {
+  if (key.ctrlKey || key.metaKey || key.altKey) return;
+  const on_button = key.target.tagName === 'BUTTON' || key.target.tagName === 'SUMMARY';
+  const to = { ArrowRight: now + 1, ArrowLeft: now - 1, PageDown: nextThat(now, 1), PageUp: nextThat(now, -1), Home: 0, End: events.length }[key.key];
+  if (to !== undefined) { play(false); goTo(to); key.preventDefault(); }
+  else if (key.key === ' ' && !on_button) { play(!playing); key.preventDefault(); }
+});
+window.addEventListener('hashchange', () => { if (fromAddress() !== null && fromAddress() !== now) goTo(fromAddress(), true); });
+window.addEventListener('resize', draw);
+
+now = events.length;
+goTo(fromAddress() === null ? 0 : fromAddress(), true);
+})();
+</script>
+</body>
+</html>
+";

@@ -1,0 +1,145 @@
+//! Following a schedule, with a note of each event.
+ghost use Rattle.std.specs.Prelude.{◌≡◌, ◌<◌, ◌≤◌, Some, None, List, length, IfOk, OnOk, is_some, MatchOption};
+ghost use Rattle.cc_play.specs.Names.{Move};
+ghost use Rattle.cc_runs.specs.Run.{passes, reached, IsRun};
+ghost use Rattle.cc_machine.specs.View.{state_in};
+ghost use Rattle.cc_machine.specs.Machine.{index_of};
+ghost use Rattle.cc_plan.specs.Plan.{plan_value};
+ghost use Rattle.cc_plan.specs.PlanLaws.{Lawful};
+ghost use Rattle.cc_play.specs.Schedule.{setting_of, IsAt, IsBetweenTurns, HasTurned, turn, entry, run_of};
+ghost use Rattle.cc_show.specs.Events.{noted, happened, event_limit, Stands};
+
+use cc_machine::{Event, Kind, Machine, OpenFault};
+use cc_model::Pass;
+use cc_plan::Plan;
+use cc_play::{begin, next_call};
+use std::alloc::{AllocError, Global};
+
+/// How many events a page shows at most.
+pub const EVENT_LIMIT: usize = 20_000;
+
+/// An event: the row of its pass among all passes, and its kind.
+#[derive(Clone, Copy, Debug, PartialEq, Eq)]
+pub struct Done {
+    pub row: usize,
+    pub kind: Kind,
+}
+
+/// A machine that has followed a schedule, and the events of that, the first one first.
+#[derive(Drop)]
+pub struct Played {
+    pub machine: Machine,
+    pub events: Vec<Done>,
+}
+
+/// Goes on with the events by one, if it is one.
+fn note(events: &mut Vec<Done>, row: usize, event: Event) -> Result<(), AllocError>
+    ensures { OnOk result (events.new.items ≡ noted row (Some event) events.old.items) }
+{
+    if let Event::Did(kind) = event {
+        events.push(Done { row, kind })?;
+    }
+    Ok(())
+}
+
+/// One event of a pass, before which it begins its next call where it is idle, and after which the answer of a finished
+/// call is taken; `None` where the pass had no event to do.
+fn turn(
+    machine: &mut Machine,
+    begun: &mut [usize],
+    plan: &Plan,
+    pass: Pass,
+    row: usize,
+) -> Result<Option<Event>, AllocError>
+    requires lawful { Lawful (plan_value plan.now) }
+    requires pass { index_of (setting_of (plan_value plan.now)) pass ≡ Some row }
+    requires row { row < length begun.old }
+    requires between { IsBetweenTurns (plan_value plan.now) machine.old begun.old }
+    ensures turned { IfOk result (λ event. HasTurned (plan_value plan.now) pass row machine.old machine.new begun.old begun.new (is_some event)) }
+    ensures event { IfOk result (λ event. (run : List Move) → IsAt (plan_value plan.now) machine.old begun.old run
+        → happened (plan_value plan.now) (turn (plan_value plan.now) pass row run) ≡ noted row event (happened (plan_value plan.now) run)) }
+    ensures between { OnOk result (IsBetweenTurns (plan_value plan.now) machine.new begun.new) }
+    ensures rows { length begun.new ≡ length begun.old }
+{
+    match machine.event(pass) {
+        Event::Did(kind) => {
+            machine.answer(pass);
+            Ok(Some(Event::Did(kind)))
+        }
+        Event::Idle => match next_call(plan, pass, begun[row]) {
+            Some(call) => {
+                begin(machine, pass, call)?;
+                begun[row] += 1;
+                let event = machine.event(pass);
+                machine.answer(pass);
+                Ok(Some(event))
+            }
+            None => Ok(None),
+        },
+    }
+}
+
+/// Up to so many events of a pass, one by one.
+fn follow_entry(
+    machine: &mut Machine,
+    begun: &mut [usize],
+    events: &mut Vec<Done>,
+    plan: &Plan,
+    pass: Pass,
+    count: u32,
+) -> Result<(), AllocError>
+    requires lawful { Lawful (plan_value plan.now) }
+    requires rows { length begun.old ≡ passes (setting_of (plan_value plan.now)) }
+    requires between { IsBetweenTurns (plan_value plan.now) machine.old begun.old }
+    ensures followed { OnOk result ((run : List Move) → Stands (plan_value plan.now) machine.old begun.old events.old.items run
+        → Stands (plan_value plan.now) machine.new begun.new events.new.items (entry (plan_value plan.now) pass (index_of (setting_of (plan_value plan.now)) pass) count run)) }
+    ensures between { OnOk result (IsBetweenTurns (plan_value plan.now) machine.new begun.new) }
+    ensures rows { length begun.new ≡ length begun.old }
+{
+    let Some(row) = Machine::row(&plan.config, pass) else {
+        return Ok(());
+    };
+    for _done in 0..count {
+        match turn(machine, begun, plan, pass, row)? {
+            Some(event) => note(events, row, event)?,
+            None => return Ok(()),
+        }
+    }
+    Ok(())
+}
+
+/// Plays the schedule of a plan from the opening of its machine; `None` where its run has more events than a page shows.
+/// Only memory can be refused.
+pub fn play_events(alloc: Global, plan: &Plan) -> Result<Option<Played>, AllocError>
+    requires lawful { Lawful (plan_value plan.now) }
+    ensures { IfOk result (λ played. MatchOption played
+        (event_limit < length (happened (plan_value plan.now) (run_of (plan_value plan.now))))
+        (λ p. IsRun (setting_of (plan_value plan.now)) (run_of (plan_value plan.now))
+        × (p.machine.setting ≡ setting_of (plan_value plan.now))
+        × (state_in p.machine ≡ reached (setting_of (plan_value plan.now)) (run_of (plan_value plan.now)))
+        × (p.events.items ≡ happened (plan_value plan.now) (run_of (plan_value plan.now)))
+        × (length p.events.items ≤ event_limit))) }
+{
+    let mut machine = match Machine::open(alloc, &plan.config) {
+        Ok(machine) => machine,
+        Err(OpenFault::NoMemory) => return Err(AllocError),
+        Err(OpenFault::Config(_)) => unreachable!(),
+    };
+    let rows = plan.senders.len() + plan.receivers.len();
+    let mut begun = vec![in alloc; 0usize; rows]?;
+    let mut events = Vec::new(alloc);
+    for (pass, count) in plan.schedule.iter() {
+        follow_entry(
+            &mut machine,
+            begun.as_mut_slice(),
+            &mut events,
+            plan,
+            *pass,
+            *count,
+        )?;
+        if events.len() > EVENT_LIMIT {
+            return Ok(None);
+        }
+    }
+    Ok(Some(Played { machine, events }))
+}
