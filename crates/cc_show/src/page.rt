@@ -242,7 +242,7 @@ const write = (w, v) => mem.set(keyOf(w), v);
 const stands = [];
 const history = [];           // the senders' side, and then one for each group
 const side = x => history[x + 1];
-const turns = [];             // of each chain: the calls that its combiner served in its turn
+const turns = [];             // of each chain: the newest turn, with the calls that its combiner served
 const turnOf = x => turns[x + 1];
 
 function open() {
@@ -374,10 +374,12 @@ function happen(row) {
   const ends = goes.place.at === 'Finished';
   const after = { made: stand.made, sends: stand.sends, node: goes.node === undefined ? stand.node : goes.node,
     call: ends ? null : stand.call, place: ends ? { at: 'Idle' } : goes.place };
+  const serves = at.job ? side(x).calls[side(x).marked] : null;
   let turn;
-  if (step.kind === 'ReadState' && found === 0n) turn = { row, served: [] };
-  if (step.kind === 'MarkDone') turn = { row, served: turnOf(x).served.concat([side(x).calls[side(x).marked]]) };
-  return { row, x, kind: step.kind, w: step.w, does: step.does, found, value, before, after, at, own: stand.node, call: stand.call,
+  if (step.kind === 'ReadState' && found === 0n) turn = { row, served: [], runs: true };
+  if (step.kind === 'MarkDone') turn = { row, served: turnOf(x).served.concat([serves]), runs: true };
+  if (step.kind === 'HandOver') turn = { row, served: turnOf(x).served, runs: false };
+  return { row, x, serves, kind: step.kind, w: step.w, does: step.does, found, value, before, after, at, own: stand.node, call: stand.call,
     begins: stand !== before, enters: step.enters, decides: goes.decides, marks: step.kind === 'MarkDone',
     answer: ends ? goes.place.answer : null, turn, turn_before: turnOf(x) };
 }
@@ -390,7 +392,6 @@ function redo(e) {
   if (e.decides) s.answers.push(e.decides);
   if (e.marks) s.marked++;
   if (e.turn) turns[e.x + 1] = e.turn;
-  if (e.kind === 'HandOver') turns[e.x + 1] = null;
 }
 
 function undo(e) {
@@ -403,12 +404,14 @@ function undo(e) {
   turns[e.x + 1] = e.turn_before;
 }
 
+// What a line of a side begins with: 0 is the senders', and then the groups'.
+const front = x => x === 0 ? 'E ' : version === 2 ? 'D ' + x + ' ' : 'D ';
+
 // The history as the lines of a report, without the verdict's.
 function historyLines() {
   const out = [];
   history.forEach((s, x) => s.calls.forEach((call, k) => {
-    const who = x === 0 ? 'E ' : version === 2 ? 'D ' + x + ' ' : 'D ';
-    out.push(who + k + ' ' + passName(call.row) + ' ' + callText(call) + ' -> ' + answerText(s.answers[k]));
+    out.push(front(x) + k + ' ' + passName(call.row) + ' ' + callText(call) + ' -> ' + answerText(s.answers[k]));
   }));
   return out;
 }
@@ -482,15 +485,6 @@ function statusOf(row) {
   return { role: 'serve', text: 'combines, ' + (turn ? turn.served.length : 0) + ' of ' + bound + ' served' };
 }
 
-// whose call an event serves, where it is another's
-function servesOther(e) {
-  const p = e.at;
-  if (!p.job) return null;
-  const k = side(e.x).marked - (e.marks && now > 0 && events[now - 1] === e ? 1 : 0);
-  const call = side(e.x).calls[k];
-  return call || null;
-}
-
 function tellEvent() {
   if (now === 0) return '<b>The opening.</b> Every pass is idle, each tail names node 0 of its chain, and the list is its dummy alone.';
   const e = events[now - 1];
@@ -499,8 +493,7 @@ function tellEvent() {
     : e.does === 'swaps' ? 'swaps <b>' + valueText(e.w, e.value) + '</b> for <b>' + valueText(e.w, e.found) + '</b> in the'
     : 'changes <b>' + valueText(e.w, e.found) + '</b> to <b>' + valueText(e.w, e.value) + '</b> in the';
   let more = '';
-  const other = servesOther(e);
-  if (other) more += ' It serves ' + (other.row === e.row ? 'its own call' : 'the call of ' + passName(other.row)) + ', ' + callText(other) + '.';
+  if (e.serves) more += ' It serves ' + (e.serves.row === e.row ? 'its own call' : 'the call of ' + passName(e.serves.row)) + ', ' + callText(e.serves) + '.';
   if (e.begins) more += ' With it begins ' + callText(e.call) + '.';
   if (e.kind === 'ReadState' && e.found === 1n) more += ' It waits: nothing is changed.';
   if (e.enters) more += ' <b>The call enters the history.</b>';
@@ -538,6 +531,7 @@ function drawLanes() {
     s += '<g class=\"cell' + (i >= now ? ' later' : '') + '\" data-event=\"' + (i + 1) + '\"><title>' + (i + 1) + ': ' + passName(e.row) + ' ' + e.kind + '</title>'
       + '<rect x=\"' + cx + '\" y=\"' + y + '\" width=\"' + (CELL - 2) + '\" height=\"' + (LANE - 4) + '\" rx=\"4\" fill=\"var(--' + kind[2] + ')\"/>'
       + '<text class=\"code\" x=\"' + (cx + CELL / 2 - 1) + '\" y=\"' + (y + 14) + '\">' + kind[1] + '</text></g>';
+    if (e.serves && e.serves.row !== e.row) s += '<rect x=\"' + cx + '\" y=\"' + (laneOf.get(e.serves.row) * LANE + 12) + '\" width=\"' + (CELL - 2) + '\" height=\"4\" rx=\"2\" fill=\"var(--serve)\"' + (i >= now ? ' class=\"later\"' : '') + '/>';
     if (i === now - 1) s += '<rect class=\"now\" x=\"' + (cx - 1) + '\" y=\"' + (y - 1) + '\" width=\"' + CELL + '\" height=\"' + (LANE - 2) + '\" rx=\"5\"/>';
     if ((i + 1) % 10 === 0) s += '<text class=\"status\" x=\"' + cx + '\" y=\"' + (height - 2) + '\">' + (i + 1) + '</text>';
   }
@@ -584,9 +578,11 @@ function drawChain(x) {
   }
   done.sort((a, b) => a[0] - b[0]);
   waiting.sort((a, b) => a[0] - b[0]);
-  const at = turn ? combinerAt(turn.row) : -1;
-  let out = '<h3>' + (turn ? '<span class=\"dot\" style=\"background:var(--serve)\"></span>' + passName(turn.row) + ' combines: it served ' + turn.served.length + ' of at most ' + bound
-    + (turn.served.length ? ' (' + turn.served.slice(-6).map(c => passName(c.row) + ' ' + callText(c)).join(', ') + ')' : '') : 'nobody combines') + '</h3><ol class=\"boxes\">';
+  const runs = turn && turn.runs;
+  const at = runs ? combinerAt(turn.row) : -1;
+  const served = turn && turn.served.length ? ': ' + (turn.served.length > 6 ? '.., ' : '') + turn.served.slice(-6).map(c => passName(c.row) + ' ' + callText(c)).join(', ') : '';
+  let out = '<h3>' + (runs ? '<span class=\"dot\" style=\"background:var(--serve)\"></span>' + passName(turn.row) + ' combines; in this turn it served ' + turn.served.length + ' of at most ' + plural(bound, 'call') + served
+    : turn ? 'nobody combines; in the last turn ' + passName(turn.row) + ' served ' + plural(turn.served.length, 'call') + served : 'nobody combines') + '</h3><ol class=\"boxes\">';
   const shown = waiting.slice(0, 24);
   for (const [, i, row] of shown) {
     const next = read(node(x, i, 'next'));
@@ -627,7 +623,7 @@ function drawList() {
   for (const e of ends) if (read(item(e.head, 'next')) !== 0n) linked.add(Number(read(item(e.head, 'next'))) - 1);
   for (const e of ends) if (read(object('taken', e.g)) === least && !linked.has(e.head)) { first = e.head; break; }
   const last = Number(read(object('last'))) - 1, cursor = Number(read(object('cursor')));
-  const serving = turnOf(-1) ? stands[turnOf(-1).row].place : null;
+  const serving = turnOf(-1) && turnOf(-1).runs ? stands[turnOf(-1).row].place : null;
   const prepared = serving && ['ResetItemNext', 'WriteItemTag', 'WriteItemBody', 'ReadLast', 'LinkItem'].includes(serving.at) ? serving.scan : -1;
   const scanned = serving && serving.at === 'ReadPassed' ? serving.scan : -1;
   const in_list = new Set();
@@ -681,7 +677,7 @@ function drawHistory() {
     out += '<table class=\"mono\">' + s.calls.slice(from, from + 60).map((call, d) => {
       const k = from + d, a = s.answers[k];
       const fresh = e && e.x === x - 1 && ((e.enters && k === s.calls.length - 1) || (e.decides && k === s.answers.length - 1));
-      return '<tr' + (fresh ? ' class=\"touch\"' : '') + '><td>' + (x === 0 ? 'E ' : 'D ') + k + '</td><td>' + passName(call.row) + ' ' + callText(call) + '</td><td' + (a ? '' : ' class=\"pending\"') + '>' + answerText(a) + '</td></tr>';
+      return '<tr' + (fresh ? ' class=\"touch\"' : '') + '><td>' + front(x) + k + '</td><td>' + passName(call.row) + ' ' + callText(call) + '</td><td' + (a ? '' : ' class=\"pending\"') + '>' + answerText(a) + '</td></tr>';
     }).join('') + '</table>';
   });
   $('history').innerHTML = out;
@@ -758,7 +754,7 @@ for (let x = -1; x < groups; x++) {
   card.innerHTML = '<h2>The ' + chainName(x) + '</h2><div id=\"chain' + x + '\"></div>';
   $('chains').appendChild(card);
 }
-$('legend').innerHTML = Object.keys(GROUPS_OF_KINDS).map(g => '<span><i style=\"background:var(--' + g + ')\"></i>' + GROUPS_OF_KINDS[g] + '</span>').join('') + '<span>Paler: still to come.</span>';
+$('legend').innerHTML = Object.keys(GROUPS_OF_KINDS).map(g => '<span><i style=\"background:var(--' + g + ')\"></i>' + GROUPS_OF_KINDS[g] + '</span>').join('') + '<span><i style=\"background:var(--serve);height:4px;vertical-align:middle\"></i>its call is served</span><span>Paler: still to come.</span>';
 $('kinds').innerHTML = KINDS.slice(1).map(kind => '<dt><code>' + kind[1] + '</code> ' + kind[0] + '</dt><dd>' + kind[3] + '</dd>').join('');
 $('slider').max = events.length;
 $('slider').addEventListener('input', () => { play(false); goTo(Number($('slider').value)); });

@@ -1,0 +1,92 @@
+//! Plans, and the pages that show them.
+use cc_model::Device;
+use cc_show::show::show;
+use cc_show::tell_shown;
+use std::alloc::Global;
+use std::test::Fail;
+
+/// What an input leaves.
+#[derive(Drop)]
+struct Outcome {
+    status: u8,
+    output: Vec<u8>,
+    errors: Vec<u8>,
+}
+
+fn shown(alloc: Global, input: &str) -> Outcome {
+    let mut output = Vec::new(alloc);
+    let mut errors = Vec::new(alloc);
+    let mut sink = Device::new(&mut output);
+    let outcome = show(alloc, &mut Device::new(input.as_bytes()), &mut sink);
+    let status = tell_shown(&mut Device::new(&mut errors), outcome);
+    Outcome {
+        status,
+        output,
+        errors,
+    }
+}
+
+/// What stands in a page behind this mark, up to the end of its element.
+fn part<'a>(page: &'a str, mark: &str) -> &'a str {
+    match page.split_once(mark) {
+        Some((_, behind)) => behind.split_once("</script>").map_or("", |parts| parts.0),
+        None => "",
+    }
+}
+
+/// A plan in which one item is passed on.
+const FIRST: &str = r#"{"capacity":2,"bound":2,"life":10,"senders":[[7]],"receivers":[1],"schedule":[["s1",100],["r1",100]]}"#;
+
+/// Its configuration and calls, and its events: the steps of a lone send and of a lone take, in the order of
+/// docs/ALGORITHM.md.
+const RUN: &str = " 1 2 2 10 1 1 1\n s 7\n 1\n \
+    0 7 0 1 0 2 0 8 0 8 0 9 0 3 0 10 0 11 0 11 0 5 0 5 0 5 0 15 0 16 0 16 0 17 0 17 0 5 0 18 0 6 0 6 0 6 0 12 0 13 0 10 0 4 0 14 \
+    1 7 1 1 1 2 1 9 1 3 1 10 1 5 1 5 1 19 1 20 1 20 1 6 1 6 1 21 1 12 1 12 1 12 1 13 1 10 1 4 1 14 1 14 1 14\n";
+
+const REPORT: &str = "E 0 s1 send 7 -> accepted 0\nD 0 r1 take -> got 0 s1 1 7\naudit clean\n";
+
+#[test]
+fn a_page_has_the_run_and_the_report(rt: HostRuntime) -> Result<(), Fail> {
+    let outcome = shown(rt.alloc(), FIRST);
+    let page = str::from_utf8(&outcome.output).unwrap_or("");
+    assert!(rt; page.starts_with("<!DOCTYPE html>"));
+    assert_eq!(rt; part(page, "id=\"run\">"), RUN);
+    assert_eq!(rt; part(page, "id=\"report\">"), REPORT);
+    assert!(rt; page.ends_with("</html>\n"));
+    assert_eq!(rt; outcome.status, 0);
+    assert!(rt; outcome.errors.is_empty());
+    Ok(())
+}
+
+/// What an input shows, its status, what is told, and the input.
+const ROWS: &[(&str, u8, &str, &str)] = &[
+    (
+        "20000 events: three, and a pass that waits",
+        0,
+        "",
+        r#"{"capacity":2,"bound":2,"life":10,"senders":[[7],[9]],"receivers":[0],"schedule":[["s1",3],["s2",19997]]}"#,
+    ),
+    (
+        "one more",
+        5,
+        "ccq_show: more than 20000 events\n",
+        r#"{"capacity":2,"bound":2,"life":10,"senders":[[7],[9]],"receivers":[0],"schedule":[["s1",3],["s2",19998]]}"#,
+    ),
+    (
+        "no plan",
+        2,
+        "ccq: plan refused: P1\n",
+        "",
+    ),
+];
+
+#[test]
+fn pages_have_a_limit(rt: HostRuntime) -> Result<(), Fail> {
+    for (what, status, told, input) in ROWS {
+        let outcome = shown(rt.alloc(), input);
+        assert_eq!(rt; outcome.status, *status, "{what}");
+        assert_eq!(rt; outcome.errors.as_slice(), told.as_bytes(), "{what}");
+        assert_eq!(rt; outcome.output.is_empty(), *status != 0, "{what}");
+    }
+    Ok(())
+}
