@@ -8,7 +8,7 @@ use Rattle.cc_play.specs.Names.{Answer, Call, Pass, Setting, Event, Kind, Place,
 use Rattle.cc_runs.specs.Lines.{event_at}
 use Rattle.cc_runs.specs.Step.{stepped as machine_stepped}
 use Rattle.cc_runs.specs.State.{State}
-use Rattle.cc_runs.specs.Run.{reached, moved, rests, May, IsFinished}
+use Rattle.cc_runs.specs.Run.{reached, moved, rests, begins as begun_stand, May, IsFinished}
 use Rattle.cc_machine.specs.Machine.{index_of, IsAfter, begin_fault, StandsStill, event_of, event_in, HasStepped, told_at, told_in, answer_of, HasTaken, HasBegun}
 use Rattle.cc_machine.specs.View.{View, state_in}
 use Rattle.cc_machine.proofs.Rows.{inside}
@@ -30,6 +30,10 @@ begins-busy row _ kind next known run e = refl
 begins-none : (row : ℕ) (at : Place) (known : ℕ) (run : List Move) → begins_at row at None known run ≡ run
 begins-none row Place.Idle known run = refl
 begins-none row _ known run = refl
+
+-- a call that begins resets its link first
+reset_first : (plan : PlanValue) (row : ℕ) (k : Call) (known : ℕ) (run : List Move) → Event.Did Kind.ResetNext ≡ event_at (place_in plan (Move.Begin row k known ∷ run) row)
+reset_first plan row k known run = sym (ap (λ (b : Bool). event_at (cond b (begun_stand (setting_of plan).config row k known ((reached (setting_of plan) run).stand row)) ((reached (setting_of plan) run).stand row)).place) (same_number row))
 
 abbrev taken : ℕ → Option Answer → List Move → List Move
 taken row (Some told) run = Move.Take row ∷ run
@@ -150,6 +154,9 @@ module _ (plan : PlanValue) (who : Pass) (row : ℕ) (named : index_of (setting_
     at = λ run at.
         let does : event_at (place_in plan run row) ≡ Event.Did kind = sym (is ∙ event_here m begun run at) in
         rw (did_turn run kind does) (answered m1 m2 begun (steps plan row run) a (stepped m m1 begun run (Event.Did kind) at is did) told took);
+    told = λ run at.
+        let does : event_at (place_in plan run row) ≡ Event.Did kind = sym (is ∙ event_here m begun run at) in
+        sym (ap (λ (r : List Move). event_at (place_in plan r row)) (begins-busy row _ kind _ _ run does) ∙ does);
     ended = λ run at more. cc;
   }
 
@@ -165,6 +172,10 @@ module _ (plan : PlanValue) (who : Pass) (row : ℕ) (named : index_of (setting_
         let first = begun_now m m1 begun run (get_or begun row 0) k at within refl at_rest next whole free begin in
         let counted : List ℕ = set begun row (get_or begun row 0 + 1) in
         answered m2 m3 counted (steps plan row (begins plan who row run)) a (stepped m1 m2 counted (begins plan who row run) e first is did) told took;
+    told = λ run at.
+        let at_rest : place_in plan run row ≡ Place.Idle = sym (ap (λ (s : State). (s.stand row).place) at.state) ∙ idle in
+        let call : next_call plan who (begun_in row run) ≡ Some k = ap (next_call plan who) (sym (at.counts row within)) ∙ next in
+        rw (at_rest, call) (reset_first plan row k (known_at who (reached (setting_of plan) run).history) run);
     ended = λ run at more. cc;
   }
 
@@ -173,6 +184,7 @@ module _ (plan : PlanValue) (who : Pass) (row : ℕ) (named : index_of (setting_
       → next_call plan who (get_or begun row 0) ≡ None → HasTurned plan who row m m1 begun begun Event.Idle
   none_turned m m1 begun inside untold is did next = record {
     at = λ run at. rw (unmoved run at) (still run at);
+    told = λ run at. rw (none run at) (sym (ap (λ (r : List Move). event_at (place_in plan r row)) (begins-none row (place_in plan run row) _ run) ∙ stepless run at));
     ended = λ run at more. ended run (stepless run at) (none run at);
   }
     where

@@ -12,4 +12,4 @@ pub use audit::audit_bytes;
 pub use fault::PlayFault;
 pub use input::{InputFault, read_input};
 pub use outcome::{out_of_memory, tell, told};
-pub use player::{begin, next_call, play_schedule};
+pub use player::{play_schedule, turn};

@@ -16,7 +16,7 @@ use cc_plan::Plan;
 use std::alloc::{AllocError, Global};
 
 /// The call that a pass makes after so many calls, where the plan has one.
-pub fn next_call(plan: &Plan, pass: Pass, begun: usize) -> Option<Call>
+fn next_call(plan: &Plan, pass: Pass, begun: usize) -> Option<Call>
     ensures call { result ≡ next_call (plan_value plan.now) pass begun }
     ensures countable { IfSome result (λ _. begun < 2 ^ 64 - 1) }
 {
@@ -33,7 +33,7 @@ pub fn next_call(plan: &Plan, pass: Pass, begun: usize) -> Option<Call>
 }
 
 /// Begins a call that the pass may begin, so that only memory can be refused.
-pub fn begin(machine: &mut Machine, pass: Pass, call: Call) -> Result<(), AllocError>
+fn begin(machine: &mut Machine, pass: Pass, call: Call) -> Result<(), AllocError>
     requires { begin_fault machine.old pass call ≡ Ok tt }
     ensures begun { OnOk result (HasBegun machine.old (index_of machine.old.setting pass) call (known_at pass machine.old.history) machine.new) }
     ensures body { HasBody call }
@@ -46,8 +46,8 @@ pub fn begin(machine: &mut Machine, pass: Pass, call: Call) -> Result<(), AllocE
 }
 
 /// One event of a pass, before which it begins its next call where it is idle, and after which the answer of a finished
-/// call is taken. It answers the event, which is the first step of a call where one began, and Idle where the pass had none.
-fn turn(
+/// call is taken. The answer is the event: the first step of a call where one began, and Idle where the pass had none.
+pub fn turn(
     machine: &mut Machine,
     begun: &mut [usize],
     plan: &Plan,
