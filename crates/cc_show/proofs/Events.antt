@@ -9,11 +9,11 @@ use Rattle.cc_model.specs.declared.call.Call.{Call}
 use Rattle.cc_model.specs.declared.call.Pass.{Pass}
 use Rattle.cc_runs.specs.Lines.{event_at}
 use Rattle.cc_runs.specs.State.{State}
-use Rattle.cc_machine.specs.Machine.{index_of, event_of, event_in}
+use Rattle.cc_machine.specs.Machine.{index_of}
 use Rattle.cc_machine.specs.View.{View}
 use Rattle.cc_plan.specs.Plan.{PlanValue}
 use Rattle.cc_play.specs.Schedule.{setting_of, place_in, begun_in, next_call, begins_at, begins, steps_at, steps, takes_at, turn, turns, entry, follow, run_of, IsAt, HasTurned, HasEnded}
-use Rattle.cc_play.proofs.Turns.{did_turn, no_turn, stays_on}
+use Rattle.cc_play.proofs.Turns.{stays_on}
 use Rattle.cc_show.specs.declared.player.Done.{Done}
 use Rattle.cc_show.specs.Events.{noted, happened, Stands}
 
@@ -27,69 +27,34 @@ taken_none : (plan : PlanValue) (row : ℕ) (at : Place) (run : List Move) → h
 taken_none plan row (Place.Finished told) run = refl
 taken_none plan row _ run = refl
 
-stepped_one : (plan : PlanValue) (row : ℕ) (run : List Move) (e : Event) → e ≡ event_at (place_in plan run row) → happened plan (steps_at row e run) ≡ noted row (Some e) (happened plan run)
-stepped_one plan row run (Event.Did kind) is = ap (λ (x : Event). noted row (Some x) (happened plan run)) (sym is)
+stepped_one : (plan : PlanValue) (row : ℕ) (run : List Move) (e : Event) → e ≡ event_at (place_in plan run row) → happened plan (steps_at row e run) ≡ noted row e (happened plan run)
+stepped_one plan row run (Event.Did kind) is = ap (λ (x : Event). noted row x (happened plan run)) (sym is)
 stepped_one plan row run Event.Idle is = refl
 
-steps_noted : (plan : PlanValue) (row : ℕ) (run : List Move) → happened plan (steps plan row run) ≡ noted row (Some (event_at (place_in plan run row))) (happened plan run)
-steps_noted plan row run = stepped_one plan row run (event_at (place_in plan run row)) refl
-
 -- a turn
-turn_noted : (plan : PlanValue) (who : Pass) (row : ℕ) (run : List Move) → happened plan (turn plan who row run) ≡ noted row (Some (event_at (place_in plan (begins plan who row run) row))) (happened plan run)
+turn_noted : (plan : PlanValue) (who : Pass) (row : ℕ) (run : List Move) → happened plan (turn plan who row run) ≡ noted row (event_at (place_in plan (begins plan who row run) row)) (happened plan run)
 unfolding turn
 turn_noted plan who row run =
     let begun : List Move = begins plan who row run in
-    taken_none plan row (place_in plan (steps plan row begun) row) (steps plan row begun) ∙ steps_noted plan row begun
-    ∙ ap (λ (events : List Done). noted row (Some (event_at (place_in plan begun row))) events) (begun_none plan row (place_in plan run row) (next_call plan who (begun_in row run)) _ run)
+    taken_none plan row (place_in plan (steps plan row begun) row) (steps plan row begun) ∙ stepped_one plan row begun (event_at (place_in plan begun row)) refl
+    ∙ ap (λ (events : List Done). noted row (event_at (place_in plan begun row)) events) (begun_none plan row (place_in plan run row) (next_call plan who (begun_in row run)) _ run)
 
 module _ (plan : PlanValue) (who : Pass) (row : ℕ) (named : index_of (setting_of plan) who ≡ Some row) where
-  event_here : (m : View) (begun : List ℕ) (run : List Move) → IsAt plan m begun run → event_of m who ≡ event_at (place_in plan run row)
-  event_here m begun run at =
-      let here : index_of m.setting who ≡ Some row = rw at.setting named in
-      ap (event_in m) here ∙ ap (λ (s : State). event_at (s.stand row).place) at.state
-
-  -- the pass had a step
-  pub did_noted : (m : View) (begun : List ℕ) (kind : Kind) → Event.Did kind ≡ event_of m who → (run : List Move) → IsAt plan m begun run
-      → happened plan (turn plan who row run) ≡ noted row (Some (Event.Did kind)) (happened plan run)
-  did_noted m begun kind is run at =
-      let does : event_at (place_in plan run row) ≡ Event.Did kind = sym (is ∙ event_here m begun run at) in
-      ap (happened plan) (did_turn plan who row named run kind does) ∙ taken_none plan row (place_in plan (steps plan row run) row) (steps plan row run) ∙ steps_noted plan row run
-      ∙ ap (λ (e : Event). noted row (Some e) (happened plan run)) does
-
-  -- the pass was idle, and began a call
-  pub begun_noted : (m : View) (begun : List ℕ) (e : Event) → e ≡ event_of m who → (run : List Move) → IsAt plan m begun (begins plan who row run)
-      → happened plan (turn plan who row run) ≡ noted row (Some e) (happened plan run)
-  begun_noted m begun e is run at =
-      let does : event_at (place_in plan (begins plan who row run) row) ≡ e = sym (is ∙ event_here m begun (begins plan who row run) at) in
-      turn_noted plan who row run ∙ ap (λ (x : Event). noted row (Some x) (happened plan run)) does
-
-  -- the pass had neither a step nor a call to begin
-  pub none_noted : (m : View) (begun : List ℕ) → row < length begun → Event.Idle ≡ event_of m who → next_call plan who (get_or begun row 0) ≡ None → (run : List Move) → IsAt plan m begun run
-      → happened plan (turn plan who row run) ≡ happened plan run
-  none_noted m begun inside is next run at =
-      let stepless : event_at (place_in plan run row) ≡ Event.Idle = sym (is ∙ event_here m begun run at) in
-      let none : next_call plan who (begun_in row run) ≡ None = ap (next_call plan who) (sym (at.counts row inside)) ∙ next in
-      ap (happened plan) (no_turn plan who row named run stepless none) ∙ taken_none plan row (place_in plan run row) run
-
   -- ---- an entry
 
   -- one turn more
-  pub one_more : (m1 m2 : View) (begun1 begun2 : List ℕ) (events events2 : List Done) (n : ℕ) (e : Option Event) {more : Bool} (run : List Move) → Stands plan m1 begun1 events (turns plan who row n run)
-      → HasTurned plan who row m1 m2 begun1 begun2 more
-      → ((run : List Move) → IsAt plan m1 begun1 run → happened plan (turn plan who row run) ≡ noted row e (happened plan run))
-      → events2 ≡ noted row e events → Stands plan m2 begun2 events2 (turns plan who row (suc n) run)
-  one_more m1 m2 begun1 begun2 events events2 n e run s turned one new = record {
+  pub one_more : (m1 m2 : View) (begun1 begun2 : List ℕ) (events events2 : List Done) (n : ℕ) (e : Event) (run : List Move) → Stands plan m1 begun1 events (turns plan who row n run)
+      → HasTurned plan who row m1 m2 begun1 begun2 e → events2 ≡ noted row e events → Stands plan m2 begun2 events2 (turns plan who row (suc n) run)
+  one_more m1 m2 begun1 begun2 events events2 n e run s turned new = record {
     at = turned.at (turns plan who row n run) s.at;
-    told = new ∙ ap (noted row e) s.told ∙ sym (one (turns plan who row n run) s.at);
+    told = new ∙ ap (noted row e) s.told ∙ ap (λ (x : Event). noted row x (happened plan (turns plan who row n run))) (turned.told (turns plan who row n run) s.at) ∙ sym (turn_noted plan who row (turns plan who row n run));
   }
 
   -- the pass has no event more
-  pub no_more : (m1 m2 : View) (begun1 begun2 : List ℕ) (events : List Done) (n count : ℕ) {more : Bool} (run : List Move) → n < count → Stands plan m1 begun1 events (turns plan who row n run)
-      → HasTurned plan who row m1 m2 begun1 begun2 more → more ≡ false
-      → ((run : List Move) → IsAt plan m1 begun1 run → happened plan (turn plan who row run) ≡ happened plan run)
-      → Stands plan m2 begun2 events (entry plan who (index_of (setting_of plan) who) count run)
-  no_more m1 m2 begun1 begun2 events n count run less s turned none same =
-      let now : Stands plan m2 begun2 events (turns plan who row (suc n) run) = one_more m1 m2 begun1 begun2 events events n None run s turned same refl in
+  pub no_more : (m1 m2 : View) (begun1 begun2 : List ℕ) (events events2 : List Done) (n count : ℕ) (e : Event) (run : List Move) → n < count → Stands plan m1 begun1 events (turns plan who row n run)
+      → HasTurned plan who row m1 m2 begun1 begun2 e → e ≡ Event.Idle → events2 ≡ noted row e events → Stands plan m2 begun2 events2 (entry plan who (index_of (setting_of plan) who) count run)
+  no_more m1 m2 begun1 begun2 events events2 n count e run less s turned none new =
+      let now : Stands plan m2 begun2 events2 (turns plan who row (suc n) run) = one_more m1 m2 begun1 begun2 events events2 n e run s turned new in
       let over : HasEnded plan who row (turns plan who row (suc n) run) = turned.ended (turns plan who row n run) s.at none in
       let rest : suc n + (count - suc n) ≡ count = omega arith in
       let stays : turns plan who row count run ≡ turns plan who row (suc n) run = ap (λ (k : ℕ). turns plan who row k run) (sym rest) ∙ stays_on plan who row named (suc n) (count - suc n) run over in
@@ -101,13 +66,12 @@ module _ (plan : PlanValue) (who : Pass) (row : ℕ) (named : index_of (setting_
 
 -- ---- later runs have the events of the earlier ones
 
-noted_grows : (row : ℕ) (e : Option Event) (events : List Done) → length events ≤ length (noted row e events)
-noted_grows row (Some (Event.Did kind)) events = omega (arith, length-append events (record { row = row; kind = kind } ∷ []))
-noted_grows row (Some Event.Idle) events = omega arith
-noted_grows row None events = omega arith
+noted_grows : (row : ℕ) (e : Event) (events : List Done) → length events ≤ length (noted row e events)
+noted_grows row (Event.Did kind) events = omega (arith, length-append events (record { row = row; kind = kind } ∷ []))
+noted_grows row Event.Idle events = omega arith
 
 turn_grows : (plan : PlanValue) (who : Pass) (row : ℕ) (run : List Move) → length (happened plan run) ≤ length (happened plan (turn plan who row run))
-turn_grows plan who row run = rw (turn_noted plan who row run) (noted_grows row (Some (event_at (place_in plan (begins plan who row run) row))) (happened plan run))
+turn_grows plan who row run = rw (turn_noted plan who row run) (noted_grows row (event_at (place_in plan (begins plan who row run) row)) (happened plan run))
 
 turns_grow : (plan : PlanValue) (who : Pass) (row n : ℕ) (run : List Move) → length (happened plan run) ≤ length (happened plan (turns plan who row n run))
 turns_grow plan who row zero run = omega arith

@@ -1,5 +1,5 @@
 -- The events of a run, as the page lists them.
-use Rattle.std.specs.Prelude.{ℕ, ◌≡◌, List, [], ◌∷◌, ◌++◌, Option, Some, None}
+use Rattle.std.specs.Prelude.{ℕ, ◌≡◌, List, [], ◌∷◌, ◌++◌}
 use Rattle.cc_show.specs.Names.{Done, Event, Move}
 use Rattle.cc_runs.specs.Lines.{event_at}
 use Rattle.cc_machine.specs.View.{View}
@@ -11,15 +11,14 @@ abbrev pub event_limit : ℕ
 event_limit = 20000
 
 -- an event of the pass in this row goes behind the earlier ones, if it was one
-abbrev pub noted : ℕ → Option Event → List Done → List Done
-noted row (Some (Event.Did kind)) events = events ++ record { row = row; kind = kind } ∷ []
-noted row (Some Event.Idle) events = events
-noted row None events = events
+abbrev pub noted : ℕ → Event → List Done → List Done
+noted row (Event.Did kind) events = events ++ record { row = row; kind = kind } ∷ []
+noted row Event.Idle events = events
 
 -- the events of a run, the first one first: for each step its pass and its kind
 abbrev pub happened : PlanValue → List Move → List Done
 happened plan [] = []
-happened plan (Move.Step row ∷ earlier) = noted row (Some (event_at (place_in plan earlier row))) (happened plan earlier)
+happened plan (Move.Step row ∷ earlier) = noted row (event_at (place_in plan earlier row)) (happened plan earlier)
 happened plan (Move.Begin row call known ∷ earlier) = happened plan earlier
 happened plan (Move.Take row ∷ earlier) = happened plan earlier
 

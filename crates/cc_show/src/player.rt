@@ -1,18 +1,18 @@
 //! Following a schedule, with a note of each event.
-ghost use Rattle.std.specs.Prelude.{◌≡◌, ◌<◌, ◌≤◌, Some, None, List, length, IfOk, OnOk, is_some, MatchOption};
+ghost use Rattle.std.specs.Prelude.{◌≡◌, ◌<◌, ◌≤◌, List, length, IfOk, OnOk, MatchOption};
 ghost use Rattle.cc_play.specs.Names.{Move};
 ghost use Rattle.cc_runs.specs.Run.{passes, reached, IsRun};
 ghost use Rattle.cc_machine.specs.View.{state_in};
 ghost use Rattle.cc_machine.specs.Machine.{index_of};
 ghost use Rattle.cc_plan.specs.Plan.{plan_value};
 ghost use Rattle.cc_plan.specs.PlanLaws.{Lawful};
-ghost use Rattle.cc_play.specs.Schedule.{setting_of, IsAt, IsBetweenTurns, HasTurned, turn, entry, run_of};
+ghost use Rattle.cc_play.specs.Schedule.{setting_of, IsBetweenTurns, entry, run_of};
 ghost use Rattle.cc_show.specs.Events.{noted, happened, event_limit, Stands};
 
 use cc_machine::{Event, Kind, Machine, OpenFault};
 use cc_model::Pass;
 use cc_plan::Plan;
-use cc_play::{begin, next_call};
+use cc_play::turn;
 use std::alloc::{AllocError, Global};
 
 /// How many events a page shows at most.
@@ -34,49 +34,12 @@ pub struct Played {
 
 /// Goes on with the events by one, if it is one.
 fn note(events: &mut Vec<Done>, row: usize, event: Event) -> Result<(), AllocError>
-    ensures { OnOk result (events.new.items ≡ noted row (Some event) events.old.items) }
+    ensures { OnOk result (events.new.items ≡ noted row event events.old.items) }
 {
     if let Event::Did(kind) = event {
         events.push(Done { row, kind })?;
     }
     Ok(())
-}
-
-/// One event of a pass, before which it begins its next call where it is idle, and after which the answer of a finished
-/// call is taken; `None` where the pass had no event to do.
-fn turn(
-    machine: &mut Machine,
-    begun: &mut [usize],
-    plan: &Plan,
-    pass: Pass,
-    row: usize,
-) -> Result<Option<Event>, AllocError>
-    requires lawful { Lawful (plan_value plan.now) }
-    requires pass { index_of (setting_of (plan_value plan.now)) pass ≡ Some row }
-    requires row { row < length begun.old }
-    requires between { IsBetweenTurns (plan_value plan.now) machine.old begun.old }
-    ensures turned { IfOk result (λ event. HasTurned (plan_value plan.now) pass row machine.old machine.new begun.old begun.new (is_some event)) }
-    ensures event { IfOk result (λ event. (run : List Move) → IsAt (plan_value plan.now) machine.old begun.old run
-        → happened (plan_value plan.now) (turn (plan_value plan.now) pass row run) ≡ noted row event (happened (plan_value plan.now) run)) }
-    ensures between { OnOk result (IsBetweenTurns (plan_value plan.now) machine.new begun.new) }
-    ensures rows { length begun.new ≡ length begun.old }
-{
-    match machine.event(pass) {
-        Event::Did(kind) => {
-            machine.answer(pass);
-            Ok(Some(Event::Did(kind)))
-        }
-        Event::Idle => match next_call(plan, pass, begun[row]) {
-            Some(call) => {
-                begin(machine, pass, call)?;
-                begun[row] += 1;
-                let event = machine.event(pass);
-                machine.answer(pass);
-                Ok(Some(event))
-            }
-            None => Ok(None),
-        },
-    }
 }
 
 /// Up to so many events of a pass, one by one.
@@ -100,9 +63,10 @@ fn follow_entry(
         return Ok(());
     };
     for _done in 0..count {
-        match turn(machine, begun, plan, pass, row)? {
-            Some(event) => note(events, row, event)?,
-            None => return Ok(()),
+        let event = turn(machine, begun, plan, pass, row)?;
+        note(events, row, event)?;
+        if let Event::Idle = event {
+            return Ok(());
         }
     }
     Ok(())
