@@ -35,7 +35,8 @@ fn part<'a>(page: &'a str, mark: &str) -> &'a str {
 }
 
 /// A plan in which one item is passed on.
-const FIRST: &str = r#"{"capacity":2,"bound":2,"life":10,"senders":[[7]],"receivers":[1],"schedule":[["s1",100],["r1",100]]}"#;
+const FIRST: &str =
+    r#"{"capacity":2,"bound":2,"life":10,"senders":[[7]],"receivers":[1],"schedule":[["s1",100],["r1",100]]}"#;
 
 /// Its configuration and calls, and its events: the steps of a lone send and of a lone take, in the order of
 /// docs/ALGORITHM.md.
@@ -72,12 +73,7 @@ const ROWS: &[(&str, u8, &str, &str)] = &[
         "ccq_show: more than 20000 events\n",
         r#"{"capacity":2,"bound":2,"life":10,"senders":[[7],[9]],"receivers":[0],"schedule":[["s1",3],["s2",19998]]}"#,
     ),
-    (
-        "no plan",
-        2,
-        "ccq: plan refused: P1\n",
-        "",
-    ),
+    ("no plan", 2, "ccq: plan refused: P1\n", ""),
 ];
 
 #[test]
