@@ -16,8 +16,8 @@
       void document.body.offsetHeight;
       longest = Math.max(longest, performance.now() - begun);
     };
-    // Of a long run the first thousand events and the last thousand, one by one
-    const some = Math.min(events, 1000);
+    // Of a long run the first two hundred events and the last two hundred, one by one
+    const some = Math.min(events, 200);
     const begun = performance.now();
     for (let i = 0; i < some; i++) timed('ArrowRight');
     say('mean', Math.ceil((performance.now() - begun) / Math.max(some, 1)));
