@@ -1,7 +1,9 @@
-//! Tests of `cc_drive`: runs with gates that go on, that wait for each other, and that never let a worker go on; and rounds of
-//! threads by the calls that wait.
+//! Tests of `cc_drive`: runs with gates that go on, that wait for each other, and that never let a worker go on; rounds of
+//! threads by the calls that wait; and lines that ask for a drive, by `cc_drive_command`.
 #![tactic(auto)]
 
+#[cfg(test)]
+mod commands;
 #[cfg(test)]
 mod gates;
 #[cfg(test)]

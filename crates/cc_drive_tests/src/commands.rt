@@ -1,4 +1,4 @@
-//! Lines that ask for a drive, outputs that fail, and ends of runs. What a line leaves of the program is in
+//! Lines that ask `cc_drive_command` for a drive, outputs that fail, and ends of runs. What a line leaves of the program is in
 //! tests/command_lines.
 use cc_audit::Verdict;
 use cc_drive::{DriveConfig, DriveFault, Gate, Go, Point};
