@@ -1,4 +1,5 @@
-//! Tests of `cc_queue`: what its calls answer in worked runs, on one thread and on several, and against the plain machine.
+//! Tests of `cc_queue`: what its calls answer in worked runs, on one thread and on several, and against the plain machine; and
+//! of `cc_broker`: what is refused and in which order, how names lead to numbers, and threads on two topics.
 #![tactic(auto)]
 
 #[cfg(test)]
@@ -24,5 +25,11 @@ mod held;
 mod openings;
 #[cfg(test)]
 mod shared_fifo;
+#[cfg(test)]
+mod topics;
+#[cfg(test)]
+mod topics_in_threads;
+#[cfg(test)]
+mod topics_without_memory;
 
 pub use held::{HeldReceiver, HeldSender, Pair, Passes};

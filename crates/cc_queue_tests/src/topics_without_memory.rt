@@ -1,7 +1,7 @@
 //! What is answered where memory is refused: run by itself with each allocation refused in turn.
 use cc_broker::{Broker, BrokerFault};
 use cc_model::Config;
-use cc_runs::OpenFault;
+use cc_queue::OpenFault;
 
 const SMALL: Config = Config {
     senders: 2,

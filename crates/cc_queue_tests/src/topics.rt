@@ -1,7 +1,7 @@
 //! Names and numbers of topics, and what the opening refuses.
 use cc_broker::{Broker, BrokerFault, OpenedBroker};
 use cc_model::{Config, ConfigFault};
-use cc_runs::OpenFault;
+use cc_queue::OpenFault;
 use std::alloc::Global;
 use std::process::Abort;
 
