@@ -12,4 +12,4 @@ pub use fault::PlanFault;
 pub use json::INPUT_LIMIT;
 pub use plan::{Plan, read_plan};
 pub use receipts::{Receipts, read_receipts};
-pub use report::{Report, write_report, write_verdict};
+pub use report::{Report, write_body, write_report, write_verdict};

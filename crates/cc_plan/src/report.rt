@@ -224,8 +224,8 @@ fn write_item<W: Sink>(sink: &mut W, pen: &mut Pen, item: Item)
     write_body(sink, pen, item.body)
 }
 
-/// The words of a body, each behind a space.
-fn write_body<W: Sink>(sink: &mut W, pen: &mut Pen, body: Body)
+/// Writes the words of a body, each behind a space, as a call and an item in a report tell them.
+pub fn write_body<W: Sink>(sink: &mut W, pen: &mut Pen, body: Body)
     requires { pen.old.failed ≡ false → W.write_failures sink.old < 2 ^ 64 - 1 }
     ensures { Pens (desk pen.old (W.bytes_written sink.old) (W.write_failures sink.old))
         (desk pen.new (W.bytes_written sink.new) (W.write_failures sink.new))

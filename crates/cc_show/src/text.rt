@@ -1,6 +1,5 @@
 //! The text of a page.
 ghost use Rattle.std.specs.Prelude.{◌≡◌, ◌<◌, ◌^◌, ◌-◌, false, is_err, map};
-ghost use Rattle.cc_model.specs.Body.{words_of};
 ghost use Rattle.cc_model.specs.HistoryRoom.{lists};
 ghost use Rattle.cc_model.specs.Written.{Writes, Pens, desk};
 ghost use Rattle.cc_plan.specs.Plan.{plan_value};
@@ -10,8 +9,8 @@ ghost use Rattle.cc_show.specs.Page.{call_text, calls_text, senders_text, config
 use crate::kinds::kind_number;
 use crate::page::{BACK, FRONT, MIDDLE};
 use crate::player::Done;
-use cc_model::{Body, Call, Pen, Sink, WriteFault, write_bytes};
-use cc_plan::{Plan, Report, write_report};
+use cc_model::{Call, Pen, Sink, WriteFault, write_bytes};
+use cc_plan::{Plan, Report, write_body, write_report};
 
 /// Writes the page of a plan's events and of a report, and stops at the first write that fails.
 pub fn write_page<W: Sink>(
@@ -127,18 +126,6 @@ fn write_call<W: Sink>(sink: &mut W, pen: &mut Pen, call: Call)
         }
         Call::Close => pen.text(sink, b" c"),
         Call::Take => pen.text(sink, b" t"),
-    }
-}
-
-/// Writes the words of a body, each behind a space.
-fn write_body<W: Sink>(sink: &mut W, pen: &mut Pen, body: Body)
-    requires { pen.old.failed ≡ false → W.write_failures sink.old < 2 ^ 64 - 1 }
-    ensures { Pens (desk pen.old (W.bytes_written sink.old) (W.write_failures sink.old))
-        (desk pen.new (W.bytes_written sink.new) (W.write_failures sink.new))
-        (words_text (words_of body)) }
-{
-    for word in body.words() {
-        pen.word(sink, b" ", *word);
     }
 }
 
