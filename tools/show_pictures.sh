@@ -47,9 +47,8 @@ draw() {
 
 case ${1-} in
 --write)
-    for name in chromium chromium-browser google-chrome; do
-        command -v "$name" >/dev/null && draw "$name" && record_of >"$record" && exit
-    done
+    . tools/browser.sh
+    [ -n "$browser" ] && draw "$browser" && record_of >"$record" && exit
     echo 'show_pictures: no picture was drawn: is there a Chromium, and crates/ccq_show/out/ccq_show?' >&2
     exit 1
     ;;

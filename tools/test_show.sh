@@ -20,10 +20,7 @@ if [ ! -x "$show" ]; then
     skip 'pages' "$show isn't there"
     end_steps
 fi
-browser=
-for name in chromium chromium-browser google-chrome; do
-    has "$name" && browser=$name && break
-done
+. tools/browser.sh
 export show play browser
 
 # Writes the page of a plan, with what steps through it behind its own script.
