@@ -3,6 +3,7 @@ pub mod InOrder
 pub mod Soonest
 pub mod Sought
 pub mod Turns
+pub mod Referred
 pub mod Copies
 pub mod Faults
 pub mod Found

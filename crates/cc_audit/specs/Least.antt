@@ -1,5 +1,6 @@
 -- The least place at which a fact holds.
-use Rattle.std.specs.Prelude.{◌≡◌, ℕ, ◌+◌, ◌<◌, ◌≤◌, ◌⊎◌, List, length, slice_index_or, Option, Some, None, nat_lt, if◌then◌else◌}
+use Rattle.std.specs.Prelude.{◌≡◌, ℕ, ◌+◌, ◌<◌, ◌≤◌, ◌⊎◌, List, length, map, slice_index_or, Option, Some, None, nat_lt, if◌then◌else◌}
+use Rattle.std.specs.Borrow.{Bor}
 use Rattle.cc_audit.specs.Names.{SendReceipt, Verdict}
 
 -- the least place at which P holds, or None where it holds nowhere
@@ -23,6 +24,10 @@ abbrev pub or_fault_of : Verdict → (kind : ℕ) → Option ℕ → Verdict
 or_fault_of verdict kind None = verdict
 or_fault_of Verdict.Clean kind (Some p) = Verdict.Fault kind p
 or_fault_of (Verdict.Fault found q) kind (Some p) = if nat_lt p q then Verdict.Fault kind p else Verdict.Fault found q
+
+-- the receipts behind references
+abbrev pub referred : List (Bor SendReceipt) → List SendReceipt
+referred sends = map (λ s. s.now) sends
 
 -- neighbours of one sender are in the order of their places
 abbrev pub RisesInSenders : List SendReceipt → Type 0

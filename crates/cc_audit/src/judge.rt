@@ -25,7 +25,7 @@ fn places_taken(alloc: Global, takes: &[TakeReceipt]) -> Result<Vec<u64>, AllocE
 }
 
 /// The verdict on these receipts, whatever their order, with the total that a close gave. It takes memory in proportion
-/// to the receipts: first for the places alone, and when these are let go for the receipts of sends once more.
+/// to the receipts: first for the places alone, and when these are let go for a reference to each receipt of a send.
 pub fn audit(
     alloc: Global,
     sends: &[SendReceipt],
