@@ -177,13 +177,13 @@ for (let i = 0; i + 1 < numbers.length; i += 2) told.push({ row: numbers[i], kin
 // ---- Kinds of events: a name, two letters, a group of kinds, and what such a step does.
 
 const KINDS = [null,
-  ['ResetState', 'R1', 'enter', 'stores 1, waiting, into the state of its own node'],
+  ['ResetState', 'Rs', 'enter', 'stores 1, waiting, into the state of its own node'],
   ['Exchange', 'Ex', 'enter', 'swaps its own node into the tail of its chain: here the call enters the history'],
   ['ReadState', 'St', 'wait', 'reads the state of its node: 0 to serve, 1 to wait, 2 the answer is there'],
   ['HandOver', 'Ho', 'hand', 'stores 0, serve, into the state of the node where it stops: who has that node serves next'],
   ['ReadObject', 'Or', 'serve', 'reads a word of the list'],
   ['WriteObject', 'Ow', 'serve', 'writes a word of the list'],
-  ['ResetNext', 'R0', 'enter', 'stores null into the next link of its own node'],
+  ['ResetNext', 'Rn', 'enter', 'stores null into the next link of its own node'],
   ['WriteRequest', 'Wq', 'enter', 'writes a word of its request into its node'],
   ['Link', 'Lk', 'enter', 'links its node to the one that it put into the tail'],
   ['ReadNext', 'Nx', 'serve', 'reads the next link of the node that it would serve'],
