@@ -6,16 +6,7 @@
 # The exit status is 0 where the library is proved and built. `--help` prints this.
 set -u
 cd "$(dirname "$0")/.." || exit 1
-case ${1-} in
--h | --help)
-    sed -n '2,/^[^#]/s/^# //p' tools/build_library.sh
-    exit
-    ;;
-esac
-if [ "$#" -gt 0 ]; then
-    echo 'usage: tools/build_library.sh' >&2
-    exit 64
-fi
+. tools/no_words.sh
 . tools/library.sh
 if ! command -v rt >/dev/null; then
     echo 'library: the command rt is not on the path: it proves and builds the library, and nothing else does' >&2

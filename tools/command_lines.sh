@@ -7,6 +7,7 @@
 # Exit status 0 where all lines did so. It proves and builds nothing: `rt ci` does, or `rt run` in crates/ccq.
 set -u
 cd "$(dirname "$0")/.." || exit 1
+. tools/no_words.sh
 . tools/programs.sh
 
 # Runs a program on an input. Leaves its status in `status`, and in out, err and rest what it wrote and what it didn't read.

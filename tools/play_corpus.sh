@@ -7,6 +7,7 @@
 # Exit status 0 where all runs did so. It proves and builds nothing: `rt ci` does, or `rt run` in crates/ccq.
 set -u
 cd "$(dirname "$0")/.." || exit 1
+. tools/no_words.sh
 . tools/programs.sh
 
 # Runs a program on a task and an input. Leaves in seen what it did, in the form of an expected file.

@@ -1,4 +1,5 @@
 # What the scripts share that refuse memory; each reads it behind its `cd`. It makes the library that is loaded before a program.
+. tools/no_words.sh
 . tools/programs.sh
 if ! command -v gcc >/dev/null; then
     echo "$name: gcc is not on this machine, and the library that refuses memory is compiled by it"

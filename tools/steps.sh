@@ -1,16 +1,6 @@
 # What the scripts share that test the bindings and the packages step by step; each reads it behind its `cd`, and says in `tests`
 # what its lines begin with. It makes a folder `room` for the time of the script, and counts in `failed` the steps that failed.
-# None of them takes a word, but for `--help`, which prints what stands at its head.
-case ${1-} in
--h | --help)
-    sed -n '2,/^[^#]/s/^# \{0,1\}//p' "tools/$(basename "$0")"
-    exit
-    ;;
-esac
-if [ "$#" -gt 0 ]; then
-    echo "usage: tools/$(basename "$0")" >&2
-    exit 64
-fi
+. tools/no_words.sh
 room=$(mktemp -d) || exit 1
 trap 'rm -rf "$room"' EXIT
 export room
