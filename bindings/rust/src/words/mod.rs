@@ -1,4 +1,6 @@
 #![doc = include_str!("../../WORDS.md")]
+//!
+//! [`channel`](crate::channel()) and [`groups`](crate::groups) stand over these queues.
 
 pub(crate) mod backoff;
 mod begun;
