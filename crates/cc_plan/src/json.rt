@@ -1,9 +1,10 @@
 //! The tree of a JSON text, and plain questions about a tree.
-ghost use Rattle.std.specs.Prelude.{◌≡◌, ◌≤◌, ℕ, Bool, List, Option, map, IfOk, IfSome, IsErrOf, OnOk, option_map, length};
+ghost use Rattle.std.specs.Prelude.{◌≡◌, ◌≤◌, ℕ, Bool, List, Option, map, IfOk, IfSome, IsErrOf, OnOk, option_map, length, [], ◌∷◌};
 ghost use Rattle.std.specs.List.{list_all};
 ghost use Rattle.serde_json.specs.Data.{Data};
 ghost use Rattle.serde_json.specs.View.{view, members_view};
-ghost use Rattle.cc_plan.specs.Json.{json_of, elements, is_list_of, pair_of, each, is_number, is_word, number_in, body_in, is_body, body_as, keys, has_only};
+ghost use Rattle.cc_plan.specs.Json.{json_of, elements, is_list_of, pair_of, each, is_number, is_word, whole_number, number_in, body_in, is_body, body_as, keys, has_only};
+ghost use Rattle.cc_model.specs.Body.{body_of};
 ghost use Rattle.cc_plan.specs.Closures.{Computes, TestsText};
 ghost use Rattle.cc_plan.specs.Answers.{Gives};
 ghost use Rattle.cc_plan.specs.Refusal.{tree_of, or_no_json, input_limit};
@@ -129,12 +130,37 @@ pub fn body(value: &Value) -> Option<Body>
 {
     match elements(value)? {
         [] => None,
-        [a] => Some(Body::one(a.as_u64()?)),
-        [a, b] => Some(Body::two(a.as_u64()?, b.as_u64()?)),
-        [a, b, c] => Some(Body::three(a.as_u64()?, b.as_u64()?, c.as_u64()?)),
-        [a, b, c, d] => Some(Body::four(a.as_u64()?, b.as_u64()?, c.as_u64()?, d.as_u64()?)),
+        [a] => one_word(a),
+        [a, b] => two_words(a, b),
+        [a, b, c] => three_words(a, b, c),
+        [a, b, c, d] => four_words(a, b, c, d),
         [_, _, _, _, _, ..] => None,
     }
+}
+
+fn one_word(a: &Value) -> Option<Body>
+    ensures { result ≡ option_map body_of (each whole_number (view a.now ∷ [])) }
+{
+    Some(Body::one(a.as_u64()?))
+}
+
+fn two_words(a: &Value, b: &Value) -> Option<Body>
+    ensures { result ≡ option_map body_of (each whole_number (view a.now ∷ view b.now ∷ [])) }
+{
+    Some(Body::two(a.as_u64()?, b.as_u64()?))
+}
+
+fn three_words(a: &Value, b: &Value, c: &Value) -> Option<Body>
+    ensures { result ≡ option_map body_of (each whole_number (view a.now ∷ view b.now ∷ view c.now ∷ [])) }
+{
+    Some(Body::three(a.as_u64()?, b.as_u64()?, c.as_u64()?))
+}
+
+fn four_words(a: &Value, b: &Value, c: &Value, d: &Value) -> Option<Body>
+    ensures { result ≡ option_map body_of
+        (each whole_number (view a.now ∷ view b.now ∷ view c.now ∷ view d.now ∷ [])) }
+{
+    Some(Body::four(a.as_u64()?, b.as_u64()?, c.as_u64()?, d.as_u64()?))
 }
 
 /// Whether the value is a number, or in version 2 an array of numbers.
