@@ -1,7 +1,9 @@
 //! Plans, and the pages that show them.
+use crate::runs::{CutWriter, Refusal};
 use cc_model::Device;
+use cc_play::PlayFault;
 use cc_show::show::show;
-use cc_show::tell_shown;
+use cc_show::{ShowFault, tell_shown};
 use std::alloc::Global;
 use std::test::Fail;
 
@@ -46,6 +48,14 @@ const RUN: &str = " 1 2 2 10 1 1 1\n s 7\n 1\n \
 
 const REPORT: &str = "E 0 s1 send 7 -> accepted 0\nD 0 r1 take -> got 0 s1 1 7\naudit clean\n";
 
+/// A plan of version 2 in which an item of two words is passed on to two groups.
+const SECOND: &str =
+    r#"{"version":2,"groups":2,"capacity":2,"bound":2,"life":10,"senders":[[[7,8]]],"receivers":[1,1],"schedule":[["s1",100],["r1",100],["r2",100]]}"#;
+
+/// Its report, which names the group of each take.
+const OF_GROUPS: &str =
+    "E 0 s1 send 7 8 -> accepted 0\nD 1 0 r1 take -> got 0 s1 1 7 8\nD 2 0 r2 take -> got 0 s1 1 7 8\naudit clean\n";
+
 #[test]
 fn a_page_has_the_run_and_the_report(rt: HostRuntime) -> Result<(), Fail> {
     let outcome = shown(rt.alloc(), FIRST);
@@ -56,7 +66,30 @@ fn a_page_has_the_run_and_the_report(rt: HostRuntime) -> Result<(), Fail> {
     assert!(rt; page.ends_with("</html>\n"));
     assert_eq!(rt; outcome.status, 0);
     assert!(rt; outcome.errors.is_empty());
+    let second = shown(rt.alloc(), SECOND);
+    let page = str::from_utf8(&second.output).unwrap_or("");
+    assert_eq!(rt; part(page, "id=\"report\">"), OF_GROUPS);
     Ok(())
+}
+
+/// Behind every hundredth byte of a page a write fails, within its front, its run, its report and its script: this is told,
+/// just these bytes stand, and nothing is written behind the failure.
+#[test]
+fn writes_of_a_page_fail(rt: HostRuntime) {
+    let whole = shown(rt.alloc(), FIRST);
+    let page = str::from_utf8(&whole.output).unwrap_or("");
+    assert!(rt; page.len() > 30_000);
+    for hundreds in 0..page.len() / 100 {
+        let takes = hundreds * 100;
+        let mut sink = CutWriter::new(rt.alloc(), takes, usize::MAX, Refusal::Error);
+        let outcome = show(rt.alloc(), &mut Device::new(FIRST.as_bytes()), &mut sink);
+        assert!(rt;
+            matches!(outcome, Err(ShowFault::Play(PlayFault::Write))),
+            "{takes}"
+        );
+        assert!(rt; sink.has_front(page, takes), "{takes}");
+        assert!(rt; sink.has_failed_once(), "{takes}");
+    }
 }
 
 /// What an input shows, its status, what is told, and the input.
