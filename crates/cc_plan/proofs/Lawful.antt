@@ -17,7 +17,7 @@ use Rattle.cc_plan.specs.Plan.{PlanValue, plan_value}
 use Rattle.cc_plan.specs.PlanShape.{named, has_plan_shape}
 use Rattle.cc_plan.specs.PlanValues.{groups_of, counted, call_of, calls_of, senders_of, fill_groups, receivers_of, entry_of, schedule_of}
 use Rattle.cc_plan.specs.Version.{version_in, version_of}
-use Rattle.cc_plan.specs.PlanOf.{config_of, plan_of_values, has_pass, known_passes, with_known_passes, plan_of_tree, plan_of}
+use Rattle.cc_plan.specs.PlanOf.{config_of, plan_of_values, has_pass, known_passes, with_known_passes, values_of_tree, values_of, plan_of}
 use Rattle.cc_plan.specs.PlanLaws.{IsOfSender, Lawful}
 
 -- ---- steps that gave something
@@ -186,9 +186,29 @@ fields_lawful : (groups senders receivers capacity bound life : ℕ) → within 
     → config_fault (config_of groups senders receivers capacity bound life) ≡ Ok tt
 fields_lawful groups senders receivers capacity bound life g a b c d e = rw (a, b, c, d, e, g) refl
 
-values_lawful : (d : Data) (p : PlanValue) → plan_of_values d ≡ Ok p → Valued p
+-- what each key gave, and the plan of it
+record Given (d : Data) (p : PlanValue) : Type 0 where
+  version : ℕ
+  groups : ℕ
+  capacity : ℕ
+  bound : ℕ
+  life : ℕ
+  senders : List (List Call)
+  receivers : List ℕ
+  schedule : List (Pass × ℕ)
+  version_is : or_range (codes "version") (version_of d) ≡ Ok version
+  groups_is : or_range (codes "groups") (groups_of version d) ≡ Ok groups
+  capacity_is : value_at (number_in 1 4096) (codes "capacity") d ≡ Ok capacity
+  bound_is : value_at (number_in 1 1024) (codes "bound") d ≡ Ok bound
+  life_is : value_at (number_in 1 (2 ^ 48)) (codes "life") d ≡ Ok life
+  senders_are : value_at (senders_of version) (codes "senders") d ≡ Ok senders
+  receivers_are : value_at (receivers_of groups) (codes "receivers") d ≡ Ok receivers
+  schedule_is : value_at schedule_of (codes "schedule") d ≡ Ok schedule
+  plan_is : record { version = version; config = config_of groups (length senders) (length receivers / groups) capacity bound life; senders = senders; receivers = receivers; schedule = schedule } ≡ p
+
+values_given : (d : Data) (p : PlanValue) → plan_of_values d ≡ Ok p → Given d p
 unfolding plan_of_values
-values_lawful d p e =
+values_given d p e =
     let version = ok_step (or_range (codes "version") (version_of d)) _ p e in
     let groups = ok_step (or_range (codes "groups") (groups_of version.0 d)) _ p version.2 in
     let capacity = ok_step (value_at (number_in 1 4096) (codes "capacity") d) _ p groups.2 in
@@ -197,38 +217,60 @@ values_lawful d p e =
     let senders = ok_step (value_at (senders_of version.0) (codes "senders") d) _ p life.2 in
     let receivers = ok_step (value_at (receivers_of groups.0) (codes "receivers") d) _ p senders.2 in
     let schedule = ok_step (value_at schedule_of (codes "schedule") d) _ p receivers.2 in
-    let capacity_at = at_key (number_in 1 4096) (codes "capacity") d capacity.0 capacity.1 in
-    let bound_at = at_key (number_in 1 1024) (codes "bound") d bound.0 bound.1 in
-    let life_at = at_key (number_in 1 (2 ^ 48)) (codes "life") d life.0 life.1 in
-    let senders_at = at_key (senders_of version.0) (codes "senders") d senders.0 senders.1 in
-    let receivers_at = at_key (receivers_of groups.0) (codes "receivers") d receivers.0 receivers.1 in
-    let schedule_at = at_key schedule_of (codes "schedule") d schedule.0 schedule.1 in
-    let s = some_step (counted 1 64 senders_at.0) (each (calls_of version.0)) senders.0 senders_at.1 in
-    let r = some_step (elements receivers_at.0) (λ ds. cond (fill_groups groups.0 (length ds)) (each (number_in 0 65536) ds) None) receivers.0 receivers_at.1 in
-    let full = if_some (fill_groups groups.0 (length r.0)) (each (number_in 0 65536) r.0) receivers.0 r.2 in
-    let parts = both (length r.0 % groups.0 == 0) (within 1 64 (length r.0 / groups.0)) full.0 in
-    let all_receivers = each_length (number_in 0 65536) r.0 receivers.0 full.1 in
-    let known = in_range (codes "version") (version_of d) version.0 version.1 in
-    let grouped = groups_when (version.0 == 2) version.0 groups.0 (get (codes "groups") d) refl (in_range (codes "groups") (groups_of version.0 d) groups.0 groups.1) in
-    let t = some_step (counted 0 65536 schedule_at.0) (each entry_of) schedule.0 schedule_at.1 in
-    subst Valued (ok_same _ p schedule.2) (record {
-      version = known_version (get (codes "version") d) version.0 known;
-      config = fields_lawful groups.0 (length senders.0) (length receivers.0 / groups.0) capacity.0 bound.0 life.0
+    record {
+      version = version.0;
+      groups = groups.0;
+      capacity = capacity.0;
+      bound = bound.0;
+      life = life.0;
+      senders = senders.0;
+      receivers = receivers.0;
+      schedule = schedule.0;
+      version_is = version.1;
+      groups_is = groups.1;
+      capacity_is = capacity.1;
+      bound_is = bound.1;
+      life_is = life.1;
+      senders_are = senders.1;
+      receivers_are = receivers.1;
+      schedule_is = schedule.1;
+      plan_is = ok_same _ p schedule.2;
+    }
+
+given_lawful : (d : Data) (p : PlanValue) → Given d p → Valued p
+given_lawful d p g =
+    let capacity_at = at_key (number_in 1 4096) (codes "capacity") d g.capacity g.capacity_is in
+    let bound_at = at_key (number_in 1 1024) (codes "bound") d g.bound g.bound_is in
+    let life_at = at_key (number_in 1 (2 ^ 48)) (codes "life") d g.life g.life_is in
+    let senders_at = at_key (senders_of g.version) (codes "senders") d g.senders g.senders_are in
+    let receivers_at = at_key (receivers_of g.groups) (codes "receivers") d g.receivers g.receivers_are in
+    let schedule_at = at_key schedule_of (codes "schedule") d g.schedule g.schedule_is in
+    let s = some_step (counted 1 64 senders_at.0) (each (calls_of g.version)) g.senders senders_at.1 in
+    let r = some_step (elements receivers_at.0) (λ ds. cond (fill_groups g.groups (length ds)) (each (number_in 0 65536) ds) None) g.receivers receivers_at.1 in
+    let full = if_some (fill_groups g.groups (length r.0)) (each (number_in 0 65536) r.0) g.receivers r.2 in
+    let parts = both (length r.0 % g.groups == 0) (within 1 64 (length r.0 / g.groups)) full.0 in
+    let all_receivers = each_length (number_in 0 65536) r.0 g.receivers full.1 in
+    let known = in_range (codes "version") (version_of d) g.version g.version_is in
+    let grouped = groups_when (g.version == 2) g.version g.groups (get (codes "groups") d) refl (in_range (codes "groups") (groups_of g.version d) g.groups g.groups_is) in
+    let t = some_step (counted 0 65536 schedule_at.0) (each entry_of) g.schedule schedule_at.1 in
+    subst Valued g.plan_is (record {
+      version = known_version (get (codes "version") d) g.version known;
+      config = fields_lawful g.groups (length g.senders) (length g.receivers / g.groups) g.capacity g.bound g.life
           grouped.0
-          (sym (ap (within 1 64) (each_length (calls_of version.0) s.0 senders.0 s.2)) ∙ count_within 1 64 senders_at.0 s.0 s.1)
-          (sym (ap (λ (n : ℕ). within 1 64 (n / groups.0)) all_receivers) ∙ parts.1)
-          (number_within 1 4096 capacity_at.0 capacity.0 capacity_at.1)
-          (number_within 1 1024 bound_at.0 bound.0 bound_at.1)
-          (number_within 1 (2 ^ 48) life_at.0 life.0 life_at.1);
+          (sym (ap (within 1 64) (each_length (calls_of g.version) s.0 g.senders s.2)) ∙ count_within 1 64 senders_at.0 s.0 s.1)
+          (sym (ap (λ (n : ℕ). within 1 64 (n / g.groups)) all_receivers) ∙ parts.1)
+          (number_within 1 4096 capacity_at.0 g.capacity capacity_at.1)
+          (number_within 1 1024 bound_at.0 g.bound bound_at.1)
+          (number_within 1 (2 ^ 48) life_at.0 g.life life_at.1);
       limit = refl;
       groups = grouped.1;
       senders = refl;
-      receivers = whole_groups groups.0 (length receivers.0) (sym (ap (λ (n : ℕ). n % groups.0 == 0) all_receivers) ∙ parts.0);
-      calls = each_all (All IsOfSender) (calls_of version.0) (all_of_sender version.0) s.0 senders.0 s.2;
-      sends = each_all (λ calls. length calls ≤ 65536) (calls_of version.0) (few_each (call_of version.0)) s.0 senders.0 s.2;
-      takes = each_all (λ n. n ≤ 65536) (number_in 0 65536) (λ v n h. (bounds 0 65536 n (number_within 0 65536 v n h)).1) r.0 receivers.0 full.1;
-      entries = few_each entry_of schedule_at.0 schedule.0 schedule_at.1;
-      steps = each_all (λ x. (1 ≤ x.1) × (x.1 ≤ 100000)) entry_of entry_steps t.0 schedule.0 t.2;
+      receivers = whole_groups g.groups (length g.receivers) (sym (ap (λ (n : ℕ). n % g.groups == 0) all_receivers) ∙ parts.0);
+      calls = each_all (All IsOfSender) (calls_of g.version) (all_of_sender g.version) s.0 g.senders s.2;
+      sends = each_all (λ calls. length calls ≤ 65536) (calls_of g.version) (few_each (call_of g.version)) s.0 g.senders s.2;
+      takes = each_all (λ n. n ≤ 65536) (number_in 0 65536) (λ v n h. (bounds 0 65536 n (number_within 0 65536 v n h)).1) r.0 g.receivers full.1;
+      entries = few_each entry_of schedule_at.0 g.schedule schedule_at.1;
+      steps = each_all (λ x. (1 ≤ x.1) × (x.1 ≤ 100000)) entry_of entry_steps t.0 g.schedule t.2;
     })
 
 with_passes : (q p : PlanValue) → Valued q → with_known_passes q ≡ Ok p → Lawful p
@@ -255,11 +297,11 @@ shaped false r p e = cc e
 
 -- the plan of an input is lawful
 plan_lawful : (bytes : List ℕ) (p : PlanValue) → plan_of bytes ≡ Ok p → Lawful p
-unfolding plan_of
+unfolding plan_of values_of
 plan_lawful bytes p e =
-    let tree = ok_step (tree_of bytes) plan_of_tree p e in
-    let values = ok_step (plan_of_values tree.0) with_known_passes p (shaped (has_plan_shape tree.0) _ p tree.2) in
-    with_passes values.0 p (values_lawful tree.0 values.0 values.1) values.2
+    let values = ok_step (values_of bytes) with_known_passes p e in
+    let tree = ok_step (tree_of bytes) values_of_tree values.0 values.1 in
+    with_passes values.0 p (given_lawful tree.0 values.0 (values_given tree.0 values.0 (shaped (has_plan_shape tree.0) _ values.0 tree.2))) values.2
 
 -- what a reading function gave is lawful
 pub lawful_if_given : (r : Result Plan PlanFault) (bytes : List ℕ) → Gives plan_value r (plan_of bytes) → IfOk r (λ p. Lawful (plan_value p))

@@ -10,6 +10,6 @@ mod version;
 
 pub use fault::PlanFault;
 pub use json::INPUT_LIMIT;
-pub use plan::{Plan, read_plan};
+pub use plan::{Plan, read_values, stranger};
 pub use receipts::{Receipts, read_receipts};
 pub use report::{Report, write_body, write_report, write_verdict};

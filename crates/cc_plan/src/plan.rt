@@ -1,11 +1,10 @@
 //! A plan, and how it is read.
-ghost use Rattle.std.specs.Prelude.{◌≡◌, ◌≤◌, not, IfOk, IsErrOf, length};
+ghost use Rattle.std.specs.Prelude.{◌≡◌, ◌≤◌, not, IsErrOf, OnOk, length};
 ghost use Rattle.std.specs.List.{position};
 ghost use Rattle.serde_json.specs.View.{view};
 ghost use Rattle.cc_plan.specs.Answers.{Gives};
 ghost use Rattle.cc_plan.specs.Plan.{plan_value};
-ghost use Rattle.cc_plan.specs.PlanLaws.{Lawful};
-ghost use Rattle.cc_plan.specs.PlanOf.{plan_of, plan_of_tree, has_pass};
+ghost use Rattle.cc_plan.specs.PlanOf.{values_of, values_of_tree, has_pass};
 ghost use Rattle.cc_plan.specs.Refusal.{input_limit};
 ghost use Rattle.cc_plan.specs.Names.{PlanFault};
 
@@ -38,41 +37,30 @@ mod values;
 use shape::has_plan_shape;
 use values::values;
 
-/// The plan that the bytes describe, or why they describe none: a fault of the whole shape is told before one of a
-/// range, a range in the order of the keys, and an unknown pass last.
-pub fn read_plan(alloc: Global, bytes: &[u8]) -> Result<Plan, PlanFault>
-    ensures plan { Gives plan_value result (plan_of bytes.now) }
-    ensures memory { IsErrOf result PlanFault.P5 → length bytes.now ≤ input_limit }
-    ensures lawful { IfOk result (λ plan. Lawful (plan_value plan)) }
-{
-    read(alloc, bytes)
-}
-
-#[tactic(auto, unfolding(crate::specs::PlanOf::plan_of))]
-fn read(alloc: Global, bytes: &[u8]) -> Result<Plan, PlanFault>
-    ensures plan { Gives plan_value result (plan_of bytes.now) }
+/// The values of the plan that the bytes describe, whichever passes its schedule names; or why they describe none: a fault
+/// of the whole shape is told before one of a range, and a range in the order of the keys.
+#[tactic(auto, unfolding(crate::specs::PlanOf::values_of))]
+pub fn read_values(alloc: Global, bytes: &[u8]) -> Result<Plan, PlanFault>
+    ensures values { Gives plan_value result (values_of bytes.now) }
+    ensures short { OnOk result (length bytes.now ≤ input_limit) }
     ensures memory { IsErrOf result PlanFault.P5 → length bytes.now ≤ input_limit }
 {
     let tree = json::parse(alloc, bytes)?;
-    plan_in(alloc, &tree)
+    values_in(alloc, &tree)
 }
 
-/// The plan that the tree describes.
-fn plan_in(alloc: Global, tree: &Value) -> Result<Plan, PlanFault>
-    ensures { Gives plan_value result (plan_of_tree (view tree.now)) }
+/// The values that the tree describes.
+fn values_in(alloc: Global, tree: &Value) -> Result<Plan, PlanFault>
+    ensures { Gives plan_value result (values_of_tree (view tree.now)) }
 {
     if !has_plan_shape(tree) {
         return Err(PlanFault::P2);
     }
-    let plan = values(alloc, tree)?;
-    match stranger(&plan) {
-        Some(place) => Err(PlanFault::P4(place)),
-        None => Ok(plan),
-    }
+    values(alloc, tree)
 }
 
 /// The place of the first schedule entry whose pass isn't there.
-fn stranger(plan: &Plan) -> Option<usize>
+pub fn stranger(plan: &Plan) -> Option<usize>
     ensures { result ≡ position (λ e. not (has_pass plan.now.config e.0)) plan.now.schedule.items }
 {
     plan.schedule

@@ -1,7 +1,8 @@
 //! What is read of plans and receipts, where no report tells it.
 use cc_audit::{SendReceipt, TakeReceipt};
 use cc_model::{Body, Config, Item, Pass};
-use cc_plan::{read_plan, read_receipts};
+use cc_plan::read_receipts;
+use cc_play::read_plan;
 use std::alloc::Global;
 use std::process::Abort;
 

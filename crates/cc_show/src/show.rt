@@ -7,9 +7,9 @@ use crate::player::play_events;
 use crate::text::write_page;
 use cc_audit::Verdict;
 use cc_model::{Sink, Source};
-use cc_plan::{Report, read_plan};
+use cc_plan::Report;
 use cc_play::play::audit_of;
-use cc_play::read_input;
+use cc_play::{read_input, read_plan};
 use std::alloc::Global;
 
 /// Reads a plan from the source, plays its schedule on a machine event by event, and writes the page that shows it to the
