@@ -1,10 +1,10 @@
 #!/bin/bash
 # Refuses each allocation of `cc_memory_rows` in turn, from outside, on the program that the gate left, as each compiler
-# built it. The program opens two queues, says so, and then calls them; it opens three topics and two machines, plays calls
-# and audits receipts; and it tells each answer. Wherever memory is refused, one of these must come of it, and nothing else:
+# built it. The program opens three topics and three machines, plays calls and audits receipts; and it tells each answer. What
+# a queue does where its opening is refused, and that its calls take no memory, bindings/c/memory.c shows. Wherever memory is
+# refused, one of these must come of it, and nothing else:
 # - an opening or the audit says so by its own fault, with status 3, and the answers before it are those with memory: of a
-#   topic's opening its number, of the broker's own lists NoMemory, and never another fault; where a queue isn't opened,
-#   nothing was written. The calls of the queues have no such fault;
+#   topic's opening its number, of the broker's own lists NoMemory, and never another fault;
 # - a begin was refused, was made again, and the answers are those of the run with memory;
 # - the program did without that memory, and the answers are those too. So no topic is ever lost.
 # Each of these faults must have come about. 100 runs more refuse what would be asked for after the last allocation.
@@ -13,8 +13,7 @@ set -u
 cd "$(dirname "$0")/.." || exit 1
 . tools/refusing.sh
 whole=crates/cc_memory_rows/stdout
-faults='queue: NoMemory
-broker: NoMemory
+faults='broker: NoMemory
 broker: Topic(0, NoMemory)
 broker: Topic(1, NoMemory)
 broker: Topic(2, NoMemory)
@@ -22,12 +21,10 @@ machine: NoMemory
 audit: AllocError'
 again='begin: 1 refused, and made again'
 
-# Whether what was written is a beginning of what is written with memory, and not all of it; nothing, where a queue isn't
-# opened.
+# Whether what was written is a beginning of what is written with memory, and not all of it.
 is_beginning() {
     local length
     length=$(wc -c <"$room/out")
-    [ "$told" = 'queue: NoMemory' ] && [ "$length" != 0 ] && return 1
     [ "$length" -lt "$(wc -c <$whole)" ] && head -c "$length" $whole | cmp -s - "$room/out"
 }
 

@@ -1,13 +1,10 @@
-//! Worked calls, each answer of which is told: two queues are opened and called, three topics are opened, two machines play
-//! calls, and receipts are audited. Where memory is refused, the call that met it is told on standard error: an opening or an
-//! audit then ends the program, and a begin that was refused is made again, and all that follows is the same.
+//! Worked calls, each answer of which is told: three topics are opened, two machines play calls, and receipts are audited.
+//! Where memory is refused, the call that met it is told on standard error: an opening or an audit then ends the program, and
+//! a begin that was refused is made again, and all that follows is the same.
 #![tactic(auto)]
-
-mod queues;
 
 ghost use Rattle.std.specs.Prelude.{◌≡◌, length};
 
-use crate::queues::call_queues;
 use cc_audit::{SendReceipt, TakeReceipt, Verdict, audit, send_receipts, take_receipts, total};
 use cc_broker::Broker;
 use cc_machine::{BeginFault, CounterMachine, Event, Machine, OpenFault};
@@ -214,10 +211,6 @@ fn play_machines(
 }
 
 fn main(rt: HostRuntime) -> Result<ExitCode, io::Error> {
-    let status = call_queues(&rt)?;
-    if status != 0 {
-        return Ok(ExitCode::from(status));
-    }
     if !open_topics(&rt)? {
         return Ok(ExitCode::from(3));
     }
