@@ -45,8 +45,10 @@ build_c() {
 run_c() {
     prints '30000 items' "$room/$1/consume" && prints '1000 items in each of 2 groups' "$room/$1/groups_threads" &&
         prints '2000 bodies of one to four words' "$room/$1/words" &&
-        prints '1000 items through room for one' "$room/$1/waits" && prints '' "$room/$1/headers" &&
-        prints 'all memory is free' "$room/$1/memory" && prints '4000 boxes' "$room/$1/hand_over" &&
+        prints '1000 items through room for one' "$room/$1/waits" && prints '200 rounds' "$room/$1/given_up" &&
+        prints '4000 orders of calls' "$room/$1/any_order" &&
+        prints '' "$room/$1/headers" && prints 'all memory is free' "$room/$1/memory" &&
+        prints '4000 boxes' "$room/$1/hand_over" &&
         prints "fits: library $version, header $version" "$room/$1/version"
 }
 # Whether a C compiler has these sanitizers, and they run here.

@@ -196,6 +196,12 @@ fn a_life_is_spent() {
     assert_eq!(receiver.try_recv(), Err(TryRecvError::Empty));
     assert_eq!(two.close(), Closed::Shut { total: 3 });
     assert_eq!(two.try_send(3), Err(TrySendError::Closed));
+    // Where the queue is full too, that its life is spent is told.
+    let ([mut one, _], [mut receiver, _]) = two_and_two(Config { life: 2, ..SMALL });
+    assert_eq!((one.send(5), one.send(6)), (Ok(0), Ok(1)));
+    assert_eq!(one.try_send(7), Err(TrySendError::Spent));
+    assert_eq!(receiver.recv(), Ok(item(0, 1, 1, 5)));
+    assert_eq!(one.try_send(7), Err(TrySendError::Spent));
 }
 
 #[test]
@@ -318,6 +324,30 @@ fn one_turn_serves_all_that_wait() {
         Turn::Done {
             answer: Err(TryRecvError::Ended { total: 3 }),
             served: 1
+        }
+    ));
+}
+
+/// The close that is first in line shuts the send out that it serves next.
+#[test]
+fn a_close_before_a_send() {
+    let ([mut one, mut two], _receivers) = two_and_two(SMALL);
+    let (closes, sends) = (one.begin_close(), two.begin(9).unwrap());
+    let Turn::Waiting(sends) = sends.turn() else {
+        panic!("served out of turn")
+    };
+    assert!(matches!(
+        closes.turn(),
+        Turn::Done {
+            answer: Closed::Shut { total: 0 },
+            served: 2
+        }
+    ));
+    assert!(matches!(
+        sends.turn(),
+        Turn::Done {
+            answer: Err(TrySendError::Closed),
+            served: 0
         }
     ));
 }

@@ -1,5 +1,5 @@
-//! Tests of `cc_drive`: runs with gates that go on, that wait for each other, and that never let a worker go on; rounds of
-//! threads by the calls that wait; and lines that ask for a drive, by `cc_drive_command`.
+//! Tests of `cc_drive`: runs with gates that go on, that wait for each other, and that never let a worker go on; and lines that
+//! ask for a drive, by `cc_drive_command`.
 #![tactic(auto)]
 
 #[cfg(test)]
@@ -10,5 +10,3 @@ mod gates;
 mod runs;
 #[cfg(test)]
 mod two_at_once;
-#[cfg(test)]
-mod waiting_calls;

@@ -1,5 +1,0 @@
-use Rattle.cc_steps.specs.Walk.{IsOf}
-use Rattle.cc_queue_tests.proofs.giving_up.wait_for_take.Given as goal
-
-abbrev pub invariant-loop : goal.invariant-loop
-invariant-loop l = IsOf l.queue l.pending
