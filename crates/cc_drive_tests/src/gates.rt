@@ -23,11 +23,12 @@ impl Gate for Holding {
     }
 }
 
-/// Lets its worker go on at each point but one, if it holds there, and counts how often it was asked there.
+/// Lets its worker go on at each point but one, where it first tells it so many times to ask again, and counts how often it was
+/// asked there.
 #[derive(Drop)]
 pub struct Counting<'a> {
     pub at: Point,
-    pub holds: bool,
+    pub again: u64,
     pub asked: &'a AtomicU64,
 }
 
@@ -37,23 +38,27 @@ impl<'a> Gate for Counting<'a> {
             return Go::On;
         }
         self.asked.fetch_add(1, Ordering::SeqCst);
-        if self.holds { Go::Again } else { Go::On }
+        if self.again == 0 {
+            return Go::On;
+        }
+        self.again -= 1;
+        Go::Again
     }
 }
 
-/// A gate for each of these, which says whether it holds. All of them count together.
+/// A gate for each of these, which says how many times it tells its worker to ask again. All of them count together.
 pub fn counting_gates<'a>(
     alloc: Global,
     at: Point,
-    holds: &[bool],
+    again: &[u64],
     asked: &'a AtomicU64,
 ) -> Result<Vec<Counting<'a>>, AllocError>
-    ensures { IfOk result (λ v. vec_len v ≡ length holds.now) }
+    ensures { IfOk result (λ v. vec_len v ≡ length again.now) }
 {
     let mut gates = Vec::new(alloc);
-    for _ in 0..holds.len() {
-        let holds = holds[gates.len()];
-        gates.push(Counting { at, holds, asked })?;
+    for _ in 0..again.len() {
+        let again = again[gates.len()];
+        gates.push(Counting { at, again, asked })?;
     }
     Ok(gates)
 }

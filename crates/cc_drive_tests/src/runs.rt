@@ -11,6 +11,9 @@ use std::test::Fail;
 /// Enough for any run here that isn't held.
 const LIMIT: u64 = 100_000_000;
 
+/// How often a gate that never lets its worker go on tells it to ask again: more than any limit here.
+const ALWAYS: u64 = u64::MAX;
+
 fn config(senders: u16, receivers: u16, items: u64, capacity: u32, bound: u32) -> DriveConfig
     ensures { (result.senders ≡ senders) × (result.receivers ≡ receivers) }
 {
@@ -82,7 +85,7 @@ fn held(rt: HostRuntime) -> Result<(), Fail> {
             ..config(1, 1, 1, 2, 2)
         };
         let asked = AtomicU64::new(0);
-        let gates = counting_gates(rt.alloc(), point, &[true, true], &asked)?;
+        let gates = counting_gates(rt.alloc(), point, &[ALWAYS, ALWAYS], &asked)?;
         let end = drive(&rt, rt.alloc(), &config, gates);
         assert_eq!(rt; end, Err(DriveFault::Limit(number)));
         assert_eq!(rt; asked.load(Ordering::SeqCst), turns);
@@ -90,11 +93,27 @@ fn held(rt: HostRuntime) -> Result<(), Fail> {
     Ok(())
 }
 
+/// A sender that its gate lets go on within its limit doesn't reach it: behind 998 questions of 1000 turns one turn gets the
+/// answer, as no other sender calls. The receiver may reach its own limit meanwhile, but no sender is told.
+#[test]
+fn held_for_long(rt: HostRuntime) -> Result<(), Fail> {
+    let config = DriveConfig {
+        limit: 1000,
+        ..config(1, 1, 1, 2, 2)
+    };
+    let asked = AtomicU64::new(0);
+    let gates = counting_gates(rt.alloc(), Point::SendBegun, &[998, 0], &asked)?;
+    let end = drive(&rt, rt.alloc(), &config, gates);
+    assert_ne!(rt; end, Err(DriveFault::Limit(0)));
+    assert_eq!(rt; asked.load(Ordering::SeqCst), 999);
+    Ok(())
+}
+
 /// Of three senders and three receivers some are held behind an answer, and the others come to their ends: the least that is
 /// held is told, the senders first, from 0.
 #[test]
 fn some_are_held(rt: HostRuntime) -> Result<(), Fail> {
-    let (off, on) = (false, true);
+    let (off, on) = (0, ALWAYS);
     for (point, limit, holds, number) in [
         (
             Point::SendAnswered,
@@ -144,7 +163,7 @@ fn asked_at_each_point(rt: HostRuntime) -> Result<(), Fail> {
     ] {
         let config = config(1, 1, 5, 8, 2);
         let asked = AtomicU64::new(0);
-        let gates = counting_gates(rt.alloc(), point, &[false, false], &asked)?;
+        let gates = counting_gates(rt.alloc(), point, &[0, 0], &asked)?;
         let end = drive(&rt, rt.alloc(), &config, gates)?;
         assert_eq!(rt; end.sent, 5);
         let times = asked.load(Ordering::SeqCst);
