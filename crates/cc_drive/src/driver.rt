@@ -52,8 +52,34 @@ pub fn drive<G: Gate + Send, R: Threads + Wait + Sync>(
     let mut gates = gates;
     let senders = deal(alloc, senders, &mut gates)?;
     let receivers = deal(alloc, receivers, &mut gates)?;
-    let ran = run(rt, alloc, &queue, config, closer, senders, receivers)?;
-    settle(alloc, &queue, config, ran)
+    run_and_settle(rt, alloc, &queue, config, closer, senders, receivers)
+}
+
+/// Runs all workers, and settles what is left of the run.
+fn run_and_settle<G: Gate + Send, R: Threads + Wait + Sync>(
+    rt: &R,
+    alloc: Global,
+    queue: &Queue,
+    config: &DriveConfig,
+    closer: Sender,
+    senders: Vec<Job<Sender, G>>,
+    receivers: Vec<Job<Receiver, G>>,
+) -> Result<DriveEnd, DriveFault>
+    requires closer { closer ≡ fresh queue.now config.now.senders }
+    requires senders { InRow (IsSending queue.now) 0 senders.items }
+    requires count_senders { vec_len senders ≡ config.now.senders }
+    requires receivers { InRow (IsTaking queue.now) (config.now.senders + 1) receivers.items }
+    requires count_receivers { vec_len receivers ≡ config.now.receivers }
+    requires some { 0 < config.now.receivers }
+    requires few { config.now.senders + config.now.receivers < 2 ^ 16 }
+    requires setting { queue.now.setting ≡ record { served = Served.List; config = queue_of config.now } }
+    ensures due { IfErr result (IsDue (Ok tt) (config.now.senders + config.now.receivers)) }
+    ensures clean { IfOk result (λ e. e.verdict ≡ Verdict.Clean) }
+    ensures all_taken { IfOk result (λ e. e.taken ≡ e.sent) }
+    ensures all_sent { config.now.limit < 2 ^ 32 - 1 → IfOk result (λ e. e.sent ≡ config.now.senders * config.now.items) }
+{
+    let ran = run(rt, alloc, queue, config, closer, senders, receivers)?;
+    settle(alloc, queue, config, ran)
 }
 
 /// Runs all workers in threads, and closes between the senders' end and the receivers'.

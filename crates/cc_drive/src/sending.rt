@@ -5,7 +5,7 @@ ghost use Rattle.cc_runs.specs.State.{pass_at};
 ghost use Rattle.cc_steps.specs.Walk.{IsOf, fresh};
 ghost use Rattle.cc_queue.specs.Calls.{Ended};
 ghost use Rattle.cc_queue.specs.Headline.{StandsInOne};
-ghost use Rattle.cc_drive.specs.Back.{SenderGave};
+ghost use Rattle.cc_drive.specs.Back.{SenderGave, one_word};
 ghost use Rattle.cc_drive.specs.Work.{WentOn, EachRead, IsSent, CostsOfSend};
 
 use crate::gate::{Gate, Point};
@@ -94,6 +94,14 @@ pub(crate) fn send_body<G: Gate>(
     Sent::Answered(sender, answer)
 }
 
+/// The body of the send behind so many that were accepted: the next number, as one word.
+fn body_behind(accepted: u64) -> Body
+    requires { accepted < 2 ^ 64 - 1 }
+    ensures { result ≡ one_word (accepted + 1) }
+{
+    Body::one(accepted + 1)
+}
+
 /// Sends the numbers from 1 to `items` as bodies of one word, each again until it is accepted, and keeps a receipt of each. In
 /// a run the answer is Full until then: the queue is closed when all senders are joined, and its life is longer than any sends
 /// that they can begin. A worn sender stops. The pass is given back, but where the worker reached its limit.
@@ -123,7 +131,7 @@ pub(crate) fn send_all<G: Gate, R: Wait>(
     let mut accepted: u64 = 0;
     let mut pace = Pace::new();
     while accepted < items {
-        let body = Body::one(accepted + 1);
+        let body = body_behind(accepted);
         let before = turns.made;
         match send_body(queue, sender, body, &mut gate, &mut turns) {
             Sent::Answered(after, answer) => {

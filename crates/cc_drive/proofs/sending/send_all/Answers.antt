@@ -25,9 +25,9 @@ pub loop-accepted-preserved-in-Accepted : goal.loop-accepted-preserved-in-Accept
 loop-accepted-preserved-in-Accepted g c =
     let was = c.loop-accepted.invariant.0 in
     let begun : c.loop-accepted.begun ≡ c.loop-accepted.sender.stand.begun = c.loop-accepted.invariant.3 in
-    let body = c.one-body.result in
+    let body = c.body_behind-body.result in
     let done = subst (λ (a : SendAnswer). Completed c.loop-accepted.sender (Call.Send body) (Answer.Send a) c.in-Answered.after) c.in-Accepted.is c.in-Answered.ensures.sent.0 in
-    let sends = sends_more c.args.queue.now c.args.row c.loop-accepted.sender c.in-Answered.after body c.loop-accepted.accepted _ c.one-body.ensures was.back done c.loop-accepted.invariant.5 c.loop-accepted.invariant.7 in
+    let sends = sends_more c.args.queue.now c.args.row c.loop-accepted.sender c.in-Answered.after body c.loop-accepted.accepted _ c.body_behind-body.ensures was.back done c.loop-accepted.invariant.5 c.loop-accepted.invariant.7 in
     let receipt = sent_one c.args.number c.loop-accepted.begun c.loop-accepted.sender body c.in-Accepted.place was.named begun in (
       working_more sent c.args.queue.now c.args.row (Pass.Sender c.args.number) c.loop-accepted.sender c.in-Answered.after _ _ _ _ (Call.Send body) _ was done c.keep.ensures.whole
           (λ is. c.keep.ensures.kept is ∙ ap (λ l. c.loop-accepted.kept.receipts.items ++ l) (sym receipt)),
@@ -44,9 +44,9 @@ loop-accepted-preserved-in-Accepted g c =
 pub loop-accepted-preserved : goal.loop-accepted-preserved
 loop-accepted-preserved g c =
     let was = c.loop-accepted.invariant.0 in
-    let body = c.one-body.result in
+    let body = c.body_behind-body.result in
     let done = c.in-Answered.ensures.sent.0 in
-    let sends = sends_more c.args.queue.now c.args.row c.loop-accepted.sender c.in-Answered.after body c.loop-accepted.accepted _ c.one-body.ensures was.back done c.loop-accepted.invariant.5 c.loop-accepted.invariant.7 in
+    let sends = sends_more c.args.queue.now c.args.row c.loop-accepted.sender c.in-Answered.after body c.loop-accepted.accepted _ c.body_behind-body.ensures was.back done c.loop-accepted.invariant.5 c.loop-accepted.invariant.7 in
     let none = sent_none (entry_of c.loop-accepted.sender (Call.Send body)) c.in-Answered.answer c.in_default.not-Accepted in (
       working_still sent c.args.queue.now c.args.row (Pass.Sender c.args.number) c.loop-accepted.sender c.in-Answered.after _ _ (Call.Send body) _ was done none,
       search rules,
