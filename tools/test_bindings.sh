@@ -43,7 +43,8 @@ build_c() {
     make -s -C bindings/c LIB="$VAHEPITO_LIB" HEAP="$VAHEPITO_HEAP" OUT="$room/$1" CFLAGS="-Wall -Wextra -Werror $2"
 }
 run_c() {
-    prints '30000 items' "$room/$1/consume" && prints '1000 items in each of 2 groups' "$room/$1/groups_threads" &&
+    prints '15 calls in each of 6 states' "$room/$1/refusals" && prints '30000 items' "$room/$1/consume" &&
+        prints '1000 items in each of 2 groups' "$room/$1/groups_threads" &&
         prints '2000 bodies of one to four words' "$room/$1/words" &&
         prints '1000 items through room for one' "$room/$1/waits" && prints '200 rounds' "$room/$1/given_up" &&
         prints '4000 orders of calls' "$room/$1/any_order" &&
@@ -127,6 +128,7 @@ else
     step 'C: run' bash -c 'run_c plain'
     step 'C: an archive of another version is told' bash -c other_libraries
     if has valgrind; then
+        step 'C: refusals under valgrind' "${valgrind[@]}" "$room/plain/refusals"
         step 'C: consume under valgrind' "${valgrind[@]}" "$room/plain/consume" 300
         step 'C: groups_threads under valgrind' "${valgrind[@]}" "$room/plain/groups_threads"
         step 'C: words under valgrind' "${valgrind[@]}" "$room/plain/words"

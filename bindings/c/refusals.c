@@ -1,0 +1,171 @@
+/* What each call tells of a handle in each state, on one thread.
+ *
+ * A handle is empty, or its pass is a sender or a receiver, idle or with a call that was begun. Each call by a handle is
+ * made once in each of these six, of a queue of its own, and the code is compared with a table. Where it is refused it
+ * tells no number and no item, and changes nothing: what was begun is answered then, and the first item is the first. It
+ * ends with status 0 where each call told what it has to. */
+#include "checks.h"
+
+#include <stddef.h>
+#include <stdio.h>
+#include <string.h>
+
+enum state { EMPTY, SENDER, SENDING, CLOSING, RECEIVER, TAKING, STATES };
+
+/* What a call writes: a place or a total, how many calls a turn served, a group, and items. */
+struct told {
+    uint64_t number;
+    uint32_t served, group;
+    vahepito_item item;
+    vahepito_words_item words;
+};
+
+static const uint64_t two[2] = {7, 8};
+
+static uint32_t begin_send(vahepito_pass *pass, struct told *told) { return (void)told, vahepito_begin_send(pass, 7); }
+static uint32_t begin_send_words(vahepito_pass *pass, struct told *told) { return (void)told, vahepito_begin_send_words(pass, two, 1); }
+static uint32_t turn_send(vahepito_pass *pass, struct told *told) { return vahepito_turn_send(pass, &told->number, &told->served); }
+static uint32_t try_send(vahepito_pass *pass, struct told *told) { return vahepito_try_send(pass, 7, &told->number, &told->served); }
+static uint32_t try_send_words(vahepito_pass *pass, struct told *told) {
+    return vahepito_try_send_words(pass, two, 1, &told->number, &told->served);
+}
+static uint32_t is_worn(vahepito_pass *pass, struct told *told) { return (void)told, vahepito_is_worn(pass); }
+static uint32_t begin_close(vahepito_pass *pass, struct told *told) { return (void)told, vahepito_begin_close(pass); }
+static uint32_t turn_close(vahepito_pass *pass, struct told *told) { return vahepito_turn_close(pass, &told->number, &told->served); }
+static uint32_t begin_take(vahepito_pass *pass, struct told *told) { return (void)told, vahepito_begin_take(pass); }
+static uint32_t turn_take(vahepito_pass *pass, struct told *told) {
+    return vahepito_turn_take(pass, &told->item, &told->number, &told->served);
+}
+static uint32_t try_take(vahepito_pass *pass, struct told *told) {
+    return vahepito_try_take(pass, &told->item, &told->number, &told->served);
+}
+static uint32_t turn_take_words(vahepito_pass *pass, struct told *told) {
+    return vahepito_turn_take_words(pass, &told->words, &told->number, &told->served);
+}
+static uint32_t try_take_words(vahepito_pass *pass, struct told *told) {
+    return vahepito_try_take_words(pass, &told->words, &told->number, &told->served);
+}
+static uint32_t group(vahepito_pass *pass, struct told *told) { return vahepito_group(pass, &told->group); }
+static uint32_t drop(vahepito_pass *pass, struct told *told) { return (void)told, vahepito_drop(pass); }
+
+#define NO VAHEPITO_NO_PASS
+#define SIDE VAHEPITO_WRONG_SIDE
+#define BUSY VAHEPITO_BUSY
+#define NOT VAHEPITO_NOT_BEGUN
+#define BEGUN VAHEPITO_BEGUN
+#define DONE VAHEPITO_DONE
+
+/* The calls, what each writes (a number with how many calls were served, a group, an item, or one of words), and what it
+ * tells of a handle that is empty, an idle sender, one with a send, with a close, an idle receiver, and one with a take. */
+enum { NUMBER = 1, GROUP = 2, ITEM = 4, WORDS = 8 };
+static const struct row {
+    const char *name;
+    uint32_t (*call)(vahepito_pass *, struct told *);
+    int writes;
+    uint32_t codes[STATES];
+} rows[] = {
+    {"begin_send", begin_send, 0, {NO, BEGUN, BUSY, BUSY, SIDE, SIDE}},
+    {"begin_send_words", begin_send_words, 0, {NO, BEGUN, BUSY, BUSY, SIDE, SIDE}},
+    {"turn_send", turn_send, NUMBER, {NO, NOT, VAHEPITO_ACCEPTED, NOT, SIDE, SIDE}},
+    {"try_send", try_send, NUMBER, {NO, VAHEPITO_ACCEPTED, BUSY, BUSY, SIDE, SIDE}},
+    {"try_send_words", try_send_words, NUMBER, {NO, VAHEPITO_ACCEPTED, BUSY, BUSY, SIDE, SIDE}},
+    {"is_worn", is_worn, 0, {NO, VAHEPITO_FRESH, BUSY, BUSY, SIDE, SIDE}},
+    {"begin_close", begin_close, 0, {NO, BEGUN, BUSY, BUSY, SIDE, SIDE}},
+    {"turn_close", turn_close, NUMBER, {NO, NOT, NOT, VAHEPITO_SHUT, SIDE, SIDE}},
+    {"begin_take", begin_take, 0, {NO, SIDE, SIDE, SIDE, BEGUN, BUSY}},
+    {"turn_take", turn_take, NUMBER | ITEM, {NO, SIDE, SIDE, SIDE, NOT, VAHEPITO_EMPTY}},
+    {"try_take", try_take, NUMBER | ITEM, {NO, SIDE, SIDE, SIDE, VAHEPITO_EMPTY, BUSY}},
+    {"turn_take_words", turn_take_words, NUMBER | WORDS, {NO, SIDE, SIDE, SIDE, NOT, VAHEPITO_EMPTY}},
+    {"try_take_words", try_take_words, NUMBER | WORDS, {NO, SIDE, SIDE, SIDE, VAHEPITO_EMPTY, BUSY}},
+    {"group", group, GROUP, {NO, SIDE, SIDE, SIDE, DONE, BUSY}},
+    {"drop", drop, 0, {NO, DONE, DONE, DONE, DONE, DONE}},
+};
+enum { CALLS = sizeof rows / sizeof rows[0] };
+
+static const char *now = "";
+
+/* Checks, and says of which call and which state. */
+static void holds(int so, enum state state, const char *what) {
+    if (!so) fprintf(stderr, "%s in state %d: ", now, (int)state);
+    check(so, what);
+}
+
+/* The handles of a queue with room for one item: of them one is in this state, the other idle. Gives the one. */
+static vahepito_pass *open_in(enum state state, vahepito_pass *sender, vahepito_pass *receiver) {
+    const vahepito_config config = {1, 1, 1, 8, (uint64_t)1 << 48, UINT32_MAX};
+    check(vahepito_open(&config, sender, 1, receiver, 1) == DONE, "a queue is opened");
+    if (state == SENDING) check(vahepito_begin_send(sender, 7) == BEGUN, "a send is begun");
+    if (state == CLOSING) check(vahepito_begin_close(sender) == BEGUN, "a close is begun");
+    if (state == TAKING) check(vahepito_begin_take(receiver) == BEGUN, "a take is begun");
+    return state < RECEIVER ? sender : receiver;
+}
+
+/* After a call that was refused the pass is as it was before. */
+static void is_as_before(enum state state, vahepito_pass *pass) {
+    struct told told = {0};
+    uint32_t code;
+    switch (state) {
+    case SENDER:
+        code = try_send(pass, &told);
+        holds(code == VAHEPITO_ACCEPTED && told.number == 0 && told.served == 1, state, "its first send is the first item");
+        break;
+    case SENDING:
+        code = turn_send(pass, &told);
+        holds(code == VAHEPITO_ACCEPTED && told.number == 0 && told.served == 1, state, "the send that was begun is accepted");
+        break;
+    case CLOSING:
+        code = turn_close(pass, &told);
+        holds(code == VAHEPITO_SHUT && told.number == 0 && told.served == 1, state, "the close that was begun closes");
+        break;
+    case RECEIVER:
+        code = try_take(pass, &told);
+        holds(code == VAHEPITO_EMPTY && told.served == 1, state, "its take finds nothing");
+        break;
+    case TAKING:
+        code = turn_take(pass, &told);
+        holds(code == VAHEPITO_EMPTY && told.served == 1, state, "the take that was begun finds nothing");
+        break;
+    default:
+        holds(!pass->live && pass->at == NULL, state, "an empty handle stays empty");
+    }
+}
+
+/* What a call wrote, where nothing was passed: 0 in each field, but for how many calls its turn served, if it had one. */
+static void wrote_nothing(const struct row *row, enum state state, const struct told *told) {
+    const vahepito_item *item = &told->item;
+    const vahepito_words_item *words = &told->words;
+    const int turned = row->codes[state] > BEGUN;
+    if (row->writes & NUMBER) holds(told->number == 0 && told->served == (turned ? 1 : 0), state, "no number is told");
+    if (row->writes & GROUP) holds(told->group == (row->codes[state] == DONE ? 1 : 0), state, "a group is told, or none");
+    if (row->writes & ITEM) holds(item->place == 0 && item->sender == 0 && item->number == 0 && item->body == 0, state, "no item is told");
+    if (row->writes & WORDS) {
+        holds(words->place == 0 && words->sender == 0 && words->number == 0 && words->count == 0, state, "no item is told");
+        for (int at = 0; at < VAHEPITO_MOST_WORDS; at++) holds(words->words[at] == 0, state, "nor a word of one");
+    }
+}
+
+/* One call by a handle in one state, of a queue of its own. */
+static void call_in(const struct row *row, enum state state) {
+    vahepito_pass sender = VAHEPITO_PASS_EMPTY, receiver = VAHEPITO_PASS_EMPTY, empty = VAHEPITO_PASS_EMPTY;
+    vahepito_pass *pass = open_in(state, &sender, &receiver);
+    struct told told;
+    memset(&told, 99, sizeof told);
+    if (state == EMPTY) pass = &empty;
+    now = row->name;
+    const uint32_t code = row->call(pass, &told), refused = NO <= code && code <= NOT;
+    holds(code == row->codes[state], state, "a call tells its code");
+    wrote_nothing(row, state, &told);
+    if (refused) is_as_before(state, pass);
+    if (row->call == drop) holds(!pass->live && vahepito_drop(pass) == NO, state, "a handle whose pass went is empty");
+    for (int k = 0; k < 2; k++) {
+        vahepito_pass *left = k == 0 ? &sender : &receiver;
+        check(vahepito_drop(left) == (row->call == drop && left == pass ? NO : DONE), "a pass is let go once");
+    }
+}
+
+int main(void) {
+    for (int at = 0; at < CALLS; at++)
+        for (int state = EMPTY; state < STATES; state++) call_in(&rows[at], (enum state)state);
+    printf("%d calls in each of %d states\n", CALLS, STATES);
+    return 0;
+}
