@@ -1,5 +1,5 @@
 -- A loop over the words of a body: where a step on a word leads.
-use Rattle.std.proofs.Common.{◌≡◌, ℕ, ◌+◌, ◌<◌, Bool, true, false, cond, nat_lt, List, ◌∷◌, None, sym, ap, ◌∙◌, subst, arith}
+use Rattle.std.proofs.Common.{◌≡◌, ℕ, ◌+◌, ◌<◌, Bool, true, false, cond, nat_lt, List, ◌∷◌, None, refl, sym, ap, ◌∙◌, subst, arith}
 use Rattle.std.proofs.lemmas.Bool.{lt-ltb}
 use Rattle.cc_queue.specs.Names.{Event, Kind, Place, Stand}
 use Rattle.cc_runs.specs.Codes.{behind}
@@ -59,3 +59,11 @@ pub next_word : (v s r : Walk) (k : Kind) (here before next last on : Place) (fu
     → ((z : Stand) → advanced v.setting (chain_of v.setting.config v.number) (record z { place = here }) found ≡ record z { place = behind further (i + 1) next last }) → Settles next next → Settles last on → Serves v (behind further (i + 1) next on) 0 r
 next_word v s r k here before next last on further i found at less step later event uncounted goes stays ends =
     stepped v s r k here (behind further (i + 1) next last) (behind further (i + 1) next on) found (at_word v s here before further i at less) step later event uncounted goes (settles_either (nat_lt (i + 1) further) next next last on stays ends)
+
+-- a step of a service stands behind a choice between two of them as a choice between two places
+pub behind_in : {S : Type 0} (in_service : S → Place) (further i : ℕ) (next on : S) (z : Stand) → ◌≡◌ {A = Stand} (record z { place = in_service (behind further i next on) }) (record z { place = behind further i (in_service next) (in_service on) })
+behind_in {S = S} in_service further i next on z = either (nat_lt i further)
+  where
+    either : (b : Bool) → ◌≡◌ {A = Stand} (record z { place = in_service (cond b next on) }) (record z { place = cond b (in_service next) (in_service on) })
+    either true = refl
+    either false = refl
