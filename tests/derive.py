@@ -1514,6 +1514,78 @@ REPORTED = {
             CLEAN,
         ],
     ),
+    "groups_at_different_speeds": (
+        words(
+            groups="3",
+            senders='[[[5],[6],[7],[7],[7],[7],[8],[8],"close",[9],"close"]]',
+            receivers="[3,4,2,3,3,3]",
+            schedule=entries(
+                # two items, and a third for which there is no room; a take that has its place in its group's order, and
+                # one behind it that waits for it
+                "s1 28, s1 28, s1 21, r1 3, r2 60, r1 32, r2 4, s1 21, "
+                # a take that has not counted its group at the first node yet, which frees it
+                "r3 13, r5 23, s1 21, r3 1, s1 28, s1 21, r3 9, "
+                "r1 23, r2 14, r4 23, r6 23, s1 28, s1 21, s1 16, r2 23, r1 15, r2 15, "
+                "r3 3, r4 60, r3 32, r4 4, r4 15, s1 17, r5 23, r6 23, r5 15, r6 15"
+            ),
+        ),
+        [
+            "E 0 s1 send 5 -> accepted 0",
+            "E 1 s1 send 6 -> accepted 1",
+            "E 2 s1 send 7 -> full",
+            "E 3 s1 send 7 -> full",
+            "E 4 s1 send 7 -> full",
+            "E 5 s1 send 7 -> accepted 2",
+            "E 6 s1 send 8 -> full",
+            "E 7 s1 send 8 -> accepted 3",
+            "E 8 s1 close -> shut 4",
+            "E 9 s1 send 9 -> closed",
+            "E 10 s1 close -> already 4",
+            "D 1 0 r1 take -> got 0 s1 1 5",
+            "D 1 1 r2 take -> got 1 s1 2 6",
+            "D 1 2 r1 take -> got 2 s1 6 7",
+            "D 1 3 r2 take -> empty",
+            "D 1 4 r2 take -> got 3 s1 8 8",
+            "D 1 5 r1 take -> ended 4",
+            "D 1 6 r2 take -> ended 4",
+            "D 2 0 r3 take -> got 0 s1 1 5",
+            "D 2 1 r4 take -> got 1 s1 2 6",
+            "D 2 2 r3 take -> got 2 s1 6 7",
+            "D 2 3 r4 take -> got 3 s1 8 8",
+            "D 2 4 r4 take -> ended 4",
+            "D 3 0 r5 take -> got 0 s1 1 5",
+            "D 3 1 r6 take -> got 1 s1 2 6",
+            "D 3 2 r5 take -> got 2 s1 6 7",
+            "D 3 3 r6 take -> got 3 s1 8 8",
+            "D 3 4 r5 take -> ended 4",
+            "D 3 5 r6 take -> ended 4",
+            CLEAN,
+        ],
+    ),
+    "bodies_in_nodes_that_had_others": (
+        words(
+            capacity="1",
+            senders="[[[5,6,7],[1,2,3,%s],[0,8],[9],[9]]]" % GREATEST,
+            receivers="[4,4]",
+            schedule=entries("s1 34, r1 29, r2 29, s1 37, r2 32, r1 32, s1 31, r1 26, s1 20, r2 26, s1 28, r2 23, r1 23"),
+        ),
+        [
+            "E 0 s1 send 5 6 7 -> accepted 0",
+            "E 1 s1 send 1 2 3 %s -> accepted 1" % GREATEST,
+            "E 2 s1 send 0 8 -> accepted 2",
+            "E 3 s1 send 9 -> full",
+            "E 4 s1 send 9 -> accepted 3",
+            "D 1 0 r1 take -> got 0 s1 1 5 6 7",
+            "D 1 1 r1 take -> got 1 s1 2 1 2 3 %s" % GREATEST,
+            "D 1 2 r1 take -> got 2 s1 3 0 8",
+            "D 1 3 r1 take -> got 3 s1 5 9",
+            "D 2 0 r2 take -> got 0 s1 1 5 6 7",
+            "D 2 1 r2 take -> got 1 s1 2 1 2 3 %s" % GREATEST,
+            "D 2 2 r2 take -> got 2 s1 3 0 8",
+            "D 2 3 r2 take -> got 3 s1 5 9",
+            CLEAN,
+        ],
+    ),
     "bodies_of_words": (
         example("bodies_of_words"),
         [

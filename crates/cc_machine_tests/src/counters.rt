@@ -1,6 +1,8 @@
 //! The counter, event by event.
 use cc_machine::{BeginFault, CounterMachine, Event, Kind, OpenFault};
 use cc_model::{Config, ConfigFault};
+use std::alloc::Global;
+use std::process::Abort;
 
 fn config(senders: u32, bound: u32, per_sender: u32) -> Config {
     Config {
@@ -14,47 +16,64 @@ fn config(senders: u32, bound: u32, per_sender: u32) -> Config {
     }
 }
 
-/// Lets a pass do so many events, and tells whether each of them was a step.
-fn steps(machine: &mut CounterMachine, pass: u32, events: u32) -> bool {
-    let mut all = true;
+fn opened<R: Abort>(rt: &R, alloc: Global, config: &Config) -> CounterMachine {
+    CounterMachine::open(alloc, config).expect(rt, "opens")
+}
+
+/// A call that is begun.
+fn begins<R: Abort>(rt: &R, machine: &mut CounterMachine, pass: u32) {
+    assert_eq!(rt; machine.begin(pass, 5), Ok(()));
+}
+
+/// A call that isn't begun, for this fault.
+fn refuses<R: Abort>(rt: &R, machine: &mut CounterMachine, pass: u32, fault: BeginFault) {
+    assert_eq!(rt; machine.begin(pass, 6), Err(fault));
+}
+
+/// Lets a pass do so many events, each of which is a step, and gives no answer before.
+fn steps<R: Abort>(rt: &R, machine: &mut CounterMachine, pass: u32, events: u32) {
     for _ in 0..events {
-        if machine.event(pass) == Event::Idle {
-            all = false;
-        }
+        assert_eq!(rt; machine.answer(pass), None);
+        assert_ne!(rt; machine.event(pass), Event::Idle);
     }
-    all
+}
+
+/// The last event of a call, which isn't answered before. No further call is begun before its answer is told, once.
+fn ends<R: Abort>(rt: &R, machine: &mut CounterMachine, pass: u32, number: u64) {
+    assert_eq!(rt; machine.answer(pass), None);
+    assert_eq!(rt; machine.event(pass), Event::Did(Kind::ReadAnswer));
+    assert_eq!(rt; machine.event(pass), Event::Idle);
+    refuses(rt, machine, pass, BeginFault::Busy);
+    assert_eq!(rt; machine.answer(pass), Some(number));
+    assert_eq!(rt; machine.answer(pass), None);
 }
 
 #[test]
 fn counter_rows(rt: HostRuntime) {
-    for (bound, last) in [(2, 17), (1, 16)] {
-        let config = config(1, bound, 1);
-        let mut machine = CounterMachine::open(rt.alloc(), &config).expect(&rt, "opens");
-        assert_eq!(rt; machine.begin(1, 5), Ok(()));
-        assert!(rt; steps(&mut machine, 1, last - 1), "bound {bound}");
-        assert_eq!(rt; machine.answer(1), None);
-        assert_eq!(rt; machine.event(1), Event::Did(Kind::ReadAnswer));
-        assert_eq!(rt; machine.event(1), Event::Idle);
-        assert_eq!(rt; machine.answer(1), Some(0));
-        assert_eq!(rt; machine.answer(1), None);
-    }
+    let mut machine = opened(&rt, rt.alloc(), &config(1, 2, 1));
+    begins(&rt, &mut machine, 1);
+    steps(&rt, &mut machine, 1, 16);
+    ends(&rt, &mut machine, 1, 0);
+    let mut machine = opened(&rt, rt.alloc(), &config(1, 1, 1));
+    begins(&rt, &mut machine, 1);
+    steps(&rt, &mut machine, 1, 15);
+    ends(&rt, &mut machine, 1, 0);
 }
 
 #[test]
 fn counter_row_of_three(rt: HostRuntime) {
-    let config = config(3, 2, 1);
-    let mut machine = CounterMachine::open(rt.alloc(), &config).expect(&rt, "opens");
+    let mut machine = opened(&rt, rt.alloc(), &config(3, 2, 1));
     for pass in 1..4 {
-        assert_eq!(rt; machine.begin(pass, 9), Ok(()));
+        begins(&rt, &mut machine, pass);
     }
-    for (pass, events) in [(1, 3), (2, 6), (3, 6), (1, 19), (2, 1), (3, 10)] {
-        assert!(rt; steps(&mut machine, pass, events), "pass {pass}");
-    }
-    for (pass, number) in [(1, 0), (2, 1), (3, 2)] {
-        assert_eq!(rt; machine.answer(pass), None, "pass {pass}");
-        assert!(rt; steps(&mut machine, pass, 1), "pass {pass}");
-        assert_eq!(rt; machine.event(pass), Event::Idle, "pass {pass}");
-        assert_eq!(rt; machine.answer(pass), Some(number), "pass {pass}");
+    steps(&rt, &mut machine, 1, 3);
+    steps(&rt, &mut machine, 2, 6);
+    steps(&rt, &mut machine, 3, 6);
+    steps(&rt, &mut machine, 1, 19);
+    steps(&rt, &mut machine, 2, 1);
+    steps(&rt, &mut machine, 3, 10);
+    for pass in 1..4 {
+        ends(&rt, &mut machine, pass, u64::from(pass) - 1);
     }
 }
 
@@ -62,20 +81,20 @@ fn counter_row_of_three(rt: HostRuntime) {
 fn counter_refuses(rt: HostRuntime) {
     let narrow = CounterMachine::open(rt.alloc(), &config(3, 0, 0));
     assert_eq!(rt; narrow.err(), Some(OpenFault::Config(ConfigFault::Bound)));
-    let mut machine = CounterMachine::open(rt.alloc(), &config(1, 1, 2)).expect(&rt, "opens");
-    assert_eq!(rt; machine.begin(0, 5), Err(BeginFault::NoSuchPass));
-    assert_eq!(rt; machine.begin(2, 5), Err(BeginFault::NoSuchPass));
-    assert_eq!(rt; machine.event(2), Event::Idle);
-    assert_eq!(rt; machine.answer(2), None);
+    let mut machine = opened(&rt, rt.alloc(), &config(1, 1, 2));
+    for pass in [0, 2] {
+        refuses(&rt, &mut machine, pass, BeginFault::NoSuchPass);
+        assert_eq!(rt; machine.event(pass), Event::Idle);
+        assert_eq!(rt; machine.answer(pass), None);
+    }
     for number in 0..2 {
         assert_eq!(rt; machine.event(1), Event::Idle);
-        assert_eq!(rt; machine.begin(1, 5), Ok(()));
-        assert_eq!(rt; machine.begin(1, 6), Err(BeginFault::Busy));
-        assert!(rt; steps(&mut machine, 1, 16));
-        assert_eq!(rt; machine.begin(1, 6), Err(BeginFault::Busy));
-        assert_eq!(rt; machine.answer(1), Some(number));
+        begins(&rt, &mut machine, 1);
+        refuses(&rt, &mut machine, 1, BeginFault::Busy);
+        steps(&rt, &mut machine, 1, 15);
+        ends(&rt, &mut machine, 1, number);
     }
-    assert_eq!(rt; machine.begin(1, 5), Err(BeginFault::Worn));
+    refuses(&rt, &mut machine, 1, BeginFault::Worn);
 }
 
 /// Which pass got which number, in the order of the answers, by a model of the algorithm in another language: 400 events
@@ -99,7 +118,7 @@ const ANSWERS: [(u32, u64); 14] = [
 
 #[test]
 fn counter_in_any_order(rt: HostRuntime) {
-    let mut machine = CounterMachine::open(rt.alloc(), &config(3, 2, 100)).expect(&rt, "opens");
+    let mut machine = opened(&rt, rt.alloc(), &config(3, 2, 100));
     let mut number: u64 = 7;
     let mut told: usize = 0;
     for _ in 0..400 {

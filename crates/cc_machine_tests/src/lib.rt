@@ -4,6 +4,4 @@
 #[cfg(test)]
 mod counters;
 #[cfg(test)]
-mod groups;
-#[cfg(test)]
 mod machines;

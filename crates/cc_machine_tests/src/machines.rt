@@ -269,12 +269,24 @@ fn rows_of_passes(rt: HostRuntime) {
 }
 
 #[test]
+fn configurations_that_are_refused(rt: HostRuntime) {
+    for (receivers, bound, groups, fault) in [
+        (0, 2, 1, ConfigFault::Receivers),
+        (1, 2, 0, ConfigFault::Groups),
+        (1, 2, 9, ConfigFault::Groups),
+        (1, 0, 9, ConfigFault::Bound),
+    ] {
+        let config = Config {
+            groups,
+            ..config(1, receivers, 2, bound, 10)
+        };
+        let refused = Machine::open(rt.alloc(), &config).err();
+        assert_eq!(rt; refused, Some(OpenFault::Config(fault)));
+    }
+}
+
+#[test]
 fn machine_refuses(rt: HostRuntime) {
-    let narrow = Machine::open(rt.alloc(), &config(1, 0, 2, 2, 10));
-    assert_eq!(rt;
-        narrow.err(),
-        Some(OpenFault::Config(ConfigFault::Receivers))
-    );
     let mut machine = Machine::open(rt.alloc(), &config(1, 1, 4, 2, 10)).expect(&rt, "opens");
     for pass in [
         Pass::Sender(0),
