@@ -1,5 +1,6 @@
 //! Devices that fail, and how often they are called.
 use crate::runs::{READS_ALL, Reads, Refusal, Run, Task, WRITES_ALL, Writes, run_by};
+use cc_model::{Device, Pen, Sink, write_bytes};
 use cc_play::PlayFault;
 use std::alloc::{AllocError, Global};
 use std::process::Abort;
@@ -193,4 +194,30 @@ fn devices_are_called_by_the_block(rt: HostRuntime) -> Result<(), Fail> {
     let written = goes_through(&rt, alloc, Task::Play, FIRST, REPORT, usize::MAX);
     assert!(rt; written.sink.calls == 1);
     Ok(())
+}
+
+/// A text of more bytes than a pen holds back goes out whole.
+#[test]
+fn a_long_text_goes_out(rt: HostRuntime) -> Result<(), Fail> {
+    let alloc = rt.alloc();
+    let text = "x".repeat(alloc, 9_000)?;
+    let mut output = Vec::new(alloc);
+    let mut sink = Device::new(&mut output);
+    let mut pen = Pen::new();
+    pen.text(&mut sink, text.as_bytes());
+    assert!(rt; pen.finish(&mut sink).is_ok());
+    assert!(rt; output.as_slice() == text.as_bytes());
+    Ok(())
+}
+
+/// A device counts a write for which there is no room, and no other.
+#[test]
+fn a_device_counts_its_failures(rt: HostRuntime) {
+    let mut room = [0u8; 5];
+    let mut sink = Device::new(&mut room[..]);
+    assert!(rt; write_bytes(&mut sink, b"four").is_ok());
+    assert!(rt; Sink::failures(&sink) == 0);
+    assert!(rt; write_bytes(&mut sink, b"four").is_err());
+    assert!(rt; Sink::failures(&sink) == 1);
+    assert_eq!(rt; room.as_slice(), b"fourf".as_slice());
 }
