@@ -251,81 +251,52 @@ fn the_last_sender_closes() {
     assert_eq!(receiver.recv(), Err(RecvError { total: 1 }));
 }
 
+/// The guard of a turn that told to wait.
+fn waits<P, A: std::fmt::Debug>(turn: Turn<P, A>) -> P {
+    match turn {
+        Turn::Waiting(guard) => guard,
+        Turn::Done { answer, .. } => panic!("served out of turn: {answer:?}"),
+    }
+}
+
+/// The answer of a turn that was done, and how many calls it served.
+fn done<P, A>(turn: Turn<P, A>) -> (A, u32) {
+    match turn {
+        Turn::Waiting(_) => panic!("it waits"),
+        Turn::Done { answer, served } => (answer, served),
+    }
+}
+
 #[test]
 fn one_turn_serves_all_that_wait() {
     let ([mut one, mut two], [mut first, mut second]) = two_and_two(SMALL);
     let (sends, other) = (one.begin(7).unwrap(), two.begin(9).unwrap());
-    let Turn::Waiting(other) = other.turn() else {
-        panic!("served out of turn")
-    };
-    assert!(matches!(
-        sends.turn(),
-        Turn::Done {
-            answer: Ok(0),
-            served: 2
-        }
-    ));
-    assert!(matches!(
-        other.turn(),
-        Turn::Done {
-            answer: Ok(1),
-            served: 0
-        }
-    ));
+    let other = waits(other.turn());
+    assert_eq!(done(sends.turn()), (Ok(0), 2));
+    assert_eq!(done(other.turn()), (Ok(1), 0));
 
     let (takes, other) = (first.begin(), second.begin());
-    let Turn::Waiting(other) = other.turn() else {
-        panic!("served out of turn")
-    };
-    assert!(matches!(
-        takes.turn(),
-        Turn::Done {
-            answer: Ok(Item { body: 7, .. }),
-            served: 2
-        }
-    ));
+    let other = waits(other.turn());
+    assert_eq!(done(takes.turn()), (Ok(item(0, 1, 1, 7)), 2));
     assert_eq!(other.wait(), Ok(item(1, 2, 1, 9)));
 
     let (sends, closes) = (one.begin(8).unwrap(), two.begin_close());
-    let Turn::Waiting(closes) = closes.turn() else {
-        panic!("served out of turn")
-    };
+    let closes = waits(closes.turn());
     assert_eq!(sends.wait(), Ok(2));
-    assert!(matches!(
-        closes.turn(),
-        Turn::Done {
-            answer: Closed::Shut { total: 3 },
-            served: 0
-        }
-    ));
-    assert!(matches!(
-        one.begin_close().turn(),
-        Turn::Done {
-            answer: Closed::Already { total: 3 },
-            served: 1
-        }
-    ));
-    assert!(matches!(
-        two.begin(8).unwrap().turn(),
-        Turn::Done {
-            answer: Err(TrySendError::Closed),
-            served: 1
-        }
-    ));
-    assert!(matches!(
-        first.begin().turn(),
-        Turn::Done {
-            answer: Ok(Item { body: 8, .. }),
-            served: 1
-        }
-    ));
-    assert!(matches!(
-        first.begin().turn(),
-        Turn::Done {
-            answer: Err(TryRecvError::Ended { total: 3 }),
-            served: 1
-        }
-    ));
+    assert_eq!(done(closes.turn()), (Closed::Shut { total: 3 }, 0));
+    assert_eq!(
+        done(one.begin_close().turn()),
+        (Closed::Already { total: 3 }, 1)
+    );
+    assert_eq!(
+        done(two.begin(8).unwrap().turn()),
+        (Err(TrySendError::Closed), 1)
+    );
+    assert_eq!(done(first.begin().turn()), (Ok(item(2, 1, 2, 8)), 1));
+    assert_eq!(
+        done(first.begin().turn()),
+        (Err(TryRecvError::Ended { total: 3 }), 1)
+    );
 }
 
 /// The close that is first in line shuts the send out that it serves next.
@@ -333,43 +304,17 @@ fn one_turn_serves_all_that_wait() {
 fn a_close_before_a_send() {
     let ([mut one, mut two], _receivers) = two_and_two(SMALL);
     let (closes, sends) = (one.begin_close(), two.begin(9).unwrap());
-    let Turn::Waiting(sends) = sends.turn() else {
-        panic!("served out of turn")
-    };
-    assert!(matches!(
-        closes.turn(),
-        Turn::Done {
-            answer: Closed::Shut { total: 0 },
-            served: 2
-        }
-    ));
-    assert!(matches!(
-        sends.turn(),
-        Turn::Done {
-            answer: Err(TrySendError::Closed),
-            served: 0
-        }
-    ));
+    let sends = waits(sends.turn());
+    assert_eq!(done(closes.turn()), (Closed::Shut { total: 0 }, 2));
+    assert_eq!(done(sends.turn()), (Err(TrySendError::Closed), 0));
 }
 
 #[test]
 fn a_turn_serves_no_more_than_the_bound() {
     let ([mut one, mut two], _receivers) = two_and_two(Config { bound: 1, ..SMALL });
     let (first, second) = (one.begin(7).unwrap(), two.begin(9).unwrap());
-    assert!(matches!(
-        first.turn(),
-        Turn::Done {
-            answer: Ok(0),
-            served: 1
-        }
-    ));
-    assert!(matches!(
-        second.turn(),
-        Turn::Done {
-            answer: Ok(1),
-            served: 1
-        }
-    ));
+    assert_eq!(done(first.turn()), (Ok(0), 1));
+    assert_eq!(done(second.turn()), (Ok(1), 1));
 }
 
 #[test]
