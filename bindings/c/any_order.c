@@ -10,14 +10,8 @@
 
 enum { RUNS = 4000, SENDERS = 3, IN_EACH = 2, MOST_GROUPS = 3, MOST_PASSES = SENDERS + MOST_GROUPS * IN_EACH, MOST_LIFE = 12 };
 
-/* ---- numbers without an order to be seen */
-
+/* What is rolled, for all runs. */
 static uint64_t dice = 1;
-
-static uint32_t roll(uint32_t bound) {
-    dice = dice * 6364136223846793005u + 1442695040888963407u;
-    return (uint32_t)(dice >> 33) % bound;
-}
 
 /* ---- the model */
 
@@ -148,8 +142,8 @@ static uint32_t codes[VAHEPITO_WIDE + 1], by_others, of_others;
 
 static void begin_send(int pass) {
     struct pass *mine = &model.passes[pass];
-    mine->count = roll(VAHEPITO_MOST_WORDS) + 1;
-    for (size_t k = 0; k < mine->count; k++) mine->words[k] = (uint64_t)roll(1000) << 40 | k;
+    mine->count = roll(&dice, VAHEPITO_MOST_WORDS) + 1;
+    for (size_t k = 0; k < mine->count; k++) mine->words[k] = (uint64_t)roll(&dice, 1000) << 40 | k;
     const uint32_t code = vahepito_begin_send_words(&passes[pass], mine->words, mine->count);
     codes[code]++;
     if (mine->begun == model.config.per_sender) {
@@ -166,7 +160,7 @@ static void begin(int pass) {
     if (pass >= SENDERS) {
         check(vahepito_begin_take(&passes[pass]) == VAHEPITO_BEGUN, "a take is begun");
         begin_model(pass, TAKE);
-    } else if (roll(8) == 0) {
+    } else if (roll(&dice, 8) == 0) {
         check(vahepito_begin_close(&passes[pass]) == VAHEPITO_BEGUN, "a close is begun");
         begin_model(pass, CLOSE);
     } else {
@@ -208,8 +202,8 @@ static int passes_in_all(void) { return SENDERS + (int)model.groups * IN_EACH; }
 static void open_both(void) {
     memset(&model, 0, sizeof model);
     memset(passes, 0, sizeof passes);
-    model.groups = roll(MOST_GROUPS) + 1;
-    model.config = (vahepito_config){SENDERS, IN_EACH, roll(3) + 1, roll(4) + 1, roll(MOST_LIFE) + 1, roll(6) + 1};
+    model.groups = roll(&dice, MOST_GROUPS) + 1;
+    model.config = (vahepito_config){SENDERS, IN_EACH, roll(&dice, 3) + 1, roll(&dice, 4) + 1, roll(&dice, MOST_LIFE) + 1, roll(&dice, 6) + 1};
     uint32_t code = vahepito_open_words(&model.config, model.groups, VAHEPITO_MOST_WORDS, passes, SENDERS, passes + SENDERS,
                                         model.groups * IN_EACH);
     check(code == VAHEPITO_DONE, "a queue is opened");
@@ -218,8 +212,8 @@ static void open_both(void) {
 static void run(void) {
     open_both();
     const int all = passes_in_all();
-    for (uint32_t left = roll(120); left > 0; left--) {
-        const int pass = (int)roll((uint32_t)all);
+    for (uint32_t left = roll(&dice, 120); left > 0; left--) {
+        const int pass = (int)roll(&dice, (uint32_t)all);
         if (model.passes[pass].call == NONE) begin(pass);
         else turn(pass);
     }

@@ -1,4 +1,4 @@
-/* What the programs here share: a check that ends them, and what a sender's thread and a receiver's do. */
+/* What the programs here share: a check that ends them, rolled numbers, and what a sender's thread and a receiver's do. */
 #ifndef CHECKS_H
 #define CHECKS_H
 
@@ -12,6 +12,12 @@ static inline void check(int holds, const char *what) {
         fprintf(stderr, "not so: %s\n", what);
         exit(1);
     }
+}
+
+/* The next of numbers without an order to be seen, below a bound. */
+static inline uint32_t roll(uint64_t *dice, uint32_t bound) {
+    *dice = *dice * 6364136223846793005u + 1442695040888963407u;
+    return (uint32_t)(*dice >> 33) % bound;
 }
 
 /* Sends 1, 2, .. up to the number of items, each of which is accepted. */

@@ -232,7 +232,7 @@ struct worker {
     vahepito_pass *pass;
     uint32_t sender, count, served_by_others;
     uint64_t dice;
-    int gave_up;
+    /* the number of the call that it gave up, from 1; 0 where it gave up none */
     uint32_t given_up;
     /* the items with their places, in the order in which they were told */
     struct {
@@ -241,23 +241,17 @@ struct worker {
     } items[CALLS];
 };
 
-/* Numbers without an order to be seen, below a bound. */
-static uint32_t roll(struct worker *mine, uint32_t bound) {
-    mine->dice = mine->dice * 6364136223846793005u + 1442695040888963407u;
-    return (uint32_t)(mine->dice >> 33) % bound;
-}
-
 /* One call of four lets others go first, so that calls wait behind it and are given up there. */
 static void pause_at_random(struct worker *mine) {
-    if (roll(mine, 4) == 0)
+    if (roll(&mine->dice, 4) == 0)
         for (int k = 0; k < 8; k++) sched_yield();
 }
 
 /* After how many turns a call is given up. In one of fifty they are few; in one of two thousand there is none, and so a call
  * may be given up that others wait for. */
 static uint32_t roll_turns(struct worker *mine) {
-    const uint32_t number = roll(mine, 2000);
-    return number == 0 ? 0 : number <= 40 ? roll(mine, 3) + 1 : MOST_TURNS;
+    const uint32_t number = roll(&mine->dice, 2000);
+    return number == 0 ? 0 : number <= 40 ? roll(&mine->dice, 3) + 1 : MOST_TURNS;
 }
 
 static void rest(uint32_t turn) {
@@ -311,7 +305,6 @@ static void *send_some(void *at) {
         const uint32_t code = turn_send(mine, number);
         if (code == VAHEPITO_WAITING) {
             gives_up(mine->pass);
-            mine->gave_up = 1;
             mine->given_up = number;
             break;
         }
@@ -328,7 +321,7 @@ static void *take_some(void *at) {
         const uint32_t code = turn_take(mine);
         if (code == VAHEPITO_WAITING) {
             gives_up(mine->pass);
-            mine->gave_up = 1;
+            mine->given_up = call;
             break;
         }
         check(code == VAHEPITO_GOT || code == VAHEPITO_EMPTY, "a take gets an item, or finds none");
@@ -344,8 +337,8 @@ static void gather(const struct worker *senders, const struct worker *receivers)
             tell(told.sent, senders[k].items[at].place, senders[k].items[at].entry.sender, senders[k].items[at].entry.number);
         for (uint32_t at = 0; at < receivers[k].count; at++)
             tell(told.taken, receivers[k].items[at].place, receivers[k].items[at].entry.sender, receivers[k].items[at].entry.number);
-        if (senders[k].gave_up) told.sends_given_up[k] = (struct entry){senders[k].sender, senders[k].given_up};
-        told.takes_given_up += receivers[k].gave_up != 0;
+        if (senders[k].given_up != 0) told.sends_given_up[k] = (struct entry){senders[k].sender, senders[k].given_up};
+        told.takes_given_up += receivers[k].given_up != 0;
         told.served_by_others += senders[k].served_by_others + receivers[k].served_by_others;
     }
 }

@@ -100,34 +100,28 @@ static vahepito_pass *open_in(enum state state, vahepito_pass *sender, vahepito_
     return state < RECEIVER ? sender : receiver;
 }
 
+/* The next call of a pass that is as it was before: it goes on, in one turn, from where the pass stood. */
+static const struct {
+    uint32_t (*call)(vahepito_pass *, struct told *);
+    uint32_t code;
+    const char *what;
+} next[STATES] = {
+    [SENDER] = {try_send, VAHEPITO_ACCEPTED, "its first send is the first item"},
+    [SENDING] = {turn_send, VAHEPITO_ACCEPTED, "the send that was begun is accepted"},
+    [CLOSING] = {turn_close, VAHEPITO_SHUT, "the close that was begun closes"},
+    [RECEIVER] = {try_take, VAHEPITO_EMPTY, "its take finds nothing"},
+    [TAKING] = {turn_take, VAHEPITO_EMPTY, "the take that was begun finds nothing"},
+};
+
 /* After a call that was refused the pass is as it was before. */
 static void is_as_before(enum state state, vahepito_pass *pass) {
     struct told told = {0};
-    uint32_t code;
-    switch (state) {
-    case SENDER:
-        code = try_send(pass, &told);
-        holds(code == VAHEPITO_ACCEPTED && told.number == 0 && told.served == 1, state, "its first send is the first item");
-        break;
-    case SENDING:
-        code = turn_send(pass, &told);
-        holds(code == VAHEPITO_ACCEPTED && told.number == 0 && told.served == 1, state, "the send that was begun is accepted");
-        break;
-    case CLOSING:
-        code = turn_close(pass, &told);
-        holds(code == VAHEPITO_SHUT && told.number == 0 && told.served == 1, state, "the close that was begun closes");
-        break;
-    case RECEIVER:
-        code = try_take(pass, &told);
-        holds(code == VAHEPITO_EMPTY && told.served == 1, state, "its take finds nothing");
-        break;
-    case TAKING:
-        code = turn_take(pass, &told);
-        holds(code == VAHEPITO_EMPTY && told.served == 1, state, "the take that was begun finds nothing");
-        break;
-    default:
+    if (state == EMPTY) {
         holds(!pass->live && pass->at == NULL, state, "an empty handle stays empty");
+        return;
     }
+    const uint32_t code = next[state].call(pass, &told);
+    holds(code == next[state].code && told.number == 0 && told.served == 1, state, next[state].what);
 }
 
 /* What a call wrote, where nothing was passed: 0 in each field, but for how many calls its turn served, if it had one. */
