@@ -129,6 +129,7 @@ else
     step 'C: an archive of another version is told' bash -c other_libraries
     if has valgrind; then
         step 'C: refusals under valgrind' "${valgrind[@]}" "$room/plain/refusals"
+        step 'C: any_order under valgrind' "${valgrind[@]}" "$room/plain/any_order"
         step 'C: consume under valgrind' "${valgrind[@]}" "$room/plain/consume" 300
         step 'C: groups_threads under valgrind' "${valgrind[@]}" "$room/plain/groups_threads"
         step 'C: words under valgrind' "${valgrind[@]}" "$room/plain/words"
