@@ -6,6 +6,7 @@ pub mod LawfulMoves
 pub mod KnownMoves
 pub mod MachineMoves
 pub mod Waiting
+pub mod Going
 pub mod BoardLaws
 pub mod CounterTold
 pub mod ListTold

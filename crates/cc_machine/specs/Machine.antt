@@ -1,5 +1,5 @@
 -- What a caller sees of a machine, and what each call does to it.
-use Rattle.std.specs.Prelude.{◌≡◌, ◌==◌, Bool, false, ℕ, ◌+◌, ◌-◌, ◌*◌, nat_lt, if◌then◌else◌, List, Option, Some, None, Result, Ok, Err, ⊤}
+use Rattle.std.specs.Prelude.{◌≡◌, ◌≢◌, ◌==◌, ◌<◌, ◌⊎◌, Bool, true, false, ℕ, zero, suc, ◌+◌, ◌-◌, ◌*◌, nat_lt, if◌then◌else◌, List, Option, Some, None, Result, Ok, Err, ⊤}
 use Rattle.cc_model.specs.Range.{within}
 use Rattle.cc_machine.specs.Names.{Config, Pass, Call, Answer, Setting, Served, BeginFault, Chain, Event, Place, NodeField, Word, Move}
 use Rattle.cc_runs.specs.Words.{groups}
@@ -109,6 +109,26 @@ abbrev pub HasStepped : View → Option ℕ → Event → View → Type 0
 HasStepped old (Some p) (Event.Did kind) new = IsAfter old (Move.Step p) new
 HasStepped old None (Event.Did kind) new = ⊥
 HasStepped old _ Event.Idle new = new ≡ old
+
+-- where so many steps of pass p lead
+abbrev pub stepped_on : Setting → State → ℕ → ℕ → State
+stepped_on c s p zero = s
+stepped_on c s p (suc n) = stepped c (stepped_on c s p n) p
+
+-- so many steps of pass p were done, each of which it had, and they alone
+pub record HasGone (old : View) (p n : ℕ) (new : View) : Type 0 where
+  pub setting : new.setting ≡ old.setting
+  pub state : state_in new ≡ stepped_on old.setting (state_in old) p n
+  pub each : (k : ℕ) → k < n → event_at ((stepped_on old.setting (state_in old) p k).stand p).place ≢ Event.Idle
+
+-- the same of a pass in the row
+abbrev pub HasGoneOn : View → Option ℕ → ℕ → View → Type 0
+HasGoneOn old None n new = (n ≡ 0) × (new ≡ old)
+HasGoneOn old (Some p) n new = HasGone old p n new
+
+-- it has no next step, or waits
+abbrev pub HasPaused : View → Option ℕ → Type 0
+HasPaused m row = (event_in m row ≡ Event.Idle) ⊎ (waits_in m row ≡ true)
 
 -- the answer that a call has read and that wasn't taken
 abbrev pub told_at : Place → Option Answer

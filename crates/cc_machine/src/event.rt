@@ -38,16 +38,16 @@ impl Board {
         }
     }
 
-    /// The pass at this place of the row, as it stands.
+    /// The pass at this place of the row, of this chain, as it stands.
     #[tactic(auto, unfolding(crate::specs::View::state_in))]
-    pub fn stepper(&self, pass: usize) -> Stepper
-        requires laid { IsLaid self.now }
+    pub fn stepper(&self, pass: usize, chain: Chain) -> Stepper
         requires pass { pass < length self.now.stands.items }
+        requires chain { chain ≡ chain_of self.now.setting.config pass }
         ensures { result ≡ stepper_at self.now pass }
     {
         Stepper {
             pass,
-            chain: self.chain(pass),
+            chain,
             begun: self.stands[pass].begun,
             node: self.stands[pass].node,
         }

@@ -3,7 +3,7 @@ use crate::fault::BeginFault;
 use crate::known::Known;
 use crate::row::row;
 use cc_model::{Answer, Call, Config, History, Pass};
-use cc_runs::{Event, OpenFault, Served, Setting};
+use cc_runs::{Chain, Event, Kind, OpenFault, Served, Setting};
 use std::alloc::Global;
 use std::marker::Model;
 
@@ -30,14 +30,16 @@ impl Model for Machine {
 }
 
 impl Machine {
-    ghost use Rattle.std.specs.Prelude.{◌≡◌, Ok, OnOk, OnErr, IfOk, IfErr, IfSome};
+    ghost use Rattle.std.specs.Prelude.{◌≡◌, ◌<◌, ◌≤◌, length, Some, Ok, OnOk, OnErr, IfOk, IfErr, IfSome};
     ghost use Rattle.std.specs.Bool.{OnTrue};
     ghost use Rattle.cc_model.specs.Config.{config_fault};
     ghost use Rattle.cc_model.specs.Items.{known_at};
     ghost use Rattle.cc_model.specs.HistoryRoom.{lists};
     ghost use Rattle.cc_model.specs.Legal.{Legal};
     ghost use Rattle.cc_model.specs.Fifo.{Fifo};
-    ghost use Rattle.cc_machine.specs.Machine.{IsOpened, index_of, begin_fault, IsBeginFault, IsReached, HasBegun, event_of, waits_in, StandsStill, HasStepped, answer_of, HasTaken};
+    ghost use Rattle.cc_machine.specs.Machine.{IsOpened, index_of, begin_fault, IsBeginFault, IsReached, HasBegun, event_of, event_in, waits_in, StandsStill, HasStepped, HasGoneOn, HasPaused, answer_of, HasTaken};
+    ghost use Rattle.cc_runs.specs.State.{chain_of};
+    ghost use Rattle.cc_runs.specs.Run.{passes};
     ghost use Rattle.cc_runs.specs.ChainLaws.{IsLastAnswer};
     ghost use Rattle.cc_runs.specs.Opening.{IsOpenFault};
 
@@ -92,10 +94,48 @@ impl Machine {
         ensures state { HasStepped self.old (index_of self.old.setting pass) result self.new }
         ensures run { IsReached self.new }
     {
+        match row(&self.board.setting, pass) {
+            Some(index) => {
+                let chain = self.board.chain(index);
+                self.event_at(index, chain)
+            }
+            None => Event::Idle,
+        }
+    }
+
+    /// Does up to so many further atomic steps of a pass, and tells how many it did. Where these are fewer, the pass has no
+    /// running call then, or doesn't exist, or waits.
+    pub fn events(&mut self, pass: Pass, most: u32) -> u32
+        ensures most { result ≤ most }
+        ensures state { HasGoneOn self.old (index_of self.old.setting pass) result self.new }
+        ensures ended { (result < most) → HasPaused self.new (index_of self.new.setting pass) }
+        ensures run { IsReached self.new }
+    {
         let Some(index) = row(&self.board.setting, pass) else {
-            return Event::Idle;
+            return 0;
         };
-        let who = self.board.stepper(index);
+        let chain = self.board.chain(index);
+        for done in 0..most {
+            let Event::Did(kind) = self.event_at(index, chain) else {
+                return done;
+            };
+            if kind == Kind::ReadState && self.board.is_waiting(index) {
+                return done + 1;
+            }
+        }
+        most
+    }
+
+    /// The next step of the pass at this place of the row, whose chain is this one.
+    #[inline(always)]
+    fn event_at(&mut self, index: usize, chain: Chain) -> Event
+        requires pass { index < passes self.old.setting }
+        requires chain { chain ≡ chain_of self.old.setting.config index }
+        ensures event { result ≡ event_in self.old (Some index) }
+        ensures state { HasStepped self.old (Some index) result self.new }
+        ensures run { IsReached self.new }
+    {
+        let who = self.board.stepper(index, chain);
         let group = who.group() as usize;
         let sent = self.board.history.sends().answers().len();
         let taken = self.board.history.takes(group).answers().len();

@@ -181,7 +181,7 @@ impl Board {
     {
         match row(&self.setting, pass) {
             Some(index) => {
-                let who = self.stepper(index);
+                let who = self.stepper(index, self.chain(index));
                 self.event_of(who)
             }
             None => Event::Idle,
