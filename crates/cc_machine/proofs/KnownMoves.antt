@@ -1,15 +1,13 @@
--- What there is to be known of a history goes on with it.
-use Rattle.std.proofs.Common.{◌≡◌, ◌≢◌, ℕ, ◌+◌, ◌<◌, ◌≤◌, List, [], ◌∷◌, ◌++◌, length, Bool, true, false, ◌||◌, if◌then◌else◌, Option, Some, None, refl, sym, ap, subst, ◌∙◌, arith, length-append, inl, inr, zero, suc, ◌-◌, map, get_or, slice_index_or, replicate, min}
+-- What is counted of a history stays counted as the history goes on, and goes on by further answers.
+use Rattle.std.proofs.Common.{◌≡◌, ◌≢◌, ℕ, ◌+◌, ◌<◌, ◌≤◌, List, [], ◌∷◌, ◌++◌, length, take, set, Bool, true, false, ◌||◌, if◌then◌else◌, Option, Some, None, refl, sym, ap, subst, ◌∙◌, arith, length-append, inl, inr, zero, suc, ◌-◌, map, get_or, slice_index_or, replicate, min}
 use Rattle.std.specs.List.{slice_get, list_any}
-use Rattle.std.proofs.lemmas.Option.{slice_get_past, slice_get_cases}
-use Rattle.std.proofs.lemmas.List.{length_push, length-map, length-set, get_or-set_same, get_or-set_other}
+use Rattle.std.proofs.lemmas.Option.{slice_get_cases}
+use Rattle.std.proofs.lemmas.List.{length_push, length-map, length-set, length-take-le, take-append-le, take_all, take_more, get_or-set_same, get_or-set_other}
 use Rattle.cc_model.specs.Record.{Side, Record, empty, of_group}
-use Rattle.cc_model.specs.Items.{accepted_by, accepted_item, sent_item, shuts, handed, handed_by, handed_item, is_shut, known_at, least}
-use Rattle.cc_machine.specs.Names.{Pass, Call, Item, Entry, Answer, SendAnswer, CloseAnswer, TakeAnswer, Known, Chain, Config}
-use Rattle.cc_model.proofs.Grows.{get_front, get_last, any-append, accepted_more, handed_by-append}
+use Rattle.cc_model.specs.Items.{accepted_by, accepted_item, sent_item, shuts, entries, handed, handed_by, handed_item, handed_to_all, least}
+use Rattle.cc_machine.specs.Names.{Pass, Call, Item, Entry, Answer, SendAnswer, CloseAnswer, TakeAnswer, Known, Chain}
+use Rattle.cc_model.proofs.Grows.{any-append, accepted_more, handed_by-append}
 use Rattle.cc_runs.specs.State.{side, appended, noted}
-use Rattle.cc_runs.specs.Words.{groups}
-use Rattle.cc_runs.specs.Lines.{group_of}
 use Rattle.std.proofs.lemmas.Bool.{cases_eq}
 use Rattle.cc_runs.proofs.Chains.Registers.{HasSide}
 use Rattle.cc_runs.proofs.Chains.Opening.{no_calls}
@@ -17,7 +15,9 @@ use Rattle.cc_runs.proofs.ListRuns.Decided.{group_mine, group_other}
 use Rattle.cc_runs.proofs.ListRuns.Least.{least_smallest, counts_get}
 use Rattle.cc_runs.proofs.LinkedList.Sides.{smallest, smallest_one, smallest_min}
 use Rattle.cc_runs.specs.Ready.{HasOpenCall}
-use Rattle.cc_machine.specs.Known.{adds_entry, adds_shut, adds_handed, HasCounted, IsKnown, least_of, known_count}
+use Rattle.cc_machine.specs.Known.{adds_entry, adds_handed, entries_by, IsKnown, least_of}
+
+-- ---- the least of the groups
 
 -- the smallest is the least one after another
 smallest_of : (m : ℕ) (f : ℕ → ℕ) → least_of m f ≡ smallest m f
@@ -29,26 +29,22 @@ least_more : (x : ℕ) (xs : List ℕ) (f : ℕ → ℕ) → ((k : ℕ) → k �
 least_more x xs f same =
     smallest_of (length xs) f ∙ least_smallest x xs f same
 
-pub known_is : (c : Config) (h : Record) (k : Known) (who : Pass) → 0 < groups c → length h.takes ≡ groups c → IsKnown h k → known_count (groups c) k who ≡ known_at who h
-known_is c h k (Pass.Sender n) some many known = by_list h.takes refl
+-- what every group was handed is the least of what each was
+pub least_is : (h : Record) → 1 ≤ length h.takes → least_of (length h.takes - 1) (λ g. length (handed h g)) ≡ handed_to_all h
+least_is h some = by_list h.takes refl
   where
     count : Side → ℕ
     count = λ side. length (handed_by side.answers)
 
-    by_list : (sides : List Side) → h.takes ≡ sides → least_of (groups c - 1) (λ g. slice_index_or k.handed g 0) ≡ least (map count h.takes)
-    by_list [] e = absurd (omega (arith, many, some, ap length e))
+    by_list : (sides : List Side) → h.takes ≡ sides → least_of (length h.takes - 1) (λ g. length (handed h g)) ≡ least (map count h.takes)
+    by_list [] e = absurd (omega (arith, some, ap length e))
     by_list (s ∷ sides) e =
-        let long : length (map count sides) ≡ groups c - 1 = omega (arith, length-map sides count, many, ap length e) in
-        ap (λ (m : ℕ). least_of m (λ g. slice_index_or k.handed g 0)) (sym long)
-        ∙ least_more (count s) (map count sides) (λ g. slice_index_or k.handed g 0) (λ j l. known.handed_are j ∙ sym (counts_get h.takes j) ∙ ap (λ (z : List Side). get_or (map count z) j 0) e)
+        let long : length (map count sides) ≡ length h.takes - 1 = omega (arith, length-map sides count, ap length e) in
+        ap (λ (m : ℕ). least_of m (λ g. length (handed h g))) (sym long)
+        ∙ least_more (count s) (map count sides) (λ g. length (handed h g)) (λ j l. sym (counts_get h.takes j) ∙ ap (λ (z : List Side). get_or (map count z) j 0) e)
         ∙ ap (λ (z : List Side). least (map count z)) (sym e)
-known_is c h k (Pass.Receiver n) some many known = known.entries_is
 
--- ---- the senders' side
-
--- the entries of a list of calls with these answers
-abbrev entries_by : List Entry → List Answer → ℕ
-entries_by calls answers = length (accepted_by calls answers) + (if list_any shuts answers then 1 else 0)
+-- ---- a side that goes on
 
 accepted_calls : (calls : List Entry) (answers : List Answer) (c : Entry) → length answers ≤ length calls → accepted_by (calls ++ c ∷ []) answers ≡ accepted_by calls answers
 accepted_calls [] [] c order = refl
@@ -60,182 +56,82 @@ accepted_appended : (calls : List Entry) (answers : List Answer) (c : Option Ent
 accepted_appended calls answers None order = refl
 accepted_appended calls answers (Some c) order = accepted_calls calls answers c order
 
-adds_none : (shut : Bool) (c : Option Entry) → adds_entry shut c None ≡ 0
-adds_none shut None = refl
-adds_none shut (Some c) = refl
+taken_appended : {X : Type 0} (n : ℕ) (xs : List X) (x : Option X) → n ≤ length xs → take n (appended xs x) ≡ take n xs
+taken_appended n xs None few = refl
+taken_appended n xs (Some x) few = take-append-le n xs (x ∷ []) few
 
-at_most_one : (p : Pass) (call : Call) (number place : ℕ) → length (sent_item p call number place) ≤ 1
-at_most_one (Pass.Sender s) (Call.Send body) number place = omega arith
-at_most_one _ _ number place = omega arith
+longer : {X : Type 0} (xs : List X) (x : Option X) → length xs ≤ length (appended xs x)
+longer xs None = omega arith
+longer xs (Some x) = omega (arith, length_push xs x)
 
--- what one more answer adds
-adds_one : (shut : Bool) (c : Entry) (a : Answer) → (length (accepted_item c a) + (if shut || shuts a then 1 else 0) ≡ (if shut then 1 else 0) + adds_entry shut (Some c) (Some a)) × (adds_entry shut (Some c) (Some a) ≤ 1)
-adds_one true c (Answer.Close (CloseAnswer.Shut total)) = (omega arith, omega arith)
-adds_one false c (Answer.Close (CloseAnswer.Shut total)) = (omega arith, omega arith)
-adds_one true c (Answer.Send (SendAnswer.Accepted place)) = (omega arith, at_most_one c.pass c.call c.number place)
-adds_one false c (Answer.Send (SendAnswer.Accepted place)) = (omega arith, at_most_one c.pass c.call c.number place)
-adds_one true c _ = (omega arith, omega arith)
-adds_one false c _ = (omega arith, omega arith)
+-- no answer stands before its call
+abbrev InOrder : Side → Type 0
+InOrder s = length s.answers ≤ length s.calls
 
--- what is so of the senders' side after calls and answers were put at its end
-record Grown (calls : List Entry) (answers : List Answer) (c : Option Entry) (a : Option Answer) : Type 0 where
-  entries_are : entries_by (appended calls c) (appended answers a) ≡ entries_by calls answers + adds_entry (list_any shuts answers) (slice_get (appended calls c) (length answers)) (slice_get (appended answers a) (length answers))
-  few : adds_entry (list_any shuts answers) (slice_get (appended calls c) (length answers)) (slice_get (appended answers a) (length answers)) + length answers ≤ length (appended answers a)
-  shut_is : list_any shuts (appended answers a) ≡ (list_any shuts answers || adds_shut (slice_get (appended answers a) (length answers)))
-  order : length (appended answers a) ≤ length (appended calls c)
+-- one side is another, later: its first answers, and what they accepted, stay
+record GoesOn (s t : Side) : Type 0 where
+  few : length s.answers ≤ length t.answers
+  answers : (n : ℕ) → n ≤ length s.answers → take n t.answers ≡ take n s.answers
+  items : (n : ℕ) → n ≤ length s.answers → accepted_by t.calls (take n t.answers) ≡ accepted_by s.calls (take n s.answers)
+  order : InOrder t
 
-longer : (calls : List Entry) (c : Option Entry) → length calls ≤ length (appended calls c)
-longer calls None = omega arith
-longer calls (Some c) = omega (arith, length_push calls c)
-
-or_false : (b : Bool) → (b || false) ≡ b
-or_false true = refl
-or_false false = refl
-
-get_appended : (calls : List Entry) (c : Option Entry) (n : ℕ) (d : Entry) → slice_get calls n ≡ Some d → slice_get (appended calls c) n ≡ Some d
-get_appended calls None n d is = is
-get_appended calls (Some c) n d is = get_front calls (c ∷ []) n d is
-
-grown_one : (calls : List Entry) (answers : List Answer) (c : Option Entry) (a : Answer) (d : Entry) → length answers < length calls → slice_get calls (length answers) ≡ Some d → Grown calls answers c (Some a)
-grown_one calls answers c a d waits is =
-    let call : slice_get (appended calls c) (length answers) ≡ Some d = get_appended calls c (length answers) d is in
-    let last : slice_get (answers ++ a ∷ []) (length answers) ≡ Some a = get_last answers a in
-    let adds : adds_entry (list_any shuts answers) (slice_get (appended calls c) (length answers)) (slice_get (answers ++ a ∷ []) (length answers)) ≡ adds_entry (list_any shuts answers) (Some d) (Some a) =
-    ap (λ (x : Option Entry). adds_entry (list_any shuts answers) x (slice_get (answers ++ a ∷ []) (length answers))) call ∙ ap (λ (x : Option Answer). adds_entry (list_any shuts answers) (Some d) x) last in
-    let one = adds_one (list_any shuts answers) d a in
-    let shut : list_any shuts (answers ++ a ∷ []) ≡ (list_any shuts answers || shuts a) = any-append shuts answers (a ∷ []) ∙ ap (λ (b : Bool). list_any shuts answers || b) (or_false (shuts a)) in
-    let items : accepted_by (appended calls c) (answers ++ a ∷ []) ≡ accepted_by calls answers ++ accepted_item d a =
-    accepted_more (appended calls c) answers d a call ∙ ap (λ (l : List Item). l ++ accepted_item d a) (accepted_appended calls answers c (omega (arith, waits))) in
-    let count : length (accepted_by (appended calls c) (answers ++ a ∷ [])) ≡ length (accepted_by calls answers) + length (accepted_item d a) = ap (λ (l : List Item). length l) items ∙ length-append (accepted_by calls answers) (accepted_item d a) in
-    let mark : ◌≡◌ {A = ℕ} (if list_any shuts (answers ++ a ∷ []) then 1 else 0) (if list_any shuts answers || shuts a then 1 else 0) = ap (λ (b : Bool). if b then 1 else 0) shut in
-    record {
-      entries_are = omega (arith, adds, one.0, count, mark);
-      few = omega (arith, adds, one.1, length_push answers a);
-      shut_is = shut ∙ ap (λ (x : Option Answer). list_any shuts answers || adds_shut x) (sym last);
-      order = omega (arith, length_push answers a, longer calls c, waits);
-    }
-
-grown : (calls : List Entry) (answers : List Answer) (c : Option Entry) (a : Option Answer) → length answers ≤ length calls → (a ≢ None → length answers < length calls) → Grown calls answers c a
-grown calls answers c None order waits =
-    let past : slice_get answers (length answers) ≡ None = slice_get_past answers (length answers) (omega arith) in
-    let adds : adds_entry (list_any shuts answers) (slice_get (appended calls c) (length answers)) (slice_get answers (length answers)) ≡ 0 =
-    ap (λ (x : Option Answer). adds_entry (list_any shuts answers) (slice_get (appended calls c) (length answers)) x) past ∙ adds_none (list_any shuts answers) (slice_get (appended calls c) (length answers)) in
-    let count : length (accepted_by (appended calls c) answers) ≡ length (accepted_by calls answers) = ap (λ (l : List Item). length l) (accepted_appended calls answers c order) in
-    record {
-      entries_are = omega (arith, adds, count);
-      few = omega (arith, adds);
-      shut_is = sym (or_false (list_any shuts answers)) ∙ ap (λ (x : Option Answer). list_any shuts answers || adds_shut x) (sym past);
-      order = omega (arith, order, longer calls c);
-    }
-grown calls answers c (Some a) order waits =
-    let here : length answers < length calls = waits (λ none. absurd (cc none)) in
-    elim (slice_get_cases calls (length answers)).1 [
-      | inl w ↦ grown_one calls answers c a w.0 here w.2
-      | inr w ↦ absurd (omega (arith, here, w.0))
-    ]
-
--- ---- the receivers' side
-
-one_item : (a : Answer) → length (handed_item a) ≤ 1
-one_item (Answer.Take (TakeAnswer.Got item)) = omega arith
-one_item _ = omega arith
-
-record Handed (calls : List Entry) (answers : List Answer) (c : Option Entry) (a : Option Answer) : Type 0 where
-  handed_are : length (handed_by (appended answers a)) ≡ length (handed_by answers) + adds_handed (slice_get (appended answers a) (length answers))
-  few : adds_handed (slice_get (appended answers a) (length answers)) + length answers ≤ length (appended answers a)
-  order : length (appended answers a) ≤ length (appended calls c)
-
-handing : (calls : List Entry) (answers : List Answer) (c : Option Entry) (a : Option Answer) → length answers ≤ length calls → (a ≢ None → length answers < length calls) → Handed calls answers c a
-handing calls answers c None order waits =
-    let past : adds_handed (slice_get answers (length answers)) ≡ 0 = ap adds_handed (slice_get_past answers (length answers) (omega arith)) in
-    record { handed_are = omega (arith, past); few = omega (arith, past); order = omega (arith, order, longer calls c) }
-handing calls answers c (Some a) order waits =
-    let here : length answers < length calls = waits (λ none. absurd (cc none)) in
-    let last : adds_handed (slice_get (answers ++ a ∷ []) (length answers)) ≡ length (handed_item a) = ap adds_handed (get_last answers a) in
-    let items : length (handed_by (answers ++ a ∷ [])) ≡ length (handed_by answers ++ (handed_item a ++ [])) = ap (λ (l : List Item). length l) (handed_by-append answers (a ∷ [])) in
-    let count : length (handed_by answers ++ (handed_item a ++ [])) ≡ length (handed_by answers) + length (handed_item a) = length-append (handed_by answers) (handed_item a ++ []) ∙ ap (λ (n : ℕ). length (handed_by answers) + n) (length-append (handed_item a) [] ∙ none (length (handed_item a))) in
-    record {
-      handed_are = omega (arith, last, items, count);
-      few = omega (arith, last, one_item a, length_push answers a);
-      order = omega (arith, length_push answers a, longer calls c, here);
-    }
-  where
-    none : (n : ℕ) → n + 0 ≡ n
-    none n = omega arith
-
--- ---- both sides
-
--- a history with what is known of it, and no answer before its call
-pub record IsCounted (h : Record) (k : Known) : Type 0 where
-  pub known : IsKnown h k
-  pub order : (x : Chain) → length (side x h).answers ≤ length (side x h).calls
+stays : (s t : Side) → t ≡ s → InOrder s → GoesOn s t
+stays s t is order = subst (λ (z : Side). GoesOn s z) (sym is) record { few = omega arith; answers = λ n few. refl; items = λ n few. refl; order = order }
 
 -- a side with a call more, or an answer
 abbrev more : Side → Option Entry → Option Answer → Side
 more s c a = record { calls = appended s.calls c; answers = appended s.answers a }
 
-module _ (h t : Record) (k n : Known) (g : ℕ) (few : g < 8) (ec dc : Option Entry) (ea da : Option Answer) (s_is : t.sends ≡ more h.sends ec ea) (g_is : of_group t g ≡ more (of_group h g) dc da) (others : (x : ℕ) → x ≢ g → of_group t x ≡ of_group h x)
-    (ew : ea ≢ None → length h.sends.answers < length h.sends.calls) (dw : da ≢ None → length (of_group h g).answers < length (of_group h g).calls) (i : IsCounted h k) (m : HasCounted k t (length h.sends.answers) g (length (of_group h g).answers) n) where
-  e : Grown h.sends.calls h.sends.answers ec ea
-  e = grown h.sends.calls h.sends.answers ec ea (i.order Chain.Send) ew
+goes_on : (s t : Side) (c : Option Entry) (a : Option Answer) → t ≡ more s c a → InOrder s → (a ≢ None → length s.answers < length s.calls) → GoesOn s t
+goes_on s t c a is order waits = subst (λ (z : Side). GoesOn s z) (sym is) record {
+  few = longer s.answers a;
+  answers = λ n few. taken_appended n s.answers a few;
+  items = λ n few. ap (λ (l : List Answer). accepted_by (appended s.calls c) l) (taken_appended n s.answers a few)
+      ∙ accepted_appended s.calls (take n s.answers) c (omega (arith, length-take-le n s.answers few, few, order));
+  order = by a waits;
+}
+  where
+    by : (b : Option Answer) → (b ≢ None → length s.answers < length s.calls) → length (appended s.answers b) ≤ length (appended s.calls c)
+    by None w = omega (arith, order, longer s.calls c)
+    by (Some b) w = omega (arith, length_push s.answers b, longer s.calls c, w (λ none. absurd (cc none)))
 
-  d : Handed (of_group h g).calls (of_group h g).answers dc da
-  d = handing (of_group h g).calls (of_group h g).answers dc da (i.order (Chain.Take g)) dw
+-- ---- both sides
 
-  -- what the answers add, in the words of the later history
-  adds_e : adds_entry k.shut (slice_get t.sends.calls (length h.sends.answers)) (slice_get t.sends.answers (length h.sends.answers)) ≡ adds_entry (is_shut h) (slice_get (appended h.sends.calls ec) (length h.sends.answers)) (slice_get (appended h.sends.answers ea) (length h.sends.answers))
-  adds_e = λ j. adds_entry (i.known.shut_is j) (slice_get (s_is j).calls (length h.sends.answers)) (slice_get (s_is j).answers (length h.sends.answers))
+-- a history with what is counted of it, and no answer before its call
+pub record IsCounted (h : Record) (k : Known) : Type 0 where
+  pub known : IsKnown h k
+  pub order : (x : Chain) → length (side x h).answers ≤ length (side x h).calls
 
-  adds_d : adds_handed (slice_get (of_group t g).answers (length (of_group h g).answers)) ≡ adds_handed (slice_get (appended (of_group h g).answers da) (length (of_group h g).answers))
-  adds_d = ap (λ (s : Side). adds_handed (slice_get s.answers (length (of_group h g).answers))) g_is
+both : (h t : Record) (k : Known) → GoesOn h.sends t.sends → ((g : ℕ) → GoesOn (of_group h g) (of_group t g)) → IsCounted h k → IsCounted t k
+both h t k sends takes i = record {
+  known = record {
+    sent_few = omega (arith, i.known.sent_few, sends.few);
+    entries_is = i.known.entries_is ∙ sym (omega (arith, ap (λ (l : List Item). length l) (sends.items k.sent i.known.sent_few), ap {B = ℕ} (λ (l : List Answer). if list_any shuts l then 1 else 0) (sends.answers k.sent i.known.sent_few)));
+    shut_is = i.known.shut_is ∙ sym (ap (λ (l : List Answer). list_any shuts l) (sends.answers k.sent i.known.sent_few));
+    many_taken = i.known.many_taken;
+    many_handed = i.known.many_handed;
+    taken_few = λ g. omega (arith, i.known.taken_few g, (takes g).few);
+    handed_are = λ g. i.known.handed_are g ∙ sym (ap (λ (l : List Answer). length (handed_by l)) ((takes g).answers (slice_index_or k.taken g 0) (i.known.taken_few g)));
+  };
+  order = order;
+}
+  where
+    order : (x : Chain) → length (side x t).answers ≤ length (side x t).calls
+    order Chain.Send = sends.order
+    order (Chain.Take g) = (takes g).order
 
-  now : slice_index_or n.handed g 0 ≡ slice_index_or k.handed g 0 + adds_handed (slice_get (of_group t g).answers (length (of_group h g).answers))
-  now = ap (λ (l : List ℕ). slice_index_or l g 0) m.handed_are ∙ get_or-set_same k.handed g _ 0 (omega (arith, few, i.known.long))
-
-  away : (x : ℕ) → x ≢ g → slice_index_or n.handed x 0 ≡ slice_index_or k.handed x 0
-  away x ne = ap (λ (l : List ℕ). slice_index_or l x 0) m.handed_are ∙ get_or-set_other k.handed g x _ 0 ne
-
-  both : IsCounted t n
-  both = record {
-    known = record {
-      entries_is = omega (arith, m.entries_is, i.known.entries_is, adds_e, e.entries_are, ap (λ (s : Side). entries_by s.calls s.answers) s_is);
-      shut_is = m.shut_is ∙ (λ j. i.known.shut_is j || adds_shut (slice_get (s_is j).answers (length h.sends.answers))) ∙ sym (ap (λ (s : Side). list_any shuts s.answers) s_is ∙ e.shut_is);
-      long = ap length m.handed_are ∙ length-set k.handed g _ ∙ i.known.long;
-      handed_are = λ x. elim (cases_eq x g) [
-        | inl same ↦ subst (λ (z : ℕ). slice_index_or n.handed z 0 ≡ length (handed t z)) (sym same) (omega (arith, now, adds_d, i.known.handed_are g, d.handed_are, ap (λ (s : Side). length (handed_by s.answers)) g_is))
-        | inr ne ↦ away x ne ∙ i.known.handed_are x ∙ sym (ap (λ (s : Side). length (handed_by s.answers)) (others x ne))
-      ];
-      few = omega (arith, m.entries_is, adds_e, i.known.few, e.few, ap (λ (s : Side). length s.answers) s_is);
-      few_handed = λ x. elim (cases_eq x g) [
-        | inl same ↦ subst (λ (z : ℕ). slice_index_or n.handed z 0 ≤ length (of_group t z).answers) (sym same) (omega (arith, now, adds_d, i.known.few_handed g, d.few, ap (λ (s : Side). length s.answers) g_is))
-        | inr ne ↦ omega (arith, away x ne, i.known.few_handed x, ap (λ (s : Side). length s.answers) (others x ne))
-      ];
-    };
-    order = order;
-  }
-    where
-      order : (x : Chain) → length (side x t).answers ≤ length (side x t).calls
-      order Chain.Send = subst (λ (s : Side). length s.answers ≤ length s.calls) (sym s_is) e.order
-      order (Chain.Take x) = elim (cases_eq x g) [
-        | inl same ↦ subst (λ (z : ℕ). length (of_group t z).answers ≤ length (of_group t z).calls) (sym same) (subst (λ (s : Side). length s.answers ≤ length s.calls) (sym g_is) d.order)
-        | inr ne ↦ subst (λ (s : Side). length s.answers ≤ length s.calls) (sym (others x ne)) (i.order (Chain.Take x))
-      ]
-
--- the history with a call more, or an answer, on the chain of this group or on the senders'
-pub counted : (x : Chain) (h t : Record) (k n : Known) (g : ℕ) (c : Option Entry) (a : Option Answer) → g < 8 → HasSide x h → group_of x ≡ g → t ≡ noted x h c a → (a ≢ None → HasOpenCall h x) → IsCounted h k →
-    HasCounted k t (length h.sends.answers) g (length (of_group h g).answers) n → IsCounted t n
-counted Chain.Send h t k n g c a few there at is waits i m =
-    both h t k n g few c None a None (ap (λ (z : Record). z.sends) is) (ap (λ (z : Record). of_group z g) is) (λ x ne. ap (λ (z : Record). of_group z x) is) waits (λ some. absurd (some refl)) i m
-counted (Chain.Take y) h t k n g c a few there at is waits i m =
-    both h t k n g few None c None a (ap (λ (z : Record). z.sends) is)
-    (ap (λ (z : Record). of_group z g) is ∙ subst (λ (z : ℕ). of_group (noted (Chain.Take y) h c a) z ≡ more (of_group h z) c a) at (group_mine h y (more (of_group h y) c a) there))
-    (λ x ne. ap (λ (z : Record). of_group z x) is ∙ group_other h y x (more (of_group h y) c a) (λ e. ne (e ∙ at)))
-    (λ some. absurd (some refl)) (λ some. subst (λ (z : ℕ). length (of_group h z).answers < length (of_group h z).calls) at (waits some)) i m
-
--- and as it was
-pub counted_still : (h t : Record) (k n : Known) (g : ℕ) → g < 8 → t ≡ h → IsCounted h k → HasCounted k t (length h.sends.answers) g (length (of_group h g).answers) n → IsCounted t n
-counted_still h t k n g few is i m =
-    both h t k n g few None None None None (ap (λ (z : Record). z.sends) is) (ap (λ (z : Record). of_group z g) is) (λ x ne. ap (λ (z : Record). of_group z x) is) (λ some. absurd (some refl)) (λ some. absurd (some refl)) i m
+-- the history with a call more, or an answer, on one chain
+pub counted : (x : Chain) (h t : Record) (k : Known) (c : Option Entry) (a : Option Answer) → HasSide x h → t ≡ noted x h c a → (a ≢ None → HasOpenCall h x) → IsCounted h k → IsCounted t k
+counted Chain.Send h t k c a there is waits i =
+    both h t k (goes_on h.sends t.sends c a (ap (λ (z : Record). z.sends) is) (i.order Chain.Send) waits)
+    (λ g. stays (of_group h g) (of_group t g) (ap (λ (z : Record). of_group z g) is) (i.order (Chain.Take g))) i
+counted (Chain.Take y) h t k c a there is waits i =
+    both h t k (stays h.sends t.sends (ap (λ (z : Record). z.sends) is) (i.order Chain.Send))
+    (λ g. elim (cases_eq g y) [
+      | inl same ↦ subst (λ (z : ℕ). GoesOn (of_group h z) (of_group t z)) (sym same)
+          (goes_on (of_group h y) (of_group t y) c a (ap (λ (z : Record). of_group z y) is ∙ group_mine h y (more (of_group h y) c a) there) (i.order (Chain.Take y)) waits)
+      | inr ne ↦ stays (of_group h g) (of_group t g) (ap (λ (z : Record). of_group z g) is ∙ group_other h y g (more (of_group h y) c a) ne) (i.order (Chain.Take g))
+    ]) i
 
 -- at the opening
 zero_at : (m g : ℕ) → ◌≡◌ {A = ℕ} (get_or (replicate {A = ℕ} m 0) g 0) 0
@@ -243,15 +139,154 @@ zero_at zero g = refl
 zero_at (suc m) zero = refl
 zero_at (suc m) (suc g) = zero_at m g
 
-pub counted_first : (n : ℕ) → IsCounted (empty n) (record { entries = 0; shut = false; handed = replicate 8 0 })
+pub counted_first : (n : ℕ) → IsCounted (empty n) (record { sent = 0; entries = 0; shut = false; taken = replicate 8 0; handed = replicate 8 0 })
 counted_first n = record {
   known = record {
+    sent_few = omega arith;
     entries_is = refl;
     shut_is = refl;
-    long = refl;
-    handed_are = λ g. zero_at 8 g ∙ sym (ap (λ (s : Side). length (handed_by s.answers)) (no_calls n (Chain.Take g)));
-    few = omega arith;
-    few_handed = λ g. omega (arith, zero_at 8 g);
+    many_taken = refl;
+    many_handed = refl;
+    taken_few = λ g. omega (arith, zero_at 8 g);
+    handed_are = λ g. zero_at 8 g ∙ sym (ap (λ (s : Side). length (handed_by (take (slice_index_or (replicate {A = ℕ} 8 0) g 0) s.answers))) (no_calls n (Chain.Take g)) ∙ nothing (slice_index_or (replicate {A = ℕ} 8 0) g 0));
   };
   order = λ x. subst (λ (s : Side). length s.answers ≤ length s.calls) (sym (no_calls n x)) (omega arith);
 }
+  where
+    nothing : (m : ℕ) → length (handed_by (take m [])) ≡ 0
+    nothing zero = refl
+    nothing (suc m) = refl
+
+-- ---- further answers are counted
+
+at_most_one : (p : Pass) (call : Call) (number place : ℕ) → length (sent_item p call number place) ≤ 1
+at_most_one (Pass.Sender s) (Call.Send body) number place = omega arith
+at_most_one _ _ number place = omega arith
+
+-- what one more answer adds
+adds_one : (shut : Bool) (c : Entry) (a : Answer) → length (accepted_item c a) + (if shut || shuts a then 1 else 0) ≡ (if shut then 1 else 0) + adds_entry shut c a
+adds_one true c (Answer.Close (CloseAnswer.Shut total)) = omega arith
+adds_one false c (Answer.Close (CloseAnswer.Shut total)) = omega arith
+adds_one true c _ = omega arith
+adds_one false c _ = omega arith
+
+-- no more than one for each answer
+adds_few : (c : Entry) (a : Answer) → length (accepted_item c a) + (if shuts a then 1 else 0) ≤ 1
+adds_few c (Answer.Send (SendAnswer.Accepted place)) = omega (arith, at_most_one c.pass c.call c.number place)
+adds_few c (Answer.Close (CloseAnswer.Shut total)) = omega arith
+adds_few c _ = omega arith
+
+pub few_entries : (calls : List Entry) (answers : List Answer) → entries_by calls answers ≤ length answers
+few_entries calls answers = omega (arith, few calls answers)
+  where
+    mark : Bool → ℕ
+    mark b = if b then 1 else 0
+
+    one : (b : Bool) → mark b ≤ 1
+    one true = omega arith
+    one false = omega arith
+
+    either : (p q : Bool) → mark (p || q) ≤ mark p + mark q
+    either true q = omega arith
+    either false q = omega arith
+
+    few : (calls : List Entry) (answers : List Answer) → length (accepted_by calls answers) + mark (list_any shuts answers) ≤ length answers
+    few [] [] = omega arith
+    few [] (a ∷ answers) = omega (arith, few [] answers, either (shuts a) (list_any shuts answers), one (shuts a))
+    few (c ∷ calls) [] = omega arith
+    few (c ∷ calls) (a ∷ answers) = omega (arith, few calls answers, either (shuts a) (list_any shuts answers), adds_few c a, length-append (accepted_item c a) (accepted_by calls answers))
+
+one_entry : (shut : Bool) (c : Entry) (a : Answer) → adds_entry shut c a ≤ 1
+one_entry true c (Answer.Close (CloseAnswer.Shut total)) = omega arith
+one_entry false c (Answer.Close (CloseAnswer.Shut total)) = omega arith
+one_entry shut c (Answer.Send (SendAnswer.Accepted place)) = at_most_one c.pass c.call c.number place
+one_entry shut c _ = omega arith
+
+-- the entries so far and one more are no more than the answers so far and one more
+pub entries_fit : (h : Record) (k : Known) (place adds : ℕ) (calls : List Entry) (answers : List Answer) (c : Entry) (a : Answer) → IsKnown h k → k.sent ≡ place → adds ≡ adds_entry k.shut (get_or calls place c) (get_or answers place a) → k.entries + adds ≤ place + 1
+entries_fit h k place adds calls answers c a known at is =
+    let few = few_entries h.sends.calls (take k.sent h.sends.answers) in
+    omega (arith, few, known.entries_is, length-take-le k.sent h.sends.answers known.sent_few, at, is, one_entry k.shut (get_or calls place c) (get_or answers place a))
+
+-- one more answer of a sender is counted
+pub entry_counted : (h : Record) (k : Known) (place adds : ℕ) (shut : Bool) (calls : List Entry) (answers : List Answer) (c : Entry) (a : Answer) → calls ≡ h.sends.calls → answers ≡ h.sends.answers → InOrder h.sends → IsKnown h k → k.sent ≡ place → place < length answers
+    → adds ≡ adds_entry k.shut (get_or calls place c) (get_or answers place a) → shut ≡ shuts (get_or answers place a) → IsKnown h (record { sent = place + 1; entries = k.entries + adds; shut = k.shut || shut; taken = k.taken; handed = k.handed })
+entry_counted h k place adds shut calls answers c a calls_are answers_are order known at inside is shut_is =
+    let there : place < length h.sends.answers = omega (arith, inside, ap length answers_are) in
+    let told : Answer = get_or answers place a in
+    let call : Entry = get_or calls place c in
+    let before : take k.sent h.sends.answers ≡ take place h.sends.answers = ap (λ (n : ℕ). take n h.sends.answers) at in
+    let after : take (place + 1) h.sends.answers ≡ take place h.sends.answers ++ told ∷ [] = take_more h.sends.answers place a there ∙ ap (λ (l : List Answer). take place h.sends.answers ++ get_or l place a ∷ []) (sym answers_are) in
+    let long : length (take place h.sends.answers) ≡ place = length-take-le place h.sends.answers (omega (arith, there)) in
+    let at_call : slice_get h.sends.calls (length (take place h.sends.answers)) ≡ Some call =
+    ap (λ (n : ℕ). slice_get h.sends.calls n) long ∙ there_is h.sends.calls place c (omega (arith, there, order)) ∙ ap (λ (l : List Entry). Some (get_or l place c)) (sym calls_are) in
+    let items : accepted_by h.sends.calls (take (place + 1) h.sends.answers) ≡ accepted_by h.sends.calls (take place h.sends.answers) ++ accepted_item call told =
+    ap (λ (l : List Answer). accepted_by h.sends.calls l) after ∙ accepted_more h.sends.calls (take place h.sends.answers) call told at_call in
+    let mark : list_any shuts (take (place + 1) h.sends.answers) ≡ (k.shut || shuts told) =
+    ap (λ (l : List Answer). list_any shuts l) after ∙ any-append shuts (take place h.sends.answers) (told ∷ []) ∙ ap (λ (b : Bool). list_any shuts (take place h.sends.answers) || b) (or_false (shuts told))
+    ∙ ap (λ (l : List Answer). list_any shuts l || shuts told) (sym before) ∙ ap (λ (b : Bool). b || shuts told) (sym known.shut_is) in
+    let count : length (accepted_by h.sends.calls (take (place + 1) h.sends.answers)) ≡ length (accepted_by h.sends.calls (take k.sent h.sends.answers)) + length (accepted_item call told) =
+    ap (λ (l : List Item). length l) items ∙ length-append (accepted_by h.sends.calls (take place h.sends.answers)) (accepted_item call told)
+    ∙ ap (λ (l : List Answer). length (accepted_by h.sends.calls l) + length (accepted_item call told)) (sym before) in
+    let both : ◌≡◌ {A = ℕ} (if list_any shuts (take (place + 1) h.sends.answers) then 1 else 0) (if k.shut || shuts told then 1 else 0) = ap (λ (b : Bool). if b then 1 else 0) mark in
+    let was : ◌≡◌ {A = ℕ} (if k.shut then 1 else 0) (if list_any shuts (take k.sent h.sends.answers) then 1 else 0) = ap (λ (b : Bool). if b then 1 else 0) known.shut_is in
+    record {
+      sent_few = omega (arith, there);
+      entries_is = omega (arith, known.entries_is, is, count, both, was, adds_one k.shut call told);
+      shut_is = ap (λ (b : Bool). k.shut || b) shut_is ∙ sym mark;
+      many_taken = known.many_taken;
+      many_handed = known.many_handed;
+      taken_few = known.taken_few;
+      handed_are = known.handed_are;
+    }
+  where
+    or_false : (b : Bool) → (b || false) ≡ b
+    or_false true = refl
+    or_false false = refl
+
+    there_is : (xs : List Entry) (i : ℕ) (d : Entry) → i < length xs → slice_get xs i ≡ Some (get_or xs i d)
+    there_is [] i d inside = absurd (omega (arith, inside))
+    there_is (x ∷ xs) zero d inside = refl
+    there_is (x ∷ xs) (suc i) d inside = there_is xs i d (omega (arith, inside))
+
+one_item : (a : Answer) → adds_handed a ≤ 1
+one_item (Answer.Take (TakeAnswer.Got item)) = omega arith
+one_item _ = omega arith
+
+pub few_handed : (answers : List Answer) → length (handed_by answers) ≤ length answers
+few_handed [] = omega arith
+few_handed (a ∷ answers) = omega (arith, length-append (handed_item a) (handed_by answers), one_item a, few_handed answers)
+
+pub handed_fit : (place adds got : ℕ) (answers : List Answer) (a : Answer) → place < length answers → got ≡ length (handed_by (take place answers)) → adds ≡ adds_handed (get_or answers place a) → got + adds ≤ place + 1
+handed_fit place adds got answers a inside are is =
+    omega (arith, are, is, few_handed (take place answers), length-take-le place answers (omega (arith, inside)), one_item (get_or answers place a))
+
+-- one more answer of a receiver is counted
+pub handed_counted : (place adds got : ℕ) (answers : List Answer) (a : Answer) → place < length answers → got ≡ length (handed_by (take place answers)) → adds ≡ adds_handed (get_or answers place a) → got + adds ≡ length (handed_by (take (place + 1) answers))
+handed_counted place adds got answers a inside are is =
+    let told : Answer = get_or answers place a in
+    let items : length (handed_by (take (place + 1) answers)) ≡ length (handed_by (take place answers) ++ (handed_item told ++ [])) =
+    ap (λ (l : List Answer). length (handed_by l)) (take_more answers place a inside) ∙ ap (λ (l : List Item). length l) (handed_by-append (take place answers) (told ∷ [])) in
+    omega (arith, are, is, items, length-append (handed_by (take place answers)) (handed_item told ++ []), length-append (handed_item told) [])
+
+-- a group whose answers are all counted
+pub group_counted : (h : Record) (k : Known) (g n got : ℕ) → g < 8 → IsKnown h k → n ≡ length (of_group h g).answers → got ≡ length (handed_by (of_group h g).answers) → IsKnown h (record { sent = k.sent; entries = k.entries; shut = k.shut; taken = set k.taken g n; handed = set k.handed g got })
+group_counted h k g n got few known all are = record {
+  sent_few = known.sent_few;
+  entries_is = known.entries_is;
+  shut_is = known.shut_is;
+  many_taken = length-set k.taken g n ∙ known.many_taken;
+  many_handed = length-set k.handed g got ∙ known.many_handed;
+  taken_few = λ x. elim (cases_eq x g) [
+    | inl same ↦ subst (λ (z : ℕ). slice_index_or (set k.taken g n) z 0 ≤ length (of_group h z).answers) (sym same) (omega (arith, mine, all))
+    | inr ne ↦ omega (arith, get_or-set_other k.taken g x n 0 ne, known.taken_few x)
+  ];
+  handed_are = λ x. elim (cases_eq x g) [
+    | inl same ↦ subst (λ (z : ℕ). slice_index_or (set k.handed g got) z 0 ≡ length (handed_by (take (slice_index_or (set k.taken g n) z 0) (of_group h z).answers))) (sym same)
+        (get_or-set_same k.handed g got 0 (omega (arith, few, known.many_handed)) ∙ are ∙ sym (ap (λ (l : List Answer). length (handed_by l)) (take_all (slice_index_or (set k.taken g n) g 0) (of_group h g).answers (omega (arith, mine, all)))))
+    | inr ne ↦ get_or-set_other k.handed g x got 0 ne ∙ known.handed_are x ∙ sym (ap (λ (m : ℕ). length (handed_by (take m (of_group h x).answers))) (get_or-set_other k.taken g x n 0 ne))
+  ];
+}
+  where
+    mine : slice_index_or (set k.taken g n) g 0 ≡ n
+    mine = get_or-set_same k.taken g n 0 (omega (arith, few, known.many_taken))

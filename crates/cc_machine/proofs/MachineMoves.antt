@@ -1,5 +1,5 @@
 -- The machine of a list stays one by each of its calls.
-use Rattle.std.proofs.Common.{◌≡◌, ◌≢◌, ◌<◌, arith, ℕ, length, Option, Some, None, Result, Ok, Err, OnOk, OnErr, refl, sym, ap, subst, ◌∙◌}
+use Rattle.std.proofs.Common.{◌≡◌, ◌≢◌, ◌<◌, ◌≤◌, arith, ℕ, length, Option, Some, None, Result, Ok, Err, OnOk, OnErr, refl, sym, ap, subst, ◌∙◌}
 use Rattle.cc_model.specs.Record.{Record, empty, of_group}
 use Rattle.cc_model.specs.HistoryRoom.{lists}
 use Rattle.cc_machine.specs.Names.{Call, Answer, Config, Setting, Served, BeginFault, Known, Chain, Board, Event, Place, Sending}
@@ -16,13 +16,13 @@ use Rattle.cc_runs.specs.Lines.{group_of}
 use Rattle.cc_machine.specs.BoardSteps.{IsLaid}
 use Rattle.cc_runs.specs.Run.{passes}
 use Rattle.cc_runs.proofs.Chains.Registers.{HasSide}
-use Rattle.cc_machine.specs.Known.{HasCounted}
+use Rattle.cc_machine.specs.Known.{IsKnown}
 use Rattle.cc_machine.specs.Lawful.{IsLawful, IsMachine}
 use Rattle.cc_machine.proofs.LawfulMoves.{history_in, has_side, is_there}
 use Rattle.cc_runs.specs.OnChain.{IsThere}
 use Rattle.cc_runs.proofs.Ranges.{in_range}
 use Rattle.cc_runs.proofs.Chains.Serving.{chain_is}
-use Rattle.cc_machine.proofs.KnownMoves.{IsCounted, counted, counted_still}
+use Rattle.cc_machine.proofs.KnownMoves.{IsCounted, counted}
 
 -- ---- calls that leave the history
 
@@ -54,6 +54,10 @@ counted_in b k m = record { known = m.known; order = m.order }
 machine : (b : Board) (k : Known) → b.setting.served ≡ Served.List → IsLawful b → IsCounted (lists b.history) k → IsMachine b k
 machine b k is l i = record { served_is = is; lawful = l; known = i.known; order = i.order }
 
+-- the same machine, after further answers of its history were counted
+pub recounted : (b : Board) (k n : Known) → IsMachine b k → IsKnown (lists b.history) n → IsMachine b n
+recounted b k n m known = record { served_is = m.served_is; lawful = m.lawful; known = known; order = m.order }
+
 kept : (old new : Board) (k : Known) → IsMachine old k → IsLawful new → Same (view_of old) (view_of new) → IsMachine new k
 kept old new k m l same =
     machine new k (ap (λ (c : Setting). c.served) same.setting ∙ m.served_is) l (subst (λ (h : Record). IsCounted h k) (sym same.history) (counted_in old k m))
@@ -72,22 +76,6 @@ machine_opened b c k is l same opened i =
 
 -- ---- a step
 
--- a step leaves the setting
-pub stepped_setting : (v w : View) (p : ℕ) (e : Event) → HasStepped v (Some p) e w → w.setting ≡ v.setting
-stepped_setting v w p (Event.Did kind) h = h.setting
-stepped_setting v w p Event.Idle h = ap (λ (m : View). m.setting) h
-
-group_there : (c : Config) (x : Chain) → 0 < groups c → IsThere c x → group_of x < groups c
-group_there c Chain.Send some there = some
-group_there c (Chain.Take g) some there = there
-
--- the group of a pass is one of the history
-pub group_inside : (b : Board) (p : ℕ) → IsLawful b → p < passes b.setting → group_of (chain_of b.setting.config p) < length b.history.takes
-group_inside b p l near =
-    let some : 0 < groups b.setting.config = omega (arith, (in_range b.setting.config l.checked).groups) in
-    let within = group_there b.setting.config (chain_of b.setting.config p) some (is_there b.setting.served b.setting.config (chain_of b.setting.config p) (chain_is b.setting p near)) in
-    omega (arith, within, l.laid.groups)
-
 -- an answer is only decided where a call has none
 decided : (c : Setting) (at : Place) (found : ℕ) (P : Type 0) → WhileUndecided at P → decides c at found ≢ None → P
 decided c (Place.Counting job service) found P waits some = waits
@@ -100,29 +88,23 @@ decided c (Place.Sending job service) found P waits some = waits
 decided c (Place.Taking job service) found P waits some = waits
 decided c _ found P waits some = absurd (some refl)
 
-stepped_counts : (c : Setting) (s : State) (p g : ℕ) (t : Record) (k n : Known) → g < 8 → HasSide (chain_of c.config p) s.history → group_of (chain_of c.config p) ≡ g → IsReady c s p → t ≡ (stepped c s p).history → IsCounted s.history k →
-    HasCounted k t (length s.history.sends.answers) g (length (of_group s.history g).answers) n → IsCounted t n
-stepped_counts c s p g t k n few there at_group ready is i m =
+stepped_counts : (c : Setting) (s : State) (p : ℕ) (t : Record) (k : Known) → HasSide (chain_of c.config p) s.history → IsReady c s p → t ≡ (stepped c s p).history → IsCounted s.history k → IsCounted t k
+stepped_counts c s p t k there ready is i =
     let x : Chain = chain_of c.config p in
     let at : Place = (s.stand p).place in
     let found : ℕ = s.mem (word_of (operation c x (s.stand p).node at)) in
-    counted x s.history t k n g (enters at) (decides c at found) few there at_group is (decided c at found (HasOpenCall s.history x) ready.unanswered) i m
+    counted x s.history t k (enters at) (decides c at found) there is (decided c at found (HasOpenCall s.history x) ready.unanswered) i
 
--- the group of a pass of the machine is one of at most eight
-few_groups : (b : Board) (g : ℕ) → IsLaid b → g < length b.history.takes → g < 8
-few_groups b g l inside = omega (arith, inside, l.groups, l.small.groups)
+-- no history has more than eight groups, and none has none
+pub some_groups : (b : Board) → IsLawful b → 1 ≤ length b.history.takes
+some_groups b l = omega (arith, (in_range b.setting.config l.checked).groups, l.laid.groups)
 
-idle : (old new : Board) (k n : Known) (g : ℕ) → g < length old.history.takes → IsMachine old k → IsLawful new → view_of new ≡ view_of old → HasCounted k (lists new.history) (length old.history.sends.lists.answers) g (length (of_group (lists old.history) g).answers) n → IsMachine new n
-idle old new k n g inside m l is c =
-    machine new n (ap (λ (z : View). z.setting.served) is ∙ m.served_is) l
-    (counted_still (lists old.history) (lists new.history) k n g (few_groups old g m.lawful.laid inside) (ap (λ (z : View). z.history) is) (counted_in old k m) c)
+pub few_groups : (b : Board) → IsLawful b → length b.history.takes ≤ 8
+few_groups b l = omega (arith, l.laid.groups, l.laid.small.groups)
 
-pub machine_stepped : (old new : Board) (k n : Known) (p g : ℕ) (e : Event) → IsMachine old k → p < passes old.setting → IsReady old.setting (state_of old) p → IsLawful new →
-    group_of (chain_of old.setting.config p) ≡ g → g < length old.history.takes →
-    HasStepped (view_of old) (Some p) e (view_of new) → HasCounted k (lists new.history) (length old.history.sends.lists.answers) g (length (of_group (lists old.history) g).answers) n → IsMachine new n
-machine_stepped old new k n p g Event.Idle m near ready l at inside h c = idle old new k n g inside m l h c
-machine_stepped old new k n p g (Event.Did kind) m near ready l at inside h c =
-    machine new n (ap (λ (z : Setting). z.served) h.setting ∙ m.served_is) l
-    (stepped_counts old.setting (state_of old) p g (lists new.history) k n (few_groups old g m.lawful.laid inside) (has_side old m.lawful p near) at ready (sym (history_in (view_of new)) ∙ ap (λ (s : State). s.history) h.state)
-    (subst (λ (z : Record). IsCounted z k) (sym (history_in (view_of old))) (counted_in old k m))
-    (subst (λ (z : Record). HasCounted k (lists new.history) (length z.sends.answers) g (length (of_group z g).answers) n) (sym (history_in (view_of old))) c))
+pub machine_stepped : (old new : Board) (k : Known) (p : ℕ) (e : Event) → IsMachine old k → p < passes old.setting → IsReady old.setting (state_of old) p → IsLawful new → HasStepped (view_of old) (Some p) e (view_of new) → IsMachine new k
+machine_stepped old new k p Event.Idle m near ready l h = kept old new k m l (as_it_was (view_of old) (view_of new) h)
+machine_stepped old new k p (Event.Did kind) m near ready l h =
+    machine new k (ap (λ (z : Setting). z.served) h.setting ∙ m.served_is) l
+    (stepped_counts old.setting (state_of old) p (lists new.history) k (has_side old m.lawful p near) ready (sym (history_in (view_of new)) ∙ ap (λ (s : State). s.history) h.state)
+    (subst (λ (z : Record). IsCounted z k) (sym (history_in (view_of old))) (counted_in old k m)))

@@ -1,31 +1,26 @@
-ghost use Rattle.std.specs.Prelude.{◌≡◌, ◌≤◌, ◌<◌, false, length, replicate, slice_get, slice_index_or};
+ghost use Rattle.std.specs.Prelude.{◌≡◌, ◌≤◌, ◌<◌, false, length, replicate};
 ghost use Rattle.cc_model.specs.HistoryRoom.{lists};
+ghost use Rattle.cc_model.specs.Items as items;
 ghost use Rattle.cc_machine.specs.Known as known;
+ghost use Rattle.cc_machine.specs.Known.{IsKnown};
 
 use cc_model::{Answer, Call, CloseAnswer, Entry, History, Pass, SendAnswer, TakeAnswer};
 
-/// What there is to be known of a history: the entries of its list, which are the items accepted and the closing mark,
-/// whether it is shut, and how many items it handed out. It is counted along with the history, so that a begin needn't
-/// go through it.
+/// What there is to be known of a history, as far as its answers were counted: the entries of its list, which are the items
+/// accepted and the closing mark, whether it is shut, and how many items each group was handed. A begin counts what was
+/// answered since the last one, so that it needn't go through the whole history, and an event needn't count.
 #[derive(Clone, Copy)]
 pub struct Known {
+    pub sent: usize,
     pub entries: u64,
     pub shut: bool,
+    pub taken: [usize; 8],
     pub handed: [u64; 8],
 }
 
-fn get<T: Copy>(list: &[T], place: usize) -> Option<T>
-    ensures { result ≡ slice_get list.now place }
-{
-    list.get(place).copied()
-}
-
-fn adds_entry(shut: bool, call: Option<Entry>, answer: Option<Answer>) -> u64
+fn adds_entry(shut: bool, call: Entry, answer: Answer) -> u64
     ensures { result ≡ known.adds_entry shut call answer }
 {
-    let (Some(call), Some(answer)) = (call, answer) else {
-        return 0;
-    };
     match (call.pass, call.call, answer) {
         (Pass::Sender(_), Call::Send(_), Answer::Send(SendAnswer::Accepted { .. })) => 1,
         (_, _, Answer::Close(CloseAnswer::Shut { .. })) if !shut => 1,
@@ -33,20 +28,20 @@ fn adds_entry(shut: bool, call: Option<Entry>, answer: Option<Answer>) -> u64
     }
 }
 
-fn adds_shut(answer: Option<Answer>) -> bool
-    ensures { result ≡ known.adds_shut answer }
+fn shuts(answer: Answer) -> bool
+    ensures { result ≡ items.shuts answer }
 {
     match answer {
-        Some(Answer::Close(CloseAnswer::Shut { .. })) => true,
+        Answer::Close(CloseAnswer::Shut { .. }) => true,
         _ => false,
     }
 }
 
-fn adds_handed(answer: Option<Answer>) -> u64
+fn adds_handed(answer: Answer) -> u64
     ensures { result ≡ known.adds_handed answer }
 {
     match answer {
-        Some(Answer::Take(TakeAnswer::Got(_))) => 1,
+        Answer::Take(TakeAnswer::Got(_)) => 1,
         _ => 0,
     }
 }
@@ -54,65 +49,79 @@ fn adds_handed(answer: Option<Answer>) -> u64
 impl Known {
     /// Of a history without calls.
     pub fn nothing() -> Known
-        ensures { result ≡ record { entries = 0; shut = false; handed = replicate 8 0 } }
+        ensures { result ≡ record { sent = 0; entries = 0; shut = false; taken = replicate 8 0; handed = replicate 8 0 } }
     {
         Known {
+            sent: 0,
             entries: 0,
             shut: false,
+            taken: [0; 8],
             handed: [0; 8],
         }
     }
 
-    /// The same after further answers: that of the sender's call at the first place, and that of the group's take at the
-    /// second, where they are there.
-    fn after(self, history: &History, sent: usize, group: usize, taken: usize) -> Known
-        requires group { group < length history.now.takes }
-        requires groups { length history.now.takes ≤ 8 }
-        requires entries { self.entries ≤ sent }
-        requires handed { slice_index_or self.handed group 0 ≤ taken }
-        ensures counted { known.HasCounted self (lists history.now) sent group taken result }
+    /// How many entries the list got. The answers since the last count are counted first.
+    fn entries(&mut self, history: &History) -> u64
+        requires known { IsKnown (lists history.now) self.old }
+        requires order { length history.now.sends.lists.answers ≤ length history.now.sends.lists.calls }
+        ensures entries { result ≡ items.entries (lists history.now) }
+        ensures known { IsKnown (lists history.now) self.new }
     {
-        let call = get(history.sends().calls(), sent);
-        let answer = get(history.sends().answers(), sent);
-        let take = get(history.takes(group).answers(), taken);
-        let shut = adds_shut(answer);
-        let mut handed = self.handed;
-        handed[group] += adds_handed(take);
-        Known {
-            entries: self.entries + adds_entry(self.shut, call, answer),
-            shut: self.shut | shut,
-            handed,
+        let calls = history.sends().calls();
+        let answers = history.sends().answers();
+        for place in self.sent..answers.len() {
+            self.entries += adds_entry(self.shut, calls[place], answers[place]);
+            self.shut |= shuts(answers[place]);
+            self.sent = place + 1;
         }
+        self.entries
     }
 
-    /// Counts the further answers of the history at these places, where there are some: most events decide none.
-    pub fn count(&mut self, history: &History, sent: usize, group: usize, taken: usize)
+    /// How many items a group was handed. The answers since the last count are counted first.
+    fn handed(&mut self, history: &History, group: usize) -> u64
         requires group { group < length history.now.takes }
         requires groups { length history.now.takes ≤ 8 }
-        requires entries { self.old.entries ≤ sent }
-        requires handed { slice_index_or self.old.handed group 0 ≤ taken }
-        ensures counted { known.HasCounted self.old (lists history.now) sent group taken self.new }
+        requires known { IsKnown (lists history.now) self.old }
+        ensures handed { result ≡ length (items.handed (lists history.now) group) }
+        ensures known { IsKnown (lists history.now) self.new }
     {
-        if sent < history.sends().answers().len() || taken < history.takes(group).answers().len() {
-            *self = self.after(history, sent, group, taken);
+        let answers = history.takes(group).answers();
+        let mut handed = self.handed[group];
+        for place in self.taken[group]..answers.len() {
+            handed += adds_handed(answers[place]);
         }
+        self.handed[group] = handed;
+        self.taken[group] = answers.len();
+        handed
     }
 
-    /// What a pass of a side can know, where there are so many groups.
-    pub fn at(self, groups: usize, pass: Pass) -> u64
-        requires low { 1 ≤ groups }
-        requires high { groups ≤ 8 }
-        ensures { result ≡ known.known_count groups self pass }
+    /// How many items every group was handed.
+    fn handed_to_all(&mut self, history: &History) -> u64
+        requires some { 1 ≤ length history.now.takes }
+        requires groups { length history.now.takes ≤ 8 }
+        requires known { IsKnown (lists history.now) self.old }
+        ensures handed { result ≡ items.handed_to_all (lists history.now) }
+        ensures known { IsKnown (lists history.now) self.new }
+    {
+        let mut least = self.handed(history, 0);
+        for group in 1..history.groups() {
+            least = least.min(self.handed(history, group));
+        }
+        least
+    }
+
+    /// What a pass knows that begins a call at this history.
+    pub fn at(&mut self, history: &History, pass: Pass) -> u64
+        requires some { 1 ≤ length history.now.takes }
+        requires groups { length history.now.takes ≤ 8 }
+        requires order { length history.now.sends.lists.answers ≤ length history.now.sends.lists.calls }
+        requires known { IsKnown (lists history.now) self.old }
+        ensures at { result ≡ items.known_at pass (lists history.now) }
+        ensures known { IsKnown (lists history.now) self.new }
     {
         match pass {
-            Pass::Sender(_) => {
-                let mut least = self.handed[0];
-                for group in 1..groups {
-                    least = least.min(self.handed[group]);
-                }
-                least
-            }
-            Pass::Receiver(_) => self.entries,
+            Pass::Sender(_) => self.handed_to_all(history),
+            Pass::Receiver(_) => self.entries(history),
         }
     }
 }

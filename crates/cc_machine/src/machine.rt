@@ -81,9 +81,7 @@ impl Machine {
         ensures err { OnErr result (self.new ≡ self.old) }
         ensures fault { IfErr result (λ fault. IsBeginFault self.old pass call fault) }
     {
-        let known = self
-            .known
-            .at(self.board.setting.config.groups as usize, pass);
+        let known = self.known.at(&self.board.history, pass);
         self.board.begin_call(pass, call, known)
     }
 
@@ -136,12 +134,7 @@ impl Machine {
         ensures run { IsReached self.new }
     {
         let who = self.board.stepper(index, chain);
-        let group = who.group() as usize;
-        let sent = self.board.history.sends().answers().len();
-        let taken = self.board.history.takes(group).answers().len();
-        let event = self.board.event_of(who);
-        self.known.count(&self.board.history, sent, group, taken);
-        event
+        self.board.event_of(who)
     }
 
     /// Whether the pass waits: its next step reads the state of its node, which is still 1, so that the step changes nothing.
