@@ -1,12 +1,12 @@
 -- Further steps of one pass, one by one.
-use Rattle.std.proofs.Common.{◌≡◌, ◌≢◌, inl, inr, ℕ, suc, ◌+◌, Some, refl, sym, ap, subst, ◌∙◌, arith}
+use Rattle.std.proofs.Common.{◌≡◌, ◌≢◌, ◌≤◌, ◌<◌, inl, inr, ℕ, zero, suc, ◌+◌, Some, refl, sym, ap, subst, ◌∙◌, arith}
 use Rattle.std.proofs.lemmas.Bool.{cases_eq}
 use Rattle.cc_machine.specs.Names.{Setting, Event, Kind}
 use Rattle.cc_runs.specs.State.{State}
 use Rattle.cc_runs.specs.Lines.{event_at}
 use Rattle.cc_runs.specs.Step.{stepped}
 use Rattle.cc_machine.specs.View.{View, state_in}
-use Rattle.cc_machine.specs.Machine.{event_in, stepped_on, HasStepped, HasGone}
+use Rattle.cc_machine.specs.Machine.{event_in, stepped_on, last_event, HasStepped, HasGone}
 
 -- none yet
 pub none_gone : (m : View) (p : ℕ) → HasGone m p 0 m
@@ -22,3 +22,19 @@ one_more_gone v m w p n kind g is h = let next : suc n ≡ n + 1 = omega arith i
   where
     last : event_at ((stepped_on v.setting (state_in v) p n).stand p).place ≢ Event.Idle
     last none = absurd (cc (is ∙ ap (λ (s : State). event_at (s.stand p).place) g.state, none))
+
+-- and it is the last
+pub one_more_last : (v m : View) (p n : ℕ) (kind : Kind) → HasGone v p n m → Event.Did kind ≡ event_in m (Some p) → Event.Did kind ≡ last_event v p (n + 1)
+one_more_last v m p n kind g is =
+    let next : suc n ≡ n + 1 = omega arith in
+    is ∙ ap (λ (s : State). event_at (s.stand p).place) g.state ∙ ap (last_event v p) next
+
+-- at most one step
+pub one_step : (v w : View) (p n : ℕ) (last : Event) → n ≤ 1 → HasGone v p n w → last ≡ last_event v p n → (n ≡ 0 → w ≡ v) → (n ≡ 0 → 0 < 1 → event_in v (Some p) ≡ Event.Idle) → (last ≡ event_in v (Some p)) × HasStepped v (Some p) last w
+one_step v w p zero last few g is none idle = (is ∙ sym (idle refl (omega arith)), subst (λ (e : Event). HasStepped v (Some p) e w) (sym is) (none refl))
+one_step v w p (suc zero) last few g is none idle = (is, by last (λ none. g.each 0 (omega arith) (sym is ∙ none)))
+  where
+    by : (e : Event) → e ≢ Event.Idle → HasStepped v (Some p) e w
+    by (Event.Did kind) some = record { setting = g.setting; state = g.state }
+    by Event.Idle some = absurd (some refl)
+one_step v w p (suc (suc n)) last few g is none idle = absurd (omega (arith, few))

@@ -1,10 +1,9 @@
 -- What is counted of a history stays counted as the history goes on, and goes on by further answers.
 use Rattle.std.proofs.Common.{◌≡◌, ◌≢◌, ℕ, ◌+◌, ◌<◌, ◌≤◌, List, [], ◌∷◌, ◌++◌, length, take, set, Bool, true, false, ◌||◌, if◌then◌else◌, Option, Some, None, refl, sym, ap, subst, ◌∙◌, arith, length-append, inl, inr, zero, suc, ◌-◌, map, get_or, slice_index_or, replicate, min}
 use Rattle.std.specs.List.{slice_get, list_any}
-use Rattle.std.proofs.lemmas.Option.{slice_get_cases}
 use Rattle.std.proofs.lemmas.List.{length_push, length-map, length-set, length-take-le, take-append-le, take_all, take_more, get_or-set_same, get_or-set_other}
 use Rattle.cc_model.specs.Record.{Side, Record, empty, of_group}
-use Rattle.cc_model.specs.Items.{accepted_by, accepted_item, sent_item, shuts, entries, handed, handed_by, handed_item, handed_to_all, least}
+use Rattle.cc_model.specs.Items.{accepted_by, accepted_item, sent_item, shuts, handed, handed_by, handed_item, handed_to_all, least}
 use Rattle.cc_machine.specs.Names.{Pass, Call, Item, Entry, Answer, SendAnswer, CloseAnswer, TakeAnswer, Known, Chain}
 use Rattle.cc_model.proofs.Grows.{any-append, accepted_more, handed_by-append}
 use Rattle.cc_runs.specs.State.{side, appended, noted}

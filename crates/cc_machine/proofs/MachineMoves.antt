@@ -1,8 +1,8 @@
 -- The machine of a list stays one by each of its calls.
 use Rattle.std.proofs.Common.{◌≡◌, ◌≢◌, ◌<◌, ◌≤◌, arith, ℕ, length, Option, Some, None, Result, Ok, Err, OnOk, OnErr, refl, sym, ap, subst, ◌∙◌}
-use Rattle.cc_model.specs.Record.{Record, empty, of_group}
+use Rattle.cc_model.specs.Record.{Record, empty}
 use Rattle.cc_model.specs.HistoryRoom.{lists}
-use Rattle.cc_machine.specs.Names.{Call, Answer, Config, Setting, Served, BeginFault, Known, Chain, Board, Event, Place, Sending}
+use Rattle.cc_machine.specs.Names.{Call, Answer, Setting, Served, BeginFault, Known, Chain, Board, Event, Place, Sending}
 use Rattle.cc_runs.specs.State.{State, chain_of, word_of}
 use Rattle.cc_runs.specs.Lines.{operation, enters, decides}
 use Rattle.cc_runs.specs.Step.{stepped}
@@ -12,16 +12,12 @@ use Rattle.cc_machine.specs.View.{View}
 use Rattle.cc_machine.specs.BoardSteps.{view_of, state_of}
 use Rattle.cc_machine.specs.Machine.{HasBegun, HasStepped, HasTaken}
 use Rattle.cc_runs.specs.Words.{groups}
-use Rattle.cc_runs.specs.Lines.{group_of}
-use Rattle.cc_machine.specs.BoardSteps.{IsLaid}
 use Rattle.cc_runs.specs.Run.{passes}
 use Rattle.cc_runs.proofs.Chains.Registers.{HasSide}
 use Rattle.cc_machine.specs.Known.{IsKnown}
 use Rattle.cc_machine.specs.Lawful.{IsLawful, IsMachine}
-use Rattle.cc_machine.proofs.LawfulMoves.{history_in, has_side, is_there}
-use Rattle.cc_runs.specs.OnChain.{IsThere}
+use Rattle.cc_machine.proofs.LawfulMoves.{history_in, has_side}
 use Rattle.cc_runs.proofs.Ranges.{in_range}
-use Rattle.cc_runs.proofs.Chains.Serving.{chain_is}
 use Rattle.cc_machine.proofs.KnownMoves.{IsCounted, counted}
 
 -- ---- calls that leave the history

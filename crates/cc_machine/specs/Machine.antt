@@ -126,6 +126,11 @@ abbrev pub HasGoneOn : View → Option ℕ → ℕ → View → Type 0
 HasGoneOn old None n new = (n ≡ 0) × (new ≡ old)
 HasGoneOn old (Some p) n new = HasGone old p n new
 
+-- the last of so many steps of pass p
+abbrev pub last_event : View → ℕ → ℕ → Event
+last_event m p zero = Event.Idle
+last_event m p (suc n) = event_at ((stepped_on m.setting (state_in m) p n).stand p).place
+
 -- it has no next step, or waits
 abbrev pub HasPaused : View → Option ℕ → Type 0
 HasPaused m row = (event_in m row ≡ Event.Idle) ⊎ (waits_in m row ≡ true)

@@ -17,6 +17,13 @@ pub struct Machine {
     known: Known,
 }
 
+/// How many steps a pass did, and the last of them; `Idle` where there was none.
+#[derive(Clone, Copy)]
+struct Steps {
+    done: u32,
+    last: Event,
+}
+
 impl Model for Machine {
     ghost use Rattle.cc_machine.specs.View.{View};
     ghost use Rattle.cc_machine.specs.BoardSteps.{view_of};
@@ -37,7 +44,7 @@ impl Machine {
     ghost use Rattle.cc_model.specs.HistoryRoom.{lists};
     ghost use Rattle.cc_model.specs.Legal.{Legal};
     ghost use Rattle.cc_model.specs.Fifo.{Fifo};
-    ghost use Rattle.cc_machine.specs.Machine.{IsOpened, index_of, begin_fault, IsBeginFault, IsReached, HasBegun, event_of, event_in, waits_in, StandsStill, HasStepped, HasGoneOn, HasPaused, answer_of, HasTaken};
+    ghost use Rattle.cc_machine.specs.Machine.{IsOpened, index_of, begin_fault, IsBeginFault, IsReached, HasBegun, event_of, event_in, waits_in, StandsStill, HasStepped, HasGone, HasGoneOn, HasPaused, last_event, answer_of, HasTaken};
     ghost use Rattle.cc_runs.specs.State.{chain_of};
     ghost use Rattle.cc_runs.specs.Run.{passes};
     ghost use Rattle.cc_runs.specs.ChainLaws.{IsLastAnswer};
@@ -93,10 +100,7 @@ impl Machine {
         ensures run { IsReached self.new }
     {
         match row(&self.board.setting, pass) {
-            Some(index) => {
-                let chain = self.board.chain(index);
-                self.event_at(index, chain)
-            }
+            Some(index) => self.steps(index, 1).last,
             None => Event::Idle,
         }
     }
@@ -109,19 +113,39 @@ impl Machine {
         ensures ended { (result < most) → HasPaused self.new (index_of self.new.setting pass) }
         ensures run { IsReached self.new }
     {
-        let Some(index) = row(&self.board.setting, pass) else {
-            return 0;
-        };
+        match row(&self.board.setting, pass) {
+            Some(index) => self.steps(index, most).done,
+            None => 0,
+        }
+    }
+
+    /// Up to so many steps of the pass at this place of the row.
+    #[inline(never)]
+    fn steps(&mut self, index: usize, most: u32) -> Steps
+        requires pass { index < passes self.old.setting }
+        ensures most { result.done ≤ most }
+        ensures gone { HasGone self.old index result.done self.new }
+        ensures last { result.last ≡ last_event self.old index result.done }
+        ensures none { result.done ≡ 0 → self.new ≡ self.old }
+        ensures idle { (result.done ≡ 0) → (0 < most) → event_in self.old (Some index) ≡ Event.Idle }
+        ensures ended { (result.done < most) → HasPaused self.new (Some index) }
+        ensures run { IsReached self.new }
+    {
         let chain = self.board.chain(index);
+        let mut last = Event::Idle;
         for done in 0..most {
             let Event::Did(kind) = self.event_at(index, chain) else {
-                return done;
+                return Steps { done, last };
             };
+            last = Event::Did(kind);
             if kind == Kind::ReadState && self.board.is_waiting(index) {
-                return done + 1;
+                return Steps {
+                    done: done + 1,
+                    last,
+                };
             }
         }
-        most
+        Steps { done: most, last }
     }
 
     /// The next step of the pass at this place of the row, whose chain is this one.

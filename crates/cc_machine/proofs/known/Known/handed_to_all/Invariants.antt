@@ -1,4 +1,4 @@
-use Rattle.std.proofs.Common.{◌≡◌, ◌≤◌, ◌-◌, length}
+use Rattle.std.proofs.Common.{◌≡◌, ◌-◌, length}
 use Rattle.cc_model.specs.HistoryRoom.{lists}
 use Rattle.cc_model.specs.Items.{handed}
 use Rattle.cc_machine.specs.Known.{IsKnown, least_of}

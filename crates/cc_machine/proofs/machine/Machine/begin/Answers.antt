@@ -1,4 +1,4 @@
-use Rattle.std.proofs.Common.{◌≡◌, ◌∙◌, ℕ, OnOk, ap, subst, arith}
+use Rattle.std.proofs.Common.{◌≡◌, ℕ, OnOk, ap, subst, arith}
 use Rattle.cc_model.specs.HistoryRoom.{lists}
 use Rattle.cc_model.specs.Items.{known_at}
 use Rattle.cc_model.specs.Record.{Record}
