@@ -1,5 +1,5 @@
 -- What holds between turns, and why a pass without an answer to be taken can begin its next call.
-use Rattle.std.proofs.Common.{◌≡◌, ◌≢◌, ◌<◌, ◌≤◌, ℕ, nat_lt, ◌+◌, ◌-◌, ◌*◌, ◌++◌, List, [], length, get_or, set, take, drop, Bool, true, false, cond, ◌⊎◌, inl, inr, Option, Some, None, Result, Ok, refl, sym, ap, ◌∙◌, subst, arith}
+use Rattle.std.proofs.Common.{◌≡◌, ◌≢◌, ◌<◌, ◌≤◌, ℕ, zero, suc, nat_lt, ◌+◌, ◌-◌, ◌*◌, ◌++◌, List, [], length, get_or, set, take, drop, Bool, true, false, cond, ◌⊎◌, inl, inr, Option, Some, None, Result, Ok, refl, sym, ap, ◌∙◌, subst, arith}
 use Rattle.std.specs.Bool.{⊤}
 use Rattle.std.proofs.lemmas.Bool.{cases_eq}
 use Rattle.std.proofs.lemmas.Bool.Decides.{nat_tests}
@@ -10,7 +10,7 @@ use Rattle.cc_play.specs.Names.{Config, Answer, Call, Pass, BeginFault, Setting,
 use Rattle.cc_runs.specs.Lines.{event_at}
 use Rattle.cc_runs.specs.State.{State, chain_of, hold}
 use Rattle.cc_runs.specs.Run.{begun_after, nowhere, passes}
-use Rattle.cc_machine.specs.Machine.{index_of, IsOpened, IsAfter, event_of, event_in, HasStepped, told_at, told_in, answer_of, HasTaken, HasBegun, begin_fault, fault_at, unless_busy, unless_worn, unless_wrong}
+use Rattle.cc_machine.specs.Machine.{index_of, IsOpened, IsAfter, event_of, event_in, stepped_on, HasStepped, HasGone, HasGoneOn, told_at, told_in, answer_of, HasTaken, HasBegun, begin_fault, fault_at, unless_busy, unless_worn, unless_wrong}
 use Rattle.cc_machine.specs.View.{View, state_in}
 use Rattle.cc_runs.proofs.Chains.Frame.{hold_here, hold_apart}
 use Rattle.cc_plan.specs.Plan.{PlanValue}
@@ -101,6 +101,32 @@ module _ (plan : PlanValue) (who : Pass) (row : ℕ) (named : index_of (setting_
       core (Event.Did kind) h = moved_within plan row m m' begun begun _ at h.setting (after_is m m' _ h.state) (at.sends row) (λ r ne. refl)
       core Event.Idle h = rw h at
 
+  -- many steps leave the other passes, and how many calls this one began
+  others : (c : Setting) (s : State) (n r : ℕ) → r ≢ row → (stepped_on c s row n).stand r ≡ s.stand r
+  others c s zero r ne = refl
+  others c s (suc n) r ne = hold_apart (stepped_on c s row n).stand row r _ ne ∙ others c s n r ne
+
+  own : (c : Setting) (s : State) (n : ℕ) → ((stepped_on c s row n).stand row).begun ≡ (s.stand row).begun
+  own c s zero = refl
+  own c s (suc n) = ap (λ (at : Stand). at.begun) (hold_here (stepped_on c s row n).stand row _) ∙ own c s n
+
+  gone_within : (m m' : View) (begun : List ℕ) (n : ℕ) → IsWithin plan row m begun → HasGoneOn m (index_of m.setting who) n m' → IsWithin plan row m' begun
+  gone_within m m' begun n at did = record {
+    setting = gone.setting ∙ at.setting;
+    taken = λ r ne. ap (λ (s : Stand). told_at s.place) (stands r ∙ others m.setting (state_in m) n r ne) ∙ at.taken r ne;
+    sends = λ r. by r (cases_eq r row);
+  }
+    where
+      gone : HasGone m row n m'
+      gone = subst (λ (o : Option ℕ). HasGoneOn m o n m') (index m at.setting) did
+
+      stands : (r : ℕ) → (state_in m').stand r ≡ (stepped_on m.setting (state_in m) row n).stand r
+      stands r = ap (λ (s : State). s.stand r) gone.state
+
+      by : (r : ℕ) → (r ≡ row) ⊎ (r ≢ row) → ((state_in m').stand r).begun ≤ get_or begun r 0
+      by r (inl same) = rw same (let is = ap (λ (s : Stand). s.begun) (stands row) ∙ own m.setting (state_in m) n in omega (arith, is, at.sends row))
+      by r (inr ne) = let is = ap (λ (s : Stand). s.begun) (stands r ∙ others m.setting (state_in m) n r ne) in omega (arith, is, at.sends r)
+
   begun_within : (m m' : View) (begun : List ℕ) (k : Call) (known : ℕ) → IsWithin plan row m begun → row < length begun → HasBegun m (index_of m.setting who) k known m' → IsWithin plan row m' (set begun row (get_or begun row 0 + 1))
   begun_within m m' begun k known at inside did =
       let h : IsAfter m (Move.Begin row k known) m' = subst (λ (o : Option ℕ). HasBegun m o k known m') (index m at.setting) did in
@@ -132,6 +158,11 @@ module _ (plan : PlanValue) (who : Pass) (row : ℕ) (named : index_of (setting_
   pub did_between : (m m1 m2 : View) (begun : List ℕ) (e : Event) (a : Option Answer) → IsBetweenTurns plan m begun → HasStepped m (index_of m.setting who) e m1
       → a ≡ answer_of m1 who → HasTaken m1 (index_of m1.setting who) a m2 → IsBetweenTurns plan m2 begun
   did_between m m1 m2 begun e a at did told took = taken_between m1 m2 begun a (stepped_within m m1 begun e (enters plan row m begun at) did) told took
+
+  -- one that had so many
+  pub gone_between : (m m1 m2 : View) (begun : List ℕ) (n : ℕ) (a : Option Answer) → IsBetweenTurns plan m begun → HasGoneOn m (index_of m.setting who) n m1
+      → a ≡ answer_of m1 who → HasTaken m1 (index_of m1.setting who) a m2 → IsBetweenTurns plan m2 begun
+  gone_between m m1 m2 begun n a at did told took = taken_between m1 m2 begun a (gone_within m m1 begun n (enters plan row m begun at) did) told took
 
   -- one that began its next call
   pub begun_between : (m m1 m2 m3 : View) (begun : List ℕ) (k : Call) (known : ℕ) (e : Event) (a : Option Answer) → IsBetweenTurns plan m begun → row < length begun → HasBegun m (index_of m.setting who) k known m1

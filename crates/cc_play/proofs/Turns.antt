@@ -1,5 +1,5 @@
 -- One turn of a pass, and what it leaves.
-use Rattle.std.proofs.Common.{◌≡◌, ◌<◌, ◌==◌, ℕ, zero, suc, ◌+◌, ◌-◌, List, ◌∷◌, length, get_or, set, Bool, true, false, cond, Option, Some, None, Ok, refl, sym, ap, ◌∙◌, subst, arith, rules}
+use Rattle.std.proofs.Common.{◌≡◌, ◌≢◌, ◌<◌, ◌≤◌, ◌==◌, ℕ, zero, suc, ◌+◌, ◌-◌, List, ◌∷◌, length, get_or, set, Bool, true, false, cond, Option, Some, None, Ok, refl, sym, ap, ◌∙◌, subst, arith, rules}
 use Rattle.std.proofs.lemmas.Bool.Decides.{nat_tests}
 use Rattle.std.proofs.lemmas.List.{get_or-set_same, get_or-set_other}
 use Rattle.cc_model.specs.Body.{HasBody}
@@ -8,13 +8,13 @@ use Rattle.cc_play.specs.Names.{Answer, Call, Pass, Setting, Event, Kind, Place,
 use Rattle.cc_runs.specs.Lines.{event_at}
 use Rattle.cc_runs.specs.Step.{stepped as machine_stepped}
 use Rattle.cc_runs.specs.State.{State}
-use Rattle.cc_runs.specs.Run.{reached, moved, rests, begins as begun_stand, May, IsFinished}
-use Rattle.cc_machine.specs.Machine.{index_of, IsAfter, begin_fault, StandsStill, event_of, event_in, HasStepped, told_at, told_in, answer_of, HasTaken, HasBegun}
+use Rattle.cc_runs.specs.Run.{reached, moved, rests, begins as begun_stand, May, IsFinished, IsRun}
+use Rattle.cc_machine.specs.Machine.{index_of, IsAfter, begin_fault, StandsStill, event_of, event_in, stepped_on, HasStepped, HasGone, HasGoneOn, told_at, told_in, answer_of, HasTaken, HasBegun}
 use Rattle.cc_machine.specs.View.{View, state_in}
 use Rattle.cc_machine.proofs.Rows.{inside}
 use Rattle.cc_machine.proofs.Faults.{may_begin}
 use Rattle.cc_plan.specs.Plan.{PlanValue}
-use Rattle.cc_play.specs.Schedule.{setting_of, place_in, begun_in, next_call, begins_at, begins, steps_at, steps, takes_at, takes, turn, turns, entry, IsAt, HasEnded, HasTurned}
+use Rattle.cc_play.specs.Schedule.{setting_of, place_in, begun_in, next_call, begins_at, begins, steps_at, steps, takes_at, takes, turn, turns, entry, IsAt, HasEnded, HasTurned, IsOnItsWay}
 
 -- ---- numbers
 
@@ -42,6 +42,15 @@ taken row None run = run
 takes-told : (row : ℕ) (at : Place) (run : List Move) → takes_at row at run ≡ taken row (told_at at) run
 takes-told row (Place.Finished told) run = refl
 takes-told row _ run = refl
+
+-- a pass that has a step has no answer to be taken
+takes-busy : (row : ℕ) (at : Place) (kind : Kind) (run : List Move) → event_at at ≡ Event.Did kind → takes_at row at run ≡ run
+takes-busy row (Place.Finished told) kind run e = cc e
+takes-busy row _ kind run e = refl
+
+did : (e : Event) → e ≢ Event.Idle → (kind : Kind) × (e ≡ Event.Did kind)
+did (Event.Did kind) some = (kind, refl)
+did Event.Idle some = absurd (some refl)
 
 finished_at : (at : Place) (told : Answer) → Some told ≡ told_at at → IsFinished at
 finished_at (Place.Finished answer) told e = tt
@@ -229,29 +238,112 @@ module _ (plan : PlanValue) (who : Pass) (row : ℕ) (named : index_of (setting_
       subst (λ (k : ℕ). IsAt plan m begun (turns plan who row k run)) next
       (still_turn m begun (turns plan who row (n + more) run) reads same (still_turns m begun run reads same n more at))
 
-  -- a pass that waits after a turn reads on to the end of its entry
-  pub waited_turned : (m m1 m2 : View) (begun begun1 begun2 : List ℕ) (n events : ℕ) {event : Event} → n < events
-      → ((run : List Move) → IsAt plan m begun run → IsAt plan m1 begun1 (turns plan who row n run))
-      → HasTurned plan who row m1 m2 begun1 begun2 event → StandsStill m2 (index_of m2.setting who)
-      → (run : List Move) → IsAt plan m begun run → IsAt plan m2 begun2 (entry plan who (index_of (setting_of plan) who) events run)
-  waited_turned m m1 m2 begun begun1 begun2 n events less turned last waits run at =
-      let now : IsAt plan m2 begun2 (turns plan who row (suc n) run) = last.at (turns plan who row n run) (turned run at) in
-      let still : StandsStill m2 (Some row) = subst (λ (o : Option ℕ). StandsStill m2 o) (index m2 begun2 (turns plan who row (suc n) run) now) waits in
-      let rest : suc n + (events - suc n) ≡ events = omega arith in
-      rw named (subst (λ (k : ℕ). IsAt plan m2 begun2 (turns plan who row k run)) rest (still_turns m2 begun2 run still.0 still.1 (suc n) (events - suc n) now))
+  -- ---- many steps in one go
 
-  pub all_turned : (m m' : View) (begun begun' : List ℕ) (n events : ℕ) → n ≡ events
-      → ((run : List Move) → IsAt plan m begun run → IsAt plan m' begun' (turns plan who row n run))
-      → (run : List Move) → IsAt plan m begun run → IsAt plan m' begun' (entry plan who (index_of (setting_of plan) who) events run)
-  all_turned m m' begun begun' n events all turned run at = rw (named, ← all) (turned run at)
+  -- so many steps of the pass
+  abbrev stepping : ℕ → List Move → List Move
+  stepping zero run = run
+  stepping (suc n) run = Move.Step row ∷ stepping n run
 
-  pub no_more_turned : (m m1 m2 : View) (begun begun1 begun2 : List ℕ) (n events : ℕ) {event : Event} → n < events
-      → ((run : List Move) → IsAt plan m begun run → IsAt plan m1 begun1 (turns plan who row n run))
-      → HasTurned plan who row m1 m2 begun1 begun2 event → event ≡ Event.Idle
-      → (run : List Move) → IsAt plan m begun run → IsAt plan m2 begun2 (entry plan who (index_of (setting_of plan) who) events run)
-  no_more_turned m m1 m2 begun begun1 begun2 n events less turned last none run at =
-      let now : IsAt plan m2 begun2 (turns plan who row (suc n) run) = last.at (turns plan who row n run) (turned run at) in
+  -- each of which it had
+  abbrev HadEach : ℕ → List Move → Type 0
+  HadEach n run = (k : ℕ) → k < n → event_at (place_in plan (stepping k run) row) ≢ Event.Idle
+
+  leads : (n : ℕ) (run : List Move) → reached (setting_of plan) (stepping n run) ≡ stepped_on (setting_of plan) (reached (setting_of plan) run) row n
+  leads zero run = refl
+  leads (suc n) run = ap (λ (s : State). machine_stepped (setting_of plan) s row) (leads n run)
+
+  counted : (n : ℕ) (run : List Move) (r : ℕ) → begun_in r (stepping n run) ≡ begun_in r run
+  counted zero run r = refl
+  counted (suc n) run r = counted n run r
+
+  is_run : (n : ℕ) (run : List Move) → IsRun (setting_of plan) run → HadEach n run → IsRun (setting_of plan) (stepping n run)
+  is_run zero run is each = is
+  is_run (suc n) run is each = (is_run n run is (λ k less. each k (omega (arith, less))), (inside (setting_of plan) who row named, each n (omega arith)))
+
+  at_steps : (m m1 : View) (begun : List ℕ) (n : ℕ) (run : List Move) → HasGone m row n m1 → IsAt plan m begun run → HadEach n run × IsAt plan m1 begun (stepping n run)
+  at_steps m m1 begun n run gone at = (
+    each,
+    record {
+      moves = is_run n run at.moves each;
+      setting = gone.setting ∙ at.setting;
+      state = gone.state ∙ same n;
+      rows = at.rows;
+      counts = λ r less. at.counts r less ∙ sym (counted n run r);
+    },
+  )
+    where
+      same : (k : ℕ) → stepped_on m.setting (state_in m) row k ≡ reached (setting_of plan) (stepping k run)
+      same k = ap (λ (c : Setting). stepped_on c (state_in m) row k) at.setting ∙ ap (λ (s : State). stepped_on (setting_of plan) s row k) at.state ∙ sym (leads k run)
+
+      each : HadEach n run
+      each k less none = gone.each k less (ap (λ (s : State). event_at (s.stand row).place) (same k) ∙ none)
+
+  -- they are so many turns, but for the answer
+  turns_are : (n : ℕ) (run : List Move) → told_at (place_in plan run row) ≡ None → HadEach n run → turns plan who row n run ≡ takes plan row (stepping n run)
+  turns_are zero run none each = sym (takes-told row (place_in plan run row) run ∙ ap (λ (told : Option Answer). taken row told run) none)
+  turns_are (suc n) run none each =
+      let before = turns_are n run none (λ k less. each k (omega (arith, less))) in
+      let does = did (event_at (place_in plan (stepping n run) row)) (each n (omega arith)) in
+      ap (turn plan who row) (before ∙ takes-busy row (place_in plan (stepping n run) row) does.0 (stepping n run) does.1)
+      ∙ did_turn (stepping n run) does.0 does.1 ∙ ap (λ (e : Event). takes plan row (steps_at row e (stepping n run))) does.1
+
+  -- so many steps, and the answer taken where there is one then
+  pub gone_turned : (m m1 m2 : View) (begun : List ℕ) (n : ℕ) (a : Option Answer) → told_at ((state_in m).stand row).place ≡ None → HasGoneOn m (index_of m.setting who) n m1
+      → a ≡ answer_of m1 who → HasTaken m1 (index_of m1.setting who) a m2 → (run : List Move) → IsAt plan m begun run → IsAt plan m2 begun (turns plan who row n run)
+  gone_turned m m1 m2 begun n a untold gone told took run at =
+      let steps = at_steps m m1 begun n run (subst (λ (o : Option ℕ). HasGoneOn m o n m1) (index m begun run at) gone) at in
+      let none : told_at (place_in plan run row) ≡ None = sym (ap (λ (s : State). told_at (s.stand row).place) at.state) ∙ untold in
+      rw (turns_are n run none steps.0) (answered m1 m2 begun (stepping n run) a steps.1 told took)
+
+  -- ---- some of an entry's turns
+
+  turns_more : (n more : ℕ) (run : List Move) → turns plan who row more (turns plan who row n run) ≡ turns plan who row (n + more) run
+  turns_more n zero run = ap (λ (k : ℕ). turns plan who row k run) (omega arith)
+  turns_more n (suc more) run =
+      let next : suc (n + more) ≡ n + suc more = omega arith in
+      ap (turn plan who row) (turns_more n more run) ∙ ap (λ (k : ℕ). turns plan who row k run) next
+
+  -- all of them were done
+  pub all_done : (m m1 : View) (begun : List ℕ) (n left : ℕ) → n ≡ left → ((run : List Move) → IsAt plan m begun run → IsAt plan m1 begun (turns plan who row n run)) → IsOnItsWay plan who row m m1 begun begun left 0
+  all_done m m1 begun n left all turned run at = (turns plan who row n run, turned run at, ap (λ (k : ℕ). turns plan who row k run) all)
+
+  -- a pass that waits reads on
+  pub waits_on : (m m1 : View) (begun : List ℕ) (n left : ℕ) → n ≤ left → ((run : List Move) → IsAt plan m begun run → IsAt plan m1 begun (turns plan who row n run))
+      → StandsStill m1 (index_of m1.setting who) → IsOnItsWay plan who row m m1 begun begun left 0
+  waits_on m m1 begun n left less turned waits run at =
+      let now = turned run at in
+      let still : StandsStill m1 (Some row) = subst (λ (o : Option ℕ). StandsStill m1 o) (index m1 begun (turns plan who row n run) now) waits in
+      let rest : n + (left - n) ≡ left = omega arith in
+      (turns plan who row left run, subst (λ (k : ℕ). IsAt plan m1 begun (turns plan who row k run)) rest (still_turns m1 begun run still.0 still.1 n (left - n) now), refl)
+
+  -- one turn more
+  pub turned_on : (m m1 m2 : View) (begun begun2 : List ℕ) (n left rest : ℕ) {event : Event} → n + 1 + rest ≡ left → ((run : List Move) → IsAt plan m begun run → IsAt plan m1 begun (turns plan who row n run))
+      → HasTurned plan who row m1 m2 begun begun2 event → IsOnItsWay plan who row m m2 begun begun2 left rest
+  turned_on m m1 m2 begun begun2 n left rest all turned last run at =
+      let later : suc n + rest ≡ left = omega (arith, all) in
+      (turns plan who row (suc n) run, last.at (turns plan who row n run) (turned run at), turns_more (suc n) rest run ∙ ap (λ (k : ℕ). turns plan who row k run) later)
+
+  -- one turn more, and none to come
+  pub ended_on : (m m1 m2 : View) (begun begun2 : List ℕ) (n left : ℕ) {event : Event} → n < left → ((run : List Move) → IsAt plan m begun run → IsAt plan m1 begun (turns plan who row n run))
+      → HasTurned plan who row m1 m2 begun begun2 event → event ≡ Event.Idle → IsOnItsWay plan who row m m2 begun begun2 left 0
+  ended_on m m1 m2 begun begun2 n left less turned last none run at =
       let over : HasEnded plan who row (turns plan who row (suc n) run) = last.ended (turns plan who row n run) (turned run at) none in
-      let rest : suc n + (events - suc n) ≡ events = omega arith in
-      let same : turns plan who row events run ≡ turns plan who row (suc n) run = ap (λ (k : ℕ). turns plan who row k run) (sym rest) ∙ stays_on (suc n) (events - suc n) run over in
-      rw (named, same) now
+      let rest : suc n + (left - suc n) ≡ left = omega arith in
+      (turns plan who row (suc n) run, last.at (turns plan who row n run) (turned run at), sym (ap (λ (k : ℕ). turns plan who row k run) (sym rest) ∙ stays_on (suc n) (left - suc n) run over))
+
+  -- ---- an entry
+
+  -- what is left after one part is left after both
+  pub on_and_on : (m m1 m2 : View) (begun begun1 begun2 : List ℕ) (events left rest : ℕ) → IsOnItsWay plan who row m m1 begun begun1 events left → IsOnItsWay plan who row m1 m2 begun1 begun2 left rest → IsOnItsWay plan who row m m2 begun begun2 events rest
+  on_and_on m m1 m2 begun begun1 begun2 events left rest first second run at =
+      let here = first run at in
+      let there = second here.0 here.1 in
+      (there.0, there.1, there.2 ∙ here.2)
+
+  pub none_left : (m m1 : View) (begun begun1 : List ℕ) (events left : ℕ) → left ≡ 0 → IsOnItsWay plan who row m m1 begun begun1 events left
+      → (run : List Move) → IsAt plan m begun run → IsAt plan m1 begun1 (entry plan who (index_of (setting_of plan) who) events run)
+  none_left m m1 begun begun1 events left none on run at =
+      let here = on run at in
+      let whole : here.0 ≡ turns plan who row events run = ap (λ (k : ℕ). turns plan who row k here.0) (sym none) ∙ here.2 in
+      rw named (subst (λ (r : List Move). IsAt plan m1 begun1 r) whole here.1)

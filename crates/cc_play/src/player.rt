@@ -8,7 +8,7 @@ ghost use Rattle.cc_machine.specs.View.{state_in};
 ghost use Rattle.cc_machine.specs.Machine.{index_of, HasBegun, begin_fault};
 ghost use Rattle.cc_plan.specs.Plan.{plan_value};
 ghost use Rattle.cc_plan.specs.PlanLaws.{Lawful};
-ghost use Rattle.cc_play.specs.Schedule.{setting_of, next_call, IsAt, IsBetweenTurns, HasTurned, entry, run_of};
+ghost use Rattle.cc_play.specs.Schedule.{setting_of, next_call, IsAt, IsBetweenTurns, HasTurned, IsOnItsWay, entry, run_of};
 
 use cc_machine::{BeginFault, Event, Kind, Machine, OpenFault};
 use cc_model::{Call, Pass};
@@ -64,9 +64,7 @@ pub fn turn(
 {
     match machine.event(pass) {
         Event::Did(kind) => {
-            if kind == Kind::ReadAnswer {
-                machine.answer(pass);
-            }
+            machine.answer(pass);
             Ok(Event::Did(kind))
         }
         Event::Idle => match next_call(plan, pass, begun[row]) {
@@ -82,8 +80,39 @@ pub fn turn(
     }
 }
 
-/// Up to so many events of a pass. A pass that waits reads the same to the end of its entry, so that these events needn't be
-/// done one by one: the machine stands where they lead.
+/// Some of so many events of a pass, of which there is one at least; tells how many are left. None are left where the pass
+/// waits, since it reads the same to the end of its entry, and none where it has no call to begin.
+fn go_on(
+    machine: &mut Machine,
+    begun: &mut [usize],
+    plan: &Plan,
+    pass: Pass,
+    row: usize,
+    left: u32,
+) -> Result<u32, AllocError>
+    requires lawful { Lawful (plan_value plan.now) }
+    requires pass { index_of (setting_of (plan_value plan.now)) pass ≡ Some row }
+    requires row { row < length begun.old }
+    requires between { IsBetweenTurns (plan_value plan.now) machine.old begun.old }
+    requires some { 0 < left }
+    ensures fewer { IfOk result (λ rest. rest < left) }
+    ensures on { IfOk result (λ rest. IsOnItsWay (plan_value plan.now) pass row machine.old machine.new begun.old begun.new left rest) }
+    ensures between { OnOk result (IsBetweenTurns (plan_value plan.now) machine.new begun.new) }
+    ensures rows { length begun.new ≡ length begun.old }
+{
+    let done = machine.events(pass, left);
+    machine.answer(pass);
+    if done == left || machine.is_waiting(pass) {
+        return Ok(0);
+    }
+    match turn(machine, begun, plan, pass, row)? {
+        Event::Did(_) => Ok(left - done - 1),
+        Event::Idle => Ok(0),
+    }
+}
+
+/// Up to so many events of a pass. Where it waits, or has no call to begin, those that are left needn't be done one by one:
+/// the machine stands where they lead.
 fn follow_entry(
     machine: &mut Machine,
     begun: &mut [usize],
@@ -102,16 +131,9 @@ fn follow_entry(
     let Some(row) = Machine::row(&plan.config, pass) else {
         return Ok(());
     };
-    for _done in 0..events {
-        match turn(machine, begun, plan, pass, row)? {
-            Event::Did(Kind::ReadState) => {
-                if machine.is_waiting(pass) {
-                    return Ok(());
-                }
-            }
-            Event::Did(_) => {}
-            Event::Idle => return Ok(()),
-        }
+    let mut left = events;
+    while left > 0 {
+        left = go_on(machine, begun, plan, pass, row, left)?;
     }
     Ok(())
 }
