@@ -3,7 +3,8 @@
 //! Condvar round a VecDeque), `sync_channel` (std's), and `alone` and `alone_released` (the steps on one thread, a send and
 //! a take in turn). Prints how many items went through. `drive` is the driver by hand over a Mutex with Condvars, each
 //! sender with so many items; it prints what `ccq drive` prints.
-//! `stepping` is the plain machine's events by hand, on one thread.
+//! `stepping` is the plain machine's events by hand, on one thread, with room for one word in a body, and `stepping_four`
+//! with room for four, as in the queue.
 mod driver;
 mod queues;
 mod stepping;
@@ -23,7 +24,8 @@ fn main() {
         "sync_channel" => sync_channel(s, r, c, items),
         "alone" => alone::<false>(c, items),
         "alone_released" => alone::<true>(c, items),
-        "stepping" => return stepping::stepping(s, r, capacity, items),
+        "stepping" => return stepping::stepping::<1>(s, r, capacity, items),
+        "stepping_four" => return stepping::stepping::<4>(s, r, capacity, items),
         "drive" => return driver::drive(s, r, c, items),
         _ => panic!("no such mode"),
     };

@@ -1,5 +1,6 @@
 //! The plain machine's events by hand, on one thread: a pass does its next atomic step, with what a call and its answer leave
-//! in the history. Whole calls of one pass after another, sends that are accepted and takes that get their items.
+//! in the history. Whole calls of one pass after another, sends that are accepted and takes that get their items. A body has
+//! room for as many words as `WORDS` says, and so have a node, an item and an entry of the history; the bodies here have one.
 
 #[derive(Clone, Copy)]
 enum At {
@@ -44,7 +45,14 @@ enum At {
     ReadRetBody,
 }
 
-struct Pass {
+/// A body of one to so many words. Its tag says how many.
+#[derive(Clone, Copy)]
+struct Body<const WORDS: usize> {
+    words: [u64; WORDS],
+    length: usize,
+}
+
+struct Pass<const WORDS: usize> {
     at: At,
     is_sender: bool,
     number: u64,
@@ -54,7 +62,8 @@ struct Pass {
     served: u32,
     next: u64,
     tag: u64,
-    body: u64,
+    body: Body<WORDS>,
+    index: usize,
     count: u64,
     node: usize,
     scanned: u64,
@@ -62,9 +71,9 @@ struct Pass {
     ret: u64,
 }
 
-struct Entry {
+struct Entry<const WORDS: usize> {
     pass: usize,
-    body: u64,
+    body: Body<WORDS>,
     number: u64,
 }
 
@@ -80,28 +89,34 @@ const GOT: u64 = 1 << 56;
 const EMPTY: u64 = 2 << 56;
 const BOUND: u32 = 8;
 
-struct Machine {
+struct Machine<const WORDS: usize> {
     words: Vec<u64>,
     d_nodes: usize,
     items: usize,
     capacity: u64,
-    passes: Vec<Pass>,
-    e_calls: Vec<Entry>,
-    d_calls: Vec<Entry>,
+    passes: Vec<Pass<WORDS>>,
+    e_calls: Vec<Entry<WORDS>>,
+    d_calls: Vec<Entry<WORDS>>,
     e_answers: Vec<u64>,
-    d_answers: Vec<(u64, u64, u64)>,
+    d_answers: Vec<(u64, u64, Body<WORDS>)>,
 }
 
-impl Machine {
-    fn open(senders: usize, receivers: usize, capacity: u64) -> Machine {
-        let d_nodes = 16 + 5 * (senders + 1);
-        let items = d_nodes + 5 * (receivers + 1);
-        let mut words = vec![0; items + 4 * (capacity as usize + 2)];
+impl<const WORDS: usize> Machine<WORDS> {
+    /// The words of a node of a chain: its link, its state, its tag and answer, and its body.
+    const NODE: usize = 4 + WORDS;
+    /// The words of an item of the list: its tag, its link, how many groups have passed it, and its body.
+    const ITEM: usize = 3 + WORDS;
+    const NO_BODY: Body<WORDS> = Body { words: [0; WORDS], length: 1 };
+
+    fn open(senders: usize, receivers: usize, capacity: u64) -> Machine<WORDS> {
+        let d_nodes = 16 + Self::NODE * (senders + 1);
+        let items = d_nodes + Self::NODE * (receivers + 1);
+        let mut words = vec![0; items + Self::ITEM * (capacity as usize + 2)];
         for word in [E_TAIL, LAST, CURSOR, D_TAIL, HEAD] {
             words[word] = 1;
         }
         for node in 1..=capacity as usize {
-            words[items + 4 * node + 3] = 1;
+            words[items + Self::ITEM * node + 2] = 1;
         }
         let pass = |is_sender: bool, own: usize| Pass {
             at: At::Idle,
@@ -113,7 +128,8 @@ impl Machine {
             served: 0,
             next: 0,
             tag: 0,
-            body: 0,
+            body: Self::NO_BODY,
+            index: 0,
             count: 0,
             node: 0,
             scanned: 0,
@@ -125,18 +141,32 @@ impl Machine {
         Machine { words, d_nodes, items, capacity, passes, e_calls, d_calls, e_answers, d_answers }
     }
 
+    #[inline(always)]
     /// One step of this pass; where it is idle it begins its next call. Whether the call has finished by it.
     fn event(&mut self, who: usize, body: u64) -> bool {
         let Machine { words, d_nodes, items, capacity, passes, e_calls, d_calls, e_answers, d_answers } = self;
         let pass = &mut passes[who];
         let (tail, nodes) = if pass.is_sender { (E_TAIL, 16) } else { (D_TAIL, *d_nodes) };
-        let (tag_at, body_at, ret_at) = if pass.is_sender { (2, 3, 4) } else { (3, 4, 2) };
-        let node = |n: usize, field: usize| nodes + 5 * n + field;
-        let item = |n: usize, field: usize| *items + 4 * n + field;
+        let (tag_at, ret_at, body_at) = (2, 3, 4);
+        let node = |n: usize, field: usize| nodes + Self::NODE * n + field;
+        let item = |n: usize, field: usize| *items + Self::ITEM * n + field;
+        // How many words of a body with this tag there are.
+        let length = |tag: u64| (tag >> 62) as usize + 1;
+        // The place behind a word of a body.
+        let behind = |index: &mut usize, length: usize, more: At, last: At| {
+            *index += 1;
+            if *index < length {
+                more
+            } else {
+                *index = 0;
+                last
+            }
+        };
         pass.at = match pass.at {
             At::Idle => {
                 pass.number += 1;
-                pass.body = body;
+                pass.body.words[0] = body;
+                pass.body.length = 1;
                 words[node(pass.own, 0)] = 0;
                 At::ResetState
             }
@@ -152,12 +182,12 @@ impl Machine {
                 if pass.is_sender { At::WriteTag } else { At::Link }
             }
             At::WriteTag => {
-                words[node(pass.current, tag_at)] = (who as u64 + 1) << 32 | pass.number;
+                words[node(pass.current, tag_at)] = (pass.body.length as u64 - 1) << 62 | (who as u64 + 1) << 32 | pass.number;
                 At::WriteBody
             }
             At::WriteBody => {
-                words[node(pass.current, body_at)] = pass.body;
-                At::Link
+                words[node(pass.current, body_at + pass.index)] = pass.body.words[pass.index];
+                behind(&mut pass.index, pass.body.length, At::WriteBody, At::Link)
             }
             At::Link => {
                 words[node(pass.current, 0)] = pass.own as u64 + 1;
@@ -182,11 +212,12 @@ impl Machine {
             }
             At::ReadTag => {
                 pass.tag = words[node(pass.job, tag_at)];
+                pass.body.length = length(pass.tag);
                 At::ReadBody
             }
             At::ReadBody => {
-                pass.body = words[node(pass.job, body_at)];
-                At::ReadShut
+                pass.body.words[pass.index] = words[node(pass.job, body_at + pass.index)];
+                behind(&mut pass.index, pass.body.length, At::ReadBody, At::ReadShut)
             }
             At::ReadShut => {
                 assert_eq!(words[SHUT], 0);
@@ -203,7 +234,7 @@ impl Machine {
             }
             At::ReadPassed => {
                 pass.scanned += 1;
-                if words[item(pass.node, 3)] == 1 {
+                if words[item(pass.node, 2)] == 1 {
                     At::ResetPassed
                 } else if pass.scanned > *capacity {
                     e_answers.push(EMPTY);
@@ -215,11 +246,11 @@ impl Machine {
                 }
             }
             At::ResetPassed => {
-                words[item(pass.node, 3)] = 0;
+                words[item(pass.node, 2)] = 0;
                 At::ResetItemNext
             }
             At::ResetItemNext => {
-                words[item(pass.node, 2)] = 0;
+                words[item(pass.node, 1)] = 0;
                 At::WriteItemTag
             }
             At::WriteItemTag => {
@@ -227,15 +258,15 @@ impl Machine {
                 At::WriteItemBody
             }
             At::WriteItemBody => {
-                words[item(pass.node, 1)] = pass.body;
-                At::ReadLast
+                words[item(pass.node, 3 + pass.index)] = pass.body.words[pass.index];
+                behind(&mut pass.index, pass.body.length, At::WriteItemBody, At::ReadLast)
             }
             At::ReadLast => {
                 pass.link = words[LAST];
                 At::LinkLast
             }
             At::LinkLast => {
-                words[item(pass.link as usize - 1, 2)] = pass.node as u64 + 1;
+                words[item(pass.link as usize - 1, 1)] = pass.node as u64 + 1;
                 pass.ret = GOT + pass.count;
                 e_answers.push(pass.ret);
                 At::WriteLast
@@ -261,10 +292,10 @@ impl Machine {
                 At::ReadDummyNext
             }
             At::ReadDummyNext => {
-                pass.link = words[item(pass.node, 2)];
+                pass.link = words[item(pass.node, 1)];
                 if pass.link == 0 {
                     pass.ret = EMPTY;
-                    d_answers.push((EMPTY, 0, 0));
+                    d_answers.push((EMPTY, 0, Self::NO_BODY));
                     At::WriteRet
                 } else {
                     At::ReadItemTag
@@ -272,11 +303,12 @@ impl Machine {
             }
             At::ReadItemTag => {
                 pass.tag = words[item(pass.link as usize - 1, 0)];
+                pass.body.length = length(pass.tag);
                 At::ReadItemBody
             }
             At::ReadItemBody => {
-                pass.body = words[item(pass.link as usize - 1, 1)];
-                At::WriteHead
+                pass.body.words[pass.index] = words[item(pass.link as usize - 1, 3 + pass.index)];
+                behind(&mut pass.index, pass.body.length, At::ReadItemBody, At::WriteHead)
             }
             At::WriteHead => {
                 words[HEAD] = pass.link;
@@ -287,7 +319,7 @@ impl Machine {
                 At::AddPassed
             }
             At::AddPassed => {
-                words[item(pass.node, 3)] += 1;
+                words[item(pass.node, 2)] += 1;
                 pass.ret = GOT + pass.count;
                 d_answers.push((pass.ret, pass.tag, pass.body));
                 At::WriteRet
@@ -301,8 +333,8 @@ impl Machine {
                 At::WriteRetBody
             }
             At::WriteRetBody => {
-                words[node(pass.job, body_at)] = pass.body;
-                At::MarkDone
+                words[node(pass.job, body_at + pass.index)] = pass.body.words[pass.index];
+                behind(&mut pass.index, pass.body.length, At::WriteRetBody, At::MarkDone)
             }
             At::MarkDone => {
                 words[node(pass.job, 1)] = 2;
@@ -325,12 +357,16 @@ impl Machine {
             }
             At::ReadRetTag => {
                 pass.tag = words[node(pass.current, tag_at)];
+                pass.body.length = length(pass.tag);
                 At::ReadRetBody
             }
             At::ReadRetBody => {
-                pass.body = words[node(pass.current, body_at)];
-                pass.own = pass.current;
-                At::Idle
+                pass.body.words[pass.index] = words[node(pass.current, body_at + pass.index)];
+                let place = behind(&mut pass.index, pass.body.length, At::ReadRetBody, At::Idle);
+                if let At::Idle = place {
+                    pass.own = pass.current;
+                }
+                place
             }
         };
         matches!(pass.at, At::Idle)
@@ -351,8 +387,8 @@ impl Machine {
 
 /// Does `items` sends of each sender, and takes them all, 3,500 whole calls of one pass after another (or `capacity`, where
 /// that is less). Prints how many events there were, and their time.
-pub fn stepping(senders: usize, receivers: usize, capacity: u64, items: u64) {
-    let mut machine = Machine::open(senders, receivers, capacity);
+pub fn stepping<const WORDS: usize>(senders: usize, receivers: usize, capacity: u64, items: u64) {
+    let mut machine = Machine::<WORDS>::open(senders, receivers, capacity);
     let turn = capacity.min(3500);
     let (mut sent, mut taken, mut events) = (vec![0; senders], 0, 0u64);
     let start = std::time::Instant::now();
@@ -370,7 +406,7 @@ pub fn stepping(senders: usize, receivers: usize, capacity: u64, items: u64) {
     let time = start.elapsed().as_secs_f64();
     let got = machine.d_answers.iter().zip(0..).filter(|(answer, place)| answer.0 == GOT + place).count();
     assert_eq!(got as u64, taken);
-    let known: u64 = machine.e_calls.iter().chain(&machine.d_calls).map(|c| c.body + c.number + c.pass as u64).sum();
+    let known: u64 = machine.e_calls.iter().chain(&machine.d_calls).map(|c| c.body.words[0] + c.number + c.pass as u64).sum();
     std::hint::black_box((known, &machine.e_answers));
     println!("{events} events in {time:.2} s: {:.1} ns each", time * 1e9 / events as f64);
 }
