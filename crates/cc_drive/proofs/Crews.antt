@@ -1,5 +1,5 @@
 -- Workers that are gathered, one after another.
-use Rattle.std.proofs.Common.{◌≡◌, ◌≢◌, ℕ, suc, ◌+◌, length, subst, Bool, true, false, ◌&&◌, List, [], ◌∷◌, ◌++◌, Option, Some, None, IfSome, if◌then◌else◌, map, is_some, refl, sym, ap, ◌∙◌, append_assoc}
+use Rattle.std.proofs.Common.{◌≡◌, ◌≢◌, ℕ, suc, ◌+◌, length, subst, Bool, true, false, ◌&&◌, List, [], ◌∷◌, ◌++◌, Option, Some, None, IfSome, if◌then◌else◌, map, is_some, refl, sym, ap, ◌∙◌, append_assoc, append-nil}
 use Rattle.std.specs.List.{AllByRecursion}
 use Rattle.std.specs.Option.{option_to_list}
 use Rattle.cc_drive.specs.Row.{InRow}
@@ -32,6 +32,18 @@ pub missing_now : {D P : Type 0} (pass : D → Option P) (limited now all : Opti
 missing_now pass limited now all n d ds rest front is was =
     ap (λ x. sooner x (least_missing (n + 1) (map pass rest))) is ∙ sooner_more limited (if is_some (pass d) then None else Some n) (least_missing (n + 1) (map pass rest)) ∙ ap (sooner limited) (sym (missing_more n (pass d) (map pass rest)))
     ∙ ap (λ l. sooner limited (least_missing n (map pass l))) (sym front) ∙ was
+
+-- at the end none is left
+pub none_left : {D A : Type 0} (of : List D → List A) (xs all : List A) (ds : List D) → of [] ≡ [] → ds ≡ [] → xs ++ of ds ≡ all → xs ≡ all
+none_left of xs all ds none end was = sym (append-nil xs) ∙ ap (λ l. xs ++ l) (sym none) ∙ ap (λ l. xs ++ of l) (sym end) ∙ was
+
+-- nor is one missing behind the end
+pub missing_end : {D P : Type 0} (pass : D → Option P) (limited all : Option ℕ) (n : ℕ) (ds : List D) → ds ≡ [] → sooner limited (least_missing n (map pass ds)) ≡ all → limited ≡ all
+missing_end pass limited all n ds end was = sym (sooner_none limited) ∙ ap (λ l. sooner limited (least_missing n (map pass l))) (sym end) ∙ was
+  where
+    sooner_none : {A : Type 0} (x : Option A) → sooner x None ≡ x
+    sooner_none (Some x) = refl
+    sooner_none None = refl
 
 -- both of two, where both together
 pub first_too : (a b : Bool) → (a && b) ≡ true → a ≡ true
