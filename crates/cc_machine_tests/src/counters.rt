@@ -30,35 +30,55 @@ fn refuses<R: Abort>(rt: &R, machine: &mut CounterMachine, pass: u32, fault: Beg
     assert_eq!(rt; machine.begin(pass, 6), Err(fault));
 }
 
+/// An event of a pass.
+fn does<R: Abort>(rt: &R, machine: &mut CounterMachine, pass: u32, event: Event) {
+    assert_eq!(rt; machine.event(pass), event);
+}
+
+/// What a pass is answered, if it is.
+fn tells<R: Abort>(rt: &R, machine: &mut CounterMachine, pass: u32, answer: Option<u64>) {
+    assert_eq!(rt; machine.answer(pass), answer);
+}
+
 /// Lets a pass do so many events, each of which is a step, and gives no answer before.
 fn steps<R: Abort>(rt: &R, machine: &mut CounterMachine, pass: u32, events: u32) {
     for _ in 0..events {
-        assert_eq!(rt; machine.answer(pass), None);
+        tells(rt, machine, pass, None);
         assert_ne!(rt; machine.event(pass), Event::Idle);
     }
 }
 
-/// The last event of a call, which isn't answered before. No further call is begun before its answer is told, once.
+/// The last event of a call, which isn't answered before.
+fn reads_answer<R: Abort>(rt: &R, machine: &mut CounterMachine, pass: u32) {
+    tells(rt, machine, pass, None);
+    does(rt, machine, pass, Event::Did(Kind::ReadAnswer));
+    does(rt, machine, pass, Event::Idle);
+}
+
+/// The last event of a call. No further call is begun before its answer is told, once.
 fn ends<R: Abort>(rt: &R, machine: &mut CounterMachine, pass: u32, number: u64) {
-    assert_eq!(rt; machine.answer(pass), None);
-    assert_eq!(rt; machine.event(pass), Event::Did(Kind::ReadAnswer));
-    assert_eq!(rt; machine.event(pass), Event::Idle);
+    reads_answer(rt, machine, pass);
     refuses(rt, machine, pass, BeginFault::Busy);
-    assert_eq!(rt; machine.answer(pass), Some(number));
-    assert_eq!(rt; machine.answer(pass), None);
+    tells(rt, machine, pass, Some(number));
+    tells(rt, machine, pass, None);
+}
+
+/// A lone call with this bound: it has so many events before its last one.
+fn counts_alone<R: Abort>(rt: &R, alloc: Global, bound: u32, events: u32) {
+    let mut machine = opened(rt, alloc, &config(1, bound, 1));
+    begins(rt, &mut machine, 1);
+    steps(rt, &mut machine, 1, events);
+    ends(rt, &mut machine, 1, 0);
 }
 
 #[test]
 fn counter_rows(rt: HostRuntime) {
-    let mut machine = opened(&rt, rt.alloc(), &config(1, 2, 1));
-    begins(&rt, &mut machine, 1);
-    steps(&rt, &mut machine, 1, 16);
-    ends(&rt, &mut machine, 1, 0);
-    let mut machine = opened(&rt, rt.alloc(), &config(1, 1, 1));
-    begins(&rt, &mut machine, 1);
-    steps(&rt, &mut machine, 1, 15);
-    ends(&rt, &mut machine, 1, 0);
+    counts_alone(&rt, rt.alloc(), 2, 16);
+    counts_alone(&rt, rt.alloc(), 1, 15);
 }
+
+/// Events of three passes by turns.
+const TURNS: [(u32, u32); 6] = [(1, 3), (2, 6), (3, 6), (1, 19), (2, 1), (3, 10)];
 
 #[test]
 fn counter_row_of_three(rt: HostRuntime) {
@@ -66,34 +86,48 @@ fn counter_row_of_three(rt: HostRuntime) {
     for pass in 1..4 {
         begins(&rt, &mut machine, pass);
     }
-    steps(&rt, &mut machine, 1, 3);
-    steps(&rt, &mut machine, 2, 6);
-    steps(&rt, &mut machine, 3, 6);
-    steps(&rt, &mut machine, 1, 19);
-    steps(&rt, &mut machine, 2, 1);
-    steps(&rt, &mut machine, 3, 10);
+    for (pass, events) in TURNS {
+        steps(&rt, &mut machine, pass, events);
+    }
     for pass in 1..4 {
         ends(&rt, &mut machine, pass, u64::from(pass) - 1);
     }
 }
 
 #[test]
-fn counter_refuses(rt: HostRuntime) {
+fn counter_without_a_bound(rt: HostRuntime) {
     let narrow = CounterMachine::open(rt.alloc(), &config(3, 0, 0));
     assert_eq!(rt; narrow.err(), Some(OpenFault::Config(ConfigFault::Bound)));
+}
+
+/// A pass that isn't there begins no call, does nothing and is told nothing.
+fn is_not_there<R: Abort>(rt: &R, machine: &mut CounterMachine, pass: u32) {
+    refuses(rt, machine, pass, BeginFault::NoSuchPass);
+    does(rt, machine, pass, Event::Idle);
+    tells(rt, machine, pass, None);
+}
+
+/// A call of a pass that was idle before. It begins no other one meanwhile.
+fn begins_one<R: Abort>(rt: &R, machine: &mut CounterMachine, pass: u32) {
+    does(rt, machine, pass, Event::Idle);
+    begins(rt, machine, pass);
+    refuses(rt, machine, pass, BeginFault::Busy);
+}
+
+/// A whole call of a lone pass with bound 1.
+fn counts<R: Abort>(rt: &R, machine: &mut CounterMachine, number: u64) {
+    begins_one(rt, machine, 1);
+    steps(rt, machine, 1, 15);
+    ends(rt, machine, 1, number);
+}
+
+#[test]
+fn counter_refuses(rt: HostRuntime) {
     let mut machine = opened(&rt, rt.alloc(), &config(1, 1, 2));
-    for pass in [0, 2] {
-        refuses(&rt, &mut machine, pass, BeginFault::NoSuchPass);
-        assert_eq!(rt; machine.event(pass), Event::Idle);
-        assert_eq!(rt; machine.answer(pass), None);
-    }
-    for number in 0..2 {
-        assert_eq!(rt; machine.event(1), Event::Idle);
-        begins(&rt, &mut machine, 1);
-        refuses(&rt, &mut machine, 1, BeginFault::Busy);
-        steps(&rt, &mut machine, 1, 15);
-        ends(&rt, &mut machine, 1, number);
-    }
+    is_not_there(&rt, &mut machine, 0);
+    is_not_there(&rt, &mut machine, 2);
+    counts(&rt, &mut machine, 0);
+    counts(&rt, &mut machine, 1);
     refuses(&rt, &mut machine, 1, BeginFault::Worn);
 }
 
@@ -116,6 +150,18 @@ const ANSWERS: [(u32, u64); 14] = [
     (2, 14),
 ];
 
+/// An event of a pass, which begins a call where it is idle.
+fn goes_on(machine: &mut CounterMachine, pass: u32) -> Option<u64> {
+    let _begun = machine.begin(pass, 1);
+    let _event = machine.event(pass);
+    machine.answer(pass)
+}
+
+/// An answer is that of the model at this place.
+fn is_due<R: Abort>(rt: &R, place: usize, pass: u32, answer: u64) {
+    assert_eq!(rt; ANSWERS.get(place), Some(&(pass, answer)));
+}
+
 #[test]
 fn counter_in_any_order(rt: HostRuntime) {
     let mut machine = opened(&rt, rt.alloc(), &config(3, 2, 100));
@@ -124,11 +170,9 @@ fn counter_in_any_order(rt: HostRuntime) {
     for _ in 0..400 {
         number = number.wrapping_mul(1103515245).wrapping_add(12345) % 2147483648;
         let pass = (number / 65536 % 3) as u32 + 1;
-        let _begun = machine.begin(pass, 1);
-        let _event = machine.event(pass);
-        if let Some(answer) = machine.answer(pass) {
-            assert_eq!(rt; ANSWERS.get(told), Some(&(pass, answer)));
-            told += 1;
+        if let Some(answer) = goes_on(&mut machine, pass) {
+            is_due(&rt, told, pass, answer);
+            told = told.wrapping_add(1);
         }
     }
     assert_eq!(rt; told, ANSWERS.len());

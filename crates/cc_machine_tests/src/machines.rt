@@ -95,13 +95,17 @@ fn accepted(place: u64) -> Answer {
     Answer::Send(SendAnswer::Accepted { place })
 }
 
-fn got(place: u64, sender: u32, number: u32, body: Body) -> Answer {
-    Answer::Take(TakeAnswer::Got(Item {
+fn item(place: u64, sender: u32, number: u32, body: Body) -> Item {
+    Item {
         place,
         sender,
         number,
         body,
-    }))
+    }
+}
+
+fn got(item: Item) -> Answer {
+    Answer::Take(TakeAnswer::Got(item))
 }
 
 /// A machine after so many events of each pass in turn, each of which begins its next call where it is idle, and takes
@@ -138,65 +142,121 @@ fn has(machine: &Machine, sent: &[Answer], taken: &[Answer]) -> bool {
         && history.takes(0).answers() == taken
 }
 
-/// Does the events of a lone call of a body of so many words: of these kinds, and those at these places once for each
-/// word. How many there were, and at which of them the call was decided.
-fn lone_call(
-    rt: &impl Abort,
+/// A machine of one sender and one receiver, with room for so many items.
+fn opened<R: Abort>(rt: &R, alloc: Global, capacity: u32) -> Machine {
+    Machine::open(alloc, &config(1, 1, capacity, 2, 10)).expect(rt, "opens")
+}
+
+/// A call that is begun.
+fn begins<R: Abort>(rt: &R, machine: &mut Machine, pass: Pass, call: Call) {
+    assert_eq!(rt; machine.begin(pass, call), Ok(()));
+}
+
+/// A call that isn't begun, for this fault.
+fn refuses<R: Abort>(rt: &R, machine: &mut Machine, pass: Pass, call: Call, fault: BeginFault) {
+    assert_eq!(rt; machine.begin(pass, call), Err(fault));
+}
+
+/// An event of a pass.
+fn does<R: Abort>(rt: &R, machine: &mut Machine, pass: Pass, event: Event) {
+    assert_eq!(rt; machine.event(pass), event);
+}
+
+/// What a pass is answered, if it is.
+fn tells<R: Abort>(rt: &R, machine: &mut Machine, pass: Pass, answer: Option<Answer>) {
+    assert_eq!(rt; machine.answer(pass), answer);
+}
+
+/// A step of a call that isn't answered before, done so many times.
+fn steps<R: Abort>(rt: &R, machine: &mut Machine, pass: Pass, kind: Kind, times: usize) {
+    for _ in 0..times {
+        tells(rt, machine, pass, None);
+        does(rt, machine, pass, Event::Did(kind));
+    }
+}
+
+/// The events of a lone call of a body of so many words: of these kinds, and those at these places once for each word. How
+/// many there were, and at which of them the call was decided.
+fn events_of<R: Abort>(
+    rt: &R,
     machine: &mut Machine,
     pass: Pass,
     kinds: &[Kind],
     at_words: &[usize],
     words: usize,
-) -> (u32, u32) {
-    let mut events: u32 = 0;
+) -> (usize, usize) {
+    let mut events: usize = 0;
     let mut decided = 0;
     for (place, kind) in kinds.iter().enumerate() {
         let times = if at_words.contains(&place) { words } else { 1 };
-        for _ in 0..times {
-            assert_eq!(rt; machine.answer(pass), None);
-            assert_eq!(rt; machine.event(pass), Event::Did(*kind));
-            events = events.wrapping_add(1);
-            if *kind == Kind::LinkLast || *kind == Kind::AddPassed {
-                decided = events;
-            }
+        steps(rt, machine, pass, *kind, times);
+        events = events.wrapping_add(times);
+        if *kind == Kind::LinkLast || *kind == Kind::AddPassed {
+            decided = events;
         }
     }
-    assert_eq!(rt; machine.event(pass), Event::Idle);
     (events, decided)
+}
+
+/// Behind the last event of a call its pass is idle, and it is answered once.
+fn ends<R: Abort>(rt: &R, machine: &mut Machine, pass: Pass, answer: Answer) {
+    does(rt, machine, pass, Event::Idle);
+    tells(rt, machine, pass, Some(answer));
+    tells(rt, machine, pass, None);
+}
+
+/// A lone send: how many events it has, and at which of them it is decided.
+fn sends<R: Abort>(rt: &R, machine: &mut Machine, item: Item, due: (usize, usize)) {
+    let words = item.body.words().len();
+    begins(rt, machine, FIRST_SENDER, Call::Send(item.body));
+    let events = events_of(rt, machine, FIRST_SENDER, &SEND, &SEND_WORDS, words);
+    assert_eq!(rt; events, due);
+    ends(rt, machine, FIRST_SENDER, accepted(item.place));
+}
+
+/// A lone take, which gets an item of the first sender.
+fn takes<R: Abort>(rt: &R, machine: &mut Machine, item: Item, due: (usize, usize)) {
+    let words = item.body.words().len();
+    begins(rt, machine, FIRST_RECEIVER, Call::Take);
+    let events = events_of(rt, machine, FIRST_RECEIVER, &TAKE, &TAKE_WORDS, words);
+    assert_eq!(rt; events, due);
+    ends(rt, machine, FIRST_RECEIVER, got(item));
+}
+
+/// A take of the first receiver that knew so much of the history.
+fn take_knowing(known: u64) -> Entry {
+    Entry {
+        pass: FIRST_RECEIVER,
+        call: Call::Take,
+        number: 0,
+        known,
+    }
+}
+
+/// Whether these are the calls of a machine of one group.
+fn has_takes(machine: &Machine, calls: &[Entry]) -> bool {
+    let history = machine.history();
+    history.groups() == 1 && history.takes(0).calls() == calls
 }
 
 /// Nodes that had a longer body before are used again for a shorter one, and the other way round.
 #[test]
 fn lone_calls(rt: HostRuntime) {
-    let mut machine = Machine::open(rt.alloc(), &config(1, 1, 1, 2, 10)).expect(&rt, "opens");
-    for (place, number, body, sent, taken) in [
-        (0, 1, Body::four(1, 2, 3, u64::MAX), (37, 29), (32, 17)),
-        (1, 2, Body::one(7), (28, 20), (23, 14)),
-        (2, 3, Body::two(0, 5), (31, 23), (26, 15)),
-        (3, 4, Body::three(8, 0, 9), (34, 26), (29, 16)),
+    let mut machine = opened(&rt, rt.alloc(), 1);
+    for (item, sent, taken) in [
+        (
+            item(0, 1, 1, Body::four(1, 2, 3, u64::MAX)),
+            (37, 29),
+            (32, 17),
+        ),
+        (item(1, 1, 2, Body::one(7)), (28, 20), (23, 14)),
+        (item(2, 1, 3, Body::two(0, 5)), (31, 23), (26, 15)),
+        (item(3, 1, 4, Body::three(8, 0, 9)), (34, 26), (29, 16)),
     ] {
-        let words = body.words().len();
-        assert_eq!(rt; machine.begin(FIRST_SENDER, Call::Send(body)), Ok(()));
-        let events = lone_call(&rt, &mut machine, FIRST_SENDER, &SEND, &SEND_WORDS, words);
-        assert_eq!(rt; events, sent);
-        assert_eq!(rt; machine.answer(FIRST_SENDER), Some(accepted(place)));
-        assert_eq!(rt; machine.begin(FIRST_RECEIVER, Call::Take), Ok(()));
-        let events = lone_call(&rt, &mut machine, FIRST_RECEIVER, &TAKE, &TAKE_WORDS, words);
-        assert_eq!(rt; events, taken);
-        assert_eq!(rt;
-            machine.answer(FIRST_RECEIVER),
-            Some(got(place, 1, number, body))
-        );
-        assert_eq!(rt; machine.answer(FIRST_RECEIVER), None);
+        sends(&rt, &mut machine, item, sent);
+        takes(&rt, &mut machine, item, taken);
     }
-    let want = [1, 2, 3, 4].map(|known| Entry {
-        pass: FIRST_RECEIVER,
-        call: Call::Take,
-        number: 0,
-        known,
-    });
-    let history = machine.history();
-    assert!(rt; history.groups() == 1 && history.takes(0).calls() == &want[..]);
+    assert!(rt; has_takes(&machine, &[1, 2, 3, 4].map(take_knowing)));
 }
 
 #[test]
@@ -249,7 +309,7 @@ fn node_used_again(rt: HostRuntime) {
         has(
             &machine,
             &[accepted(0), full, accepted(1)],
-            &[got(0, 1, 1, Body::one(5))]
+            &[got(item(0, 1, 1, Body::one(5)))]
         )
     );
 }
@@ -285,55 +345,62 @@ fn configurations_that_are_refused(rt: HostRuntime) {
     }
 }
 
-#[test]
-fn machine_refuses(rt: HostRuntime) {
-    let mut machine = Machine::open(rt.alloc(), &config(1, 1, 4, 2, 10)).expect(&rt, "opens");
+/// A pass that isn't there begins no call, does nothing and is told nothing.
+fn is_not_there<R: Abort>(rt: &R, machine: &mut Machine, pass: Pass) {
+    refuses(rt, machine, pass, Call::Take, BeginFault::NoSuchPass);
+    does(rt, machine, pass, Event::Idle);
+    tells(rt, machine, pass, None);
+}
+
+/// A call that is begun. Its pass begins no other one before it is told its answer.
+fn begins_one<R: Abort>(rt: &R, machine: &mut Machine, pass: Pass, call: Call) {
+    begins(rt, machine, pass, call);
+    refuses(rt, machine, pass, Call::Close, BeginFault::Busy);
+}
+
+/// The answer of a call that has no more events.
+fn ends_one<R: Abort>(rt: &R, machine: &mut Machine, pass: Pass, answer: Answer) {
+    refuses(rt, machine, pass, Call::Close, BeginFault::Busy);
+    tells(rt, machine, pass, Some(answer));
+}
+
+/// A send of the first sender.
+fn sends_one<R: Abort>(rt: &R, machine: &mut Machine, place: u64) {
+    begins_one(rt, machine, FIRST_SENDER, Call::Send(Body::one(5)));
+    for _ in 0..28 {
+        let _event = machine.event(FIRST_SENDER);
+    }
+    ends_one(rt, machine, FIRST_SENDER, accepted(place));
+}
+
+/// Passes that aren't there, and calls of the other side.
+fn refuses_strangers<R: Abort>(rt: &R, machine: &mut Machine) {
     for pass in [
         Pass::Sender(0),
         SECOND_SENDER,
         Pass::Receiver(0),
         SECOND_RECEIVER,
     ] {
-        assert_eq!(rt;
-            machine.begin(pass, Call::Take),
-            Err(BeginFault::NoSuchPass)
-        );
-        assert_eq!(rt; machine.event(pass), Event::Idle);
-        assert_eq!(rt; machine.answer(pass), None);
+        is_not_there(rt, machine, pass);
     }
-    assert_eq!(rt;
-        machine.begin(FIRST_SENDER, Call::Take),
-        Err(BeginFault::WrongSide)
-    );
-    assert_eq!(rt;
-        machine.begin(FIRST_RECEIVER, Call::Send(Body::one(5))),
-        Err(BeginFault::WrongSide)
-    );
-    assert_eq!(rt;
-        machine.begin(FIRST_RECEIVER, Call::Close),
-        Err(BeginFault::WrongSide)
-    );
+    for (pass, call) in [
+        (FIRST_SENDER, Call::Take),
+        (FIRST_RECEIVER, Call::Send(Body::one(5))),
+        (FIRST_RECEIVER, Call::Close),
+    ] {
+        refuses(rt, machine, pass, call, BeginFault::WrongSide);
+    }
+}
+
+/// A sender that has made all its sends makes no further one, but it closes.
+#[test]
+fn machine_refuses(rt: HostRuntime) {
+    let mut machine = opened(&rt, rt.alloc(), 4);
+    refuses_strangers(&rt, &mut machine);
     for place in 0..4 {
-        assert_eq!(rt;
-            machine.begin(FIRST_SENDER, Call::Send(Body::one(5))),
-            Ok(())
-        );
-        assert_eq!(rt;
-            machine.begin(FIRST_SENDER, Call::Close),
-            Err(BeginFault::Busy)
-        );
-        for _ in 0..28 {
-            let _event = machine.event(FIRST_SENDER);
-        }
-        assert_eq!(rt;
-            machine.begin(FIRST_SENDER, Call::Close),
-            Err(BeginFault::Busy)
-        );
-        assert_eq!(rt; machine.answer(FIRST_SENDER), Some(accepted(place)));
+        sends_one(&rt, &mut machine, place);
     }
-    assert_eq!(rt;
-        machine.begin(FIRST_SENDER, Call::Send(Body::one(5))),
-        Err(BeginFault::Worn)
-    );
-    assert_eq!(rt; machine.begin(FIRST_SENDER, Call::Close), Ok(()));
+    let send = Call::Send(Body::one(5));
+    refuses(&rt, &mut machine, FIRST_SENDER, send, BeginFault::Worn);
+    begins(&rt, &mut machine, FIRST_SENDER, Call::Close);
 }
