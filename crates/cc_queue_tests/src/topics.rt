@@ -45,108 +45,106 @@ fn by_letters<R: Abort>(rt: &R, alloc: Global, count: usize) -> Vec<(&'static st
     topics
 }
 
+/// By which number a name is found.
+fn finds<R: Abort>(rt: &R, broker: &Broker, name: &str, number: Option<usize>) {
+    assert_eq!(rt; broker.topic(name), number);
+}
+
+/// Whether there is a queue of this number.
+fn has_queue<R: Abort>(rt: &R, broker: &Broker, number: usize, is_there: bool) {
+    assert_eq!(rt; broker.queue(number).is_some(), is_there);
+}
+
+/// A broker of these topics finds each of them by its place, and none by these names; and there are just as many queues.
+fn finds_each<R: Abort>(rt: &R, alloc: Global, topics: &[(&str, Config)], strangers: &[&str]) {
+    let broker = opened(rt, alloc, topics).broker;
+    for (place, (name, _)) in topics.iter().enumerate() {
+        finds(rt, &broker, name, Some(place));
+        has_queue(rt, &broker, place, true);
+    }
+    for name in strangers {
+        finds(rt, &broker, name, None);
+    }
+    has_queue(rt, &broker, topics.len(), false);
+}
+
 #[test]
 fn names_and_numbers(rt: HostRuntime) {
-    let broker = opened(&rt, rt.alloc(), &[("a", SMALL), ("b", SMALL)]).broker;
-    assert_eq!(rt; broker.topic("a"), Some(0));
-    assert_eq!(rt; broker.topic("b"), Some(1));
-    assert_eq!(rt; broker.topic("c"), None);
-    assert!(rt; broker.queue(0).is_some());
-    assert!(rt; broker.queue(1).is_some());
-    assert!(rt; broker.queue(2).is_none());
+    finds_each(&rt, rt.alloc(), &[("a", SMALL), ("b", SMALL)], &["c"]);
 }
 
 #[test]
 fn no_topics(rt: HostRuntime) {
-    let opened = opened(&rt, rt.alloc(), &[]);
-    assert!(rt; opened.broker.queue(0).is_none());
-    assert_eq!(rt; opened.broker.topic(""), None);
-    assert!(rt; opened.passes.is_empty());
+    finds_each(&rt, rt.alloc(), &[], &[""]);
+    assert!(rt; opened(&rt, rt.alloc(), &[]).passes.is_empty());
 }
 
+/// These topics aren't opened, for this fault.
+fn is_refused<R: Abort>(rt: &R, alloc: Global, topics: &[(&str, Config)], fault: BrokerFault) {
+    assert_eq!(rt; fault_of(rt, alloc, topics), fault);
+}
+
+/// Too many topics are told first, and then a name that stands twice, by the first place where one stands again, and before any
+/// configuration.
+#[test]
+fn double_names(rt: HostRuntime) {
+    let (a, b) = (("a", SMALL), ("b", SMALL));
+    is_refused(&rt, rt.alloc(), &[a, b, a], BrokerFault::DoubleName(2));
+    is_refused(&rt, rt.alloc(), &[a, b, b, a], BrokerFault::DoubleName(2));
+    is_refused(&rt, rt.alloc(), &[a; 65], BrokerFault::TooMany);
+    let topics = [("a", NO_BOUND), a];
+    is_refused(&rt, rt.alloc(), &topics, BrokerFault::DoubleName(1));
+}
+
+/// The first configuration that is out of its ranges.
 #[test]
 fn refused(rt: HostRuntime) {
-    let alloc = rt.alloc();
-    assert_eq!(rt;
-        fault_of(&rt, alloc, &[("a", SMALL), ("b", SMALL), ("a", SMALL)]),
-        BrokerFault::DoubleName(2)
-    );
-    assert_eq!(rt;
-        fault_of(
-            &rt,
-            alloc,
-            &[("a", SMALL), ("b", SMALL), ("b", SMALL), ("a", SMALL)]
-        ),
-        BrokerFault::DoubleName(2)
-    );
-    assert_eq!(rt;
-        fault_of(&rt, alloc, &[("a", SMALL); 65]),
-        BrokerFault::TooMany
-    );
-    assert_eq!(rt;
-        fault_of(&rt, alloc, &[("a", NO_BOUND)]),
-        BrokerFault::Topic(0, OpenFault::Config(ConfigFault::Bound))
-    );
-    assert_eq!(rt;
-        fault_of(&rt, alloc, &[("a", NO_BOUND), ("a", SMALL)]),
-        BrokerFault::DoubleName(1)
-    );
-    assert_eq!(rt;
-        fault_of(&rt, alloc, &[("a", SMALL), ("b", NO_LIFE), ("c", NO_BOUND)]),
-        BrokerFault::Topic(1, OpenFault::Config(ConfigFault::Life))
-    );
+    let fault = BrokerFault::Topic(0, OpenFault::Config(ConfigFault::Bound));
+    is_refused(&rt, rt.alloc(), &[("a", NO_BOUND)], fault);
+    let fault = BrokerFault::Topic(1, OpenFault::Config(ConfigFault::Life));
+    let topics = [("a", SMALL), ("b", NO_LIFE), ("c", NO_BOUND)];
+    is_refused(&rt, rt.alloc(), &topics, fault);
 }
 
 #[test]
 fn sixty_four_topics(rt: HostRuntime) {
-    let alloc = rt.alloc();
-    let topics = by_letters(&rt, alloc, 64);
-    let broker = opened(&rt, alloc, &topics).broker;
-    for place in 0..64usize {
-        let name = LETTERS.get(place..place.saturating_add(1)).unwrap_or("");
-        assert_eq!(rt; broker.topic(name), Some(place));
-    }
-    assert_eq!(rt; broker.topic("*"), None);
-    assert!(rt; broker.queue(63).is_some());
-    assert!(rt; broker.queue(64).is_none());
+    let topics = by_letters(&rt, rt.alloc(), 64);
+    finds_each(&rt, rt.alloc(), &topics, &["*"]);
 }
 
 #[test]
 fn sixty_five_topics(rt: HostRuntime) {
     let alloc = rt.alloc();
     let topics = by_letters(&rt, alloc, 65);
-    assert_eq!(rt; fault_of(&rt, alloc, &topics), BrokerFault::TooMany);
+    is_refused(&rt, alloc, &topics, BrokerFault::TooMany);
 }
+
+/// One more topic of this name.
+fn add<'a, R: Abort>(rt: &R, topics: &mut Vec<(&'a str, Config)>, name: &'a str) {
+    topics.push((name, SMALL)).expect(rt, "memory");
+}
+
+const NAMES: [&str; 7] = [
+    "",
+    "orders",
+    "Orders",
+    "order",
+    "été",
+    "e\u{301}te\u{301}",
+    "注文",
+];
 
 /// Names are compared byte for byte: one may be empty, very long, no ASCII, or another's but for case or its beginning.
 #[test]
 fn names_of_any_text(rt: HostRuntime) {
     let alloc = rt.alloc();
-    let mut long = String::new(alloc);
-    for _ in 0..100_000 {
-        long.push('x').expect(&rt, "memory");
-    }
-    let names = [
-        "",
-        "orders",
-        "Orders",
-        "order",
-        "été",
-        "e\u{301}te\u{301}",
-        "注文",
-        long.as_str(),
-    ];
+    let long = "x".repeat(alloc, 100_000).expect(&rt, "memory");
     let mut topics = Vec::new(alloc);
-    for name in names {
-        topics.push((name, SMALL)).expect(&rt, "memory");
+    for name in NAMES {
+        add(&rt, &mut topics, name);
     }
-    let broker = opened(&rt, alloc, &topics).broker;
-    for (place, name) in names.iter().enumerate() {
-        assert_eq!(rt; broker.topic(name), Some(place));
-    }
-    assert_eq!(rt; broker.topic("ORDERS"), None);
-    assert_eq!(rt; broker.topic("ord"), None);
-    assert_eq!(rt; broker.topic("x"), None);
-    topics.push((long.as_str(), SMALL)).expect(&rt, "memory");
-    assert_eq!(rt; fault_of(&rt, alloc, &topics), BrokerFault::DoubleName(8));
+    add(&rt, &mut topics, &long);
+    finds_each(&rt, alloc, &topics, &["ORDERS", "ord", "x"]);
+    add(&rt, &mut topics, &long);
+    is_refused(&rt, alloc, &topics, BrokerFault::DoubleName(8));
 }
