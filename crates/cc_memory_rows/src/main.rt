@@ -6,7 +6,7 @@
 ghost use Rattle.std.specs.Prelude.{◌≡◌, length};
 
 use cc_audit::{SendReceipt, TakeReceipt, Verdict, audit, send_receipts, take_receipts, total};
-use cc_broker::Broker;
+use cc_broker::{Broker, OpenedBroker};
 use cc_machine::{BeginFault, CounterMachine, Event, Machine, OpenFault};
 use cc_model::{Answer, Body, Call, Config, Entry, History, Item, Pass};
 use std::alloc::{AllocError, Global};
@@ -149,17 +149,22 @@ fn tell_topic(rt: &HostRuntime, broker: &Broker, name: &str) -> Result<(), io::E
     println!(rt; "topic {name}: {number:?}, {is_there}")
 }
 
+/// Tells of the topics by their names, of one that isn't there, and of the passes of each topic.
+fn tell_topics(rt: &HostRuntime, opened: &OpenedBroker) -> Result<(), io::Error> {
+    for name in ["a", "b", "c", "d"] {
+        tell_topic(rt, &opened.broker, name)?;
+    }
+    for (senders, receivers) in &opened.passes {
+        println!(rt; "passes: {} and {}", senders.len(), receivers.len())?;
+    }
+    Ok(())
+}
+
 /// Opens three topics, the second with two groups, and tells of them. The answer is false where there was no memory for one of them, or for their list.
 fn open_topics(rt: &HostRuntime) -> Result<bool, io::Error> {
     match Broker::open(rt.alloc(), &[("a", SMALL), ("b", GROUPED), ("c", SMALL)]) {
         Ok(opened) => {
-            tell_topic(rt, &opened.broker, "a")?;
-            tell_topic(rt, &opened.broker, "b")?;
-            tell_topic(rt, &opened.broker, "c")?;
-            tell_topic(rt, &opened.broker, "d")?;
-            for (senders, receivers) in &opened.passes {
-                println!(rt; "passes: {} and {}", senders.len(), receivers.len())?;
-            }
+            tell_topics(rt, &opened)?;
             Ok(true)
         }
         Err(fault) => {
@@ -177,31 +182,19 @@ fn tell_side(rt: &HostRuntime, calls: &[Entry], answers: &[Answer]) -> Result<()
     Ok(())
 }
 
-/// Plays both machines, and tells what they answered and how the receipts are audited. The answer is the exit status.
-fn play_machines(
-    rt: &HostRuntime,
-    machine: &mut Machine,
-    counter: &mut CounterMachine,
-) -> Result<u8, io::Error> {
-    let (Some(refused), Some((first, once)), Some((second, twice))) = (
-        play(machine),
-        count(counter, 1),
-        count(counter, 2),
-    ) else {
-        return Ok(1);
-    };
-    let refused = refused.saturating_add(once).saturating_add(twice);
-    if refused != 0 {
-        eprintln!(rt; "begin: {refused} refused, and made again")?;
-    }
-    let history = machine.history();
-    if history.groups() != 1 {
-        return Ok(1);
-    }
+/// Tells the calls of a history of one group.
+fn tell_calls(rt: &HostRuntime, history: &History) -> Result<(), io::Error>
+    requires { length history.now.takes ≡ 1 }
+{
     let (sends, takes) = (history.sends(), history.takes(0));
     tell_side(rt, sends.calls(), sends.answers())?;
-    tell_side(rt, takes.calls(), takes.answers())?;
-    println!(rt; "counted {first} and {second}")?;
+    tell_side(rt, takes.calls(), takes.answers())
+}
+
+/// Tells how the receipts of a history of one group are audited, and those with a gap. The answer is the exit status.
+fn tell_audits(rt: &HostRuntime, history: &History) -> Result<u8, io::Error>
+    requires { length history.now.takes ≡ 1 }
+{
     let (Ok(clean), Ok(gap)) = (audit_history(rt.alloc(), history), audit_gap(rt.alloc())) else {
         eprintln!(rt; "audit: AllocError")?;
         return Ok(3);
@@ -210,19 +203,71 @@ fn play_machines(
     Ok(0)
 }
 
-fn main(rt: HostRuntime) -> Result<ExitCode, io::Error> {
-    if !open_topics(&rt)? {
-        return Ok(ExitCode::from(3));
+/// Plays both machines. The answer is what the counter counted; None where a call can't be begun, or isn't answered.
+fn play_both(
+    rt: &HostRuntime,
+    machine: &mut Machine,
+    counter: &mut CounterMachine,
+) -> Result<Option<(u64, u64)>, io::Error> {
+    let (Some(refused), Some((first, once)), Some((second, twice))) = (
+        play(machine),
+        count(counter, 1),
+        count(counter, 2),
+    ) else {
+        return Ok(None);
+    };
+    let refused = refused.saturating_add(once).saturating_add(twice);
+    if refused != 0 {
+        eprintln!(rt; "begin: {refused} refused, and made again")?;
     }
-    let status = match open_machines(rt.alloc()) {
-        Ok((mut machine, grouped, mut counter)) => {
-            println!(rt; "groups: {}", grouped.history().groups())?;
-            play_machines(&rt, &mut machine, &mut counter)?
-        }
-        Err(fault) => {
-            eprintln!(rt; "machine: {fault:?}")?;
-            3
-        }
+    Ok(Some((first, second)))
+}
+
+/// Plays both machines, and tells what they answered and how the receipts are audited. The answer is the exit status.
+fn play_machines(
+    rt: &HostRuntime,
+    machine: &mut Machine,
+    counter: &mut CounterMachine,
+) -> Result<u8, io::Error> {
+    let Some((first, second)) = play_both(rt, machine, counter)? else {
+        return Ok(1);
+    };
+    let history = machine.history();
+    if history.groups() != 1 {
+        return Ok(1);
+    }
+    tell_calls(rt, history)?;
+    println!(rt; "counted {first} and {second}")?;
+    tell_audits(rt, history)
+}
+
+/// Tells how many groups a machine has.
+fn tell_groups(rt: &HostRuntime, machine: &Machine) -> Result<(), io::Error> {
+    println!(rt; "groups: {}", machine.history().groups())
+}
+
+/// Tells why the machines aren't opened. The answer is the exit status.
+fn tell_refused(rt: &HostRuntime, fault: OpenFault) -> Result<u8, io::Error> {
+    eprintln!(rt; "machine: {fault:?}")?;
+    Ok(3)
+}
+
+/// Opens the machines, and plays those of one group. The answer is the exit status.
+fn open_and_play(rt: &HostRuntime) -> Result<u8, io::Error> {
+    match open_machines(rt.alloc()) {
+        Ok((mut machine, grouped, mut counter)) => match tell_groups(rt, &grouped) {
+            Ok(()) => play_machines(rt, &mut machine, &mut counter),
+            Err(error) => Err(error),
+        },
+        Err(fault) => tell_refused(rt, fault),
+    }
+}
+
+fn main(rt: HostRuntime) -> Result<ExitCode, io::Error> {
+    let status = if open_topics(&rt)? {
+        open_and_play(&rt)?
+    } else {
+        3
     };
     Ok(ExitCode::from(status))
 }
