@@ -38,26 +38,55 @@ fn taken(item: Item) -> TakeReceipt {
     TakeReceipt { receiver: 1, item }
 }
 
-#[test]
-fn many_receipts(rt: HostRuntime) -> Result<(), Fail> {
-    const COUNT: u32 = 100_000;
-    let all = Some(u64::from(COUNT));
-    let mut sends = Vec::new(rt.alloc());
-    let mut takes = Vec::new(rt.alloc());
+/// Receipts have this verdict.
+fn is_found<R: Abort>(
+    rt: &R,
+    alloc: Global,
+    sends: &[SendReceipt],
+    takes: &[TakeReceipt],
+    total: Option<u64>,
+    verdict: Verdict,
+) -> Result<(), AllocError> {
+    let found = audit(alloc, sends, takes, total)?;
+    assert_eq!(rt; found, verdict);
+    Ok(())
+}
+
+const COUNT: u32 = 100_000;
+
+/// So many sends, as they may be told by turns.
+fn mixed_sends(alloc: Global) -> Result<Vec<SendReceipt>, AllocError> {
+    let mut sends = Vec::new(alloc);
     for i in 0..COUNT {
         sends.push(sent(item_at(i * 7919 % COUNT)))?;
+    }
+    Ok(sends)
+}
+
+/// The takes of their items, the last one first.
+fn reversed_takes(alloc: Global) -> Result<Vec<TakeReceipt>, AllocError> {
+    let mut takes = Vec::new(alloc);
+    for i in 0..COUNT {
         takes.push(taken(item_at(COUNT - 1 - i)))?;
     }
+    Ok(takes)
+}
+
+#[test]
+fn many_receipts(rt: HostRuntime) -> Result<(), Fail> {
+    let all = Some(u64::from(COUNT));
+    let mut sends = mixed_sends(rt.alloc())?;
+    let mut takes = reversed_takes(rt.alloc())?;
     let last = Item {
         place: u64::MAX,
         ..item_at(0)
     };
-    assert_eq!(rt; audit(rt.alloc(), &sends, &takes, all)?, Verdict::Clean);
+    is_found(&rt, rt.alloc(), &sends, &takes, all, Verdict::Clean)?;
     sends.push(sent(last))?;
-    assert_eq!(rt; audit(rt.alloc(), &sends, &takes, all)?, fault(6, u64::MAX));
+    is_found(&rt, rt.alloc(), &sends, &takes, all, fault(6, u64::MAX))?;
     takes.push(taken(last))?;
     let gap = fault(5, u64::from(COUNT));
-    assert_eq!(rt; audit(rt.alloc(), &sends, &takes, None)?, gap);
+    is_found(&rt, rt.alloc(), &sends, &takes, None, gap)?;
     Ok(())
 }
 
@@ -161,6 +190,34 @@ fn two_groups(alloc: Global, second: &str) -> Result<History, AllocError>
     Ok(history)
 }
 
+/// The receipts of that history.
+#[derive(Drop)]
+struct Receipts {
+    sends: Vec<SendReceipt>,
+    of_first: Vec<TakeReceipt>,
+    of_second: Vec<TakeReceipt>,
+    total: Option<u64>,
+}
+
+fn receipts_of(alloc: Global, second: &str) -> Result<Receipts, AllocError> {
+    let history = two_groups(alloc, second)?;
+    Ok(Receipts {
+        sends: send_receipts(alloc, &history)?,
+        of_first: take_receipts(alloc, &history, 0)?,
+        of_second: take_receipts(alloc, &history, 1)?,
+        total: total(&history),
+    })
+}
+
+/// Three sends are told, and the takes of the first group, with the total of the close.
+fn are_told<R: Abort>(rt: &R, receipts: &Receipts) {
+    let sent = [sent(item_at(0)), sent(item_at(1)), sent(item_at(2))];
+    let taken = [taken(item_at(0)), taken(item_at(1)), taken(item_at(2))];
+    assert!(rt; receipts.sends.as_slice() == sent.as_slice());
+    assert!(rt; receipts.of_first.as_slice() == taken.as_slice());
+    assert_eq!(rt; receipts.total, Some(3));
+}
+
 /// Audits the groups of that history: the first one is clean, and the second one has this verdict.
 fn is_audited<R: Abort>(
     rt: &R,
@@ -168,32 +225,31 @@ fn is_audited<R: Abort>(
     second: &str,
     verdict: Verdict,
 ) -> Result<(), AllocError> {
-    let history = two_groups(alloc, second)?;
-    let sends = send_receipts(alloc, &history)?;
-    let of_first = take_receipts(alloc, &history, 0)?;
-    let of_second = take_receipts(alloc, &history, 1)?;
-    let all = total(&history);
-    let sent = [sent(item_at(0)), sent(item_at(1)), sent(item_at(2))];
-    let taken = [taken(item_at(0)), taken(item_at(1)), taken(item_at(2))];
-    assert!(rt; sends.as_slice() == sent.as_slice(), "{second}");
-    assert!(rt; of_first.as_slice() == taken.as_slice(), "{second}");
-    assert!(rt; of_second.len() == second.len(), "{second}");
-    assert!(rt; all == Some(3), "{second}");
-    let first = audit(alloc, &sends, &of_first, all)?;
-    assert_eq!(rt; first, Verdict::Clean, "{second}");
-    let found = audit(alloc, &sends, &of_second, all)?;
-    assert_eq!(rt; found, verdict, "{second}");
-    Ok(())
+    let all = receipts_of(alloc, second)?;
+    are_told(rt, &all);
+    assert_eq!(rt; all.of_second.len(), second.len());
+    is_found(
+        rt,
+        alloc,
+        &all.sends,
+        &all.of_first,
+        all.total,
+        Verdict::Clean,
+    )?;
+    is_found(rt, alloc, &all.sends, &all.of_second, all.total, verdict)
 }
 
 #[test]
 fn each_group_is_audited_alone(rt: HostRuntime) -> Result<(), Fail> {
-    let alloc = rt.alloc();
-    is_audited(&rt, alloc, "012", Verdict::Clean)?;
-    is_audited(&rt, alloc, "0", Verdict::Clean)?;
-    is_audited(&rt, alloc, "", Verdict::Clean)?;
-    is_audited(&rt, alloc, "02", fault(5, 1))?;
-    is_audited(&rt, alloc, "12", fault(5, 0))?;
-    is_audited(&rt, alloc, "010", fault(2, 0))?;
+    for (second, verdict) in [
+        ("012", Verdict::Clean),
+        ("0", Verdict::Clean),
+        ("", Verdict::Clean),
+        ("02", fault(5, 1)),
+        ("12", fault(5, 0)),
+        ("010", fault(2, 0)),
+    ] {
+        is_audited(&rt, rt.alloc(), second, verdict)?;
+    }
     Ok(())
 }
