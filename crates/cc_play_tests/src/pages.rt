@@ -5,7 +5,7 @@ use cc_play::PlayFault;
 use cc_show::show::show;
 use cc_show::{ShowFault, tell_shown};
 use std::alloc::Global;
-use std::test::Fail;
+use std::process::Abort;
 
 /// What an input leaves.
 #[derive(Drop)]
@@ -56,39 +56,61 @@ const SECOND: &str =
 const OF_GROUPS: &str =
     "E 0 s1 send 7 8 -> accepted 0\nD 1 0 r1 take -> got 0 s1 1 7 8\nD 2 0 r2 take -> got 0 s1 1 7 8\naudit clean\n";
 
-#[test]
-fn a_page_has_the_run_and_the_report(rt: HostRuntime) -> Result<(), Fail> {
-    let outcome = shown(rt.alloc(), FIRST);
-    let page = str::from_utf8(&outcome.output).unwrap_or("");
-    assert!(rt; page.starts_with("<!DOCTYPE html>"));
-    assert_eq!(rt; part(page, "id=\"run\">"), RUN);
-    assert_eq!(rt; part(page, "id=\"report\">"), REPORT);
-    assert!(rt; page.ends_with("</html>\n"));
-    assert_eq!(rt; outcome.status, 0);
-    assert!(rt; outcome.errors.is_empty());
-    let second = shown(rt.alloc(), SECOND);
-    let page = str::from_utf8(&second.output).unwrap_or("");
-    assert_eq!(rt; part(page, "id=\"report\">"), OF_GROUPS);
-    Ok(())
+/// A page as a text.
+fn page_of(outcome: &Outcome) -> &str {
+    str::from_utf8(&outcome.output).unwrap_or("")
 }
 
-/// Behind every hundredth byte of a page a write fails, within its front, its run, its report and its script: this is told,
-/// just these bytes stand, and nothing is written behind the failure.
+/// What stands in a part of a page.
+fn has_part<R: Abort>(rt: &R, page: &str, mark: &str, text: &str) {
+    assert_eq!(rt; part(page, mark), text);
+}
+
+/// A page from its first line to its last.
+fn is_whole<R: Abort>(rt: &R, page: &str) {
+    assert!(rt; page.starts_with("<!DOCTYPE html>") && page.ends_with("</html>\n"));
+}
+
+#[test]
+fn a_page_has_the_run_and_the_report(rt: HostRuntime) {
+    let outcome = shown(rt.alloc(), FIRST);
+    let page = page_of(&outcome);
+    is_whole(&rt, page);
+    has_part(&rt, page, "id=\"run\">", RUN);
+    has_part(&rt, page, "id=\"report\">", REPORT);
+    assert!(rt; outcome.status == 0 && outcome.errors.is_empty());
+}
+
+#[test]
+fn a_page_names_the_groups(rt: HostRuntime) {
+    let outcome = shown(rt.alloc(), SECOND);
+    has_part(&rt, page_of(&outcome), "id=\"report\">", OF_GROUPS);
+}
+
+/// What has to hold where a write fails behind so many bytes.
+fn holds<R: Abort>(rt: &R, takes: usize, is: bool) {
+    assert!(rt; is, "{takes}");
+}
+
+/// Behind so many bytes of a page a write fails: this is told, just these bytes stand, and nothing is written behind the
+/// failure.
+fn write_fails<R: Abort>(rt: &R, alloc: Global, page: &str, takes: usize) {
+    let mut sink = CutWriter::new(alloc, takes, usize::MAX, Refusal::Error);
+    let outcome = show(alloc, &mut Device::new(FIRST.as_bytes()), &mut sink);
+    let is_told = matches!(outcome, Err(ShowFault::Play(PlayFault::Write)));
+    holds(rt, takes, is_told);
+    holds(rt, takes, sink.has_front(page, takes));
+    holds(rt, takes, sink.has_failed_once());
+}
+
+/// A write fails behind every hundredth byte of a page, within its front, its run, its report and its script.
 #[test]
 fn writes_of_a_page_fail(rt: HostRuntime) {
     let whole = shown(rt.alloc(), FIRST);
-    let page = str::from_utf8(&whole.output).unwrap_or("");
+    let page = page_of(&whole);
     assert!(rt; page.len() > 30_000);
     for hundreds in 0..page.len() / 100 {
-        let takes = hundreds * 100;
-        let mut sink = CutWriter::new(rt.alloc(), takes, usize::MAX, Refusal::Error);
-        let outcome = show(rt.alloc(), &mut Device::new(FIRST.as_bytes()), &mut sink);
-        assert!(rt;
-            matches!(outcome, Err(ShowFault::Play(PlayFault::Write))),
-            "{takes}"
-        );
-        assert!(rt; sink.has_front(page, takes), "{takes}");
-        assert!(rt; sink.has_failed_once(), "{takes}");
+        write_fails(&rt, rt.alloc(), page, hundreds * 100);
     }
 }
 
@@ -109,13 +131,17 @@ const ROWS: &[(&str, u8, &str, &str)] = &[
     ("no plan", 2, "ccq: plan refused: P1\n", ""),
 ];
 
+/// A row of the list: a page where the status is 0, and else none.
+fn is_shown<R: Abort>(rt: &R, alloc: Global, what: &str, status: u8, told: &str, input: &str) {
+    let outcome = shown(alloc, input);
+    assert_eq!(rt; outcome.status, status, "{what}");
+    assert_eq!(rt; outcome.errors.as_slice(), told.as_bytes(), "{what}");
+    assert_eq!(rt; outcome.output.is_empty(), status != 0, "{what}");
+}
+
 #[test]
-fn pages_have_a_limit(rt: HostRuntime) -> Result<(), Fail> {
+fn pages_have_a_limit(rt: HostRuntime) {
     for (what, status, told, input) in ROWS {
-        let outcome = shown(rt.alloc(), input);
-        assert_eq!(rt; outcome.status, *status, "{what}");
-        assert_eq!(rt; outcome.errors.as_slice(), told.as_bytes(), "{what}");
-        assert_eq!(rt; outcome.output.is_empty(), *status != 0, "{what}");
+        is_shown(&rt, rt.alloc(), what, *status, told, input);
     }
-    Ok(())
 }
