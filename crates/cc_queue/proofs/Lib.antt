@@ -8,3 +8,4 @@ pub mod Seated
 pub mod Held
 pub mod Rounds
 pub mod WordByWord
+pub mod Service

@@ -1,5 +1,5 @@
 //! The service of a sender's request: CC-Queue's enqueue, by the combiner of the senders' chain.
-ghost use Rattle.std.specs.Prelude.{◌≡◌, ◌+◌, ◌<◌, ◌≤◌, ◌^◌, ◌==◌, if◌then◌else◌, Some, None};
+ghost use Rattle.std.specs.Prelude.{◌≡◌, ◌+◌, ◌<◌, ◌≤◌, ◌^◌, ◌==◌, if◌then◌else◌, IfSome, IfNone, Some, None};
 ghost use Rattle.cc_queue.specs.Names.{Answer, SendAnswer, Chain, Place, Sending};
 ghost use Rattle.cc_steps.specs.Walk.{IsReadyToStep};
 ghost use Rattle.cc_queue.specs.Work.{IsOnList, IsServing, Serves};
@@ -77,33 +77,54 @@ fn link_mark(words: &Words, seat: &mut PassSeat, config: &Config, job: Job, tota
     tell(words, seat, Chain::Send, job, answer);
 }
 
-/// Looks for a free node from the cursor on, once round, and appends the item there, or tells that the queue is full.
+/// Appends the item in the first free node from the cursor on, or tells that the queue is full.
 fn scan(words: &Words, seat: &mut PassSeat, config: &Config, job: Job, parcel: Parcel)
     requires here { IsServing words.now config.now Chain.Send seat.old }
     requires at { seat.old.stand.place ≡ Place.Sending job (Sending.ReadCursor parcel) }
     ensures { Serves seat.old (Place.MarkDone job) (config.now.capacity + 1) seat.new }
 {
+    match find_free(words, seat, config, job, parcel) {
+        Some(node) => prepare(words, seat, config, job, parcel, node),
+        None => tell(
+            words,
+            seat,
+            Chain::Send,
+            job,
+            Answer::Send(SendAnswer::Full),
+        ),
+    }
+}
+
+/// Looks for a free node from the cursor on, once round. `job` and `parcel` are here for the clauses alone.
+#[inline(always)]
+fn find_free(
+    words: &Words,
+    seat: &mut PassSeat,
+    config: &Config,
+    job: Job,
+    parcel: Parcel,
+) -> Option<u64>
+    requires here { IsServing words.now config.now Chain.Send seat.old }
+    requires at { seat.old.stand.place ≡ Place.Sending job (Sending.ReadCursor parcel) }
+    ensures free { IfSome result (λ node. Serves seat.old (Place.Sending job (Sending.ResetPassed parcel node)) (config.now.capacity + 1) seat.new) }
+    ensures full { IfNone result (Serves seat.old (Place.WriteAnswer job (Answer.Send SendAnswer.Full)) (config.now.capacity + 1) seat.new) }
+    ensures ready { IsReadyToStep seat.new }
+{
+    let _ = (job, parcel);
     let nodes = config.capacity as u64 + 1;
     let groups = config.groups as u64;
     let mut node = steps::read_object(words, seat, Object::Cursor);
     for reads in 1..nodes {
         let _ = reads;
         if steps::read_passed(words, seat, node) == groups {
-            prepare(words, seat, config, job, parcel, node);
-            return;
+            return Some(node);
         }
         node = node_after(node, nodes);
     }
     if steps::read_passed(words, seat, node) == groups {
-        prepare(words, seat, config, job, parcel, node);
+        Some(node)
     } else {
-        tell(
-            words,
-            seat,
-            Chain::Send,
-            job,
-            Answer::Send(SendAnswer::Full),
-        );
+        None
     }
 }
 

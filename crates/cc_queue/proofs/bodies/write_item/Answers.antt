@@ -1,4 +1,4 @@
-use Rattle.std.proofs.Common.{◌+◌, ◌<◌, ℕ, refl, arith}
+use Rattle.std.proofs.Common.{◌+◌, ◌<◌, refl, arith}
 use Rattle.cc_queue.specs.Names.{Job, Kind, Parcel, Place, Sending}
 use Rattle.cc_runs.specs.Codes.{further_words}
 use Rattle.cc_queue.proofs.WordByWord.{behind_in, next_word}

@@ -1,6 +1,6 @@
 use Rattle.std.proofs.Common.{◌+◌}
 use Rattle.cc_queue.specs.Names.{Place, Sending}
-use Rattle.cc_runs.specs.Codes.{further_words, behind, parcel}
+use Rattle.cc_runs.specs.Codes.{further_words, behind}
 use Rattle.cc_steps.specs.Walk.{IsReadyToStep}
 use Rattle.cc_queue.specs.Work.{Serves}
 use Rattle.cc_queue.proofs.bodies.write_item.Given as goal

@@ -2,7 +2,7 @@ use Rattle.std.proofs.Common.{◌≤◌, ◌+◌, ◌-◌}
 use Rattle.cc_queue.specs.Names.{Place, Sending}
 use Rattle.cc_steps.specs.Walk.{IsReadyToStep}
 use Rattle.cc_queue.specs.Work.{Serves}
-use Rattle.cc_queue.proofs.sends.scan.Given as goal
+use Rattle.cc_queue.proofs.sends.find_free.Given as goal
 
 abbrev pub invariant-loop-reads : goal.invariant-loop-reads
 invariant-loop-reads l =

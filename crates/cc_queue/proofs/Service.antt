@@ -1,0 +1,80 @@
+-- A step within a call, as its seat sees it, behind what its pass did before.
+use Rattle.std.proofs.Common.{◌≡◌, ◌≢◌, ℕ, ◌+◌, ◌≤◌, ◌==◌, Bool, cond, List, ◌∷◌, None, refl, sym, ap, ◌∙◌, subst, arith}
+use Rattle.std.proofs.lemmas.Bool.{eq-eqb, ne_eqb}
+use Rattle.cc_queue.specs.Names.{Answer, Config, Event, Job, Kind, Parcel, Place, SendAnswer, Sending, Setting, Stand}
+use Rattle.cc_runs.specs.Lines.{event_at}
+use Rattle.cc_runs.specs.Passes.{then_did}
+use Rattle.cc_runs.specs.SendLines.{after, by_passed}
+use Rattle.cc_runs.specs.ServiceLine.{On, Decides, place_of}
+use Rattle.cc_runs.specs.State.{chain_of}
+use Rattle.cc_runs.specs.Step.{advanced}
+use Rattle.cc_steps.specs.Seen.{Onward, settled}
+use Rattle.cc_steps.specs.Walk.{Walk, walked_to}
+use Rattle.cc_queue.specs.Work.{IsListWith, Serves, worked_to, tally, reads, marks, hands, scans}
+
+-- a step that reads no state, marks nothing and hands nothing over
+abbrev pub IsWithin : Kind → Type 0
+IsWithin k = (reads k ≡ 0) × (marks k ≡ 0) × (hands k ≡ 0)
+
+module _ (v s r : Walk) (k : Kind) (here on : Place) (most found : ℕ) (at : Serves v here most s) (step : r ≡ walked_to s None found r.seen) (later : Onward s.seen r.seen)
+    (event : event_at here ≡ Event.Did k) (within : IsWithin k) (goes : (z : Stand) → settled (advanced v.setting (chain_of v.setting.config v.number) (record z { place = here }) found) ≡ record z { place = on }) where
+  went : r ≡ walked_to (worked_to v here s) None found r.seen
+  went = subst (λ (z : Walk). r ≡ walked_to z None found r.seen) at.worked step
+
+  did : r.did ≡ k ∷ s.did
+  did = ap (λ (z : Walk). z.did) went ∙ ap (λ (e : Event). then_did e s.did) event
+
+  worked : r ≡ worked_to v on r
+  worked =
+      went
+      ∙ ap (λ (z : Stand). record v { seen = r.seen; did = then_did (event_at here) s.did; stand = z }) (goes v.stand)
+      ∙ ap (λ (all : List Kind). record v { seen = r.seen; did = all; stand = record v.stand { place = on } }) (sym (ap (λ (z : Walk). z.did) went))
+
+  counts : (f : Kind → ℕ) → tally f r.did ≡ f k + tally f s.did
+  counts f = ap (tally f) did
+
+  pub one_step : Serves v on (scans k + most) r
+  one_step = record {
+    worked = worked;
+    reads = omega (arith, counts reads, within.0, at.reads);
+    marks = omega (arith, counts marks, within.1, at.marks);
+    hands = omega (arith, counts hands, within.2, at.hands);
+    scans = omega (arith, counts scans, at.scans);
+    later = λ first before. later first (at.later first before);
+  }
+
+-- where a look at a list node leads
+abbrev looks_to : Config → Job → Parcel → (at nodes passed : ℕ) → Place
+looks_to c job parcel at nodes passed = place_of Place.Sending job (by_passed c parcel at nodes passed)
+
+-- to its use, where it is free
+pub looks_free : (c : Config) (job : Job) (parcel : Parcel) (at nodes passed : ℕ) → passed ≡ c.groups → looks_to c job parcel at nodes passed ≡ Place.Sending job (Sending.ResetPassed parcel at)
+looks_free c job parcel at nodes passed free =
+    ap (λ (b : Bool). place_of Place.Sending job (cond b (On (Sending.ResetPassed parcel at)) (cond (nodes == c.capacity + 1) (Decides (Answer.Send SendAnswer.Full)) (On (Sending.ReadPassed parcel (after c at) (nodes + 1)))))) (eq-eqb passed c.groups free)
+
+-- to the next one, where it isn't free and isn't the last one
+pub looks_on : (c : Config) (job : Job) (parcel : Parcel) (at nodes passed : ℕ) → passed ≢ c.groups → nodes ≢ c.capacity + 1 → looks_to c job parcel at nodes passed ≡ Place.Sending job (Sending.ReadPassed parcel (after c at) (nodes + 1))
+looks_on c job parcel at nodes passed used more =
+    ap (λ (b : Bool). place_of Place.Sending job (cond b (On (Sending.ResetPassed parcel at)) (cond (nodes == c.capacity + 1) (Decides (Answer.Send SendAnswer.Full)) (On (Sending.ReadPassed parcel (after c at) (nodes + 1)))))) (ne_eqb passed c.groups used)
+    ∙ ap (λ (b : Bool). place_of Place.Sending job (cond b (Decides (Answer.Send SendAnswer.Full)) (On (Sending.ReadPassed parcel (after c at) (nodes + 1))))) (ne_eqb nodes (c.capacity + 1) more)
+
+-- to the answer, where it is the last one and isn't free
+pub looks_full : (c : Config) (job : Job) (parcel : Parcel) (at nodes passed : ℕ) → passed ≢ c.groups → nodes ≡ c.capacity + 1 → looks_to c job parcel at nodes passed ≡ Place.WriteAnswer job (Answer.Send SendAnswer.Full)
+looks_full c job parcel at nodes passed used last =
+    ap (λ (b : Bool). place_of Place.Sending job (cond b (On (Sending.ResetPassed parcel at)) (cond (nodes == c.capacity + 1) (Decides (Answer.Send SendAnswer.Full)) (On (Sending.ReadPassed parcel (after c at) (nodes + 1)))))) (ne_eqb passed c.groups used)
+    ∙ ap (λ (b : Bool). place_of Place.Sending job (cond b (Decides (Answer.Send SendAnswer.Full)) (On (Sending.ReadPassed parcel (after c at) (nodes + 1))))) (eq-eqb nodes (c.capacity + 1) last)
+
+-- such a look, of a pass of a list
+pub one_look : (v s r : Walk) (c : Config) (job : Job) (parcel : Parcel) (at nodes passed most : ℕ) (on : Place) → IsListWith v c → Serves v (Place.Sending job (Sending.ReadPassed parcel at nodes)) most s → r ≡ walked_to s None passed r.seen → Onward s.seen r.seen
+    → looks_to c job parcel at nodes passed ≡ on → ((z : Stand) → settled (record z { place = on }) ≡ record z { place = on }) → Serves v on (1 + most) r
+one_look v s r c job parcel at nodes passed most on list before step later leads stays =
+    one_step v s r Kind.ReadPassed (Place.Sending job (Sending.ReadPassed parcel at nodes)) on most passed before step later refl (refl, refl, refl)
+    (λ z. ap (λ (x : Setting). settled (record z { place = looks_to x.config job parcel at nodes passed })) list ∙ ap (λ (p : Place). settled (record z { place = p })) leads ∙ stays z)
+
+-- what holds at the start, before any step
+pub at_start : (v : Walk) (here : Place) → v.stand.place ≡ here → Serves v here 0 v
+at_start v here at = record { worked = ap (λ (p : Place). record v { stand = record v.stand { place = p } }) at; reads = omega arith; marks = omega arith; hands = omega arith; scans = omega arith; later = λ first before. before }
+
+-- so many looks at most are as many and more at most
+pub at_most : (v r : Walk) (on : Place) (few most : ℕ) → few ≤ most → Serves v on few r → Serves v on most r
+at_most v r on few most le at = record { worked = at.worked; reads = at.reads; marks = at.marks; hands = at.hands; scans = omega (arith, at.scans, le); later = at.later }
