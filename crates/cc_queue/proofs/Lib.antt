@@ -9,3 +9,4 @@ pub mod Held
 pub mod Rounds
 pub mod WordByWord
 pub mod Service
+pub mod Requests

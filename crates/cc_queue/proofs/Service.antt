@@ -1,7 +1,7 @@
 -- A step within a call, as its seat sees it, behind what its pass did before.
 use Rattle.std.proofs.Common.{◌≡◌, ◌≢◌, ℕ, ◌+◌, ◌≤◌, ◌==◌, Bool, cond, List, ◌∷◌, None, refl, sym, ap, ◌∙◌, subst, arith}
 use Rattle.std.proofs.lemmas.Bool.{eq-eqb, ne_eqb}
-use Rattle.cc_queue.specs.Names.{Answer, Config, Event, Job, Kind, Parcel, Place, SendAnswer, Sending, Setting, Stand}
+use Rattle.cc_queue.specs.Names.{Answer, Chain, Config, Event, Job, Kind, Parcel, Place, SendAnswer, Sending, Setting, Stand}
 use Rattle.cc_runs.specs.Lines.{event_at}
 use Rattle.cc_runs.specs.Passes.{then_did}
 use Rattle.cc_runs.specs.SendLines.{after, by_passed}
@@ -9,8 +9,9 @@ use Rattle.cc_runs.specs.ServiceLine.{On, Decides, place_of}
 use Rattle.cc_runs.specs.State.{chain_of}
 use Rattle.cc_runs.specs.Step.{advanced}
 use Rattle.cc_steps.specs.Seen.{Onward, settled}
+use Rattle.cc_steps.specs.Topic.{Topic}
 use Rattle.cc_steps.specs.Walk.{Walk, walked_to}
-use Rattle.cc_queue.specs.Work.{IsListWith, Serves, worked_to, tally, reads, marks, hands, scans}
+use Rattle.cc_queue.specs.Work.{IsListWith, IsServing, Serves, worked_to, tally, reads, marks, hands, scans}
 
 -- a step that reads no state, marks nothing and hands nothing over
 abbrev pub IsWithin : Kind → Type 0
@@ -78,3 +79,22 @@ at_start v here at = record { worked = ap (λ (p : Place). record v { stand = re
 -- so many looks at most are as many and more at most
 pub at_most : (v r : Walk) (on : Place) (few most : ℕ) → few ≤ most → Serves v on few r → Serves v on most r
 at_most v r on few most le at = record { worked = at.worked; reads = at.reads; marks = at.marks; hands = at.hands; scans = omega (arith, at.scans, le); later = at.later }
+
+-- one part of a call behind another
+pub then_serves : (v s r : Walk) (here on : Place) (few more : ℕ) → Serves v here few s → Serves s on more r → Serves v on (more + few) r
+then_serves v s r here on few more first second = record {
+  worked = second.worked ∙ ap (λ (z : Walk). worked_to z on r) first.worked;
+  reads = omega (arith, first.reads, second.reads);
+  marks = omega (arith, first.marks, second.marks);
+  hands = omega (arith, first.hands, second.hands);
+  scans = omega (arith, first.scans, second.scans);
+  later = λ seen before. second.later seen (first.later seen before);
+}
+
+-- where its pass stands then
+pub stands_at : (v s : Walk) (here : Place) (most : ℕ) → Serves v here most s → s.stand.place ≡ here
+stands_at v s here most at = ap (λ (z : Walk). z.stand.place) at.worked
+
+-- and whose its seat still is
+pub serving_on : (t : Topic) (c : Config) (x : Chain) (v s : Walk) (here : Place) (most : ℕ) → IsServing t c x v → Serves v here most s → IsServing t c x s
+serving_on t c x v s here most is at = subst (IsServing t c x) (sym at.worked) record { here = is.here; list = is.list; chain = is.chain }

@@ -1,5 +1,5 @@
 -- Calls that a pass makes again until one has another answer.
-use Rattle.std.proofs.Common.{◌≡◌, ◌≢◌, ℕ, ◌<◌, ◌≤◌, inl, inr, List, [], ◌∷◌, ◌++◌, refl, sym, ap, subst}
+use Rattle.std.proofs.Common.{◌≡◌, ◌≢◌, ◌<◌, ◌≤◌, inl, inr, List, [], ◌∷◌, ◌++◌, refl, sym, ap, subst}
 use Rattle.std.proofs.lemmas.Bool.{cases_lt}
 use Rattle.cc_queue.specs.Names.{Body, Call, Answer, Entry, SendAnswer, TakeAnswer}
 use Rattle.cc_steps.specs.Walk.{Walk}

@@ -1,6 +1,6 @@
-use Rattle.std.proofs.Common.{◌≡◌, ◌+◌, ◌-◌, ◌*◌, ◌≤◌, ◌<◌, ℕ, arith}
+use Rattle.std.proofs.Common.{◌+◌, ◌<◌, ℕ, arith}
 use Rattle.cc_queue.specs.Names.{Kind}
-use Rattle.cc_queue.specs.Work.{tally, reads, marks, hands, scans}
+use Rattle.cc_queue.specs.Work.{reads, marks, hands, scans}
 use Rattle.cc_queue.proofs.Rounds.{round_to, round_did, look_did}
 use Rattle.cc_queue.proofs.combine.combine.Goals as goal
 
