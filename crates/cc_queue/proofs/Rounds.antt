@@ -1,12 +1,13 @@
 -- A round of the combining loop, as the seat sees it: the look for the next call, the service of this one, and its mark.
-use Rattle.std.proofs.Common.{◌≡◌, ℕ, zero, suc, ◌+◌, ◌-◌, ◌<◌, ◌==◌, Bool, true, false, cond, List, ◌∷◌, None, refl, sym, ap, ◌∙◌, subst, arith}
+use Rattle.std.proofs.Common.{◌≡◌, ◌≢◌, ℕ, zero, suc, ◌+◌, ◌-◌, ◌<◌, ◌≤◌, ◌*◌, ◌==◌, Bool, true, false, cond, List, ◌∷◌, None, refl, sym, ap, ◌∙◌, subst, arith}
 use Rattle.std.proofs.lemmas.Bool.{ne_eqb}
 use Rattle.cc_queue.specs.Names.{Config, Setting, Served, Chain, Kind, Job, Round, Place, Stand}
 use Rattle.cc_runs.specs.State.{chain_of}
-use Rattle.cc_runs.specs.Lines.{after_next, after_done}
-use Rattle.cc_steps.specs.Seen.{settled}
+use Rattle.cc_runs.specs.Lines.{after_next, after_done, serves}
+use Rattle.cc_steps.specs.Seen.{Onward, settled}
+use Rattle.cc_steps.specs.Topic.{Topic}
 use Rattle.cc_steps.specs.Walk.{Walk, walked_to}
-use Rattle.cc_queue.specs.Work.{IsListWith, Serves, worked_to, round_place, tally}
+use Rattle.cc_queue.specs.Work.{IsListWith, IsServing, Serves, Works, worked_to, round_place, combined, tally, reads, marks, hands, scans}
 
 -- neither of its steps ends the call
 stays_next : (what : Served) (x : Chain) (k : Round) (n : ℕ) (z : Stand) → settled (record z { place = after_next what x k n }) ≡ record z { place = after_next what x k n }
@@ -76,3 +77,58 @@ module _ (v s r w u : Walk) (c : Config) (at served next most : ℕ) (list : IsL
 
   pub look_did : (f : Kind → ℕ) → tally f r.did ≡ f Kind.ReadNext + tally f s.did
   look_did f = ap (tally f) (looked_did v s r k next here look)
+
+-- where the look for the next call leads, in a chain of a list
+module _ (v s r : Walk) (t : Topic) (c : Config) (x : Chain) (is : IsServing t c x v) (at served next : ℕ) (below : served < c.bound) (from : s ≡ worked_to v (round_place c.bound at served) s) where
+  abbrev round : Round
+  round = record { at = at; served = served }
+
+  pub looks : s ≡ worked_to v (Place.ReadNext round) s
+  looks = from ∙ ap (λ (b : Bool). worked_to v (cond b (Place.HandOver at) (Place.ReadNext round)) s) (ne_eqb served c.bound (λ e. omega (arith, e, below)))
+
+  module _ (look : r ≡ walked_to s None next r.seen) where
+    leads : (to : Place) → after_next Served.List x round next ≡ to → r ≡ worked_to v to r
+    leads to e =
+        looked_to v s r round next looks look
+        ∙ ap (λ (z : Setting). worked_to v (after_next z.served (chain_of v.setting.config v.number) round next) r) is.list
+        ∙ ap (λ (y : Chain). worked_to v (after_next Served.List y round next) r) is.chain
+        ∙ ap (λ (p : Place). worked_to v p r) e
+
+    pub found_none : next ≡ 0 → r ≡ worked_to v (Place.HandOver at) r
+    found_none e = leads (Place.HandOver at) (ap (after_next Served.List x round) e)
+
+    pub found_one : next ≢ 0 → r ≡ worked_to v (serves Served.List x record { round = round; next = next - 1 }) r
+    found_one some = leads (serves Served.List x record { round = round; next = next - 1 }) (linked next some)
+      where
+        linked : (n : ℕ) → n ≢ 0 → after_next Served.List x round n ≡ serves Served.List x record { round = round; next = n - 1 }
+        linked zero none = absurd (none refl)
+        linked (suc n) none = ap (λ (m : ℕ). serves Served.List x record { round = round; next = m }) (omega arith)
+
+    pub looked_once : (f : Kind → ℕ) → tally f r.did ≡ f Kind.ReadNext + tally f s.did
+    looked_once f = ap (tally f) (looked_did v s r round next looks look)
+
+-- the last step of a combiner
+module _ (v s u : Walk) (at : ℕ) (there : s ≡ worked_to v (Place.HandOver at) s) (step : u ≡ walked_to s None 0 u.seen) where
+  handed : u ≡ walked_to (worked_to v (Place.HandOver at) s) None 0 u.seen
+  handed = subst (λ (z : Walk). u ≡ walked_to z None 0 u.seen) there step
+
+  handed_did : u.did ≡ Kind.HandOver ∷ s.did
+  handed_did = ap (λ (z : Walk). z.did) handed
+
+  counts : (f : Kind → ℕ) → tally f u.did ≡ f Kind.HandOver + tally f s.did
+  counts f = ap (tally f) handed_did
+
+  pub hands_over : (c : Config) (served : ℕ) → tally reads s.did ≡ tally reads v.did → tally marks s.did ≡ served + tally marks v.did → tally hands s.did ≡ tally hands v.did → tally scans s.did ≤ served * (c.capacity + 1) + tally scans v.did → Onward v.seen u.seen → Works v Place.ReadAnswer (combined c served 1) u
+  hands_over c served read mark hand scan later = record {
+    worked = handed ∙ ap (λ (did : List Kind). record v { seen = u.seen; did = did; stand = record v.stand { place = Place.ReadAnswer } }) (sym handed_did);
+    reads = omega (arith, counts reads, read);
+    marks = omega (arith, counts marks, mark);
+    hands = omega (arith, counts hands, hand);
+    scans = omega (arith, counts scans, scan);
+    later = later;
+  }
+
+-- a combiner that finds none has served its own call
+pub served_own : (served next : ℕ) → (served ≡ 0 → 0 < next) → next ≡ 0 → 0 < served
+served_own zero next own none = absurd (let some = own refl in omega (arith, some, none))
+served_own (suc n) next own none = omega arith

@@ -2,15 +2,15 @@
 use Rattle.std.proofs.Common.{◌≡◌, ◌≢◌, ℕ, ◌+◌, ◌≤◌, ◌==◌, Bool, cond, List, ◌∷◌, None, refl, sym, ap, ◌∙◌, subst, arith}
 use Rattle.std.proofs.lemmas.Bool.{eq-eqb, ne_eqb}
 use Rattle.cc_queue.specs.Names.{Answer, Chain, Config, Event, Job, Kind, Parcel, Place, SendAnswer, Sending, Setting, Stand}
-use Rattle.cc_runs.specs.Lines.{event_at}
+use Rattle.cc_runs.specs.Lines.{event_at, operation}
 use Rattle.cc_runs.specs.Passes.{then_did}
 use Rattle.cc_runs.specs.SendLines.{after, by_passed}
 use Rattle.cc_runs.specs.ServiceLine.{On, Decides, place_of}
-use Rattle.cc_runs.specs.State.{chain_of}
+use Rattle.cc_runs.specs.State.{Operation, chain_of}
 use Rattle.cc_runs.specs.Step.{advanced}
 use Rattle.cc_steps.specs.Seen.{Onward, settled}
 use Rattle.cc_steps.specs.Topic.{Topic}
-use Rattle.cc_steps.specs.Walk.{Walk, walked_to}
+use Rattle.cc_steps.specs.Walk.{IsOf, Steps, Walk, walked_to}
 use Rattle.cc_queue.specs.Work.{IsListWith, IsServing, Serves, worked_to, tally, reads, marks, hands, scans}
 
 -- a step that reads no state, marks nothing and hands nothing over
@@ -98,3 +98,11 @@ stands_at v s here most at = ap (λ (z : Walk). z.stand.place) at.worked
 -- and whose its seat still is
 pub serving_on : (t : Topic) (c : Config) (x : Chain) (v s : Walk) (here : Place) (most : ℕ) → IsServing t c x v → Serves v here most s → IsServing t c x s
 serving_on t c x v s here most is at = subst (IsServing t c x) (sym at.worked) record { here = is.here; list = is.list; chain = is.chain }
+
+-- it can do the step at which it stands
+pub can_step : (v s : Walk) (here : Place) (k : Kind) (op : Operation) → s ≡ worked_to v here s → event_at here ≡ Event.Did k → operation v.setting (chain_of v.setting.config v.number) v.stand.node here ≡ op → Steps s k op
+can_step v s here k op at event does = subst (λ (z : Walk). Steps z k op) (sym at) (event, does)
+
+-- and its seat is still of that topic
+pub of_still : (t : Topic) (v s : Walk) (here : Place) → IsOf t v → s ≡ worked_to v here s → IsOf t s
+of_still t v s here is at = subst (IsOf t) (sym at) is
