@@ -6,7 +6,7 @@ use Rattle.cc_steps.specs.Walk.{Walk, fresh, fresh_from}
 use Rattle.cc_steps.proofs.Dealt.{fresh_push}
 
 -- the first seat of such a row, and the others
-first_seat : (z : Topic) (p : ℕ) (ws : List Walk) (w : Walk) → 0 < length ws → fresh_from z p ws → w ≡ slice_index_or ws 0 w → w ≡ fresh z p
+pub first_seat : (z : Topic) (p : ℕ) (ws : List Walk) (w : Walk) → 0 < length ws → fresh_from z p ws → w ≡ slice_index_or ws 0 w → w ≡ fresh z p
 first_seat z p [] w some f is = absurd (omega (arith, some))
 first_seat z p (x ∷ ws) w some f is = is ∙ f.0
 
