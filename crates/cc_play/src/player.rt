@@ -2,10 +2,10 @@
 ghost use Rattle.std.specs.Prelude.{◌≡◌, ◌<◌, Some, Ok, List, length, IfOk, IfSome, OnOk, ◌^◌, ◌-◌};
 ghost use Rattle.cc_model.specs.Body.{HasBody};
 ghost use Rattle.cc_model.specs.Items.{known_at};
-ghost use Rattle.cc_play.specs.Names.{Move};
+ghost use Rattle.cc_play.specs.Names.{Event, Move};
 ghost use Rattle.cc_runs.specs.Run.{passes, reached, IsRun};
 ghost use Rattle.cc_machine.specs.View.{state_in};
-ghost use Rattle.cc_machine.specs.Machine.{index_of, HasBegun, begin_fault};
+ghost use Rattle.cc_machine.specs.Machine.{index_of, event_of, HasBegun, begin_fault};
 ghost use Rattle.cc_plan.specs.Plan.{plan_value};
 ghost use Rattle.cc_plan.specs.PlanLaws.{Lawful};
 ghost use Rattle.cc_play.specs.Schedule.{setting_of, next_call, IsAt, IsBetweenTurns, HasTurned, IsOnItsWay, entry, run_of};
@@ -67,17 +67,35 @@ pub fn turn(
             machine.answer(pass);
             Ok(Event::Did(kind))
         }
-        Event::Idle => match next_call(plan, pass, begun[row]) {
-            Some(call) => {
-                begin(machine, pass, call)?;
-                begun[row] += 1;
-                machine.event(pass);
-                machine.answer(pass);
-                Ok(Event::Did(Kind::ResetNext))
-            }
-            None => Ok(Event::Idle),
-        },
+        Event::Idle => begin_turn(machine, begun, plan, pass, row),
     }
+}
+
+/// The event of a pass that has no step to do: the first of its next call, where the plan has one.
+fn begin_turn(
+    machine: &mut Machine,
+    begun: &mut [usize],
+    plan: &Plan,
+    pass: Pass,
+    row: usize,
+) -> Result<Event, AllocError>
+    requires lawful { Lawful (plan_value plan.now) }
+    requires pass { index_of (setting_of (plan_value plan.now)) pass ≡ Some row }
+    requires row { row < length begun.old }
+    requires between { IsBetweenTurns (plan_value plan.now) machine.old begun.old }
+    requires idle { Event.Idle ≡ event_of machine.old pass }
+    ensures turned { IfOk result (λ event. HasTurned (plan_value plan.now) pass row machine.old machine.new begun.old begun.new event) }
+    ensures between { OnOk result (IsBetweenTurns (plan_value plan.now) machine.new begun.new) }
+    ensures rows { length begun.new ≡ length begun.old }
+{
+    let Some(call) = next_call(plan, pass, begun[row]) else {
+        return Ok(Event::Idle);
+    };
+    begin(machine, pass, call)?;
+    begun[row] += 1;
+    machine.event(pass);
+    machine.answer(pass);
+    Ok(Event::Did(Kind::ResetNext))
 }
 
 /// Some of so many events of a pass, of which there is one at least; tells how many are left. None are left where the pass
@@ -105,7 +123,7 @@ fn go_on(
     if done == left || machine.is_waiting(pass) {
         return Ok(0);
     }
-    match turn(machine, begun, plan, pass, row)? {
+    match begin_turn(machine, begun, plan, pass, row)? {
         Event::Did(_) => Ok(left - done - 1),
         Event::Idle => Ok(0),
     }

@@ -22,8 +22,8 @@ returns-then-done-left-clause-between c =
     gone_between (plan_value c.args.plan.now) c.args.pass c.args.row c.requires.pass c.args.machine.now c.events-done.new.self c.answer.new.self c.args.begun.now c.events-done.result c.answer.result
     c.requires.between c.events-done.ensures.state c.answer.ensures.answer c.answer.ensures.state
 
-pub turn-requires-clause-between : goal.turn-requires-clause-between
-turn-requires-clause-between c =
+pub begin_turn-requires-clause-between : goal.begin_turn-requires-clause-between
+begin_turn-requires-clause-between c =
     gone_between (plan_value c.args.plan.now) c.args.pass c.args.row c.requires.pass c.args.machine.now c.events-done.new.self c.answer.new.self c.args.begun.now c.events-done.result c.answer.result
     c.requires.between c.events-done.ensures.state c.answer.ensures.answer c.answer.ensures.state
 
@@ -32,11 +32,11 @@ returns-in-Did-clause-on c =
     let turned = gone_turned (plan_value c.args.plan.now) c.args.pass c.args.row c.requires.pass c.args.machine.now c.events-done.new.self c.answer.new.self c.args.begun.now c.events-done.result c.answer.result
     (c.requires.between.taken c.args.row) c.events-done.ensures.state c.answer.ensures.answer c.answer.ensures.state in
     turned_on (plan_value c.args.plan.now) c.args.pass c.args.row c.requires.pass _ _ _ _ _ c.events-done.result c.args.left (c.args.left - c.events-done.result - 1)
-    (omega (arith, c.events-done.ensures.most, c.if-done-left.false)) turned c.in_ok-turn.ensures.turned
+    (omega (arith, c.events-done.ensures.most, c.if-done-left.false)) turned c.in_ok-begin_turn.ensures.turned
 
 pub returns-in-Idle-clause-on : goal.returns-in-Idle-clause-on
 returns-in-Idle-clause-on c =
     let turned = gone_turned (plan_value c.args.plan.now) c.args.pass c.args.row c.requires.pass c.args.machine.now c.events-done.new.self c.answer.new.self c.args.begun.now c.events-done.result c.answer.result
     (c.requires.between.taken c.args.row) c.events-done.ensures.state c.answer.ensures.answer c.answer.ensures.state in
     ended_on (plan_value c.args.plan.now) c.args.pass c.args.row c.requires.pass _ _ _ _ _ c.events-done.result c.args.left
-    (omega (arith, c.events-done.ensures.most, c.if-done-left.false)) turned c.in_ok-turn.ensures.turned c.in-Idle.is
+    (omega (arith, c.events-done.ensures.most, c.if-done-left.false)) turned c.in_ok-begin_turn.ensures.turned c.in-Idle.is

@@ -1,0 +1,29 @@
+use Rattle.std.proofs.Common.{◌∙◌, refl, sym}
+use Rattle.cc_play.proofs.Turns.{begun_turned, none_turned}
+use Rattle.cc_play.proofs.Between.{idle_between, may_begin, begun_between}
+use Rattle.cc_model.specs.Items.{known_at}
+use Rattle.cc_plan.specs.Plan.{plan_value}
+use Rattle.cc_play.proofs.player.begin_turn.Goals as goal
+
+pub begin-requires : goal.begin-requires
+begin-requires c =
+    may_begin (plan_value c.args.plan.now) c.args.pass c.args.row c.args.machine.now c.args.begun.now c.in-Some.call c.requires.lawful c.requires.pass c.requires.between
+    c.requires.idle (sym c.next_call.ensures.call ∙ c.in-Some.is)
+
+pub returns-clause-between : goal.returns-clause-between
+returns-clause-between c =
+    begun_between (plan_value c.args.plan.now) c.args.pass c.args.row c.requires.pass c.args.machine.now _ _ _ _ c.in-Some.call (known_at c.args.pass c.args.machine.now.history) c.event.result _ c.requires.between c.requires.row
+    c.in_ok-begin.ensures.begun c.event.ensures.state c.answer.ensures.answer c.answer.ensures.state
+
+pub returns-clause-turned : goal.returns-clause-turned
+returns-clause-turned c =
+    begun_turned (plan_value c.args.plan.now) c.args.pass c.args.row c.requires.pass _ _ _ _ _ c.in-Some.call _ _ c.requires.row (sym c.next_call.ensures.call ∙ c.in-Some.is)
+    (idle_between (plan_value c.args.plan.now) c.args.pass c.args.row c.requires.pass _ _ c.requires.between c.requires.idle)
+    c.in_ok-begin.ensures.body
+    (may_begin (plan_value c.args.plan.now) c.args.pass c.args.row c.args.machine.now c.args.begun.now c.in-Some.call c.requires.lawful c.requires.pass c.requires.between c.requires.idle (sym c.next_call.ensures.call ∙ c.in-Some.is))
+    c.in_ok-begin.ensures.begun
+    c.event.ensures.event c.event.ensures.state c.answer.ensures.answer c.answer.ensures.state
+
+pub returns-in_default-clause-turned : goal.returns-in_default-clause-turned
+returns-in_default-clause-turned c =
+    none_turned (plan_value c.args.plan.now) c.args.pass c.args.row c.requires.pass c.args.machine.now c.args.machine.now c.args.begun.now c.requires.row (c.requires.between.taken c.args.row) c.requires.idle refl (sym c.next_call.ensures.call ∙ c.in_default.is)
