@@ -5,14 +5,16 @@
 
 It runs `crates/ccq/out/ccq` (build it by `rt run` in crates/ccq) on plans of 64 senders and 64 receivers with capacity
 4,096 whose calls are all accepted and all get their items, a sender's 3,500 whole calls and then a receiver's, and
-`plain stepping` of bench/plain (`cargo build --release`); --beside names another `ccq`, told as `before`. The parts:
+`plain stepping_four` and `plain stepping` of bench/plain (`cargo build --release`); --beside names another `ccq`, told as
+`before`. The parts:
 
   read    the plan with no schedule: its text is read, and the machine opened
   play    the schedule, and the audit of its receipts: the same plan written to /dev/full, where the first write of the
           report fails, less `read`
   report  the whole run, less both
 
-in nanoseconds for each working event; `by hand` has no audit and no report, and its time is that of its whole run.
+in nanoseconds for each working event; `by hand` has no audit and no report, and its time is that of its whole run: with
+room for four words in a body, as the machine has, and with room for one.
 """
 import argparse
 import os
@@ -28,6 +30,7 @@ QUEUE = os.path.join(TOP, "crates", "ccq", "out", "ccq")
 PLAIN = os.path.join(TOP, "bench", "plain", "target", "release", "plain")
 PASSES, CAPACITY, IN_ONE = 64, 4096, 3500
 SEND, TAKE = 28, 23
+HAND = {"stepping_four": "four words", "stepping": "one word"}
 
 
 def plan(calls, played):
@@ -85,8 +88,7 @@ def main():
         none, whole = texts
         report = os.path.join(room, "report")
         parts = {(name, part): [] for name in names for part in ("read", "play", "report")}
-        hand = []
-        line = [PLAIN, "stepping", str(PASSES), str(PASSES), str(CAPACITY), str(options.calls)]
+        hand = {mode: [] for mode in HAND}
         for _ in range(options.rounds):
             for name in random.sample(list(names), len(names)):
                 read = processors([name, "play"], none, report, 0)
@@ -94,12 +96,16 @@ def main():
                 both = processors([name, "play"], whole, report, 0)
                 for part, seconds in (("read", read), ("play", play - read), ("report", both - play)):
                     parts[name, part].append(seconds * 1e9 / events)
-            hand.append(processors(line, none, report, 0) * 1e9 / events)
+            for mode in random.sample(list(HAND), len(HAND)):
+                line = [PLAIN, mode, str(PASSES), str(PASSES), str(CAPACITY), str(options.calls)]
+                hand[mode].append(processors(line, none, report, 0) * 1e9 / events)
     print(f"{events:,} events, nanoseconds of the processors an event, {options.rounds} rounds", flush=True)
     for (name, part), values in parts.items():
-        ratio = f", {statistics.median(values) / statistics.median(hand):.2f} of by hand" if part == "play" else ""
+        ratio = f", {statistics.median(values) / statistics.median(hand['stepping_four']):.2f} of by hand" if part == "play" else ""
         print(f"{names[name]}  {part}  {told(values)}{ratio}", flush=True)
-    print(f"by hand  {told(hand)}; load {os.getloadavg()[0]:.2f}", flush=True)
+    for mode, room in HAND.items():
+        print(f"by hand, room for {room}  {told(hand[mode])}", flush=True)
+    print(f"load {os.getloadavg()[0]:.2f}", flush=True)
 
 
 if __name__ == "__main__":
