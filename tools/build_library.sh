@@ -31,7 +31,7 @@ build_over_gate() {
     for crate in $below; do
         words+=(-L "dependency=$PWD/crates/$crate/out/rlib")
     done
-    words+=(--antt-project "$kit/rattle/logic/antt-project.json" --logic-built "$kit/logic_built" --jobs 2)
+    words+=(--antt-project "$kit/rattle/logic/antt-project.json" --logic-built "$kit/logic_built" --jobs 1)
     words+=(--links cc_binding= --crate-type staticlib --backend llvm --toolchain "$kit/toolchain" -o "$archive")
     (cd crates/cc_binding && "$kit/bin/rattle" build "${words[@]}")
 }
