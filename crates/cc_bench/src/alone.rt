@@ -35,6 +35,25 @@ fn each_in_turn<R: Wait, const WORDS: u64>(
     passed
 }
 
+/// The same, with bodies of as many words as the load says.
+fn all_in_turn<R: Wait>(
+    rt: &R,
+    queue: &Queue,
+    sender: Sender,
+    receiver: Receiver,
+    load: Load,
+) -> u64
+    requires { IsOf queue.now sender × IsOf queue.now receiver }
+{
+    let Load { items, words } = load;
+    match words {
+        2 => each_in_turn::<R, 2>(rt, queue, sender, receiver, items),
+        3 => each_in_turn::<R, 3>(rt, queue, sender, receiver, items),
+        4 => each_in_turn::<R, 4>(rt, queue, sender, receiver, items),
+        _ => each_in_turn::<R, 1>(rt, queue, sender, receiver, items),
+    }
+}
+
 /// The first sender and the first receiver of a queue send and take in turn.
 pub fn send_and_take<R: Wait>(rt: &R, opened: Opened, load: Load) -> u64
     requires { CameFrom opened }
@@ -44,14 +63,8 @@ pub fn send_and_take<R: Wait>(rt: &R, opened: Opened, load: Load) -> u64
         mut senders,
         mut receivers,
     } = opened;
-    let Load { items, words } = load;
     match (senders.pop(), receivers.pop()) {
-        (Some(sender), Some(receiver)) => match words {
-            2 => each_in_turn::<R, 2>(rt, &queue, sender, receiver, items),
-            3 => each_in_turn::<R, 3>(rt, &queue, sender, receiver, items),
-            4 => each_in_turn::<R, 4>(rt, &queue, sender, receiver, items),
-            _ => each_in_turn::<R, 1>(rt, &queue, sender, receiver, items),
-        },
+        (Some(sender), Some(receiver)) => all_in_turn(rt, &queue, sender, receiver, load),
         _ => 0,
     }
 }
