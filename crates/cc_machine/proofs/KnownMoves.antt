@@ -8,6 +8,7 @@ use Rattle.cc_machine.specs.Names.{Pass, Call, Item, Entry, Answer, SendAnswer, 
 use Rattle.cc_model.proofs.Grows.{any-append, accepted_more, handed_by-append}
 use Rattle.cc_runs.specs.State.{side, appended, noted}
 use Rattle.std.proofs.lemmas.Bool.{cases_eq}
+use Rattle.std.proofs.lemmas.Option.{slice_get-get_or}
 use Rattle.cc_runs.proofs.Chains.Registers.{HasSide}
 use Rattle.cc_runs.proofs.Chains.Opening.{no_calls}
 use Rattle.cc_runs.proofs.ListRuns.Decided.{group_mine, group_other}
@@ -218,7 +219,7 @@ entry_counted h k place adds shut calls answers c a calls_are answers_are order 
     let after : take (place + 1) h.sends.answers ≡ take place h.sends.answers ++ told ∷ [] = take_more h.sends.answers place a there ∙ ap (λ (l : List Answer). take place h.sends.answers ++ get_or l place a ∷ []) (sym answers_are) in
     let long : length (take place h.sends.answers) ≡ place = length-take-le place h.sends.answers (omega (arith, there)) in
     let at_call : slice_get h.sends.calls (length (take place h.sends.answers)) ≡ Some call =
-    ap (λ (n : ℕ). slice_get h.sends.calls n) long ∙ there_is h.sends.calls place c (omega (arith, there, order)) ∙ ap (λ (l : List Entry). Some (get_or l place c)) (sym calls_are) in
+    ap (λ (n : ℕ). slice_get h.sends.calls n) long ∙ slice_get-get_or h.sends.calls place c (omega (arith, there, order)) ∙ ap (λ (l : List Entry). Some (get_or l place c)) (sym calls_are) in
     let items : accepted_by h.sends.calls (take (place + 1) h.sends.answers) ≡ accepted_by h.sends.calls (take place h.sends.answers) ++ accepted_item call told =
     ap (λ (l : List Answer). accepted_by h.sends.calls l) after ∙ accepted_more h.sends.calls (take place h.sends.answers) call told at_call in
     let mark : list_any shuts (take (place + 1) h.sends.answers) ≡ (k.shut || shuts told) =
@@ -242,11 +243,6 @@ entry_counted h k place adds shut calls answers c a calls_are answers_are order 
     or_false : (b : Bool) → (b || false) ≡ b
     or_false true = refl
     or_false false = refl
-
-    there_is : (xs : List Entry) (i : ℕ) (d : Entry) → i < length xs → slice_get xs i ≡ Some (get_or xs i d)
-    there_is [] i d inside = absurd (omega (arith, inside))
-    there_is (x ∷ xs) zero d inside = refl
-    there_is (x ∷ xs) (suc i) d inside = there_is xs i d (omega (arith, inside))
 
 one_item : (a : Answer) → adds_handed a ≤ 1
 one_item (Answer.Take (TakeAnswer.Got item)) = omega arith

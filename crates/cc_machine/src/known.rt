@@ -11,10 +11,15 @@ use cc_model::{Answer, Call, CloseAnswer, Entry, History, Pass, SendAnswer, Take
 /// answered since the last one, so that it needn't go through the whole history, and an event needn't count.
 #[derive(Clone, Copy)]
 pub struct Known {
+    /// How many answers of senders are counted.
     pub sent: usize,
+    /// The entries of the list after these: at most one for each.
     pub entries: u64,
+    /// Whether one of these shut the queue.
     pub shut: bool,
+    /// How many answers of each group are counted, by the group's place from 0.
     pub taken: [usize; 8],
+    /// How many items each group was handed by these.
     pub handed: [u64; 8],
 }
 
