@@ -1,15 +1,15 @@
 -- A loop over the words of a body: where a step on a word leads.
-use Rattle.std.proofs.Common.{◌≡◌, ℕ, ◌+◌, ◌<◌, Bool, true, false, cond, nat_lt, List, ◌∷◌, None, refl, sym, ap, ◌∙◌, subst, arith}
+use Rattle.std.proofs.Common.{◌≡◌, ℕ, ◌+◌, ◌<◌, Bool, true, false, cond, nat_lt, None, refl, ap, ◌∙◌, subst, arith}
 use Rattle.std.proofs.lemmas.Bool.{lt-ltb}
 use Rattle.cc_queue.specs.Names.{Event, Kind, Place, Stand}
 use Rattle.cc_runs.specs.Codes.{behind}
 use Rattle.cc_runs.specs.Lines.{event_at}
-use Rattle.cc_runs.specs.Passes.{then_did}
 use Rattle.cc_runs.specs.State.{chain_of}
 use Rattle.cc_runs.specs.Step.{advanced}
 use Rattle.cc_steps.specs.Seen.{Onward, settled}
 use Rattle.cc_steps.specs.Walk.{Walk, walked_to}
-use Rattle.cc_queue.specs.Work.{Serves, worked_to, tally, reads, marks, hands, scans}
+use Rattle.cc_queue.proofs.Service.{one_step}
+use Rattle.cc_queue.specs.Work.{Serves, reads, marks, hands, scans}
 
 -- a pass that came to the first place stands at the second one, once an answer is taken
 abbrev pub Settles : Place → Place → Type 0
@@ -24,32 +24,11 @@ abbrev pub IsUncounted : Kind → Type 0
 IsUncounted k = (reads k ≡ 0) × (marks k ≡ 0) × (hands k ≡ 0) × (scans k ≡ 0)
 
 -- one step, which isn't counted
-module _ (v s r : Walk) (k : Kind) (here to on : Place) (found : ℕ) (at : Serves v here 0 s) (step : r ≡ walked_to s None found r.seen) (later : Onward s.seen r.seen)
-    (event : event_at here ≡ Event.Did k) (uncounted : IsUncounted k) (goes : (z : Stand) → advanced v.setting (chain_of v.setting.config v.number) (record z { place = here }) found ≡ record z { place = to }) (settles : Settles to on) where
-  went : r ≡ walked_to (worked_to v here s) None found r.seen
-  went = subst (λ (z : Walk). r ≡ walked_to z None found r.seen) at.worked step
-
-  did : r.did ≡ k ∷ s.did
-  did = ap (λ (z : Walk). z.did) went ∙ ap (λ (e : Event). then_did e s.did) event
-
-  worked : r ≡ worked_to v on r
-  worked =
-      went
-      ∙ ap (λ (z : Stand). record v { seen = r.seen; did = then_did (event_at here) s.did; stand = z }) (ap settled (goes v.stand) ∙ settles v.stand)
-      ∙ ap (λ (all : List Kind). record v { seen = r.seen; did = all; stand = record v.stand { place = on } }) (sym (ap (λ (z : Walk). z.did) went))
-
-  counts : (f : Kind → ℕ) → tally f r.did ≡ f k + tally f s.did
-  counts f = ap (tally f) did
-
-  stepped : Serves v on 0 r
-  stepped = record {
-    worked = worked;
-    reads = omega (arith, counts reads, uncounted.0, at.reads);
-    marks = omega (arith, counts marks, uncounted.1, at.marks);
-    hands = omega (arith, counts hands, uncounted.2, at.hands);
-    scans = omega (arith, counts scans, uncounted.3, at.scans);
-    later = λ first before. later first (at.later first before);
-  }
+stepped : (v s r : Walk) (k : Kind) (here to on : Place) (found : ℕ) → Serves v here 0 s → r ≡ walked_to s None found r.seen → Onward s.seen r.seen → event_at here ≡ Event.Did k → IsUncounted k
+    → ((z : Stand) → advanced v.setting (chain_of v.setting.config v.number) (record z { place = here }) found ≡ record z { place = to }) → Settles to on → Serves v on 0 r
+stepped v s r k here to on found at step later event uncounted goes settles =
+    subst (λ (n : ℕ). Serves v on n r) (omega (arith, uncounted.3))
+    (one_step v s r k here on 0 found at step later event (uncounted.0, uncounted.1, uncounted.2) (λ z. ap settled (goes z) ∙ settles z))
 
 -- a word behind others, while there is one left
 pub at_word : (v s : Walk) (here on : Place) (further i : ℕ) → Serves v (behind further i here on) 0 s → i < further → Serves v here 0 s
