@@ -1,5 +1,5 @@
 //! What stands behind a handle.
-ghost use Rattle.std.specs.Prelude.{◌≡◌, Some};
+ghost use Rattle.std.specs.Prelude.{◌≡◌, Some, None};
 ghost use Rattle.cc_steps.specs.Walk.{IsOf};
 ghost use Rattle.cc_binding.specs.Passes.{walk_of, holding};
 
@@ -83,11 +83,12 @@ impl Drop for Held {
     }
 }
 
-/// Puts a pass back.
+/// Puts a pass back, where it was taken from: nothing stands there, and so nothing is looked for.
 pub(crate) fn put(place: &mut Option<Pass>, pass: Pass)
+    requires place { place.old ≡ None }
     ensures { place.new ≡ Some pass }
 {
-    if let Some(old) = place.replace(pass) {
-        let_go(old);
+    if let Some(_) = place.replace(pass) {
+        unreachable!()
     }
 }
