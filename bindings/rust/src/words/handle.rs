@@ -186,6 +186,9 @@ pub trait TakeCalls: Copy {
     /// No item.
     const NONE: Self;
 
+    /// The same item, read field by field.
+    fn read(&self) -> Self;
+
     fn turn_take(handle: &mut Handle, item: &mut Self, total: &mut u64, served: &mut u32) -> u32;
 
     fn try_take(handle: &mut Handle, item: &mut Self, total: &mut u64, served: &mut u32) -> u32;
@@ -238,6 +241,22 @@ impl TakeCalls for Item {
     };
 
     #[inline]
+    fn read(&self) -> Item {
+        let Item {
+            place,
+            sender,
+            number,
+            body,
+        } = *self;
+        Item {
+            place,
+            sender,
+            number,
+            body,
+        }
+    }
+
+    #[inline]
     fn turn_take(handle: &mut Handle, item: &mut Item, total: &mut u64, served: &mut u32) -> u32 {
         unsafe { vahepito_turn_take(&mut handle.0, item, total, served) }
     }
@@ -250,6 +269,11 @@ impl TakeCalls for Item {
 
 impl TakeCalls for WordsItem {
     const NONE: WordsItem = WordsItem::NONE;
+
+    #[inline]
+    fn read(&self) -> WordsItem {
+        self.by_fields()
+    }
 
     #[inline]
     fn turn_take(

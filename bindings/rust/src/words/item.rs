@@ -55,6 +55,25 @@ impl WordsItem {
         && offset_of!(WordsItem, count) == 16
         && offset_of!(WordsItem, words) == 24;
 
+    /// The same item, read field by field.
+    #[inline]
+    pub(crate) fn by_fields(&self) -> WordsItem {
+        let WordsItem {
+            place,
+            sender,
+            number,
+            count,
+            words,
+        } = *self;
+        WordsItem {
+            place,
+            sender,
+            number,
+            count,
+            words,
+        }
+    }
+
     /// What was sent: one to four words.
     pub fn words(&self) -> &[u64] {
         &self.words[..self.count]

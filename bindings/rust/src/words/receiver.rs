@@ -99,7 +99,7 @@ impl<I: ItemForm> Receiver<I> {
     /// ```
     #[inline]
     pub fn try_recv(&mut self) -> Result<I, TryRecvError> {
-        let taken = self.try_recv_at_once(I::clone);
+        let taken = self.try_recv_at_once(I::read);
         taken.or_else(|told| self.go_on_taking(told))
     }
 
