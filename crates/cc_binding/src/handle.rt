@@ -28,6 +28,15 @@ impl Handle {
         }
     }
 
+    /// Holds this, where it held nothing.
+    pub fn hold(&mut self, held: Box<Held>)
+        requires { self.old.boxed.value ≡ None }
+        ensures { self.new.boxed.value ≡ Some held.value }
+    {
+        self.boxed = Boxed::pack(Loose::of(held));
+        self.live = true;
+    }
+
     /// What the handle holds, which is empty afterwards.
     pub fn take(&mut self, alloc: Global) -> Option<Box<Held>>
         ensures after { self.new.boxed.value ≡ None }

@@ -138,7 +138,7 @@ pub extern "C" fn vahepito_begin_send(alloc: Global, sender: &mut Handle, body: 
         return NO_PASS;
     };
     let code = held.begin_send(Ok(Body::one(body)));
-    *sender = Handle::of(held);
+    sender.hold(held);
     code
 }
 
@@ -157,7 +157,7 @@ pub extern "C" fn vahepito_begin_send_words(
     };
     let body = held.fitting(words);
     let code = held.begin_send(body);
-    *sender = Handle::of(held);
+    sender.hold(held);
     code
 }
 
@@ -175,7 +175,7 @@ pub extern "C" fn vahepito_turn_send(
     let told = match sender.take(alloc) {
         Some(mut held) => {
             let told = held.turn_send();
-            *sender = Handle::of(held);
+            sender.hold(held);
             told
         }
         None => Told::only(NO_PASS),
@@ -200,7 +200,7 @@ pub extern "C" fn vahepito_try_send(
     let told = match sender.take(alloc) {
         Some(mut held) => {
             let told = held.try_send(Ok(Body::one(body)));
-            *sender = Handle::of(held);
+            sender.hold(held);
             told
         }
         None => Told::only(NO_PASS),
@@ -226,7 +226,7 @@ pub extern "C" fn vahepito_try_send_words(
         Some(mut held) => {
             let body = held.fitting(words);
             let told = held.try_send(body);
-            *sender = Handle::of(held);
+            sender.hold(held);
             told
         }
         None => Told::only(NO_PASS),
@@ -246,7 +246,7 @@ pub extern "C" fn vahepito_is_worn(alloc: Global, sender: &mut Handle) -> u32
         return NO_PASS;
     };
     let code = held.is_worn();
-    *sender = Handle::of(held);
+    sender.hold(held);
     code
 }
 
@@ -260,7 +260,7 @@ pub extern "C" fn vahepito_begin_close(alloc: Global, sender: &mut Handle) -> u3
         return NO_PASS;
     };
     let code = held.begin_close();
-    *sender = Handle::of(held);
+    sender.hold(held);
     code
 }
 
@@ -278,7 +278,7 @@ pub extern "C" fn vahepito_turn_close(
     let told = match sender.take(alloc) {
         Some(mut held) => {
             let told = held.turn_close();
-            *sender = Handle::of(held);
+            sender.hold(held);
             told
         }
         None => Told::only(NO_PASS),
@@ -298,7 +298,7 @@ pub extern "C" fn vahepito_begin_take(alloc: Global, receiver: &mut Handle) -> u
         return NO_PASS;
     };
     let code = held.begin_take();
-    *receiver = Handle::of(held);
+    receiver.hold(held);
     code
 }
 
@@ -387,7 +387,7 @@ pub extern "C" fn vahepito_group(alloc: Global, receiver: &mut Handle, group: &m
     let (code, number) = match receiver.take(alloc) {
         Some(held) => {
             let told = held.group();
-            *receiver = Handle::of(held);
+            receiver.hold(held);
             told
         }
         None => (NO_PASS, 0),

@@ -133,7 +133,7 @@ pub fn turn_take<I: ItemForm>(alloc: Global, receiver: &mut Handle) -> Taken<I>
     match receiver.take(alloc) {
         Some(mut held) => {
             let told = held.turn_take();
-            *receiver = Handle::of(held);
+            receiver.hold(held);
             told
         }
         None => Taken::only(NO_PASS),
@@ -149,7 +149,7 @@ pub fn try_take<I: ItemForm>(alloc: Global, receiver: &mut Handle) -> Taken<I>
     match receiver.take(alloc) {
         Some(mut held) => {
             let told = held.try_take();
-            *receiver = Handle::of(held);
+            receiver.hold(held);
             told
         }
         None => Taken::only(NO_PASS),
