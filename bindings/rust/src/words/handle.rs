@@ -5,7 +5,7 @@
 use crate::words::{Config, Item, OpenError, WordsItem};
 use std::ffi::c_void;
 use std::mem::{offset_of, size_of};
-use std::ptr::null_mut;
+use std::ptr::{null_mut, read_volatile};
 
 /// What a call tells, by the header's names.
 pub mod code {
@@ -194,6 +194,14 @@ pub trait TakeCalls: Copy {
     fn try_take(handle: &mut Handle, item: &mut Self, total: &mut u64, served: &mut u32) -> u32;
 }
 
+/// A field of an item that the library has just written, read by itself: what reads two fields at once
+/// waits until both are written.
+#[inline]
+pub fn field<T: Copy>(at: &T) -> T {
+    // SAFETY: it is read from a reference.
+    unsafe { read_volatile(at) }
+}
+
 /// One pass of a queue. It is empty, or `open` filled it; it isn't copied, and its drop lets the
 /// pass go.
 #[repr(transparent)]
@@ -242,17 +250,11 @@ impl TakeCalls for Item {
 
     #[inline]
     fn read(&self) -> Item {
-        let Item {
-            place,
-            sender,
-            number,
-            body,
-        } = *self;
         Item {
-            place,
-            sender,
-            number,
-            body,
+            place: field(&self.place),
+            sender: field(&self.sender),
+            number: field(&self.number),
+            body: field(&self.body),
         }
     }
 

@@ -1,5 +1,5 @@
 //! Items that were taken: of one word, or of one to four.
-use crate::words::handle::TakeCalls;
+use crate::words::handle::{TakeCalls, field};
 use std::mem::{offset_of, size_of};
 
 /// An item that was taken.
@@ -58,19 +58,12 @@ impl WordsItem {
     /// The same item, read field by field.
     #[inline]
     pub(crate) fn by_fields(&self) -> WordsItem {
-        let WordsItem {
-            place,
-            sender,
-            number,
-            count,
-            words,
-        } = *self;
         WordsItem {
-            place,
-            sender,
-            number,
-            count,
-            words,
+            place: field(&self.place),
+            sender: field(&self.sender),
+            number: field(&self.number),
+            count: field(&self.count),
+            words: self.words.each_ref().map(field),
         }
     }
 
