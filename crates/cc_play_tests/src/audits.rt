@@ -5,6 +5,7 @@ use cc_audit::{SendReceipt, TakeReceipt, Verdict, audit, send_receipts, take_rec
 use cc_model::{
     Answer, Body, Call, CloseAnswer, Entry, History, Item, Pass, SendAnswer, TakeAnswer,
 };
+use cc_play::play::audit_of;
 use std::alloc::{AllocError, Global};
 use std::process::Abort;
 use std::test::Fail;
@@ -139,9 +140,8 @@ fn add_take(
     Ok(())
 }
 
-/// Writes down a send that was accepted, and a take of the first group that got its item.
-fn add_item(history: &mut History, item: Item) -> Result<(), AllocError>
-    requires { 0 < length history.old.takes }
+/// Writes down a send that was accepted.
+fn add_sent(history: &mut History, item: Item) -> Result<(), AllocError>
     ensures { length history.new.takes ≡ length history.old.takes }
 {
     let answer = Answer::Send(SendAnswer::Accepted { place: item.place });
@@ -151,8 +151,19 @@ fn add_item(history: &mut History, item: Item) -> Result<(), AllocError>
         Call::Send(item.body),
         item.number,
         Some(answer),
-    )?;
-    add_take(history, 0, 1, Some(TakeAnswer::Got(item)))
+    )
+}
+
+/// Writes down takes of a group that got the items at these places.
+fn add_takes(history: &mut History, group: usize, places: &str) -> Result<(), AllocError>
+    requires { group < length history.old.takes }
+    ensures { length history.new.takes ≡ length history.old.takes }
+{
+    for place in places.bytes() {
+        let item = item_at(u32::from(place % 16));
+        add_take(history, group, 1, Some(TakeAnswer::Got(item)))?;
+    }
+    Ok(())
 }
 
 /// The calls that nobody has an item by: a send that found the queue full, a close, a send behind it, and one without an
@@ -173,24 +184,21 @@ fn add_further(history: &mut History) -> Result<(), AllocError>
     add_take(history, 0, 2, None)
 }
 
-/// Three items were accepted, and the first of two groups took them. The second group took those that are named, by their
-/// places.
-fn two_groups(alloc: Global, second: &str) -> Result<History, AllocError>
+/// Three items were accepted, and each of two groups took those at these places.
+fn two_groups(alloc: Global, first: &str, second: &str) -> Result<History, AllocError>
     ensures { IfOk result (λ history. length history.takes ≡ 2) }
 {
     let mut history = History::new(alloc, 2)?;
-    add_item(&mut history, item_at(0))?;
-    add_item(&mut history, item_at(1))?;
-    add_item(&mut history, item_at(2))?;
+    add_sent(&mut history, item_at(0))?;
+    add_sent(&mut history, item_at(1))?;
+    add_sent(&mut history, item_at(2))?;
+    add_takes(&mut history, 0, first)?;
     add_further(&mut history)?;
-    for place in second.bytes() {
-        let item = item_at(u32::from(place % 16));
-        add_take(&mut history, 1, 1, Some(TakeAnswer::Got(item)))?;
-    }
+    add_takes(&mut history, 1, second)?;
     Ok(history)
 }
 
-/// The receipts of that history.
+/// The receipts of such a history, whose first group took all three.
 #[derive(Drop)]
 struct Receipts {
     sends: Vec<SendReceipt>,
@@ -200,7 +208,7 @@ struct Receipts {
 }
 
 fn receipts_of(alloc: Global, second: &str) -> Result<Receipts, AllocError> {
-    let history = two_groups(alloc, second)?;
+    let history = two_groups(alloc, "012", second)?;
     Ok(Receipts {
         sends: send_receipts(alloc, &history)?,
         of_first: take_receipts(alloc, &history, 0)?,
@@ -250,6 +258,20 @@ fn each_group_is_audited_alone(rt: HostRuntime) -> Result<(), Fail> {
         ("010", fault(2, 0)),
     ] {
         is_audited(&rt, rt.alloc(), second, verdict)?;
+    }
+    Ok(())
+}
+
+#[test]
+fn the_first_fault_of_a_group_is_told(rt: HostRuntime) -> Result<(), Fail> {
+    for (first, second, verdict) in [
+        ("012", "0", Verdict::Clean),
+        ("012", "010", fault(2, 0)),
+        ("02", "012", fault(5, 1)),
+        ("02", "010", fault(5, 1)),
+    ] {
+        let history = two_groups(rt.alloc(), first, second)?;
+        assert_eq!(rt; audit_of(rt.alloc(), &history)?, verdict);
     }
     Ok(())
 }
