@@ -3,7 +3,7 @@ use Rattle.std.specs.Prelude.{ℕ, ◌≡◌, ◌⊎◌, ◌+◌, if◌then◌el
 use Rattle.std.specs.Io.KnownBytes.{Keeps}
 use Rattle.clap.specs.Words.{IsAmong, Kinds}
 use Rattle.clap.specs.declared.error.kind.ErrorKind.{ErrorKind}
-use Rattle.cc_model.specs.Written.{Writes}
+use Rattle.cc_device.specs.Written.{Writes}
 use Rattle.cc_command.specs.Names.{Verdict, PlayFault, Task}
 use Rattle.cc_play.specs.Outcome.{Told, line_of, no_memory_line, status_of}
 use Rattle.cc_play.specs.Play.{Plays, Audits, failed_reads, failed_writes}

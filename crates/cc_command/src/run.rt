@@ -5,7 +5,7 @@ ghost use Rattle.cc_command.specs.CommandLine.{commands, task_of};
 ghost use Rattle.cc_command.specs.Run.{Declines, Helps, Runs};
 
 use crate::command_line::{Task, asked};
-use cc_model::{Sink, Source, write_bytes};
+use cc_device::{Sink, Source, write_bytes};
 use cc_play::play::play;
 use cc_play::{PlayFault, audit_bytes, out_of_memory, tell, told};
 use clap::Error;

@@ -2,7 +2,7 @@
 use Rattle.std.proofs.Common.{ℕ, ◌+◌, List, ◌++◌, Bool, true, false, Option, ap, ◌∙◌, sym, append_assoc}
 use Rattle.std.proofs.KnownBytes.{Appends-trans}
 use Rattle.cc_model.specs.Items.{IsFront}
-use Rattle.cc_model.specs.Written.{Writes}
+use Rattle.cc_device.specs.Written.{Writes}
 
 -- a first text of which all went out, and then another
 pub both_out : (f : Bool) (a b c : Option (List ℕ)) (x y z : ℕ) (s t : List ℕ) → Writes false a b x y s → Writes f b c y z t → Writes f a c x z (s ++ t)

@@ -3,7 +3,7 @@ use Rattle.std.specs.Prelude.{ℕ, ◌≡◌, ◌⊎◌, ◌+◌, ◌++◌, List
 use Rattle.std.specs.Io.KnownBytes.{Keeps, Appends}
 use Rattle.clap.specs.declared.error.kind.ErrorKind.{ErrorKind}
 use Rattle.cc_model.specs.Items.{IsFront}
-use Rattle.cc_model.specs.Written.{word_text}
+use Rattle.cc_device.specs.Written.{word_text}
 use Rattle.cc_audit.specs.declared.receipt.Verdict.{Verdict}
 use Rattle.cc_plan.specs.Report.{verdict_text}
 use Rattle.cc_play.specs.Outcome.{Told, no_memory_line}

@@ -1,14 +1,14 @@
 //! A run by threads, what it writes, and what is told of it.
 ghost use Rattle.std.specs.Prelude.{◌≡◌, ◌<◌, ◌-◌, ◌^◌, IfOk, is_err};
-ghost use Rattle.cc_model.specs.Written.{Writes};
+ghost use Rattle.cc_device.specs.Written.{Writes};
 ghost use Rattle.cc_play.specs.Outcome.{Told};
 ghost use Rattle.cc_drive_command.specs.declared.driving.RunFault.{RunFault};
 ghost use Rattle.cc_drive_command.specs.Drive.{IsWhole, Leaves, counts_text, end_text, line_of, status_of};
 
 use crate::gate::open_gates;
 use cc_audit::Verdict;
+use cc_device::{Pen, Sink, WriteFault};
 use cc_drive::{DriveConfig, DriveEnd, DriveFault, drive};
-use cc_model::{Pen, Sink, WriteFault};
 use cc_plan::write_verdict;
 use cc_play::{out_of_memory, told};
 use std::alloc::Global;

@@ -10,7 +10,7 @@ ghost use Rattle.std.specs.Bool.{OnTrue, OnFalse};
 use crate::command_line::{asked, asks_to_drive};
 use crate::driving::{drive_to, tell_end};
 use cc_command::run::decline;
-use cc_model::{Sink, Source};
+use cc_device::{Sink, Source};
 use std::alloc::Global;
 use std::sync::Wait;
 use std::thread::Threads;

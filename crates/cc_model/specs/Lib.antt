@@ -5,10 +5,7 @@ pub mod Body
 pub mod Record
 pub mod HistoryRoom
 pub mod Room
-pub mod Device
-pub mod DeviceParts
 pub mod Items
 pub mod Legal
 pub mod Fifo
 pub mod Fresh
-pub mod Written

@@ -11,4 +11,3 @@ pub use Rattle.cc_model.specs.declared.call.Answer.{Answer}
 pub use Rattle.cc_model.specs.declared.call.Entry.{Entry}
 pub use Rattle.cc_model.specs.declared.config.Config.{Config}
 pub use Rattle.cc_model.specs.declared.config.ConfigFault.{ConfigFault}
-pub use Rattle.cc_model.specs.declared.device.Device.{Device}

@@ -1,20 +1,16 @@
-//! The words that every crate of the broker shares: configurations, calls and answers, histories, and devices.
+//! The words that every crate of the broker shares: configurations, calls and answers, and histories.
 #![tactic(auto)]
 
 mod body;
 mod call;
 mod config;
-mod device;
 mod history;
 mod laws;
-mod pen;
 mod tag;
 
 pub use body::Body;
 pub use call::{Answer, Call, CloseAnswer, Entry, Item, Pass, SendAnswer, TakeAnswer};
 pub use config::{CheckedConfig, Config, ConfigFault, is_within};
-pub use device::{Device, DeviceFault, Sink, Source};
 pub use history::History;
 pub use laws::{empty_is_fresh, full_is_fresh, legal_gives_fifo};
-pub use pen::{Pen, WriteFault, write_bytes};
 pub use tag::{pack, pack_words, unpack, unpack_words};

@@ -1,6 +1,6 @@
 -- What is told of what came of an input: the exit status, and the line on standard error.
 use Rattle.std.specs.Prelude.{ℕ, ◌++◌, Bool, List, [], codes, Option, Result, Ok, Err}
-use Rattle.cc_model.specs.Written.{Writes, word_text}
+use Rattle.cc_device.specs.Written.{Writes, word_text}
 use Rattle.cc_play.specs.Names.{PlanFault, Verdict, PlayFault}
 
 -- the exit status

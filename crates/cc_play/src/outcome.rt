@@ -1,12 +1,12 @@
 //! What came of an input, as it is told: the exit status, and the line on standard error.
 ghost use Rattle.std.specs.Prelude.{◌≡◌, ◌<◌, ◌-◌, ◌^◌, ◌++◌, codes, Err};
-ghost use Rattle.cc_model.specs.Written.{word_text};
+ghost use Rattle.cc_device.specs.Written.{word_text};
 ghost use Rattle.cc_play.specs.Names.{PlayFault};
 ghost use Rattle.cc_play.specs.Outcome.{Told, line_of, no_memory_line, refusal_line, status_of};
 
 use crate::fault::PlayFault;
 use cc_audit::Verdict;
-use cc_model::{Pen, Sink, write_bytes};
+use cc_device::{Pen, Sink, write_bytes};
 use cc_plan::PlanFault;
 
 /// Tells what went wrong, and answers the status: 0 where the verdict is clean, 1 where the audit found a fault, 2 where the

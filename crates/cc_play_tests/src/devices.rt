@@ -1,6 +1,6 @@
 //! Devices that fail, and how often they are called.
 use crate::runs::{READS_ALL, Reads, Refusal, Run, Task, WRITES_ALL, Writes, run_by};
-use cc_model::{Device, Pen, Sink, write_bytes};
+use cc_device::{Device, Pen, Sink, write_bytes};
 use cc_play::PlayFault;
 use std::alloc::{AllocError, Global};
 use std::process::Abort;

@@ -1,6 +1,6 @@
 //! Plans, and the pages that show them.
 use crate::runs::{CutWriter, Refusal};
-use cc_model::Device;
+use cc_device::Device;
 use cc_play::PlayFault;
 use cc_show::show::show;
 use cc_show::{ShowFault, tell_shown};

@@ -2,7 +2,7 @@
 ghost use Rattle.std.specs.Prelude.{◌≡◌};
 
 use cc_audit::Verdict;
-use cc_model::{DeviceFault, Sink, Source};
+use cc_device::{DeviceFault, Sink, Source};
 use cc_play::play::play;
 use cc_play::{PlayFault, audit_bytes};
 use std::alloc::Global;

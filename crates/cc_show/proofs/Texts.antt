@@ -2,7 +2,7 @@
 use Rattle.std.proofs.Common.{◌≡◌, ◌<◌, ℕ, ◌+◌, length, get_or, subst, List, [], ◌∷◌, ◌++◌, map, Bool, true, false, Option, refl, ap, ◌∙◌, sym, append_assoc}
 use Rattle.std.proofs.KnownBytes.{Appends-trans}
 use Rattle.cc_model.specs.Items.{IsFront}
-use Rattle.cc_model.specs.Written.{Writes, Desk, Pens}
+use Rattle.cc_device.specs.Written.{Writes, Desk, Pens}
 use Rattle.cc_plan.specs.Report.{texts}
 use Rattle.cc_plan.proofs.Lines.{UpTo, one_more}
 

@@ -1,7 +1,7 @@
 -- The text of a page.
 use Rattle.std.specs.Prelude.{ℕ, ◌≡◌, ◌≤◌, ◌++◌, List, codes, length}
 use Rattle.cc_model.specs.Body.{words_of}
-use Rattle.cc_model.specs.Written.{word_text}
+use Rattle.cc_device.specs.Written.{word_text}
 use Rattle.cc_plan.specs.Plan.{PlanValue}
 use Rattle.cc_plan.specs.Report.{texts, words_text}
 use Rattle.cc_play.specs.Play.{IsReport}

@@ -3,7 +3,7 @@ ghost use Rattle.std.specs.Prelude.{◌≡◌};
 ghost use Rattle.cc_play.specs.Play.{fault_of_input};
 ghost use Rattle.cc_show.specs.Names.{PlayFault, ShowFault};
 
-use cc_model::WriteFault;
+use cc_device::WriteFault;
 use cc_plan::PlanFault;
 use cc_play::{InputFault, PlayFault};
 use std::alloc::AllocError;

@@ -5,7 +5,7 @@ ghost use Rattle.cc_show.specs.Show.{shown_line, shown_status};
 
 use crate::fault::ShowFault;
 use cc_audit::Verdict;
-use cc_model::Sink;
+use cc_device::Sink;
 use cc_play::{tell, told};
 
 /// Tells what went wrong, and answers the status: 5 where the run has too many events, and else that of a play.

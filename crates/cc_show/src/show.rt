@@ -6,7 +6,7 @@ use crate::fault::ShowFault;
 use crate::player::play_events;
 use crate::text::write_page;
 use cc_audit::Verdict;
-use cc_model::{Sink, Source};
+use cc_device::{Sink, Source};
 use cc_plan::Report;
 use cc_play::play::audit_of;
 use cc_play::{read_input, read_plan};

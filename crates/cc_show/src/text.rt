@@ -1,7 +1,7 @@
 //! The text of a page.
 ghost use Rattle.std.specs.Prelude.{◌≡◌, ◌<◌, ◌^◌, ◌-◌, false, is_err, map};
 ghost use Rattle.cc_model.specs.HistoryRoom.{lists};
-ghost use Rattle.cc_model.specs.Written.{Writes, Pens, desk};
+ghost use Rattle.cc_device.specs.Written.{Writes, Pens, desk};
 ghost use Rattle.cc_plan.specs.Plan.{plan_value};
 ghost use Rattle.cc_plan.specs.Report.{words_text, report_text};
 ghost use Rattle.cc_show.specs.Page.{call_text, calls_text, senders_text, config_text, event_text, events_text, run_text, front_text, told_text, page_text};
@@ -9,7 +9,8 @@ ghost use Rattle.cc_show.specs.Page.{call_text, calls_text, senders_text, config
 use crate::kinds::kind_number;
 use crate::page::{BACK, FRONT, MIDDLE};
 use crate::player::Done;
-use cc_model::{Call, Pen, Sink, WriteFault, write_bytes};
+use cc_device::{Pen, Sink, WriteFault, write_bytes};
+use cc_model::Call;
 use cc_plan::{Plan, Report, write_body, write_report};
 
 /// Writes the page of a plan's events and of a report, and stops at the first write that fails.

@@ -3,8 +3,8 @@
 
 use cc_command::not_text;
 use cc_command::run::decline;
+use cc_device::Device;
 use cc_drive_command::run::run;
-use cc_model::Device;
 use clap::Error;
 use std::alloc::AllocError;
 use std::env;

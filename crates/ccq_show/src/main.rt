@@ -1,7 +1,7 @@
 //! Reads a plan on standard input, and writes the page that shows its run on standard output.
 #![tactic(auto)]
 
-use cc_model::Device;
+use cc_device::Device;
 use cc_play::told;
 use cc_show::show::show;
 use cc_show::tell_shown;

@@ -1,4 +1,4 @@
-use Rattle.cc_model.proofs.Writing.{then, all_out}
+use Rattle.cc_device.proofs.Writing.{then, all_out}
 use Rattle.cc_drive_command.specs.Drive.{counts_text}
 use Rattle.cc_drive_command.proofs.driving.write_counts.Goals as goal
 

@@ -1,6 +1,6 @@
 use Rattle.std.specs.Prelude.{◌++◌, codes}
 use Rattle.cc_show.specs.Page.{calls_text}
-use Rattle.cc_model.specs.Written.{desk}
+use Rattle.cc_device.specs.Written.{desk}
 use Rattle.cc_plan.proofs.Lines.{UpTo}
 use Rattle.cc_show.proofs.text.write_senders.Given as goal
 

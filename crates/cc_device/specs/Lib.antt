@@ -1,0 +1,4 @@
+pub mod Names
+pub mod Device
+pub mod DeviceParts
+pub mod Written

@@ -1,0 +1,8 @@
+//! Where bytes come from and go to, and the writing of texts piece by piece.
+#![tactic(auto)]
+
+mod device;
+mod pen;
+
+pub use device::{Device, DeviceFault, Sink, Source};
+pub use pen::{Pen, WriteFault, write_bytes};
