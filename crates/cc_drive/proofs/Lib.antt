@@ -1,12 +1,3 @@
-pub mod Told
-pub mod Workers
-pub mod Counted
-pub mod Unclosed
-pub mod Rows
-pub mod Crews
 pub mod Totals
-pub mod Pairs
-pub mod Ended
 pub mod Settled
-pub mod Crewed
 pub mod Dealt

@@ -7,8 +7,8 @@ use Rattle.cc_device.specs.Written.{word_text}
 use Rattle.cc_audit.specs.declared.receipt.Verdict.{Verdict}
 use Rattle.cc_plan.specs.Report.{verdict_text}
 use Rattle.cc_play.specs.Outcome.{Told, no_memory_line}
-use Rattle.cc_drive.specs.declared.config.DriveEnd.{DriveEnd}
-use Rattle.cc_drive.specs.declared.config.DriveFault.{DriveFault}
+use Rattle.cc_workers.specs.declared.config.DriveEnd.{DriveEnd}
+use Rattle.cc_workers.specs.declared.config.DriveFault.{DriveFault}
 use Rattle.cc_command.specs.Run.{Declines}
 use Rattle.cc_drive_command.specs.declared.driving.RunFault.{RunFault}
 

@@ -4,8 +4,8 @@ use Rattle.std.specs.Prelude.{⊤}
 use Rattle.cc_drive.specs.Names.{Config, ConfigFault, Setting}
 use Rattle.cc_runs.proofs.Ranges.{in_range}
 use Rattle.cc_steps.specs.Walk.{fresh, fresh_from}
-use Rattle.cc_drive.specs.Config.{queue_of, IsDue}
-use Rattle.cc_drive.proofs.Rows.{one_longer}
+use Rattle.cc_workers.specs.Config.{queue_of, IsDue}
+use Rattle.cc_workers.proofs.Rows.{one_longer}
 use Rattle.cc_drive.proofs.Dealt.{fresh_split, sending_row, taking_row}
 use Rattle.cc_drive.proofs.driver.drive.Goals as goal
 

@@ -1,7 +1,7 @@
 use Rattle.std.proofs.Common.{rules, ◌≤◌, refl, subst, vec_len}
 use Rattle.cc_steps.specs.Walk.{Walk}
-use Rattle.cc_drive.specs.Ran.{HasClosed}
-use Rattle.cc_drive.proofs.Crewed.{fewer_of}
+use Rattle.cc_workers.specs.Ran.{HasClosed}
+use Rattle.cc_workers.proofs.Crewed.{fewer_of}
 use Rattle.cc_drive.proofs.driver.run_in.Goals as goal
 
 pub ran_of-requires-clause-ended : goal.ran_of-requires-clause-ended

@@ -1,0 +1,174 @@
+//! The work of a sender's thread.
+ghost use Rattle.std.specs.Prelude.{◌≡◌, ◌+◌, ◌-◌, ◌^◌, ◌<◌, ◌≤◌, [], IfSome, IfNone, OnSome};
+ghost use Rattle.cc_workers.specs.Names.{Answer, Pass};
+ghost use Rattle.cc_runs.specs.State.{pass_at};
+ghost use Rattle.cc_steps.specs.Walk.{IsOf, fresh};
+ghost use Rattle.cc_queue.specs.Calls.{Ended};
+ghost use Rattle.cc_queue.specs.Headline.{StandsInOne};
+ghost use Rattle.cc_workers.specs.Back.{SenderGave, one_word};
+ghost use Rattle.cc_workers.specs.Work.{WentOn, EachRead, IsSent, CostsOfSend};
+
+use crate::gate::{Gate, Point};
+use crate::kept::{Kept, Worked};
+use crate::pace::Pace;
+use crate::turns::Turns;
+use cc_audit::SendReceipt;
+use cc_model::{Body, SendAnswer};
+use cc_queue::{PendingSend, Queue, SendTurn, Sender, begin_send, turn_send};
+use crossbeam_utils::Backoff;
+use std::alloc::Global;
+use std::sync::Wait;
+
+/// How a send went.
+pub(crate) enum Sent {
+    /// It was answered.
+    Answered(Sender, SendAnswer),
+    /// The sender has begun as many sends as one sender may.
+    Worn(Sender),
+    /// The worker reached its limit. A pending call was given up.
+    Limited,
+}
+
+/// Waits for the answer of a send within the limit.
+fn await_send(
+    queue: &Queue,
+    pending: PendingSend,
+    turns: &mut Turns,
+) -> Option<(Sender, SendAnswer)>
+    requires here { IsOf queue.now pending }
+    requires stands { StandsInOne pending [] pending }
+    requires within { turns.old.made ≤ turns.old.limit }
+    ensures ended { IfSome result (λ r. Ended pending (Answer.Send r.1) r.0) }
+    ensures begun { IfSome result (λ r. r.0.stand.begun ≡ pending.stand.begun) }
+    ensures turned { OnSome result (turns.old.made < turns.new.made) }
+    ensures reads { IfSome result (λ r. EachRead turns.old turns.new pending.did r.0.did) }
+    ensures limited { IfNone result (turns.new.made ≡ turns.new.limit) }
+    ensures on { WentOn turns.old turns.new }
+{
+    let backoff = Backoff::new();
+    let mut pending = pending;
+    while turns.made < turns.limit {
+        turns.made += 1;
+        match turn_send(queue, pending) {
+            SendTurn::Waiting(same) => pending = same,
+            SendTurn::Done {
+                sender,
+                answer,
+                served: _,
+            } => return Some((sender, answer)),
+        }
+        backoff.snooze();
+    }
+    pending.abandon();
+    None
+}
+
+/// Sends this body, and waits for the answer within the limit. The gate is asked after the begin and after the answer.
+pub(crate) fn send_body<G: Gate>(
+    queue: &Queue,
+    sender: Sender,
+    body: Body,
+    gate: &mut G,
+    turns: &mut Turns,
+) -> Sent
+    requires here { IsOf queue.now sender }
+    requires within { turns.old.made ≤ turns.old.limit }
+    ensures sent { IsSent sender body result }
+    ensures on { WentOn turns.old turns.new }
+    ensures costs { CostsOfSend turns.old turns.new result }
+{
+    let pending = match begin_send(queue, sender, body) {
+        Ok(pending) => pending,
+        Err(sender) => return Sent::Worn(sender),
+    };
+    if !turns.pass(gate, Point::SendBegun) {
+        pending.abandon();
+        return Sent::Limited;
+    }
+    let Some((sender, answer)) = await_send(queue, pending, turns) else {
+        return Sent::Limited;
+    };
+    if !turns.pass(gate, Point::SendAnswered) {
+        return Sent::Limited;
+    }
+    Sent::Answered(sender, answer)
+}
+
+/// The body of the send behind so many that were accepted: the next number, as one word.
+fn body_behind(accepted: u64) -> Body
+    requires { accepted < 2 ^ 64 - 1 }
+    ensures { result ≡ one_word (accepted + 1) }
+{
+    Body::one(accepted + 1)
+}
+
+/// Sends the numbers from 1 to `items` as bodies of one word, each again until it is accepted, and keeps a receipt of each. In
+/// a run the answer is Full until then: the queue is closed when all senders are joined, and its life is longer than any sends
+/// that they can begin. A worn sender stops. The pass is given back, but where the worker reached its limit.
+pub(crate) fn send_all<G: Gate, R: Wait>(
+    rt: &R,
+    alloc: Global,
+    queue: &Queue,
+    row: u32,
+    number: u32,
+    items: u64,
+    limit: u64,
+    sender: Sender,
+    gate: G,
+) -> Worked<Sender, SendReceipt>
+    requires fresh { sender ≡ fresh queue.now row }
+    requires named { pass_at queue.now.setting.config row ≡ Pass.Sender number }
+    requires worn { queue.now.setting.config.per_sender ≡ 2 ^ 32 - 1 }
+    ensures { SenderGave queue.now items limit row result }
+{
+    let _ = row;
+    let mut gate = gate;
+    let mut sender = sender;
+    sender.is_sound();
+    let mut turns = Turns::new(limit);
+    let mut kept = Kept::new(alloc);
+    let mut begun: u32 = 0;
+    let mut accepted: u64 = 0;
+    let mut pace = Pace::new();
+    while accepted < items {
+        let body = body_behind(accepted);
+        let before = turns.made;
+        match send_body(queue, sender, body, &mut gate, &mut turns) {
+            Sent::Answered(after, answer) => {
+                sender = after;
+                begun += 1;
+                if let SendAnswer::Accepted { place } = answer {
+                    accepted += 1;
+                    kept.keep(SendReceipt {
+                        sender: number,
+                        number: begun,
+                        place,
+                        body,
+                    });
+                    pace.go_on(rt, turns.made - before);
+                } else {
+                    pace.rest();
+                }
+            }
+            Sent::Worn(after) => {
+                return Worked {
+                    pass: Some(after),
+                    made: turns.made,
+                    kept,
+                };
+            }
+            Sent::Limited => {
+                return Worked {
+                    pass: None,
+                    made: turns.made,
+                    kept,
+                };
+            }
+        }
+    }
+    Worked {
+        pass: Some(sender),
+        made: turns.made,
+        kept,
+    }
+}

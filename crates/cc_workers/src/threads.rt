@@ -1,0 +1,157 @@
+//! Workers in threads: starting them in a row, and joining them.
+ghost use Rattle.std.specs.Prelude.{[], ◌≡◌, ◌+◌, ◌<◌, ◌≤◌, ◌^◌, true, false, vec_len, vec_capacity};
+ghost use Rattle.cc_workers.specs.Row.{InRow};
+
+use cc_queue::Queue;
+use std::alloc::Global;
+use std::marker::PhantomData;
+use std::snapshot::Snapshot;
+use std::sync::Wait;
+use std::thread::{Promise, PromisedHandle, Scope, Threads};
+
+/// What all workers of a run are told.
+#[derive(Clone, Copy, Debug, PartialEq, Eq)]
+pub struct Brief {
+    /// How many items each sender sends.
+    pub items: u64,
+    /// How many turns each worker may make.
+    pub limit: u64,
+}
+
+/// The work of one thread, on a pass of a queue.
+pub trait Worker: Send + Drop {
+    ghost use Rattle.std.specs.Prelude.{ℕ};
+    ghost use Rattle.cc_steps.specs.Topic.{Topic};
+    ghost use Rattle.cc_workers.specs.Names.{Brief};
+
+    /// What it gives back.
+    type Done: Send + Drop;
+
+    /// It stands at the start, at this place in the row of all passes of the queue.
+    ghost is_ready: { Topic → ℕ → Self → Type 0 };
+
+    /// What a worker that stood at that place may give back.
+    ghost gives: { Topic → Brief → ℕ → Self.Done → Type 0 };
+
+    fn run<R: Wait>(
+        self,
+        rt: &R,
+        alloc: Global,
+        queue: &Queue,
+        brief: Brief,
+        row: u32,
+    ) -> Self::Done
+        requires { is_ready queue.now row self }
+        ensures { gives queue.now brief row result };
+}
+
+/// What a worker's thread gives at its join.
+#[derive(Drop)]
+pub struct WorkOf<J: Worker> {
+    pub queue: Snapshot<Queue>,
+    pub brief: Brief,
+    pub row: u32,
+    of: PhantomData<J>,
+}
+
+impl<J: Worker> Promise<J::Done> for WorkOf<J> {
+    ghost kept_by = { λ p d. J.gives p.queue.value p.brief p.row d };
+}
+
+fn work_of<J: Worker>(queue: &Queue, brief: Brief, row: u32) -> WorkOf<J>
+    ensures queue { result.queue.value ≡ queue.now }
+    ensures brief { result.brief ≡ brief }
+    ensures row { result.row ≡ row }
+{
+    WorkOf {
+        queue: Snapshot::of(queue),
+        brief,
+        row,
+        of: PhantomData,
+    }
+}
+
+/// Threads that run, and whether one was refused.
+#[derive(Drop)]
+pub struct Started<J: Worker> {
+    pub handles: Vec<PromisedHandle<J::Done, WorkOf<J>>>,
+    pub refused: bool,
+}
+
+/// Starts a thread for each worker in turn, until one is refused, and none where one was refused before. They stand from
+/// this place on in the row of all passes.
+pub fn start_all<'s, E, J: Worker + 's, R: Wait + Sync + 's>(
+    scope: &Scope<'s, E>,
+    rt: &'s R,
+    alloc: Global,
+    queue: &'s Queue,
+    brief: Brief,
+    first: u32,
+    workers: Vec<J>,
+    handles: Vec<PromisedHandle<J::Done, WorkOf<J>>>,
+    refused: bool,
+) -> Started<J>
+    requires ready { InRow (J.is_ready queue.now) first workers.items }
+    requires few { first + vec_len workers < 2 ^ 32 }
+    requires none { handles.items ≡ [] }
+    requires room { vec_len workers ≤ vec_capacity handles }
+    ensures promised { InRow (λ n h. (h.promise.queue.value ≡ queue.now) × (h.promise.brief ≡ brief) × (h.promise.row ≡ n)) first result.handles.items }
+    ensures few { vec_len result.handles ≤ vec_len workers }
+    ensures before { result.refused ≡ false → refused ≡ false }
+    ensures all { result.refused ≡ false → vec_len result.handles ≡ vec_len workers }
+    ensures fewer { refused ≡ false → result.refused ≡ true → vec_len result.handles < vec_len workers }
+{
+    let mut handles = handles;
+    let mut row = first;
+    if refused {
+        return Started {
+            handles,
+            refused: true,
+        };
+    }
+    for worker in workers {
+        let promise = work_of::<J>(queue, brief, row);
+        let run = move || worker.run(rt, alloc, queue, brief, row);
+        let Ok(handle) = scope.spawn_with(promise, run) else {
+            return Started {
+                handles,
+                refused: true,
+            };
+        };
+        let Ok(()) = handles.push(handle) else {
+            unreachable!()
+        };
+        row += 1;
+    }
+    Started {
+        handles,
+        refused: false,
+    }
+}
+
+/// Waits for the end of each of these threads.
+pub fn join_all<R: Threads, J: Worker>(
+    rt: &R,
+    queue: &Queue,
+    brief: Brief,
+    first: u32,
+    handles: Vec<PromisedHandle<J::Done, WorkOf<J>>>,
+    done: Vec<J::Done>,
+) -> Vec<J::Done>
+    requires promised { InRow (λ n h. (h.promise.queue.value ≡ queue.now) × (h.promise.brief ≡ brief) × (h.promise.row ≡ n)) first handles.items }
+    requires none { done.items ≡ [] }
+    requires room { vec_len handles ≤ vec_capacity done }
+    ensures gives { InRow (J.gives queue.now brief) first result.items }
+    ensures len { vec_len result ≡ vec_len handles }
+{
+    let _ = queue;
+    let _ = brief;
+    let _ = first;
+    let mut done = done;
+    for handle in handles {
+        let Ok(()) = done.push(handle.join(rt)) else {
+            unreachable!()
+        };
+    }
+    done
+}
