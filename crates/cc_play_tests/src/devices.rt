@@ -1,10 +1,11 @@
 //! Devices that fail, and how often they are called.
+ghost use Rattle.std.specs.Prelude.{◌≡◌, ◌<◌, ◌-◌, ◌^◌};
+
 use crate::runs::{READS_ALL, Reads, Refusal, Run, Task, WRITES_ALL, Writes, run_by};
 use cc_device::{Device, Pen, Sink, write_bytes};
 use cc_play::PlayFault;
-use std::alloc::{AllocError, Global};
+use std::alloc::Global;
 use std::process::Abort;
-use std::test::Fail;
 
 /// A plan in which one item is passed on.
 const FIRST: &str =
@@ -44,15 +45,44 @@ const RECEIPTS: &str = r#"{"accepted":[],"taken":[[1,0,1,1,5]]}"#;
 /// The line of their verdict.
 const VERDICT: &str = "audit fault 3 place 0\n";
 
-/// The input by at most so many bytes a read, and its text by at most so many a write.
-fn goes_through<R: Abort>(
-    rt: &R,
-    alloc: Global,
+/// What is done with an input, and the text that comes of it.
+#[derive(Clone, Copy)]
+struct Case<'a> {
     task: Task,
-    input: &str,
-    text: &str,
-    at_most: usize,
-) -> Run {
+    input: &'a str,
+    text: &'a str,
+}
+
+const ONE_ITEM: Case<'static> = Case {
+    task: Task::Play,
+    input: FIRST,
+    text: REPORT,
+};
+
+const EACH_LINE: Case<'static> = Case {
+    task: Task::Play,
+    input: EACH_KIND,
+    text: LINES,
+};
+
+const STRANGER: Case<'static> = Case {
+    task: Task::Audit,
+    input: RECEIPTS,
+    text: VERDICT,
+};
+
+/// What holds of an input.
+fn holds<R: Abort>(rt: &R, is: bool, input: &str) {
+    assert!(rt; is, "{input}");
+}
+
+/// What holds where a device fails behind so many bytes.
+fn holds_at<R: Abort>(rt: &R, is: bool, bytes: usize) {
+    assert!(rt; is, "{bytes}");
+}
+
+/// The input by at most so many bytes a read, and its text by at most so many a write.
+fn goes_through<R: Abort>(rt: &R, alloc: Global, case: Case<'_>, at_most: usize) -> Run {
     let reads = Reads {
         at_most,
         ..READS_ALL
@@ -61,153 +91,204 @@ fn goes_through<R: Abort>(
         at_most,
         ..WRITES_ALL
     };
-    let run = run_by(alloc, task, input.as_bytes(), reads, writes);
-    assert!(rt; run.outcome.is_ok(), "{input}");
-    assert!(rt; run.sink.taken.as_slice() == text.as_bytes(), "{input}");
-    assert!(rt; run.failed_reads == 0 && run.sink.failures == 0, "{input}");
+    let run = run_by(alloc, case.task, case.input.as_bytes(), reads, writes);
+    holds(rt, run.outcome.is_ok(), case.input);
+    holds(rt, run.has_text(case.text), case.input);
+    holds(rt, run.has_no_failure(), case.input);
     run
 }
 
 /// Each read but those of one byte comes once more than there are bytes.
-fn goes_through_by_bytes<R: Abort>(rt: &R, alloc: Global, task: Task, input: &str, text: &str) {
-    let run = goes_through(rt, alloc, task, input, text, 1);
-    assert!(rt; run.reads == input.len() as u64 + 1, "{input}");
-    assert!(rt; run.sink.calls == text.len() as u64, "{input}");
+fn goes_by_bytes<R: Abort>(rt: &R, alloc: Global, case: Case<'_>) {
+    let run = goes_through(rt, alloc, case, 1);
+    holds(rt, run.reads == case.input.len() as u64 + 1, case.input);
+    holds(rt, run.sink.calls == case.text.len() as u64, case.input);
 }
 
 #[test]
-fn one_byte_a_call(rt: HostRuntime) -> Result<(), Fail> {
+fn one_byte_a_call(rt: HostRuntime) {
     let alloc = rt.alloc();
-    let (plan, report) = long(alloc)?;
-    goes_through_by_bytes(&rt, alloc, Task::Play, FIRST, REPORT);
-    goes_through_by_bytes(&rt, alloc, Task::Play, EACH_KIND, LINES);
-    goes_through_by_bytes(&rt, alloc, Task::Play, &plan, &report);
-    goes_through_by_bytes(&rt, alloc, Task::Audit, RECEIPTS, VERDICT);
-    Ok(())
+    let plan = long_plan(&rt, alloc);
+    let report = long_report(&rt, alloc);
+    goes_by_bytes(&rt, alloc, ONE_ITEM);
+    goes_by_bytes(&rt, alloc, EACH_LINE);
+    goes_by_bytes(&rt, alloc, played(&plan, &report));
+    goes_by_bytes(&rt, alloc, STRANGER);
 }
 
-/// Behind each of the bytes a read fails: this is told, and nothing is written.
-fn reads_fail<R: Abort>(rt: &R, alloc: Global, task: Task, input: &str) {
-    for gives in 0..input.len() + 1 {
-        let reads = Reads { gives, ..READS_ALL };
-        let run = run_by(alloc, task, input.as_bytes(), reads, WRITES_ALL);
-        assert!(rt; matches!(run.outcome, Err(PlayFault::Read)), "{gives}");
-        assert!(rt; run.failed_reads == 1, "{gives}");
-        assert!(rt; run.sink.calls == 0, "{gives}");
+/// Behind so many bytes a read fails: this is told, and nothing is written.
+fn read_fails<R: Abort>(rt: &R, alloc: Global, case: Case<'_>, gives: usize) {
+    let reads = Reads { gives, ..READS_ALL };
+    let run = run_by(alloc, case.task, case.input.as_bytes(), reads, WRITES_ALL);
+    holds_at(rt, run.outcome == Err(PlayFault::Read), gives);
+    holds_at(rt, run.failed_reads == 1, gives);
+    holds_at(rt, run.sink.calls == 0, gives);
+}
+
+/// A read fails behind each of the bytes.
+fn reads_fail<R: Abort>(rt: &R, alloc: Global, case: Case<'_>) {
+    for gives in 0..case.input.len() + 1 {
+        read_fails(rt, alloc, case, gives);
     }
 }
 
 #[test]
-fn reads_fail_at_every_byte(rt: HostRuntime) -> Result<(), Fail> {
+fn reads_fail_at_every_byte(rt: HostRuntime) {
     let alloc = rt.alloc();
-    let (plan, _) = long(alloc)?;
-    reads_fail(&rt, alloc, Task::Play, FIRST);
-    reads_fail(&rt, alloc, Task::Play, &plan);
-    reads_fail(&rt, alloc, Task::Audit, RECEIPTS);
-    Ok(())
+    let plan = long_plan(&rt, alloc);
+    reads_fail(&rt, alloc, ONE_ITEM);
+    reads_fail(&rt, alloc, played(&plan, ""));
+    reads_fail(&rt, alloc, STRANGER);
 }
 
-/// Behind so many bytes a write fails, in each way: this is told, just these bytes stand, and nothing is written behind the
-/// failure.
-fn write_fails<R: Abort>(
-    rt: &R,
-    alloc: Global,
-    task: Task,
-    input: &str,
-    text: &str,
-    takes: usize,
-    at_most: usize,
-) {
-    for refusal in [Refusal::Error, Refusal::Nothing] {
-        let writes = Writes {
-            takes,
-            at_most,
-            refusal,
-        };
-        let run = run_by(alloc, task, input.as_bytes(), READS_ALL, writes);
-        assert!(rt; matches!(run.outcome, Err(PlayFault::Write)), "{takes}");
-        assert!(rt; run.sink.has_front(text, takes), "{takes}");
-        assert!(rt; run.sink.has_failed_once(), "{takes}");
-    }
+/// By this device a write fails: this is told, just the bytes that it took stand, and nothing is written behind the failure.
+fn write_fails_by<R: Abort>(rt: &R, alloc: Global, case: Case<'_>, writes: Writes) {
+    let takes = writes.takes;
+    let run = run_by(alloc, case.task, case.input.as_bytes(), READS_ALL, writes);
+    holds_at(rt, run.outcome == Err(PlayFault::Write), takes);
+    holds_at(rt, run.sink.has_front(case.text, takes), takes);
+    holds_at(rt, run.sink.has_failed_once(), takes);
+}
+
+/// Behind so many bytes a write fails, in each way.
+fn write_fails<R: Abort>(rt: &R, alloc: Global, case: Case<'_>, takes: usize, at_most: usize) {
+    let writes = Writes {
+        takes,
+        at_most,
+        refusal: Refusal::Error,
+    };
+    write_fails_by(rt, alloc, case, writes);
+    let refusal = Refusal::Nothing;
+    write_fails_by(rt, alloc, case, Writes { refusal, ..writes });
 }
 
 /// A write fails behind each of the bytes, which go out one by one.
-fn writes_fail<R: Abort>(rt: &R, alloc: Global, task: Task, input: &str, text: &str) {
-    for takes in 0..text.len() {
-        write_fails(rt, alloc, task, input, text, takes, 1);
+fn writes_fail<R: Abort>(rt: &R, alloc: Global, case: Case<'_>) {
+    for takes in 0..case.text.len() {
+        write_fails(rt, alloc, case, takes, 1);
     }
 }
 
 #[test]
 fn writes_fail_at_every_byte(rt: HostRuntime) {
-    let alloc = rt.alloc();
-    writes_fail(&rt, alloc, Task::Play, FIRST, REPORT);
-    writes_fail(&rt, alloc, Task::Play, EACH_KIND, LINES);
-    writes_fail(&rt, alloc, Task::Audit, RECEIPTS, VERDICT);
+    writes_fail(&rt, rt.alloc(), ONE_ITEM);
+    writes_fail(&rt, rt.alloc(), EACH_LINE);
+    writes_fail(&rt, rt.alloc(), STRANGER);
 }
 
-/// A plan that is read in two blocks, of which the first thousand sends are played, and its report of several blocks. One
-/// item fits: the first send has 28 events, and each other one 20 and finds the queue full.
-fn long(alloc: Global) -> Result<(String, String), AllocError> {
-    let mut plan = String::from_str(
-        alloc,
-        "{\"capacity\":1,\"bound\":2,\"life\":10,\"receivers\":[1],\"schedule\":[[\"s1\",20008]],\"senders\":[[7",
-    )?;
-    for _ in 1..8_500 {
-        plan.push_str(",7")?;
+/// How often a send stands in the long plan.
+const SENDS: u32 = 8_500;
+
+/// A plan that is read in two blocks, of which the first thousand sends are played.
+fn long_plan<R: Abort>(rt: &R, alloc: Global) -> String {
+    let front =
+        "{\"capacity\":1,\"bound\":2,\"life\":10,\"receivers\":[1],\"schedule\":[[\"s1\",20008]],\"senders\":[[7";
+    let mut plan = String::from_str(alloc, front).expect(rt, "memory");
+    for _ in 1..SENDS {
+        plan.push_str(",7").expect(rt, "memory");
     }
-    plan.push_str("]]}")?;
-    let mut report = String::from_str(alloc, "E 0 s1 send 7 -> accepted 0\n")?;
-    for k in 1..1000 {
-        report.push_str(format!(in alloc; "E {k} s1 send 7 -> full\n")?.as_str())?;
-    }
-    report.push_str("audit clean\n")?;
-    Ok((plan, report))
+    plan.push_str("]]}").expect(rt, "memory");
+    plan
 }
 
-#[test]
-fn writes_fail_at_every_block(rt: HostRuntime) -> Result<(), Fail> {
-    let alloc = rt.alloc();
-    let (plan, report) = long(alloc)?;
-    let whole = goes_through(&rt, alloc, Task::Play, &plan, &report, usize::MAX);
-    assert!(rt; whole.sink.ends.len() > 2);
-    for end in &whole.sink.ends {
-        for takes in end.saturating_sub(1)..end.saturating_add(2) {
-            if takes < report.len() {
-                write_fails(&rt, alloc, Task::Play, &plan, &report, takes, usize::MAX);
-            }
+/// A line of its report.
+fn add_full<R: Abort>(rt: &R, alloc: Global, report: &mut String, number: u32) {
+    let line = format!(in alloc; "E {number} s1 send 7 -> full\n").expect(rt, "memory");
+    report.push_str(&line).expect(rt, "memory");
+}
+
+/// Its report of several blocks. One item fits: the first send has 28 events, and each other one 20 and finds the queue full.
+fn long_report<R: Abort>(rt: &R, alloc: Global) -> String {
+    let front = "E 0 s1 send 7 -> accepted 0\n";
+    let mut report = String::from_str(alloc, front).expect(rt, "memory");
+    for number in 1..1000 {
+        add_full(rt, alloc, &mut report, number);
+    }
+    report.push_str("audit clean\n").expect(rt, "memory");
+    report
+}
+
+/// A plan that is played.
+fn played<'a>(plan: &'a str, report: &'a str) -> Case<'a> {
+    Case {
+        task: Task::Play,
+        input: plan,
+        text: report,
+    }
+}
+
+/// Writes fail before, at and behind the edge of a block, as far as there are bytes.
+fn writes_fail_around<R: Abort>(rt: &R, alloc: Global, case: Case<'_>, edge: usize) {
+    for takes in edge.saturating_sub(1)..edge.saturating_add(2) {
+        if takes < case.text.len() {
+            write_fails(rt, alloc, case, takes, usize::MAX);
         }
     }
-    Ok(())
 }
 
 #[test]
-fn devices_are_called_by_the_block(rt: HostRuntime) -> Result<(), Fail> {
+fn writes_fail_at_every_block(rt: HostRuntime) {
     let alloc = rt.alloc();
-    let spaces = vec![in alloc; b' '; 16_777_216]?;
+    let plan = long_plan(&rt, alloc);
+    let report = long_report(&rt, alloc);
+    let case = played(&plan, &report);
+    let whole = goes_through(&rt, alloc, case, usize::MAX);
+    assert!(rt; whole.sink.ends.len() > 2);
+    for edge in &whole.sink.ends {
+        writes_fail_around(&rt, alloc, case, *edge);
+    }
+}
+
+/// An input of nothing but spaces is read by the block.
+fn is_read_by_blocks<R: Abort>(rt: &R, alloc: Global) {
+    let spaces = vec![in alloc; b' '; 16_777_216].expect(rt, "memory");
     let read = run_by(alloc, Task::Play, &spaces, READS_ALL, WRITES_ALL);
     assert!(rt; read.outcome.is_err());
     assert!(rt; read.reads <= 16_777_216 / 4096);
-    let (plan, report) = long(alloc)?;
-    let written = goes_through(&rt, alloc, Task::Play, &plan, &report, usize::MAX);
-    assert!(rt; written.sink.calls <= report.len() as u64 / 4096 + 1);
-    let written = goes_through(&rt, alloc, Task::Play, FIRST, REPORT, usize::MAX);
-    assert!(rt; written.sink.calls == 1);
-    Ok(())
+}
+
+/// In how many writes a text goes out.
+fn writes_of<R: Abort>(rt: &R, alloc: Global, case: Case<'_>) -> u64 {
+    let run = goes_through(rt, alloc, case, usize::MAX);
+    run.sink.calls
+}
+
+#[test]
+fn devices_are_called_by_the_block(rt: HostRuntime) {
+    let alloc = rt.alloc();
+    is_read_by_blocks(&rt, alloc);
+    let plan = long_plan(&rt, alloc);
+    let report = long_report(&rt, alloc);
+    let writes = writes_of(&rt, alloc, played(&plan, &report));
+    assert!(rt; writes <= report.len() as u64 / 4096 + 1);
+    assert!(rt; writes_of(&rt, alloc, ONE_ITEM) == 1);
+}
+
+/// Whether a pen writes this text to the end of these bytes.
+fn is_written(output: &mut Vec<u8>, text: &[u8]) -> bool {
+    let mut sink = Device::new(output);
+    let mut pen = Pen::new();
+    pen.text(&mut sink, text);
+    pen.finish(&mut sink).is_ok()
 }
 
 /// A text of more bytes than a pen holds back goes out whole.
 #[test]
-fn a_long_text_goes_out(rt: HostRuntime) -> Result<(), Fail> {
-    let alloc = rt.alloc();
-    let text = "x".repeat(alloc, 9_000)?;
-    let mut output = Vec::new(alloc);
-    let mut sink = Device::new(&mut output);
-    let mut pen = Pen::new();
-    pen.text(&mut sink, text.as_bytes());
-    assert!(rt; pen.finish(&mut sink).is_ok());
+fn a_long_text_goes_out(rt: HostRuntime) {
+    let text = "x".repeat(rt.alloc(), 9_000).expect(&rt, "memory");
+    let mut output = Vec::new(rt.alloc());
+    assert!(rt; is_written(&mut output, text.as_bytes()));
     assert!(rt; output.as_slice() == text.as_bytes());
-    Ok(())
+}
+
+/// Four bytes are written, or there is no room for them; so many writes have failed by then.
+fn writes_four<R: Abort, S: Sink>(rt: &R, sink: &mut S, is_ok: bool, failures: u64)
+    requires { S.write_failures sink.old < 2 ^ 64 - 1 }
+    ensures { S.write_failures sink.new ≡ failures }
+{
+    let written = write_bytes(sink, b"four").is_ok();
+    assert!(rt; written == is_ok);
+    assert!(rt; sink.failures() == failures);
 }
 
 /// A device counts a write for which there is no room, and no other.
@@ -215,9 +296,7 @@ fn a_long_text_goes_out(rt: HostRuntime) -> Result<(), Fail> {
 fn a_device_counts_its_failures(rt: HostRuntime) {
     let mut room = [0u8; 5];
     let mut sink = Device::new(&mut room[..]);
-    assert!(rt; write_bytes(&mut sink, b"four").is_ok());
-    assert!(rt; Sink::failures(&sink) == 0);
-    assert!(rt; write_bytes(&mut sink, b"four").is_err());
-    assert!(rt; Sink::failures(&sink) == 1);
-    assert_eq!(rt; room.as_slice(), b"fourf".as_slice());
+    writes_four(&rt, &mut sink, true, 0);
+    writes_four(&rt, &mut sink, false, 1);
+    assert!(rt; room.as_slice() == b"fourf".as_slice());
 }

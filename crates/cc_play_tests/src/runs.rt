@@ -170,6 +170,18 @@ pub struct Run {
     pub sink: CutWriter,
 }
 
+impl Run {
+    /// Whether the sink took this text, and nothing else.
+    pub fn has_text(&self, text: &str) -> bool {
+        self.sink.taken.as_slice() == text.as_bytes()
+    }
+
+    /// Whether no read and no write failed.
+    pub fn has_no_failure(&self) -> bool {
+        self.failed_reads == 0 && self.sink.failures == 0
+    }
+}
+
 /// What comes of an input by these devices.
 pub fn run_by(alloc: Global, task: Task, input: &[u8], reads: Reads, writes: Writes) -> Run {
     let mut source = CutReader {
