@@ -7,17 +7,23 @@ use cc_drive_command::run::run;
 use cc_drive_command::{Open, RunFault, asked, drive_to, tell_end};
 use cc_model::ConfigFault;
 use std::alloc::{AllocError, Global};
+use std::process::Abort;
+use std::sync::Wait;
 use std::test::Fail;
+use std::thread::Threads;
 
-/// The words of a line, with a blank between two; none where the line is empty.
+/// The words of a line, with a blank between two.
 fn words_of(alloc: Global, line: &str) -> Result<Vec<String>, AllocError> {
     let mut words = Vec::new(alloc);
-    if !line.is_empty() {
-        for word in line.split(' ') {
-            words.push(String::from_str(alloc, word)?)?;
-        }
+    for word in line.split(' ') {
+        words.push(String::from_str(alloc, word)?)?;
     }
     Ok(words)
+}
+
+/// These bytes are this text.
+fn is_text<R: Abort>(rt: &R, bytes: &[u8], text: &str) {
+    assert_eq!(rt; bytes, text.as_bytes());
 }
 
 /// Lines, and the runs that they ask for.
@@ -30,113 +36,152 @@ drive --capacity 4096 => DriveConfig { senders: 4, receivers: 4, items: 1000, ca
 drive --bound 1024 => DriveConfig { senders: 4, receivers: 4, items: 1000, capacity: 64, bound: 1024, limit: 281474976710656 }
 drive --bound 1 --capacity 1 --items 0 --receivers 1 --senders 1 => DriveConfig { senders: 1, receivers: 1, items: 0, capacity: 1, bound: 1, limit: 281474976710656 }";
 
+/// A line asks for the run that is told so.
+fn asks_for<R: Abort>(rt: &R, alloc: Global, line: &str, told: &str) -> Result<(), Fail> {
+    let words = words_of(alloc, line)?;
+    let config = asked(alloc, &words)?;
+    is_text(rt, format!(in alloc; "{config:?}")?.as_bytes(), told);
+    Ok(())
+}
+
 /// What an option doesn't give has its default, and the limit is the program's.
 #[test]
 fn defaults(rt: HostRuntime) -> Result<(), Fail> {
-    let alloc = rt.alloc();
     for row in ASKED.lines() {
         let (line, told) = row.split_once(" => ").unwrap_or((row, ""));
-        let config = asked(alloc, words_of(alloc, line)?.as_slice())?;
-        assert_eq!(rt; format!(in alloc; "{config:?}")?.as_str(), told);
+        asks_for(&rt, rt.alloc(), line, told)?;
     }
     Ok(())
 }
 
-/// An output without room, and one that takes the first line alone.
-#[test]
-fn outputs_that_fail(rt: HostRuntime) -> Result<(), Fail> {
-    let alloc = rt.alloc();
-    let rows = [
-        ("drive --items 5", 0, ""),
-        ("drive --items 5", 8, "sent 20\n"),
-        ("drive --items 5", 17, "sent 20\ntaken 20\n"),
-        ("drive --items 5", 28, "sent 20\ntaken 20\naudit clean"),
-        ("drive --help", 6, "Drives"),
-    ];
-    for (line, size, text) in rows {
-        let words = words_of(alloc, line)?;
-        let mut room = [0u8; 64];
-        let mut errors = Vec::new(alloc);
-        let status = run(
-            &rt,
-            alloc,
-            words.as_slice(),
-            &mut Device::new(b"".as_slice()),
-            &mut Device::new(&mut room[..size]),
-            &mut Device::new(&mut errors),
-        );
-        assert_eq!(rt; status, 4);
-        assert_eq!(rt; &room[..size], text.as_bytes());
-        assert_eq!(rt; errors.as_slice(), b"ccq: writing failed\n".as_slice());
-    }
+/// The status of a line whose output has this room.
+fn status_of<R: Threads + Wait + Sync>(
+    rt: &R,
+    alloc: Global,
+    words: &[String],
+    room: &mut [u8],
+    errors: &mut Vec<u8>,
+) -> u8 {
+    let mut source = Device::new(b"".as_slice());
+    let mut errors = Device::new(errors);
+    run(
+        rt,
+        alloc,
+        words,
+        &mut source,
+        &mut Device::new(room),
+        &mut errors,
+    )
+}
+
+/// A line writes this text to an output of its size, and fails.
+fn fills<R: Threads + Wait + Sync + Abort>(
+    rt: &R,
+    alloc: Global,
+    line: &str,
+    text: &str,
+) -> Result<(), AllocError> {
+    let words = words_of(alloc, line)?;
+    let mut room = vec![in alloc; 0u8; text.len()]?;
+    let mut errors = Vec::new(alloc);
+    assert_eq!(rt; status_of(rt, alloc, &words, &mut room, &mut errors), 4);
+    is_text(rt, &room, text);
+    is_text(rt, &errors, "ccq: writing failed\n");
     Ok(())
 }
+
+/// Fronts of what a drive writes: what is left out is another line, or the last byte.
+const FRONTS: [&str; 4] = [
+    "",
+    "sent 20\n",
+    "sent 20\ntaken 20\n",
+    "sent 20\ntaken 20\naudit clean",
+];
+
+/// An output without room, ones that take a front alone, and one for six bytes of the help.
+#[test]
+fn outputs_that_fail(rt: HostRuntime) -> Result<(), Fail> {
+    for text in FRONTS {
+        fills(&rt, rt.alloc(), "drive --items 5", text)?;
+    }
+    fills(&rt, rt.alloc(), "drive --help", "Drives")?;
+    Ok(())
+}
+
+/// An outcome of a run has this status, and this line.
+fn is_told<R: Abort>(
+    rt: &R,
+    alloc: Global,
+    outcome: Result<Verdict, RunFault>,
+    due: u8,
+    line: &str,
+) {
+    let mut errors = Vec::new(alloc);
+    let status = tell_end(&mut Device::new(&mut errors), outcome);
+    assert_eq!(rt; status, due);
+    is_text(rt, &errors, line);
+}
+
+/// A run that has no end to tell, for this fault.
+fn is_refused<R: Abort>(rt: &R, alloc: Global, fault: DriveFault, due: u8, line: &str) {
+    is_told(rt, alloc, Err(RunFault::Drive(fault)), due, line);
+}
+
+/// Faults of runs, their statuses and their lines.
+const FAULTS: [(DriveFault, u8, &str); 4] = [
+    (DriveFault::NoMemory, 3, "ccq: out of memory\n"),
+    (DriveFault::Thread, 3, "ccq: a thread was refused\n"),
+    (DriveFault::Limit(2), 3, "ccq: a worker reached its limit\n"),
+    (
+        DriveFault::Config(ConfigFault::Bound),
+        64,
+        "ccq: a number is out of its range\n",
+    ),
+];
 
 /// Each outcome of a run has its status and its line.
 #[test]
-fn outcomes(rt: HostRuntime) -> Result<(), Fail> {
+fn outcomes(rt: HostRuntime) {
+    let alloc = rt.alloc();
     let fault = Verdict::Fault { kind: 3, place: 7 };
-    let rows: [(Result<Verdict, RunFault>, u8, &str); 7] = [
-        (Ok(Verdict::Clean), 0, ""),
-        (Ok(fault), 1, ""),
-        (
-            Err(RunFault::Drive(DriveFault::NoMemory)),
-            3,
-            "ccq: out of memory\n",
-        ),
-        (
-            Err(RunFault::Drive(DriveFault::Thread)),
-            3,
-            "ccq: a thread was refused\n",
-        ),
-        (
-            Err(RunFault::Drive(DriveFault::Limit(2))),
-            3,
-            "ccq: a worker reached its limit\n",
-        ),
-        (
-            Err(RunFault::Drive(DriveFault::Config(ConfigFault::Bound))),
-            64,
-            "ccq: a number is out of its range\n",
-        ),
-        (Err(RunFault::Write), 4, "ccq: writing failed\n"),
-    ];
-    for (outcome, due, line) in rows {
-        let mut errors = Vec::new(rt.alloc());
-        let status = tell_end(&mut Device::new(&mut errors), outcome);
-        assert_eq!(rt; status, due);
-        assert_eq!(rt; errors.as_slice(), line.as_bytes());
+    is_told(&rt, alloc, Ok(Verdict::Clean), 0, "");
+    is_told(&rt, alloc, Ok(fault), 1, "");
+    is_told(&rt, alloc, Err(RunFault::Write), 4, "ccq: writing failed\n");
+    for (fault, due, line) in FAULTS {
+        is_refused(&rt, alloc, fault, due, line);
     }
-    Ok(())
 }
+
+/// A run of one item without turns.
+const NO_TURNS: DriveConfig = DriveConfig {
+    senders: 1,
+    receivers: 1,
+    items: 1,
+    capacity: 1,
+    bound: 1,
+    limit: 0,
+};
 
 /// A run without turns has no end, and writes nothing.
 #[test]
-fn a_run_without_an_end(rt: HostRuntime) -> Result<(), Fail> {
+fn a_run_without_an_end(rt: HostRuntime) {
     let mut output = Vec::new(rt.alloc());
-    let config = DriveConfig {
-        senders: 1,
-        receivers: 1,
-        items: 1,
-        capacity: 1,
-        bound: 1,
-        limit: 0,
-    };
-    let outcome = drive_to(&rt, rt.alloc(), &config, &mut Device::new(&mut output));
-    assert_eq!(rt; outcome, Err(RunFault::Drive(DriveFault::Limit(0))));
-    assert_eq!(rt; output.len(), 0);
-    Ok(())
+    let outcome = drive_to(&rt, rt.alloc(), &NO_TURNS, &mut Device::new(&mut output));
+    assert!(rt; outcome == Err(RunFault::Drive(DriveFault::Limit(0))));
+    is_text(&rt, &output, "");
 }
+
+const POINTS: [Point; 4] = [
+    Point::SendBegun,
+    Point::SendAnswered,
+    Point::TakeBegun,
+    Point::TakeAnswered,
+];
 
 /// A gate of the program always lets its worker go on.
 #[test]
 fn open_gates(rt: HostRuntime) {
-    for point in [
-        Point::SendBegun,
-        Point::SendAnswered,
-        Point::TakeBegun,
-        Point::TakeAnswered,
-    ] {
+    for point in POINTS {
         assert_eq!(rt; Open.at(point), Go::On);
     }
 }

@@ -1,35 +1,20 @@
 //! Gates of the tests.
-ghost use Rattle.std.specs.Prelude.{◌≡◌, ◌+◌, ◌<◌, ◌^◌, IfOk, length, vec_len};
+ghost use Rattle.std.specs.Prelude.{◌≡◌, ◌+◌, IfOk, length, vec_len};
 
 use cc_drive::{DriveConfig, DriveEnd, DriveFault, Gate, Go, Point, drive};
+use cc_drive_command::Open;
 use std::alloc::{AllocError, Global};
 use std::sync::Wait;
 use std::sync::atomic::{AtomicU64, Ordering};
 use std::thread::Threads;
 
-/// Lets its worker go on at each point but one, where it never does.
-#[derive(Clone, Copy)]
-pub struct Holding {
-    pub at: Option<Point>,
-}
-
-impl Gate for Holding {
-    fn at(&mut self, point: Point) -> Go {
-        if self.at == Some(point) {
-            Go::Again
-        } else {
-            Go::On
-        }
-    }
-}
-
 /// Lets its worker go on at each point but one, where it first tells it so many times to ask again, and counts how often it was
 /// asked there.
 #[derive(Drop)]
-pub struct Counting<'a> {
-    pub at: Point,
-    pub again: u64,
-    pub asked: &'a AtomicU64,
+struct Counting<'a> {
+    at: Point,
+    again: u64,
+    asked: &'a AtomicU64,
 }
 
 impl<'a> Gate for Counting<'a> {
@@ -47,7 +32,7 @@ impl<'a> Gate for Counting<'a> {
 }
 
 /// A gate for each of these, which says how many times it tells its worker to ask again. All of them count together.
-pub fn counting_gates<'a>(
+fn counting_gates<'a>(
     alloc: Global,
     at: Point,
     again: &[u64],
@@ -63,26 +48,54 @@ pub fn counting_gates<'a>(
     Ok(gates)
 }
 
-/// So many gates of a kind.
-pub fn same_gates<G: Gate + Copy>(alloc: Global, count: u32, gate: G) -> Result<Vec<G>, AllocError>
+/// How a run ends whose gates tell their workers so many times to ask again at this point.
+fn drive_held<R: Threads + Wait + Sync>(
+    rt: &R,
+    alloc: Global,
+    config: &DriveConfig,
+    at: Point,
+    again: &[u64],
+    asked: &AtomicU64,
+) -> Result<DriveEnd, DriveFault>
+    requires { length again.now ≡ config.now.senders + config.now.receivers }
+{
+    let gates = counting_gates(alloc, at, again, asked)?;
+    drive(rt, alloc, config, gates)
+}
+
+/// How such a run ends, and how often its gates were asked at the point.
+pub fn drive_counted<R: Threads + Wait + Sync>(
+    rt: &R,
+    alloc: Global,
+    config: &DriveConfig,
+    at: Point,
+    again: &[u64],
+) -> (Result<DriveEnd, DriveFault>, u64)
+    requires { length again.now ≡ config.now.senders + config.now.receivers }
+{
+    let asked = AtomicU64::new(0);
+    let end = drive_held(rt, alloc, config, at, again, &asked);
+    (end, asked.load(Ordering::SeqCst))
+}
+
+/// So many gates that hold no worker up.
+fn open_gates(alloc: Global, count: u64) -> Result<Vec<Open>, AllocError>
     ensures { IfOk result (λ v. vec_len v ≡ count) }
 {
     let mut gates = Vec::new(alloc);
     for _ in 0..count {
-        gates.push(gate)?;
+        gates.push(Open)?;
     }
     Ok(gates)
 }
 
-/// A run whose workers all have this gate.
-pub fn drive_all<R: Threads + Wait + Sync>(
+/// How a run ends whose workers aren't held up.
+pub fn drive_open<R: Threads + Wait + Sync>(
     rt: &R,
     alloc: Global,
     config: &DriveConfig,
-    gate: Holding,
-) -> Result<DriveEnd, DriveFault>
-    requires { config.now.senders + config.now.receivers < 2 ^ 32 }
-{
-    let gates = same_gates(alloc, config.senders + config.receivers, gate)?;
+) -> Result<DriveEnd, DriveFault> {
+    let workers = u64::from(config.senders) + u64::from(config.receivers);
+    let gates = open_gates(alloc, workers)?;
     drive(rt, alloc, config, gates)
 }

@@ -2,11 +2,12 @@
 ghost use Rattle.std.specs.Prelude.{◌≡◌, IfOk, vec_len};
 
 use cc_audit::Verdict;
-use cc_drive::{DriveConfig, DriveEnd, Gate, Go, Point, drive};
+use cc_drive::{DriveConfig, DriveEnd, DriveFault, Gate, Go, Point, drive};
 use crossbeam_utils::Backoff;
 use std::alloc::{AllocError, Global};
+use std::sync::Wait;
 use std::sync::atomic::{AtomicBool, Ordering};
-use std::test::Fail;
+use std::thread::Threads;
 
 /// How often a worker looks for the other one.
 const LOOKS: u64 = 10_000_000;
@@ -75,33 +76,43 @@ fn meetings(alloc: Global, flags: &Flags) -> Result<Vec<Meeting<'_>>, AllocError
     Ok(gates)
 }
 
+/// One item, and room for it.
+const ONE: DriveConfig = DriveConfig {
+    senders: 1,
+    receivers: 1,
+    items: 1,
+    capacity: 2,
+    bound: 2,
+    limit: 10_000_000,
+};
+
+/// The end of a run in which it is passed on.
+const PASSED: DriveEnd = DriveEnd {
+    sent: 1,
+    taken: 1,
+    verdict: Verdict::Clean,
+};
+
+/// How a run of two workers ends that meet by these flags.
+fn drive_meeting<R: Threads + Wait + Sync>(
+    rt: &R,
+    alloc: Global,
+    flags: &Flags,
+) -> Result<DriveEnd, DriveFault> {
+    let gates = meetings(alloc, flags)?;
+    drive(rt, alloc, &ONE, gates)
+}
+
 /// The sender waits in its first send for the receiver, and the receiver after its first take for the sender. Workers
 /// that are run by one thread, one after the other or in turns, miss each other.
 #[test]
-fn two_at_once(rt: HostRuntime) -> Result<(), Fail> {
+fn two_at_once(rt: HostRuntime) {
     let flags = Flags {
         sender_is_here: AtomicBool::new(false),
         receiver_is_here: AtomicBool::new(false),
         missed: AtomicBool::new(false),
     };
-    let config = DriveConfig {
-        senders: 1,
-        receivers: 1,
-        items: 1,
-        capacity: 2,
-        bound: 2,
-        limit: 10_000_000,
-    };
-    let gates = meetings(rt.alloc(), &flags)?;
-    let end = drive(&rt, rt.alloc(), &config, gates)?;
-    assert_eq!(rt;
-        end,
-        DriveEnd {
-            sent: 1,
-            taken: 1,
-            verdict: Verdict::Clean
-        }
-    );
+    let end = drive_meeting(&rt, rt.alloc(), &flags);
+    assert_eq!(rt; end, Ok(PASSED));
     assert!(rt; !flags.missed.load(Ordering::SeqCst));
-    Ok(())
 }
