@@ -40,7 +40,6 @@ fn first_stands(alloc: Global, setting: Setting) -> Result<Vec<Stand>, AllocErro
 }
 
 /// A board at its opening.
-#[tactic(auto, using(cc_runs::proofs::Opening::freed_all, cc_runs::proofs::Opening::freed_more))]
 pub fn open(alloc: Global, setting: Setting) -> Result<Board, AllocError>
     requires small { IsSmall (layout_of setting.config) }
     ensures state { IfOk result (λ b. state_of b ≡ opening setting) }

@@ -1,9 +1,10 @@
-use Rattle.std.proofs.Common.{◌≡◌, ℕ, ◌+◌, ◌<◌, ◌∙◌, ap, sym, arith, length, refl, subst, List, Bool, true, false, cond, if◌then◌else◌, ◌*◌, replicate, slice_index_or, ◌≤◌, ⊎_elim}
+use Rattle.std.proofs.Common.{◌≡◌, ℕ, ◌+◌, ◌<◌, ◌∙◌, ap, sym, arith, length, refl, subst, List, Bool, true, false, cond, if◌then◌else◌, ◌*◌, nat_lt, ◌&&◌, replicate, slice_index_or, ◌≤◌, ⊎_elim}
+use Rattle.std.specs.Prelude.{IsTrue}
 use Rattle.std.proofs.lemmas.List.{get_or-replicate, get_or_past, length-replicate, length-map}
 use Rattle.std.proofs.lemmas.Bool.{cases_lt, lt-ltb, le-ltb}
 use Rattle.cc_model.specs.Record.{Record, silent, empty}
 use Rattle.cc_model.specs.HistoryRoom.{lists}
-use Rattle.cc_machine.specs.Names.{Setting, Chain, Object, Stand, Place, Board, Word, ItemField}
+use Rattle.cc_machine.specs.Names.{Config, Setting, Chain, Object, Stand, Place, Board, Word, ItemField}
 use Rattle.cc_runs.specs.Words.{IsSmall, size, groups, Layout, put, layout_of, address, exists, word_at}
 use Rattle.cc_runs.specs.State.{State, first_node}
 use Rattle.cc_machine.specs.View.{state_in}
@@ -41,6 +42,11 @@ stood c stands s p = ⊎_elim
 abbrev stores : Word → State → State
 stores w s = record s { mem = put s.mem w 1 }
 
+all_words : (c : Config) (words : List ℕ) → words ≡ replicate (13 + 3 * c.groups + 8 * (c.senders + 1 + c.groups * (c.receivers + 1)) + 7 * (c.capacity + 2)) 0 → length words ≡ size (layout_of c)
+all_words c words is =
+    let all : length words ≡ length (replicate {A = ℕ} (13 + 3 * c.groups + 8 * (c.senders + 1 + c.groups * (c.receivers + 1)) + 7 * (c.capacity + 2)) 0) = ap (λ (xs : List ℕ). length xs) is in
+    omega (arith, all, length-replicate {A = ℕ} (13 + 3 * c.groups + 8 * (c.senders + 1 + c.groups * (c.receivers + 1)) + 7 * (c.capacity + 2)) 0)
+
 laid_first : (b : Board) (c : Setting) → b.setting ≡ c → IsSmall (layout_of c.config) → length b.words.items ≡ size (layout_of c.config) → length b.stands.items ≡ passes c → lists b.history ≡ empty (groups c.config) → IsLaid b
 laid_first b c is small words stands none = record {
   small = subst (λ (z : Setting). IsSmall (layout_of z.config)) (sym is) small;
@@ -52,7 +58,7 @@ laid_first b c is small words stands none = record {
 pub store-requires-clause-laid : goal.store-requires-clause-laid
 store-requires-clause-laid c =
     let b : Board = record { setting = c.args.setting; words = c.in_ok-words.words; stands = c.in_ok-first_stands.field-0; history = c.in_ok-new.field-0 } in
-    laid_first b c.args.setting refl c.requires.small (omega (arith, c.in_ok-words.ensures.len)) c.in_ok-first_stands.ensures.all c.in_ok-new.ensures
+    laid_first b c.args.setting refl c.requires.small (all_words c.args.setting.config c.in_ok-words.words.items (c.in_ok-words.ensures.items_if_clones_equal (λ y e. e))) c.in_ok-first_stands.ensures.all c.in_ok-new.ensures
 
 pub loop-group-init : goal.loop-group-init
 unfolding state_in
@@ -63,7 +69,7 @@ loop-group-init c =
       stand = λ p. stood c.args.setting c.in_ok-first_stands.field-0.items c.in_ok-first_stands.ensures p i;
       history = c.in_ok-new.ensures i;
     } in
-    let laid : IsLaid b = laid_first b c.args.setting refl c.requires.small (omega (arith, c.in_ok-words.ensures.len)) c.in_ok-first_stands.ensures.all c.in_ok-new.ensures in
+    let laid : IsLaid b = laid_first b c.args.setting refl c.requires.small (all_words c.args.setting.config c.in_ok-words.words.items (c.in_ok-words.ensures.items_if_clones_equal (λ y e. e))) c.in_ok-first_stands.ensures.all c.in_ok-new.ensures in
     let one = c.store.ensures.state ∙ ap (stores (Word.Tail Chain.Send)) base in
     let two = c.store-2.ensures.state ∙ ap (stores (Word.Object Object.Last)) one in
     let three = c.store-3.ensures.state ∙ ap (stores (Word.Object Object.Cursor)) two in record {
@@ -97,3 +103,45 @@ pub returns-clause-state : goal.returns-clause-state
 returns-clause-state c =
     let end : c.loop-node.node ≡ c.args.setting.config.capacity + 1 = omega (arith, c.loop-node.auto.node, c.loop-node.auto.node-end, c.loop-node-test.false) in
     c.loop-node.invariant.state ∙ ap (λ (m : Word → ℕ). record (opening c.args.setting) { mem = m }) (ap (λ (n : ℕ). freed c.args.setting.config n) end ∙ freed_all c.args.setting.config)
+
+known_group : (b : Board) (c : Setting) (g : ℕ) → b.setting ≡ c → g < groups c.config → IsTrue (nat_lt g (groups b.setting.config))
+known_group b c g is near = lt-ltb g (groups b.setting.config) (subst (λ (z : Setting). g < groups z.config) (sym is) near)
+
+known_item : (b : Board) (c : Setting) (n : ℕ) → b.setting ≡ c → n < c.config.capacity + 1 → IsTrue (nat_lt n (b.setting.config.capacity + 2) && true)
+known_item b c n is near = ap (λ (k : Bool). k && true) (lt-ltb n (b.setting.config.capacity + 2) (subst (λ (z : Setting). n < z.config.capacity + 2) (sym is) (omega (arith, near))))
+
+pub store-requires-2-clause-laid : goal.store-requires-2-clause-laid
+store-requires-2-clause-laid c =
+    let b : Board = record { setting = c.args.setting; words = c.in_ok-words.words; stands = c.in_ok-first_stands.field-0; history = c.in_ok-new.field-0 } in
+    laid_kept b c.store.new.self c.store.ensures.keeps (laid_first b c.args.setting refl c.requires.small (all_words c.args.setting.config c.in_ok-words.words.items (c.in_ok-words.ensures.items_if_clones_equal (λ y e. e))) c.in_ok-first_stands.ensures.all c.in_ok-new.ensures)
+
+pub store-requires-3-clause-laid : goal.store-requires-3-clause-laid
+store-requires-3-clause-laid c =
+    let b : Board = record { setting = c.args.setting; words = c.in_ok-words.words; stands = c.in_ok-first_stands.field-0; history = c.in_ok-new.field-0 } in
+    laid_kept c.store.new.self c.store-2.new.self c.store-2.ensures.keeps
+    (laid_kept b c.store.new.self c.store.ensures.keeps (laid_first b c.args.setting refl c.requires.small (all_words c.args.setting.config c.in_ok-words.words.items (c.in_ok-words.ensures.items_if_clones_equal (λ y e. e))) c.in_ok-first_stands.ensures.all c.in_ok-new.ensures))
+
+pub store-requires-in-loop-group-clause-laid : goal.store-requires-in-loop-group-clause-laid
+store-requires-in-loop-group-clause-laid c = c.loop-group.invariant.laid
+
+pub store-requires-in-loop-group-clause-word : goal.store-requires-in-loop-group-clause-word
+store-requires-in-loop-group-clause-word c = known_group c.loop-group.board c.args.setting c.loop-group.group c.loop-group.invariant.setting c.loop-group-test.true
+
+pub store-requires-in-loop-group-2-clause-laid : goal.store-requires-in-loop-group-2-clause-laid
+store-requires-in-loop-group-2-clause-laid c = laid_kept c.loop-group.board c.store-in-loop-group.new.self c.store-in-loop-group.ensures.keeps c.loop-group.invariant.laid
+
+pub store-requires-in-loop-group-2-clause-word : goal.store-requires-in-loop-group-2-clause-word
+store-requires-in-loop-group-2-clause-word c =
+    known_group c.store-in-loop-group.new.self c.args.setting c.loop-group.group (c.store-in-loop-group.ensures.keeps.setting ∙ c.loop-group.invariant.setting) c.loop-group-test.true
+
+pub store-requires-in-loop-node-clause-laid : goal.store-requires-in-loop-node-clause-laid
+store-requires-in-loop-node-clause-laid c = c.loop-node.invariant.laid
+
+pub store-requires-in-loop-node-clause-word : goal.store-requires-in-loop-node-clause-word
+store-requires-in-loop-node-clause-word c = known_item c.loop-node.board c.args.setting c.loop-node.node c.loop-node.invariant.setting c.loop-node-test.true
+
+pub returns-clause-setting : goal.returns-clause-setting
+returns-clause-setting c = c.loop-node.invariant.setting
+
+pub returns-clause-laid : goal.returns-clause-laid
+returns-clause-laid c = c.loop-node.invariant.laid
