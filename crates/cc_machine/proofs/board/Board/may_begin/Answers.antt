@@ -1,4 +1,4 @@
-use Rattle.std.proofs.Common.{◌≡◌, ◌<◌, ◌≤◌, ◌+◌, ◌∙◌, ℕ, Bool, if◌then◌else◌, Some, Result, Ok, Err, ap, refl, sym, arith}
+use Rattle.std.proofs.Common.{◌≡◌, ◌<◌, ◌≤◌, ◌+◌, ◌∙◌, ℕ, Bool, if◌then◌else◌, Some, Result, Ok, Err, ap, refl, subst, sym, arith, rules}
 use Rattle.std.proofs.lemmas.Bool.{lt-ltb, le-ltb}
 use Rattle.cc_runs.specs.Names.{Body}
 use Rattle.cc_machine.specs.Names.{Config, Call, BeginFault, Chain, Stand, Place}
@@ -45,6 +45,11 @@ last_tested m call p begun s is idle count =
     ∙ ap (λ (at : Place). unless_busy at (unless_worn m.setting.config (begun_after call s.begun))) idle
     ∙ ap (unless_worn m.setting.config) (sym count)
 
+busy_at : (m : View) (call : Call) (p : ℕ) (s : Stand) → s ≡ (state_in m).stand p → (s.place ≡ Place.Idle → ⊥) → later m call p ≡ Err BeginFault.Busy
+unfolding later
+busy_at m call p s is other =
+    busy ((state_in m).stand p).place (unless_worn m.setting.config (begun_after call ((state_in m).stand p).begun)) (subst (λ (z : Stand). z.place ≡ Place.Idle → ⊥) is other)
+
 pub returns-in_default-clause-fault : goal.returns-in_default-clause-fault
 returns-in_default-clause-fault c = ap (fault_at (view_of c.args.self.now) c.args.call) (sym c.row.ensures ∙ c.in_default.is)
 
@@ -62,6 +67,18 @@ returns-then-not-is_on_side-clause-fault c =
 pub stand-stand-requires : goal.stand-stand-requires
 stand-stand-requires c =
     omega (arith, c.requires.lawful.laid.stands, inside c.args.self.now.setting c.args.pass c.in-Some.index (sym c.in-Some.ensures))
+
+pub returns-in_default-place : goal.returns-in_default-place
+returns-in_default-place c =
+    let m : View = view_of c.args.self.now in record {
+      place = search rules;
+      ok = search rules;
+      fault = ap (fault_at m c.args.call) (sym c.in-Some.ensures)
+          ∙ side_tested m c.args.call c.in-Some.index c.chain.result c.is_on_side.result c.chain.ensures c.is_on_side.ensures
+          ∙ ap (λ (b : Bool). if b then later m c.args.call c.in-Some.index else Err BeginFault.WrongSide) c.if-not-is_on_side.false
+          ∙ busy_at m c.args.call c.in-Some.index c.stand-stand.result c.stand-stand.ensures c.in_default-place.not-Idle;
+      body = search rules;
+    }
 
 pub returns-then-begun-self-clause-fault : goal.returns-then-begun-self-clause-fault
 returns-then-begun-self-clause-fault c =
