@@ -6,8 +6,8 @@ ghost use Rattle.cc_broker.specs.Opened.{AreItsPasses};
 use cc_broker::{Broker, OpenedTopic};
 use cc_model::{Body, CloseAnswer, Config, Item, SendAnswer, TakeAnswer};
 use cc_queue::{
-    Queue, Receiver, Sender, close, meet, meet_receivers, meet_senders, send, send_until, take,
-    take_until,
+    Opened, Queue, Receiver, Sender, begin_take, close, meet, meet_receivers, meet_senders, send,
+    send_until, take, take_until,
 };
 use std::process::Abort;
 use std::sync::Wait;
@@ -196,5 +196,31 @@ fn each_waiting_call(rt: HostRuntime) -> Result<(), Fail> {
         .expect(&rt, "the second topic");
     play(&rt, letters);
     assert!(rt; passes.is_empty());
+    Ok(())
+}
+
+/// Two groups of one receiver each.
+const GROUPS: Config = Config {
+    receivers: 1,
+    groups: 2,
+    ..NARROW
+};
+
+/// While a take of one group is begun and nothing more, the other group's is answered: their chains have no node in common.
+#[test]
+fn each_group(rt: HostRuntime) -> Result<(), Fail> {
+    let Opened {
+        queue,
+        mut senders,
+        mut receivers,
+    } = Queue::open(rt.alloc(), &GROUPS)?;
+    let place = senders.len() as u64;
+    let sender = next_sender(&rt, &queue, 0, &mut senders);
+    let one = next_receiver(&rt, &queue, place, &mut receivers);
+    let two = next_receiver(&rt, &queue, place + 1, &mut receivers);
+    sends(&rt, &queue, sender, 5, false, (accepted(0), 1));
+    let begun = begin_take(&queue, one);
+    takes(&rt, &queue, two, false, got(0, 1, 5));
+    begun.abandon();
     Ok(())
 }
