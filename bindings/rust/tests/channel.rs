@@ -1,4 +1,7 @@
 //! Channels of any type: every answer, handles, and what becomes of items.
+mod rounds;
+
+use rounds::rounds;
 use std::collections::BTreeSet;
 use std::error::Error;
 use std::panic::{AssertUnwindSafe, catch_unwind};
@@ -373,12 +376,6 @@ fn a_drop_that_sends_breaks_nothing() {
     drop(receiver);
     assert!(drops.load(Ordering::SeqCst) >= 4);
     assert!(sender.is_closed());
-}
-
-/// Less of everything where `VAHEPITO_ROUNDS` says how many of a hundred rounds are made.
-fn rounds(all: u64) -> u64 {
-    let percent = std::env::var("VAHEPITO_ROUNDS").map_or(100, |it| it.parse().unwrap());
-    (all * percent / 100).max(1)
 }
 
 fn many(senders: usize, receivers: usize, capacity: usize, items: u64) {

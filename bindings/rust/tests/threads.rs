@@ -1,4 +1,7 @@
 //! Many threads: each item once, each sender's in its order, and a close while senders wait.
+mod rounds;
+
+use rounds::rounds;
 use std::collections::BTreeMap;
 use std::sync::Barrier;
 use std::thread::{self, ScopedJoinHandle};
@@ -101,27 +104,31 @@ fn eight_and_eight_threads() {
             bound,
             ..Config::new(8, 8, capacity)
         };
-        pass(config, 1, 2_000);
+        pass(config, 1, rounds(2_000));
     }
 }
 
 #[test]
 fn other_numbers_of_threads() {
     for (senders, receivers) in [(1, 1), (1, 8), (8, 1), (64, 64)] {
-        pass(Config::new(senders, receivers, 16), 1, 100);
+        pass(Config::new(senders, receivers, 16), 1, rounds(100));
     }
 }
 
 /// Two groups of two threads: each group gets all items of one sender, each item once and in order.
 #[test]
 fn groups_threads() {
-    pass(Config::new(1, 2, 4), 2, 1_000);
+    pass(Config::new(1, 2, 4), 2, rounds(1_000));
 }
 
 #[test]
 fn other_numbers_of_groups() {
     for (senders, groups, receivers, capacity) in [(1, 8, 1, 1), (4, 3, 2, 16), (2, 8, 4, 64)] {
-        pass(Config::new(senders, receivers, capacity), groups, 200);
+        pass(
+            Config::new(senders, receivers, capacity),
+            groups,
+            rounds(200),
+        );
     }
 }
 
@@ -129,7 +136,7 @@ fn other_numbers_of_groups() {
 /// so.
 #[test]
 fn a_close_while_senders_wait() {
-    for _ in 0..20 {
+    for _ in 0..rounds(20) {
         let (mut senders, receivers) = open(Config::new(9, 2, 4)).unwrap();
         let mut closer = senders.pop().unwrap();
         let full = Barrier::new(9);

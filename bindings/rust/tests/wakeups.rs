@@ -1,5 +1,8 @@
 //! No wake-up is lost: a search over all interleavings of the waiting (`src/channel/event.rs` says
 //! what its steps are), and threads that stop for good where one is lost.
+mod rounds;
+
+use rounds::rounds;
 use std::collections::HashSet;
 use std::sync::mpsc;
 use std::thread;
@@ -288,12 +291,6 @@ fn the_search_finds_each_fault() {
         let found = MODELS.iter().any(|kinds| search(kinds, fault).is_err());
         assert!(found, "{fault:?}");
     }
-}
-
-/// Less of everything where `VAHEPITO_ROUNDS` says how many of a hundred rounds are made.
-fn rounds(all: u64) -> u64 {
-    let percent = std::env::var("VAHEPITO_ROUNDS").map_or(100, |it| it.parse().unwrap());
-    (all * percent / 100).max(1)
 }
 
 /// Does this on a thread of its own. It stops for good where one wake-up is lost, and has two minutes.
