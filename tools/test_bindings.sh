@@ -222,7 +222,8 @@ else
         skip 'Rust: under valgrind' 'valgrind is not on this machine'
     fi
     if cargo +nightly --version >/dev/null 2>&1; then
-        limit=600 step 'Rust: sanitizer address' env RUSTFLAGS=-Zsanitizer=address cargo +nightly "${options[@]}" test \
+        # Of the rounds a fifth here; all of them were made by the tests above.
+        limit=600 step 'Rust: sanitizer address' env RUSTFLAGS=-Zsanitizer=address VAHEPITO_ROUNDS=20 cargo +nightly "${options[@]}" test \
             --target "$host" --tests -- --skip frees_the_queue
         # Its std isn't built for this sanitizer, which so reports the test runner's own channel.
         thread='-Zsanitizer=thread -Cunsafe-allow-abi-mismatch=sanitizer'
