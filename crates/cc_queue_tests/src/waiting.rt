@@ -1,4 +1,4 @@
-//! Calls that wait for their answers, on two topics of a broker, by one thread.
+//! Calls that wait for their answers, on two topics of a broker and in two groups of one queue, by one thread.
 ghost use Rattle.std.specs.Prelude.{◌+◌};
 ghost use Rattle.cc_steps.specs.Walk.{IsOf, fresh_from};
 ghost use Rattle.cc_broker.specs.Opened.{AreItsPasses};
