@@ -1,4 +1,5 @@
 //! Channels of any type: every answer, handles, and what becomes of items.
+#[path = "../src/channel/rounds.rs"]
 mod rounds;
 
 use rounds::rounds;

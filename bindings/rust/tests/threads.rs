@@ -1,4 +1,5 @@
 //! Many threads: each item once, each sender's in its order, and a close while senders wait.
+#[path = "../src/channel/rounds.rs"]
 mod rounds;
 
 use rounds::rounds;
@@ -177,7 +178,7 @@ fn a_close_while_senders_wait() {
 /// Senders race with a close: what was accepted is taken, and no more.
 #[test]
 fn a_close_while_senders_send() {
-    for round in 0..50 {
+    for round in 0..5.max(rounds(50)) {
         let (mut senders, receivers) = open(Config::new(5, 3, 64)).unwrap();
         let mut closer = senders.pop().unwrap();
         let (total, told) = thread::scope(|scope| {

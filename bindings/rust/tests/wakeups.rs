@@ -1,5 +1,6 @@
 //! No wake-up is lost: a search over all interleavings of the waiting (`src/channel/event.rs` says
 //! what its steps are), and threads that stop for good where one is lost.
+#[path = "../src/channel/rounds.rs"]
 mod rounds;
 
 use rounds::rounds;

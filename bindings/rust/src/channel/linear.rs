@@ -1,5 +1,6 @@
 //! Calls of several threads, each recorded with the moments of its begin and its end: whether some
 //! order of single steps, one for each call between its two moments, gives all that was told.
+use super::rounds::rounds;
 use super::slots::Slots;
 use super::*;
 use std::collections::{HashSet, VecDeque};
@@ -157,8 +158,7 @@ fn record(
 
 /// Such runs, each with what is left after it.
 fn runs(count: u64, groups: usize, life: u64, per_sender: u32) {
-    let percent = std::env::var("VAHEPITO_ROUNDS").map_or(100, |it| it.parse().unwrap());
-    for run in 0..(count * percent / 100).max(1) {
+    for run in 0..rounds(count) {
         let capacity = 1 + run as usize % 3;
         let config = Config {
             life,

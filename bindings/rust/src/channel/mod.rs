@@ -7,6 +7,8 @@ mod line;
 #[cfg(test)]
 mod linear;
 mod receiver;
+#[cfg(test)]
+mod rounds;
 mod seat;
 mod sender;
 mod slots;

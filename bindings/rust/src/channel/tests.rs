@@ -1,4 +1,5 @@
 //! A channel has no end: its queues accept a few items, and its senders begin a few sends.
+use super::rounds::rounds;
 use super::slots::Slots;
 use super::*;
 use std::collections::BTreeMap;
@@ -26,7 +27,7 @@ fn one_thread_meets_no_end() {
             let (sender, receiver) = short(capacity, life, per_sender);
             let other = receiver.clone();
             let mut taken = 0..;
-            for number in 0..200_u64 {
+            for number in 0..20.max(rounds(200)) {
                 while let Err(told) = sender.try_send(number) {
                     assert!(told.is_full());
                     assert_eq!(sender.len(), capacity, "it is full and has room");
@@ -61,13 +62,13 @@ fn tries_that_find_no_room_meet_no_end() {
 
 /// Each sender's items come in its order, and no more than the capacity are there at any time.
 fn threads(capacity: usize, life: u64, per_sender: u32, senders: u64, receivers: usize) {
-    const ITEMS: u64 = 60;
+    let count = 10.max(rounds(60));
     let (sender, receiver) = short(capacity, life, per_sender);
     let taken: Mutex<Vec<Vec<(u64, u64)>>> = Mutex::default();
     thread::scope(|scope| {
         for number in 0..senders {
             let sender = sender.clone();
-            scope.spawn(move || (0..ITEMS).for_each(|n| sender.send((number, n)).unwrap()));
+            scope.spawn(move || (0..count).for_each(|n| sender.send((number, n)).unwrap()));
         }
         drop(sender);
         for _ in 0..receivers {
@@ -92,7 +93,7 @@ fn threads(capacity: usize, life: u64, per_sender: u32, senders: u64, receivers:
     }
     let mut all: Vec<_> = taken.into_iter().flatten().collect();
     all.sort();
-    let sent = (0..senders).flat_map(|sender| (0..ITEMS).map(move |n| (sender, n)));
+    let sent = (0..senders).flat_map(|sender| (0..count).map(move |n| (sender, n)));
     assert!(all.into_iter().eq(sent));
 }
 

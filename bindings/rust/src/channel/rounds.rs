@@ -1,4 +1,4 @@
-//! How many rounds the long tests make.
+//! How many rounds the long tests make, those of the channel and those of `tests/`.
 
 /// Less of everything where `VAHEPITO_ROUNDS` says how many of a hundred rounds are made.
 pub fn rounds(all: u64) -> u64 {
