@@ -192,7 +192,8 @@ if ! tools/test_package.sh; then
 fi
 
 cd bindings/rust || exit 1
-export CARGO_TARGET_DIR=$room/target CARGO_TERM_COLOR=never
+# Of what a debugger is told, lines are enough here: they stand in what valgrind and the sanitizers say.
+export CARGO_TARGET_DIR=$room/target CARGO_TERM_COLOR=never CARGO_PROFILE_DEV_DEBUG=line-tables-only
 options=(--quiet --locked --offline)
 if ! cargo --version >/dev/null 2>&1; then
     skip 'the crate in Rust' 'cargo is not on this machine'
@@ -214,17 +215,17 @@ else
     host=$(rustc -vV | sed -n 's/^host: //p')
     runner=CARGO_TARGET_$(tr 'a-z-' 'A-Z_' <<<"$host")_RUNNER
     # One test looks at how much memory the process has, which says nothing under another allocator; two search a model,
-    # and call nothing. Of the rounds of the long tests a twentieth is enough here.
+    # and call nothing. Of the rounds of the long tests a twentieth is enough here; all were made by the tests above.
+    fewer=(--skip frees_the_queue --skip interleaving --skip the_search)
     if has valgrind; then
         limit=600 step 'Rust: under valgrind' env "$runner=${valgrind[*]}" VAHEPITO_ROUNDS=5 cargo "${options[@]}" test --tests -- \
-            --skip frees_the_queue --skip interleaving --skip the_search
+            "${fewer[@]}"
     else
         skip 'Rust: under valgrind' 'valgrind is not on this machine'
     fi
     if cargo +nightly --version >/dev/null 2>&1; then
-        # Of the rounds a fifth here; all of them were made by the tests above.
-        limit=600 step 'Rust: sanitizer address' env RUSTFLAGS=-Zsanitizer=address VAHEPITO_ROUNDS=20 cargo +nightly "${options[@]}" test \
-            --target "$host" --tests -- --skip frees_the_queue
+        limit=600 step 'Rust: sanitizer address' env RUSTFLAGS=-Zsanitizer=address VAHEPITO_ROUNDS=5 cargo +nightly "${options[@]}" test \
+            --target "$host" --tests -- "${fewer[@]}"
         # Its std isn't built for this sanitizer, which so reports the test runner's own channel.
         thread='-Zsanitizer=thread -Cunsafe-allow-abi-mismatch=sanitizer'
         echo 'race:std::sync::mpmc::list::Channel<test::event::CompletedTest>' >"$room/of_the_runner"
