@@ -95,7 +95,7 @@ fn drive_command<'a>(alloc: Global) -> Result<Command<'a>, AllocError> {
         ))
 }
 
-/// An option that takes a number.
+/// An option that takes a number of this range.
 fn number<'a>(
     alloc: Global,
     name: &'a str,
@@ -103,12 +103,17 @@ fn number<'a>(
     default: &'a str,
     help: &'a str,
 ) -> Arg<'a> {
+    option(alloc, name, help)
+        .value_parser(range)
+        .default_value(default)
+}
+
+/// An option that takes a value.
+fn option<'a>(alloc: Global, name: &'a str, help: &'a str) -> Arg<'a> {
     Arg::new(alloc, name)
         .long(name)
         .action(ArgAction::Set)
         .value_name("N")
-        .value_parser(range)
-        .default_value(default)
         .help(help)
 }
 

@@ -1,5 +1,5 @@
 //! A run by threads, what it writes, and what is told of it.
-ghost use Rattle.std.specs.Prelude.{◌≡◌, ◌<◌, ◌-◌, ◌^◌, IfOk, is_err};
+ghost use Rattle.std.specs.Prelude.{◌≡◌, ◌<◌, ◌-◌, ◌^◌, Err, IfOk, is_err};
 ghost use Rattle.cc_device.specs.Written.{Writes};
 ghost use Rattle.cc_play.specs.Outcome.{Told};
 ghost use Rattle.cc_drive_command.specs.declared.driving.RunFault.{RunFault};
@@ -99,7 +99,6 @@ fn write_counts<W: Sink>(sink: &mut W, sent: u64, taken: u64) -> Result<(), Writ
 /// Tells what went wrong in a run, and answers the status: 0 where the verdict is clean, 1 where the audit found a fault, 3
 /// where memory or a thread was refused or a worker reached its limit, 4 where a write failed, and 64 where a number is out
 /// of its range.
-#[tactic(auto, unfolding(crate::specs::Drive::line_of))]
 pub fn tell_end<E: Sink>(errors: &mut E, outcome: Result<Verdict, RunFault>) -> u8
     requires { E.write_failures errors.old < 2 ^ 64 - 1 }
     ensures status { result ≡ status_of outcome }
@@ -109,16 +108,34 @@ pub fn tell_end<E: Sink>(errors: &mut E, outcome: Result<Verdict, RunFault>) -> 
     match outcome {
         Ok(Verdict::Clean) => told(errors, b"", 0),
         Ok(Verdict::Fault { .. }) => told(errors, b"", 1),
-        Err(RunFault::Drive(DriveFault::NoMemory)) => out_of_memory(errors),
-        Err(RunFault::Drive(DriveFault::Thread)) => {
-            told(errors, b"ccq: a thread was refused\n", 3)
-        }
-        Err(RunFault::Drive(DriveFault::Limit(_))) => {
-            told(errors, b"ccq: a worker reached its limit\n", 3)
-        }
-        Err(RunFault::Drive(DriveFault::Config(_))) => {
-            told(errors, b"ccq: a number is out of its range\n", 64)
-        }
-        Err(RunFault::Write) => told(errors, b"ccq: writing failed\n", 4),
+        Err(fault) => tell_fault(errors, fault),
+    }
+}
+
+/// Tells why a run's end isn't told, or not whole, and answers the status.
+fn tell_fault<E: Sink>(errors: &mut E, fault: RunFault) -> u8
+    requires { E.write_failures errors.old < 2 ^ 64 - 1 }
+    ensures status { result ≡ status_of (Err fault) }
+    ensures told { Told (E.bytes_written errors.old) (E.bytes_written errors.new)
+        (E.write_failures errors.old) (E.write_failures errors.new) (line_of (Err fault)) }
+{
+    match fault {
+        RunFault::Drive(fault) => tell_no_end(errors, fault),
+        RunFault::Write => told(errors, b"ccq: writing failed\n", 4),
+    }
+}
+
+/// Tells why a run has no end, and answers the status.
+fn tell_no_end<E: Sink>(errors: &mut E, fault: DriveFault) -> u8
+    requires { E.write_failures errors.old < 2 ^ 64 - 1 }
+    ensures status { result ≡ status_of (Err (RunFault.Drive fault)) }
+    ensures told { Told (E.bytes_written errors.old) (E.bytes_written errors.new)
+        (E.write_failures errors.old) (E.write_failures errors.new) (line_of (Err (RunFault.Drive fault))) }
+{
+    match fault {
+        DriveFault::NoMemory => out_of_memory(errors),
+        DriveFault::Thread => told(errors, b"ccq: a thread was refused\n", 3),
+        DriveFault::Limit(_) => told(errors, b"ccq: a worker reached its limit\n", 3),
+        DriveFault::Config(_) => told(errors, b"ccq: a number is out of its range\n", 64),
     }
 }
