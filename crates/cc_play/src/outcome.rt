@@ -11,7 +11,6 @@ use cc_plan::PlanFault;
 
 /// Tells what went wrong, and answers the status: 0 where the verdict is clean, 1 where the audit found a fault, 2 where the
 /// input is refused, 3 where memory is, and 4 where a device fails.
-#[tactic(auto, unfolding(crate::specs::Outcome::line_of))]
 pub fn tell<E: Sink>(errors: &mut E, outcome: Result<Verdict, PlayFault>) -> u8
     requires { E.write_failures errors.old < 2 ^ 64 - 1 }
     ensures status { result ≡ status_of outcome }
@@ -21,10 +20,22 @@ pub fn tell<E: Sink>(errors: &mut E, outcome: Result<Verdict, PlayFault>) -> u8
     match outcome {
         Ok(Verdict::Clean) => told(errors, b"", 0),
         Ok(Verdict::Fault { .. }) => told(errors, b"", 1),
-        Err(PlayFault::Plan(fault)) => refused(errors, fault),
-        Err(PlayFault::Read) => told(errors, b"ccq: reading failed\n", 4),
-        Err(PlayFault::Write) => told(errors, b"ccq: writing failed\n", 4),
-        Err(PlayFault::NoMemory) => out_of_memory(errors),
+        Err(fault) => tell_fault(errors, fault),
+    }
+}
+
+/// Tells why there is no verdict, and answers the status.
+fn tell_fault<E: Sink>(errors: &mut E, fault: PlayFault) -> u8
+    requires { E.write_failures errors.old < 2 ^ 64 - 1 }
+    ensures status { result ≡ status_of (Err fault) }
+    ensures told { Told (E.bytes_written errors.old) (E.bytes_written errors.new)
+        (E.write_failures errors.old) (E.write_failures errors.new) (line_of (Err fault)) }
+{
+    match fault {
+        PlayFault::Plan(fault) => refused(errors, fault),
+        PlayFault::Read => told(errors, b"ccq: reading failed\n", 4),
+        PlayFault::Write => told(errors, b"ccq: writing failed\n", 4),
+        PlayFault::NoMemory => out_of_memory(errors),
     }
 }
 
