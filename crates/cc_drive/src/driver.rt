@@ -1,6 +1,7 @@
 //! A run: threads that send beside threads that take, the close, and the audit.
 ghost use Rattle.std.specs.Prelude.{◌≡◌, ◌+◌, ◌*◌, ◌-◌, ◌<◌, ◌^◌, IfOk, OnOk, IfErr, Ok, length, vec_len};
 ghost use Rattle.cc_drive.specs.Names.{Verdict, Served, DriveFault};
+ghost use Rattle.cc_queue.specs.Opened.{HasOpened};
 ghost use Rattle.cc_steps.specs.Walk.{fresh, fresh_from};
 ghost use Rattle.cc_workers.specs.Config.{drive_fault, queue_of, IsDue};
 ghost use Rattle.cc_workers.specs.Jobs.{IsSending, IsTaking};
@@ -38,18 +39,65 @@ pub fn drive<G: Gate + Send, R: Threads + Wait + Sync>(
     ensures all_sent { config.now.limit < 2 ^ 32 - 1 → IfOk result (λ e. e.sent ≡ config.now.senders * config.now.items) }
 {
     let of_queue = config.queue()?;
+    let opened = Queue::open_checked(alloc, &of_queue)?;
+    drive_opened(rt, alloc, config, gates, opened)
+}
+
+/// Drives this queue, which was opened for it: its last sender is the closer.
+fn drive_opened<G: Gate + Send, R: Threads + Wait + Sync>(
+    rt: &R,
+    alloc: Global,
+    config: &DriveConfig,
+    gates: Vec<G>,
+    opened: Opened,
+) -> Result<DriveEnd, DriveFault>
+    requires gates { vec_len gates ≡ config.now.senders + config.now.receivers }
+    requires opened { HasOpened (queue_of config.now) opened }
+    ensures due { IfErr result (IsDue (Ok tt) (config.now.senders + config.now.receivers)) }
+    ensures clean { IfOk result (λ e. e.verdict ≡ Verdict.Clean) }
+    ensures all_taken { IfOk result (λ e. e.taken ≡ e.sent) }
+    ensures all_sent { config.now.limit < 2 ^ 32 - 1 → IfOk result (λ e. e.sent ≡ config.now.senders * config.now.items) }
+{
     let Opened {
         queue,
         mut senders,
         receivers,
-    } = Queue::open_checked(alloc, &of_queue)?;
+    } = opened;
     let Some(closer) = senders.pop() else {
         unreachable!()
     };
+    deal_and_run(rt, alloc, &queue, config, gates, closer, senders, receivers)
+}
+
+/// Deals the passes out to workers, the gates in their order, and runs these.
+fn deal_and_run<G: Gate + Send, R: Threads + Wait + Sync>(
+    rt: &R,
+    alloc: Global,
+    queue: &Queue,
+    config: &DriveConfig,
+    gates: Vec<G>,
+    closer: Sender,
+    senders: Vec<Sender>,
+    receivers: Vec<Receiver>,
+) -> Result<DriveEnd, DriveFault>
+    requires gates { vec_len gates ≡ config.now.senders + config.now.receivers }
+    requires closer { closer ≡ fresh queue.now config.now.senders }
+    requires senders { fresh_from queue.now 0 senders.items }
+    requires count_senders { length senders.items ≡ config.now.senders }
+    requires receivers { fresh_from queue.now (config.now.senders + 1) receivers.items }
+    requires count_receivers { length receivers.items ≡ config.now.receivers }
+    requires some { 0 < config.now.receivers }
+    requires few { config.now.senders + config.now.receivers < 2 ^ 16 }
+    requires setting { queue.now.setting ≡ record { served = Served.List; config = queue_of config.now } }
+    ensures due { IfErr result (IsDue (Ok tt) (config.now.senders + config.now.receivers)) }
+    ensures clean { IfOk result (λ e. e.verdict ≡ Verdict.Clean) }
+    ensures all_taken { IfOk result (λ e. e.taken ≡ e.sent) }
+    ensures all_sent { config.now.limit < 2 ^ 32 - 1 → IfOk result (λ e. e.sent ≡ config.now.senders * config.now.items) }
+{
     let mut gates = gates;
     let senders = deal(alloc, senders, &mut gates)?;
     let receivers = deal(alloc, receivers, &mut gates)?;
-    run_and_settle(rt, alloc, &queue, config, closer, senders, receivers)
+    run_and_settle(rt, alloc, queue, config, closer, senders, receivers)
 }
 
 /// Runs all workers, and settles what is left of the run.
