@@ -147,20 +147,29 @@ fn one_word(a: &Value) -> Option<Body>
 fn two_words(a: &Value, b: &Value) -> Option<Body>
     ensures { result ≡ option_map body_of (each whole_number (view a.now ∷ view b.now ∷ [])) }
 {
-    Some(Body::two(a.as_u64()?, b.as_u64()?))
+    match (a.as_u64(), b.as_u64()) {
+        (Some(a), Some(b)) => Some(Body::two(a, b)),
+        _ => None,
+    }
 }
 
 fn three_words(a: &Value, b: &Value, c: &Value) -> Option<Body>
     ensures { result ≡ option_map body_of (each whole_number (view a.now ∷ view b.now ∷ view c.now ∷ [])) }
 {
-    Some(Body::three(a.as_u64()?, b.as_u64()?, c.as_u64()?))
+    match (a.as_u64(), b.as_u64(), c.as_u64()) {
+        (Some(a), Some(b), Some(c)) => Some(Body::three(a, b, c)),
+        _ => None,
+    }
 }
 
 fn four_words(a: &Value, b: &Value, c: &Value, d: &Value) -> Option<Body>
     ensures { result ≡ option_map body_of
         (each whole_number (view a.now ∷ view b.now ∷ view c.now ∷ view d.now ∷ [])) }
 {
-    Some(Body::four(a.as_u64()?, b.as_u64()?, c.as_u64()?, d.as_u64()?))
+    match (a.as_u64(), b.as_u64(), c.as_u64(), d.as_u64()) {
+        (Some(a), Some(b), Some(c), Some(d)) => Some(Body::four(a, b, c, d)),
+        _ => None,
+    }
 }
 
 /// Whether the value is a number, or in version 2 an array of numbers.
