@@ -17,7 +17,7 @@ use Rattle.cc_plan.specs.Plan.{PlanValue, plan_value}
 use Rattle.cc_plan.specs.PlanShape.{named, has_plan_shape}
 use Rattle.cc_plan.specs.PlanValues.{groups_of, counted, call_of, calls_of, senders_of, fill_groups, receivers_of, entry_of, schedule_of}
 use Rattle.cc_plan.specs.Version.{version_in, version_of}
-use Rattle.cc_plan.specs.PlanOf.{config_of, plan_of_values, has_pass, known_passes, with_known_passes, values_of_tree, values_of, plan_of}
+use Rattle.cc_plan.specs.PlanOf.{config_of, plan_of_lists, plan_of_values, has_pass, known_passes, with_known_passes, values_of_tree, values_of, plan_of}
 use Rattle.cc_plan.specs.PlanLaws.{IsOfSender, Lawful}
 
 -- ---- steps that gave something
@@ -207,7 +207,7 @@ record Given (d : Data) (p : PlanValue) : Type 0 where
   plan_is : record { version = version; config = config_of groups (length senders) (length receivers / groups) capacity bound life; senders = senders; receivers = receivers; schedule = schedule } ≡ p
 
 values_given : (d : Data) (p : PlanValue) → plan_of_values d ≡ Ok p → Given d p
-unfolding plan_of_values
+unfolding plan_of_values plan_of_lists
 values_given d p e =
     let version = ok_step (or_range (codes "version") (version_of d)) _ p e in
     let groups = ok_step (or_range (codes "groups") (groups_of version.0 d)) _ p version.2 in

@@ -14,6 +14,14 @@ use Rattle.cc_plan.specs.Plan.{PlanValue}
 abbrev pub config_of : (groups senders receivers capacity bound life : ℕ) → Config
 config_of groups senders receivers capacity bound life = record { senders = senders; receivers = receivers; capacity = capacity; bound = bound; life = life; per_sender = 2 ^ 32 - 1; groups = groups }
 
+-- the plan of these numbers and of the lists, where they are in their ranges
+unfoldable pub plan_of_lists : (version groups capacity bound life : ℕ) → Data → Result PlanValue Refusal
+plan_of_lists version groups capacity bound life d = do
+  senders ← value_at (senders_of version) (codes "senders") d
+  receivers ← value_at (receivers_of groups) (codes "receivers") d
+  schedule ← value_at schedule_of (codes "schedule") d
+  Ok (record { version = version; config = config_of groups (length senders) (length receivers / groups) capacity bound life; senders = senders; receivers = receivers; schedule = schedule })
+
 -- the values in their ranges; of several out of range the first in this order is told
 unfoldable pub plan_of_values : Data → Result PlanValue Refusal
 plan_of_values d = do
@@ -22,10 +30,7 @@ plan_of_values d = do
   capacity ← value_at (number_in 1 4096) (codes "capacity") d
   bound ← value_at (number_in 1 1024) (codes "bound") d
   life ← value_at (number_in 1 (2 ^ 48)) (codes "life") d
-  senders ← value_at (senders_of version) (codes "senders") d
-  receivers ← value_at (receivers_of groups) (codes "receivers") d
-  schedule ← value_at schedule_of (codes "schedule") d
-  Ok (record { version = version; config = config_of groups (length senders) (length receivers / groups) capacity bound life; senders = senders; receivers = receivers; schedule = schedule })
+  plan_of_lists version groups capacity bound life d
 
 -- the configuration has this pass; the receivers of all groups are numbered through
 abbrev pub has_pass : Config → Pass → Bool

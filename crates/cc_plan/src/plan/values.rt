@@ -5,7 +5,7 @@ ghost use Rattle.serde_json.specs.View.{view};
 ghost use Rattle.cc_plan.specs.Json.{each, number_in};
 ghost use Rattle.cc_plan.specs.Answers.{Gives};
 ghost use Rattle.cc_plan.specs.Plan.{plan_value};
-ghost use Rattle.cc_plan.specs.PlanOf.{plan_of_values};
+ghost use Rattle.cc_plan.specs.PlanOf.{config_of, plan_of_lists, plan_of_values};
 ghost use Rattle.cc_plan.specs.PlanValues.{counted, groups_of, call_of, calls_of, senders_of, fill_groups, receivers_of, entry_of, schedule_of};
 
 use super::Plan;
@@ -22,30 +22,82 @@ use std::alloc::{AllocError, Global};
 pub fn values(alloc: Global, tree: &Value) -> Result<Plan, PlanFault>
     ensures { Gives plan_value result (plan_of_values (view tree.now)) }
 {
-    let version = version(tree).ok_or(PlanFault::P3("version"))?;
-    let groups = groups(tree, version).ok_or(PlanFault::P3("groups"))?;
-    let capacity = number_at(tree, "capacity", 4096).ok_or(PlanFault::P3("capacity"))?;
-    let bound = number_at(tree, "bound", 1024).ok_or(PlanFault::P3("bound"))?;
-    let life = number_at(tree, "life", 1 << 48).ok_or(PlanFault::P3("life"))?;
-    let senders = senders(alloc, tree, version)?.ok_or(PlanFault::P3("senders"))?;
-    let receivers = receivers(alloc, tree, groups)?.ok_or(PlanFault::P3("receivers"))?;
-    let schedule = schedule(alloc, tree)?.ok_or(PlanFault::P3("schedule"))?;
-    let config = Config {
-        senders: senders.len() as u32,
-        receivers: (receivers.len() / groups) as u32,
+    let Some(version) = version(tree) else {
+        return Err(PlanFault::P3("version"));
+    };
+    let Some(groups) = groups(tree, version) else {
+        return Err(PlanFault::P3("groups"));
+    };
+    let Some(capacity) = number_at(tree, "capacity", 4096) else {
+        return Err(PlanFault::P3("capacity"));
+    };
+    let Some(bound) = number_at(tree, "bound", 1024) else {
+        return Err(PlanFault::P3("bound"));
+    };
+    let Some(life) = number_at(tree, "life", 1 << 48) else {
+        return Err(PlanFault::P3("life"));
+    };
+    let numbers = Numbers {
+        version,
+        groups,
         capacity: capacity as u32,
         bound: bound as u32,
         life,
-        per_sender: u32::MAX,
-        groups: groups as u32,
     };
+    with_lists(alloc, tree, numbers)
+}
+
+/// The values of a plan that are numbers.
+#[derive(Clone, Copy)]
+struct Numbers {
+    version: u32,
+    groups: usize,
+    capacity: u32,
+    bound: u32,
+    life: u64,
+}
+
+/// The plan of these numbers and of the tree's lists.
+#[tactic(auto, unfolding(crate::specs::PlanOf::plan_of_lists))]
+fn with_lists(alloc: Global, tree: &Value, numbers: Numbers) -> Result<Plan, PlanFault>
+    requires { (1 ≤ numbers.groups) × (numbers.groups ≤ 8) }
+    ensures { Gives plan_value result (plan_of_lists numbers.version numbers.groups numbers.capacity numbers.bound
+        numbers.life (view tree.now)) }
+{
+    let Some(senders) = senders(alloc, tree, numbers.version)? else {
+        return Err(PlanFault::P3("senders"));
+    };
+    let Some(receivers) = receivers(alloc, tree, numbers.groups)? else {
+        return Err(PlanFault::P3("receivers"));
+    };
+    let Some(schedule) = schedule(alloc, tree)? else {
+        return Err(PlanFault::P3("schedule"));
+    };
+    let config = config(numbers, senders.len(), receivers.len());
     Ok(Plan {
-        version,
+        version: numbers.version,
         config,
         senders,
         receivers,
         schedule,
     })
+}
+
+/// The configuration of the numbers, for so many senders, and so many receivers in all groups.
+fn config(numbers: Numbers, senders: usize, receivers: usize) -> Config
+    requires { (1 ≤ numbers.groups) × (numbers.groups ≤ 8) × (senders ≤ 64) × (receivers / numbers.groups ≤ 64) }
+    ensures { result ≡ config_of numbers.groups senders (receivers / numbers.groups) numbers.capacity numbers.bound
+        numbers.life }
+{
+    Config {
+        senders: senders as u32,
+        receivers: (receivers / numbers.groups) as u32,
+        capacity: numbers.capacity,
+        bound: numbers.bound,
+        life: numbers.life,
+        per_sender: u32::MAX,
+        groups: numbers.groups as u32,
+    }
 }
 
 /// In how many groups the receivers are: in version 1 in one.
