@@ -1,5 +1,7 @@
-//! Tests of `cc_drive`: runs with gates that go on, that wait for each other, and that never let a worker go on; and lines that
-//! ask for a drive, by `cc_drive_command`.
+//! The tests of the shared queue, and of what stands on it. Of `cc_queue` the calls that wait; of `cc_broker` what is refused
+//! and in which order, and how names lead to numbers; of `cc_drive` runs with gates that go on, that wait for each other, and
+//! that never let a worker go on; of `cc_drive_command` lines that ask for a drive. Begins and turns, each answer by its row,
+//! calls that are given up, groups and threads are in the tests of the bindings, which make these calls.
 #![tactic(auto)]
 
 #[cfg(test)]
@@ -9,4 +11,8 @@ mod gates;
 #[cfg(test)]
 mod runs;
 #[cfg(test)]
+mod topics;
+#[cfg(test)]
 mod two_at_once;
+#[cfg(test)]
+mod waiting;
