@@ -108,40 +108,6 @@ fn got(item: Item) -> Answer {
     Answer::Take(TakeAnswer::Got(item))
 }
 
-/// A machine after so many events of each pass in turn, each of which begins its next call where it is idle, and takes
-/// the answer of a finished one at once.
-fn played(
-    alloc: Global,
-    config: &Config,
-    calls: &[(Pass, &[Call])],
-    turns: &[(usize, u32)],
-) -> Result<Machine, OpenFault> {
-    let mut machine = Machine::open(alloc, config)?;
-    let mut begun: [usize; 4] = [0; 4];
-    for (place, events) in turns {
-        let (Some((pass, list)), Some(next)) = (calls.get(*place), begun.get_mut(*place)) else {
-            continue;
-        };
-        for _ in 0..*events {
-            if let Some(call) = list.get(*next) {
-                if machine.begin(*pass, *call).is_ok() {
-                    *next += 1;
-                }
-            }
-            let _event = machine.event(*pass);
-            let _answer = machine.answer(*pass);
-        }
-    }
-    Ok(machine)
-}
-
-fn has(machine: &Machine, sent: &[Answer], taken: &[Answer]) -> bool {
-    let history = machine.history();
-    history.groups() == 1
-        && history.sends().answers() == sent
-        && history.takes(0).answers() == taken
-}
-
 /// A machine of one sender and one receiver, with room for so many items.
 fn opened<R: Abort>(rt: &R, alloc: Global, capacity: u32) -> Machine {
     Machine::open(alloc, &config(1, 1, capacity, 2, 10)).expect(rt, "opens")
@@ -289,29 +255,6 @@ fn tags(rt: HostRuntime) {
         assert_eq!(rt; unpack_words(tag), (sender, number, words));
     }
     assert_eq!(rt; pack(1, 1), 4_294_967_297);
-}
-
-#[test]
-fn node_used_again(rt: HostRuntime) {
-    let full = Answer::Send(SendAnswer::Full);
-    let small = config(2, 1, 1, 2, 10);
-    let calls: [(Pass, &[Call]); 3] = [
-        (FIRST_SENDER, &[Call::Send(Body::one(5))]),
-        (
-            SECOND_SENDER,
-            &[Call::Send(Body::one(7)), Call::Send(Body::one(8))],
-        ),
-        (FIRST_RECEIVER, &[Call::Take]),
-    ];
-    let turns = [(0, 100), (2, 13), (1, 20), (2, 1), (1, 100)];
-    let machine = played(rt.alloc(), &small, &calls, &turns).expect(&rt, "opens");
-    assert!(rt;
-        has(
-            &machine,
-            &[accepted(0), full, accepted(1)],
-            &[got(item(0, 1, 1, Body::one(5)))]
-        )
-    );
 }
 
 #[test]
