@@ -23,6 +23,7 @@ import shutil
 import statistics
 import subprocess
 import sys
+import textwrap
 import time
 
 HERE = os.path.dirname(os.path.abspath(__file__))
@@ -237,6 +238,11 @@ def short(value):
     return f"{value:,.0f}" if value >= 99.5 else f"{value:.2g}" if value < 9.95 else f"{value:.0f}"
 
 
+def wrapped(text):
+    """A paragraph in lines as wide as those of the other documents."""
+    return textwrap.fill(text, 110, break_long_words=False, break_on_hyphens=False)
+
+
 def text_of(machine, length, versions, all_tables, numbers):
     """The section of docs/BENCH.md."""
     idle = machine["others"] < 0.1
@@ -244,21 +250,21 @@ def text_of(machine, length, versions, all_tables, numbers):
     loads = " and ".join(", ".join(f"{one:.2f}" for one in load) for load in machine["load"])
     queues = ", ".join(f"{library} {number}" for library, number in versions.items())
     queues += " (as Debian has them), " if queues else ""
-    lines = [
+    lines = [wrapped(
         f"{machine['date']}, {machine['rounds']} rounds in {machine['seconds']} s, a burst of {length:.0f} ms in each: {machine['model']}, "
         f"{machine['usable']} of {machine['processors']} processors, Linux {machine['kernel']}. "
         f"The load was {loads} before and after (of 1, 5 and 15 minutes); "
         + ("the machine was idle otherwise: " if idle else "**others ran meanwhile, so compare within a column alone**: ")
         + f"other processes had {machine['others']:.2f} processors in the mean and {machine['worst']:.2f} in the worst round "
-        f"({busiest}), and the host took {machine['stolen']:.2f}.", "",
+        f"({busiest}), and the host took {machine['stolen']:.2f}."), "", wrapped(
         f"*words* are the proved queues of words and *typed* the channel of any type, both of `bindings/rust`, with a bound of {BOUND}; "
         f"the peers are {queues}std's `sync_channel`, whose one receiver is shared under a lock, and std's `Mutex` with two "
         "`Condvar`s round a `VecDeque`. ArrayQueue and concurrent-queue have no calls that wait: they are tried again, first with "
-        "spinning between two tries and then with yields. A cell has the median of the rounds, and in brackets the quartiles.", "",
+        "spinning between two tries and then with yields. A cell has the median of the rounds, and in brackets the quartiles."), "",
     ]
     for name, title, _, unit, about, rows in all_tables:
         columns = list(next(iter(rows.values())))
-        lines += [f"### {title}", "", f"{about} In {unit}.", "", f"![{title}](pictures/peers-{name}.svg)", "",
+        lines += [f"### {title}", "", wrapped(f"{about} In {unit}."), "", f"![{title}](pictures/peers-{name}.svg)", "",
                   f"| | {' | '.join(columns)} |", "|---" * (len(columns) + 1) + "|"]
         for row, cells in rows.items():
             shown = [quartiles(numbers, *cells[column]) for column in columns]
