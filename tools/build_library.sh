@@ -41,7 +41,7 @@ by_rt_lib() {
 }
 
 if gate_stands; then
-    echo "library: rattle proves and builds cc_binding over $below, which the gate proved of these sources: some three minutes of one processor."
+    echo "library: rattle proves and builds cc_binding over $below, which the gate proved of these sources: about a minute of one processor."
     build() {
         build_over_gate && return
         echo 'rt: the library was not built over what the gate left: rt lib builds it from nothing'

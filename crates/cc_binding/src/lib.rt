@@ -4,44 +4,32 @@
 //! out of it, makes the call of `cc_queue` with it, and puts it back. No export requires anything: what can be wrong is
 //! tested, and told by a code. No call but the openings takes memory.
 //!
-//! What each call tells is said in `specs/Calls.antt`, and of the opening in `specs/Opened.antt`.
+//! What each call tells is said in `specs/Calls.antt` of `cc_handles`, and of the opening in `specs/Opened.antt` there.
 #![tactic(auto)]
 
 ghost use Rattle.std.specs.Prelude.{◌≡◌, ◌≢◌, nat_le};
 ghost use Rattle.std.specs.Mem.{type_size};
-ghost use Rattle.cc_binding.specs.contracts.opening.Settings as settings_type;
-ghost use Rattle.cc_binding.specs.contracts.handle.Handle as handle_type;
-ghost use Rattle.cc_binding.specs.contracts.items.TakenItem as item_type;
+ghost use Rattle.cc_handles.specs.contracts.opening.Settings as settings_type;
+ghost use Rattle.cc_handles.specs.contracts.handle.Handle as handle_type;
+ghost use Rattle.cc_handles.specs.contracts.items.TakenItem as item_type;
 ghost use Rattle.cc_binding.specs.declared.version.TheConstants.{VERSION};
-ghost use Rattle.cc_binding.specs.declared.codes.TheConstants.{BAD_GROUPS, BAD_WORDS};
-ghost use Rattle.cc_binding.specs.Items.{one_word, all_words};
-ghost use Rattle.cc_binding.specs.Opened.{config_of, refusal, HaveOpened};
-ghost use Rattle.cc_binding.specs.Handles.{pass_of, longest_of, IsDropped};
-ghost use Rattle.cc_binding.specs.Calls.{single, fitting, IfRoom, BeginsSend, TurnsSend, TriesSend, TellsWorn, BeginsClose, TurnsClose, BeginsTake, TurnsTake, TriesTake, TellsGroup};
+ghost use Rattle.cc_handles.specs.declared.codes.TheConstants.{BAD_GROUPS, BAD_WORDS};
+ghost use Rattle.cc_handles.specs.Items.{one_word, all_words};
+ghost use Rattle.cc_handles.specs.Opened.{config_of, refusal, HaveOpened};
+ghost use Rattle.cc_handles.specs.Handles.{pass_of, longest_of, IsDropped};
+ghost use Rattle.cc_handles.specs.Calls.{single, fitting, IfRoom, BeginsSend, TurnsSend, TriesSend, TellsWorn, BeginsClose, TurnsClose, BeginsTake, TurnsTake, TriesTake, TellsGroup};
 
-mod boxed;
-mod closes;
-mod codes;
-mod handle;
-mod held;
-mod items;
-mod loose;
-mod opening;
-mod refusals;
-mod sends;
-mod takes;
-mod told;
 mod version;
 
+use cc_handles::codes::{DONE, NO_MEMORY, NO_PASS};
+use cc_handles::handle::Handle;
+use cc_handles::items::{TakenItem, TakenWords};
+use cc_handles::opening::{Settings, check, open};
+use cc_handles::takes::{try_take, turn_take};
+use cc_handles::told::Told;
 use cc_model::Body;
-use codes::{DONE, NO_MEMORY, NO_PASS};
-use handle::Handle;
-use items::{TakenItem, TakenWords};
-use opening::{Settings, check, open};
 use std::alloc::Global;
 use std::mem::size_of;
-use takes::{try_take, turn_take};
-use told::Told;
 use version::VERSION;
 
 /// The version of the library, which a caller compares with the one that it was written for: a million times the first of

@@ -1,9 +1,9 @@
 use Rattle.std.proofs.Common.{rules, None}
-use Rattle.cc_binding.specs.declared.codes.TheConstants.{NO_PASS}
-use Rattle.cc_binding.specs.Handles.{pass_of}
-use Rattle.cc_binding.specs.Told.{only}
-use Rattle.cc_binding.specs.Calls.{single, BeginsSend, TurnsSend}
-use Rattle.cc_binding.proofs.Trying.{refused}
+use Rattle.cc_handles.specs.declared.codes.TheConstants.{NO_PASS}
+use Rattle.cc_handles.specs.Handles.{pass_of}
+use Rattle.cc_handles.specs.Told.{only}
+use Rattle.cc_handles.specs.Calls.{single, BeginsSend, TurnsSend}
+use Rattle.cc_handles.proofs.Trying.{refused}
 use Rattle.cc_binding.proofs.vahepito_try_send.Goals as goal
 
 pub returns-in-None-clause-tries : goal.returns-in-None-clause-tries

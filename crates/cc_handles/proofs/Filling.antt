@@ -1,0 +1,64 @@
+-- Rows of handles that are filled one after another.
+use Rattle.std.proofs.Common.{◌≡◌, ℕ, ◌+◌, ◌<◌, List, [], ◌∷◌, ◌++◌, length, map, set, take, slice_index_or, Option, Some, None, sym, ap, ◌∙◌, subst, append_assoc, append-nil, arith, ◌≤◌}
+use Rattle.std.proofs.lemmas.List.{take_more_set, map-append, take_all}
+use Rattle.std.specs.List.{remove}
+use Rattle.cc_steps.specs.Topic.{Topic}
+use Rattle.cc_steps.specs.Walk.{Walk, IsOf, fresh, fresh_from}
+use Rattle.cc_handles.specs.Names.{Pass}
+use Rattle.cc_handles.specs.Passes.{Holding, holding}
+use Rattle.cc_handles.specs.Handles.{in_box}
+use Rattle.cc_handles.specs.Opened.{HoldFresh}
+
+-- the first seat of a row of fresh ones
+pub first_seat : (z : Topic) (p : ℕ) (ws : List Walk) (w : Walk) → 0 < length ws → fresh_from z p ws → w ≡ slice_index_or ws 0 w → w ≡ fresh z p
+first_seat z p [] w some f is = absurd (omega (arith, some))
+first_seat z p (x ∷ ws) w some f is = is ∙ f.0
+
+-- it is of the queue
+pub is_of : (z : Topic) (p : ℕ) (ws : List Walk) (w : Walk) → 0 < length ws → fresh_from z p ws → w ≡ slice_index_or ws 0 w → IsOf z w
+is_of z p ws w some f is = let e = first_seat z p ws w some f is in (ap (λ (x : Walk). x.table_id) e, ap (λ (x : Walk). x.setting) e)
+
+-- the others
+pub other_seats : (z : Topic) (p next : ℕ) (ws rest : List Walk) → next ≡ p + 1 → 0 < length ws → fresh_from z p ws → rest ≡ remove ws 0 → fresh_from z next rest
+other_seats z p next [] rest after some f is = absurd (omega (arith, some))
+other_seats z p next (x ∷ ws) rest after some f is = subst (λ (y : ℕ × List Walk). fresh_from z y.0 y.1) (λ i. (sym after i, sym is i)) f.1
+
+module _ {X : Type 0} (held : X → Holding) (side : Walk → Pass) (words : ℕ) (z : Topic) where
+  -- one more holder, of the next fresh pass
+  hold_push : (p n : ℕ) (xs : List X) (x : X) → held x ≡ holding words (side (fresh z n)) → n ≡ p + length xs → HoldFresh xs held side words z p → HoldFresh (xs ++ x ∷ []) held side words z p
+  hold_push p n [] x is at h = (is ∙ ap (λ (k : ℕ). holding words (side (fresh z k))) (omega (arith, at)), tt)
+  hold_push p n (y ∷ xs) x is at h = (h.0, hold_push (p + 1) n xs x is (omega (arith, at)) h.1)
+
+  pub next_held : (first p : ℕ) (ws : List Walk) (done done' : List X) (w : Walk) (x : X) → 0 < length ws → fresh_from z p ws → w ≡ slice_index_or ws 0 w → held x ≡ holding words (side w) → p ≡ first + length done → HoldFresh done held side words z first → done' ≡ done ++ x ∷ [] → HoldFresh done' held side words z first
+  next_held first p ws done done' w x some f is holds at before is' =
+      subst (λ (ys : List X). HoldFresh ys held side words z first) (sym is') (hold_push first p done x (holds ∙ ap (λ (v : Walk). holding words (side v)) (first_seat z p ws w some f is)) at before)
+
+abbrev head_of : {Y : Type 0} → Y → List Y → Y
+head_of d [] = d
+head_of d (y ∷ ys) = y
+
+abbrev rest_of : {Y : Type 0} → List Y → List Y
+rest_of [] = []
+rest_of (y ∷ ys) = ys
+
+-- handles that were filled with these hold what these hold
+pub filled : {H B : Type 0} (handle : H → Option Holding) (box : B → Holding) (side : Walk → Pass) (words : ℕ) (z : Topic) (p : ℕ) (hs : List H) (bs : List B)
+    → map handle hs ≡ map (λ b. Some (box b)) bs → HoldFresh bs box side words z p → HoldFresh hs (λ h. in_box (handle h)) side words z p
+filled handle box side words z p [] bs e f = tt
+filled handle box side words z p (h ∷ hs) [] e f = absurd (omega (arith, ap length e))
+filled handle box side words z p (h ∷ hs) (b ∷ bs) e f =
+    (ap (λ ys. in_box (head_of None ys)) e ∙ f.0, filled handle box side words z (p + 1) hs bs (ap rest_of e) f.1)
+
+module _ {H B Y : Type 0} (f : H → Y) (g : B → Y) where
+  -- a handle more was filled
+  pub one_more : (i : ℕ) (hs hs' : List H) (h : H) (b : B) (bs bs' : List B) (all : List Y) → i < length hs → f h ≡ g b → b ≡ slice_index_or bs 0 b → 0 < length bs → bs' ≡ remove bs 0 → hs' ≡ set hs i h
+      → map f (take i hs) ++ map g bs ≡ all → map f (take (i + 1) hs') ++ map g bs' ≡ all
+  one_more i hs hs' h b [] bs' all less same is some rest at e = absurd (omega (arith, some))
+  one_more i hs hs' h b (x ∷ bs) bs' all less same is some rest at e =
+      let step : map f (take (i + 1) (set hs i h)) ≡ map f (take i hs) ++ g x ∷ [] = ap (map f) (take_more_set hs i h less) ∙ map-append f (take i hs) (h ∷ []) ∙ ap (λ y. map f (take i hs) ++ y ∷ []) (same ∙ ap g is) in
+      ap (λ ys. map f (take (i + 1) ys) ++ map g bs') at ∙ ap (λ ys. map f (take (i + 1) (set hs i h)) ++ map g ys) rest ∙ ap (λ ys. ys ++ map g bs) step ∙ append_assoc (map f (take i hs)) (g x ∷ []) (map g bs) ∙ e
+
+  -- all were
+  pub all_filled : (i : ℕ) (hs : List H) (bs : List B) (all : List Y) → length hs ≤ i → length bs ≡ 0 → map f (take i hs) ++ map g bs ≡ all → map f hs ≡ all
+  all_filled i hs [] all far none e = ap (map f) (sym (take_all i hs far)) ∙ sym (append-nil (map f (take i hs))) ∙ e
+  all_filled i hs (b ∷ bs) all far none e = absurd (omega (arith, none))

@@ -1,0 +1,17 @@
+-- The types that specs, proofs and contracts of this crate speak of. A variant stands behind its type, as `Pass.Sender`.
+pub use Rattle.cc_model.specs.declared.body.Body.{Body}
+pub use Rattle.cc_model.specs.declared.call.Call.{Call}
+pub use Rattle.cc_model.specs.declared.call.Item.{Item}
+pub use Rattle.cc_model.specs.declared.call.SendAnswer.{SendAnswer}
+pub use Rattle.cc_model.specs.declared.call.CloseAnswer.{CloseAnswer}
+pub use Rattle.cc_model.specs.declared.call.TakeAnswer.{TakeAnswer}
+pub use Rattle.cc_model.specs.declared.call.Answer.{Answer}
+pub use Rattle.cc_model.specs.declared.config.Config.{Config}
+pub use Rattle.cc_model.specs.declared.config.ConfigFault.{ConfigFault}
+pub use Rattle.cc_runs.specs.declared.setting.Served.{Served}
+pub use Rattle.cc_handles.specs.declared.held.Pass.{Pass}
+pub use Rattle.cc_handles.specs.declared.opening.Settings.{Settings}
+pub use Rattle.cc_handles.specs.declared.items.TakenItem.{TakenItem}
+pub use Rattle.cc_handles.specs.declared.items.TakenWords.{TakenWords}
+pub use Rattle.cc_handles.specs.declared.told.Told.{Told}
+pub use Rattle.cc_handles.specs.declared.told.Taken.{Taken}

@@ -1,0 +1,27 @@
+-- What a handle holds.
+use Rattle.std.specs.Prelude.{ℕ, Option, Some, None}
+use Rattle.cc_steps.specs.Topic.{Topic}
+use Rattle.cc_steps.specs.Walk.{Walk, IsOf}
+use Rattle.cc_handles.specs.Names.{Pass}
+
+-- the data of a pass, whatever it does
+abbrev pub walk_of : Pass → Walk
+walk_of (Pass.Sender w) = w
+walk_of (Pass.Sending w) = w
+walk_of (Pass.Closing w) = w
+walk_of (Pass.Receiver w) = w
+walk_of (Pass.Taking w) = w
+
+-- the pass, if there is one, is of this queue
+abbrev pub IsPassOf : Topic → Option Pass → Type 0
+IsPassOf z None = Unit {0}
+IsPassOf z (Some p) = IsOf z (walk_of p)
+
+-- a pass, if there is one, and how many words a body of its queue has at most
+pub record Holding : Type 0 where
+  pub pass : Option Pass
+  pub words : ℕ
+
+-- the pass of a queue whose bodies have so many words at most
+abbrev pub holding : ℕ → Pass → Holding
+holding words p = record { pass = Some p; words = words }

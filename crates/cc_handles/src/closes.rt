@@ -1,0 +1,78 @@
+//! A close, by the pass behind a handle.
+ghost use Rattle.std.specs.Prelude.{◌≡◌, Some};
+ghost use Rattle.cc_steps.specs.Walk.{IsOf};
+ghost use Rattle.cc_handles.specs.Passes.{walk_of};
+ghost use Rattle.cc_handles.specs.Calls.{BeginsClose, TurnsClose};
+
+use crate::codes::{BEGUN, NO_PASS, WAITING};
+use crate::held::{Held, Pass, put};
+use crate::refusals::{no_idle_sender, no_pending_sender};
+use crate::told::Told;
+use cc_queue::{CloseTurn, Queue, begin_close, turn_close};
+
+/// Begins a close, if the pass can.
+#[inline(always)]
+fn begun(queue: &Queue, pass: Pass) -> (Pass, u32)
+    requires { IsOf queue.now (walk_of pass) }
+    ensures here { IsOf queue.now (walk_of result.0) }
+    ensures begins { BeginsClose (Some pass) (Some result.0) result.1 }
+{
+    match pass {
+        Pass::Sender(sender) => (Pass::Closing(begin_close(queue, sender)), BEGUN),
+        other => {
+            let why = no_idle_sender(&other);
+            (other, why)
+        }
+    }
+}
+
+/// One turn of a close, if the pass has one.
+#[inline(always)]
+fn turned(queue: &Queue, pass: Pass) -> (Pass, Told)
+    requires { IsOf queue.now (walk_of pass) }
+    ensures here { IsOf queue.now (walk_of result.0) }
+    ensures turns { TurnsClose (Some pass) (Some result.0) result.1 }
+{
+    match pass {
+        Pass::Closing(pending) => match turn_close(queue, pending) {
+            CloseTurn::Waiting(pending) => (Pass::Closing(pending), Told::only(WAITING)),
+            CloseTurn::Done {
+                sender,
+                answer,
+                served,
+            } => (Pass::Sender(sender), Told::closed(answer, served)),
+        },
+        other => {
+            let why = no_pending_sender(&other);
+            (other, Told::only(why))
+        }
+    }
+}
+
+impl Held {
+    /// Begins a close.
+    pub fn begin_close(&mut self) -> u32
+        ensures begins { BeginsClose self.old.pass self.new.pass result }
+        ensures same { self.new.words ≡ self.old.words }
+    {
+        let Some(pass) = self.pass.take() else {
+            return NO_PASS;
+        };
+        let (pass, code) = begun(&self.queue, pass);
+        put(&mut self.pass, pass);
+        code
+    }
+
+    /// One turn of a close.
+    pub fn turn_close(&mut self) -> Told
+        ensures turns { TurnsClose self.old.pass self.new.pass result }
+        ensures same { self.new.words ≡ self.old.words }
+    {
+        let Some(pass) = self.pass.take() else {
+            return Told::only(NO_PASS);
+        };
+        let (pass, told) = turned(&self.queue, pass);
+        put(&mut self.pass, pass);
+        told
+    }
+}

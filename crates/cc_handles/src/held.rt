@@ -1,0 +1,94 @@
+//! What stands behind a handle.
+ghost use Rattle.std.specs.Prelude.{◌≡◌, Some, None};
+ghost use Rattle.cc_steps.specs.Walk.{IsOf};
+ghost use Rattle.cc_handles.specs.Passes.{walk_of, holding};
+
+use cc_queue::{PendingClose, PendingSend, PendingTake, Queue, Receiver, Sender};
+use std::marker::Model;
+
+/// A pass, by what it is and whether it has a call.
+pub enum Pass {
+    Sender(Sender),
+    Sending(PendingSend),
+    Closing(PendingClose),
+    Receiver(Receiver),
+    Taking(PendingTake),
+}
+
+/// A line of the processor's memory that nobody uses, 64 bytes.
+type Spare = [u64; 8];
+
+/// The pass of a handle with its own share of the queue. It has none only inside a call. Each call writes the pass and
+/// reads the share; with a spare line on either side of the pass no call writes to a line that another handle's calls
+/// read.
+#[repr(C)]
+pub struct Held {
+    pub(crate) queue: Queue,
+    /// How many words a body of the queue has at most.
+    pub(crate) longest: u32,
+    before: Spare,
+    pub(crate) pass: Option<Pass>,
+    behind: Spare,
+}
+
+impl Model for Held {
+    ghost use Rattle.cc_handles.specs.Passes.{Holding, IsPassOf};
+
+    ghost Value = { Holding };
+
+    ghost view = { λ k. record { pass = k.pass; words = k.longest } };
+
+    ghost invariant = { λ k. IsPassOf k.queue k.pass };
+}
+
+impl Held {
+    /// A pass and a share of its queue, whose bodies have so many words at most.
+    pub(crate) fn new(queue: Queue, longest: u32, pass: Pass) -> Held
+        requires { IsOf queue (walk_of pass) }
+        ensures { result ≡ holding longest pass }
+    {
+        Held {
+            queue,
+            longest,
+            before: [0; 8],
+            pass: Some(pass),
+            behind: [0; 8],
+        }
+    }
+}
+
+/// Lets a pass go. A call that it had begun is given up.
+pub fn let_go(pass: Pass) {
+    match pass {
+        Pass::Sender(_sender) => {}
+        Pass::Sending(pending) => pending.abandon(),
+        Pass::Closing(pending) => pending.abandon(),
+        Pass::Receiver(_receiver) => {}
+        Pass::Taking(pending) => pending.abandon(),
+    }
+}
+
+impl Drop for Held {
+    fn drop(self) {
+        let Held {
+            queue: _,
+            longest: _,
+            before: _,
+            pass,
+            behind: _,
+        } = self;
+        if let Some(pass) = pass {
+            let_go(pass);
+        }
+    }
+}
+
+/// Puts a pass back, where it was taken from: nothing stands there, and so nothing is looked for.
+pub(crate) fn put(place: &mut Option<Pass>, pass: Pass)
+    requires place { place.old ≡ None }
+    ensures { place.new ≡ Some pass }
+{
+    if let Some(_) = place.replace(pass) {
+        unreachable!()
+    }
+}
