@@ -18,7 +18,7 @@ pub struct Told {
 }
 
 /// What a take tells.
-#[derive(Clone, Copy)]
+#[derive(Drop)]
 pub struct Taken<I> {
     pub code: u32,
     /// The item that was got; else 0 in each field.
