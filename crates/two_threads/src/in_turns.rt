@@ -1,28 +1,16 @@
 //! Calls that one thread makes in turns, with what it was told printed.
-ghost use Rattle.std.specs.Prelude.{◌+◌, IfOk, IfSome};
-ghost use Rattle.cc_steps.specs.Walk.{IsOf, fresh_from};
+ghost use Rattle.std.specs.Prelude.{IfOk, IfSome};
+ghost use Rattle.cc_queue.specs.Opened.{HasOpened};
+ghost use Rattle.cc_steps.specs.Walk.{IsOf};
 
-use cc_model::{Body, Config, TakeAnswer};
+use crate::opening::first_passes;
+use cc_model::{Body, Config, Item, TakeAnswer};
 use cc_queue::{
     Opened, Queue, Receiver, SendTurn, Sender, begin_send, close, take_until, turn_send,
 };
 use std::alloc::Global;
 use std::io;
 use std::sync::Wait;
-
-/// The first of these senders, the one at this place among all passes of a queue at its opening.
-pub fn next_sender(queue: &Queue, place: u64, senders: &mut Vec<Sender>) -> Option<Sender>
-    requires { fresh_from queue.now place senders.old.items }
-    ensures first { IfSome result (λ s. IsOf queue.now s) }
-    ensures rest { IfSome result (λ s. fresh_from queue.now (place + 1) senders.new.items) }
-{
-    let _ = queue;
-    let _ = place;
-    if senders.is_empty() {
-        return None;
-    }
-    Some(senders.remove(0))
-}
 
 /// Sends this body, and prints for each turn that it waits. None where it isn't answered in so many turns, or the sender has
 /// sent all that it may.
@@ -57,6 +45,11 @@ pub fn send_in_turns<R: Print>(
     Ok(None)
 }
 
+/// Prints the words of an item.
+fn print_item<R: Print>(rt: &R, item: &Item) -> io::Result<()> {
+    println!(rt; "{:?} from sender {}", item.body.words(), item.sender)
+}
+
 /// Takes until the end, and prints the words of each item.
 pub fn print_all<R: Wait + Print>(rt: &R, queue: &Queue, receiver: Receiver) -> io::Result<()>
     requires { IsOf queue.now receiver }
@@ -64,34 +57,45 @@ pub fn print_all<R: Wait + Print>(rt: &R, queue: &Queue, receiver: Receiver) -> 
     let mut receiver = receiver;
     for _ in rt.forever() {
         let (after, answer) = take_until(queue, rt, receiver);
+        receiver = after;
         let TakeAnswer::Got(item) = answer else {
             return Ok(());
         };
-        println!(rt; "{:?} from sender {}", item.body.words(), item.sender)?;
-        receiver = after;
+        print_item(rt, &item)?;
     }
     unreachable!()
 }
 
-/// Opens a queue, whose first sender sends a body of two words and closes, and whose first receiver takes all there is.
-pub fn one_thread<R: Wait + Print>(rt: &R, alloc: Global, config: &Config) -> io::Result<()> {
-    let Ok(opened) = Queue::open(alloc, config) else {
-        return Ok(());
-    };
-    let Opened {
-        queue,
-        mut senders,
-        mut receivers,
-    } = opened;
-    let Some(sender) = next_sender(&queue, 0, &mut senders) else {
-        return Ok(());
-    };
-    let Some(sender) = send_in_turns(rt, &queue, sender, Body::two(7, 8), 10)? else {
-        return Ok(());
-    };
-    close(&queue, rt, sender);
-    if receivers.is_empty() {
-        return Ok(());
+/// Sends a body of two words and closes. The answer is whether that came about.
+fn send_and_close<R: Wait + Print>(rt: &R, queue: &Queue, sender: Sender) -> io::Result<bool>
+    requires { IsOf queue.now sender }
+{
+    match send_in_turns(rt, queue, sender, Body::two(7, 8), 10)? {
+        Some(sender) => {
+            close(queue, rt, sender);
+            Ok(true)
+        }
+        None => Ok(false),
     }
-    print_all(rt, &queue, receivers.remove(0))
+}
+
+/// The first sender sends and closes, and then the first receiver takes all there is.
+fn pass_in_turns<R: Wait + Print>(rt: &R, config: &Config, opened: &mut Opened) -> io::Result<()>
+    requires { HasOpened config.now opened.old }
+{
+    let Some((sender, receiver)) = first_passes(config, opened) else {
+        return Ok(());
+    };
+    if send_and_close(rt, &opened.queue, sender)? {
+        return print_all(rt, &opened.queue, receiver);
+    }
+    Ok(())
+}
+
+/// Opens a queue for one thread, which sends and then takes.
+pub fn one_thread<R: Wait + Print>(rt: &R, alloc: Global, config: &Config) -> io::Result<()> {
+    match Queue::open(alloc, config) {
+        Ok(mut opened) => pass_in_turns(rt, config, &mut opened),
+        Err(_) => Ok(()),
+    }
 }

@@ -4,13 +4,17 @@
 
 ghost use Rattle.std.specs.Prelude.{◌≡◌, IfSome};
 ghost use Rattle.std.specs.Thread.{IsSync};
+ghost use Rattle.cc_queue.specs.Opened.{HasOpened};
 ghost use Rattle.cc_steps.specs.Walk.{IsOf};
 
 mod in_turns;
+mod opening;
 
 use cc_model::{Body, Config, SendAnswer, TakeAnswer};
 use cc_queue::{Opened, Queue, Receiver, Sender, close, send_until, take_until};
 use in_turns::one_thread;
+use opening::first_passes;
+use std::alloc::Global;
 use std::io;
 use std::process::ExitCode;
 use std::sync::Wait;
@@ -47,11 +51,11 @@ fn take_all<R: Wait>(rt: &R, queue: &Queue, receiver: Receiver) -> u64
     let mut receiver = receiver;
     for _ in rt.forever() {
         let (after, answer) = take_until(queue, rt, receiver);
+        receiver = after;
         match answer {
             TakeAnswer::Got(item) => sum = sum.wrapping_add(item.body.words()[0]),
             _ => return sum,
         }
-        receiver = after;
     }
     unreachable!()
 }
@@ -76,6 +80,30 @@ fn pass<R: Threads + Wait + Sync>(
     )
 }
 
+/// The first passes of a queue that was opened with this configuration, on a thread each.
+fn pass_first<R: Threads + Wait + Sync>(
+    rt: &R,
+    config: &Config,
+    opened: &mut Opened,
+) -> Option<(Option<u64>, u64)>
+    requires { HasOpened config.now opened.old }
+{
+    let (sender, receiver) = first_passes(config, opened)?;
+    Some(pass(rt, &opened.queue, sender, receiver))
+}
+
+/// Opens a queue for two threads. None where it isn't opened.
+fn two_threads<R: Threads + Wait + Sync>(
+    rt: &R,
+    alloc: Global,
+    config: &Config,
+) -> Option<(Option<u64>, u64)> {
+    match Queue::open(alloc, config) {
+        Ok(mut opened) => pass_first(rt, config, &mut opened),
+        Err(_) => None,
+    }
+}
+
 fn main(rt: HostRuntime) -> io::Result<ExitCode> {
     let config = Config {
         senders: 1,
@@ -86,15 +114,9 @@ fn main(rt: HostRuntime) -> io::Result<ExitCode> {
         per_sender: u32::MAX, // each try counts, also one that found the queue full
         groups: 1,
     };
-    let Ok(opened) = Queue::open(rt.alloc(), &config) else {
+    let Some((sent, sum)) = two_threads(&rt, rt.alloc(), &config) else {
         return Ok(ExitCode::FAILURE);
     };
-    let Opened {
-        queue,
-        mut senders,
-        mut receivers,
-    } = opened;
-    let (sent, sum) = pass(&rt, &queue, senders.remove(0), receivers.remove(0));
     println!(rt; "sent {}, sum {sum}", sent.unwrap_or(0))?;
     one_thread(&rt, rt.alloc(), &config)?;
     Ok(ExitCode::SUCCESS)

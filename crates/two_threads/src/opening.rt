@@ -1,0 +1,19 @@
+//! The first passes of a queue at its opening.
+ghost use Rattle.std.specs.Prelude.{IfSome};
+ghost use Rattle.cc_steps.specs.Walk.{IsOf};
+ghost use Rattle.cc_queue.specs.Opened.{HasOpened};
+
+use cc_model::Config;
+use cc_queue::{Opened, Receiver, Sender};
+
+/// The first sender and the first receiver of a queue that was opened with this configuration.
+pub fn first_passes(config: &Config, opened: &mut Opened) -> Option<(Sender, Receiver)>
+    requires { HasOpened config.now opened.old }
+    ensures { IfSome result (λ p. IsOf opened.new.queue p.0 × IsOf opened.new.queue p.1) }
+{
+    let _ = config;
+    if opened.senders.is_empty() || opened.receivers.is_empty() {
+        return None;
+    }
+    Some((opened.senders.remove(0), opened.receivers.remove(0)))
+}
