@@ -1,4 +1,4 @@
-//! Worked calls, each answer of which is told: three topics are opened, two machines play calls, and receipts are audited.
+//! Worked calls, each answer of which is told: three topics are opened, three machines play calls, and receipts are audited.
 //! Where memory is refused, the call that met it is told on standard error: an opening or an audit then ends the program, and
 //! a begin that was refused is made again, and all that follows is the same.
 #![tactic(auto)]
@@ -7,9 +7,10 @@ ghost use Rattle.std.specs.Prelude.{◌≡◌, length};
 
 use cc_audit::{SendReceipt, TakeReceipt, Verdict, audit, send_receipts, take_receipts, total};
 use cc_broker::{Broker, OpenedBroker};
-use cc_machine::{BeginFault, CounterMachine, Event, Machine, OpenFault};
+use cc_machine::{BeginFault, CounterMachine, Event, Machine};
 use cc_model::{Answer, Body, Call, Config, Entry, History, Item, Pass};
 use std::alloc::{AllocError, Global};
+use std::fmt::Debug;
 use std::io;
 use std::process::ExitCode;
 
@@ -70,12 +71,18 @@ fn make(machine: &mut Machine, pass: Pass, call: Call) -> Option<u32> {
 /// Plays calls one after another: an item is passed on, and the queue closed. The answer is how many begins were refused
 /// memory; None where a call can't be begun, or isn't answered.
 fn play(machine: &mut Machine) -> Option<u32> {
-    let mut refused = make(machine, SENDER, Call::Send(Body::one(5)))?;
-    refused = refused.saturating_add(make(machine, SENDER, Call::Close)?);
-    refused = refused.saturating_add(make(machine, SENDER, Call::Send(Body::one(6)))?);
-    refused = refused.saturating_add(make(machine, SENDER, Call::Close)?);
-    for _ in 0..3 {
-        refused = refused.saturating_add(make(machine, RECEIVER, Call::Take)?);
+    let calls = [
+        (SENDER, Call::Send(Body::one(5))),
+        (SENDER, Call::Close),
+        (SENDER, Call::Send(Body::one(6))),
+        (SENDER, Call::Close),
+        (RECEIVER, Call::Take),
+        (RECEIVER, Call::Take),
+        (RECEIVER, Call::Take),
+    ];
+    let mut refused: u32 = 0;
+    for (pass, call) in &calls {
+        refused = refused.saturating_add(make(machine, *pass, *call)?);
     }
     Some(refused)
 }
@@ -131,14 +138,6 @@ fn audit_gap(alloc: Global) -> Result<Verdict, AllocError> {
     audit(alloc, &sends, &takes, None)
 }
 
-/// A machine of a list, one of a list with two groups, and one of a counter.
-fn open_machines(alloc: Global) -> Result<(Machine, Machine, CounterMachine), OpenFault> {
-    let machine = Machine::open(alloc, &SMALL)?;
-    let grouped = Machine::open(alloc, &GROUPED)?;
-    let counter = CounterMachine::open(alloc, &SMALL)?;
-    Ok((machine, grouped, counter))
-}
-
 /// Tells by which number a name is found, and whether a queue stands there.
 fn tell_topic(rt: &HostRuntime, broker: &Broker, name: &str) -> Result<(), io::Error> {
     let number = broker.topic(name);
@@ -149,29 +148,29 @@ fn tell_topic(rt: &HostRuntime, broker: &Broker, name: &str) -> Result<(), io::E
     println!(rt; "topic {name}: {number:?}, {is_there}")
 }
 
-/// Tells of the topics by their names, of one that isn't there, and of the passes of each topic.
-fn tell_topics(rt: &HostRuntime, opened: &OpenedBroker) -> Result<(), io::Error> {
+/// Tells of the topics by their names, of one that isn't there, and of the passes of each topic. The answer is the exit status.
+fn tell_topics(rt: &HostRuntime, opened: &OpenedBroker) -> Result<u8, io::Error> {
     for name in ["a", "b", "c", "d"] {
         tell_topic(rt, &opened.broker, name)?;
     }
     for (senders, receivers) in &opened.passes {
         println!(rt; "passes: {} and {}", senders.len(), receivers.len())?;
     }
-    Ok(())
+    Ok(0)
 }
 
-/// Opens three topics, the second with two groups, and tells of them. The answer is false where there was no memory for one of them, or for their list.
-fn open_topics(rt: &HostRuntime) -> Result<bool, io::Error> {
-    match Broker::open(rt.alloc(), &[("a", SMALL), ("b", GROUPED), ("c", SMALL)]) {
-        Ok(opened) => {
-            tell_topics(rt, &opened)?;
-            Ok(true)
-        }
-        Err(fault) => {
-            eprintln!(rt; "broker: {fault:?}")?;
-            Ok(false)
-        }
+/// Tells which call was refused, and why. The answer is the exit status.
+fn tell_fault<F: Debug>(rt: &HostRuntime, call: &str, fault: &F) -> Result<u8, io::Error> {
+    eprintln!(rt; "{call}: {fault:?}")?;
+    Ok(3)
+}
+
+/// Tells how many begins were refused memory, where any were.
+fn tell_again(rt: &HostRuntime, refused: u32) -> Result<(), io::Error> {
+    if refused == 0 {
+        return Ok(());
     }
+    eprintln!(rt; "begin: {refused} refused, and made again")
 }
 
 /// Tells the calls of a side with their answers, a line for each.
@@ -196,78 +195,82 @@ fn tell_audits(rt: &HostRuntime, history: &History) -> Result<u8, io::Error>
     requires { length history.now.takes ≡ 1 }
 {
     let (Ok(clean), Ok(gap)) = (audit_history(rt.alloc(), history), audit_gap(rt.alloc())) else {
-        eprintln!(rt; "audit: AllocError")?;
-        return Ok(3);
+        return tell_fault(rt, "audit", &AllocError);
     };
     println!(rt; "audits: {clean:?}, {gap:?}")?;
     Ok(0)
 }
 
-/// Plays both machines. The answer is what the counter counted; None where a call can't be begun, or isn't answered.
-fn play_both(
-    rt: &HostRuntime,
-    machine: &mut Machine,
-    counter: &mut CounterMachine,
-) -> Result<Option<(u64, u64)>, io::Error> {
-    let (Some(refused), Some((first, once)), Some((second, twice))) = (
-        play(machine),
-        count(counter, 1),
-        count(counter, 2),
-    ) else {
-        return Ok(None);
-    };
-    let refused = refused.saturating_add(once).saturating_add(twice);
-    if refused != 0 {
-        eprintln!(rt; "begin: {refused} refused, and made again")?;
-    }
-    Ok(Some((first, second)))
-}
-
-/// Plays both machines, and tells what they answered and how the receipts are audited. The answer is the exit status.
-fn play_machines(
-    rt: &HostRuntime,
-    machine: &mut Machine,
-    counter: &mut CounterMachine,
-) -> Result<u8, io::Error> {
-    let Some((first, second)) = play_both(rt, machine, counter)? else {
-        return Ok(1);
-    };
-    let history = machine.history();
+/// Tells the calls of a history of one group and how its receipts are audited, and of any other how many groups it has. The
+/// answer is the exit status.
+fn tell_history(rt: &HostRuntime, history: &History) -> Result<u8, io::Error> {
     if history.groups() != 1 {
-        return Ok(1);
+        println!(rt; "groups: {}", history.groups())?;
+        return Ok(0);
     }
     tell_calls(rt, history)?;
-    println!(rt; "counted {first} and {second}")?;
     tell_audits(rt, history)
 }
 
-/// Tells how many groups a machine has.
-fn tell_groups(rt: &HostRuntime, machine: &Machine) -> Result<(), io::Error> {
-    println!(rt; "groups: {}", machine.history().groups())
+/// Plays a machine of a list, and tells what it answered. The answer is the exit status.
+fn play_list(rt: &HostRuntime, machine: &mut Machine) -> Result<u8, io::Error> {
+    let Some(refused) = play(machine) else {
+        return Ok(1);
+    };
+    tell_again(rt, refused)?;
+    tell_history(rt, machine.history())
 }
 
-/// Tells why the machines aren't opened. The answer is the exit status.
-fn tell_refused(rt: &HostRuntime, fault: OpenFault) -> Result<u8, io::Error> {
-    eprintln!(rt; "machine: {fault:?}")?;
-    Ok(3)
+/// Counts by two passes of a machine, and tells the numbers. The answer is the exit status.
+fn play_counter(rt: &HostRuntime, machine: &mut CounterMachine) -> Result<u8, io::Error> {
+    let (Some((first, once)), Some((second, twice))) = (count(machine, 1), count(machine, 2)) else {
+        return Ok(1);
+    };
+    tell_again(rt, once.saturating_add(twice))?;
+    println!(rt; "counted {first} and {second}")?;
+    Ok(0)
 }
 
-/// Opens the machines, and plays those of one group. The answer is the exit status.
-fn open_and_play(rt: &HostRuntime) -> Result<u8, io::Error> {
-    match open_machines(rt.alloc()) {
-        Ok((mut machine, grouped, mut counter)) => match tell_groups(rt, &grouped) {
-            Ok(()) => play_machines(rt, &mut machine, &mut counter),
-            Err(error) => Err(error),
+/// Opens three topics, the second with two groups, and tells of them. The answer is the exit status.
+fn open_topics(rt: &HostRuntime) -> Result<u8, io::Error> {
+    match Broker::open(rt.alloc(), &[("a", SMALL), ("b", GROUPED), ("c", SMALL)]) {
+        Ok(opened) => tell_topics(rt, &opened),
+        Err(fault) => tell_fault(rt, "broker", &fault),
+    }
+}
+
+/// Opens a machine of a list, and plays it. The answer is the exit status.
+fn open_list(rt: &HostRuntime, config: &Config) -> Result<u8, io::Error> {
+    match Machine::open(rt.alloc(), config) {
+        Ok(mut machine) => play_list(rt, &mut machine),
+        Err(fault) => tell_fault(rt, "machine", &fault),
+    }
+}
+
+/// Opens a machine of a counter, and plays it. The answer is the exit status.
+fn open_counter(rt: &HostRuntime) -> Result<u8, io::Error> {
+    match CounterMachine::open(rt.alloc(), &SMALL) {
+        Ok(mut machine) => play_counter(rt, &mut machine),
+        Err(fault) => tell_fault(rt, "machine", &fault),
+    }
+}
+
+/// Opens a machine of two groups, one of one group and one of a counter, each as the one before it played. The answer is the
+/// exit status.
+fn open_machines(rt: &HostRuntime) -> Result<u8, io::Error> {
+    match open_list(rt, &GROUPED)? {
+        0 => match open_list(rt, &SMALL)? {
+            0 => open_counter(rt),
+            status => Ok(status),
         },
-        Err(fault) => tell_refused(rt, fault),
+        status => Ok(status),
     }
 }
 
 fn main(rt: HostRuntime) -> Result<ExitCode, io::Error> {
-    let status = if open_topics(&rt)? {
-        open_and_play(&rt)?
-    } else {
-        3
+    let status = match open_topics(&rt)? {
+        0 => open_machines(&rt)?,
+        status => status,
     };
     Ok(ExitCode::from(status))
 }
