@@ -54,7 +54,7 @@ fn all_in_turn<R: Wait>(
     }
 }
 
-/// The first sender and the first receiver of a queue send and take in turn.
+/// A sender and a receiver of a queue send and take in turn.
 pub fn send_and_take<R: Wait>(rt: &R, opened: Opened, load: Load) -> u64
     requires { CameFrom opened }
 {
@@ -63,8 +63,11 @@ pub fn send_and_take<R: Wait>(rt: &R, opened: Opened, load: Load) -> u64
         mut senders,
         mut receivers,
     } = opened;
-    match (senders.pop(), receivers.pop()) {
-        (Some(sender), Some(receiver)) => all_in_turn(rt, &queue, sender, receiver, load),
-        _ => 0,
-    }
+    let Some(sender) = senders.pop() else {
+        return 0;
+    };
+    let Some(receiver) = receivers.pop() else {
+        return 0;
+    };
+    all_in_turn(rt, &queue, sender, receiver, load)
 }

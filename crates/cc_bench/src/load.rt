@@ -2,7 +2,7 @@
 use cc_model::Body;
 
 /// So many items, and how many words the body of each has: 1 to 4.
-#[derive(Clone, Copy, Debug, PartialEq, Eq)]
+#[derive(Clone, Copy)]
 pub struct Load {
     pub items: u64,
     pub words: u64,

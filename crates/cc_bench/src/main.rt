@@ -7,49 +7,95 @@ mod alone;
 mod load;
 mod work;
 
+ghost use Rattle.cc_bench.specs.Work.{CameFrom};
+
 use alone::send_and_take;
 use cc_model::Config;
-use cc_queue::Queue;
+use cc_queue::{Opened, Queue};
 use load::Load;
+use std::alloc::{AllocError, Global};
+use std::env::{self, Args};
+use std::io;
 use std::process::ExitCode;
-use std::{env, io};
+use std::sync::Wait;
+use std::thread::Threads;
 use work::pass_all;
 
 /// How many requests a combiner serves at most.
 const BOUND: u32 = 8;
 
-/// The numbers of the command line; where there are none, some small ones.
-fn numbers(rt: &HostRuntime) -> io::Result<[u64; 5]> {
-    let mut numbers = [2, 2, 16, 1000, 1];
-    for (at, word) in env::args(rt)?.skip(1).take(5).enumerate() {
-        numbers[at] = word.parse().unwrap_or(0);
-    }
-    Ok(numbers)
+/// The numbers of the command line.
+#[derive(Clone, Copy)]
+struct Numbers {
+    senders: u64,
+    receivers: u64,
+    capacity: u64,
+    items: u64,
+    words: u64,
 }
 
-fn main(rt: HostRuntime) -> io::Result<ExitCode> {
-    let [senders, receivers, capacity, items, words] = numbers(&rt)?;
-    let config = Config {
-        senders: senders.clamp(1, 64) as u32,
-        receivers: receivers.clamp(1, 64) as u32,
-        capacity: capacity.clamp(1, 4096) as u32,
+/// The number that the next word says: 0 where it says none, and this one where there is no word.
+fn next_number(words: &mut Args, default: u64) -> u64 {
+    match words.next() {
+        Some(word) => word.parse().unwrap_or(0),
+        None => default,
+    }
+}
+
+/// The numbers of the command line, behind the program's name; where there are none, some small ones.
+fn read_numbers(rt: &HostRuntime) -> io::Result<Numbers> {
+    let mut words = env::args(rt)?;
+    words.next();
+    Ok(Numbers {
+        senders: next_number(&mut words, 2),
+        receivers: next_number(&mut words, 2),
+        capacity: next_number(&mut words, 16),
+        items: next_number(&mut words, 1000),
+        words: next_number(&mut words, 1),
+    })
+}
+
+/// The queue that these ask for.
+fn config(numbers: Numbers) -> Config {
+    Config {
+        senders: numbers.senders.clamp(1, 64) as u32,
+        receivers: numbers.receivers.clamp(1, 64) as u32,
+        capacity: numbers.capacity.clamp(1, 4096) as u32,
         bound: BOUND,
         life: 1 << 48,
         per_sender: u32::MAX,
         groups: 1,
-    };
-    let Ok(opened) = Queue::open(rt.alloc(), &config) else {
+    }
+}
+
+/// Passes the items through the queue; gives how many went through.
+fn pass<R: Threads + Wait + Sync>(
+    rt: &R,
+    alloc: Global,
+    opened: Opened,
+    numbers: Numbers,
+) -> Result<u64, AllocError>
+    requires { CameFrom opened }
+{
+    let Numbers {
+        senders,
+        items,
+        words,
+        ..
+    } = numbers;
+    if senders == 0 {
+        return Ok(send_and_take(rt, opened, Load { items, words }));
+    }
+    let items = items / senders;
+    pass_all(rt, alloc, opened, Load { items, words })
+}
+
+fn main(rt: HostRuntime) -> io::Result<ExitCode> {
+    let numbers = read_numbers(&rt)?;
+    let Ok(opened) = Queue::open(rt.alloc(), &config(numbers)) else {
         return Ok(ExitCode::FAILURE);
     };
-    let passed = if senders == 0 {
-        send_and_take(&rt, opened, Load { items, words })
-    } else {
-        let load = Load {
-            items: items / senders,
-            words,
-        };
-        pass_all(&rt, rt.alloc(), opened, load)?
-    };
+    let passed = pass(&rt, rt.alloc(), opened, numbers)?;
     println!(rt; "passed {passed}")?;
     Ok(ExitCode::SUCCESS)
 }

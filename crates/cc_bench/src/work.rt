@@ -114,6 +114,51 @@ fn add_receivers(
     Ok(())
 }
 
+/// A worker for each sender and each receiver.
+fn workers_of(
+    alloc: Global,
+    queue: &Queue,
+    senders: Vec<Sender>,
+    receivers: Vec<Receiver>,
+) -> Result<Vec<Worker>, AllocError>
+    requires senders { All (λ w. IsOf queue.now w) senders.items }
+    requires receivers { All (λ w. IsOf queue.now w) receivers.items }
+    ensures { IfOk result (λ workers. All (λ w. Belongs queue.now w) workers.items) }
+{
+    let mut workers = Vec::new(alloc);
+    add_receivers(queue, &mut workers, receivers)?;
+    add_senders(queue, &mut workers, senders)?;
+    Ok(workers)
+}
+
+/// What each of these does, on a thread of its own; gives how many items each got.
+fn work_all<R: Threads + Wait + Sync>(
+    rt: &R,
+    queue: &Queue,
+    workers: Vec<Worker>,
+    load: Load,
+    left: &AtomicU64,
+) -> Result<Vec<u64>, AllocError>
+    requires { All (λ w. Belongs queue.now w) workers.items }
+{
+    map_vec(
+        rt,
+        workers,
+        &|worker: Worker| -> u64
+            requires { Belongs queue.now worker }
+        { work(rt, queue, worker, load, left) },
+    )
+}
+
+/// The sum of these.
+fn total(counts: &[u64]) -> u64 {
+    let mut total = 0u64;
+    for count in counts {
+        total = total.wrapping_add(*count);
+    }
+    total
+}
+
 /// All senders and receivers of a queue at work, each on a thread of its own, and each sender with these items; gives how many
 /// items were got.
 pub fn pass_all<R: Threads + Wait + Sync>(
@@ -130,17 +175,7 @@ pub fn pass_all<R: Threads + Wait + Sync>(
         receivers,
     } = opened;
     let left = AtomicU64::new(senders.len() as u64);
-    let mut workers = Vec::new(alloc);
-    add_receivers(&queue, &mut workers, receivers)?;
-    add_senders(&queue, &mut workers, senders)?;
-    let queue = &queue;
-    let left = &left;
-    let got = map_vec(
-        rt,
-        workers,
-        &|worker: Worker| -> u64
-            requires { Belongs queue.now worker }
-        { work(rt, queue, worker, load, left) },
-    )?;
-    Ok(got.iter().fold(0u64, |sum, n| sum.wrapping_add(*n)))
+    let workers = workers_of(alloc, &queue, senders, receivers)?;
+    let counts = work_all(rt, &queue, workers, load, &left)?;
+    Ok(total(&counts))
 }
