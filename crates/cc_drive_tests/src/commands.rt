@@ -74,6 +74,20 @@ fn status_of<R: Threads + Wait + Sync>(
     )
 }
 
+/// The words of a line write this text to an output of its size, and fail.
+fn fill<R: Threads + Wait + Sync + Abort>(
+    rt: &R,
+    alloc: Global,
+    words: &[String],
+    room: &mut [u8],
+    text: &str,
+) {
+    let mut errors = Vec::new(alloc);
+    assert_eq!(rt; status_of(rt, alloc, words, room, &mut errors), 4);
+    is_text(rt, room, text);
+    is_text(rt, &errors, "ccq: writing failed\n");
+}
+
 /// A line writes this text to an output of its size, and fails.
 fn fills<R: Threads + Wait + Sync + Abort>(
     rt: &R,
@@ -83,10 +97,7 @@ fn fills<R: Threads + Wait + Sync + Abort>(
 ) -> Result<(), AllocError> {
     let words = words_of(alloc, line)?;
     let mut room = vec![in alloc; 0u8; text.len()]?;
-    let mut errors = Vec::new(alloc);
-    assert_eq!(rt; status_of(rt, alloc, &words, &mut room, &mut errors), 4);
-    is_text(rt, &room, text);
-    is_text(rt, &errors, "ccq: writing failed\n");
+    fill(rt, alloc, &words, &mut room, text);
     Ok(())
 }
 

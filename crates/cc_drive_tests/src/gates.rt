@@ -3,21 +3,38 @@ ghost use Rattle.std.specs.Prelude.{◌≡◌, ◌+◌, IfOk, length, vec_len};
 
 use cc_drive::{DriveConfig, DriveEnd, DriveFault, Gate, Go, Point, drive};
 use cc_drive_command::Open;
+use crossbeam_utils::Backoff;
 use std::alloc::{AllocError, Global};
 use std::sync::Wait;
-use std::sync::atomic::{AtomicU64, Ordering};
+use std::sync::atomic::{AtomicBool, AtomicU64, Ordering};
 use std::thread::Threads;
+
+/// A gate of a test, of either kind. They are one type, so that `drive` is compiled once for all of them.
+#[derive(Drop)]
+pub enum TestGate<'a> {
+    Counts(Counting<'a>),
+    Meets(Meeting<'a>),
+}
+
+impl<'a> Gate for TestGate<'a> {
+    fn at(&mut self, point: Point) -> Go {
+        match self {
+            TestGate::Counts(counting) => counting.at(point),
+            TestGate::Meets(meeting) => meeting.at(point),
+        }
+    }
+}
 
 /// Lets its worker go on at each point but one, where it first tells it so many times to ask again, and counts how often it was
 /// asked there.
 #[derive(Drop)]
-struct Counting<'a> {
+pub struct Counting<'a> {
     at: Point,
     again: u64,
     asked: &'a AtomicU64,
 }
 
-impl<'a> Gate for Counting<'a> {
+impl<'a> Counting<'a> {
     fn at(&mut self, point: Point) -> Go {
         if self.at != point {
             return Go::On;
@@ -31,19 +48,57 @@ impl<'a> Gate for Counting<'a> {
     }
 }
 
+/// At its first arrival at this point a worker sets its own flag and waits for the other's.
+#[derive(Drop)]
+pub struct Meeting<'a> {
+    pub point: Point,
+    pub mine: &'a AtomicBool,
+    pub other: &'a AtomicBool,
+    pub missed: &'a AtomicBool,
+    pub has_met: bool,
+}
+
+impl<'a> Meeting<'a> {
+    fn at(&mut self, point: Point) -> Go {
+        if point == self.point && !self.has_met {
+            self.has_met = true;
+            self.mine.store(true, Ordering::SeqCst);
+            if !comes(self.other) {
+                self.missed.store(true, Ordering::SeqCst);
+            }
+        }
+        Go::On
+    }
+}
+
+/// How often a worker looks for the other one.
+const LOOKS: u64 = 10_000_000;
+
+/// Whether this flag is set within so many looks.
+fn comes(flag: &AtomicBool) -> bool {
+    let backoff = Backoff::new();
+    for _ in 0..LOOKS {
+        if flag.load(Ordering::SeqCst) {
+            return true;
+        }
+        backoff.snooze();
+    }
+    false
+}
+
 /// A gate for each of these, which says how many times it tells its worker to ask again. All of them count together.
 fn counting_gates<'a>(
     alloc: Global,
     at: Point,
     again: &[u64],
     asked: &'a AtomicU64,
-) -> Result<Vec<Counting<'a>>, AllocError>
+) -> Result<Vec<TestGate<'a>>, AllocError>
     ensures { IfOk result (λ v. vec_len v ≡ length again.now) }
 {
     let mut gates = Vec::new(alloc);
     for _ in 0..again.len() {
         let again = again[gates.len()];
-        gates.push(Counting { at, again, asked })?;
+        gates.push(TestGate::Counts(Counting { at, again, asked }))?;
     }
     Ok(gates)
 }

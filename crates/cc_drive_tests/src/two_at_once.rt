@@ -1,16 +1,13 @@
 //! Two workers that wait for each other: they only get on if both run at once.
 ghost use Rattle.std.specs.Prelude.{◌≡◌, IfOk, vec_len};
 
+use crate::gates::{Meeting, TestGate};
 use cc_audit::Verdict;
-use cc_drive::{DriveConfig, DriveEnd, DriveFault, Gate, Go, Point, drive};
-use crossbeam_utils::Backoff;
+use cc_drive::{DriveConfig, DriveEnd, DriveFault, Point, drive};
 use std::alloc::{AllocError, Global};
 use std::sync::Wait;
 use std::sync::atomic::{AtomicBool, Ordering};
 use std::thread::Threads;
-
-/// How often a worker looks for the other one.
-const LOOKS: u64 = 10_000_000;
 
 /// What two workers show each other.
 #[derive(Drop)]
@@ -20,60 +17,26 @@ struct Flags {
     missed: AtomicBool,
 }
 
-/// At its first arrival at this point a worker sets its own flag and waits for the other's.
-#[derive(Drop)]
-struct Meeting<'a> {
-    point: Point,
-    mine: &'a AtomicBool,
-    other: &'a AtomicBool,
-    missed: &'a AtomicBool,
-    has_met: bool,
-}
-
-impl<'a> Gate for Meeting<'a> {
-    fn at(&mut self, point: Point) -> Go {
-        if point == self.point && !self.has_met {
-            self.has_met = true;
-            self.mine.store(true, Ordering::SeqCst);
-            if !comes(self.other) {
-                self.missed.store(true, Ordering::SeqCst);
-            }
-        }
-        Go::On
-    }
-}
-
-/// Whether this flag is set within so many looks.
-fn comes(flag: &AtomicBool) -> bool {
-    let backoff = Backoff::new();
-    for _ in 0..LOOKS {
-        if flag.load(Ordering::SeqCst) {
-            return true;
-        }
-        backoff.snooze();
-    }
-    false
-}
-
-fn meetings(alloc: Global, flags: &Flags) -> Result<Vec<Meeting<'_>>, AllocError>
+/// The gates of two workers that meet.
+fn meetings(alloc: Global, flags: &Flags) -> Result<Vec<TestGate<'_>>, AllocError>
     ensures { IfOk result (λ v. vec_len v ≡ 2) }
 {
-    let mut gates = Vec::new(alloc);
-    gates.push(Meeting {
+    let sender = Meeting {
         point: Point::SendBegun,
         mine: &flags.sender_is_here,
         other: &flags.receiver_is_here,
         missed: &flags.missed,
         has_met: false,
-    })?;
-    gates.push(Meeting {
+    };
+    let receiver = Meeting {
         point: Point::TakeAnswered,
         mine: &flags.receiver_is_here,
         other: &flags.sender_is_here,
         missed: &flags.missed,
         has_met: false,
-    })?;
-    Ok(gates)
+    };
+    let gates = [TestGate::Meets(sender), TestGate::Meets(receiver)];
+    Ok(Vec::from_array(alloc, gates)?)
 }
 
 /// One item, and room for it.
