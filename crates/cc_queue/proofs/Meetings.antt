@@ -39,6 +39,22 @@ met_still v idle s = met_self v v v.stand.begun v.stand.node refl idle.list idle
 pub met_more : (a b c : Walk) → HasMet a b → HasMet b c → HasMet a c
 met_more a b c f g = record { stands = stands_more a b c [] [] f.stands g.stands; same = g.same ∙ (λ i. record (f.same i) { seen = c.seen }) }
 
+-- it is of the same queue still, and idle, and of one with the others
+pub of_met : (t : Topic) (v w : Walk) → IsOf t v → HasMet v w → IsOf t w
+of_met t v w is met = subst (IsOf t) (sym met.same) is
+
+pub idle_met : (v w : Walk) → IsIdle v → HasMet v w → IsIdle w
+idle_met v w idle met = idle_still v w idle met.same
+
+pub one_met : (v w : Walk) (xs : List Walk) → All (λ o. IsOfOne v o) xs → HasMet v w → All (λ o. IsOfOne w o) xs
+one_met v w xs all met = subst (λ (x : Walk). All (λ o. IsOfOne x o) xs) (sym met.same) all
+
+-- and so are others that have met
+pub others_met : (v : Walk) (xs ys : List Walk) → length ys ≡ length xs → All (λ o. IsOfOne v o) xs → EachHasMet xs ys → All (λ o. IsOfOne v o) ys
+others_met v xs ys same all met = λ k d less.
+    let within : k < length xs = omega (arith, same, less) in
+    subst (IsOfOne v) (sym (met k d within).same) (all k d within)
+
 later_more : (xs ys zs : List Move) → Later xs ys → Onward ys zs → Later xs zs
 later_more xs ys zs l on = let g = on xs (record { more = l.0; is = l.1 }) in (g.more, g.is)
 
