@@ -1,6 +1,9 @@
 -- The seats of a row of passes, one after another.
-use Rattle.std.proofs.Common.{◌≡◌, ℕ, ◌+◌, ◌<◌, List, [], ◌∷◌, ◌++◌, length, slice_index_or, sym, ◌∙◌, subst, arith}
+use Rattle.std.proofs.Common.{◌≡◌, ℕ, ◌+◌, ◌-◌, ◌/◌, ◌%◌, ◌<◌, Bool, false, cond, nat_lt, List, [], ◌∷◌, ◌++◌, length, slice_index_or, sym, ap, ◌∙◌, subst, arith}
+use Rattle.std.proofs.lemmas.Bool.{le-ltb}
 use Rattle.std.specs.List.{remove}
+use Rattle.cc_queue.specs.Names.{Chain, Config, Pass, Place, Served, Setting}
+use Rattle.cc_runs.specs.State.{chain_of, first_node, pass_at}
 use Rattle.cc_steps.specs.Topic.{Topic}
 use Rattle.cc_steps.specs.Walk.{Walk, fresh, fresh_from}
 use Rattle.cc_steps.proofs.Dealt.{fresh_push}
@@ -18,3 +21,35 @@ other_seats z p next (x ∷ ws) rest after some f is = subst (λ (y : ℕ × Lis
 pub next_pass : (z : Topic) (first p : ℕ) (ws done done' : List Walk) (seat w : Walk) → 0 < length ws → fresh_from z p ws → seat ≡ slice_index_or ws 0 seat → w ≡ seat → p ≡ first + length done → fresh_from z first done → done' ≡ done ++ w ∷ [] → fresh_from z first done'
 next_pass z first p ws done done' seat w some f is same at before is' =
     subst (fresh_from z first) (sym is') (fresh_push z first p done w at before (same ∙ first_seat z p ws seat some f is))
+
+-- a seat behind those of all senders is a receiver's
+module _ (z : Topic) (c : Config) (w : Walk) (p : ℕ) (topic : z.setting ≡ record { served = Served.List; config = c }) (is : w ≡ fresh z (c.senders + p)) where
+  pub setting_is : w.setting ≡ record { served = Served.List; config = c }
+  setting_is = ap (λ (x : Walk). x.setting) is ∙ topic
+
+  behind_senders : nat_lt (c.senders + p) c.senders ≡ false
+  behind_senders = le-ltb (c.senders + p) c.senders (omega arith)
+
+  place_is : c.senders + p - c.senders ≡ p
+  place_is = omega arith
+
+  pub receivers_chain : chain_of w.setting.config w.number ≡ Chain.Take (p / c.receivers)
+  receivers_chain =
+      ap (λ (x : Walk). chain_of x.setting.config x.number) is
+      ∙ ap (λ (x : Setting). chain_of x.config (c.senders + p)) topic
+      ∙ ap (λ (b : Bool). cond b Chain.Send (Chain.Take ((c.senders + p - c.senders) / c.receivers))) behind_senders
+      ∙ ap (λ (n : ℕ). Chain.Take (n / c.receivers)) place_is
+
+  pub receivers_name : pass_at w.setting.config w.number ≡ Pass.Receiver (p + 1)
+  receivers_name =
+      ap (λ (x : Walk). pass_at x.setting.config x.number) is
+      ∙ ap (λ (x : Setting). pass_at x.config (c.senders + p)) topic
+      ∙ ap (λ (b : Bool). cond b (Pass.Sender (c.senders + p + 1)) (Pass.Receiver (c.senders + p - c.senders + 1))) behind_senders
+      ∙ ap (λ (n : ℕ). Pass.Receiver (n + 1)) place_is
+
+  pub receivers_stand : w.stand ≡ record { begun = 0; node = p % c.receivers + 1; place = Place.Idle }
+  receivers_stand =
+      ap (λ (x : Walk). x.stand) is
+      ∙ ap (λ (x : Setting). record { begun = 0; node = first_node x.config (c.senders + p); place = Place.Idle }) topic
+      ∙ ap (λ (b : Bool). record { begun = 0; node = cond b (c.senders + p + 1) ((c.senders + p - c.senders) % c.receivers + 1); place = Place.Idle }) behind_senders
+      ∙ ap (λ (n : ℕ). record { begun = 0; node = n % c.receivers + 1; place = Place.Idle }) place_is
