@@ -1,17 +1,18 @@
 //! Following a schedule: which pass does its next atomic step, begins its next call, has its answer taken.
 ghost use Rattle.std.specs.Prelude.{◌≡◌, ◌<◌, Some, Ok, List, length, IfOk, IfSome, OnOk, ◌^◌, ◌-◌};
 ghost use Rattle.cc_model.specs.Body.{HasBody};
+ghost use Rattle.cc_model.specs.Config.{config_fault};
 ghost use Rattle.cc_model.specs.Items.{known_at};
-ghost use Rattle.cc_play.specs.Names.{Event, Move};
+ghost use Rattle.cc_play.specs.Names.{Event, Move, Served};
 ghost use Rattle.cc_runs.specs.Run.{passes, reached, IsRun};
 ghost use Rattle.cc_machine.specs.View.{state_in};
-ghost use Rattle.cc_machine.specs.Machine.{index_of, event_of, HasBegun, begin_fault};
+ghost use Rattle.cc_machine.specs.Machine.{index_of, event_of, HasBegun, IsOpened, begin_fault};
 ghost use Rattle.cc_plan.specs.Plan.{plan_value};
 ghost use Rattle.cc_plan.specs.PlanLaws.{Lawful};
 ghost use Rattle.cc_play.specs.Schedule.{setting_of, next_call, IsAt, IsBetweenTurns, HasTurned, IsOnItsWay, entry, run_of};
 
 use cc_machine::{BeginFault, Event, Kind, Machine, OpenFault};
-use cc_model::{Call, Pass};
+use cc_model::{Call, Config, Pass};
 use cc_plan::Plan;
 use std::alloc::{AllocError, Global};
 
@@ -162,15 +163,34 @@ pub fn play_schedule(alloc: Global, plan: &Plan) -> Result<Machine, AllocError>
     ensures run { OnOk result (IsRun (setting_of (plan_value plan.now)) (run_of (plan_value plan.now))) }
     ensures played { IfOk result (λ machine. (machine.setting ≡ setting_of (plan_value plan.now)) × (state_in machine ≡ reached (setting_of (plan_value plan.now)) (run_of (plan_value plan.now)))) }
 {
-    let mut machine = match Machine::open(alloc, &plan.config) {
-        Ok(machine) => machine,
-        Err(OpenFault::NoMemory) => return Err(AllocError),
+    let mut machine = open(alloc, &plan.config)?;
+    follow(alloc, &mut machine, plan)?;
+    Ok(machine)
+}
+
+/// Opens the machine of a configuration that is in range, so that only memory can be refused.
+fn open(alloc: Global, config: &Config) -> Result<Machine, AllocError>
+    requires { config_fault config.now ≡ Ok tt }
+    ensures { IfOk result (IsOpened Served.List config.now) }
+{
+    match Machine::open(alloc, config) {
+        Ok(machine) => Ok(machine),
+        Err(OpenFault::NoMemory) => Err(AllocError),
         Err(OpenFault::Config(_)) => unreachable!(),
-    };
+    }
+}
+
+/// Follows the whole schedule of a plan on its machine, just opened.
+fn follow(alloc: Global, machine: &mut Machine, plan: &Plan) -> Result<(), AllocError>
+    requires lawful { Lawful (plan_value plan.now) }
+    requires opened { IsOpened Served.List (plan_value plan.now).config machine.old }
+    ensures run { OnOk result (IsRun (setting_of (plan_value plan.now)) (run_of (plan_value plan.now))) }
+    ensures played { OnOk result ((machine.new.setting ≡ setting_of (plan_value plan.now)) × (state_in machine.new ≡ reached (setting_of (plan_value plan.now)) (run_of (plan_value plan.now)))) }
+{
     let rows = plan.senders.len() + plan.receivers.len();
     let mut begun = vec![in alloc; 0usize; rows]?;
     for (pass, events) in plan.schedule.iter() {
-        follow_entry(&mut machine, begun.as_mut_slice(), plan, *pass, *events)?;
+        follow_entry(machine, begun.as_mut_slice(), plan, *pass, *events)?;
     }
-    Ok(machine)
+    Ok(())
 }

@@ -9,7 +9,7 @@ use Rattle.cc_play.proofs.play.audit_of.Goals as goal
 pub loop-group-preserved : goal.loop-group-preserved
 loop-group-preserved c =
     below_more (λ g. IsGroupVerdict (lists c.args.history.now) g Verdict.Clean) c.loop-group.group c.loop-group.invariant
-    (rw (c.in_default.is, c.as_slice.ensures.value, c.in_ok-sends.ensures, c.as_slice-in-loop-group.ensures.value, c.in_ok-takes.ensures, c.total.ensures) at c.in_ok-verdict.ensures)
+    (rw (c.in_default.is) at c.in_ok-verdict.ensures)
 
 pub returns : goal.returns
 returns c = λ g within. c.loop-group.invariant g (omega (arith, length-map c.args.history.now.takes (λ (s : SideRoom). s.lists)))

@@ -2,7 +2,7 @@ use Rattle.std.proofs.Common.{◌≡◌, List, drop}
 use Rattle.cc_play.specs.Names.{Move}
 use Rattle.cc_plan.specs.Plan.{plan_value}
 use Rattle.cc_play.specs.Schedule.{IsAt, IsBetweenTurns, follow, run_of}
-use Rattle.cc_play.proofs.player.play_schedule.Given as goal
+use Rattle.cc_play.proofs.player.follow.Given as goal
 
 -- the machine stands at a run from which the rest of the schedule leads to the plan's
 abbrev pub invariant-loop-pass : goal.invariant-loop-pass
