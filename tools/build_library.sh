@@ -64,13 +64,14 @@ fi
 rm -f "$record"
 before=$(sources_sum)
 started=$SECONDS
-# Shows how far the check is, and keeps all that was said.
-build 2>&1 | tee "$log" | grep --line-buffered -E '^so far:|^rt: |^logic=|error|no proof' | sed -u 's/^/library: /'
+# Keeps all that the build says, and shows how far it is. Before a build from nothing, a quick pass of rt prints errors for code
+# that the library doesn't link: they don't count, so they are shown only if the build fails.
+build 2>&1 | tee "$log" | sed -un '/^rt: the quick pass/d; s/^\(so far:\|rt:\) /library: &/p'
 status=${PIPESTATUS[0]}
 taken=$((SECONDS - started))
 proof=$(grep '^logic=proved ' "$log" | tail -n 1)
 if [ "$status" != 0 ]; then
-    tail -n 60 "$log"
+    cat "$log"
     echo "library: FAILED after $taken s (status $status)"
     exit 1
 elif [ ! -f "$archive" ]; then
