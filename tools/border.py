@@ -1,0 +1,140 @@
+#!/usr/bin/env python3
+"""Compares what crosses the border of the static library, which is written down three times: in crates/cc_handles and
+crates/cc_binding, in the header bindings/c/vahepito.h, and in the crate bindings/rust.
+
+    tools/border.py
+
+Codes, the version, the exports with their parameters, and the fields of the structs. Exit status 0 if all are the same.
+"""
+import re
+import sys
+
+sys.dont_write_bytecode = True
+from sources import TOP, read_items
+
+# Codes that the header has for itself.
+OF_THE_HEADER = {"BAD_VERSION"}
+# The structs by their names in the header, in the library, and in the Rust crate.
+STRUCTS = [
+    ("vahepito_config", "Settings", "Config"),
+    ("vahepito_item", "TakenItem", "Item"),
+    ("vahepito_words_item", "TakenWords", "WordsItem"),
+]
+# Types as C has them. The crate lends a pass as a Pass or as a Handle, which has nothing beside it.
+IN_C = {"u32": "uint32_t", "u64": "uint64_t", "usize": "size_t", "Handle": "vahepito_pass", "Pass": "vahepito_pass"}
+IN_C.update({name: in_c for in_c, *names in STRUCTS for name in names})
+
+
+def in_c(name, kind):
+    """A parameter or a field as C writes it, from Rust: a slice is a pointer and a count."""
+    if kind == "Global":
+        return []
+    found = re.fullmatch(r"(&|\*const |&mut |\*mut )(\[?)(\w+)\]?", kind)
+    if found:
+        const = "const " if found[1] in ("&", "*const ") else ""
+        pointer = f"{const}{IN_C[found[3]]} *{name}"
+        return [pointer, "size_t count"] if found[2] else [pointer]
+    array = re.fullmatch(r"\[(\w+); (\w+)\]", kind)
+    if array:
+        return [f"{IN_C[array[1]]} {name}[{array[2]}]"]
+    return [f"{IN_C[kind]} {name}"]
+
+
+def from_rust(pairs):
+    return [part for pair in pairs for part in in_c(*re.sub(r"^pub ", "", pair).split(": ", 1))]
+
+
+def counted(parameters):
+    """The parameters, where each count has one name."""
+    return [re.sub(r"size_t \w*count$", "size_t count", " ".join(part.split())) for part in parameters]
+
+
+def listed(text):
+    return [part.strip() for part in text.split(",") if part.strip()]
+
+
+def items_of(path):
+    return read_items((TOP / "crates" / path).read_text())
+
+
+def constants(path):
+    return {item.name: int(item.body.replace("_", "")) for item in items_of(path) if item.kind == "const"}
+
+
+def of_the_library():
+    """Codes, version, exports and structs of the library."""
+    codes = constants("cc_handles/src/codes.rt")
+    version = constants("cc_binding/src/version.rt")["VERSION"]
+    exports = {}
+    for item in items_of("cc_binding/src/lib.rt"):
+        if item.kind == "fn" and 'extern "C"' in item.head:
+            parameters, result = re.search(r"\((.*)\)(?: -> (\w+))?$", item.head).groups()
+            exports[item.name] = [IN_C.get(result, "void")] + counted(from_rust(listed(parameters)))
+    items = [item for path in (TOP / "crates").glob("cc_handles/src/*.rt") for item in items_of(path)]
+    parts = {item.name: item.parts for item in items if item.kind == "struct"}
+    return codes, version, exports, {name: from_rust(parts[library]) for name, library, _ in STRUCTS}
+
+
+def of_the_header():
+    text = re.sub(r"/\*.*?\*/", "", (TOP / "bindings/c/vahepito.h").read_text(), flags=re.S)
+    defined = dict(re.findall(r"^#define VAHEPITO_(\w+) (\d+)$", text, re.M))
+    codes = {name: int(number) for name, number in re.findall(r"^ *VAHEPITO_(\w+) = (\d+)", text, re.M)}
+    exports = {
+        name: [result] + counted(listed(parameters) if parameters != "void" else [])
+        for result, name, parameters in re.findall(r"^(uint32_t|void) (vahepito_\w+)\(([^)]*)\);", text, re.M)
+    }
+    structs = {}
+    for fields, name in re.findall(r"typedef struct \{(.*?)\} (\w+);", text, re.S):
+        fields = re.sub(r"\[VAHEPITO_(\w+)\]", lambda found: f"[{defined[found[1]]}]", fields)
+        structs[name] = [" ".join(field.split()) for field in fields.split(";") if field.strip()]
+    return codes, int(defined["VERSION"]), exports, {name: structs[name] for name, _, _ in STRUCTS}
+
+
+def of_the_crate():
+    """The same of the Rust crate, which names what it uses: some of the codes and exports."""
+    texts = [path.read_text() for path in sorted((TOP / "bindings/rust/src").rglob("*.rs"))]
+    text = re.sub(r" *//[^\n]*", "", "\n".join(texts))
+    module = re.search(r"\bmod code \{(.*?)\n\}", text, re.S)[1]
+    codes = {name: int(number) for name, number in re.findall(r"pub const (\w+): u32 = (\d+);", module)}
+    digits = re.search(r'^version = "(\d+)\.(\d+)\.(\d+)"', (TOP / "bindings/rust/Cargo.toml").read_text(), re.M)
+    exports = {
+        name: [IN_C.get(result, "void")] + counted(from_rust(listed(" ".join(parameters.split()))))
+        for name, parameters, result in re.findall(r"fn (vahepito_\w+)\(([^)]*)\)(?: -> (\w+))?;", text)
+    }
+    fields = dict(re.findall(r"#\[repr\(C\)\]\n(?:pub )?struct (\w+) {(.*?)\n}", text, re.S))
+    structs = {name: from_rust(listed(" ".join(fields[crate].split()))) for name, _, crate in STRUCTS}
+    version = int(digits[1]) * 1_000_000 + int(digits[2]) * 1_000 + int(digits[3])
+    return codes, version, exports, structs
+
+
+def differences():
+    library, header, crate = of_the_library(), of_the_header(), of_the_crate()
+    for name in OF_THE_HEADER:
+        if name in library[0]:
+            yield f"{name} is a code of the header alone, and the library has it too"
+        library[0][name] = header[0].get(name)
+    for where, codes in ("the library", library[0]), ("the header", header[0]), ("the crate", crate[0]):
+        if len(set(codes.values())) < len(codes):
+            yield f"two codes of {where} have one number"
+    for kind, at in ("code", 0), ("export", 2), ("struct", 3):
+        for name in sorted(library[at].keys() | header[at].keys() | crate[at].keys()):
+            in_library, in_header = library[at].get(name), header[at].get(name)
+            if in_header != in_library:
+                yield f"{kind} {name}: the library has {in_library}, the header {in_header}"
+            if crate[at].get(name, in_library) != in_library:
+                yield f"{kind} {name}: the library has {in_library}, the crate {crate[at][name]}"
+    if not library[1] == header[1] == crate[1]:
+        yield f"the version is {library[1]} of the library, {header[1]} of the header, {crate[1]} of the crate"
+
+
+def main():
+    found = list(differences())
+    for line in found:
+        print(f"border: {line}")
+    if not found:
+        print("border: the library, its header and the Rust crate have the same codes, version, exports and structs")
+    return 1 if found else 0
+
+
+if __name__ == "__main__":
+    sys.exit(main())
