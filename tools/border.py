@@ -26,18 +26,19 @@ IN_C.update({name: in_c for in_c, *names in STRUCTS for name in names})
 
 
 def in_c(name, kind):
-    """A parameter or a field as C writes it, from Rust: a slice is a pointer and a count."""
+    """A parameter or a field as C writes it, from Rust: a slice is a pointer and a count. A MaybeUninit lies as what it is of."""
+    kind = re.sub(r"\bMaybeUninit<(\w+)>", r"\1", kind)
     if kind == "Global":
         return []
     found = re.fullmatch(r"(&|\*const |&mut |\*mut )(\[?)(\w+)\]?", kind)
     if found:
         const = "const " if found[1] in ("&", "*const ") else ""
-        pointer = f"{const}{IN_C[found[3]]} *{name}"
+        pointer = f"{const}{IN_C.get(found[3], found[3])} *{name}"
         return [pointer, "size_t count"] if found[2] else [pointer]
     array = re.fullmatch(r"\[(\w+); (\w+)\]", kind)
     if array:
-        return [f"{IN_C[array[1]]} {name}[{array[2]}]"]
-    return [f"{IN_C[kind]} {name}"]
+        return [f"{IN_C.get(array[1], array[1])} {name}[{array[2]}]"]
+    return [f"{IN_C.get(kind, kind)} {name}"]
 
 
 def from_rust(pairs):
