@@ -215,23 +215,260 @@ const object = (field, g) => ({ at: 'object', field, g });
 const keyOf = w => [w.at, w.x, w.i, w.field, w.n, w.g].join(' ');
 
 const callText = call => call.take ? 'take' : call.close ? 'close' : 'send ' + call.send.join(' ');
-function answerText(a) {
-  if (!a) return 'pending';
-  if (a.t === 'got') return 'got ' + a.place + ' s' + tagSender(a.tag) + ' ' + tagNumber(a.tag) + ' ' + a.body.slice(0, further(a.tag) + 1).join(' ');
-  return a.n === undefined ? a.t : a.t + ' ' + a.n;
+
+// ---- The machine, and what it names as this page shows it.
+
+// <steps>
+// The machine, by tools/page_steps.py: the table of steps of crates/cc_runs/specs, and the definitions that it names.
+const minus = (a, b) => a > b ? a - b : 0n;
+const Body_body_of = (words) => {
+  if (words.length > 0 && words.slice(1).length === 0) return { words: { is: 'One', 0: [words[0]] } };
+  if (words.length > 0 && words.slice(1).length > 0 && words.slice(1).slice(1).length === 0) return { words: { is: 'Two', 0: [words[0], words.slice(1)[0]] } };
+  if (words.length > 0 && words.slice(1).length > 0 && words.slice(1).slice(1).length > 0 && words.slice(1).slice(1).slice(1).length === 0) return { words: { is: 'Three', 0: [words[0], words.slice(1)[0], words.slice(1).slice(1)[0]] } };
+  return { words: { is: 'Four', 0: words } };
+};
+const Body_further_of = (b) => minus(BigInt(Body_words_of(b).length), 1n);
+const Body_in_all = (v0) => {
+  if (v0.is === 'One') return v0[0];
+  if (v0.is === 'Two') return v0[0];
+  if (v0.is === 'Three') return v0[0];
+  if (v0.is === 'Four') return v0[0];
+};
+const Body_words_of = (b) => Body_in_all(b.words);
+const Codes_behind = (further, index, next, on) => (index < further) ? next : on;
+const Codes_body_in = (v0, words) => {
+  if (v0 === 0n) return Body_body_of([words.first]);
+  if (v0 === 1n) return Body_body_of([words.first, words.second]);
+  if (v0 === 2n) return Body_body_of([words.first, words.second, words.third]);
+  if (v0 >= 3n) return Body_body_of([words.first, words.second, words.third, words.fourth]);
+};
+const Codes_body_words = (item) => Codes_words_in(item.body);
+const Codes_code_of = (ret) => (ret / (2n ** 56n));
+const Codes_coded = (code, value) => ((code * (2n ** 56n)) + value);
+const Codes_count_word = (v0) => {
+  if (v0.is === 'Send' && v0[0].is === 'Accepted') return v0[0].place;
+  return 0n;
+};
+const Codes_further_words = (tag) => ((tag / (2n ** 48n)) % 4n);
+const Codes_item_in = (p) => Codes_item_of(p.place, p.tag, p.body);
+const Codes_item_of = (place, tag, words) => ({ place, sender: Codes_tag_sender(tag), number: Codes_tag_number(tag), body: Codes_body_in(Codes_further_words(tag), words) });
+const Codes_list_reads = (ret) => (Codes_code_of(ret) === 1n) ? { is: 'Send', 0: { is: 'Accepted', place: Codes_value_of(ret) } } : ((Codes_code_of(ret) === 2n) ? { is: 'Send', 0: { is: 'Full' } } : ((Codes_code_of(ret) === 3n) ? { is: 'Send', 0: { is: 'Closed' } } : ((Codes_code_of(ret) === 4n) ? { is: 'Send', 0: { is: 'Spent' } } : ((Codes_code_of(ret) === 5n) ? { is: 'Close', 0: { is: 'Shut', total: Codes_value_of(ret) } } : { is: 'Close', 0: { is: 'Already', total: Codes_value_of(ret) } }))));
+const Codes_list_word = (v0) => {
+  if (v0.is === 'Send' && v0[0].is === 'Accepted') return Codes_coded(1n, v0[0].place);
+  if (v0.is === 'Send' && v0[0].is === 'Full') return Codes_coded(2n, 0n);
+  if (v0.is === 'Send' && v0[0].is === 'Closed') return Codes_coded(3n, 0n);
+  if (v0.is === 'Send' && v0[0].is === 'Spent') return Codes_coded(4n, 0n);
+  if (v0.is === 'Close' && v0[0].is === 'Shut') return Codes_coded(5n, v0[0].total);
+  if (v0.is === 'Close' && v0[0].is === 'Already') return Codes_coded(6n, v0[0].total);
+  if (v0.is === 'Take' && v0[0].is === 'Got') return Codes_coded(1n, v0[0][0].place);
+  if (v0.is === 'Take' && v0[0].is === 'Empty') return Codes_coded(2n, 0n);
+  if (v0.is === 'Take' && v0[0].is === 'Ended') return Codes_coded(3n, v0[0].total);
+};
+const Codes_no_words = () => ({ first: 0n, second: 0n, third: 0n, fourth: 0n });
+const Codes_pack = (sender, number) => ((sender * (2n ** 32n)) + number);
+const Codes_packed = (sender, number, body) => ((Body_further_of(body) * (2n ** 48n)) + Codes_pack((sender % (2n ** 16n)), number));
+const Codes_parcel = (place, tag, body) => ({ place, tag, body });
+const Codes_request_in = (e) => Codes_request_of(e.pass, e.call, e.number);
+const Codes_request_of = (v0, v1, number) => {
+  if (v0.is === 'Sender' && v1.is === 'Send') return { tag: Codes_packed(v0[0], number, v1[0]), body: Codes_words_in(v1[0]) };
+  return { tag: 0n, body: Codes_no_words() };
+};
+const Codes_ret_of = (v0, told) => {
+  if (v0.is === 'Counter') return Codes_count_word(told);
+  if (v0.is === 'List') return Codes_list_word(told);
+};
+const Codes_sender_reads = (v0, ret) => {
+  if (v0.is === 'Counter') return { is: 'Send', 0: { is: 'Accepted', place: ret } };
+  if (v0.is === 'List') return Codes_list_reads(ret);
+};
+const Codes_slots = (words) => ({ first: (words[0n] ?? 0n), second: (words[1n] ?? 0n), third: (words[2n] ?? 0n), fourth: (words[3n] ?? 0n) });
+const Codes_tag_number = (tag) => (tag % (2n ** 32n));
+const Codes_tag_of = (item) => Codes_packed(item.sender, item.number, item.body);
+const Codes_tag_sender = (tag) => ((tag / (2n ** 32n)) % (2n ** 16n));
+const Codes_value_of = (ret) => (ret % (2n ** 56n));
+const Codes_with_asked = (request, index, value) => ({ ...request, body: Codes_with_word(request.body, index, value) });
+const Codes_with_read = (p, index, value) => ({ ...p, body: Codes_with_word(p.body, index, value) });
+const Codes_with_word = (body, v1, value) => {
+  if (v1 === 0n) return { ...body, first: value };
+  if (v1 === 1n) return { ...body, second: value };
+  if (v1 === 2n) return { ...body, third: value };
+  if (v1 === 3n) return { ...body, fourth: value };
+  if (v1 >= 4n) return body;
+};
+const Codes_word = (body, v1) => {
+  if (v1 === 0n) return body.first;
+  if (v1 === 1n) return body.second;
+  if (v1 === 2n) return body.third;
+  if (v1 === 3n) return body.fourth;
+  if (v1 >= 4n) return 0n;
+};
+const Codes_words_in = (body) => Codes_slots(Body_words_of(body));
+const CountLines_decides = (service, found) => ServiceLine_answer_of(CountLines_line(0n, service, found).next);
+const CountLines_goes = (job, service, found) => ServiceLine_place_of(CountLines_in_service, job, CountLines_line(0n, service, found).next);
+const CountLines_in_service = (job, service) => ({ is: 'Counting', job, service });
+const CountLines_kind_of = (service) => CountLines_line(0n, service, 0n).kind;
+const CountLines_line = (served, v1, v2) => {
+  if (v1.is === 'ReadTag') return ServiceLine_load({ is: 'ReadRequest' }, { is: 'Node', 0: { is: 'Send' }, 1: served, 2: { is: 'Tag' } }, { is: 'On', 0: { is: 'ReadBody', tag: v2, index: 0n } });
+  if (v1.is === 'ReadBody') return ServiceLine_load({ is: 'ReadRequest' }, { is: 'Node', 0: { is: 'Send' }, 1: served, 2: { is: 'Body', 0: v1.index } }, { is: 'On', 0: Codes_behind(Codes_further_words(v1.tag), v1.index, { is: 'ReadBody', tag: v1.tag, index: (v1.index + 1n) }, { is: 'ReadCount' }) });
+  if (v1.is === 'ReadCount') return ServiceLine_load({ is: 'ReadObject' }, { is: 'Object', 0: { is: 'Count' } }, { is: 'On', 0: { is: 'WriteCount', count: v2 } });
+  if (v1.is === 'WriteCount') return ServiceLine_store({ is: 'WriteObject' }, { is: 'Object', 0: { is: 'Count' } }, (v1.count + 1n), { is: 'Decides', 0: { is: 'Send', 0: { is: 'Accepted', place: v1.count } } });
+};
+const CountLines_operation = (served, service) => CountLines_line(served, service, 0n).does;
+const Lines_after_answer = (job, v1) => {
+  if (v1.is === 'Take' && v1[0].is === 'Got') return { is: 'WriteAnswerTag', job, item: v1[0][0] };
+  return { is: 'MarkDone', job };
+};
+const Lines_after_done = (bound, job) => ((job.round.served + 1n) === bound) ? { is: 'HandOver', at: job.next } : { is: 'ReadNext', round: { at: job.next, served: (job.round.served + 1n) } };
+const Lines_after_exchange = (v0, own, call) => {
+  if (v0.is === 'Send') return { is: 'WriteTag', put: own, request: Codes_request_in(call) };
+  if (v0.is === 'Take') return { is: 'Link', put: own };
+};
+const Lines_after_next = (served, x, round, v3) => {
+  if (v3 === 0n) return { is: 'HandOver', at: round.at };
+  if (v3 >= 1n) return Lines_serves(served, x, { round, next: (v3 - 1n) });
+};
+const Lines_after_ret = (served, v1, ret) => {
+  if (v1.is === 'Send') return { is: 'Finished', answer: Codes_sender_reads(served, ret) };
+  if (v1.is === 'Take') return (Codes_code_of(ret) === 1n) ? { is: 'ReadAnswerTag', place: Codes_value_of(ret) } : ((Codes_code_of(ret) === 2n) ? { is: 'Finished', answer: { is: 'Take', 0: { is: 'Empty' } } } : { is: 'Finished', answer: { is: 'Take', 0: { is: 'Ended', total: Codes_value_of(ret) } } });
+};
+const Lines_after_state = (own, v1) => {
+  if (v1 === 0n) return { is: 'ReadNext', round: { at: own, served: 0n } };
+  if (v1 === 1n) return { is: 'ReadState' };
+  if (v1 >= 2n) return { is: 'ReadAnswer' };
+};
+const Lines_group_of = (v0) => {
+  if (v0.is === 'Send') return 0n;
+  if (v0.is === 'Take') return v0[0];
+};
+const Lines_line = (c, x, own, v0, v1) => {
+  if (v0.is === 'Idle') return Lines_none(c, x, own, { is: 'Idle' });
+  if (v0.is === 'ResetNext') return Lines_store(c, x, own, { is: 'ResetNext' }, { is: 'Node', 0: x, 1: own, 2: { is: 'Next' } }, 0n, { is: 'ResetState', call: v0.call });
+  if (v0.is === 'ResetState') return Lines_store(c, x, own, { is: 'ResetState' }, { is: 'Node', 0: x, 1: own, 2: { is: 'State' } }, 1n, { is: 'Exchange', call: v0.call });
+  if (v0.is === 'Exchange') return Lines_swap(c, x, own, { is: 'Exchange' }, { is: 'Tail', 0: x }, (own + 1n), v0.call, minus(v1, 1n), Lines_after_exchange(x, own, v0.call));
+  if (v0.is === 'WriteTag') return Lines_store(c, x, own, { is: 'WriteRequest' }, { is: 'Node', 0: x, 1: own, 2: { is: 'Tag' } }, v0.request.tag, { is: 'WriteBody', put: v0.put, request: v0.request, index: 0n });
+  if (v0.is === 'WriteBody') return Lines_store(c, x, own, { is: 'WriteRequest' }, { is: 'Node', 0: x, 1: own, 2: { is: 'Body', 0: v0.index } }, Codes_word(v0.request.body, v0.index), Codes_behind(Codes_further_words(v0.request.tag), v0.index, { is: 'WriteBody', put: v0.put, request: v0.request, index: (v0.index + 1n) }, { is: 'Link', put: v0.put }));
+  if (v0.is === 'Link') return Lines_store(c, x, own, { is: 'Link' }, { is: 'Node', 0: x, 1: own, 2: { is: 'Next' } }, (v0.put + 1n), { is: 'ReadState' });
+  if (v0.is === 'ReadState') return Lines_load(c, x, own, { is: 'ReadState' }, { is: 'Node', 0: x, 1: own, 2: { is: 'State' } }, Lines_after_state(own, v1));
+  if (v0.is === 'ReadNext') return Lines_load(c, x, own, { is: 'ReadNext' }, { is: 'Node', 0: x, 1: v0.round.at, 2: { is: 'Next' } }, Lines_after_next(c.served, x, v0.round, v1));
+  if (v0.is === 'Counting') return { ...Lines_step(c, x, own, CountLines_kind_of(v0.service), CountLines_operation(v0.job.round.at, v0.service), CountLines_goes(v0.job, v0.service, v1)), decides: CountLines_decides(v0.service, v1) };
+  if (v0.is === 'Sending') return { ...Lines_step(c, x, own, SendLines_kind_of(v0.service), SendLines_operation(c.config, v0.job.round.at, v0.service), SendLines_goes(c.config, v0.job, v0.service, v1)), decides: SendLines_decides(c.config, v0.service, v1) };
+  if (v0.is === 'Taking') return { ...Lines_step(c, x, own, TakeLines_kind_of(v0.service), TakeLines_operation(Lines_group_of(x), v0.service), TakeLines_goes(v0.job, v0.service, v1)), decides: TakeLines_decides(v0.service, v1) };
+  if (v0.is === 'WriteAnswer') return Lines_store(c, x, own, { is: 'WriteAnswer' }, { is: 'Node', 0: x, 1: v0.job.round.at, 2: { is: 'Ret' } }, Codes_ret_of(c.served, v0.answer), Lines_after_answer(v0.job, v0.answer));
+  if (v0.is === 'WriteAnswerTag') return Lines_store(c, x, own, { is: 'WriteAnswer' }, { is: 'Node', 0: x, 1: v0.job.round.at, 2: { is: 'Tag' } }, Codes_tag_of(v0.item), { is: 'WriteAnswerBody', job: v0.job, item: v0.item, index: 0n });
+  if (v0.is === 'WriteAnswerBody') return Lines_store(c, x, own, { is: 'WriteAnswer' }, { is: 'Node', 0: x, 1: v0.job.round.at, 2: { is: 'Body', 0: v0.index } }, Codes_word(Codes_body_words(v0.item), v0.index), Codes_behind(Codes_further_words(Codes_tag_of(v0.item)), v0.index, { is: 'WriteAnswerBody', job: v0.job, item: v0.item, index: (v0.index + 1n) }, { is: 'MarkDone', job: v0.job }));
+  if (v0.is === 'MarkDone') return Lines_store(c, x, own, { is: 'MarkDone' }, { is: 'Node', 0: x, 1: v0.job.round.at, 2: { is: 'State' } }, 2n, Lines_after_done(c.config.bound, v0.job));
+  if (v0.is === 'HandOver') return Lines_store(c, x, own, { is: 'HandOver' }, { is: 'Node', 0: x, 1: v0.at, 2: { is: 'State' } }, 0n, { is: 'ReadAnswer' });
+  if (v0.is === 'ReadAnswer') return Lines_load(c, x, own, { is: 'ReadAnswer' }, { is: 'Node', 0: x, 1: own, 2: { is: 'Ret' } }, Lines_after_ret(c.served, x, v1));
+  if (v0.is === 'ReadAnswerTag') return Lines_load(c, x, own, { is: 'ReadAnswer' }, { is: 'Node', 0: x, 1: own, 2: { is: 'Tag' } }, { is: 'ReadAnswerBody', parcel: Codes_parcel(v0.place, v1, Codes_no_words()), index: 0n });
+  if (v0.is === 'ReadAnswerBody') return Lines_load(c, x, own, { is: 'ReadAnswer' }, { is: 'Node', 0: x, 1: own, 2: { is: 'Body', 0: v0.index } }, Codes_behind(Codes_further_words(v0.parcel.tag), v0.index, { is: 'ReadAnswerBody', parcel: Codes_with_read(v0.parcel, v0.index, v1), index: (v0.index + 1n) }, { is: 'Finished', answer: { is: 'Take', 0: { is: 'Got', 0: Codes_item_in(Codes_with_read(v0.parcel, v0.index, v1)) } } }));
+  if (v0.is === 'Finished') return Lines_none(c, x, own, { is: 'Finished', answer: v0.answer });
+};
+const Lines_load = (c, x, own, what, word, to) => Lines_step(c, x, own, what, { is: 'Load', 0: word }, to);
+const Lines_none = (c, x, own, at) => ({ event: { is: 'Idle' }, does: { is: 'Load', 0: { is: 'Tail', 0: x } }, goes: at, node: own, enters: { is: 'None' }, decides: { is: 'None' } });
+const Lines_serves = (v0, x, job) => {
+  if (v0.is === 'Counter') return { is: 'Counting', job, service: { is: 'ReadTag' } };
+  if (v0.is === 'List' && x.is === 'Send') return { is: 'Sending', job, service: { is: 'ReadTag' } };
+  if (v0.is === 'List' && x.is === 'Take') return { is: 'Taking', job, service: { is: 'ReadHead' } };
+};
+const Lines_step = (c, x, own, what, does, to) => ({ event: { is: 'Did', 0: what }, does, goes: to, node: own, enters: { is: 'None' }, decides: { is: 'None' } });
+const Lines_store = (c, x, own, what, word, value, to) => Lines_step(c, x, own, what, { is: 'Store', 0: word, 1: value }, to);
+const Lines_swap = (c, x, own, what, word, value, call, node, to) => ({ ...Lines_step(c, x, own, what, { is: 'Swap', 0: word, 1: value }, to), node, enters: { is: 'Some', 0: call } });
+const SendLines_after = (c, at) => ((at + 1n) % (c.capacity + 1n));
+const SendLines_any_config = () => ({ senders: 0n, receivers: 0n, capacity: 0n, bound: 0n, life: 0n, per_sender: 0n, groups: 0n });
+const SendLines_by_count = (c, request, count) => (request.tag === 0n) ? { is: 'On', 0: { is: 'ReadLastToClose', total: count } } : ((count === c.life) ? { is: 'Decides', 0: { is: 'Send', 0: { is: 'Spent' } } } : { is: 'On', 0: { is: 'ReadCursor', parcel: { place: count, tag: request.tag, body: request.body } } });
+const SendLines_by_passed = (c, parcel, at, reads, passed) => (passed === Words_groups(c)) ? { is: 'On', 0: { is: 'ResetPassed', parcel, node: at } } : ((reads === (c.capacity + 1n)) ? { is: 'Decides', 0: { is: 'Send', 0: { is: 'Full' } } } : { is: 'On', 0: { is: 'ReadPassed', parcel, node: SendLines_after(c, at), reads: (reads + 1n) } });
+const SendLines_by_shut = (request, v1) => {
+  if (v1 === 0n) return { is: 'On', 0: { is: 'ReadCount', request } };
+  if (v1 >= 1n) return (request.tag === 0n) ? { is: 'On', 0: { is: 'ReadTotal' } } : { is: 'Decides', 0: { is: 'Send', 0: { is: 'Closed' } } };
+};
+const SendLines_decides = (c, service, found) => ServiceLine_answer_of(SendLines_line(c, 0n, service, found).next);
+const SendLines_goes = (c, job, service, found) => ServiceLine_place_of(SendLines_in_service, job, SendLines_line(c, 0n, service, found).next);
+const SendLines_in_service = (job, service) => ({ is: 'Sending', job, service });
+const SendLines_kind_of = (service) => SendLines_line(SendLines_any_config(), 0n, service, 0n).kind;
+const SendLines_line = (c, served, v2, v3) => {
+  if (v2.is === 'ReadTag') return ServiceLine_load({ is: 'ReadRequest' }, { is: 'Node', 0: { is: 'Send' }, 1: served, 2: { is: 'Tag' } }, { is: 'On', 0: { is: 'ReadBody', request: { tag: v3, body: Codes_no_words() }, index: 0n } });
+  if (v2.is === 'ReadBody') return ServiceLine_load({ is: 'ReadRequest' }, { is: 'Node', 0: { is: 'Send' }, 1: served, 2: { is: 'Body', 0: v2.index } }, { is: 'On', 0: Codes_behind(Codes_further_words(v2.request.tag), v2.index, { is: 'ReadBody', request: Codes_with_asked(v2.request, v2.index, v3), index: (v2.index + 1n) }, { is: 'ReadShut', request: Codes_with_asked(v2.request, v2.index, v3) }) });
+  if (v2.is === 'ReadShut') return ServiceLine_load({ is: 'ReadObject' }, { is: 'Object', 0: { is: 'Shut' } }, SendLines_by_shut(v2.request, v3));
+  if (v2.is === 'ReadTotal') return ServiceLine_load({ is: 'ReadObject' }, { is: 'Object', 0: { is: 'Count' } }, { is: 'Decides', 0: { is: 'Close', 0: { is: 'Already', total: v3 } } });
+  if (v2.is === 'ReadCount') return ServiceLine_load({ is: 'ReadObject' }, { is: 'Object', 0: { is: 'Count' } }, SendLines_by_count(c, v2.request, v3));
+  if (v2.is === 'ReadLastToClose') return ServiceLine_load({ is: 'ReadObject' }, { is: 'Object', 0: { is: 'Last' } }, { is: 'On', 0: { is: 'LinkMark', total: v2.total, last: minus(v3, 1n) } });
+  if (v2.is === 'LinkMark') return ServiceLine_store({ is: 'LinkLast' }, { is: 'Item', 0: v2.last, 1: { is: 'Next' } }, (SendLines_mark(c) + 1n), { is: 'DecidesAndOn', 0: { is: 'Close', 0: { is: 'Shut', total: v2.total } }, 1: { is: 'WriteLastMark', total: v2.total } });
+  if (v2.is === 'WriteLastMark') return ServiceLine_store({ is: 'WriteObject' }, { is: 'Object', 0: { is: 'Last' } }, (SendLines_mark(c) + 1n), { is: 'On', 0: { is: 'WriteShut', total: v2.total } });
+  if (v2.is === 'WriteShut') return ServiceLine_store({ is: 'WriteObject' }, { is: 'Object', 0: { is: 'Shut' } }, 1n, { is: 'Tells', 0: { is: 'Close', 0: { is: 'Shut', total: v2.total } } });
+  if (v2.is === 'ReadCursor') return ServiceLine_load({ is: 'ReadObject' }, { is: 'Object', 0: { is: 'Cursor' } }, { is: 'On', 0: { is: 'ReadPassed', parcel: v2.parcel, node: v3, reads: 1n } });
+  if (v2.is === 'ReadPassed') return ServiceLine_load({ is: 'ReadPassed' }, { is: 'Item', 0: v2.node, 1: { is: 'Passed' } }, SendLines_by_passed(c, v2.parcel, v2.node, v2.reads, v3));
+  if (v2.is === 'ResetPassed') return ServiceLine_store({ is: 'ResetListNode' }, { is: 'Item', 0: v2.node, 1: { is: 'Passed' } }, 0n, { is: 'On', 0: { is: 'ResetItemNext', parcel: v2.parcel, node: v2.node } });
+  if (v2.is === 'ResetItemNext') return ServiceLine_store({ is: 'ResetListNode' }, { is: 'Item', 0: v2.node, 1: { is: 'Next' } }, 0n, { is: 'On', 0: { is: 'WriteItemTag', parcel: v2.parcel, node: v2.node } });
+  if (v2.is === 'WriteItemTag') return ServiceLine_store({ is: 'WriteItem' }, { is: 'Item', 0: v2.node, 1: { is: 'Tag' } }, v2.parcel.tag, { is: 'On', 0: { is: 'WriteItemBody', parcel: v2.parcel, node: v2.node, index: 0n } });
+  if (v2.is === 'WriteItemBody') return ServiceLine_store({ is: 'WriteItem' }, { is: 'Item', 0: v2.node, 1: { is: 'Body', 0: v2.index } }, Codes_word(v2.parcel.body, v2.index), { is: 'On', 0: Codes_behind(Codes_further_words(v2.parcel.tag), v2.index, { is: 'WriteItemBody', parcel: v2.parcel, node: v2.node, index: (v2.index + 1n) }, { is: 'ReadLast', place: v2.parcel.place, node: v2.node }) });
+  if (v2.is === 'ReadLast') return ServiceLine_load({ is: 'ReadObject' }, { is: 'Object', 0: { is: 'Last' } }, { is: 'On', 0: { is: 'LinkItem', place: v2.place, node: v2.node, last: minus(v3, 1n) } });
+  if (v2.is === 'LinkItem') return ServiceLine_store({ is: 'LinkLast' }, { is: 'Item', 0: v2.last, 1: { is: 'Next' } }, (v2.node + 1n), { is: 'DecidesAndOn', 0: { is: 'Send', 0: { is: 'Accepted', place: v2.place } }, 1: { is: 'WriteLast', place: v2.place, node: v2.node } });
+  if (v2.is === 'WriteLast') return ServiceLine_store({ is: 'WriteObject' }, { is: 'Object', 0: { is: 'Last' } }, (v2.node + 1n), { is: 'On', 0: { is: 'WriteCount', place: v2.place, node: v2.node } });
+  if (v2.is === 'WriteCount') return ServiceLine_store({ is: 'WriteObject' }, { is: 'Object', 0: { is: 'Count' } }, (v2.place + 1n), { is: 'On', 0: { is: 'WriteCursor', place: v2.place, node: v2.node } });
+  if (v2.is === 'WriteCursor') return ServiceLine_store({ is: 'WriteObject' }, { is: 'Object', 0: { is: 'Cursor' } }, SendLines_after(c, v2.node), { is: 'Tells', 0: { is: 'Send', 0: { is: 'Accepted', place: v2.place } } });
+};
+const SendLines_mark = (c) => (c.capacity + 1n);
+const SendLines_operation = (c, served, service) => SendLines_line(c, served, service, 0n).does;
+const ServiceLine_add = (kind, word, value, next) => ({ kind, does: { is: 'Add', 0: word, 1: value }, next });
+const ServiceLine_answer_of = (v0) => {
+  if (v0.is === 'On') return { is: 'None' };
+  if (v0.is === 'Decides') return { is: 'Some', 0: v0[0] };
+  if (v0.is === 'DecidesAndOn') return { is: 'Some', 0: v0[0] };
+  if (v0.is === 'Tells') return { is: 'None' };
+};
+const ServiceLine_load = (kind, word, next) => ({ kind, does: { is: 'Load', 0: word }, next });
+const ServiceLine_place_of = (in_service, job, v2) => {
+  if (v2.is === 'On') return in_service(job, v2[0]);
+  if (v2.is === 'Decides') return { is: 'WriteAnswer', job, answer: v2[0] };
+  if (v2.is === 'DecidesAndOn') return in_service(job, v2[1]);
+  if (v2.is === 'Tells') return { is: 'WriteAnswer', job, answer: v2[0] };
+};
+const ServiceLine_store = (kind, word, value, next) => ({ kind, does: { is: 'Store', 0: word, 1: value }, next });
+const TakeLines_by_next = (dummy, taken, v2) => {
+  if (v2 === 0n) return { is: 'Decides', 0: { is: 'Take', 0: { is: 'Empty' } } };
+  if (v2 >= 1n) return { is: 'On', 0: { is: 'ReadItemTag', dummy, taken, node: (v2 - 1n) } };
+};
+const TakeLines_by_tag = (dummy, taken, at, v3) => {
+  if (v3 === 0n) return { is: 'Decides', 0: { is: 'Take', 0: { is: 'Ended', total: taken } } };
+  if (v3 >= 1n) return { is: 'On', 0: { is: 'ReadItemBody', dummy, node: at, parcel: Codes_parcel(taken, ((v3 - 1n) + 1n), Codes_no_words()), index: 0n } };
+};
+const TakeLines_decides = (service, found) => ServiceLine_answer_of(TakeLines_line(0n, service, found).next);
+const TakeLines_goes = (job, service, found) => ServiceLine_place_of(TakeLines_in_service, job, TakeLines_line(0n, service, found).next);
+const TakeLines_in_service = (job, service) => ({ is: 'Taking', job, service });
+const TakeLines_kind_of = (service) => TakeLines_line(0n, service, 0n).kind;
+const TakeLines_line = (g, v1, v2) => {
+  if (v1.is === 'ReadHead') return ServiceLine_load({ is: 'ReadObject' }, { is: 'Object', 0: { is: 'Head', 0: g } }, { is: 'On', 0: { is: 'ReadTaken', dummy: minus(v2, 1n) } });
+  if (v1.is === 'ReadTaken') return ServiceLine_load({ is: 'ReadObject' }, { is: 'Object', 0: { is: 'Taken', 0: g } }, { is: 'On', 0: { is: 'ReadDummyNext', dummy: v1.dummy, taken: v2 } });
+  if (v1.is === 'ReadDummyNext') return ServiceLine_load({ is: 'ReadDummyNext' }, { is: 'Item', 0: v1.dummy, 1: { is: 'Next' } }, TakeLines_by_next(v1.dummy, v1.taken, v2));
+  if (v1.is === 'ReadItemTag') return ServiceLine_load({ is: 'ReadItem' }, { is: 'Item', 0: v1.node, 1: { is: 'Tag' } }, TakeLines_by_tag(v1.dummy, v1.taken, v1.node, v2));
+  if (v1.is === 'ReadItemBody') return ServiceLine_load({ is: 'ReadItem' }, { is: 'Item', 0: v1.node, 1: { is: 'Body', 0: v1.index } }, { is: 'On', 0: Codes_behind(Codes_further_words(v1.parcel.tag), v1.index, { is: 'ReadItemBody', dummy: v1.dummy, node: v1.node, parcel: Codes_with_read(v1.parcel, v1.index, v2), index: (v1.index + 1n) }, { is: 'WriteHead', dummy: v1.dummy, node: v1.node, parcel: Codes_with_read(v1.parcel, v1.index, v2) }) });
+  if (v1.is === 'WriteHead') return ServiceLine_store({ is: 'WriteObject' }, { is: 'Object', 0: { is: 'Head', 0: g } }, (v1.node + 1n), { is: 'On', 0: { is: 'WriteTaken', dummy: v1.dummy, parcel: v1.parcel } });
+  if (v1.is === 'WriteTaken') return ServiceLine_store({ is: 'WriteObject' }, { is: 'Object', 0: { is: 'Taken', 0: g } }, (v1.parcel.place + 1n), { is: 'On', 0: { is: 'AddPassed', dummy: v1.dummy, parcel: v1.parcel } });
+  if (v1.is === 'AddPassed') return ServiceLine_add({ is: 'AddPassed' }, { is: 'Item', 0: v1.dummy, 1: { is: 'Passed' } }, 1n, { is: 'Decides', 0: { is: 'Take', 0: { is: 'Got', 0: Codes_item_in(v1.parcel) } } });
+};
+const TakeLines_operation = (g, service) => TakeLines_line(g, service, 0n).does;
+const Words_groups = (c) => c.groups;
+// </steps>
+
+const setting = { served: { is: 'List' }, config: { capacity: BigInt(capacity), bound: BigInt(bound), life: BigInt(life), groups: BigInt(groups) } };
+const chainAt = x => x < 0 ? { is: 'Send' } : { is: 'Take', 0: BigInt(x) };
+const chainNumber = chain => chain.is === 'Send' ? -1 : Number(chain[0]);
+const DOES = { Load: 'reads', Store: 'writes', Swap: 'swaps', Add: 'adds' };
+function wordAt(w) {
+  const field = f => [f.is.toLowerCase(), f[0] === undefined ? undefined : Number(f[0])];
+  if (w.is === 'Tail') return tail(chainNumber(w[0]));
+  if (w.is === 'Node') return node(chainNumber(w[0]), Number(w[1]), ...field(w[2]));
+  if (w.is === 'Item') return item(Number(w[0]), ...field(w[1]));
+  return object(...field(w[0]));
 }
-
-// ---- Words as the algorithm packs them.
-
-const pack = (sender, n, body) => (BigInt(body.length - 1) << 48n) + (BigInt(sender) << 32n) + BigInt(n);
-const further = tag => Number((tag >> 48n) % 4n);
-const tagSender = tag => Number((tag >> 32n) % 65536n);
-const tagNumber = tag => Number(tag % (1n << 32n));
-const CODES = { accepted: 1n, full: 2n, closed: 3n, spent: 4n, shut: 5n, already: 6n, got: 1n, empty: 2n, ended: 3n };
-const coded = a => (CODES[a.t] << 56n) + (a.t === 'got' ? a.place : a.n === undefined ? 0n : a.n);
-function senderReads(ret) {
-  const t = ['', 'accepted', 'full', 'closed', 'spent', 'shut', 'already'][Number(ret >> 56n)];
-  return t === 'accepted' || t === 'shut' || t === 'already' ? { t, n: ret % (1n << 56n) } : { t };
+const further = tag => Number(Codes_further_words(tag));
+function answerText(told) {
+  if (!told) return 'pending';
+  const a = told[0];
+  const name = a.is.toLowerCase();
+  if (a.is === 'Got') return name + ' ' + a[0].place + ' s' + a[0].sender + ' ' + a[0].number + ' ' + Body_words_of(a[0].body).join(' ');
+  const n = a.place === undefined ? a.total : a.place;
+  return n === undefined ? name : name + ' ' + n;
 }
 
 // ---- The state: words, where each pass stands, and the history.
@@ -257,7 +494,7 @@ function open() {
   for (let i = 1; i <= capacity; i++) write(item(i, 'passed'), BigInt(groups));
   for (let row = 0; row < rows; row++) {
     const own = row < senders ? row + 1 : (row - senders) % receivers + 1;
-    stands.push({ made: 0, sends: 0, node: own, call: null, place: { at: 'Idle' } });
+    stands.push({ made: 0, sends: 0, node: own, call: null, place: { is: 'Idle' } });
   }
 }
 
@@ -266,122 +503,37 @@ function nextCall(row, made) {
   return made < takes[row - senders] ? { take: true } : null;
 }
 
-// The next step of a pass that stands so: its kind, its word, what it does there, and where that leads.
-function stepAt(x, own, p) {
-  const load = (kind, w, to) => ({ kind, w, does: 'reads', to });
-  const store = (kind, w, v, to) => ({ kind, w, does: 'writes', v: BigInt(v), to: () => to });
-  const decides = (job, answer) => ({ place: { at: 'WriteAnswer', job, answer }, decides: answer });
-  const tells = (job, answer) => ({ place: { at: 'WriteAnswer', job, answer } });
-  const go = (at, more) => ({ place: Object.assign({ at }, more) });
-  const job = p.job;
-  const mark = capacity + 1;
-  const after = at => (at + 1) % (capacity + 1);
-  switch (p.at) {
-    case 'ResetNext': return store('ResetNext', node(x, own, 'next'), 0, go('ResetState', { call: p.call }));
-    case 'ResetState': return store('ResetState', node(x, own, 'state'), 1, go('Exchange', { call: p.call }));
-    case 'Exchange': return { kind: 'Exchange', w: tail(x), does: 'swaps', v: BigInt(own + 1), enters: p.call,
-      to: found => Object.assign(x < 0 ? go('WriteTag', { put: own, call: p.call }) : go('Link', { put: own }), { node: Number(found) - 1 }) };
-    case 'WriteTag': return store('WriteRequest', node(x, own, 'tag'), p.call.tag, go('WriteBody', { put: p.put, call: p.call, i: 0 }));
-    case 'WriteBody': return store('WriteRequest', node(x, own, 'body', p.i), p.call.words[p.i],
-      p.i < further(p.call.tag) ? go('WriteBody', { put: p.put, call: p.call, i: p.i + 1 }) : go('Link', { put: p.put }));
-    case 'Link': return store('Link', node(x, own, 'next'), p.put + 1, go('ReadState'));
-    case 'ReadState': return load('ReadState', node(x, own, 'state'), s => s === 0n ? go('ReadNext', { round: { at: own, served: 0 } }) : s === 1n ? go('ReadState') : go('ReadAnswer'));
-    case 'ReadNext': return load('ReadNext', node(x, p.round.at, 'next'), next => {
-      if (next === 0n) return go('HandOver', { node: p.round.at });
-      const j = { at: p.round.at, served: p.round.served, next: Number(next) - 1 };
-      return x < 0 ? go('ReadTag', { job: j }) : go('ReadHead', { job: j });
-    });
-    case 'WriteAnswer': return store('WriteAnswer', node(x, job.at, 'ret'), coded(p.answer), p.answer.t === 'got' ? go('WriteAnswerTag', { job, answer: p.answer }) : go('MarkDone', { job }));
-    case 'WriteAnswerTag': return store('WriteAnswer', node(x, job.at, 'tag'), p.answer.tag, go('WriteAnswerBody', { job, answer: p.answer, i: 0 }));
-    case 'WriteAnswerBody': return store('WriteAnswer', node(x, job.at, 'body', p.i), p.answer.body[p.i],
-      p.i < further(p.answer.tag) ? go('WriteAnswerBody', { job, answer: p.answer, i: p.i + 1 }) : go('MarkDone', { job }));
-    case 'MarkDone': return store('MarkDone', node(x, job.at, 'state'), 2, job.served + 1 === bound ? go('HandOver', { node: job.next }) : go('ReadNext', { round: { at: job.next, served: job.served + 1 } }));
-    case 'HandOver': return store('HandOver', node(x, p.node, 'state'), 0, go('ReadAnswer'));
-    case 'ReadAnswer': return load('ReadAnswer', node(x, own, 'ret'), ret => {
-      const value = ret % (1n << 56n);
-      if (x < 0) return go('Finished', { answer: senderReads(ret) });
-      const code = ret >> 56n;
-      return code === 1n ? go('ReadAnswerTag', { at_place: value }) : go('Finished', { answer: code === 2n ? { t: 'empty' } : { t: 'ended', n: value } });
-    });
-    case 'ReadAnswerTag': return load('ReadAnswer', node(x, own, 'tag'), tag => go('ReadAnswerBody', { answer: { t: 'got', place: p.at_place, tag, body: [] }, i: 0 }));
-    case 'ReadAnswerBody': return load('ReadAnswer', node(x, own, 'body', p.i), found => {
-      const answer = Object.assign({}, p.answer, { body: p.answer.body.concat([found]) });
-      return p.i < further(answer.tag) ? go('ReadAnswerBody', { answer, i: p.i + 1 }) : go('Finished', { answer });
-    });
-    // a send or a close
-    case 'ReadTag': return load('ReadRequest', node(x, job.at, 'tag'), tag => go('ReadBody', { job, tag, body: [], i: 0 }));
-    case 'ReadBody': return load('ReadRequest', node(x, job.at, 'body', p.i), found => {
-      const body = p.body.concat([found]);
-      return p.i < further(p.tag) ? go('ReadBody', { job, tag: p.tag, body, i: p.i + 1 }) : go('ReadShut', { job, tag: p.tag, body });
-    });
-    case 'ReadShut': return load('ReadObject', object('shut'), shut => shut === 0n ? go('ReadCount', { job, tag: p.tag, body: p.body }) : p.tag === 0n ? go('ReadTotal', { job }) : decides(job, { t: 'closed' }));
-    case 'ReadTotal': return load('ReadObject', object('count'), count => decides(job, { t: 'already', n: count }));
-    case 'ReadCount': return load('ReadObject', object('count'), count => p.tag === 0n ? go('ReadLastToClose', { job, total: count })
-      : count === BigInt(life) ? decides(job, { t: 'spent' }) : go('ReadCursor', { job, place: count, tag: p.tag, body: p.body }));
-    case 'ReadLastToClose': return load('ReadObject', object('last'), last => go('LinkMark', { job, total: p.total, last: Number(last) - 1 }));
-    case 'LinkMark': return store('LinkLast', item(p.last, 'next'), mark + 1, { place: { at: 'WriteLastMark', job, total: p.total }, decides: { t: 'shut', n: p.total } });
-    case 'WriteLastMark': return store('WriteObject', object('last'), mark + 1, go('WriteShut', { job, total: p.total }));
-    case 'WriteShut': return store('WriteObject', object('shut'), 1, tells(job, { t: 'shut', n: p.total }));
-    case 'ReadCursor': return load('ReadObject', object('cursor'), cursor => go('ReadPassed', Object.assign({}, p, { at: 'ReadPassed', scan: Number(cursor), reads: 1 })));
-    case 'ReadPassed': return load('ReadPassed', item(p.scan, 'passed'), passed => passed === BigInt(groups) ? { place: Object.assign({}, p, { at: 'ResetPassed' }) }
-      : p.reads === capacity + 1 ? decides(job, { t: 'full' }) : { place: Object.assign({}, p, { scan: after(p.scan), reads: p.reads + 1 }) });
-    case 'ResetPassed': return store('ResetListNode', item(p.scan, 'passed'), 0, { place: Object.assign({}, p, { at: 'ResetItemNext' }) });
-    case 'ResetItemNext': return store('ResetListNode', item(p.scan, 'next'), 0, { place: Object.assign({}, p, { at: 'WriteItemTag' }) });
-    case 'WriteItemTag': return store('WriteItem', item(p.scan, 'tag'), p.tag, { place: Object.assign({}, p, { at: 'WriteItemBody', i: 0 }) });
-    case 'WriteItemBody': return store('WriteItem', item(p.scan, 'body', p.i), p.body[p.i],
-      { place: Object.assign({}, p, p.i < further(p.tag) ? { i: p.i + 1 } : { at: 'ReadLast' }) });
-    case 'ReadLast': return load('ReadObject', object('last'), last => ({ place: Object.assign({}, p, { at: 'LinkItem', last: Number(last) - 1 }) }));
-    case 'LinkItem': return store('LinkLast', item(p.last, 'next'), p.scan + 1, { place: Object.assign({}, p, { at: 'WriteLast' }), decides: { t: 'accepted', n: p.place } });
-    case 'WriteLast': return store('WriteObject', object('last'), p.scan + 1, { place: Object.assign({}, p, { at: 'WriteCount' }) });
-    case 'WriteCount': return store('WriteObject', object('count'), p.place + 1n, { place: Object.assign({}, p, { at: 'WriteCursor' }) });
-    case 'WriteCursor': return store('WriteObject', object('cursor'), after(p.scan), tells(job, { t: 'accepted', n: p.place }));
-    // a take
-    case 'ReadHead': return load('ReadObject', object('head', x), head => go('ReadTaken', { job, dummy: Number(head) - 1 }));
-    case 'ReadTaken': return load('ReadObject', object('taken', x), taken => go('ReadDummyNext', { job, dummy: p.dummy, taken }));
-    case 'ReadDummyNext': return load('ReadDummyNext', item(p.dummy, 'next'), next => next === 0n ? decides(job, { t: 'empty' })
-      : go('ReadItemTag', { job, dummy: p.dummy, taken: p.taken, scan: Number(next) - 1 }));
-    case 'ReadItemTag': return load('ReadItem', item(p.scan, 'tag'), tag => tag === 0n ? decides(job, { t: 'ended', n: p.taken })
-      : go('ReadItemBody', { job, dummy: p.dummy, scan: p.scan, answer: { t: 'got', place: p.taken, tag, body: [] }, i: 0 }));
-    case 'ReadItemBody': return load('ReadItem', item(p.scan, 'body', p.i), found => {
-      const answer = Object.assign({}, p.answer, { body: p.answer.body.concat([found]) });
-      return { place: Object.assign({}, p, { answer }, p.i < further(answer.tag) ? { i: p.i + 1 } : { at: 'WriteHead' }) };
-    });
-    case 'WriteHead': return store('WriteObject', object('head', x), p.scan + 1, { place: Object.assign({}, p, { at: 'WriteTaken' }) });
-    case 'WriteTaken': return store('WriteObject', object('taken', x), p.answer.place + 1n, { place: Object.assign({}, p, { at: 'AddPassed' }) });
-    case 'AddPassed': return { kind: 'AddPassed', w: item(p.dummy, 'passed'), does: 'adds', v: 1n, to: () => decides(job, p.answer) };
-  }
-  return null;
-}
-
 // One event of a pass: what it changes, in a form that can be undone.
 function happen(row) {
   const x = chainOf(row);
   const before = stands[row];
   let stand = before;
-  if (stand.place.at === 'Idle') {
+  if (stand.place.is === 'Idle') {
     const call = nextCall(row, stand.made);
     if (!call) return null;
     const sends = stand.sends + (call.send ? 1 : 0);
-    const made = Object.assign({}, call, { row, tag: call.send ? pack(row + 1, sends, call.send) : 0n });
-    made.words = call.send || [0n];
-    stand = { made: stand.made + 1, sends, node: stand.node, call: made, place: { at: 'ResetNext', call: made } };
+    const made = Object.assign({ row, number: BigInt(sends), known: 0n }, call, x < 0
+      ? { pass: { is: 'Sender', 0: BigInt(row + 1) }, call: call.send ? { is: 'Send', 0: Body_body_of(call.send) } : { is: 'Close' } }
+      : { pass: { is: 'Receiver', 0: BigInt(row - senders + 1) }, call: { is: 'Take' } });
+    stand = { made: stand.made + 1, sends, node: stand.node, call: made, place: { is: 'ResetNext', call: made } };
   }
-  const step = stepAt(x, stand.node, stand.place);
-  const found = read(step.w);
-  const value = step.does === 'reads' ? found : step.does === 'adds' ? found + step.v : step.v;
-  const goes = step.to(found);
+  const stepAt = found => Lines_line(setting, chainAt(x), BigInt(stand.node), stand.place, found);
+  const does = stepAt(0n).does;
+  const w = wordAt(does[0]);
+  const found = read(w);
+  const step = stepAt(found);
+  const kind = step.event[0].is;
+  const value = does.is === 'Load' ? found : does.is === 'Add' ? found + does[1] : does[1];
   const at = stand.place;
-  const ends = goes.place.at === 'Finished';
-  const after = { made: stand.made, sends: stand.sends, node: goes.node === undefined ? stand.node : goes.node,
-    call: ends ? null : stand.call, place: ends ? { at: 'Idle' } : goes.place };
+  const ends = step.goes.is === 'Finished';
+  const after = { made: stand.made, sends: stand.sends, node: Number(step.node), call: ends ? null : stand.call, place: ends ? { is: 'Idle' } : step.goes };
   const serves = at.job ? side(x).calls[side(x).marked] : null;
   let turn;
-  if (step.kind === 'ReadState' && found === 0n) turn = { row, served: [], runs: true };
-  if (step.kind === 'MarkDone') turn = { row, served: turnOf(x).served.concat([serves]), runs: true };
-  if (step.kind === 'HandOver') turn = { row, served: turnOf(x).served, runs: false };
-  return { row, x, serves, kind: step.kind, w: step.w, does: step.does, found, value, before, after, at, own: stand.node, call: stand.call,
-    begins: stand !== before, enters: step.enters, decides: goes.decides, marks: step.kind === 'MarkDone',
-    answer: ends ? goes.place.answer : null, turn, turn_before: turnOf(x) };
+  if (kind === 'ReadState' && found === 0n) turn = { row, served: [], runs: true };
+  if (kind === 'MarkDone') turn = { row, served: turnOf(x).served.concat([serves]), runs: true };
+  if (kind === 'HandOver') turn = { row, served: turnOf(x).served, runs: false };
+  return { row, x, serves, kind, w, does: DOES[does.is], found, value, before, after, call: stand.call, begins: stand !== before,
+    enters: step.enters[0], decides: step.decides[0], marks: kind === 'MarkDone', answer: ends ? step.goes.answer : null, turn, turn_before: turnOf(x) };
 }
 
 function redo(e) {
@@ -456,8 +608,8 @@ function valueText(w, v) {
   if (w.field === 'state') return v + ' (' + ['serve', 'wait', 'done'][Number(v)] + ')';
   if (w.field === 'shut') return v === 0n ? '0 (open)' : '1 (shut)';
   if (w.field === 'passed') return v + ' of ' + plural(groups, 'group');
-  if (w.field === 'tag') return v === 0n ? '0 (close, or none)' : 's' + tagSender(v) + ' send ' + tagNumber(v) + ', ' + plural(further(v) + 1, 'word');
-  if (w.field === 'ret') return v === 0n ? 'none' : w.x < 0 ? answerText(senderReads(v)) : ['none', 'got ' + v % (1n << 56n), 'empty', 'ended ' + v % (1n << 56n)][Number(v >> 56n)];
+  if (w.field === 'tag') return v === 0n ? '0 (close, or none)' : 's' + Codes_tag_sender(v) + ' send ' + Codes_tag_number(v) + ', ' + plural(further(v) + 1, 'word');
+  if (w.field === 'ret') return v === 0n ? 'none' : w.x < 0 ? answerText(Codes_list_reads(v)) : ['none', 'got ' + Codes_value_of(v), 'empty', 'ended ' + Codes_value_of(v)][Number(Codes_code_of(v))];
   return String(v);
 }
 
@@ -475,12 +627,12 @@ function statusOf(row) {
   const x = chainOf(row);
   if (!st.call) return { role: 'rest', text: nextCall(row, st.made) ? 'idle' : 'idle, no call left' };
   const what = callText(st.call);
-  if (HEAD_PLACES.has(st.place.at)) return { role: 'enter', text: 'enters: ' + what };
-  if (st.place.at === 'ReadState') {
+  if (HEAD_PLACES.has(st.place.is)) return { role: 'enter', text: 'enters: ' + what };
+  if (st.place.is === 'ReadState') {
     const s = read(node(x, st.node, 'state'));
     return s === 1n ? { role: 'wait', text: 'waits: ' + what } : s === 0n ? { role: 'serve', text: 'is to serve: ' + what } : { role: 'answer', text: 'is answered: ' + what };
   }
-  if (st.place.at.startsWith('ReadAnswer')) return { role: 'answer', text: 'reads its answer: ' + what };
+  if (st.place.is.startsWith('ReadAnswer')) return { role: 'answer', text: 'reads its answer: ' + what };
   const turn = turnOf(x);
   return { role: 'serve', text: 'combines, ' + (turn ? turn.served.length : 0) + ' of ' + bound + ' served' };
 }
@@ -565,7 +717,7 @@ function drawChain(x) {
   for (let row = 0; row < rows; row++) {
     if (chainOf(row) !== x) continue;
     const st = stands[row];
-    if (st.call && !['ResetNext', 'ResetState', 'Exchange'].includes(st.place.at)) holders.set(st.node, row);
+    if (st.call && !['ResetNext', 'ResetState', 'Exchange'].includes(st.place.is)) holders.set(st.node, row);
     else spare.push([row, st]);
   }
   const last = Number(read(tail(x))) - 1;
@@ -603,7 +755,8 @@ function drawChain(x) {
 // the node that a combiner stands at
 function combinerAt(row) {
   const p = stands[row].place;
-  return p.round ? p.round.at : p.job ? p.job.at : p.node === undefined ? -1 : p.node;
+  const at = p.round ? p.round.at : p.job ? p.job.round.at : p.at;
+  return at === undefined ? -1 : Number(at);
 }
 
 function drawChains() {
@@ -623,9 +776,9 @@ function drawList() {
   for (const e of ends) if (read(item(e.head, 'next')) !== 0n) linked.add(Number(read(item(e.head, 'next'))) - 1);
   for (const e of ends) if (read(object('taken', e.g)) === least && !linked.has(e.head)) { first = e.head; break; }
   const last = Number(read(object('last'))) - 1, cursor = Number(read(object('cursor')));
-  const serving = turnOf(-1) && turnOf(-1).runs ? stands[turnOf(-1).row].place : null;
-  const prepared = serving && ['ResetItemNext', 'WriteItemTag', 'WriteItemBody', 'ReadLast', 'LinkItem'].includes(serving.at) ? serving.scan : -1;
-  const scanned = serving && serving.at === 'ReadPassed' ? serving.scan : -1;
+  const serving = turnOf(-1) && turnOf(-1).runs ? stands[turnOf(-1).row].place.service : null;
+  const prepared = serving && ['ResetItemNext', 'WriteItemTag', 'WriteItemBody', 'ReadLast', 'LinkItem'].includes(serving.is) ? Number(serving.node) : -1;
+  const scanned = serving && serving.is === 'ReadPassed' ? Number(serving.node) : -1;
   const in_list = new Set();
   const chain = [];
   for (let i = first; i >= 0 && !in_list.has(i); ) {
@@ -648,7 +801,7 @@ function drawList() {
     if (tag !== 0n) for (let n = 0; n <= further(tag); n++) words.push(read(item(i, 'body', n)));
     const all_took = k >= 0 && furthest.every(f => f >= k);
     const role = i === prepared ? 'prepare' : k < 0 || free ? 'free' : all_took ? 'dummy' : 'wait';
-    const what = i === capacity + 1 ? 'the closing mark' : i === prepared ? 'is prepared' : k < 0 || free ? 'free' : all_took ? 'dummy: taken by all' : 's' + tagSender(tag) + ' send ' + tagNumber(tag) + ': ' + words.join(' ');
+    const what = i === capacity + 1 ? 'the closing mark' : i === prepared ? 'is prepared' : k < 0 || free ? 'free' : all_took ? 'dummy: taken by all' : 's' + Codes_tag_sender(tag) + ' send ' + Codes_tag_number(tag) + ': ' + words.join(' ');
     return '<span class=\"box ' + role + (touches('item', 0, i) ? ' touch' : '') + '\"><b>node ' + i + '</b> ' + badges + '<span class=\"tagline\">' + what + '</span>'
       + (i === capacity + 1 ? '' : '<span class=\"tagline dim\">passed ' + read(item(i, 'passed')) + ' of ' + groups + '</span>') + '</span>';
   };

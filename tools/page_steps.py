@@ -1,0 +1,338 @@
+#!/usr/bin/env python3
+"""The machine in the page of ccq_show, as JavaScript, written from the definitions in crates/cc_runs/specs: the table of
+steps (`line` of Lines, which names SendLines, TakeLines and CountLines), and all definitions that it names.
+
+    tools/page_steps.py            compares the page with the definitions; exit status 0 if it has their machine
+    tools/page_steps.py --write    writes the machine into the page
+
+A number is a BigInt, a list an array, a record an object, and a value of an enum an object with its variant's name in `is`
+and what the variant holds by the names of its fields, or by 0, 1 and so on.
+"""
+import difflib
+import re
+import sys
+
+sys.dont_write_bytecode = True
+from sources import TOP, Unreadable, read_files
+from statements import Reach
+
+PAGE = TOP / "crates/cc_show/page/page.html"
+BEGIN, END = "// <steps>\n", "// </steps>\n"
+HEAD = """\
+// The machine, by tools/page_steps.py: the table of steps of crates/cc_runs/specs, and the definitions that it names.
+const minus = (a, b) => a > b ? a - b : 0n;
+"""
+# What the page calls, each by its crate, its file and its name.
+WANTED = [
+    ("cc_runs", "Lines", "line"),
+    ("cc_runs", "Codes", "list_reads"),
+    ("cc_runs", "Codes", "further_words"),
+    ("cc_runs", "Codes", "tag_sender"),
+    ("cc_runs", "Codes", "tag_number"),
+    ("cc_model", "Body", "body_of"),
+    ("cc_model", "Body", "words_of"),
+]
+# Functions of the library of the definitions, in JavaScript.
+LIBRARY = {
+    "suc": "({} + 1n)",
+    "nat_lt": "({} < {})",
+    "length": "BigInt({}.length)",
+    "slice_index_or": "({}[{}] ?? {})",
+}
+# Operators in JavaScript, the looser ones first; ∷ binds tighter than all of them.
+OPERATORS = [
+    {"==": "({} === {})"},
+    {"+": "({} + {})", "-": "minus({}, {})"},
+    {"*": "({} * {})", "/": "({} / {})", "%": "({} % {})"},
+    {"^": "({} ** {})"},
+]
+STOPS = {sign for level in OPERATORS for sign in level} | {"∷", ")", "}", ";", "=", "then", "else", None}
+
+
+class Names:
+    """What a name means in a file of specs/: a definition, or a constructor with the names of what it holds."""
+
+    def __init__(self):
+        self.reach = Reach(read_files())
+
+    def meaning(self, crate, module, words):
+        file = self.reach.crates[crate].specs[module]
+        mine = file.known.get(words[0])
+        if mine:
+            return self.defined(crate, module, mine, words[0])
+        path = dict(file.imports + file.passed_on).get(words[0])
+        if not path:
+            return None, words[0]
+        target = self.reach.target((crate, "specs", module), path)
+        if target[0] == "module":
+            return self.meaning(target[1].name, target[2], words[1:])
+        if target[0] == "definition":
+            return self.defined(target[1].name, target[2], target[3], words[0])
+        if target[0] == "type":
+            return "constructor", words[-1], self.fields(target[1], target[2], words[-1])
+        option = {"Some": ("0",), "None": ()}.get(words[0])
+        if option is None:
+            return "library" if words[0] in LIBRARY else None, words[0]
+        return "constructor", words[0], option
+
+    def defined(self, crate, module, name, alias):
+        if name == alias:
+            return "definition", crate, module, name
+        lines = self.reach.crates[crate].specs[module].definitions[name].lines
+        shape = next(line for line in lines if line.split()[0] == alias)
+        return "constructor", alias, tuple(str(at) for at in range(shape.count("→")))
+
+    def fields(self, crate, enum, variant):
+        _, item = crate.types[enum][0]
+        for part in item.parts:
+            found = re.fullmatch(r"(\w+)(?: {(.*)}|\((.*)\))?", part)
+            if found and found[1] == variant:
+                named = tuple(field.split(":")[0].strip() for field in (found[2] or "").split(",") if field.strip())
+                return named or tuple(str(at) for at in range(len(found[3].split(",")) if found[3] else 0))
+        raise Unreadable(f"{enum} has no variant {variant}")
+
+
+class Text:
+    """The reader of one line of a definition, which gives the JavaScript of its expressions."""
+
+    def __init__(self, line, names, place, known):
+        self.tokens = re.findall(r"[(){};,]|[^\s(){};,]+", line)
+        self.names, self.place, self.known = names, place, known
+        self.named = []
+
+    def peek(self):
+        return self.tokens[0] if self.tokens else None
+
+    def take(self, wanted=None):
+        if wanted and self.peek() != wanted:
+            raise Unreadable(f"{'/'.join(self.place)}: {self.peek()} stands for {wanted}")
+        return self.tokens.pop(0)
+
+    def expression(self):
+        if self.peek() == "if":
+            self.take()
+            test = self.expression()
+            self.take("then")
+            yes = self.expression()
+            self.take("else")
+            return f"({test} ? {yes} : {self.expression()})"
+        return self.operation(0)
+
+    def operation(self, level):
+        if level == len(OPERATORS):
+            return self.listed()
+        left = self.operation(level + 1)
+        while self.peek() in OPERATORS[level]:
+            form = OPERATORS[level][self.take()]
+            left = form.format(left, self.operation(level + 1))
+        return left
+
+    def listed(self):
+        """An application, or a list of several behind each other."""
+        first = self.application()
+        if self.peek() != "∷":
+            return first
+        self.take()
+        rest = self.listed()
+        if rest.startswith("["):
+            return f"[{first}{', ' if rest != '[]' else ''}{rest[1:]}"
+        return f"[{first}, ...{rest}]"
+
+    def application(self):
+        head = self.take() if self.peek() not in ("(", "record") else None
+        if head is None:
+            return self.atom()
+        arguments = []
+        while self.peek() not in STOPS:
+            arguments.append(self.atom())
+        return self.call(head, arguments)
+
+    def call(self, head, arguments):
+        """A name with its arguments."""
+        first, *rest = head.split(".")
+        if head == "[]" or re.fullmatch(r"\d+", head):
+            return head if head == "[]" else head + "n"
+        if first in self.known:
+            value = ".".join([self.known[first]] + rest)
+            return f"{value}({', '.join(arguments)})" if arguments else value
+        kind, *what = self.names.meaning(*self.place[:2], [first] + rest)
+        if kind == "library":
+            return LIBRARY[first].format(*arguments)
+        if kind == "constructor":
+            held = "".join(", " + member(field, value) for field, value in zip(what[1], arguments))
+            return f"{{ is: '{what[0]}'{held} }}"
+        if kind != "definition":
+            raise Unreadable(f"{'/'.join(self.place)}: {head} is no name that can be written in JavaScript")
+        self.named.append(tuple(what))
+        definition = self.names.reach.crates[what[0]].specs[what[1]].definitions[what[2]]
+        given = given_by(definition) if tuple(what[:2]) == self.place[:2] else []
+        name = f"{what[1]}_{what[2]}"
+        return name if not arguments and arity(definition) else f"{name}({', '.join(given + arguments)})"
+
+    def atom(self):
+        token = self.take()
+        if token == "(":
+            value = self.expression()
+            self.take(")")
+        elif token == "record":
+            value = self.record()
+        else:
+            value = self.call(token, [])
+        while (self.peek() or "").startswith("."):
+            value += self.take()
+        return value
+
+    def record(self):
+        parts = [] if self.peek() == "{" else ["..." + self.atom()]
+        self.take("{")
+        while self.peek() != "}":
+            field = self.take()
+            self.take("=")
+            parts.append(member(field, self.expression()))
+            if self.peek() == ";":
+                self.take()
+        self.take("}")
+        return f"{{ {', '.join(parts)} }}"
+
+    def patterns(self):
+        """The patterns up to the equals sign, or to the bracket that closes: each as a name and the patterns in it."""
+        found = []
+        while self.peek() not in ("=", ")"):
+            if self.peek() == "(":
+                self.take()
+                inside = self.patterns()
+                self.take(")")
+                found.append(applied(inside))
+            elif self.peek() == "∷":
+                self.take()
+                found = [("∷", [applied(found), applied(self.patterns())])]
+            else:
+                found.append((self.take(), []))
+        return found
+
+    def match(self, pattern, path, less=0):
+        """The tests of a pattern at a value, and keeps the names that it gives to parts of it."""
+        name, inside = pattern
+        if name == "zero":
+            return [f"{path} === {less}n"]
+        if name == "suc":
+            return self.match(inside[0], path, less + 1)
+        if name in ("[]", "∷"):
+            if name == "[]":
+                return [f"{path}.length === 0"]
+            parts = self.match(inside[0], f"{path}[0]") + self.match(inside[1], f"{path}.slice(1)")
+            return [f"{path}.length > 0"] + parts
+        kind, *what = self.names.meaning(*self.place[:2], name.split("."))
+        if kind == "constructor":
+            tests = [f"{path}.is === '{what[0]}'"]
+            for field, part in zip(what[1], inside):
+                tests += self.match(part, f"{path}[{field}]" if field.isdigit() else f"{path}.{field}")
+            return tests
+        if name != "_":
+            self.known[name] = f"({path} - {less}n)" if less else path
+        return [f"{path} >= {less}n"] if less else []
+
+
+def member(field, value):
+    return field if field == value else f"{field}: {value}"
+
+
+def applied(patterns):
+    """The pattern that these are side by side: the first one's name, with the others in it."""
+    return patterns[0] if len(patterns) == 1 else (patterns[0][0], patterns[1:])
+
+
+def given_by(definition):
+    """The names of the parameters of the module that a definition stands in."""
+    return [name for group in re.findall(r"\(([^:()]+) :", definition.given) for name in group.split()]
+
+
+def equations(definition):
+    return [line for line in definition.lines if line.split()[0] == definition.name and " = " in line]
+
+
+def arity(definition):
+    head = Text(equations(definition)[0], None, (), {})
+    head.take()
+    return len(head.patterns())
+
+
+def parameters(lines):
+    """Names for the parameters: that which all lines give one that name it, or a number."""
+    columns = []
+    for line in lines:
+        head = Text(line, None, (), {})
+        head.take()
+        columns.append(head.patterns())
+    names = []
+    for at, column in enumerate(zip(*columns)):
+        given = {name for name, inside in column if not inside and re.fullmatch(r"[a-z]\w*", name) and name != "zero"}
+        plain = given.pop() if len(given) == 1 else ""
+        names.append(plain if plain and plain not in names else f"v{at}")
+    return names
+
+
+def function(names, place):
+    """A definition as a function of JavaScript, and the definitions that it names."""
+    definition = names.reach.crates[place[0]].specs[place[1]].definitions[place[2]]
+    given, lines = given_by(definition), equations(definition)
+    if not lines:
+        raise Unreadable(f"{'/'.join(place)} has no equations")
+    own = parameters(lines)
+    head = f"const {place[1]}_{place[2]} = ({', '.join(given + own)}) =>"
+    cases, named = [], []
+    for line in lines:
+        text = Text(line, names, place, {name: name for name in given})
+        text.take()
+        tests = [test for pattern, path in zip(text.patterns(), own) for test in text.match(pattern, path)]
+        text.take("=")
+        value = text.expression()
+        if text.tokens:
+            raise Unreadable(f"{'/'.join(place)}: {' '.join(text.tokens)} isn't understood")
+        value = re.sub(r"^\((.*\?.*)\)$", r"\1", value)
+        cases.append((tests, value))
+        named += text.named
+    if cases[0][0]:
+        returns = [(f"if ({' && '.join(tests)}) " if tests else "") + f"return {value};" for tests, value in cases]
+        return head + " {\n  " + "\n  ".join(returns) + "\n};\n", named
+    value = cases[0][1]
+    return head + (f" ({value});\n" if value.startswith("{") else f" {value};\n"), named
+
+
+def machine():
+    names, functions, left = Names(), {}, list(WANTED)
+    while left:
+        place = left.pop()
+        if place not in functions:
+            functions[place], named = function(names, place)
+            left += named
+    return BEGIN + HEAD + "".join(text for _, text in sorted(functions.items())) + END
+
+
+def main(words):
+    if words not in ([], ["--write"]):
+        print("usage: tools/page_steps.py [--write]", file=sys.stderr)
+        return 64
+    page = PAGE.read_text()
+    if page.count(BEGIN) != 1 or page.count(END) != 1:
+        print(f"page_steps: {PAGE.relative_to(TOP)} has not the two marks between which the machine stands", file=sys.stderr)
+        return 1
+    front, rest = page.split(BEGIN)
+    inside, behind = rest.split(END)
+    try:
+        wanted = machine()
+    except Unreadable as why:
+        print(f"page_steps: {why}", file=sys.stderr)
+        return 1
+    if words:
+        PAGE.write_text(front + wanted + behind)
+    elif BEGIN + inside + END != wanted:
+        lines = (BEGIN + inside + END).splitlines(), wanted.splitlines()
+        print("\n".join(difflib.unified_diff(*lines, "the page", "the definitions", lineterm="", n=1)))
+        print("page_steps: the page has another machine than the definitions (tools/page_steps.py --write)")
+        return 1
+    return 0
+
+
+if __name__ == "__main__":
+    sys.exit(main(sys.argv[1:]))
