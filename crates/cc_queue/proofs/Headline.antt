@@ -67,6 +67,7 @@ pub begun_so : (u v w : Walk) (call : Call) (node : ℕ) → v ≡ u → v.setti
 begun_so u v w call node is list s e pending = subst (λ (x : Walk). Begun x call w) is (record {
   stands = stands_on v w (entry_of v call ∷ []) (begun_after call v.stand.begun) node Place.ReadState e.stand refl s list e.same e.later e.made;
   pending = pending;
+  linked = ap (λ (x : Stand). x.place) e.stand;
   begun = ap (λ (x : Stand). x.begun) e.stand;
   reads = e.reads;
   marks = e.marks;

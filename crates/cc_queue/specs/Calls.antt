@@ -1,6 +1,6 @@
 -- What the begin of a call and each of its turns tell.
 use Rattle.std.specs.Prelude.{◌≡◌, ℕ, ◌+◌, ◌*◌, ◌≤◌, ◌==◌, if◌then◌else◌, List, [], ◌∷◌, ◌++◌}
-use Rattle.cc_queue.specs.Names.{Body, Call, Entry, SendAnswer, TakeAnswer, Answer, Kind}
+use Rattle.cc_queue.specs.Names.{Body, Call, Entry, SendAnswer, TakeAnswer, Answer, Kind, Place}
 use Rattle.cc_runs.specs.ChainLaws.{IsLastAnswer}
 use Rattle.cc_runs.specs.ChainLaws.{IsLastPending}
 use Rattle.cc_runs.specs.Run.{begun_after}
@@ -11,10 +11,12 @@ use Rattle.cc_queue.specs.declared.passes.TakeTurn.{TakeTurn}
 use Rattle.cc_queue.specs.Work.{tally, reads, marks, hands, scans}
 use Rattle.cc_queue.specs.Headline.{StandsInOne, entry_of, name, history}
 
--- A begun call stands in one history as its pass's last call, and is pending there. No state was read and nobody served.
+-- A begun call stands in one history as its pass's last call, and is pending there. It is linked into its chain, so that the
+-- combiner can come to it: the next step of its pass reads the state of its node. No state was read and nobody served.
 pub record Begun (v : Walk) (call : Call) (w : Walk) : Type 0 where
   pub stands : StandsInOne v (entry_of v call ∷ []) w
   pub pending : IsLastPending (name w) (history w)
+  pub linked : w.stand.place ≡ Place.ReadState
   pub begun : w.stand.begun ≡ begun_after call v.stand.begun
   pub reads : tally reads w.did ≡ tally reads v.did
   pub marks : tally marks w.did ≡ tally marks v.did
