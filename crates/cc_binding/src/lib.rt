@@ -22,6 +22,7 @@ ghost use Rattle.cc_handles.specs.Calls.{single, fitting, IfRoom, BeginsSend, Tu
 mod version;
 
 use cc_handles::codes::{DONE, NO_MEMORY, NO_PASS};
+use cc_handles::drops::give_up;
 use cc_handles::handle::Handle;
 use cc_handles::items::{TakenItem, TakenWords};
 use cc_handles::opening::{Settings, check, open};
@@ -389,8 +390,6 @@ pub extern "C" fn vahepito_group(alloc: Global, receiver: &mut Handle, group: &m
 pub extern "C" fn vahepito_drop(alloc: Global, pass: &mut Handle) -> u32
     ensures { IsDropped pass.old pass.new result }
 {
-    match pass.take(alloc) {
-        Some(_kept) => DONE,
-        None => NO_PASS,
-    }
+    let (code, _given_up) = give_up(alloc, pass);
+    code
 }

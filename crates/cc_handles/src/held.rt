@@ -1,9 +1,9 @@
 //! What stands behind a handle.
 ghost use Rattle.std.specs.Prelude.{◌≡◌, Some, None};
 ghost use Rattle.cc_steps.specs.Walk.{IsOf};
-ghost use Rattle.cc_handles.specs.Passes.{walk_of, holding};
+ghost use Rattle.cc_handles.specs.Passes.{walk_of, left_of, holding};
 
-use cc_queue::{PendingClose, PendingSend, PendingTake, Queue, Receiver, Sender};
+use cc_queue::{GivenUp, PendingClose, PendingSend, PendingTake, Queue, Receiver, Sender};
 use std::marker::Model;
 
 /// A pass, by what it is and whether it has a call.
@@ -55,15 +55,25 @@ impl Held {
             behind: [0; 8],
         }
     }
+
+    /// Gives the pass up, with its call if it had begun one, and tells what it was then.
+    pub(crate) fn give_up(&mut self) -> Option<GivenUp>
+        ensures { result ≡ left_of self.old.pass }
+    {
+        let pass = self.pass.take()?;
+        Some(give_up(pass))
+    }
 }
 
-/// Lets a pass go. A call that it had begun is given up.
-pub fn let_go(pass: Pass) {
+/// Gives a pass up, with its call if it had begun one. It did nothing more.
+pub fn give_up(pass: Pass) -> GivenUp
+    ensures { result ≡ walk_of pass }
+{
     match pass {
-        Pass::Sender(_sender) => {}
+        Pass::Sender(sender) => sender.abandon(),
         Pass::Sending(pending) => pending.abandon(),
         Pass::Closing(pending) => pending.abandon(),
-        Pass::Receiver(_receiver) => {}
+        Pass::Receiver(receiver) => receiver.abandon(),
         Pass::Taking(pending) => pending.abandon(),
     }
 }
@@ -78,7 +88,7 @@ impl Drop for Held {
             behind: _,
         } = self;
         if let Some(pass) = pass {
-            let_go(pass);
+            give_up(pass);
         }
     }
 }

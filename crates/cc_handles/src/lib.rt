@@ -7,6 +7,7 @@
 mod boxed;
 mod closes;
 pub mod codes;
+pub mod drops;
 pub mod handle;
 pub mod held;
 pub mod items;

@@ -15,7 +15,7 @@ use crate::codes::{
     BAD_SENDERS, BAD_WORDS,
 };
 use crate::handle::Handle;
-use crate::held::{Held, Pass, let_go};
+use crate::held::{Held, Pass, give_up};
 use cc_model::{CheckedConfig, Config, ConfigFault};
 use cc_queue::{Opened, Queue, Receiver, Sender};
 use std::alloc::{AllocError, Global};
@@ -123,7 +123,7 @@ fn held(alloc: Global, queue: &Queue, words: u32, pass: Pass) -> Result<Box<Held
     match queue.share() {
         Ok(queue) => Ok(Box::new(alloc, Held::new(queue, words, pass))?),
         Err(refused) => {
-            let_go(pass);
+            give_up(pass);
             Err(refused)
         }
     }

@@ -20,7 +20,7 @@ use Rattle.cc_queue.specs.Headline.{StandsInOne, IsAtRest, entry_of, name, histo
 use Rattle.cc_queue.specs.Work.{IsOn, Works, Waits, Enters, turned, worked_to, tally, scans}
 use Rattle.cc_queue.specs.Calls.{Begun, Waited, Answered, Ended, Completed, IsSettled}
 use Rattle.cc_queue.specs.Codes.{IsSendAnswer, IsCloseAnswer}
-use Rattle.cc_queue.specs.Passes.{MadeLast, IsSend, IsClose}
+use Rattle.cc_queue.specs.Passes.{MadeLast, IsSend, IsClose, IsStill, HasStopped}
 use Rattle.cc_queue.proofs.AnswerKinds.{send_answered, close_answered}
 
 pub goes_self : (seen : List Move) → GoesOn seen seen
@@ -138,6 +138,16 @@ completed_so a b c call told f g = record { stands = stands_more a b c (entry_of
 -- a pass with a pending call stands in the history that it has seen
 pub pending_stands : (u v : Walk) (begun node : ℕ) → v ≡ u → v.setting.served ≡ Served.List → v.stand ≡ record { begun = begun; node = node; place = Place.ReadState } → IsSound v → StandsInOne u [] u
 pending_stands u v begun node is list stand s = subst (λ (x : Walk). StandsInOne x [] x) is (stands_on v v [] begun node Place.ReadState stand refl s list (refl, refl, refl) (λ first k. k) (sym (append-nil v.made)))
+
+-- what a pass that is still has to exchange: nothing
+pub still_out : (at : Place) → IsStill at → to_exchange at ≡ []
+still_out Place.Idle is = refl
+still_out Place.ReadState is = refl
+still_out at is = absurd is
+
+-- a pass that was given up, which a caller knows as u, stands in the history that it has seen
+pub stopped_stands : (u v : Walk) → v ≡ u → HasStopped v → IsSound v → StandsInOne u [] u
+stopped_stands u v is stop s = subst (λ (x : Walk). StandsInOne x [] x) is (stands_in_one v v [] s stop.list (still_out v.stand.place stop.still) (refl, refl, refl) (λ first k. k) (sym (append-nil v.made)))
 
 -- the calls of a pass that is out of its chain have their answers
 answers_in : (w : Walk) → IsSound w → IsOut w.stand.place → AllByRecursion HasAnswer (calls_of (name w) (history w))

@@ -4,7 +4,7 @@ use Rattle.std.specs.Prelude.{◌≡◌, ◌<◌, ◌≤◌, List, [], ◌∷◌
 use Rattle.cc_model.specs.Config.{config_fault}
 use Rattle.cc_queue.specs.Names.{Config, Call, Entry, Pass, Served, Chain, Place, SenderSeat, ReceiverSeat}
 use Rattle.cc_steps.specs.Topic.{Topic}
-use Rattle.cc_steps.specs.Walk.{IsOf}
+use Rattle.cc_steps.specs.Walk.{Walk, IsOf}
 use Rattle.cc_queue.specs.Work.{IsOn}
 use Rattle.cc_queue.specs.Headline.{name}
 
@@ -34,6 +34,17 @@ pub record KeepsReceiver (r : ReceiverSeat) (at : Place) : Type 0 where
   pub few : r.group < 8
   pub stand : r.seat.stand ≡ record { begun = 0; node = r.node; place = at }
   pub named : name r.seat ≡ Pass.Receiver r.number
+
+-- a pass can be given up where it has no call, and where its call waits
+abbrev pub IsStill : Place → Type 0
+IsStill Place.Idle = Unit {0}
+IsStill Place.ReadState = Unit {0}
+IsStill _ = ⊥
+
+-- a pass of a list that stands so
+pub record HasStopped (w : Walk) : Type 0 where
+  pub list : w.setting.served ≡ Served.List
+  pub still : IsStill w.stand.place
 
 -- which calls are sends, and which are closes
 abbrev pub IsSend : Call → Type 0

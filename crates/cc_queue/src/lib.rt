@@ -14,6 +14,7 @@ mod blocking;
 mod bodies;
 mod codes;
 mod combine;
+mod given_up;
 mod meets;
 mod passes;
 mod queue;
@@ -28,6 +29,7 @@ mod turns;
 pub use blocking::{close, send, send_until, take, take_until};
 pub use cc_model::{CloseAnswer, Config, ConfigFault, Item, SendAnswer, TakeAnswer};
 pub use cc_runs::OpenFault;
+pub use given_up::GivenUp;
 pub use meets::{meet, meet_all, meet_receivers, meet_senders};
 pub use passes::{
     CloseTurn, PendingClose, PendingSend, PendingTake, Receiver, SendTurn, Sender, TakeTurn,

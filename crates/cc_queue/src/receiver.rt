@@ -56,10 +56,3 @@ impl Receiver {
         self.at.group + 1
     }
 }
-
-impl PendingTake {
-    /// Gives the receiver up with its call, which may stay unanswered, and may stop its chain.
-    pub fn abandon(self) {
-        let PendingTake { at: _ } = self;
-    }
-}

@@ -102,17 +102,3 @@ impl Sender {
         self.at.begun >= self.at.limit
     }
 }
-
-impl PendingSend {
-    /// Gives the sender up with its call, which may stay unanswered, and may stop its chain.
-    pub fn abandon(self) {
-        let PendingSend { at: _ } = self;
-    }
-}
-
-impl PendingClose {
-    /// Gives the sender up with its call, which may stay unanswered, and may stop its chain.
-    pub fn abandon(self) {
-        let PendingClose { at: _ } = self;
-    }
-}
