@@ -68,21 +68,23 @@ hands_over() {
     fi
     grep -E 'data race .* in (send|take)_boxes$' "$room/untold.log" || { cat "$room/untold.log"; return 1; }
 }
-# Makes an archive of another version: in which folder, which version it tells, and how many bytes of an item.
+# Makes an archive of another version: in which folder, which version it tells, and how many bytes of an item and of an item
+# of words.
 stub() {
-    mkdir -p "$room/$1" && cc -c -O1 "-DVERSION=$2" "-DITEM_SIZE=$3" bindings/c/stub.c -o "$room/$1/stub.o" &&
+    mkdir -p "$room/$1" && cc -c -O1 "-DVERSION=$2" "-DITEM_SIZE=$3" "-DWORDS_ITEM_SIZE=$4" bindings/c/stub.c -o "$room/$1/stub.o" &&
         ar rcs "$room/$1/libcc_binding.a" "$room/$1/stub.o"
 }
-# An archive of an older version, of a newer one, and of the same with larger items is told.
+# An archive of an older version, of a newer one, and of the same with larger items, or with larger items of words, is told.
 other_libraries() {
     local name
-    stub older 999 24 && stub newer 2003004 24 && stub larger "$version" 32 || return
-    for name in older newer larger; do
+    stub older 999 24 56 && stub newer 2003004 24 56 && stub larger "$version" 32 56 && stub wider "$version" 24 64 || return
+    for name in older newer larger wider; do
         cc -std=c11 -Wall -Wextra -Werror bindings/c/version.c "$room/$name/libcc_binding.a" -o "$room/$name/version" || return
     done
     prints "refused: library 999, header $version" "$room/older/version" &&
         prints "refused: library 2003004, header $version" "$room/newer/version" &&
-        prints "refused: library $version, header $version" "$room/larger/version"
+        prints "refused: library $version, header $version" "$room/larger/version" &&
+        prints "refused: library $version, header $version" "$room/wider/version"
 }
 version=$(sed -n 's/^#define VAHEPITO_VERSION //p' bindings/c/vahepito.h)
 export version
@@ -199,7 +201,7 @@ if ! cargo --version >/dev/null 2>&1; then
     skip 'the crate in Rust' 'cargo is not on this machine'
 else
     limit=600 step 'Rust: tests' cargo "${options[@]}" test
-    for name in older newer larger; do
+    for name in older newer larger wider; do
         if [ -f "$room/$name/libcc_binding.a" ]; then
             case $name in older) linked=999 ;; newer) linked=2003004 ;; *) linked=$version ;; esac
             step "Rust: an archive of another version is told ($name)" env "VAHEPITO_LINKED=$linked" \

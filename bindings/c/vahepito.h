@@ -65,9 +65,9 @@
 extern "C" {
 #endif
 
-/* The version of this header, 0.2.0: a million times the first of its three numbers, a thousand times the second, and the
+/* The version of this header, 0.3.0: a million times the first of its three numbers, a thousand times the second, and the
  * third. */
-#define VAHEPITO_VERSION 2000
+#define VAHEPITO_VERSION 3000
 
 /* What a queue is opened with. The bytes behind per_sender are not read. */
 typedef struct {
@@ -173,21 +173,23 @@ enum {
     VAHEPITO_WIDE = 30
 };
 
-/* The version of the library, as VAHEPITO_VERSION is that of the header. This call and the next are the same in every
- * version. Any thread may call. */
+/* The version of the library, as VAHEPITO_VERSION is that of the header. This call is the same in every version. Any thread
+ * may call. */
 uint32_t vahepito_version(void);
 
-/* How many bytes a vahepito_config, a vahepito_pass and a vahepito_item have for the library. Any thread may call. */
-void vahepito_sizes(size_t *config, size_t *pass, size_t *item);
+/* How many bytes a vahepito_config, a vahepito_pass, a vahepito_item and a vahepito_words_item have for the library. Only a
+ * library of this header's version may be asked. Any thread may call. */
+void vahepito_sizes(size_t *config, size_t *pass, size_t *item, size_t *words_item);
 
 /* Whether the library that is linked is the one of this header, by its version and by these sizes. A program asks once,
  * before its first opening; where it is told no, it makes no other call but these two above. Any thread may call.
  * DONE, BAD_VERSION. */
 static inline uint32_t vahepito_check_version(void) {
-    size_t config = 0, pass = 0, item = 0;
+    size_t config = 0, pass = 0, item = 0, words_item = 0;
     if (vahepito_version() != VAHEPITO_VERSION) return VAHEPITO_BAD_VERSION;
-    vahepito_sizes(&config, &pass, &item);
-    return config == sizeof(vahepito_config) && pass == sizeof(vahepito_pass) && item == sizeof(vahepito_item)
+    vahepito_sizes(&config, &pass, &item, &words_item);
+    return config == sizeof(vahepito_config) && pass == sizeof(vahepito_pass) && item == sizeof(vahepito_item) &&
+                   words_item == sizeof(vahepito_words_item)
                ? VAHEPITO_DONE
                : VAHEPITO_BAD_VERSION;
 }

@@ -12,6 +12,7 @@ ghost use Rattle.std.specs.Mem.{type_size};
 ghost use Rattle.cc_handles.specs.contracts.opening.Settings as settings_type;
 ghost use Rattle.cc_handles.specs.contracts.handle.Handle as handle_type;
 ghost use Rattle.cc_handles.specs.contracts.items.TakenItem as item_type;
+ghost use Rattle.cc_handles.specs.contracts.items.TakenWords as words_type;
 ghost use Rattle.cc_binding.specs.declared.version.TheConstants.{VERSION};
 ghost use Rattle.cc_handles.specs.declared.codes.TheConstants.{BAD_GROUPS, BAD_WORDS};
 ghost use Rattle.cc_handles.specs.Items.{one_word, all_words};
@@ -42,17 +43,24 @@ pub extern "C" fn vahepito_version() -> u32
     VERSION
 }
 
-/// How many bytes a configuration has, a handle, and an item, as the other calls take them. This call is the same in every
-/// version.
+/// How many bytes each struct has that the other calls take: a configuration, a handle, an item, and an item with all words
+/// of its body. A caller asks only the library of its own version: another version's may have other structs.
 #[unsafe(no_mangle)]
-pub extern "C" fn vahepito_sizes(config: &mut usize, pass: &mut usize, item: &mut usize)
+pub extern "C" fn vahepito_sizes(
+    config: &mut usize,
+    pass: &mut usize,
+    item: &mut usize,
+    words_item: &mut usize,
+)
     ensures config { config.new ≡ type_size settings_type.the_row }
     ensures pass { pass.new ≡ type_size handle_type.the_row }
     ensures item { item.new ≡ type_size item_type.the_row }
+    ensures words_item { words_item.new ≡ type_size words_type.the_row }
 {
     *config = size_of::<Settings>();
     *pass = size_of::<Handle>();
     *item = size_of::<TakenItem>();
+    *words_item = size_of::<TakenWords>();
 }
 
 /// Opens a queue of one group of receivers and of bodies of one word, and fills a handle for each sender and each receiver. It

@@ -76,7 +76,12 @@ const fn number(digits: &str) -> u32 {
 
 unsafe extern "C" {
     safe fn vahepito_version() -> u32;
-    safe fn vahepito_sizes(config: &mut usize, pass: &mut usize, item: &mut usize);
+    safe fn vahepito_sizes(
+        config: &mut usize,
+        pass: &mut usize,
+        item: &mut usize,
+        words_item: &mut usize,
+    );
     fn vahepito_open_words(
         config: &Config,
         groups: u32,
@@ -397,12 +402,14 @@ impl Drop for Handle {
 /// Looks whether the linked library is the one that this crate is for. Of another one no other call
 /// is made.
 pub fn check_library() -> Result<(), OpenError> {
-    let (mut config, mut pass, mut item) = (0, 0, 0);
+    let (mut config, mut pass, mut item, mut words_item) = (0, 0, 0, 0);
     let linked = vahepito_version();
     if linked == VERSION {
-        vahepito_sizes(&mut config, &mut pass, &mut item);
+        vahepito_sizes(&mut config, &mut pass, &mut item, &mut words_item);
     }
-    if (config, pass, item) == (size_of::<Config>(), size_of::<Pass>(), size_of::<Item>()) {
+    let here = (size_of::<Config>(), size_of::<Pass>());
+    let items_here = (size_of::<Item>(), size_of::<WordsItem>());
+    if (config, pass) == here && (item, words_item) == items_here {
         return Ok(());
     }
     Err(OpenError::OtherLibrary {
