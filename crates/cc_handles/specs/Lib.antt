@@ -1,5 +1,6 @@
 pub mod Names
 pub mod Boxed
+pub mod Codes
 pub mod Passes
 pub mod Items
 pub mod Told

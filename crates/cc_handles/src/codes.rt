@@ -1,4 +1,6 @@
 //! What a call tells C, as `bindings/c/vahepito.h` names it.
+ghost use Rattle.std.specs.Prelude.{IsTrue};
+ghost use Rattle.cc_handles.specs.Codes.{all_codes, are_apart};
 
 /// It was done.
 pub const DONE: u32 = 0;
@@ -78,3 +80,8 @@ pub const LONG: u32 = 29;
 
 /// A body of the queue may have more words than the item has room for.
 pub const WIDE: u32 = 30;
+
+/// No two codes have one number.
+pub fn codes_are_apart()
+    ensures { IsTrue (are_apart all_codes) }
+{}
