@@ -7,6 +7,7 @@ pub fn others_leave_a_pass()
 {}
 
 /// Of a front of a run a pass can know no more than of the run: as a history goes on, there is no less to be known of it.
+#[tactic(auto, using(crate::proofs::KnownFronts::fronts_know))]
 pub fn fronts_know_no_more()
     ensures { FrontsKnowNoMore }
 {}
