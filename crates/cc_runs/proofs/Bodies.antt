@@ -1,5 +1,5 @@
 -- A body is that of its tag and its words.
-use Rattle.std.proofs.Common.{◌≡◌, ℕ, zero, suc, ◌+◌, ◌-◌, ◌*◌, ◌/◌, ◌%◌, ◌^◌, ◌<◌, ◌≤◌, List, [], ◌∷◌, length, refl, ap, sym, ◌∙◌, arith}
+use Rattle.std.proofs.Common.{◌≡◌, ℕ, zero, suc, ◌+◌, ◌-◌, ◌*◌, ◌/◌, ◌%◌, ◌^◌, ◌<◌, ◌≤◌, List, [], ◌∷◌, length, refl, ap, ◌∙◌, arith}
 use Rattle.cc_model.specs.Body.{IsBody, further_of, words_of, body_of}
 use Rattle.cc_model.proofs.Bodies.{few_words, of_its_words}
 use Rattle.cc_runs.specs.Names.{Body, BodyWords, Parcel}
@@ -11,12 +11,9 @@ few_behind b whole = omega (arith, (few_words b whole).1)
 
 -- a body of its words
 words_back : (xs : List ℕ) → 1 ≤ length xs → length xs ≤ 4 → body_in (length xs - 1) (slots xs) ≡ body_of xs
-words_back (a ∷ []) some few = refl
-words_back (a ∷ b ∷ []) some few = refl
-words_back (a ∷ b ∷ c ∷ []) some few = refl
-words_back (a ∷ b ∷ c ∷ d ∷ []) some few = refl
 words_back [] some few = absurd (omega (arith, some))
 words_back (_ ∷ _ ∷ _ ∷ _ ∷ _ ∷ more) some few = absurd (omega (arith, few))
+words_back _ some few = refl
 
 body_back : (b : Body) → IsBody b → body_in (further_of b) (words_in b) ≡ b
 body_back b whole = words_back (words_of b) (few_words b whole).0 (few_words b whole).1 ∙ of_its_words b whole
@@ -57,28 +54,16 @@ body_told s number b less whole = ap (λ (n : ℕ). body_in n (words_in b)) (fur
 
 -- it has as many as the tag tells
 further_in : (n : ℕ) (words : BodyWords) → n ≤ 3 → further_of (body_in n words) ≡ n
-further_in zero words few = refl
-further_in (suc zero) words few = refl
-further_in (suc (suc zero)) words few = refl
-further_in (suc (suc (suc zero))) words few = refl
 further_in (suc (suc (suc (suc n)))) words few = absurd (omega (arith, few))
+further_in _ words few = refl
 
 word_in : (n : ℕ) (words : BodyWords) (i : ℕ) → n ≤ 3 → i ≤ n → word (words_in (body_in n words)) i ≡ word words i
-word_in zero words zero few low = refl
-word_in (suc zero) words zero few low = refl
-word_in (suc zero) words (suc zero) few low = refl
-word_in (suc (suc zero)) words zero few low = refl
-word_in (suc (suc zero)) words (suc zero) few low = refl
-word_in (suc (suc zero)) words (suc (suc zero)) few low = refl
-word_in (suc (suc (suc zero))) words zero few low = refl
-word_in (suc (suc (suc zero))) words (suc zero) few low = refl
-word_in (suc (suc (suc zero))) words (suc (suc zero)) few low = refl
-word_in (suc (suc (suc zero))) words (suc (suc (suc zero))) few low = refl
 word_in zero words (suc i) few low = absurd (omega (arith, low))
 word_in (suc zero) words (suc (suc i)) few low = absurd (omega (arith, low))
 word_in (suc (suc zero)) words (suc (suc (suc i))) few low = absurd (omega (arith, low))
 word_in (suc (suc (suc zero))) words (suc (suc (suc (suc i)))) few low = absurd (omega (arith, low))
 word_in (suc (suc (suc (suc n)))) words i few low = absurd (omega (arith, few))
+word_in _ words _ few low = refl
 
 of_three_parts : (tag further : ℕ) → further ≡ tag / 2 ^ 48 % 4 → further * 2 ^ 48 + (tag / 2 ^ 32 % 2 ^ 16 % 2 ^ 16 * 2 ^ 32 + tag % 2 ^ 32) ≡ tag % 2 ^ 50
 of_three_parts tag further is = omega (arith, is)

@@ -87,31 +87,23 @@ none_take job service found = leads None' take_side.in_service job (λ s. refl) 
 -- a step of the pass itself, whose calls are those of which f holds
 pub own_step : (c : Setting) (x : Chain) (own found : ℕ) (f : Entry → Bool) (calls began : List Entry) (at : Place) → began ≡ filter f calls ++ to_exchange at → ((call : Entry) → at ≡ Place.Exchange call → f call ≡ true) →
     began ≡ filter f (appended calls (enters at)) ++ to_exchange (goes c x own at found)
-own_step c x own found f calls began Place.Idle e its = e
-own_step c x own found f calls began (Place.ResetNext call) e its = e
-own_step c x own found f calls began (Place.ResetState call) e its = e
 own_step c x own found f calls began (Place.Exchange call) e its =
     let one : filter f (call ∷ []) ≡ call ∷ [] = ap (λ (b : Bool). cond b (call ∷ []) []) (its call refl) in
     let more : filter f (calls ++ call ∷ []) ≡ filter f calls ++ call ∷ [] = filter-append f calls (call ∷ []) ∙ ap (λ (l : List Entry). filter f calls ++ l) one in
     e ∙ sym more ∙ sym (append-nil (filter f (calls ++ call ∷ []))) ∙ ap (λ (l : List Entry). filter f (calls ++ call ∷ []) ++ l) (sym (none_exchanged x own call))
-own_step c x own found f calls began (Place.WriteTag put request) e its = e
 own_step c x own found f calls began (Place.WriteBody put request i) e its = e ∙ ap (λ (l : List Entry). filter f calls ++ l) (sym (either (nat_lt i (further_words request.tag)) (Place.WriteBody put request (i + 1)) (Place.Link put) refl refl))
-own_step c x own found f calls began (Place.Link put) e its = e
 own_step c x own found f calls began Place.ReadState e its = e ∙ ap (λ (l : List Entry). filter f calls ++ l) (sym (none_state own found))
 own_step c x own found f calls began (Place.ReadNext round) e its = e ∙ ap (λ (l : List Entry). filter f calls ++ l) (sym (none_next c.served x round found))
 own_step c x own found f calls began (Place.Counting job service) e its = e ∙ ap (λ (l : List Entry). filter f calls ++ l) (sym (none_count job service found))
 own_step c x own found f calls began (Place.Sending job service) e its = e ∙ ap (λ (l : List Entry). filter f calls ++ l) (sym (none_send c job service found))
 own_step c x own found f calls began (Place.Taking job service) e its = e ∙ ap (λ (l : List Entry). filter f calls ++ l) (sym (none_take job service found))
 own_step c x own found f calls began (Place.WriteAnswer job told) e its = e ∙ ap (λ (l : List Entry). filter f calls ++ l) (sym (none_answer job told))
-own_step c x own found f calls began (Place.WriteAnswerTag job item) e its = e
 own_step c x own found f calls began (Place.WriteAnswerBody job item i) e its = e ∙ ap (λ (l : List Entry). filter f calls ++ l) (sym (either (nat_lt i (further_words (tag_of item))) (Place.WriteAnswerBody job item (i + 1)) (Place.MarkDone job) refl refl))
 own_step c x own found f calls began (Place.MarkDone job) e its =
     e ∙ ap (λ (l : List Entry). filter f calls ++ l) (sym (either (job.round.served + 1 == c.config.bound) (Place.HandOver job.next) (Place.ReadNext record { at = job.next; served = job.round.served + 1 }) refl refl))
-own_step c x own found f calls began (Place.HandOver at) e its = e
 own_step c x own found f calls began Place.ReadAnswer e its = e ∙ ap (λ (l : List Entry). filter f calls ++ l) (sym (none_ret c.served x found))
-own_step c x own found f calls began (Place.ReadAnswerTag at) e its = e
 own_step c x own found f calls began (Place.ReadAnswerBody at i) e its = e ∙ ap (λ (l : List Entry). filter f calls ++ l) (sym (either (nat_lt i (further_words at.tag)) (Place.ReadAnswerBody (with_read at i found) (i + 1)) (Place.Finished (Answer.Take (TakeAnswer.Got (item_in (with_read at i found))))) refl refl))
-own_step c x own found f calls began (Place.Finished told) e its = e
+own_step c x own found f calls began _ e its = e
 
 -- a step of another pass
 other_step : (f : Entry → Bool) (calls : List Entry) (at : Place) → ((call : Entry) → at ≡ Place.Exchange call → f call ≡ false) → filter f (appended calls (enters at)) ≡ filter f calls

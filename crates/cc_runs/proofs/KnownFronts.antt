@@ -29,9 +29,7 @@ least_grows : (xs ys : List ℕ) → length xs ≡ length ys → ((k : ℕ) → 
 least_grows [] ys same up = omega arith
 least_grows (x ∷ []) (y ∷ []) same up = up 0
 least_grows (x ∷ x' ∷ xs) (y ∷ y' ∷ ys) same up = omega (arith, up 0, least_grows (x' ∷ xs) (y' ∷ ys) (omega (arith, same)) (λ k. up (suc k)))
-least_grows (x ∷ xs) [] same up = absurd (omega (arith, same))
-least_grows (x ∷ []) (y ∷ y' ∷ ys) same up = absurd (omega (arith, same))
-least_grows (x ∷ x' ∷ xs) (y ∷ []) same up = absurd (omega (arith, same))
+least_grows _ _ same up = absurd (omega (arith, same))
 
 abbrev count : Side → ℕ
 count side = length (handed_by side.answers)

@@ -1,5 +1,5 @@
 -- The moves of one pass, and that others' moves leave it alone.
-use Rattle.std.proofs.Common.{◌≡◌, ◌≢◌, ℕ, Bool, true, false, ◌==◌, List, [], ◌∷◌, ◌++◌, refl, ap, sym, ◌∙◌, eq-eqb, ne_eqb, if◌then◌else◌}
+use Rattle.std.proofs.Common.{◌≡◌, ◌≢◌, ℕ, Bool, true, false, ◌==◌, List, [], ◌∷◌, ◌++◌, refl, ap, sym, ◌∙◌, ne_eqb, if◌then◌else◌}
 use Rattle.std.proofs.lemmas.Bool.{eqb-false}
 use Rattle.cc_runs.specs.Names.{Setting, Move}
 use Rattle.cc_runs.specs.State.{State, pass_at}
@@ -26,9 +26,6 @@ others_move p m ms h = go (pass_of m == p) h
 
 pub by-other : (p q : ℕ) (m : Move) (ms : List Move) → pass_of m ≡ p → p ≢ q → by q ms ≡ [] → by q (m ∷ ms) ≡ []
 by-other p q m ms is ne none = ap (λ (b : Bool). if b then m ∷ by q ms else by q ms) (ne_eqb (pass_of m) q (λ e. ne (sym is ∙ e))) ∙ none
-
-pub by-own : (p : ℕ) (m : Move) (ms : List Move) → pass_of m ≡ p → by p (m ∷ ms) ≡ m ∷ by p ms
-by-own p m ms is = ap (λ (b : Bool). if b then m ∷ by p ms else by p ms) (eq-eqb (pass_of m) p is)
 
 moved_other : (c : Setting) (s : State) (m : Move) (p : ℕ) → (pass_of m == p) ≡ false → (moved c s m).stand p ≡ s.stand p
 moved_other c s (Move.Begin q call known) p off = hold_apart s.stand q p (begins c.config q call known (s.stand q)) (λ same. eqb-false q p off (sym same))

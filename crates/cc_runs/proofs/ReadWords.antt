@@ -1,5 +1,5 @@
 -- The words of a body, read one by one.
-use Rattle.std.proofs.Common.{◌≡◌, ◌≢◌, ℕ, zero, suc, ◌/◌, ◌%◌, ◌^◌, ◌<◌, ◌≤◌, refl, ap, sym, ◌∙◌, arith, inl, inr, Bool, true, false, nat_lt, cond}
+use Rattle.std.proofs.Common.{◌≡◌, ◌≢◌, ℕ, zero, suc, ◌<◌, ◌≤◌, refl, ap, sym, ◌∙◌, arith, inl, inr, Bool, true, false, nat_lt, cond}
 use Rattle.std.proofs.lemmas.Bool.{cases_eq, ltb-true, ltb-false}
 use Rattle.cc_runs.specs.Names.{Body, Item, BodyWords, Parcel}
 use Rattle.cc_runs.specs.Codes.{word, with_word, further_words, tag_sender, tag_number, item_in, item_of, behind}
@@ -7,35 +7,16 @@ use Rattle.cc_runs.proofs.Bodies.{body_same, few_further}
 
 -- the word that was read
 word_here : (body : BodyWords) (i value : ℕ) → i ≤ 3 → word (with_word body i value) i ≡ value
-word_here body zero value most = refl
-word_here body (suc zero) value most = refl
-word_here body (suc (suc zero)) value most = refl
-word_here body (suc (suc (suc zero))) value most = refl
 word_here body (suc (suc (suc (suc i)))) value most = absurd (omega arith)
+word_here body _ value most = refl
 
 -- and each other one
 word_other : (body : BodyWords) (i value j : ℕ) → j ≢ i → word (with_word body i value) j ≡ word body j
 word_other body zero value zero ne = absurd (ne refl)
-word_other body zero value (suc zero) ne = refl
-word_other body zero value (suc (suc zero)) ne = refl
-word_other body zero value (suc (suc (suc zero))) ne = refl
-word_other body zero value (suc (suc (suc (suc j)))) ne = refl
-word_other body (suc zero) value zero ne = refl
 word_other body (suc zero) value (suc zero) ne = absurd (ne refl)
-word_other body (suc zero) value (suc (suc zero)) ne = refl
-word_other body (suc zero) value (suc (suc (suc zero))) ne = refl
-word_other body (suc zero) value (suc (suc (suc (suc j)))) ne = refl
-word_other body (suc (suc zero)) value zero ne = refl
-word_other body (suc (suc zero)) value (suc zero) ne = refl
 word_other body (suc (suc zero)) value (suc (suc zero)) ne = absurd (ne refl)
-word_other body (suc (suc zero)) value (suc (suc (suc zero))) ne = refl
-word_other body (suc (suc zero)) value (suc (suc (suc (suc j)))) ne = refl
-word_other body (suc (suc (suc zero))) value zero ne = refl
-word_other body (suc (suc (suc zero))) value (suc zero) ne = refl
-word_other body (suc (suc (suc zero))) value (suc (suc zero)) ne = refl
 word_other body (suc (suc (suc zero))) value (suc (suc (suc zero))) ne = absurd (ne refl)
-word_other body (suc (suc (suc zero))) value (suc (suc (suc (suc j)))) ne = refl
-word_other body (suc (suc (suc (suc i)))) value j ne = refl
+word_other body _ value _ ne = refl
 
 -- the first words are these, and so is the next one
 pub next_word : (body : BodyWords) (words : ℕ → ℕ) (i value : ℕ) → i ≤ 3 → value ≡ words i → ((j : ℕ) → j < i → word body j ≡ words j) → (j : ℕ) → j ≤ i → word (with_word body i value) j ≡ words j

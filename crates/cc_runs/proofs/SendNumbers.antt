@@ -26,11 +26,9 @@ all_appended P xs (Some x) all new = all-append P xs x all new.0
 
 -- each element after one was set is that or an earlier one
 set_all : {X : Type 0} (P : X → Type 0) (xs : List X) (y x : ℕ) (new d : X) → P new → P (get_or xs x d) → P (get_or (slice_set xs y new) x d)
-set_all P [] y x new d a b = b
 set_all P (z ∷ xs) zero zero new d a b = a
-set_all P (z ∷ xs) zero (suc x) new d a b = b
-set_all P (z ∷ xs) (suc y) zero new d a b = b
 set_all P (z ∷ xs) (suc y) (suc x) new d a b = set_all P xs y x new d a b
+set_all P _ _ _ new d a b = b
 
 all_kept : (e : Option Entry) → filter (λ (z : Entry). true) (appended [] e) ≡ appended [] e
 all_kept None = refl

@@ -28,16 +28,9 @@ field_same Chain.Send _ _ a b e = absurd (omega (arith, e))
 field_same (Chain.Take g) _ _ a b e = absurd (omega (arith, e))
 
 pub field_small : (x : Chain) (f : NodeField) → IsTrue (is_node_field f) → node_field x f < 8
-field_small Chain.Send NodeField.Next a = omega arith
-field_small Chain.Send NodeField.State a = omega arith
-field_small Chain.Send NodeField.Tag a = omega arith
 field_small Chain.Send (NodeField.Body i) a = omega (arith, body_word i a)
-field_small Chain.Send NodeField.Ret a = omega arith
-field_small (Chain.Take g) NodeField.Next a = omega arith
-field_small (Chain.Take g) NodeField.State a = omega arith
-field_small (Chain.Take g) NodeField.Tag a = omega arith
 field_small (Chain.Take g) (NodeField.Body i) a = omega (arith, body_word i a)
-field_small (Chain.Take g) NodeField.Ret a = omega arith
+field_small _ _ a = omega arith
 
 -- the order of the fields is one for all groups
 field_fixed : (g h : ℕ) (f : NodeField) → node_field (Chain.Take g) f ≡ node_field (Chain.Take h) f
@@ -61,10 +54,8 @@ part_same ItemField.Passed (ItemField.Body i) a b e = absurd (omega (arith, e, b
 part_same _ _ a b e = absurd (omega (arith, e))
 
 pub part_small : (f : ItemField) → IsTrue (is_item_field f) → item_field f < 7
-part_small ItemField.Tag a = omega arith
 part_small (ItemField.Body i) a = omega (arith, body_word i a)
-part_small ItemField.Next a = omega arith
-part_small ItemField.Passed a = omega arith
+part_small _ a = omega arith
 
 -- a later one of a kind begins after an earlier one's end
 steps_apart : (n i count : ℕ) → i < count → n * i + n ≤ n * count
@@ -95,12 +86,7 @@ Within k l (Word.Node (Chain.Take g) i f) = (k.node_step * i + k.node_step ≤ k
 Within k l (Word.Item i f) = (k.item_step * i + k.item_step ≤ k.item_step * (l.capacity + 2)) × (item_field f < 7)
 
 within : (k : Spacing) (l : Layout) (w : Word) → IsTrue (exists l w) → Within k l w
-within k l (Word.Tail Chain.Send) a = omega arith
 within k l (Word.Tail (Chain.Take g)) a = steps_apart k.end_step g l.groups (grind arith)
-within k l (Word.Object Object.Last) a = omega arith
-within k l (Word.Object Object.Shut) a = omega arith
-within k l (Word.Object Object.Count) a = omega arith
-within k l (Word.Object Object.Cursor) a = omega arith
 within k l (Word.Object (Object.Head g)) a = steps_apart k.end_step g l.groups (grind arith)
 within k l (Word.Object (Object.Taken g)) a = steps_apart k.end_step g l.groups (grind arith)
 within k l (Word.Node Chain.Send i f) a =
@@ -113,6 +99,7 @@ within k l (Word.Node (Chain.Take g) i f) a =
 within k l (Word.Item i f) a =
     let t = and_both (nat_lt i (l.capacity + 2)) (is_item_field f) a in
     (steps_apart k.item_step i (l.capacity + 2) (grind (arith, t.0)), part_small f t.1)
+within k l _ a = omega arith
 
 -- the group whose word it is
 abbrev group_of : Object → ℕ
@@ -122,20 +109,14 @@ group_of _ = 0
 
 -- the words of the object lie between the senders' tail and the nodes, and aren't a group's tail
 object_low : (k : Spacing) → IsRoomy k → (l : Layout) (a : Object) → IsTrue (exists l (Word.Object a)) → (k.objects ≤ lies k l (Word.Object a)) × (lies k l (Word.Object a) < k.ends + k.end_step * l.groups)
-object_low k r l Object.Last e = (omega arith, omega (arith, r))
-object_low k r l Object.Shut e = (omega arith, omega (arith, r))
-object_low k r l Object.Count e = (omega arith, omega (arith, r))
-object_low k r l Object.Cursor e = (omega arith, omega (arith, r))
 object_low k r l (Object.Head g) e = let m = within k l (Word.Object (Object.Head g)) e in (omega (arith, r), omega (arith, m, r))
 object_low k r l (Object.Taken g) e = let m = within k l (Word.Object (Object.Taken g)) e in (omega (arith, r), omega (arith, m, r))
+object_low k r l _ e = (omega arith, omega (arith, r))
 
 object_tail : (k : Spacing) → IsRoomy k → (l : Layout) (a : Object) (g : ℕ) → lies k l (Word.Object a) ≢ k.ends + k.end_step * g
-object_tail k r l Object.Last g e = omega (arith, e, r)
-object_tail k r l Object.Shut g e = omega (arith, e, r)
-object_tail k r l Object.Count g e = omega (arith, e, r)
-object_tail k r l Object.Cursor g e = omega (arith, e, r)
 object_tail k r l (Object.Head h) g e = omega (arith, e, r, steps_order k.end_step h g)
 object_tail k r l (Object.Taken h) g e = omega (arith, e, r, steps_order k.end_step h g)
+object_tail k r l _ g e = omega (arith, e, r)
 
 -- so there is in a dense row
 pub roomy : IsRoomy dense
@@ -256,17 +237,12 @@ chain_self Chain.Send = refl
 chain_self (Chain.Take g) = eq-eqb g g refl
 
 field_self : (f : NodeField) → same_field f f ≡ true
-field_self NodeField.Next = refl
-field_self NodeField.State = refl
-field_self NodeField.Tag = refl
-field_self NodeField.Ret = refl
 field_self (NodeField.Body i) = eq-eqb i i refl
+field_self _ = refl
 
 part_self : (f : ItemField) → same_part f f ≡ true
-part_self ItemField.Tag = refl
-part_self ItemField.Next = refl
-part_self ItemField.Passed = refl
 part_self (ItemField.Body i) = eq-eqb i i refl
+part_self _ = refl
 
 both_and : (a b : Bool) → a ≡ true → b ≡ true → a && b ≡ true
 both_and true b e f = f

@@ -1,5 +1,5 @@
 -- An answer whose numbers fit is read as it was written.
-use Rattle.std.proofs.Common.{◌≡◌, ℕ, ◌/◌, ◌%◌, ◌^◌, ◌<◌, ◌==◌, if◌then◌else◌, refl, ap, ◌∙◌, arith}
+use Rattle.std.proofs.Common.{◌≡◌, ℕ, ◌^◌, ◌<◌, ◌==◌, if◌then◌else◌, refl, ap, ◌∙◌, arith}
 use Rattle.cc_runs.specs.Names.{Item, Answer, SendAnswer, CloseAnswer, TakeAnswer, Served, Chain, BodyWords}
 use Rattle.cc_runs.proofs.Bodies.{sender_told, number_told, body_told}
 use Rattle.cc_runs.specs.Codes.{item_of, tag_of, body_words, no_words, coded, code_of, value_of, list_word, list_reads}
@@ -59,12 +59,7 @@ reads_list (Chain.Take g) (Answer.Close told) is fits = absurd is
 
 reads_counter : (x : Chain) (a : Answer) → IsAnswer Served.Counter x a → reads Served.Counter x a ≡ a
 reads_counter Chain.Send (Answer.Send (SendAnswer.Accepted place)) is = refl
-reads_counter Chain.Send (Answer.Send SendAnswer.Full) is = absurd is
-reads_counter Chain.Send (Answer.Send SendAnswer.Closed) is = absurd is
-reads_counter Chain.Send (Answer.Send SendAnswer.Spent) is = absurd is
-reads_counter Chain.Send (Answer.Close told) is = absurd is
-reads_counter Chain.Send (Answer.Take told) is = absurd is
-reads_counter (Chain.Take g) a is = absurd is
+reads_counter _ _ is = absurd is
 
 pub reads_back : (what : Served) (x : Chain) (a : Answer) → IsAnswer what x a → FitsIn what a → reads what x a ≡ a
 reads_back Served.Counter x a is fits = reads_counter x a is

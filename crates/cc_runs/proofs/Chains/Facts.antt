@@ -61,10 +61,7 @@ answers_it Served.List (Chain.Take g) e a (Answer.Take (TakeAnswer.Got item)) jo
 answers_it Served.List Chain.Send e a (Answer.Take (TakeAnswer.Got item)) job same is = absurd is
 answers_it Served.Counter Chain.Send e a (Answer.Take (TakeAnswer.Got item)) job same is = absurd is
 answers_it Served.Counter (Chain.Take g) e a (Answer.Take (TakeAnswer.Got item)) job same is = absurd is
-answers_it s x e a (Answer.Take TakeAnswer.Empty) job same is = tt
-answers_it s x e a (Answer.Take (TakeAnswer.Ended total)) job same is = tt
-answers_it s x e a (Answer.Send told) job same is = tt
-answers_it s x e a (Answer.Close told) job same is = tt
+answers_it s x e a _ job same is = tt
 
 -- a request is marked
 pub done_it : (s : Served) (x : Chain) (e : Entry) (a : Answer) (job : Job) (b : Bool) → HasService s x e a (cond b (Place.HandOver job.next) (Place.ReadNext record { at = job.next; served = job.round.served + 1 }))
@@ -77,10 +74,7 @@ done_rank x own job false = refl
 
 pub some_words : (a : Answer) → (1 ≤ answer_long a) × (answer_long a ≤ all_told)
 some_words (Answer.Take (TakeAnswer.Got item)) = omega (arith, few_further (tag_of item))
-some_words (Answer.Take TakeAnswer.Empty) = omega arith
-some_words (Answer.Take (TakeAnswer.Ended total)) = omega arith
-some_words (Answer.Send told) = omega arith
-some_words (Answer.Close told) = omega arith
+some_words _ = omega arith
 
 -- nor has a request more words than all
 pub few_asked : (x : Chain) (e : Entry) → request_long x e ≤ all_wrote x
@@ -96,17 +90,13 @@ pub got_long : (s : Served) (g : ℕ) (a : Answer) → IsAnswer s (Chain.Take g)
 got_long Served.List g (Answer.Take (TakeAnswer.Got item)) is code = refl
 got_long Served.List g (Answer.Take TakeAnswer.Empty) is code = absurd (omega (arith, code))
 got_long Served.List g (Answer.Take (TakeAnswer.Ended total)) is code = absurd (omega (arith, code))
-got_long Served.List g (Answer.Send told) is code = absurd is
-got_long Served.List g (Answer.Close told) is code = absurd is
-got_long Served.Counter g a is code = absurd is
+got_long _ g _ is code = absurd is
 
 pub got_item : (s : Served) (g : ℕ) (a : Answer) → IsAnswer s (Chain.Take g) a → code_of (ret_of s a) ≡ 1 → (item : Item) × (a ≡ Answer.Take (TakeAnswer.Got item))
 got_item Served.List g (Answer.Take (TakeAnswer.Got item)) is code = (item, refl)
 got_item Served.List g (Answer.Take TakeAnswer.Empty) is code = absurd (omega (arith, code))
 got_item Served.List g (Answer.Take (TakeAnswer.Ended total)) is code = absurd (omega (arith, code))
-got_item Served.List g (Answer.Send told) is code = absurd is
-got_item Served.List g (Answer.Close told) is code = absurd is
-got_item Served.Counter g a is code = absurd is
+got_item _ g _ is code = absurd is
 
 -- what is read after the first word: the end, or an item to come
 pub record ReadsOn (c : Setting) (s : Served) (g p own : ℕ) (a : Answer) (at : Place) : Type 0 where

@@ -178,10 +178,6 @@ some_receivers Served.List config p g ok less far = elim (cases_eq config.receiv
 ]
 some_receivers Served.Counter config p g ok less far = absurd ok
 
-list_passes : (s : Served) (config : Config) (p g : ℕ) → IsChainOf s (groups config) (Chain.Take g) → p < passes_of s config → p < config.senders + groups config * config.receivers
-list_passes Served.List config p g ok less = less
-list_passes Served.Counter config p g ok less = absurd ok
-
 pub which : (c : Setting) (x : Chain) → IsChain c x → (p : ℕ) → p < passes c → IsOn c x p ⊎ IsOff c x p
 which c Chain.Send ok p less = elim (cases_lt p c.config.senders) [
   | inl near ↦ inl record { number = p; inside = near; pass_is = refl; chain_is = sender_chain c.config p near }

@@ -20,27 +20,19 @@ use Rattle.cc_runs.proofs.Chains.Read as by_side
 -- what is served where
 pub counts_where : (s : Served) (x : Chain) → Counts s x → (s ≡ Served.Counter) × (x ≡ Chain.Send)
 counts_where Served.Counter Chain.Send a = (refl, refl)
-counts_where Served.Counter (Chain.Take g) a = absurd a
-counts_where Served.List Chain.Send a = absurd a
-counts_where Served.List (Chain.Take g) a = absurd a
+counts_where _ _ a = absurd a
 
 pub sends_where : (s : Served) (x : Chain) (A : Type 0) → Sends s x A → (s ≡ Served.List) × (x ≡ Chain.Send)
 sends_where Served.List Chain.Send A a = (refl, refl)
-sends_where Served.List (Chain.Take g) A a = absurd a
-sends_where Served.Counter Chain.Send A a = absurd a
-sends_where Served.Counter (Chain.Take g) A a = absurd a
+sends_where _ _ A a = absurd a
 
 pub sends_has : (s : Served) (x : Chain) (A : Type 0) → Sends s x A → A
 sends_has Served.List Chain.Send A a = a
-sends_has Served.List (Chain.Take g) A a = absurd a
-sends_has Served.Counter Chain.Send A a = absurd a
-sends_has Served.Counter (Chain.Take g) A a = absurd a
+sends_has _ _ A a = absurd a
 
 pub takes_where : (s : Served) (x : Chain) → Takes s x → (s ≡ Served.List) × (x ≡ Chain.Take (group_of x))
 takes_where Served.List (Chain.Take g) a = (refl, refl)
-takes_where Served.List Chain.Send a = absurd a
-takes_where Served.Counter Chain.Send a = absurd a
-takes_where Served.Counter (Chain.Take g) a = absurd a
+takes_where _ _ a = absurd a
 
 module _ (c : Setting) (some : 0 < c.config.bound) (s : State) (p begun own : ℕ) where
   count_step : (x : Chain) (ok : IsChain c x) (inside : p < members c x) (w : Holds c x s) (job : Job) (at : Counting) → At c x ok some s p begun own inside w (Place.Counting job at) →

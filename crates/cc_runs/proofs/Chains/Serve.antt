@@ -38,9 +38,6 @@ module _ (c : Setting) (x : Chain) (ok : IsChain c x) (some : 0 < c.config.bound
   abbrev pub the_answer : Answer
   the_answer = answer_at (answers_on x s.history) w.ghost.marked
 
-  abbrev pub own_answer : Answer
-  own_answer = answer_at (answers_on x s.history) (w.ghost.at p)
-
   pub seen : (at : Place) → At at → post_at x (s.stand (pass_on c x p)) ≡ post_of x own at
   seen at e = ap (λ (z : Stand). post_at x z) e
 

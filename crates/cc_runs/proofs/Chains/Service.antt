@@ -64,38 +64,26 @@ module _ (c : Setting) (job : Job) (e : Entry) where
   sends (Sending.ReadCount request) found f = count_read request found (found == c.config.life) (request.tag == 0)
   sends (Sending.ReadLastToClose total) found f = quiet refl (λ own. refl) (λ a r. tt)
   sends (Sending.LinkMark total last) found f = decides (Answer.Close (CloseAnswer.Shut total)) refl (λ own. refl) (λ own. refl) tt refl
-  sends (Sending.WriteLastMark total) found f = quiet refl (λ own. refl) (λ a r. r)
-  sends (Sending.WriteShut total) found f = quiet refl (λ own. refl) (λ a r. r)
-  sends (Sending.ReadCursor parcel) found f = quiet refl (λ own. refl) (λ a r. r)
   sends (Sending.ReadPassed parcel at reads) found f = passed_read parcel at reads (reads == c.config.capacity + 1) (found == groups c.config)
-  sends (Sending.ResetPassed parcel at) found f = quiet refl (λ own. refl) (λ a r. r)
-  sends (Sending.ResetItemNext parcel at) found f = quiet refl (λ own. refl) (λ a r. r)
   sends (Sending.WriteItemTag parcel at) found f = quiet refl (λ own. refl) (λ a r. (r, omega arith))
   sends (Sending.WriteItemBody parcel at i) found f =
       behind_word (λ (z : Sending). Sends (Sending.WriteItemBody parcel at i) (On z)) (further_words parcel.tag) i _ _
       (λ more. quiet refl (λ own. refl) (λ a r. (r.0, omega (arith, more)))) (λ last. quiet refl (λ own. refl) (λ a r. tt))
   sends (Sending.ReadLast place at) found f = quiet refl (λ own. refl) (λ a r. tt)
   sends (Sending.LinkItem place at last) found f = decides (Answer.Send (SendAnswer.Accepted place)) refl (λ own. refl) (λ own. refl) tt refl
-  sends (Sending.WriteLast place at) found f = quiet refl (λ own. refl) (λ a r. r)
-  sends (Sending.WriteCount place at) found f = quiet refl (λ own. refl) (λ a r. r)
-  sends (Sending.WriteCursor place at) found f = quiet refl (λ own. refl) (λ a r. r)
+  sends _ found f = quiet refl (λ own. refl) (λ a r. r)
 
   abbrev Takes : ℕ → Taking → ℕ → Type 0
   Takes g service found = Outcome Served.List (Chain.Take g) job e (Place.Taking job service) (take_side.goes job service found) (take_side.decides service found)
 
   pub takes : (g : ℕ) (service : Taking) (found : ℕ) → Takes g service found
-  takes g Taking.ReadHead found = quiet refl (λ own. refl) (λ a r. tt)
-  takes g (Taking.ReadTaken dummy) found = quiet refl (λ own. refl) (λ a r. tt)
   takes g (Taking.ReadDummyNext dummy taken) zero = decides (Answer.Take TakeAnswer.Empty) refl (λ own. refl) (λ own. refl) tt refl
-  takes g (Taking.ReadDummyNext dummy taken) (suc found) = quiet refl (λ own. refl) (λ a r. tt)
   takes g (Taking.ReadItemTag dummy taken at) zero = decides (Answer.Take (TakeAnswer.Ended taken)) refl (λ own. refl) (λ own. refl) tt refl
-  takes g (Taking.ReadItemTag dummy taken at) (suc found) = quiet refl (λ own. refl) (λ a r. tt)
   takes g (Taking.ReadItemBody dummy at p i) found =
       behind_word (λ (z : Taking). Outcome Served.List (Chain.Take g) job e (Place.Taking job (Taking.ReadItemBody dummy at p i)) (Place.Taking job z) None) (further_words p.tag) i _ _
       (λ more. quiet refl (λ own. refl) (λ a r. tt)) (λ last. quiet refl (λ own. refl) (λ a r. tt))
-  takes g (Taking.WriteHead dummy at parcel) found = quiet refl (λ own. refl) (λ a r. tt)
-  takes g (Taking.WriteTaken dummy parcel) found = quiet refl (λ own. refl) (λ a r. tt)
   takes g (Taking.AddPassed dummy parcel) found = decides _ refl (λ own. refl) (λ own. refl) tt refl
+  takes g _ _ = quiet refl (λ own. refl) (λ a r. tt)
 
   pub counts : (service : Counting) (found : ℕ) → Outcome Served.Counter Chain.Send job e (Place.Counting job service) (count_side.goes job service found) (count_side.decides service found)
   counts Counting.ReadTag found = quiet refl (λ own. refl) (λ a r. (tt, omega arith))

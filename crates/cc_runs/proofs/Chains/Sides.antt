@@ -22,21 +22,13 @@ words_but tag a b i (suc k) same ne = same k (λ e. ne (ap suc e))
 
 -- what a request asks for is its body's words
 pub asks_word : (r : Request) (i : ℕ) → i ≤ 3 → asks_in r (suc i) ≡ word r.body i
-asks_word r zero most = refl
-asks_word r (suc zero) most = refl
-asks_word r (suc (suc zero)) most = refl
-asks_word r (suc (suc (suc zero))) most = refl
 asks_word r (suc (suc (suc (suc i)))) most = absurd (omega arith)
+asks_word r _ most = refl
 
 -- and behind all of them nothing
 asks_late : (r : Request) (j : ℕ) → all_wrote Chain.Send ≤ j → asks_in r j ≡ 0
-asks_late r zero far = absurd (omega arith)
-asks_late r (suc zero) far = absurd (omega arith)
-asks_late r (suc (suc zero)) far = absurd (omega arith)
-asks_late r (suc (suc (suc zero))) far = absurd (omega arith)
-asks_late r (suc (suc (suc (suc zero)))) far = absurd (omega arith)
-asks_late r (suc (suc (suc (suc (suc zero))))) far = absurd (omega arith)
 asks_late r (suc (suc (suc (suc (suc (suc j)))))) far = refl
+asks_late r _ far = absurd (omega arith)
 
 module _ (c : Setting) (s : State) (p begun own : ℕ) where
   pub write_tag : (long put : ℕ) (request : Request) → s.stand (pass_on c Chain.Send p) ≡ standing c Chain.Send s p begun own (Place.WriteTag put request) →

@@ -1,11 +1,11 @@
 -- How many nodes are busy, and why the list never holds more than its capacity.
 use Rattle.std.proofs.Common.{◌≡◌, ℕ, ◌+◌, ◌-◌, ◌<◌, ◌≤◌, ◌≢◌, arith, refl, inl, inr}
 use Rattle.std.proofs.lemmas.Bool.{cases_eq, cases_lt}
-use Rattle.cc_runs.proofs.LinkedList.Queue.{Queue, Told}
+use Rattle.cc_runs.proofs.LinkedList.Queue.{Queue, Ghosts}
 use Rattle.cc_runs.proofs.LinkedList.Invariant.{LInv}
 use Rattle.cc_runs.proofs.LinkedList.Count.{total, covered, below, below_yes, below_no, below_most, ones}
 
-module _ (c life n : ℕ) (v : Queue) (g : Told) (i : LInv c life n v g) where
+module _ (c life n : ℕ) (v : Queue) (g : Ghosts) (i : LInv c life n v g) where
   -- accepted minus the least handed is the capacity at most
   pub room : g.accepted ≤ g.least + c
   room = omega (

@@ -1,12 +1,12 @@
 -- What each deciding step may answer.
 use Rattle.std.proofs.Common.{◌≡◌, ℕ, ◌+◌, ◌-◌, ◌<◌, ◌≤◌, ◌≢◌, arith}
 use Rattle.std.proofs.lemmas.Bool.{cases_eq, cases_lt}
-use Rattle.cc_runs.proofs.LinkedList.Queue.{Queue, Told}
+use Rattle.cc_runs.proofs.LinkedList.Queue.{Queue, Ghosts}
 use Rattle.cc_runs.proofs.LinkedList.Invariant.{LInv}
 use Rattle.cc_runs.proofs.LinkedList.Scan.{looked, looked_role, looked_known}
 use Rattle.cc_runs.proofs.LinkedList.Count.{covered}
 
-module _ (c life n : ℕ) (v : Queue) (g : Told) (i : LInv c life n v g) where
+module _ (c life n : ℕ) (v : Queue) (g : Ghosts) (i : LInv c life n v g) where
   -- the load of shut: 1 means that the list is shut, 0 that it isn't
   pub read_shut : v.enq.stage ≡ 1 → v.shut ≢ 0 → g.shut ≡ 1
   read_shut from ne = grind arith

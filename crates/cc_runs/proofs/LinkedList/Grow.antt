@@ -1,14 +1,14 @@
 -- The ghosts after each step that moves them: what each of these steps changes of them, and that they can be so.
 use Rattle.std.proofs.Common.{◌≡◌, ℕ, ◌+◌, ◌<◌, ◌≤◌, ◌≢◌, arith, refl, inl, inr}
 use Rattle.std.proofs.lemmas.Bool.{cases_eq}
-use Rattle.cc_runs.proofs.LinkedList.Queue.{Queue, Told, SameLog, SameHands, SameRoles}
+use Rattle.cc_runs.proofs.LinkedList.Queue.{Queue, Ghosts, SameLog, SameHands, SameRoles}
 use Rattle.cc_runs.proofs.LinkedList.Invariant.{LInv}
 use Rattle.cc_runs.proofs.LinkedList.Count.{upd, upd_here, upd_others}
 use Rattle.cc_runs.proofs.LinkedList.Sides.{smallest, smallest_least, smallest_is, above, above_all, above_some, above_none, above_now, above_others}
 use Rattle.cc_runs.proofs.LinkedList.Open.{opening, zeros}
 
 -- a free node is in preparation
-pub record Prepares (v : Queue) (g g' : Told) : Type 0 where
+pub record Prepares (v : Queue) (g g' : Ghosts) : Type 0 where
   pub log : SameLog g g'
   pub hands : SameHands g g'
   pub role_now : g'.role v.enq.found ≡ 1
@@ -16,7 +16,7 @@ pub record Prepares (v : Queue) (g g' : Told) : Type 0 where
   pub pos : (x : ℕ) → g'.pos x ≡ g.pos x
 
 -- one item more is accepted
-pub record Accepts (v : Queue) (g g' : Told) : Type 0 where
+pub record Accepts (v : Queue) (g g' : Ghosts) : Type 0 where
   pub hands : SameHands g g'
   pub shut : g'.shut ≡ g.shut
   pub accepted : g'.accepted ≡ g.accepted + 1
@@ -33,7 +33,7 @@ pub record Accepts (v : Queue) (g g' : Told) : Type 0 where
   pub pos : (x : ℕ) → x ≢ v.enq.found → g'.pos x ≡ g.pos x
 
 -- the list is shut
-pub record Shuts (g g' : Told) : Type 0 where
+pub record Shuts (g g' : Ghosts) : Type 0 where
   pub hands : SameHands g g'
   pub roles : SameRoles g g'
   pub shut : g'.shut ≡ 1
@@ -44,7 +44,7 @@ pub record Shuts (g g' : Told) : Type 0 where
   pub node : (k : ℕ) → g'.node k ≡ g.node k
 
 -- one item more is handed out on side s
-pub record Gives (n : ℕ) (g g' : Told) (s : ℕ) : Type 0 where
+pub record Gives (n : ℕ) (g g' : Ghosts) (s : ℕ) : Type 0 where
   pub log : SameLog g g'
   pub roles : SameRoles g g'
   pub handed_now : g'.handed s ≡ g.handed s + 1
@@ -68,7 +68,7 @@ upd2_others : (f : ℕ → ℕ → ℕ) (k : ℕ) (a : ℕ → ℕ) (x j : ℕ) 
 unfolding upd2
 upd2_others f k a x j ne = elim (cases_eq x k) as (λ d. elim d as (λ _. ℕ → ℕ) [ inl _ ↦ a | inr _ ↦ f x ] j ≡ f x j) [ inl same ↦ absurd (ne same) | inr _ ↦ refl ]
 
-pub accepting : Queue → Told → Told
+pub accepting : Queue → Ghosts → Ghosts
 accepting v g = record g {
   accepted = g.accepted + 1;
   items = upd2 g.items g.accepted v.enq.asks;
@@ -78,7 +78,7 @@ accepting v g = record g {
   pos = upd g.pos v.enq.found (g.accepted + 1);
 }
 
-pub accepts : (v : Queue) (g : Told) → Accepts v g (accepting v g)
+pub accepts : (v : Queue) (g : Ghosts) → Accepts v g (accepting v g)
 unfolding accepting
 accepts v g = record {
   hands = record { handed = λ s. refl; least = refl; by = λ k. refl };
@@ -97,10 +97,10 @@ accepts v g = record {
   pos = λ x ne. upd_others g.pos v.enq.found (g.accepted + 1) x ne;
 }
 
-pub shutting : Told → Told
+pub shutting : Ghosts → Ghosts
 shutting g = record g { shut = 1 }
 
-pub shuts : (g : Told) → Shuts g (shutting g)
+pub shuts : (g : Ghosts) → Shuts g (shutting g)
 unfolding shutting
 shuts g = record {
   hands = record { handed = λ s. refl; least = refl; by = λ k. refl };
@@ -113,10 +113,10 @@ shuts g = record {
   node = λ k. refl;
 }
 
-pub preparing : Queue → Told → Told
+pub preparing : Queue → Ghosts → Ghosts
 preparing v g = record g { role = upd g.role v.enq.found 1 }
 
-pub prepares : (v : Queue) (g : Told) → Prepares v g (preparing v g)
+pub prepares : (v : Queue) (g : Ghosts) → Prepares v g (preparing v g)
 unfolding preparing
 prepares v g = record {
   log = record { accepted = refl; shut = refl; items = λ k j. refl; long = λ k. refl; tells = λ a. refl; node = λ k. refl };
@@ -127,16 +127,16 @@ prepares v g = record {
 }
 
 -- m + 1 sides: the counts are those of the numbers handed out
-pub record Counted (m : ℕ) (g : Told) : Type 0 where
+pub record Counted (m : ℕ) (g : Ghosts) : Type 0 where
   pub least : g.least ≡ smallest m g.handed
   pub by : (k : ℕ) → g.by k ≡ above (m + 1) g.handed k
 
 -- what every run keeps of a list with m + 1 sides and of its ghosts
-pub record Held (c life m : ℕ) (v : Queue) (g : Told) : Type 0 where
+pub record ListHolds (c life m : ℕ) (v : Queue) (g : Ghosts) : Type 0 where
   pub inv : LInv c life (m + 1) v g
   pub counted : Counted m g
 
-pub giving : ℕ → Told → ℕ → Told
+pub giving : ℕ → Ghosts → ℕ → Ghosts
 giving m g s = record g {
   handed = upd g.handed s (g.handed s + 1);
   least = smallest m (upd g.handed s (g.handed s + 1));
@@ -146,7 +146,7 @@ giving m g s = record g {
 smallest_up : (m : ℕ) (h h' : ℕ → ℕ) → ((s : ℕ) → h s ≤ h' s) → smallest m h ≤ smallest m h'
 smallest_up m h h' up = let r : (s : ℕ) × (s ≤ m) × (h' s ≡ smallest m h') = smallest_is m h' in omega (arith, r.2, up r.0, smallest_least m h r.0 r.1)
 
-module _ (m : ℕ) (g : Told) (s : ℕ) (inside : s < m + 1) (counted : Counted m g) where
+module _ (m : ℕ) (g : Ghosts) (s : ℕ) (inside : s < m + 1) (counted : Counted m g) where
   after : ℕ → ℕ
   after = upd g.handed s (g.handed s + 1)
 
@@ -180,15 +180,15 @@ module _ (m : ℕ) (g : Told) (s : ℕ) (inside : s < m + 1) (counted : Counted 
     by_some = λ k l. above_some m (m + 1) after k refl l;
   }
 
-pub preparing_counted : (m : ℕ) (v : Queue) (g : Told) → Counted m g → Counted m (preparing v g)
+pub preparing_counted : (m : ℕ) (v : Queue) (g : Ghosts) → Counted m g → Counted m (preparing v g)
 unfolding preparing
 preparing_counted m v g k = record { least = k.least; by = k.by }
 
-pub accepting_counted : (m : ℕ) (v : Queue) (g : Told) → Counted m g → Counted m (accepting v g)
+pub accepting_counted : (m : ℕ) (v : Queue) (g : Ghosts) → Counted m g → Counted m (accepting v g)
 unfolding accepting
 accepting_counted m v g k = record { least = k.least; by = k.by }
 
-pub shutting_counted : (m : ℕ) (g : Told) → Counted m g → Counted m (shutting g)
+pub shutting_counted : (m : ℕ) (g : Ghosts) → Counted m g → Counted m (shutting g)
 unfolding shutting
 shutting_counted m g k = record { least = k.least; by = k.by }
 
@@ -202,18 +202,18 @@ opening_counted m tells =
 
 -- how many words an item has is told once and for all
 
-pub accepting_tells : (v : Queue) (g : Told) → (accepting v g).tells ≡ g.tells
+pub accepting_tells : (v : Queue) (g : Ghosts) → (accepting v g).tells ≡ g.tells
 unfolding accepting
 accepting_tells v g = refl
 
-pub preparing_tells : (v : Queue) (g : Told) → (preparing v g).tells ≡ g.tells
+pub preparing_tells : (v : Queue) (g : Ghosts) → (preparing v g).tells ≡ g.tells
 unfolding preparing
 preparing_tells v g = refl
 
-pub shutting_tells : (g : Told) → (shutting g).tells ≡ g.tells
+pub shutting_tells : (g : Ghosts) → (shutting g).tells ≡ g.tells
 unfolding shutting
 shutting_tells g = refl
 
-pub giving_tells : (m : ℕ) (g : Told) (s : ℕ) → (giving m g s).tells ≡ g.tells
+pub giving_tells : (m : ℕ) (g : Ghosts) (s : ℕ) → (giving m g s).tells ≡ g.tells
 unfolding giving
 giving_tells m g s = refl

@@ -1,10 +1,10 @@
 -- Numbers stay in range, links name nodes, and a node is reset only when all sides have passed it.
 use Rattle.std.proofs.Common.{◌≡◌, ℕ, ◌+◌, ◌<◌, ◌≤◌, arith}
 use Rattle.std.proofs.lemmas.Bool.{cases_eq, cases_lt}
-use Rattle.cc_runs.proofs.LinkedList.Queue.{Queue, Told}
+use Rattle.cc_runs.proofs.LinkedList.Queue.{Queue, Ghosts}
 use Rattle.cc_runs.proofs.LinkedList.Invariant.{LInv}
 
-module _ (c life n : ℕ) (v : Queue) (g : Told) (i : LInv c life n v g) where
+module _ (c life n : ℕ) (v : Queue) (g : Ghosts) (i : LInv c life n v g) where
   pub count_fits : v.enq.stage ≡ 12 → v.enq.seen + 1 ≤ life
   count_fits from = grind arith
 

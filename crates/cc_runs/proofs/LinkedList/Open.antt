@@ -1,7 +1,7 @@
 -- The list at the opening: node 0 is the first dummy, all others are free.
 use Rattle.std.proofs.Common.{◌≡◌, ℕ, ◌+◌, ◌<◌, ◌≤◌, ◌≢◌, arith, refl, inl, inr}
 use Rattle.std.proofs.lemmas.Bool.{cases_eq}
-use Rattle.cc_runs.proofs.LinkedList.Queue.{Queue, Told}
+use Rattle.cc_runs.proofs.LinkedList.Queue.{Queue, Ghosts}
 use Rattle.cc_runs.proofs.LinkedList.Invariant.{LInv}
 
 pub record Opens (c n : ℕ) (v : Queue) : Type 0 where
@@ -19,7 +19,7 @@ pub record Opens (c n : ℕ) (v : Queue) : Type 0 where
   pub head : (s : ℕ) → s < n → (v.side s).head ≡ 1
   pub taken : (s : ℕ) → (v.side s).taken ≡ 0
 
-pub opening : (ℕ → ℕ) → Told
+pub opening : (ℕ → ℕ) → Ghosts
 opening tells = record {
   tells = tells;
   accepted = 0;
@@ -42,7 +42,7 @@ role_others : (tells : ℕ → ℕ) (x : ℕ) → x ≢ 0 → (opening tells).ro
 unfolding opening
 role_others tells x ne = elim (cases_eq x 0) as (λ d. elim d as (λ _. ℕ) [ inl _ ↦ 2 | inr _ ↦ 0 ] ≡ 0) [ inl same ↦ absurd (ne same) | inr _ ↦ refl ]
 
-pub record Zero (g : Told) : Type 0 where
+pub record Zero (g : Ghosts) : Type 0 where
   pub accepted : g.accepted ≡ 0
   pub handed : (s : ℕ) → g.handed s ≡ 0
   pub shut : g.shut ≡ 0

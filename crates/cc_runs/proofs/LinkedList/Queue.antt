@@ -41,7 +41,7 @@ pub record Queue : Type 0 where
 -- What no word holds. accepted, handed, shut: the numbers of Accepted, of Got on each side, of Shut among the answers. items, long: the words of the k-th accepted item, and how many. tells: how many words an item with this tag has, the tag among them (never changes).
 -- node: the list node at place k (place 0 the first dummy, k + 1 the k-th item). role: 0 never linked, 1 in preparation, 2 linked, at place `pos`.
 -- least: the smallest of handed. by k: how many sides have handed more than k
-pub record Told : Type 0 where
+pub record Ghosts : Type 0 where
   pub accepted : ℕ
   pub handed : ℕ → ℕ
   pub shut : ℕ
@@ -66,7 +66,7 @@ pub record SameCells (v v' : Queue) : Type 0 where
   pub passed : (x : ℕ) → v'.passed x ≡ v.passed x
   pub word : (x j : ℕ) → v'.word x j ≡ v.word x j
 
-pub record SameLog (g g' : Told) : Type 0 where
+pub record SameLog (g g' : Ghosts) : Type 0 where
   pub accepted : g'.accepted ≡ g.accepted
   pub shut : g'.shut ≡ g.shut
   pub items : (k j : ℕ) → g'.items k j ≡ g.items k j
@@ -74,11 +74,11 @@ pub record SameLog (g g' : Told) : Type 0 where
   pub tells : (a : ℕ) → g'.tells a ≡ g.tells a
   pub node : (k : ℕ) → g'.node k ≡ g.node k
 
-pub record SameHands (g g' : Told) : Type 0 where
+pub record SameHands (g g' : Ghosts) : Type 0 where
   pub handed : (s : ℕ) → g'.handed s ≡ g.handed s
   pub least : g'.least ≡ g.least
   pub by : (k : ℕ) → g'.by k ≡ g.by k
 
-pub record SameRoles (g g' : Told) : Type 0 where
+pub record SameRoles (g g' : Ghosts) : Type 0 where
   pub role : (x : ℕ) → g'.role x ≡ g.role x
   pub pos : (x : ℕ) → g'.pos x ≡ g.pos x

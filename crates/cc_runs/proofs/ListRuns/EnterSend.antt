@@ -11,7 +11,7 @@ use Rattle.cc_runs.proofs.Chains.Registers.{HasAsked, HasRequest}
 use Rattle.cc_runs.specs.Run.{IsIdle, passes}
 use Rattle.cc_runs.proofs.LinkedList.Queue.{Queue}
 use Rattle.cc_runs.proofs.LinkedList.Invariant.{LInv}
-use Rattle.cc_runs.proofs.LinkedList.Grow.{Held}
+use Rattle.cc_runs.proofs.LinkedList.Grow.{ListHolds}
 use Rattle.cc_runs.proofs.ListRuns.SendKeeps as keeps
 use Rattle.cc_runs.proofs.ListRuns.View.{Duty, Regs, enq_in, enq_at, regs_at, regs_of, queue_from, queue_of, hold_here, hold_same, hold_all}
 use Rattle.cc_runs.proofs.ListRuns.Ties.{further, ReadsAt, IsBegun, IsServing, IsTaking, IsNextSend, IsNextTake}
@@ -32,8 +32,6 @@ stage_none e from _ not = refl
 
 serving_sends : (at : Place) → IsServing at → IsSending at
 serving_sends (Place.Sending job service) u = tt
-serving_sends (Place.ResetNext e) u = absurd u
-serving_sends (Place.Taking job service) u = absurd u
 serving_sends _ u = absurd u
 
 idle_serves : (at : Place) → IsIdle at → IsServing at → ⊥
@@ -108,8 +106,8 @@ module _ (c : Config) (s : State) (p begun own : ℕ) (job : Job) (request : Req
       ap (λ (z : Place). queue_from t.mem to (enq_at to.e_call to.from z) (regs_of t.stand to)) here
       ∙ ap (λ (r : ℕ → Regs). queue_from t.mem to (enq_at to.e_call to.from there) r) same_regs
 
-  list : Held c.capacity c.life (further c) (queue_of t to) k.told
-  list = subst (λ (v : Queue). Held c.capacity c.life (further c) v k.told) (sym same_queue) (record { inv = enters; counted = k.list.counted })
+  list : ListHolds c.capacity c.life (further c) (queue_of t to) k.told
+  list = subst (λ (v : Queue). ListHolds c.capacity c.life (further c) v k.told) (sym same_queue) (record { inv = enters; counted = k.list.counted })
 
   pub send_enters : Onward c s k t
   send_enters = record {

@@ -9,7 +9,7 @@ use Rattle.cc_runs.specs.Lines.{group_of}
 use Rattle.cc_runs.specs.Run.{IsIdle, passes}
 use Rattle.cc_runs.proofs.LinkedList.Queue.{Enq, Queue}
 use Rattle.cc_runs.proofs.LinkedList.Invariant.{LInv}
-use Rattle.cc_runs.proofs.LinkedList.Grow.{Held}
+use Rattle.cc_runs.proofs.LinkedList.Grow.{ListHolds}
 use Rattle.cc_runs.proofs.ListRuns.TakeKeeps as keeps
 use Rattle.cc_runs.proofs.ListRuns.View.{Duty, with_group, group_here, group_away, group_all, enq_at, regs_at, regs_of, queue_from, queue_of, hold_here, hold_other, hold_same, hold_all}
 use Rattle.cc_runs.proofs.ListRuns.Ties.{further, ReadsAt, IsServing, IsUndecidedAt, IsTaking, IsNextSend, IsNextTake}
@@ -121,7 +121,7 @@ module _ (c : Config) (s : State) (p begun own y : ℕ) (chain : chain_of c p �
       parts = record {
         duty = to;
         told = k.told;
-        list = subst (λ (v : Queue). Held c.capacity c.life (further c) v k.told) (sym same_queue) (record { inv = enters; counted = k.list.counted });
+        list = subst (λ (v : Queue). ListHolds c.capacity c.life (further c) v k.told) (sym same_queue) (record { inv = enters; counted = k.list.counted });
         serving = record {
           e_only = hold_all (λ (q : ℕ) (z : Stand). q ≢ d.e_pass → IsServing z.place → ⊥) s.stand p now (λ ne u. u) (λ q ne n u. k.serving.e_only q n u);
           d_mine = group_all (λ (x : ℕ) (q : ℕ). chain_of c q ≡ Chain.Take x) d.d_pass y p chain (λ x ne. k.serving.d_mine x);

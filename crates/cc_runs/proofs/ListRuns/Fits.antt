@@ -1,5 +1,5 @@
 -- Which answers a call of a sender may get, by the tag of its request; and the item that it sends.
-use Rattle.std.proofs.Common.{◌≡◌, ◌≢◌, ℕ, ◌+◌, ◌^◌, ◌/◌, ◌%◌, ◌<◌, ◌≤◌, [], ◌∷◌, true, false, refl, sym, ap, ◌∙◌, arith}
+use Rattle.std.proofs.Common.{◌≡◌, ◌≢◌, ℕ, ◌+◌, ◌^◌, ◌<◌, ◌≤◌, [], ◌∷◌, true, false, refl, sym, arith}
 use Rattle.cc_model.specs.Items.{sent_item}
 use Rattle.cc_model.specs.Legal.{EAnswer, IsSenders}
 use Rattle.cc_model.specs.Body.{HasBody}

@@ -3,8 +3,8 @@ use Rattle.std.proofs.Common.{◌≡◌, ◌≢◌, ℕ, ◌+◌, ◌≤◌, Lis
 use Rattle.cc_model.specs.Record.{Record}
 use Rattle.cc_runs.specs.Names.{Config, Entry, Word, Stand, Chain}
 use Rattle.cc_runs.specs.State.{State, chain_of, hold}
-use Rattle.cc_runs.proofs.LinkedList.Queue.{Enq, Queue, Told}
-use Rattle.cc_runs.proofs.LinkedList.Grow.{Held}
+use Rattle.cc_runs.proofs.LinkedList.Queue.{Enq, Queue, Ghosts}
+use Rattle.cc_runs.proofs.LinkedList.Grow.{ListHolds}
 use Rattle.cc_runs.proofs.ListRuns.View.{Duty, Regs, enq_at, regs_at, regs_of, queue_from, queue_of, hold_same, hold_all}
 use Rattle.cc_runs.proofs.ListRuns.Ties.{Ties, further, ReadsAt, IsServing, IsUndecidedAt, IsTaking, IsNextSend, IsNextTake, Linked}
 use Rattle.cc_runs.proofs.ListRuns.SendTurn.{Caller}
@@ -23,8 +23,8 @@ pub record Serving (c : Config) (s : State) (d : Duty) : Type 0 where
 -- the list's invariant, and what ties it to the state
 pub record Parts (c : Config) (s : State) : Type 0 where
   pub duty : Duty
-  pub told : Told
-  pub list : Held c.capacity c.life (further c) (queue_of s duty) told
+  pub told : Ghosts
+  pub list : ListHolds c.capacity c.life (further c) (queue_of s duty) told
   pub serving : Serving c s duty
   pub ties : Ties c s.history told
 
@@ -68,7 +68,7 @@ module _ (c : Config) (s : State) (p : ℕ) (now : Stand) (mem' : Word → ℕ) 
   quiet_parts = record {
     duty = d;
     told = k.told;
-    list = subst (λ (v : Queue). Held c.capacity c.life (further c) v k.told) (sym same_queue) k.list;
+    list = subst (λ (v : Queue). ListHolds c.capacity c.life (further c) v k.told) (sym same_queue) k.list;
     serving = record {
       e_only = λ q ne serves. hold_all (λ (q : ℕ) (z : Stand). q ≢ d.e_pass → IsServing z.place → ⊥) s.stand p now (λ n u. after_send.serves u) (λ q ne n u. k.serving.e_only q n u) q ne serves;
       d_mine = k.serving.d_mine;

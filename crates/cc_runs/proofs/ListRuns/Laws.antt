@@ -15,7 +15,7 @@ use Rattle.cc_runs.proofs.ListRuns.Posts.{IsTakes, Well, of_side, group_in}
 use Rattle.cc_runs.specs.Run.{passes, reached, history_of, IsRun, IsIdle}
 use Rattle.cc_runs.specs.MachineLaws.{HistoryIsLegal, HistoryIsFifo, is_busy, busy_below, IsPreparing, Prepares, BusyNodesAreItems, PreparedNodeIsBusy, linked_nodes, Resets, ResetAfterTheTake, Holds, HoldsAt, PreparedAlone, NamesNode, FindsNode, LinksNameNodes, scan_reads, ScansAreShort}
 use Rattle.cc_runs.proofs.Ranges.{in_range}
-use Rattle.cc_runs.proofs.LinkedList.Queue.{Told}
+use Rattle.cc_runs.proofs.LinkedList.Queue.{Ghosts}
 use Rattle.cc_runs.proofs.LinkedList.Invariant.{LInv}
 use Rattle.cc_runs.proofs.LinkedList.Count.{total, total_zero, total_suc, below, below_yes, below_no}
 use Rattle.cc_runs.proofs.LinkedList.Busy as busy
@@ -85,7 +85,7 @@ module _ (c : Config) (moves : List Move) (a : AfterRun c moves) where
   abbrev k : Parts c s
   k = a.whole.parts
 
-  abbrev g : Told
+  abbrev g : Ghosts
   g = k.told
 
   abbrev i : LInv c.capacity c.life (further c + 1) (queue_of s k.duty) g
@@ -267,8 +267,6 @@ module _ (c : Config) (moves : List Move) (a : AfterRun c moves) where
   finds (Place.Sending job (Sending.WriteCursor count at)) p stands = (send_holds c s p job (Sending.WriteCursor count at) stands tt k).found.found_in (omega arith) (omega arith)
   finds (Place.Taking job Taking.ReadHead) p stands = head_in p job Taking.ReadHead stands refl
   finds (Place.Taking job (Taking.ReadDummyNext dummy taken)) p stands = next_in p job (Taking.ReadDummyNext dummy taken) stands dummy taken refl
-  finds (Place.Sending job _) p stands = tt
-  finds (Place.Taking job _) p stands = tt
   finds _ p stands = tt
 
   scans : (at : Place) (p : ℕ) → (s.stand p).place ≡ at → scan_reads at ≤ c.capacity + 1

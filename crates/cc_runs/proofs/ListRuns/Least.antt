@@ -4,7 +4,7 @@ use Rattle.std.proofs.lemmas.Bool.{cases_lt}
 use Rattle.std.proofs.lemmas.List.{length-map}
 use Rattle.cc_model.specs.Record.{Side, Record, silent}
 use Rattle.cc_model.specs.Items.{handed, handed_by, handed_to_all, least}
-use Rattle.cc_runs.proofs.LinkedList.Queue.{Told}
+use Rattle.cc_runs.proofs.LinkedList.Queue.{Ghosts}
 use Rattle.cc_runs.proofs.LinkedList.Sides.{smallest, smallest_least, smallest_is}
 use Rattle.cc_runs.proofs.LinkedList.Grow.{Counted}
 
@@ -36,7 +36,7 @@ counts_get (s ∷ sides) zero = refl
 counts_get (s ∷ sides) (suc k) = counts_get sides k
 
 -- of a history with so many groups
-pub least_is : (g : Told) (h : Record) (m : ℕ) → Counted m g → length h.takes ≡ m + 1 → ((y : ℕ) → g.handed y ≡ length (handed h y)) → g.least ≡ handed_to_all h
+pub least_is : (g : Ghosts) (h : Record) (m : ℕ) → Counted m g → length h.takes ≡ m + 1 → ((y : ℕ) → g.handed y ≡ length (handed h y)) → g.least ≡ handed_to_all h
 least_is g h m counted many same = by_list h.takes refl
   where
     count : Side → ℕ

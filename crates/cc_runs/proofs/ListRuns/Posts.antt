@@ -1,6 +1,6 @@
 -- What holds of each pass and of each call, whatever the chains do: a begun call is one that its pass can make, with the next
 -- number of a send; and the calls in the history are such calls.
-use Rattle.std.proofs.Common.{◌≡◌, ℕ, zero, suc, ◌+◌, ◌-◌, ◌/◌, ◌^◌, ◌<◌, ◌≤◌, nat_lt, List, [], ◌∷◌, length, Bool, true, false, cond, ◌⊎◌, inl, inr, Some, ap, subst, arith}
+use Rattle.std.proofs.Common.{◌≡◌, ℕ, zero, suc, ◌+◌, ◌-◌, ◌/◌, ◌<◌, ◌≤◌, nat_lt, List, [], ◌∷◌, length, Bool, true, false, cond, ◌⊎◌, inl, inr, Some, ap, subst, arith}
 use Rattle.std.proofs.lemmas.Bool.{cases_lt, lt-ltb, le-ltb}
 use Rattle.std.specs.List.{AllByRecursion, slice_get}
 use Rattle.cc_model.specs.Record.{Record, of_group}

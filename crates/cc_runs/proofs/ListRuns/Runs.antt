@@ -18,11 +18,11 @@ use Rattle.cc_runs.specs.Run.{passes, nowhere, first_word, opening, begun_after,
 use Rattle.cc_model.proofs.Grows.{get_front, get_last}
 use Rattle.cc_runs.specs.MachineLaws.{links_at, linked_nodes}
 use Rattle.cc_runs.proofs.Ranges.{InRange}
-use Rattle.cc_runs.proofs.LinkedList.Queue.{Queue, Told}
+use Rattle.cc_runs.proofs.LinkedList.Queue.{Queue, Ghosts}
 use Rattle.cc_runs.proofs.LinkedList.Open as open_list
 use Rattle.cc_runs.proofs.LinkedList.Grow as grow
 use Rattle.cc_runs.proofs.LinkedList.Busy as busy
-use Rattle.cc_runs.proofs.LinkedList.Grow.{Held}
+use Rattle.cc_runs.proofs.LinkedList.Grow.{ListHolds}
 use Rattle.cc_runs.proofs.ListRuns.View.{Duty, Regs, none, resting, enq_at, regs_at, regs_of, queue_from, queue_of, long_of}
 use Rattle.cc_runs.proofs.ListRuns.Ties.{further, ReadsAt, IsServing, IsUndecidedAt, IsTaking, Linked}
 use Rattle.cc_runs.proofs.ListRuns.Facts.{lists, ChainFacts}
@@ -44,11 +44,11 @@ pub record Goes (c : Config) (s : State) (w : Whole c s) (t : State) (new : List
   pub linked : Linked w.parts.told whole.parts.told new
 
 -- the nodes linked so far are those of the places
-pub record LinkedAre (nodes : List ℕ) (g : Told) : Type 0 where
+pub record LinkedAre (nodes : List ℕ) (g : Ghosts) : Type 0 where
   pub many : length nodes ≡ g.accepted + 1
   pub each : (k : ℕ) → k ≤ g.accepted → slice_get nodes k ≡ Some (g.node k)
 
-linked_on : (nodes new : List ℕ) (g g' : Told) → LinkedAre nodes g → Linked g g' new → LinkedAre (nodes ++ new) g'
+linked_on : (nodes new : List ℕ) (g g' : Ghosts) → LinkedAre nodes g → Linked g g' new → LinkedAre (nodes ++ new) g'
 linked_on nodes [] g g' a l = record {
   many = ap length (append-nil nodes) ∙ omega (arith, a.many, l.0);
   each = λ k low. rw append-nil (a.each k (omega (arith, low, l.0)) ∙ ap (λ (x : ℕ). Some x) (sym (l.1 k (omega (arith, low, l.0)))));
@@ -279,7 +279,7 @@ module _ (c : Config) (fits : InRange c) where
   abbrev duty0 : Duty
   duty0 = record { e_pass = 0; e_call = record { pass = Pass.Sender 1; call = Call.Close; number = 0; known = 0 }; from = 0; d_pass = λ y. c.senders + (y * c.receivers + 0); d_call = λ y. record { pass = Pass.Sender 1; call = Call.Close; number = 0; known = 0 } }
 
-  abbrev told0 : Told
+  abbrev told0 : Ghosts
   told0 = open_list.opening long_of
 
   idle0 : (p : ℕ) → (s0.stand p).place ≡ Place.Idle
@@ -336,7 +336,7 @@ module _ (c : Config) (fits : InRange c) where
     taken = λ q. refl;
   }
 
-  list0 : Held c.capacity c.life (further c) queue0 told0
+  list0 : ListHolds c.capacity c.life (further c) queue0 told0
   list0 = record { inv = open_list.opens c.capacity c.life (further c + 1) queue0 long_of opens0; counted = grow.opening_counted (further c) long_of }
 
   same_queue0 : queue_of s0 duty0 ≡ queue0
@@ -355,7 +355,7 @@ module _ (c : Config) (fits : InRange c) where
   parts0 = record {
     duty = duty0;
     told = told0;
-    list = subst (λ (v : Queue). Held c.capacity c.life (further c) v told0) (sym same_queue0) list0;
+    list = subst (λ (v : Queue). ListHolds c.capacity c.life (further c) v told0) (sym same_queue0) list0;
     serving = record {
       e_only = λ q ne u. subst (λ (z : Place). IsServing z) (idle0 q) u;
       d_mine = λ y. receiver_chain c (c.senders + (y * c.receivers + 0)) (omega arith) ∙ ap Chain.Take (group_is c y 0 (omega (arith, fits.receivers)));

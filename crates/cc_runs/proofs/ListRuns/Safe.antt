@@ -8,7 +8,7 @@ use Rattle.cc_runs.proofs.Chains.Safe.{four_words}
 use Rattle.cc_runs.specs.State.{State, chain_of}
 use Rattle.cc_runs.specs.Ready.{IsSafe}
 use Rattle.cc_runs.proofs.Ranges.{InRange}
-use Rattle.cc_runs.proofs.LinkedList.Queue.{Queue, Enq, Told}
+use Rattle.cc_runs.proofs.LinkedList.Queue.{Queue, Enq, Ghosts}
 use Rattle.cc_runs.proofs.LinkedList.Invariant.{LInv}
 use Rattle.cc_runs.proofs.LinkedList.Limits as limits
 use Rattle.cc_runs.proofs.ListRuns.View.{Duty, Regs, enq_in, enq_at, regs_in, regs_at, regs_of, queue_from}
@@ -52,7 +52,7 @@ module _ (c : Config) (s : State) (p y : ℕ) (chain : chain_of c p ≡ Chain.Ta
 
 -- ---- a node that the services name is there
 
-module _ (c : Config) (mem : Word → ℕ) (d : Duty) (e : Enq) (r : ℕ → Regs) (g : Told) (i : LInv c.capacity c.life (further c + 1) (queue_from mem d e r) g) where
+module _ (c : Config) (mem : Word → ℕ) (d : Duty) (e : Enq) (r : ℕ → Regs) (g : Ghosts) (i : LInv c.capacity c.life (further c + 1) (queue_from mem d e r) g) where
   least_last : g.node g.accepted ≤ c.capacity
   least_last = i.live.live_in g.accepted i.hands.least_in (omega arith)
 

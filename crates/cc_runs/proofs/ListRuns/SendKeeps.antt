@@ -9,13 +9,13 @@ use Rattle.cc_runs.proofs.Chains.Registers.{HasRequest}
 use Rattle.cc_runs.specs.ServiceLine.{Next, On, Decides, DecidesAndOn, Tells}
 use Rattle.cc_runs.specs.SendLines.{line, by_shut, operation}
 use Rattle.cc_runs.proofs.ReadWords.{behind_word}
-use Rattle.cc_runs.proofs.LinkedList.Queue.{Enq, Queue, Told}
+use Rattle.cc_runs.proofs.LinkedList.Queue.{Enq, Queue, Ghosts}
 use Rattle.cc_runs.proofs.LinkedList.Invariant.{LInv}
 use Rattle.cc_runs.proofs.LinkedList.Scan.{looked, looked_role, looked_known}
 use Rattle.cc_runs.proofs.LinkedList.Grow.{Prepares, Accepts, Shuts}
 use Rattle.cc_runs.proofs.ListRuns.View.{Duty, Regs, long_of, asks_of, enq_in, resting, item_word, part_here, part_other, queue_from}
 
-module _ (mem : Word → ℕ) (d : Duty) (r : ℕ → Regs) (c : Config) (n : ℕ) (g : Told) where
+module _ (mem : Word → ℕ) (d : Duty) (r : ℕ → Regs) (c : Config) (n : ℕ) (g : Ghosts) where
   -- the invariant at a step of the service, and where nobody serves
   abbrev Keeps : (Word → ℕ) → Sending → Type 0
   Keeps m service = LInv c.capacity c.life n (queue_from m d (enq_in d.e_call d.from service) r) g
@@ -132,14 +132,14 @@ module _ (mem : Word → ℕ) (d : Duty) (r : ℕ → Regs) (c : Config) (n : �
       grind (arith, cases_eq at, role, known, here)
 
 -- the cursor is where the scan begins
-pub read_cursor : (mem : Word → ℕ) (d : Duty) (r : ℕ → Regs) (c : Config) (n : ℕ) (g : Told) (parcel : Parcel) (from : ℕ) → mem (Word.Object Object.Cursor) ≡ from
+pub read_cursor : (mem : Word → ℕ) (d : Duty) (r : ℕ → Regs) (c : Config) (n : ℕ) (g : Ghosts) (parcel : Parcel) (from : ℕ) → mem (Word.Object Object.Cursor) ≡ from
     → LInv c.capacity c.life n (queue_from mem d (enq_in d.e_call d.from (Sending.ReadCursor parcel)) r) g
     → LInv c.capacity c.life n (queue_from mem d (enq_in d.e_call from (Sending.ReadPassed parcel from 1)) r) g
 read_cursor mem d r c n g parcel from e i = grind arith
 
 -- ---- the stores that move the ghosts
 
-module _ (mem : Word → ℕ) (d : Duty) (r : ℕ → Regs) (c : Config) (n : ℕ) (g g' : Told) where
+module _ (mem : Word → ℕ) (d : Duty) (r : ℕ → Regs) (c : Config) (n : ℕ) (g g' : Ghosts) where
   -- the line of this step keeps it, with these ghosts then
   abbrev Moves : Sending → Type 0
   Moves service = Keeps mem d r c n g mem service → After mem d r c n g' (stored mem (operation c 0 service)) (line c 0 service (mem (word_of (operation c 0 service)))).next
@@ -199,6 +199,6 @@ module _ (mem : Word → ℕ) (d : Duty) (r : ℕ → Regs) (c : Config) (n : �
       node_same k a = u.node k (λ e. omega arith)
 
 -- a call enters the service
-pub enters : (mem : Word → ℕ) (d d' : Duty) (old : Enq) (r : ℕ → Regs) (c : Config) (n : ℕ) (g : Told) (q : Request) → old.stage ≡ 0 → g.tells ≡ long_of → d'.e_call.known ≤ g.least → d'.d_call ≡ d.d_call
+pub enters : (mem : Word → ℕ) (d d' : Duty) (old : Enq) (r : ℕ → Regs) (c : Config) (n : ℕ) (g : Ghosts) (q : Request) → old.stage ≡ 0 → g.tells ≡ long_of → d'.e_call.known ≤ g.least → d'.d_call ≡ d.d_call
     → LInv c.capacity c.life n (queue_from mem d old r) g → LInv c.capacity c.life n (queue_from mem d' (enq_in d'.e_call d'.from (Sending.ReadShut q)) r) g
 enters mem d d' old r c n g q from tells known same i = let long = ap (λ (f : ℕ → ℕ). f (request_in d'.e_call).tag) tells in grind (arith, from, long, known, same)

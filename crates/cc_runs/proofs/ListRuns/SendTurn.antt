@@ -1,5 +1,5 @@
 -- A step of the service of a send or a close keeps the list's invariant, and decides a lawful answer.
-use Rattle.std.proofs.Common.{◌≡◌, ◌≢◌, ℕ, zero, suc, ◌+◌, ◌-◌, ◌%◌, ◌<◌, ◌≤◌, ◌^◌, ◌==◌, List, [], ◌∷◌, ◌++◌, length, Bool, true, false, ◌||◌, cond, if◌then◌else◌, Some, None, refl, sym, ap, ◌∙◌, subst, arith, inl, inr, append-nil, length-append}
+use Rattle.std.proofs.Common.{◌≡◌, ◌≢◌, ℕ, zero, suc, ◌+◌, ◌-◌, ◌%◌, ◌<◌, ◌≤◌, ◌==◌, List, [], ◌∷◌, ◌++◌, length, Bool, true, false, ◌||◌, cond, if◌then◌else◌, Some, None, refl, sym, ap, ◌∙◌, subst, arith, inl, inr, append-nil, length-append}
 use Rattle.std.proofs.lemmas.Bool.{cases_eq, cases_lt, eqb-true, eqb-false}
 use Rattle.std.proofs.Math.Nat.{mod-eq_of_lt, mod_self}
 use Rattle.std.specs.List.{slice_get}
@@ -16,10 +16,10 @@ use Rattle.cc_runs.specs.SendLines.{operation, goes, decides, after, mark, by_sh
 use Rattle.cc_runs.specs.ServiceLine as line
 use Rattle.cc_runs.specs.MachineLaws.{links}
 use Rattle.cc_runs.proofs.ReadWords.{behind_word}
-use Rattle.cc_runs.proofs.LinkedList.Queue.{Queue, Told}
+use Rattle.cc_runs.proofs.LinkedList.Queue.{Queue, Ghosts}
 use Rattle.cc_runs.proofs.LinkedList.Invariant.{LInv}
 use Rattle.cc_runs.proofs.LinkedList.Grow as grow
-use Rattle.cc_runs.proofs.LinkedList.Grow.{Held, Prepares, Accepts, Shuts}
+use Rattle.cc_runs.proofs.LinkedList.Grow.{ListHolds, Prepares, Accepts, Shuts}
 use Rattle.cc_runs.proofs.LinkedList.Decide as decide
 use Rattle.cc_runs.proofs.LinkedList.Limits as limits
 use Rattle.cc_runs.proofs.ListRuns.View.{Duty, Regs, enq_in, enq_at, queue_from}
@@ -29,10 +29,10 @@ use Rattle.cc_runs.proofs.ListRuns.Decided.{told_send, e_accepted, e_shut, e_dec
 use Rattle.cc_runs.proofs.ListRuns.Ties.{Ties, further, body_at, item_same, Scanned, Reads, ReadsAt, IsUndecided, IsUndecidedAt, IsBegun, IsNextSend, Linked, ties_same, shut_number, shut_true, shut_false}
 
 -- what such a step leads to
-pub record TurnBy (c : Config) (mem : Word → ℕ) (d : Duty) (r : ℕ → Regs) (h : Record) (g : Told) (at : Place) (new : List ℕ) : Type 0 where
+pub record TurnBy (c : Config) (mem : Word → ℕ) (d : Duty) (r : ℕ → Regs) (h : Record) (g : Ghosts) (at : Place) (new : List ℕ) : Type 0 where
   pub from : ℕ
-  pub told : Told
-  pub list : Held c.capacity c.life (further c) (queue_from mem d (enq_at d.e_call from at) r) told
+  pub told : Ghosts
+  pub list : ListHolds c.capacity c.life (further c) (queue_from mem d (enq_at d.e_call from at) r) told
   pub least_up : g.least ≤ told.least
   pub entries_up : g.accepted + g.shut ≤ told.accepted + told.shut
   pub reads : ReadsAt c d.e_call from at
@@ -41,7 +41,7 @@ pub record TurnBy (c : Config) (mem : Word → ℕ) (d : Duty) (r : ℕ → Regs
   pub linked : Linked g told new
 
 -- where it links no node
-abbrev pub Turn : Config → (Word → ℕ) → Duty → (ℕ → Regs) → Record → Told → Place → Type 0
+abbrev pub Turn : Config → (Word → ℕ) → Duty → (ℕ → Regs) → Record → Ghosts → Place → Type 0
 Turn c mem d r h g at = TurnBy c mem d r h g at []
 
 -- the served call is one of a sender
@@ -81,15 +81,15 @@ or_true : (b : Bool) → b || (true || false) ≡ true
 or_true true = refl
 or_true false = refl
 
-module _ (c : Config) (mem : Word → ℕ) (d : Duty) (r : ℕ → Regs) (h : Record) (g : Told) (ties : Ties c h g) (caller : Caller c d.e_call) (job : Job) where
+module _ (c : Config) (mem : Word → ℕ) (d : Duty) (r : ℕ → Regs) (h : Record) (g : Ghosts) (ties : Ties c h g) (caller : Caller c d.e_call) (job : Job) where
   abbrev AtStep : (Word → ℕ) → Sending → Queue
   AtStep m service = queue_from m d (enq_in d.e_call d.from service) r
 
   abbrev AtRest : (Word → ℕ) → Queue
   AtRest m = queue_from m d (enq_at d.e_call d.from Place.Idle) r
 
-  abbrev Has : Queue → Told → Type 0
-  Has v told = Held c.capacity c.life (further c) v told
+  abbrev Has : Queue → Ghosts → Type 0
+  Has v told = ListHolds c.capacity c.life (further c) v told
 
   -- on in the service, with no ghost moved
   on : (m : Word → ℕ) (there : Sending) → grow.Counted (further c) g → LInv c.capacity c.life (further c + 1) (AtStep m there) g → Reads c d.e_call d.from there → (IsUndecided there → IsNextSend h d.e_call) → Turn c m d r h g (Place.Sending job there)
@@ -226,7 +226,7 @@ module _ (c : Config) (mem : Word → ℕ) (d : Duty) (r : ℕ → Regs) (h : Re
 
   -- ---- what the ghosts of the node in preparation change of the ties
 
-  ties_told : (told : Told) → told.accepted ≡ g.accepted → ((y : ℕ) → told.handed y ≡ g.handed y) → told.shut ≡ g.shut → told.tells ≡ g.tells → ((k j : ℕ) → told.items k j ≡ g.items k j) → Ties c h told
+  ties_told : (told : Ghosts) → told.accepted ≡ g.accepted → ((y : ℕ) → told.handed y ≡ g.handed y) → told.shut ≡ g.shut → told.tells ≡ g.tells → ((k j : ℕ) → told.items k j ≡ g.items k j) → Ties c h told
   ties_told told a b s t i = record {
     some = ties.some;
     many = ties.many;
@@ -242,7 +242,7 @@ module _ (c : Config) (mem : Word → ℕ) (d : Duty) (r : ℕ → Regs) (h : Re
       → Turn c (put mem (Word.Item at ItemField.Passed) 0) d r h g (Place.Sending job (Sending.ResetItemNext parcel at))
   reset_passed parcel at has asked next =
       let v : Queue = AtStep mem (Sending.ResetPassed parcel at) in
-      let told : Told = grow.preparing v g in
+      let told : Ghosts = grow.preparing v g in
       let u : Prepares v g told = grow.prepares v g in
       record {
         from = d.from;
@@ -268,7 +268,7 @@ module _ (c : Config) (mem : Word → ℕ) (d : Duty) (r : ℕ → Regs) (h : Re
     abbrev it : Item
     it = item_of count (request_in d.e_call).tag (request_in d.e_call).body
 
-    abbrev told : Told
+    abbrev told : Ghosts
     told = grow.accepting before g
 
     u : Accepts before g told
@@ -332,7 +332,7 @@ module _ (c : Config) (mem : Word → ℕ) (d : Duty) (r : ℕ → Regs) (h : Re
     abbrev shut_told : Answer
     shut_told = Answer.Close (CloseAnswer.Shut total)
 
-    abbrev told_mark : Told
+    abbrev told_mark : Ghosts
     told_mark = grow.shutting g
 
     shuts_it : Shuts g told_mark

@@ -7,7 +7,7 @@ use Rattle.cc_runs.specs.SendLines as send_side
 use Rattle.cc_runs.specs.Step.{stepped_from}
 use Rattle.cc_runs.specs.MachineLaws.{links}
 use Rattle.cc_runs.proofs.LinkedList.Queue.{Queue}
-use Rattle.cc_runs.proofs.LinkedList.Grow.{Held}
+use Rattle.cc_runs.proofs.LinkedList.Grow.{ListHolds}
 use Rattle.cc_runs.proofs.ListRuns.View.{Duty, Regs, enq_at, regs_at, regs_of, queue_from, queue_of, hold_here, hold_same, hold_all}
 use Rattle.cc_runs.proofs.ListRuns.Ties.{further, ReadsAt, IsBegun, IsServing, IsUndecidedAt, IsTaking, IsNextSend, IsNextTake}
 use Rattle.cc_runs.proofs.ListRuns.SendTurn as send_turn
@@ -42,7 +42,7 @@ module _ (c : Config) (s : State) (p begun own : ℕ) (job : Job) (service : Sen
 
   turn : send_turn.TurnBy c (stored s.mem (send_side.operation c job.round.at service)) d regs (noted Chain.Send s.history None (send_side.decides c service found)) k.told there (links service)
   turn = send_turn.send_turn c s.mem d regs s.history k.told k.ties k.serving.caller job service found on refl (
-    subst (λ (z : Place). Held c.capacity c.life (further c) (queue_from s.mem d (enq_at d.e_call d.from z) regs) k.told) stands_there k.list,
+    subst (λ (z : Place). ListHolds c.capacity c.life (further c) (queue_from s.mem d (enq_at d.e_call d.from z) regs) k.told) stands_there k.list,
     subst (λ (z : Place). ReadsAt c d.e_call d.from z) stands_there k.serving.reads,
     subst (λ (z : Place). IsUndecidedAt z → IsNextSend s.history d.e_call) stands_there k.serving.next_send,
   )
@@ -66,7 +66,7 @@ module _ (c : Config) (s : State) (p begun own : ℕ) (job : Job) (service : Sen
     parts = record {
       duty = record d { from = turn.from };
       told = turn.told;
-      list = subst (λ (v : Queue). Held c.capacity c.life (further c) v turn.told) (sym same_queue) turn.list;
+      list = subst (λ (v : Queue). ListHolds c.capacity c.life (further c) v turn.told) (sym same_queue) turn.list;
       serving = record {
         e_only = hold_all (λ (q : ℕ) (z : Stand). q ≢ d.e_pass → IsServing z.place → ⊥) s.stand p _ (λ ne u. ne mine) (λ q ne n u. k.serving.e_only q n u);
         d_mine = k.serving.d_mine;

@@ -10,7 +10,7 @@ use Rattle.cc_runs.specs.Lines.{group_of}
 use Rattle.cc_runs.specs.TakeLines as take_side
 use Rattle.cc_runs.specs.Step.{stepped_from}
 use Rattle.cc_runs.proofs.LinkedList.Queue.{Enq, Queue}
-use Rattle.cc_runs.proofs.LinkedList.Grow.{Held}
+use Rattle.cc_runs.proofs.LinkedList.Grow.{ListHolds}
 use Rattle.cc_runs.proofs.ListRuns.View.{Duty, enq_at, regs_at, regs_of, queue_from, hold_here, hold_other, hold_same, hold_all}
 use Rattle.cc_runs.proofs.ListRuns.Ties.{further, ReadsAt, IsServing, IsUndecidedAt, IsTaking, IsNextSend, IsNextTake}
 use Rattle.cc_runs.proofs.ListRuns.Decided.{group_other}
@@ -77,7 +77,7 @@ module _ (c : Config) (s : State) (p begun own y : ℕ) (chain : chain_of c p �
     parts = record {
       duty = d;
       told = turn.told;
-      list = subst (λ (v : Queue). Held c.capacity c.life (further c) v turn.told) (sym (ap (λ (e : Enq). queue_from t.mem d e (regs_of t.stand d)) same_enq)) turn.list;
+      list = subst (λ (v : Queue). ListHolds c.capacity c.life (further c) v turn.told) (sym (ap (λ (e : Enq). queue_from t.mem d e (regs_of t.stand d)) same_enq)) turn.list;
       serving = record {
         e_only = hold_all (λ (q : ℕ) (z : Stand). q ≢ d.e_pass → IsServing z.place → ⊥) s.stand p _ (λ ne u. still.serves u) (λ q ne n u. k.serving.e_only q n u);
         d_mine = k.serving.d_mine;

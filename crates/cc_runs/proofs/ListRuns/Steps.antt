@@ -18,7 +18,7 @@ use Rattle.cc_runs.specs.Step.{stepped_from}
 use Rattle.cc_runs.specs.Run.{passes}
 use Rattle.cc_runs.specs.MachineLaws.{links_at}
 use Rattle.cc_runs.proofs.ReadWords.{behind_word}
-use Rattle.cc_runs.proofs.LinkedList.Queue.{Enq, Told}
+use Rattle.cc_runs.proofs.LinkedList.Queue.{Enq, Ghosts}
 use Rattle.cc_runs.proofs.ListRuns.View.{Duty, Regs, queue_from}
 use Rattle.cc_runs.proofs.ListRuns.Ties.{Ties, IsNextSend, IsNextTake, ties_same}
 use Rattle.cc_runs.proofs.ListRuns.SendTurn.{Caller}
@@ -52,7 +52,7 @@ next_take_still round (suc n) = in_send _ _
 get_more : {X : Type 0} (xs : List X) (x : X) (k : ℕ) (y : X) → slice_get xs k ≡ Some y → slice_get (xs ++ x ∷ []) k ≡ Some y
 get_more xs x k y is = get_front xs (x ∷ []) k y is
 
-e_call_ties : (c : Config) (h : Record) (e : Entry) (g : Told) → Ties c h g → Ties c (with_sends h (with_call h.sends e)) g
+e_call_ties : (c : Config) (h : Record) (e : Entry) (g : Ghosts) → Ties c h g → Ties c (with_sends h (with_call h.sends e)) g
 e_call_ties c h e g t =
     let same : accepted (with_sends h (with_call h.sends e)) ≡ accepted h = accepted_calls_more c 0 false h.sends.calls h.sends.answers (e ∷ []) t.lawful.sends in
     ties_same c h (with_sends h (with_call h.sends e)) g t refl same refl (λ y. refl) (record {
@@ -85,7 +85,7 @@ module _ (c : Config) (h : Record) (y : ℕ) (e : Entry) (inside : y < length h.
     | inr ne ↦ subst (λ (s : Side). slice_get s.calls (length s.answers) ≡ Some a) (sym (group_other h y x (with_call (of_group h y) e) ne)) n
   ]
 
-  pub d_call_ties : (g : Told) → Ties c h g → Ties c (called h y e) g
+  pub d_call_ties : (g : Ghosts) → Ties c h g → Ties c (called h y e) g
   d_call_ties g t = ties_same c h (called h y e) g t (length-set h.takes y _) refl refl (called_side (λ (s : Side). length (handed_by s.answers)) refl) (record {
     sends = t.lawful.sends;
     takes = λ x. elim (cases_eq x y) [

@@ -11,16 +11,16 @@ use Rattle.cc_runs.proofs.ReadWords.{next_word, behind_word}
 use Rattle.cc_runs.proofs.Chains.View.{words_of}
 use Rattle.cc_runs.specs.ServiceLine.{Next, On, Decides, DecidesAndOn, Tells}
 use Rattle.cc_runs.specs.TakeLines.{line, by_next, by_tag, operation}
-use Rattle.cc_runs.proofs.LinkedList.Queue.{Enq, Queue, Told, SameWords, SameCells}
+use Rattle.cc_runs.proofs.LinkedList.Queue.{Enq, Queue, Ghosts, SameWords, SameCells}
 use Rattle.cc_runs.proofs.LinkedList.Invariant.{LInv, Heads, Takes}
 use Rattle.cc_runs.proofs.LinkedList.Grow.{Gives}
 use Rattle.cc_runs.proofs.ListRuns.View.{Duty, Regs, long_of, none, regs_in, queue_from, object_here, object_other}
 
 -- what names no side of the takes stays where they alone change
-sides_keep : (c life n : ℕ) (v v' : Queue) (g : Told) → SameWords v v' → SameCells v v' → v'.enq ≡ v.enq → LInv c life n v g → Heads c life n v' g → Takes c life n v' g → LInv c life n v' g
+sides_keep : (c life n : ℕ) (v v' : Queue) (g : Ghosts) → SameWords v v' → SameCells v v' → v'.enq ≡ v.enq → LInv c life n v g → Heads c life n v' g → Takes c life n v' g → LInv c life n v' g
 sides_keep c life n v v' g words cells enq i heads takes = grind (arith, heads, takes)
 
-module _ (mem : Word → ℕ) (d : Duty) (e : Enq) (c : Config) (n : ℕ) (g : Told) (y : ℕ) (inside : y < n) (r r' : ℕ → Regs) (same : (q : ℕ) → q ≢ y → r' q ≡ r q) where
+module _ (mem : Word → ℕ) (d : Duty) (e : Enq) (c : Config) (n : ℕ) (g : Ghosts) (y : ℕ) (inside : y < n) (r r' : ℕ → Regs) (same : (q : ℕ) → q ≢ y → r' q ≡ r q) where
   -- the invariant before the step and after it
   abbrev Before : Type 0
   Before = LInv c.capacity c.life n (queue_from mem d e r) g
@@ -185,7 +185,7 @@ module _ (mem : Word → ℕ) (d : Duty) (e : Enq) (c : Config) (n : ℕ) (g : T
       head_same q = object_other mem (Obj.Taken y) (Obj.Head q) (parcel.place + 1) (λ z. omega (arith, z))
 
   -- the add to passed of the old dummy: one item more is handed out on this side
-  pub add_passed : (g' : Told) (dummy : ℕ) (parcel : Parcel) → Gives n g g' y → r y ≡ regs_in (Taking.AddPassed dummy parcel) → Before → r' y ≡ none
+  pub add_passed : (g' : Ghosts) (dummy : ℕ) (parcel : Parcel) → Gives n g g' y → r y ≡ regs_in (Taking.AddPassed dummy parcel) → Before → r' y ≡ none
       → LInv c.capacity c.life n (queue_from (stored mem (operation y (Taking.AddPassed dummy parcel))) d e r') g'
   add_passed g' dummy parcel u a i b = record {
     hands = grind (arith, cases_eq, more, live i, least_in);
@@ -224,7 +224,7 @@ module _ (mem : Word → ℕ) (d : Duty) (e : Enq) (c : Config) (n : ℕ) (g : T
       least_in = grind (arith, u.least_most y)
 
 -- a call of this group enters its service
-pub enters : (mem : Word → ℕ) (d d' : Duty) (e : Enq) (r r' : ℕ → Regs) (c : Config) (n : ℕ) (g : Told) (y : ℕ) → ((q : ℕ) → q ≢ y → (r' q ≡ r q) × (d'.d_call q ≡ d.d_call q))
+pub enters : (mem : Word → ℕ) (d d' : Duty) (e : Enq) (r r' : ℕ → Regs) (c : Config) (n : ℕ) (g : Ghosts) (y : ℕ) → ((q : ℕ) → q ≢ y → (r' q ≡ r q) × (d'.d_call q ≡ d.d_call q))
     → (r y).stage ≡ 0 → r' y ≡ regs_in Taking.ReadHead → (d'.d_call y).known ≤ g.accepted + g.shut → LInv c.capacity c.life n (queue_from mem d e r) g → LInv c.capacity c.life n (queue_from mem d' e r') g
 enters mem d d' e r r' c n g y others from b known i = sides_keep c.capacity c.life n _ _ g (record { last = refl; shut = refl; count = refl; cursor = refl }) (record { next = λ x. refl; passed = λ x. refl; word = λ x j. refl }) refl i
     (grind (arith, cases_eq, b, others, from)) (grind (arith, cases_eq, b, others, from, known))

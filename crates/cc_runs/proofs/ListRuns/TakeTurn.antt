@@ -15,10 +15,10 @@ use Rattle.cc_runs.proofs.ReadWords.{one_item}
 use Rattle.cc_runs.proofs.Chains.View.{words_of}
 use Rattle.cc_runs.specs.TakeLines.{operation, goes, decides}
 use Rattle.cc_runs.proofs.Chains.Facts.{noted_none}
-use Rattle.cc_runs.proofs.LinkedList.Queue.{Enq, Queue, Told}
+use Rattle.cc_runs.proofs.LinkedList.Queue.{Enq, Queue, Ghosts}
 use Rattle.cc_runs.proofs.LinkedList.Invariant.{LInv}
 use Rattle.cc_runs.proofs.LinkedList.Grow as grow
-use Rattle.cc_runs.proofs.LinkedList.Grow.{Held, Gives}
+use Rattle.cc_runs.proofs.LinkedList.Grow.{ListHolds, Gives}
 use Rattle.cc_runs.proofs.LinkedList.Decide as decide
 use Rattle.cc_runs.proofs.LinkedList.Limits as limits
 use Rattle.cc_runs.proofs.ListRuns.View.{Duty, Regs, long_of, none, regs_in, regs_at, queue_from}
@@ -27,9 +27,9 @@ use Rattle.cc_runs.proofs.ListRuns.Decided.{told_take, d_handed, d_others, d_dec
 use Rattle.cc_runs.proofs.ListRuns.Ties.{Ties, further, body_at, item_same, word_at, IsTaking, IsNextTake, Linked, ties_same, shut_true}
 
 -- what such a step leads to, where the services' registers are these then
-pub record Turn (c : Config) (mem : Word → ℕ) (d : Duty) (e : Enq) (y : ℕ) (r : ℕ → Regs) (h : Record) (g : Told) (at : Place) : Type 0 where
-  pub told : Told
-  pub list : Held c.capacity c.life (further c) (queue_from mem d e r) told
+pub record Turn (c : Config) (mem : Word → ℕ) (d : Duty) (e : Enq) (y : ℕ) (r : ℕ → Regs) (h : Record) (g : Ghosts) (at : Place) : Type 0 where
+  pub told : Ghosts
+  pub list : ListHolds c.capacity c.life (further c) (queue_from mem d e r) told
   pub least_up : g.least ≤ told.least
   pub entries_up : g.accepted + g.shut ≤ told.accepted + told.shut
   pub next_call : IsTaking at → IsNextTake h y (d.d_call y)
@@ -37,8 +37,8 @@ pub record Turn (c : Config) (mem : Word → ℕ) (d : Duty) (e : Enq) (y : ℕ)
   pub linked : Linked g told []
 
 -- a step of group y, whose service alone has other registers then
-module _ (c : Config) (mem : Word → ℕ) (d : Duty) (e : Enq) (h : Record) (g : Told) (ties : Ties c h g) (y : ℕ) (inside : y < groups c) (next : IsNextTake h y (d.d_call y)) (job : Job)
-    (r r' : ℕ → Regs) (same : (q : ℕ) → q ≢ y → r' q ≡ r q) (has : Held c.capacity c.life (further c) (queue_from mem d e r) g) where
+module _ (c : Config) (mem : Word → ℕ) (d : Duty) (e : Enq) (h : Record) (g : Ghosts) (ties : Ties c h g) (y : ℕ) (inside : y < groups c) (next : IsNextTake h y (d.d_call y)) (job : Job)
+    (r r' : ℕ → Regs) (same : (q : ℕ) → q ≢ y → r' q ≡ r q) (has : ListHolds c.capacity c.life (further c) (queue_from mem d e r) g) where
   below : y < further c + 1
   below = omega (arith, inside, ties.some)
 
@@ -131,7 +131,7 @@ module _ (c : Config) (mem : Word → ℕ) (d : Duty) (e : Enq) (h : Record) (g 
     abbrev a : Answer
     a = Answer.Take (TakeAnswer.Got (item_in parcel))
 
-    abbrev told : Told
+    abbrev told : Ghosts
     told = grow.giving (further c) g y
 
     u : Gives (further c + 1) g told y

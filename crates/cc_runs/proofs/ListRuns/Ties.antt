@@ -1,5 +1,5 @@
 -- How the list's ghosts, and what the services have read, are tied to the history.
-use Rattle.std.proofs.Common.{◌≡◌, ℕ, zero, suc, ◌+◌, ◌-◌, ◌<◌, ◌≤◌, List, [], ◌∷◌, length, Bool, true, false, if◌then◌else◌, Some, refl, sym, ap, ◌∙◌, arith}
+use Rattle.std.proofs.Common.{◌≡◌, ℕ, suc, ◌+◌, ◌-◌, ◌<◌, ◌≤◌, List, [], ◌∷◌, length, Bool, true, false, if◌then◌else◌, Some, refl, sym, ap, ◌∙◌, arith}
 use Rattle.std.specs.List.{slice_get}
 use Rattle.cc_model.specs.Record.{Record, of_group}
 use Rattle.cc_model.specs.Items.{accepted, is_shut, handed}
@@ -8,7 +8,7 @@ use Rattle.cc_runs.specs.Words.{groups}
 use Rattle.cc_runs.specs.Codes.{item_of, further_words, word}
 use Rattle.cc_runs.proofs.Chains.Registers.{HasRequest}
 use Rattle.cc_runs.proofs.ListRuns.View.{long_of}
-use Rattle.cc_runs.proofs.LinkedList.Queue.{Told}
+use Rattle.cc_runs.proofs.LinkedList.Queue.{Ghosts}
 use Rattle.cc_runs.proofs.ListRuns.Decided.{Lawful}
 
 -- 1 where the list is shut
@@ -25,17 +25,14 @@ body_at words = record { first = words 1; second = words 2; third = words 3; fou
 
 -- which are those words
 pub word_at : (words : ℕ → ℕ) (i : ℕ) → i ≤ 3 → word (body_at words) i ≡ words (suc i)
-word_at words zero most = refl
-word_at words (suc zero) most = refl
-word_at words (suc (suc zero)) most = refl
-word_at words (suc (suc (suc zero))) most = refl
 word_at words (suc (suc (suc (suc i)))) most = absurd (omega arith)
+word_at words _ most = refl
 
 pub item_same : (k : ℕ) (f g : ℕ → ℕ) → ((j : ℕ) → f j ≡ g j) → item_of k (f 0) (body_at f) ≡ item_of k (g 0) (body_at g)
 item_same k f g same = λ i. item_of k (same 0 i) (body_at (λ j. same j i))
 
 -- the ghosts are those of the history, which has a side for each group and whose answers are lawful; each item has as many words as its tag tells
-pub record Ties (c : Config) (h : Record) (g : Told) : Type 0 where
+pub record Ties (c : Config) (h : Record) (g : Ghosts) : Type 0 where
   pub some : 0 < groups c
   pub many : length h.takes ≡ groups c
   pub accepted_is : g.accepted ≡ length (accepted h)
@@ -107,13 +104,13 @@ abbrev pub IsNextTake : Record → (group : ℕ) → Entry → Type 0
 IsNextTake h y e = slice_get (of_group h y).calls (length (of_group h y).answers) ≡ Some e
 
 -- the nodes of the places so far stay, and these nodes were linked behind them
-abbrev pub Linked : Told → Told → List ℕ → Type 0
+abbrev pub Linked : Ghosts → Ghosts → List ℕ → Type 0
 Linked g g' [] = (g'.accepted ≡ g.accepted) × ((j : ℕ) → j ≤ g.accepted → g'.node j ≡ g.node j)
 Linked g g' (x ∷ rest) = (rest ≡ []) × (g'.accepted ≡ g.accepted + 1) × (g'.node (g.accepted + 1) ≡ x) × ((j : ℕ) → j ≤ g.accepted → g'.node j ≡ g.node j)
 
 -- ---- ties of a history that accepted and handed out the same
 
-pub ties_same : (c : Config) (h later : Record) (g : Told) → Ties c h g → length later.takes ≡ length h.takes → accepted later ≡ accepted h → is_shut later ≡ is_shut h → ((y : ℕ) → length (handed later y) ≡ length (handed h y)) → Lawful c later → Ties c later g
+pub ties_same : (c : Config) (h later : Record) (g : Ghosts) → Ties c h g → length later.takes ≡ length h.takes → accepted later ≡ accepted h → is_shut later ≡ is_shut h → ((y : ℕ) → length (handed later y) ≡ length (handed h y)) → Lawful c later → Ties c later g
 ties_same c h later g t n a s d lawful = record {
   some = t.some;
   many = n ∙ t.many;

@@ -103,14 +103,6 @@ IsWaiting Place.Idle = ⊥
 IsWaiting at = IsAfter at
 
 pub plain_goes : (c : Config) (x : Chain) (own : ℕ) (at : Place) (found : ℕ) → IsWaiting at → Plain (goes (lists c) x own at found)
-plain_goes c x own (Place.ReadNext round) found never = absurd never
-plain_goes c x own Place.Idle found never = absurd never
-plain_goes c x own (Place.ResetNext e) found never = absurd never
-plain_goes c x own (Place.ResetState e) found never = absurd never
-plain_goes c x own (Place.Exchange e) found never = absurd never
-plain_goes c x own (Place.Sending job service) found never = absurd never
-plain_goes c x own (Place.Taking job service) found never = absurd never
-plain_goes c x own (Place.Counting job service) found never = absurd never
 plain_goes c x own (Place.WriteTag put request) found u = plain (Place.WriteBody put request 0) tt
 plain_goes c x own (Place.WriteBody put request i) found u = if_plain (nat_lt i (further_words request.tag)) _ _ (plain (Place.WriteBody put request (i + 1)) tt) (plain (Place.Link put) tt)
 plain_goes c x own (Place.Link put) found u = plain Place.ReadState tt
@@ -124,6 +116,7 @@ plain_goes c x own Place.ReadAnswer found u = plain_ret x found
 plain_goes c x own (Place.ReadAnswerTag at) found u = plain (Place.ReadAnswerBody (parcel at found no_words) 0) tt
 plain_goes c x own (Place.ReadAnswerBody at i) found u = if_plain (nat_lt i (further_words at.tag)) _ _ (plain (Place.ReadAnswerBody (with_read at i found) (i + 1)) tt) (plain (Place.Finished _) tt)
 plain_goes c x own (Place.Finished told) found u = plain (Place.Finished told) tt
+plain_goes c x own _ found never = absurd never
 
 -- ---- where a service's steps lead
 
