@@ -1,3 +1,4 @@
+mod Stands
 pub mod SideRooms
 pub mod Rows
 pub mod Faults

@@ -67,7 +67,7 @@ impl Board {
     }
 
     /// The step at the place where the pass stands. Each arm reads of that place only what its step needs.
-    #[tactic(auto, unfolding(crate::specs::View::state_in))]
+    #[tactic(auto, using(crate::proofs::Stands::stands_at))]
     fn step(&mut self, who: Stepper) -> Option<Kind>
         requires pass { who.pass < length self.old.stands.items }
         requires can { CanStep self.old who (place_of self.old who) }

@@ -385,7 +385,7 @@ impl Board {
         Kind::WriteObject
     }
 
-    #[tactic(auto, unfolding(crate::specs::View::state_in))]
+    #[tactic(auto, using(crate::proofs::Stands::stands_at))]
     pub fn send(&mut self, who: Stepper) -> Kind
         requires pass { who.pass < length self.old.stands.items }
         requires at { IsSending (place_of self.old who) }

@@ -171,7 +171,7 @@ impl Board {
         Kind::AddPassed
     }
 
-    #[tactic(auto, unfolding(crate::specs::View::state_in))]
+    #[tactic(auto, using(crate::proofs::Stands::stands_at))]
     pub fn take(&mut self, who: Stepper) -> Kind
         requires pass { who.pass < length self.old.stands.items }
         requires at { IsTaking (place_of self.old who) }
