@@ -39,10 +39,10 @@ fn first_stands(alloc: Global, setting: Setting) -> Result<Vec<Stand>, AllocErro
     Ok(stands)
 }
 
-/// A board at its opening.
-pub fn open(alloc: Global, setting: Setting) -> Result<Board, AllocError>
+/// A board of which each word is 0, with its passes at their first places.
+fn blank(alloc: Global, setting: Setting) -> Result<Board, AllocError>
     requires small { IsSmall (layout_of setting.config) }
-    ensures state { IfOk result (λ b. state_of b ≡ opening setting) }
+    ensures state { IfOk result (λ b. state_of b ≡ record (opening setting) { mem = λ w. 0 }) }
     ensures setting { IfOk result (λ b. b.setting ≡ setting) }
     ensures laid { IfOk result (λ b. IsLaid b) }
 {
@@ -53,23 +53,34 @@ pub fn open(alloc: Global, setting: Setting) -> Result<Board, AllocError>
         + 3 * groups
         + 8 * nodes
         + 7 * (config.capacity as usize + 2)]?;
-    let mut board = Board {
+    Ok(Board {
         setting,
         words,
         stands: first_stands(alloc, setting)?,
         history: History::new(alloc, config.groups)?,
-    };
+    })
+}
+
+/// A board at its opening.
+#[tactic(auto, using(crate::proofs::LawfulMoves::laid_kept))]
+pub fn open(alloc: Global, setting: Setting) -> Result<Board, AllocError>
+    requires small { IsSmall (layout_of setting.config) }
+    ensures state { IfOk result (λ b. state_of b ≡ opening setting) }
+    ensures setting { IfOk result (λ b. b.setting ≡ setting) }
+    ensures laid { IfOk result (λ b. IsLaid b) }
+{
+    let mut board = blank(alloc, setting)?;
     board.store(Word::Tail(Chain::Send), 1);
     board.store(Word::Object(Object::Last), 1);
     board.store(Word::Object(Object::Cursor), 1);
-    for group in 0..config.groups {
+    for group in 0..setting.config.groups {
         board.store(Word::Tail(Chain::Take(group)), 1);
         board.store(Word::Object(Object::Head(group)), 1);
     }
-    for node in 1..config.capacity + 1 {
+    for node in 1..setting.config.capacity + 1 {
         board.store(
             Word::Item(node as u64, ItemField::Passed),
-            config.groups as u64,
+            setting.config.groups as u64,
         );
     }
     Ok(board)
