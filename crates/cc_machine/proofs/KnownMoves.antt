@@ -1,7 +1,7 @@
 -- What is counted of a history stays counted as the history goes on, and goes on by further answers.
-use Rattle.std.proofs.Common.{◌≡◌, ◌≢◌, ℕ, ◌+◌, ◌<◌, ◌≤◌, List, [], ◌∷◌, ◌++◌, length, take, set, Bool, true, false, ◌||◌, if◌then◌else◌, Option, Some, None, refl, sym, ap, subst, ◌∙◌, arith, length-append, inl, inr, zero, suc, ◌-◌, map, get_or, slice_index_or, replicate, min}
+use Rattle.std.proofs.Common.{◌≡◌, ◌≢◌, ℕ, ◌+◌, ◌<◌, ◌≤◌, List, [], ◌∷◌, ◌++◌, length, take, Bool, true, false, ◌||◌, if◌then◌else◌, Option, Some, None, refl, sym, ap, subst, ◌∙◌, arith, length-append, inl, inr, zero, suc, ◌-◌, map, get_or, slice_index_or, replicate, min}
 use Rattle.std.specs.List.{slice_get, list_any}
-use Rattle.std.proofs.lemmas.List.{length_push, length-map, length-set, length-take-le, take-append-le, take_all, take_more, get_or-set_same, get_or-set_other}
+use Rattle.std.proofs.lemmas.List.{length_push, length-map, length-take-le, take-append-le, take_more}
 use Rattle.cc_model.specs.Record.{Side, Record, empty, of_group}
 use Rattle.cc_model.specs.Items.{accepted_by, accepted_item, sent_item, shuts, handed, handed_by, handed_item, handed_to_all, least}
 use Rattle.cc_machine.specs.Names.{Pass, Call, Item, Entry, Answer, SendAnswer, CloseAnswer, TakeAnswer, Known, Chain}
@@ -263,25 +263,3 @@ handed_counted place adds got answers a inside are is =
     let items : length (handed_by (take (place + 1) answers)) ≡ length (handed_by (take place answers) ++ (handed_item told ++ [])) =
     ap (λ (l : List Answer). length (handed_by l)) (take_more answers place a inside) ∙ ap (λ (l : List Item). length l) (handed_by-append (take place answers) (told ∷ [])) in
     omega (arith, are, is, items, length-append (handed_by (take place answers)) (handed_item told ++ []), length-append (handed_item told) [])
-
--- a group whose answers are all counted
-pub group_counted : (h : Record) (k : Known) (g n got : ℕ) → g < 8 → IsKnown h k → n ≡ length (of_group h g).answers → got ≡ length (handed_by (of_group h g).answers) → IsKnown h (record { sent = k.sent; entries = k.entries; shut = k.shut; taken = set k.taken g n; handed = set k.handed g got })
-group_counted h k g n got few known all are = record {
-  sent_few = known.sent_few;
-  entries_is = known.entries_is;
-  shut_is = known.shut_is;
-  many_taken = length-set k.taken g n ∙ known.many_taken;
-  many_handed = length-set k.handed g got ∙ known.many_handed;
-  taken_few = λ x. elim (cases_eq x g) [
-    | inl same ↦ subst (λ (z : ℕ). slice_index_or (set k.taken g n) z 0 ≤ length (of_group h z).answers) (sym same) (omega (arith, mine, all))
-    | inr ne ↦ omega (arith, get_or-set_other k.taken g x n 0 ne, known.taken_few x)
-  ];
-  handed_are = λ x. elim (cases_eq x g) [
-    | inl same ↦ subst (λ (z : ℕ). slice_index_or (set k.handed g got) z 0 ≡ length (handed_by (take (slice_index_or (set k.taken g n) z 0) (of_group h z).answers))) (sym same)
-        (get_or-set_same k.handed g got 0 (omega (arith, few, known.many_handed)) ∙ are ∙ sym (ap (λ (l : List Answer). length (handed_by l)) (take_all (slice_index_or (set k.taken g n) g 0) (of_group h g).answers (omega (arith, mine, all)))))
-    | inr ne ↦ get_or-set_other k.handed g x got 0 ne ∙ known.handed_are x ∙ sym (ap (λ (m : ℕ). length (handed_by (take m (of_group h x).answers))) (get_or-set_other k.taken g x n 0 ne))
-  ];
-}
-  where
-    mine : slice_index_or (set k.taken g n) g 0 ≡ n
-    mine = get_or-set_same k.taken g n 0 (omega (arith, few, known.many_taken))

@@ -2,22 +2,24 @@
 use Rattle.std.proofs.Common.{◌≡◌, ◌≢◌, ◌<◌, ◌≤◌, arith, ℕ, length, Option, Some, None, Result, Ok, Err, OnOk, OnErr, refl, sym, ap, subst, ◌∙◌}
 use Rattle.cc_model.specs.Record.{Record, empty}
 use Rattle.cc_model.specs.HistoryRoom.{lists}
-use Rattle.cc_machine.specs.Names.{Call, Answer, Setting, Served, BeginFault, Known, Chain, Board, Event, Place, Sending}
+use Rattle.cc_model.specs.Items.{known_at}
+use Rattle.cc_machine.specs.Names.{Call, Pass, Answer, Setting, Served, BeginFault, Known, Chain, Board, Event, Place, Sending}
 use Rattle.cc_runs.specs.State.{State, chain_of, word_of}
 use Rattle.cc_runs.specs.Lines.{operation, enters, decides}
 use Rattle.cc_runs.specs.Step.{stepped}
-use Rattle.cc_runs.specs.Run.{opening}
+use Rattle.cc_runs.specs.Run.{opening, passes}
 use Rattle.cc_runs.specs.Ready.{WhileUndecided, HasOpenCall, IsReady}
 use Rattle.cc_machine.specs.View.{View}
-use Rattle.cc_machine.specs.BoardSteps.{view_of, state_of}
+use Rattle.cc_machine.specs.BoardSteps.{view_of, state_of, stepper_at, CanStep}
 use Rattle.cc_machine.specs.Machine.{HasBegun, HasStepped, HasTaken}
 use Rattle.cc_runs.specs.Words.{groups}
-use Rattle.cc_runs.specs.Run.{passes}
 use Rattle.cc_runs.proofs.Chains.Registers.{HasSide}
 use Rattle.cc_machine.specs.Known.{IsKnown}
 use Rattle.cc_machine.specs.Lawful.{IsLawful, IsMachine}
-use Rattle.cc_machine.proofs.LawfulMoves.{history_in, has_side}
+use Rattle.cc_machine.proofs.LawfulMoves.{can_step, history_in, has_side}
 use Rattle.cc_runs.proofs.Ranges.{in_range}
+use Rattle.cc_runs.proofs.ListRuns.Ready.{list_ready}
+use Rattle.cc_machine.proofs.BoardLaws.{all_ready}
 use Rattle.cc_machine.proofs.KnownMoves.{IsCounted, counted}
 
 -- ---- calls that leave the history
@@ -98,9 +100,24 @@ some_groups b l = omega (arith, (in_range b.setting.config l.checked).groups, l.
 pub few_groups : (b : Board) → IsLawful b → length b.history.takes ≤ 8
 few_groups b l = omega (arith, l.laid.groups, l.laid.small.groups)
 
-pub machine_stepped : (old new : Board) (k : Known) (p : ℕ) (e : Event) → IsMachine old k → p < passes old.setting → IsReady old.setting (state_of old) p → IsLawful new → HasStepped (view_of old) (Some p) e (view_of new) → IsMachine new k
-machine_stepped old new k p Event.Idle m near ready l h = kept old new k m l (as_it_was (view_of old) (view_of new) h)
-machine_stepped old new k p (Event.Did kind) m near ready l h =
+-- no answer of a sender stands before its call
+pub sends_in_order : (b : Board) (k : Known) → IsMachine b k → length b.history.sends.lists.answers ≤ length b.history.sends.lists.calls
+sends_in_order b k m = m.order Chain.Send
+
+-- what a pass knows is read off the history that is kept
+pub known_shown : (b : Board) (pass : Pass) → known_at pass (state_of b).history ≡ known_at pass (lists b.history)
+known_shown b pass = ap (known_at pass) (history_in (view_of b))
+
+-- the next step of each of its passes can be done
+pub machine_ready : (b : Board) (k : Known) → IsMachine b k → (p : ℕ) → p < passes b.setting → IsReady b.setting (state_of b) p
+machine_ready b k m = all_ready b m.lawful (list_ready b.setting m.served_is m.lawful.checked)
+
+pub machine_can_step : (b : Board) (k : Known) → IsMachine b k → (p : ℕ) → p < passes b.setting → CanStep b (stepper_at b p) ((state_of b).stand p).place
+machine_can_step b k m p near = can_step b p m.lawful near (machine_ready b k m p near)
+
+pub machine_stepped : (old new : Board) (k : Known) (p : ℕ) (e : Event) → IsMachine old k → p < passes old.setting → IsLawful new → HasStepped (view_of old) (Some p) e (view_of new) → IsMachine new k
+machine_stepped old new k p Event.Idle m near l h = kept old new k m l (as_it_was (view_of old) (view_of new) h)
+machine_stepped old new k p (Event.Did kind) m near l h =
     machine new k (ap (λ (z : Setting). z.served) h.setting ∙ m.served_is) l
-    (stepped_counts old.setting (state_of old) p (lists new.history) k (has_side old m.lawful p near) ready (sym (history_in (view_of new)) ∙ ap (λ (s : State). s.history) h.state)
+    (stepped_counts old.setting (state_of old) p (lists new.history) k (has_side old m.lawful p near) (machine_ready old k m p near) (sym (history_in (view_of new)) ∙ ap (λ (s : State). s.history) h.state)
     (subst (λ (z : Record). IsCounted z k) (sym (history_in (view_of old))) (counted_in old k m)))

@@ -139,24 +139,16 @@ same calls there n past = omega (arith, past)
 
 pub gained : (c : Setting) (x : Chain) (own : ℕ) (at : Place) (found : ℕ) (calls : List Entry) →
     length (appended calls (enters at)) + before_exchange (goes c x own at found) ≤ length calls + before_exchange at
-gained c x own Place.Idle found calls = omega arith
-gained c x own (Place.ResetNext call) found calls = omega arith
-gained c x own (Place.ResetState call) found calls = omega arith
 gained c x own (Place.Exchange call) found calls = omega (arith, length_push calls call, past_exchange x own call)
-gained c x own (Place.WriteTag put request) found calls = omega arith
 gained c x own (Place.WriteBody put request i) found calls = same calls _ 0 (either (nat_lt i (further_words request.tag)) _ _ refl refl)
-gained c x own (Place.Link put) found calls = omega arith
 gained c x own Place.ReadState found calls = same calls _ 0 (past_state own found)
 gained c x own (Place.ReadNext round) found calls = same calls _ 0 (past_next c.served x round found)
 gained c x own (Place.Counting job service) found calls = same calls _ 0 (past_count job service found)
 gained c x own (Place.Sending job service) found calls = same calls _ 0 (past_send c.config job service found)
 gained c x own (Place.Taking job service) found calls = same calls _ 0 (past_take job service found)
 gained c x own (Place.WriteAnswer job told) found calls = same calls _ 0 (past_answer job told)
-gained c x own (Place.WriteAnswerTag job item) found calls = omega arith
 gained c x own (Place.WriteAnswerBody job item i) found calls = same calls _ 0 (either (nat_lt i (further_words (tag_of item))) _ _ refl refl)
 gained c x own (Place.MarkDone job) found calls = same calls _ 0 (past_done c.config.bound job)
-gained c x own (Place.HandOver at) found calls = omega arith
 gained c x own Place.ReadAnswer found calls = same calls _ 0 (past_ret c.served x found)
-gained c x own (Place.ReadAnswerTag at) found calls = omega arith
 gained c x own (Place.ReadAnswerBody p i) found calls = same calls _ 0 (either (nat_lt i (further_words p.tag)) _ _ refl refl)
-gained c x own (Place.Finished told) found calls = omega arith
+gained c x own _ found calls = omega arith

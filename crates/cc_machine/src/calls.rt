@@ -146,6 +146,7 @@ impl Board {
         }
     }
 
+    #[tactic(auto, using(cc_runs::proofs::Chains::Facts::noted_none))]
     pub fn read_next(&mut self, who: Stepper, round: Round) -> Kind
         requires { CanStep self.old who (Place.ReadNext round) }
         ensures { Stepped self.old who (Place.ReadNext round) result self.new }
@@ -199,6 +200,7 @@ impl Board {
         Kind::WriteAnswer
     }
 
+    #[tactic(auto, using(cc_runs::proofs::Chains::Facts::noted_none))]
     pub fn write_answer_body(&mut self, who: Stepper, job: Job, item: Item, index: u32) -> Kind
         requires { CanStep self.old who (Place.WriteAnswerBody job item index) }
         ensures { Stepped self.old who (Place.WriteAnswerBody job item index) result self.new }

@@ -83,6 +83,7 @@ impl Known {
     }
 
     /// How many items a group was handed. The answers since the last count are counted first.
+    #[tactic(auto, using(crate::proofs::KnownMoves::handed_fit))]
     fn handed(&mut self, history: &History, group: usize) -> u64
         requires group { group < length history.now.takes }
         requires groups { length history.now.takes ≤ 8 }

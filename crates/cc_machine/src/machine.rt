@@ -82,6 +82,7 @@ impl Machine {
     }
 
     /// Begins a call of an idle pass. It knows the machine's whole history at this moment. A refused call changes nothing.
+    #[tactic(auto, using(crate::proofs::MachineMoves::some_groups, crate::proofs::MachineMoves::few_groups, crate::proofs::MachineMoves::sends_in_order, crate::proofs::MachineMoves::known_shown))]
     pub fn begin(&mut self, pass: Pass, call: Call) -> Result<(), BeginFault>
         ensures ok { OnOk result (HasBegun self.old (index_of self.old.setting pass) call (known_at pass self.old.history) self.new) }
         ensures may { OnOk result (begin_fault self.old pass call ≡ Ok tt) }
@@ -94,6 +95,7 @@ impl Machine {
 
     /// Does the next atomic step of a pass and tells its kind; `Idle`, and nothing is changed, where the pass has no
     /// running call or doesn't exist.
+    #[tactic(auto, using(crate::proofs::Rows::inside))]
     pub fn event(&mut self, pass: Pass) -> Event
         ensures event { result ≡ event_of self.old pass }
         ensures state { HasStepped self.old (index_of self.old.setting pass) result self.new }
@@ -107,6 +109,7 @@ impl Machine {
 
     /// Does up to so many further atomic steps of a pass, and tells how many it did. Where these are fewer, the pass has no
     /// running call then, or doesn't exist, or waits.
+    #[tactic(auto, using(crate::proofs::Rows::inside))]
     pub fn events(&mut self, pass: Pass, most: u32) -> u32
         ensures most { result ≤ most }
         ensures state { HasGoneOn self.old (index_of self.old.setting pass) result self.new }
@@ -121,6 +124,7 @@ impl Machine {
 
     /// Up to so many steps of the pass at this place of the row.
     #[inline(never)]
+    #[tactic(auto, using(crate::proofs::Going::none_gone, crate::proofs::Going::one_more_gone))]
     fn steps(&mut self, index: usize, most: u32) -> Steps
         requires pass { index < passes self.old.setting }
         ensures most { result.done ≤ most }
@@ -162,6 +166,7 @@ impl Machine {
     }
 
     /// Whether the pass waits: its next step reads the state of its node, which is still 1, so that the step changes nothing.
+    #[tactic(auto, using(crate::proofs::Rows::inside, crate::proofs::Waiting::still_in))]
     pub fn is_waiting(&self, pass: Pass) -> bool
         ensures waits { result ≡ waits_in self.now (index_of self.now.setting pass) }
         ensures still { OnTrue result (StandsStill self.now (index_of self.now.setting pass)) }
@@ -173,6 +178,7 @@ impl Machine {
     }
 
     /// Takes the answer of the pass's call, once the call has read it. `None`, and nothing is changed, where there is none.
+    #[tactic(auto, using(crate::proofs::BoardLaws::told_if, crate::proofs::ListTold::list_told))]
     pub fn answer(&mut self, pass: Pass) -> Option<Answer>
         ensures answer { result ≡ answer_of self.old pass }
         ensures state { HasTaken self.old (index_of self.old.setting pass) result self.new }

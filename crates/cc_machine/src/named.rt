@@ -48,6 +48,7 @@ impl Board {
     }
 
     /// The place in the row of a pass that can begin this call.
+    #[tactic(auto, using(crate::proofs::Rows::inside))]
     fn may_begin(&self, pass: Pass, call: Call) -> Result<usize, BeginFault>
         requires lawful { IsLawful self.now }
         ensures place { IfOk result (λ p. index_of self.now.setting pass ≡ Some p) }
@@ -93,6 +94,7 @@ impl Board {
     }
 
     /// How many calls of this side were begun and haven't exchanged.
+    #[tactic(auto, using(crate::proofs::RoomToCome::coming_max, crate::proofs::RoomToCome::few_passes))]
     fn calls_to_come(&self, chain: Chain) -> usize
         requires laid { IsLaid self.now }
         ensures count { result ≡ all_coming self.now chain }
@@ -108,6 +110,7 @@ impl Board {
     }
 
     /// Whether this side has room for a call of every pass and one more, so that none need be counted.
+    #[tactic(auto, using(crate::proofs::RoomToCome::coming_max))]
     fn has_ample_room(&self, chain: Chain) -> bool
         requires laid { IsLaid self.now }
         requires there { IsThere self.now.setting.config chain }
@@ -122,6 +125,7 @@ impl Board {
 
     /// Makes room in the history of this side, where it is missing, for the calls to come and one more, and for the answers
     /// of all calls.
+    #[tactic(auto, unfolding(crate::specs::View::state_in))]
     fn reserve(&mut self, chain: Chain) -> Result<(), AllocError>
         requires laid { IsLaid self.old }
         requires there { IsThere self.old.setting.config chain }
@@ -141,6 +145,7 @@ impl Board {
     }
 
     /// Begins a call that knows so much of the history. A refused call changes nothing that its callers see.
+    #[tactic(auto, using(crate::proofs::Rows::inside, crate::proofs::Faults::may_begin))]
     pub fn begin_call(&mut self, pass: Pass, call: Call, known: u64) -> Result<(), BeginFault>
         requires lawful { IsLawful self.old }
         requires known { known ≤ known_at pass (state_of self.old).history }
@@ -159,6 +164,7 @@ impl Board {
     }
 
     /// Does the next step of a pass as it stands, where it has one.
+    #[tactic(auto, using(crate::proofs::LawfulMoves::can_step))]
     pub fn event_of(&mut self, who: Stepper) -> Event
         requires lawful { IsLawful self.old }
         requires pass { who.pass < passes self.old.setting }

@@ -1,15 +1,8 @@
-use Rattle.std.proofs.Common.{◌≡◌, ◌<◌, ◌∙◌, ℕ, Option, Some, ap, sym, subst}
+use Rattle.std.proofs.Common.{◌≡◌, ◌∙◌, ℕ, Option, Some, ap, sym, subst}
 use Rattle.cc_machine.specs.View.{View}
 use Rattle.cc_machine.specs.Machine.{index_of, event_in, HasStepped}
-use Rattle.cc_runs.specs.Run.{passes}
-use Rattle.cc_machine.proofs.Rows.{inside}
 use Rattle.cc_machine.proofs.Going.{one_step}
 use Rattle.cc_machine.proofs.machine.Machine.event.Goals as goal
-
-pub steps-requires : goal.steps-requires
-steps-requires c = record {
-  pass = subst (λ (v : View). c.in-Some.index < passes v.setting) c.self.view_is (inside c.self.inside.board.setting c.args.pass c.in-Some.index (sym c.in-Some.ensures));
-}
 
 pub returns-in-Some-clause-event : goal.returns-in-Some-clause-event
 returns-in-Some-clause-event c =
