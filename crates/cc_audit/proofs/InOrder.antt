@@ -108,20 +108,6 @@ none_left_out xs n next all filled = λ q h.
     let above = any_at xs q h.1 in
     h.0 (filled.each q (omega (arith, filled.below above.0 (omega (arith, above.1)), above.2)))
 
-pub first_left_out : (xs : List ℕ) (i next p : ℕ) → IsNonDecreasing xs → i < length xs → p ≡ get_or xs i 0 → next < p → Filled xs i next → IsLeast (LeftOut xs) (Some next)
-first_left_out xs i next p up l is above filled = (
-  (
-    λ h.
-        let here = at xs next h in
-        elim (cases_lt here.0 i) [
-          | inl under ↦ absurd (omega (arith, filled.below here.0 under, here.2))
-          | inr past ↦ absurd (omega (arith, up i here.0 0 past here.1, here.2, is))
-        ],
-    (i, p, l, sym (is ∙ get_or_default xs i 0 p l), above),
-  ),
-  λ q below h. h.0 (filled.each q below),
-)
-
 pub filled_more : (xs : List ℕ) (i next p : ℕ) → IsNonDecreasing xs → i < length xs → p ≡ get_or xs i 0 → p ≤ next → Filled xs i next → Filled xs (i + 1) (p + 1)
 filled_more xs i next p up l is under filled = record {
   below = λ k lt. omega (arith, up k i 0 (omega arith) l, is);
@@ -131,12 +117,6 @@ filled_more xs i next p up l is under filled = record {
   ];
 }
 
--- the greatest of all numbers was reached
-pub none_past : (xs : List ℕ) (n i next p : ℕ) → ((k : ℕ) → k < length xs → get_or xs k 0 < n) → i < length xs → n ≤ p + 1 → p ≤ next → Filled xs i next → IsLeast (LeftOut xs) None
-none_past xs n i next p bound l great under filled = λ q h.
-    let above = any_at xs q h.1 in
-    h.0 (filled.each q (omega (arith, bound above.0 above.1, above.2)))
-
 -- ---- a number from a bound on
 
 abbrev pub From : List ℕ → ℕ → ℕ → Type 0
@@ -144,20 +124,6 @@ From xs bound p = Contains xs p × (bound ≤ p)
 
 abbrev pub AllBelow : List ℕ → ℕ → ℕ → Type 0
 AllBelow xs bound n = (k : ℕ) → k < n → get_or xs k 0 < bound
-
-pub none_from : (xs : List ℕ) (bound n : ℕ) → length xs ≤ n → AllBelow xs bound n → IsLeast (From xs bound) None
-none_from xs bound n all below = λ q h. let here = at xs q h.0 in absurd (omega (arith, below here.0 (omega (arith, here.1)), here.2, h.1))
-
-pub first_from : (xs : List ℕ) (bound i p : ℕ) → IsNonDecreasing xs → i < length xs → p ≡ get_or xs i 0 → bound ≤ p → AllBelow xs bound i → IsLeast (From xs bound) (Some p)
-first_from xs bound i p up l is past below = (
-  (subst (Contains xs) (sym is) (Contains-get_or xs i 0 l), past),
-  λ q lower h.
-      let here = at xs q h.0 in
-      elim (cases_lt here.0 i) [
-        | inl under ↦ omega (arith, below here.0 under, here.2, h.1)
-        | inr over ↦ absurd (omega (arith, up i here.0 0 over here.1, here.2, is))
-      ],
-)
 
 -- in one of two lists
 pub first_of_both : (total : Option ℕ) (n : ℕ) (xs ys : List ℕ) (a b r : Option ℕ) → total ≡ Some n → r ≡ sooner_of a b → IsLeast (From xs n) a → IsLeast (From ys n) b

@@ -9,6 +9,7 @@ pub fn legal_gives_clean()
 {}
 
 /// The same receipts have one verdict.
+#[tactic(auto, using(crate::proofs::One::same))]
 pub fn one_verdict()
     ensures { OneVerdict }
 {}

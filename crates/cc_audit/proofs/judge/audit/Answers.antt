@@ -6,39 +6,6 @@ use Rattle.cc_audit.proofs.Faults.{joined, all_kinds, none_yet}
 use Rattle.cc_audit.proofs.Found.{finds_double_accept, finds_double_take, finds_stranger, finds_altered, finds_gap, finds_disorder, finds_overrun}
 use Rattle.cc_audit.proofs.judge.audit.Goals as goal
 
-pub first_double-sent_twice-requires : goal.first_double-sent_twice-requires
-first_double-sent_twice-requires c = rw c.as_slice-sent.ensures.value c.in_ok-sent_list.ensures.order
-
-pub first_double-taken_twice-requires : goal.first_double-taken_twice-requires
-first_double-taken_twice-requires c = rw c.as_slice-taken.ensures.value c.in_ok-taken_list.ensures.order
-
-pub first_stranger-stranger-requires-clause-sent_order : goal.first_stranger-stranger-requires-clause-sent_order
-first_stranger-stranger-requires-clause-sent_order c = rw c.as_slice-sent.ensures.value c.in_ok-sent_list.ensures.order
-
-pub first_stranger-stranger-requires-clause-taken_order : goal.first_stranger-stranger-requires-clause-taken_order
-first_stranger-stranger-requires-clause-taken_order c = rw c.as_slice-taken.ensures.value c.in_ok-taken_list.ensures.order
-
-pub first_gap-gap-requires : goal.first_gap-gap-requires
-first_gap-gap-requires c = rw c.as_slice-taken.ensures.value c.in_ok-taken_list.ensures.order
-
-pub first_overrun-overrun-requires-clause-sent_order : goal.first_overrun-overrun-requires-clause-sent_order
-first_overrun-overrun-requires-clause-sent_order c = rw c.as_slice-sent.ensures.value c.in_ok-sent_list.ensures.order
-
-pub first_overrun-overrun-requires-clause-taken_order : goal.first_overrun-overrun-requires-clause-taken_order
-first_overrun-overrun-requires-clause-taken_order c = rw c.as_slice-taken.ensures.value c.in_ok-taken_list.ensures.order
-
-pub first_altered-altered-requires : goal.first_altered-altered-requires
-first_altered-altered-requires c = rw c.as_slice.ensures.value c.in_ok-placed.ensures.order
-
-pub by_sender-requires : goal.by_sender-requires
-by_sender-requires c = c.in_ok-placed.ensures.order
-
-pub first_disorder-disorder-requires-clause-senders : goal.first_disorder-disorder-requires-clause-senders
-first_disorder-disorder-requires-clause-senders c = rw c.as_slice-2.ensures.value c.in_ok-grouped.ensures.senders
-
-pub first_disorder-disorder-requires-clause-places : goal.first_disorder-disorder-requires-clause-places
-first_disorder-disorder-requires-clause-places c = rw c.as_slice-2.ensures.value c.in_ok-grouped.ensures.places
-
 pub returns : goal.returns
 returns c =
     let sends = c.args.sends.now in

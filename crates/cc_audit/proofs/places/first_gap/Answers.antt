@@ -1,9 +1,6 @@
 use Rattle.std.proofs.Common.{arith, refl}
-use Rattle.cc_audit.proofs.InOrder.{filled_more, first_left_out, none_left_out}
+use Rattle.cc_audit.proofs.InOrder.{filled_more, none_left_out}
 use Rattle.cc_audit.proofs.places.first_gap.Goals as goal
-
-pub returns-then-next-place : goal.returns-then-next-place
-returns-then-next-place c = first_left_out c.args.taken.now c.loop-place.place-index c.loop-place.next _ c.requires (omega arith) refl c.if-next-place.true c.loop-place.invariant
 
 pub loop-place-preserved : goal.loop-place-preserved
 loop-place-preserved c = filled_more c.args.taken.now c.loop-place.place-index c.loop-place.next _ c.requires (omega arith) refl (omega arith) c.loop-place.invariant

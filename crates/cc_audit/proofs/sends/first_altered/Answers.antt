@@ -1,12 +1,9 @@
 use Rattle.std.proofs.Common.{arith}
 use Rattle.std.proofs.lemmas.Bool.{OnTrue_at, OnFalse_at}
 use Rattle.cc_audit.specs.Least.{referred}
-use Rattle.cc_audit.proofs.Sought.{seen_none, seen_more, seen_same, all_seen}
+use Rattle.cc_audit.proofs.Sought.{seen_more, seen_same, all_seen}
 use Rattle.cc_audit.proofs.sends.first_altered.Goals as goal
 use Rattle.cc_audit.proofs.sends.first_altered.Goals.{then-is_altered, else-is_altered}
-
-pub loop-take-init : goal.loop-take-init
-loop-take-init c = seen_none (referred c.args.sends.now) c.args.takes.now
 
 pub loop-take-preserved : goal.loop-take-preserved
 loop-take-preserved c = elim c.if-is_altered.branch [

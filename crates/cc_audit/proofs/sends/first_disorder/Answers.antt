@@ -2,12 +2,9 @@ use Rattle.std.proofs.Common.{◌∙◌, sym, arith}
 use Rattle.std.proofs.lemmas.Bool.{false≢true}
 use Rattle.cc_audit.specs.Least.{referred}
 use Rattle.cc_audit.proofs.Referred.{as_many, referred_on, referred_into}
-use Rattle.cc_audit.proofs.Turns.{walked_none, all_walked}
+use Rattle.cc_audit.proofs.Turns.{all_walked}
 use Rattle.cc_audit.proofs.sends.first_disorder.Goals as goal
 use Rattle.cc_audit.proofs.sends.first_disorder.Goals.{then-is_out_of_turn, else-is_out_of_turn}
-
-pub loop-i-init : goal.loop-i-init
-loop-i-init c = walked_none (referred c.args.sends.now)
 
 pub loop-i-preserved : goal.loop-i-preserved
 loop-i-preserved c = elim c.if-is_out_of_turn.branch [
