@@ -1,121 +1,90 @@
-# What ./play and ./show share: which plan is read, and the program, which is proved and built where it isn't there. Each says
-# before it reads this by `.`: `top`, the top of the repository; `name`, what its lines begin with; `crate`, the crate of its
-# program; `costs`, what a build of it from nothing takes; and it has a function `make_program`, which runs rt for that crate.
+# What ./play and ./show share: which plan is read, and the program, which is proved and built if it isn't there, or tried. Each
+# says before it reads this by `.`: `top`, the top of the repository; `name`, what its lines begin with; `crate`, the crate of
+# its program; `words`, its arguments; `build`, the command of rt that builds it; `costs`, what a build from nothing takes.
+. "$top/tools/building.sh" || exit 69
 program=$top/crates/$crate/out/$crate
 
-# Takes the words of the line: a plan that is named becomes standard input.
-read_plan() {
-    if [ "$#" -gt 1 ]; then
-        echo "usage: ./$name [PLAN], or ./$name < PLAN" >&2
-        exit 64
-    fi
-    if [ "$#" -eq 1 ]; then
-        if [ -d "$1" ] || [ ! -r "$1" ]; then
-            echo "$name: there is no plan that can be read at $1" >&2
-            exit 66
-        fi
-        exec <"$1"
-    fi
-}
+say() { echo "$name: $*" >&2; }
 
-# The crates of the program, each behind those that it stands on, in `crates`.
-crates=()
-add_with_those_below() {
-    local one=$1 other known
-    for known in "${crates[@]}"; do
-        [ "$known" = "$one" ] && return
-    done
-    # The kit's crates have no line
-    for other in $(sed -n "s/^$one\( [^:]*\)\{0,1\}: *//p" "$top/crates.txt"); do
-        [ -d "$top/crates/$other" ] && add_with_those_below "$other"
-    done
-    crates+=("$one")
-}
-
-# Whether a source of these crates is newer than the program.
+# Whether a source of the program is newer than it is.
 is_old() {
-    local one
-    for one in "${crates[@]}"; do
-        set -- "$@" "$top/crates/$one"/{src,specs,proofs}
+    local one sources=()
+    for one in $(crates_of "$crate"); do
+        sources+=("$top/crates/$one"/{src,specs,proofs})
     done
-    [ -n "$(find "$@" "$top/crates.txt" -type f -newer "$program" -print -quit 2>/dev/null)" ]
+    [ -n "$(find "${sources[@]}" "$top/crates.txt" -type f -newer "$program" -print -quit 2>/dev/null)" ]
 }
 
-# Runs rt in a crate's folder on its own standard input, with a dot every ten seconds. What rt writes goes into the log.
-run_rt() {
-    local ticks=0
-    (CDPATH='' cd -- "$top/crates/$1" && shift && TMPDIR=$scratch exec rt "$@") <&0 >"$scratch/log" 2>&1 &
-    running=$!
-    while kill -0 "$running" 2>/dev/null; do
-        sleep 0.2
-        ticks=$((ticks + 1))
-        [ $((ticks % 50)) = 0 ] && printf . >&2
-    done
-    wait "$running"
-    status=$?
-    running=
-    return "$status"
-}
-
-# Ends what runs, and leaves no file behind. What ran may still write for a moment.
-clean_up() {
-    if [ -n "$running" ]; then
-        kill "$running" 2>/dev/null
-        wait "$running" 2>/dev/null
+# Leaves the program there: builds it where it isn't, or is older than its sources.
+have_program() {
+    if [ -x "$program" ] && ! is_old; then return; fi
+    if ! command -v rt >/dev/null; then
+        [ -x "$program" ] && say 'sources are newer than the program, and rt is not on the path: this runs the old one' && return
+        say "the command rt isn't on the path. It is the toolchain that proves and builds this program, and"
+        say 'nothing else does: README.md, "What you need", says what it is, and what there is without it.'
+        exit 69
     fi
-    for _ in 1 2 3 4 5; do
-        rm -rf "$scratch" 2>/dev/null && break
-        sleep 0.2
-    done
-}
-
-# Proves and builds the program, crate by crate.
-build() {
-    local at=0 one
-    running=
-    scratch=$(mktemp -d "${TMPDIR:-/tmp}/$crate-build.XXXXXX") || return 1
-    trap clean_up EXIT
-    trap 'echo >&2; echo "$name: interrupted; the next call goes on with what is proved by now" >&2; exit 130' INT TERM HUP
-    for one in "${crates[@]}"; do
-        at=$((at + 1))
-        printf '%s: %s, %s of %s, %s left ' "$name" "$one" "$at" "${#crates[@]}" "$((${#crates[@]} - at))" >&2
-        if [ "$one" = "$crate" ]; then
-            make_program
-        else
-            run_rt "$one" lib </dev/null
-        fi
-        status=$?
-        echo >&2
-        if [ "$status" != 0 ]; then
-            echo "$name: $one was not built (rt ended with status $status). Its last lines:" >&2
-            tail -n 12 "$scratch/log" >&2
-            return 1
-        fi
-    done
+    if [ -x "$program" ]; then
+        say 'sources are newer than the program: building it again'
+    else
+        say "proving and building the program, this once: $costs. With --try it answers sooner, without proofs"
+    fi
+    build_with_those_below "$crate" "${build[@]}" <"$top/crates/ccq_show/stdin" || exit 69
     # Sources that are newer, but the same, lead to no new file
     touch "$program"
-    trap - INT TERM HUP
     clean_up
     trap - EXIT
 }
 
-# Leaves the program there, and its name in `program`: builds it where it isn't there, or is older than its sources.
-have_program() {
-    add_with_those_below "$crate"
-    if [ ! -x "$program" ]; then
-        if ! command -v rt >/dev/null; then
-            echo "$name: the command rt isn't on the path. It is the toolchain that proves and builds this program, and" >&2
-            echo "$name: nothing else does: README.md, \"What you need\", says what it is, and what there is without it." >&2
-            exit 69
-        fi
-        echo "$name: proving and building the program, this once: $costs" >&2
-        build || exit 69
-    elif is_old; then
-        if command -v rt >/dev/null; then
-            echo "$name: sources are newer than the program: building it again" >&2
-            build || exit 69
-        else
-            echo "$name: sources are newer than the program, and rt isn't on the path to build it again: this runs the old one" >&2
-        fi
+# Runs the program by `rt try`, which proves and keeps nothing, and says every five seconds that it is at it.
+try_program() {
+    local status start=$SECONDS told=0
+    command -v rt >/dev/null || { say 'the command rt is not on the path, which compiles and runs the sources' && exit 69; }
+    say "compiling $(functions_of $(crates_of "$crate")) functions with checks at each index and each sum, without their proofs"
+    scratch=$(mktemp -d) || exit 69
+    trap clean_up EXIT
+    trap 'exit 130' INT TERM HUP
+    (cd "$top/crates/$crate" && TMPDIR=$scratch exec rt try -- "${words[@]}") <&0 2>"$scratch/log" &
+    running=$!
+    while kill -0 "$running" 2>/dev/null; do
+        sleep 0.2
+        ((SECONDS - start >= told + 5)) && told=$((SECONDS - start)) && say "$told s"
+    done
+    wait "$running"
+    status=$?
+    running=
+    grep -vE '^(checked: |races: |run=)' "$scratch/log" >&2
+    if ! grep -q '^run=ended ' "$scratch/log"; then
+        say "rt try ended with status $status, and the program had not ended"
+        exit 69
     fi
+    say "tried, and nothing of it is proved: no contract was looked at. ./$name without --try proves the program first"
+    exit "$status"
+}
+
+# Does what the words of the line ask for.
+run_plan() {
+    local tried=
+    case ${1-} in
+    -h | --help) printf '%s\n' "$help" && exit ;;
+    --try) tried=yes && shift ;;
+    esac
+    if [ "$#" -gt 1 ]; then
+        echo "usage: ./$name [--try] [PLAN], or ./$name [--try] < PLAN" >&2
+        exit 64
+    fi
+    if [ "$#" -eq 1 ]; then
+        if [ -d "$1" ] || [ ! -r "$1" ]; then
+            say "there is no plan that can be read at $1"
+            exit 66
+        fi
+        exec <"$1"
+    fi
+    if [ "$name" = show ] && [ -t 1 ]; then
+        say 'the page goes to standard output, for a browser: ./show PLAN > page.html'
+        exit 64
+    fi
+    [ -z "$tried" ] || try_program
+    have_program
+    exec "$program" "${words[@]}"
 }
