@@ -8,7 +8,7 @@ It is a second program for the same texts, written from docs/FORMATS.md and docs
 JSON, the checks of plans and receipts, the machine one step at a time, and the audit by its seven kinds. It never runs
 the program that is tested. Of each row that is to be refused or audited the fault is also written here by hand, and of
 some that are played the report; where the two differ nothing is written. The gate doesn't need it:
-`tools/play_corpus.sh` reads the files. Run it after a change of the formats.
+`tools/rows.py` reads the files. Run it after a change of the formats.
 
 NAME.expect: line 1 the task and the exit status, line 2 what is told on standard error, and then the standard output.
 """

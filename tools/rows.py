@@ -1,0 +1,220 @@
+#!/usr/bin/env python3
+"""Gives `ccq`, as the gate left it by each compiler, every input of tests/corpus and every line of tests/command_lines.
+
+    tools/rows.py           the programs in crates/ccq/out
+    tools/rows.py --try     the program that `rt try` compiles, on one row of 24: statuses and standard outputs alone, as
+                            a case there costs half a second
+
+NAME.expect in tests/corpus has the task and the status in its first line, what must stand on standard error in its second,
+and then the standard output. The head of tests/command_lines says how its rows are written.
+
+Behind the rows: every front of two plans; inputs of 16 MiB, at the limit and one byte past it; lists of a plan at their
+limit and one item past it; a large input in little memory; a word that is no text; outputs without room; and the width of
+each text of help. Before them, the script shows that it finds a wrong status, a wrong text, one on the other output, a word
+too many, and an input that was read. Exit status 0 if all did so. It proves and builds nothing: `rt ci` does.
+"""
+import dataclasses
+import os
+import pathlib
+import re
+import resource
+import subprocess
+import sys
+import tempfile
+
+TOP = pathlib.Path(__file__).resolve().parent.parent
+LIMIT = 16777216
+UNREAD = b"untouched"
+CLEAN = b"E 0 s1 send 7 -> accepted 0\naudit clean\n"
+
+
+@dataclasses.dataclass(frozen=True)
+class Row:
+    """Arguments and input of the program, and what has to come of them. With `more` the output that has text may go on;
+    `is_read` says whether the whole input is read or all of it left, and None that it isn't looked at."""
+
+    words: list
+    status: int
+    out: bytes = b""
+    err: bytes = b""
+    input: bytes = UNREAD
+    is_read: bool | None = None
+    more: bool = False
+
+
+def corpus():
+    """The rows of tests/corpus, by their names."""
+    for path in sorted((TOP / "tests/corpus").glob("*.in")):
+        first, err, out = path.with_suffix(".expect").read_bytes().split(b"\n", 2)
+        task, status = first.decode().split()
+        yield path.stem, Row([task], int(status), out, err + b"\n" if err else b"", path.read_bytes())
+
+
+def command_lines(text):
+    """The rows of a text like tests/command_lines, by their numbers."""
+    blocks = re.split(r"^(?=\$ ccq)", text, flags=re.M)[1:]
+    for number, block in enumerate(blocks):
+        lines = [it for it in block.split("\n") if not it.startswith("#")]
+        words = ["" if it == "''" else it for it in lines[0].split()[2:]]
+        given = [it[2:].encode() for it in lines if it.startswith("< ")]
+        status, output = next(it.split() for it in lines if re.match(r"\d", it))
+        due = "".join(it[2:] + "\n" for it in lines if it == "|" or it.startswith("| ")).encode()
+        more = "..." in lines
+        due = due[:-1] if more else due
+        out, err = (due, b"") if output == "output" else (b"", due)
+        yield f"line_{number}", Row(words, int(status), out, err, given[0] if given else UNREAD, bool(given), more)
+
+
+def run(program, row, seconds=120, memory=None):
+    """What the program does of a row: the row as it should have been written."""
+    bounds = (lambda: resource.setrlimit(resource.RLIMIT_AS, (memory, memory))) if memory else None
+    with tempfile.TemporaryFile() as given:
+        given.write(row.input)
+        given.seek(0)
+        ran = subprocess.run([program, *row.words], stdin=given, capture_output=True, timeout=seconds, preexec_fn=bounds)
+        at = os.lseek(given.fileno(), 0, os.SEEK_CUR)
+    is_read = True if at == len(row.input) else False if at == 0 else None
+    return dataclasses.replace(row, status=ran.returncode, out=ran.stdout, err=ran.stderr, is_read=is_read)
+
+
+def does(program, row, **how):
+    """Whether the program does what the row says; tells what it did if it doesn't."""
+    seen = run(program, row, **how)
+    compared = seen if row.is_read is not None else dataclasses.replace(seen, is_read=None)
+    if row.more:
+        compared = dataclasses.replace(compared, out=seen.out[: len(row.out)], err=seen.err[: len(row.err)])
+    if compared == row and (not row.more or bool(seen.out) != bool(seen.err)):
+        return True
+    told = [f"{name}: {getattr(seen, name)!r:.400} and not {getattr(row, name)!r:.400}" for name in ("status", "out", "err", "is_read")]
+    print(f"{program} {row.words} <{row.input!r:.200}:", *told, sep="\n    ")
+    return False
+
+
+def refused(task, input, why):
+    return Row([task], 2, err=f"ccq: plan refused: {why}\n".encode(), input=input)
+
+
+def others():
+    """Rows that are too many or too large for a file: fronts of plans, inputs and lists at their limits and one past them."""
+    for name in ("one_item", "bodies_of_words"):
+        plan = (TOP / f"examples/{name}.json").read_bytes().rstrip(b"\n")
+        yield from (refused("play", plan[:length], "P1") for length in range(len(plan)))
+    for task in ("play", "audit"):
+        yield refused(task, b" " * LIMIT, "P1")
+        yield refused(task, b" " * (LIMIT + 1), "P3 input")
+    front = b'{"capacity":2,"bound":2,"life":10,"receivers":[0],"schedule":['
+    for length in (65536, 65537):
+        sends = front + b'["s1",28]],"senders":[[7' + b",7" * (length - 1) + b"]]}"
+        entries = front + b'["r1",1],' * (length - 1) + b'["s1",28]],"senders":[[7]]}'
+        for name, plan in (("senders", sends), ("schedule", entries)):
+            yield Row(["play"], 0, CLEAN, input=plan) if length == 65536 else refused("play", plan, f"P3 {name}")
+
+
+def is_told(program, words, status, err, **outputs):
+    """Whether a program ends with this status if an output has no room, and writes this on standard error."""
+    ran = subprocess.run([program, *words], stdin=subprocess.DEVNULL, **outputs)
+    if (ran.returncode, ran.stderr or b"") == (status, err):
+        return True
+    print(f"{program} {words}: status {ran.returncode} and {ran.stderr!r} in place of {status} and {err!r}")
+    return False
+
+
+def without_room(program):
+    """A large input in little memory, a word that is no text, and outputs that are full."""
+    objects = b"[" + (b'{"a":0},' * (LIMIT // 8))[: LIMIT - 8] + b"0]"
+    for task in ("play", "audit"):
+        yield does(program, Row([task], 3, err=b"ccq: out of memory\n", input=objects), memory=200000 * 1024)
+    no_text = b"error: invalid UTF-8 was detected in one or more arguments\n\nUsage: ccq <COMMAND>\n\nFor more information, try '--help'.\n"
+    yield is_told(program, [b"\xff"], 64, no_text, stdout=subprocess.DEVNULL, stderr=subprocess.PIPE)
+    with open("/dev/full", "wb") as full:
+        for line in ("--help", "drive --help", "drive --items 5"):
+            yield is_told(program, line.split(), 4, b"ccq: writing failed\n", stdout=full, stderr=subprocess.PIPE)
+        yield is_told(program, ["drive", "--senders", "64"], 64, b"", stdout=subprocess.DEVNULL, stderr=full)
+        yield is_told(program, ["drive", "--items", "5"], 4, b"", stdout=full, stderr=full)
+
+
+def is_narrow(program):
+    """Whether no line of the texts of help has more than 100 columns."""
+    for task in ([], ["play"], ["audit"], ["drive"]):
+        said = subprocess.run([program, *task, "--help"], capture_output=True, text=True, check=True).stdout
+        if any(len(line) > 100 for line in said.split("\n")):
+            print(f"{program} {task} --help: a line of more than 100 columns")
+            return False
+    return True
+
+
+def finds_what_is_wrong(program):
+    """Whether each of these wrong rows, and none of the right ones, is one that the program doesn't do."""
+    item = dict(corpus())["words_for_two_groups"]
+    plan = Row(["play"], 2, err=b"ccq: plan refused: P1\n", input=b"{")
+    line = Row(["play", "x"], 64, err=b"error:", is_read=False, more=True)
+    wrong = [
+        dataclasses.replace(item, status=1),
+        dataclasses.replace(item, err=b"ccq: reading failed\n"),
+        dataclasses.replace(item, out=item.out.replace(b"accepted 0", b"accepted 1")),
+        dataclasses.replace(item, out=item.out.replace(b"D 2 0", b"D 1 1")),
+        dataclasses.replace(item, out=item.out.replace(b"1 7 8\n", b"1 7\n")),
+        dataclasses.replace(plan, out=plan.err, err=b""),
+        dataclasses.replace(line, words=["play"]),
+        dataclasses.replace(line, input=b"x", is_read=True),
+        dataclasses.replace(line, err=b"error: no"),
+    ]
+    if not all(does(program, it) for it in (item, plan, line)):
+        return False
+    with open(os.devnull, "w") as quiet:
+        shown, sys.stdout = sys.stdout, quiet
+        found = [not does(program, it) for it in wrong]
+        sys.stdout = shown
+    if not all(found):
+        print(f"rows: wrong row {found.index(False)} was let through, so this script finds nothing")
+    return all(found)
+
+
+def on_programs():
+    programs = [it for it in (TOP / "crates/ccq/out/ccq", TOP / "crates/ccq/out/ccq.by-rattle") if os.access(it, os.X_OK)]
+    if not programs:
+        print("rows: there is no crates/ccq/out/ccq: run `rt ci` first, or `rt run` in crates/ccq")
+        return False
+    for program in programs:
+        rows = [it for _, it in corpus()], [it for _, it in command_lines((TOP / "tests/command_lines").read_text())], list(others())
+        well = finds_what_is_wrong(program)
+        for row in (it for part in rows for it in part):
+            well &= does(program, row)
+        well &= all(list(without_room(program))) and is_narrow(program)
+        if not well:
+            return False
+        corpus_rows, lines, large = map(len, rows)
+        print(f"{program}: {corpus_rows} inputs of tests/corpus, {lines} command lines, and {large + 8} fronts of plans, large inputs and full outputs")
+    return True
+
+
+def on_tried():
+    """The rows as the cases of one `rt try`, whose lines tell each one's status, and whether its output is the expected one."""
+    rows = dict([*corpus(), *command_lines((TOP / "tests/command_lines").read_text())][::24])
+    with tempfile.TemporaryDirectory() as folder:
+        for name, row in rows.items():
+            case = pathlib.Path(folder, name)
+            case.write_bytes(row.input)
+            if row.words:
+                case.with_suffix(".args").write_text("".join(it + "\n" for it in row.words))
+            if not (row.more and row.out):
+                case.with_suffix(".stdout").write_bytes(row.out)
+        ran = subprocess.run(["rt", "try", "--cases", folder], cwd=TOP / "crates/ccq", stdin=subprocess.DEVNULL, capture_output=True, text=True)
+    told = dict(re.findall(r"^case=(\S+) (run=.*)$", ran.stdout + ran.stderr, flags=re.M))
+    wrong = 0
+    for name, row in rows.items():
+        said = told.get(name, "no line")
+        if f" status={row.status} " not in said or "output=differs" in said:
+            wrong += 1
+            print(f"rows: {name}: {said}, and status {row.status} is due")
+    if len(told) != len(rows):
+        print((ran.stdout + ran.stderr)[-2000:])
+    print(f"rows: {len(rows)} rows on the program that was tried, {wrong} of them wrong; what stands on standard error wasn't compared")
+    return wrong == 0
+
+
+if __name__ == "__main__":
+    if sys.argv[1:] not in ([], ["--try"]):
+        print(__doc__)
+        sys.exit(0 if sys.argv[1:] in (["-h"], ["--help"]) else 64)
+    sys.exit(not (on_tried() if sys.argv[1:] else on_programs()))
