@@ -1,6 +1,6 @@
 /*
  * A program that asks for memory twice, and answers a refusal in the way that its first word names: `tells` is the right
- * way, and each other is wrong. tools/refuse_memory.sh must find them all.
+ * way, and each other is wrong. tools/refuse.py must find them all.
  */
 #include <stdio.h>
 #include <stdlib.h>
