@@ -175,7 +175,7 @@ def tables(queues):
          {q: {at(n): (cell("pass", q, shape(*n)), 1) for n in PAIRS} for q in queues}),
         ("calls", "One call's time", False, "ns",
          "`try_send` that is accepted and `try_recv` that gets an item, with 0 to 10 us of other work before each call; capacity 64. The "
-         "clock's own time, some 20 to 50 ns, is in each. 4/4 are more threads than four processors.",
+         "clock's own time, about 20 to 50 ns, is in each. 4/4 are more threads than four processors.",
          {q: {f"{at(n)} {name}": (cell("calls", q, shape(*n)), k) for n in ((2, 2), (4, 4))
               for k, name in enumerate(("send p50", "send p99", "take p50", "take p99"))} for q in queues}),
         ("paced", "A receiver that waits, an item a millisecond", False, "us",
