@@ -13,7 +13,7 @@ specs=crates/cc_runs/specs
 
 # One file's lines as rows, and its functions. A line is `line ARGUMENTS PLACE FOUND = VERB KIND WORD ..`.
 table_of() {
-    printf '\n### %s\n\n| where it stands | kind | what it does | where it leads |\n|---|---|---|---|\n' "$2"
+    printf '\n### %s\n\n| place | kind | operation | next place |\n|---|---|---|---|\n' "$2"
     sed -E 's/\b[A-Z][A-Za-z]*\.([A-Z])/\1/g' "$specs/$1.antt" | awk '
         # What stands between the outermost brackets, if a word has them.
         function bare(s) { return s ~ /^\(.*\)$/ ? substr(s, 2, length(s) - 2) : s }
@@ -34,7 +34,7 @@ table_of() {
             if (part[1] == "On") return code(part[2])
             if (part[1] == "Decides") return "decides " code(part[2])
             if (part[1] == "DecidesAndOn") return "decides " code(part[2]) ", then " code(part[3])
-            if (part[1] == "Tells") return "tells " code(part[2])
+            if (part[1] == "Tells") return "returns " code(part[2])
             return code(s)
         }
         /^ *line .* = (load|store|add|swap) / {
