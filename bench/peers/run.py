@@ -260,7 +260,7 @@ def text_of(machine, length, versions, all_tables, numbers):
         f"*words* are the proved queues of words and *typed* the channel of any type, both of `bindings/rust`, with a bound of {BOUND}; "
         f"the peers are {queues}std's `sync_channel`, whose one receiver is shared under a lock, and std's `Mutex` with two "
         "`Condvar`s round a `VecDeque`. ArrayQueue and concurrent-queue have no calls that wait: they are tried again, first with "
-        "spinning between two tries and then with yields. A cell has the median of the rounds, and in brackets the quartiles."), "",
+        "spinning between two tries and then with yields. Cells have the medians of the rounds, the pictures the quartiles too."), "",
     ]
     for name, title, _, unit, about, rows in all_tables:
         columns = list(next(iter(rows.values())))
@@ -268,7 +268,7 @@ def text_of(machine, length, versions, all_tables, numbers):
                   f"| | {' | '.join(columns)} |", "|---" * (len(columns) + 1) + "|"]
         for row, cells in rows.items():
             shown = [quartiles(numbers, *cells[column]) for column in columns]
-            shown = [f"{short(it[1])} ({short(it[0])}–{short(it[2])})" if it else "failed" for it in shown]
+            shown = [short(it[1]) if it else "failed" for it in shown]
             lines.append(f"| {SHOWN.get(row, row)} | {' | '.join(shown)} |")
         lines.append("")
     return "\n".join(lines)
