@@ -5,7 +5,7 @@
  * A pass is one sender or one receiver of one queue, and C holds it by a handle. Passes are not copied and not shared
  * by two threads at once: a queue has as many as its configuration says, all given by its opening.
  *
- * Receivers stand in groups. A group gets every item once, by one of its receivers; and every group gets every item, from
+ * Receivers form groups. A group gets every item once, by one of its receivers; and every group gets every item, from
  * the first one on, at its own pace. A queue of vahepito_open has one group, one of vahepito_open_groups up to 8:
  *
  *                                               group 1
@@ -20,23 +20,23 @@
  * opening says: they are sent by the calls whose names end in _words, and taken by such calls alone; the other calls of a
  * sender send one word there too.
  *
- * A call (a send, a close or a take) is begun, and then asked for its answer in turns. No call waits: where its answer is
- * not there yet a turn says so, and the caller decides how to pass the time (sched_yield, a back-off) before the next
- * turn; vahepito_wait.h has calls that wait so. The turn that finds its pass first in line serves other passes' calls too, at most `bound` of them. So a call
- * that was begun is to be turned to its end: where it is left, or its handle dropped, no pass of its side (the
- * senders, or the receivers of its group) may get an answer any more.
+ * A call (a send, a close or a take) is begun, and then asked for its answer in turns. No call waits: if its answer is not
+ * there yet a turn says so, and the caller decides how to pass the time (sched_yield, a back-off) before the next turn;
+ * vahepito_wait.h has calls that wait in this way. The turn that finds its pass first in line serves other passes' calls
+ * too, at most `bound` of them. So turn every begun call to its end: if it is abandoned, or its handle dropped, no pass of
+ * its side (the senders, or the receivers of its group) may get an answer any more.
  *
  * No call but the three openings takes memory.
  *
  * Apart from what is proved, the code does this, since each of its steps on shared words is sequentially consistent and sees
  * all steps before it; tests look for it:
- * - A take that begins after a send was answered finds the item, unless another take of its group had it; and a send that
- *   begins after takes were answered finds the room that they made. "After" is by any order that the program has: on one
- *   thread, behind a join, a lock or a flag.
- * - What was written to memory before a send is seen after the take of its item. So a body may be a pointer.
- * That a call which waits is ever served isn't promised, nor in which order those are that wait.
+ * - A take that begins after a send has returned finds the item, unless another take of its group took it; and a send that
+ *   begins after takes have returned finds the room that they made. "After" is by any order that the program has: on one
+ *   thread, by a join, a lock or a flag.
+ * - Memory written before a send is seen after the take of its item. So a body may be a pointer.
+ * Nothing promises that a waiting call is ever served, or the order in which waiting calls are.
  *
- * What the caller owes, and nothing checks:
+ * The caller must do the following, and nothing checks it:
  * - A handle begins as VAHEPITO_PASS_EMPTY, or all zero, and is filled by an opening alone. Its bytes are neither changed nor copied to a second
  *   handle that is used; a handle may be moved to another place, and the old place is then not used.
  * - A handle is given to one call at a time. It may go to another thread: by a mutex, a thread's start or join, or a
@@ -46,13 +46,13 @@
  * - No call is made from a signal handler, or from the forked child of a process with threads.
  * - malloc, realloc and free are one allocator's.
  *
- * An out-parameter is written by every call that has it: with 0 in each field where the code tells nothing of it.
+ * Every call writes its out-parameters, with 0 in each field that its code gives no meaning.
  *
- * Header and library are of one version: vahepito_check_version tells whether they are, and is for a program's start.
+ * Header and library must have one version: vahepito_check_version checks it, at a program's start.
  *
- * Where the thread sanitizer is on, each call that begins a send tells it that the body is handed over, and each that
- * gets an item that it was: the library isn't built for the sanitizer, which so sees none of its steps. Where
- * VAHEPITO_UNTOLD is defined before this header, nothing is told.
+ * If the thread sanitizer is on, each call that begins a send announces to it that the body is handed over, and each that
+ * gets an item that it was: the library isn't built for the sanitizer, which sees none of its steps. If VAHEPITO_UNTOLD is
+ * defined before this header, nothing is announced.
  */
 #ifndef VAHEPITO_H
 #define VAHEPITO_H
@@ -69,7 +69,7 @@ extern "C" {
  * third. */
 #define VAHEPITO_VERSION 3000
 
-/* What a queue is opened with. The bytes behind per_sender are not read. */
+/* The configuration of a queue. The bytes after per_sender are not read. */
 typedef struct {
     uint32_t senders;    /* 1 to 64 */
     uint32_t receivers;  /* 1 to 64: how many there are in each group */
@@ -79,11 +79,11 @@ typedef struct {
     uint32_t per_sender; /* 1 to 2^32 - 1: how many sends one sender begins at most */
 } vahepito_config;
 
-/* The bound: one thread serves the waiting calls of its side (the senders, or the receivers of its group) in one go, at
- * most so many, and then hands over to the next in line. Below about a quarter of the side's passes, where there are more
- * threads than processors, that is often a thread that doesn't run at the moment, and all others of the side wait until it
- * does. 64 does for every queue, as no side has more passes. The higher it is, the more calls one call may serve before it
- * comes back; with 1 a call serves none but its own. */
+/* The bound is the greatest number of waiting calls of its side (the senders, or the receivers of its group) that one thread
+ * serves in a row, before it hands over to the next in line. If it is below about a quarter of the side's passes, and there
+ * are more threads than processors, the next is often a thread that doesn't run at the moment, and all others of the side
+ * wait until it does. 64 is right for every queue, as no side has more passes. The higher it is, the more calls one call may
+ * serve before it returns; with 1 a call serves only its own. */
 
 /* A handle of one pass. It is empty, as VAHEPITO_PASS_EMPTY, or it holds a pass. */
 typedef struct {
@@ -112,10 +112,10 @@ typedef struct {
     uint32_t sender; /* whose, from 1 */
     uint32_t number; /* which of its sender's sends, from 1 */
     size_t count;    /* how many words were sent, from 1 */
-    uint64_t words[VAHEPITO_MOST_WORDS]; /* what was sent, and 0 behind it */
+    uint64_t words[VAHEPITO_MOST_WORDS]; /* the words that were sent, and 0 after them */
 } vahepito_words_item;
 
-/* What a call tells. Each call names those that it may tell. */
+/* The codes that calls return. Each call lists its own. */
 enum {
     /* it was done */
     VAHEPITO_DONE = 0,
@@ -182,7 +182,7 @@ uint32_t vahepito_version(void);
 void vahepito_sizes(size_t *config, size_t *pass, size_t *item, size_t *words_item);
 
 /* Whether the library that is linked is the one of this header, by its version and by these sizes. A program asks once,
- * before its first opening; where it is told no, it makes no other call but these two above. Any thread may call.
+ * before its first opening; if they differ, it makes no other call but these two above. Any thread may call.
  * DONE, BAD_VERSION. */
 static inline uint32_t vahepito_check_version(void) {
     size_t config = 0, pass = 0, item = 0, words_item = 0;
@@ -194,23 +194,24 @@ static inline uint32_t vahepito_check_version(void) {
                : VAHEPITO_BAD_VERSION;
 }
 
-/* Opens a queue of one group and fills the handles: senders[k] becomes sender k + 1, receivers[k] receiver k + 1. The handles are the
- * caller's, all of them empty before; the queue behind them is theirs together, and the last one that is dropped frees
- * it. Any thread may call.
+/* Opens a queue of one group and fills the handles: senders[k] becomes sender k + 1, receivers[k] receiver k + 1. The
+ * handles are the caller's, all of them empty before; they share the queue, and the last one that is dropped frees it. Any
+ * thread may call.
  * DONE; BAD_SENDERS to BAD_PER_SENDER, then BAD_HANDLES, then NO_MEMORY: no handle was changed. */
 uint32_t vahepito_open(const vahepito_config *config, vahepito_pass *senders, size_t sender_count,
                        vahepito_pass *receivers, size_t receiver_count);
 
-/* Opens a queue of so many groups, 1 to 8, with config->receivers receivers in each, and fills the handles: senders[k]
+/* Opens a queue of this number of groups, 1 to 8, with config->receivers receivers in each, and fills the handles: senders[k]
  * becomes sender k + 1, receivers[k] receiver k + 1, which is of group k / config->receivers + 1. So there are
  * groups * config->receivers handles of receivers. All else is as of vahepito_open, which is this call with one group.
  * DONE; BAD_SENDERS to BAD_PER_SENDER, then BAD_GROUPS, then BAD_HANDLES, then NO_MEMORY: no handle was changed. */
 uint32_t vahepito_open_groups(const vahepito_config *config, uint32_t groups, vahepito_pass *senders, size_t sender_count,
                               vahepito_pass *receivers, size_t receiver_count);
 
-/* Opens a queue of so many groups, whose bodies have so many words at most, 1 to 4, and fills the handles. All else is as of
- * vahepito_open_groups, which is this call with one word. Its items are taken by vahepito_turn_take_words and
- * vahepito_try_take_words; where a body may have more words than one, the calls that give an item of one word tell WIDE.
+/* Opens a queue of this number of groups, whose bodies have at most this number of words, 1 to 4, and fills the handles. All
+ * else is as of vahepito_open_groups, which is this call with one word. vahepito_turn_take_words and
+ * vahepito_try_take_words take its items; if a body may have more than one word, the calls for items of one word return
+ * WIDE.
  * DONE; BAD_SENDERS to BAD_PER_SENDER, then BAD_GROUPS, then BAD_WORDS, then BAD_HANDLES, then NO_MEMORY: no handle was
  * changed. */
 uint32_t vahepito_open_words(const vahepito_config *config, uint32_t groups, uint32_t words, vahepito_pass *senders,
@@ -224,32 +225,32 @@ uint32_t vahepito_group(vahepito_pass *receiver, uint32_t *group);
  * BEGUN: turn it. NO_PASS, WRONG_SIDE, BUSY, WORN: nothing has changed. */
 uint32_t vahepito_begin_send(vahepito_pass *sender, uint64_t body);
 
-/* Begins a send of so many words, which are copied. The thread that holds the handle calls.
+/* Begins a send of `count` words, which are copied. The thread that holds the handle calls.
  * BEGUN: turn it. NO_PASS, WRONG_SIDE, BUSY, then BAD_WORDS, LONG, then WORN: nothing has changed. */
 uint32_t vahepito_begin_send_words(vahepito_pass *sender, const uint64_t *words, size_t count);
 
 /* One turn of a send, of one word or of several. The thread that holds the handle calls.
- * ACCEPTED with the place, FULL, CLOSED, SPENT: the sender is idle again, and this turn served so many calls (0 where
- * another pass served it). WAITING: turn again. NO_PASS, WRONG_SIDE, NOT_BEGUN: nothing has changed. */
+ * ACCEPTED with the place, FULL, CLOSED, SPENT: the sender is idle again, and this turn served `served` calls (0 if another
+ * pass served it). WAITING: turn again. NO_PASS, WRONG_SIDE, NOT_BEGUN: nothing has changed. */
 uint32_t vahepito_turn_send(vahepito_pass *sender, uint64_t *place, uint32_t *served);
 
-/* Begins a send, and turns it once: the codes of both. After WAITING go on with vahepito_turn_send. */
+/* Begins a send, and turns it once: the codes of both. After WAITING continue with vahepito_turn_send. */
 uint32_t vahepito_try_send(vahepito_pass *sender, uint64_t body, uint64_t *place, uint32_t *served);
 
-/* The same of so many words: the codes of vahepito_begin_send_words and vahepito_turn_send. */
+/* The same of `count` words: the codes of vahepito_begin_send_words and vahepito_turn_send. */
 uint32_t vahepito_try_send_words(vahepito_pass *sender, const uint64_t *words, size_t count, uint64_t *place, uint32_t *served);
 
-/* Whether the sender has begun as many sends as it may: its next send is told WORN. The thread that holds the handle
+/* Whether the sender has begun as many sends as it may: its next send returns WORN. The thread that holds the handle
  * calls.
  * WORN, FRESH. NO_PASS, WRONG_SIDE, BUSY as everywhere. Nothing changes. */
 uint32_t vahepito_is_worn(vahepito_pass *sender);
 
 /* Begins a close of the queue. The thread that holds the handle calls.
- * BEGUN: turn it. NO_PASS, WRONG_SIDE, BUSY: nothing has changed. A worn sender may close. */
+ * BEGUN: turn it. NO_PASS, WRONG_SIDE, BUSY: nothing has changed. An exhausted sender may close. */
 uint32_t vahepito_begin_close(vahepito_pass *sender);
 
 /* One turn of a close. The thread that holds the handle calls.
- * SHUT, ALREADY with the total: the sender is idle again, and this turn served so many calls. WAITING: turn again.
+ * SHUT, ALREADY with the total: the sender is idle again, and this turn served `served` calls. WAITING: turn again.
  * NO_PASS, WRONG_SIDE, NOT_BEGUN: nothing has changed. */
 uint32_t vahepito_turn_close(vahepito_pass *sender, uint64_t *total, uint32_t *served);
 
@@ -258,26 +259,26 @@ uint32_t vahepito_turn_close(vahepito_pass *sender, uint64_t *total, uint32_t *s
 uint32_t vahepito_begin_take(vahepito_pass *receiver);
 
 /* One turn of a take. The thread that holds the handle calls.
- * GOT with the item, EMPTY, ENDED with the total: the receiver is idle again, and this turn served so many calls.
+ * GOT with the item, EMPTY, ENDED with the total: the receiver is idle again, and this turn served `served` calls.
  * WAITING: turn again. NO_PASS, WRONG_SIDE, NOT_BEGUN; WIDE, of any pass of a queue whose bodies may have several words:
  * nothing has changed. */
 uint32_t vahepito_turn_take(vahepito_pass *receiver, vahepito_item *item, uint64_t *total, uint32_t *served);
 
-/* Begins a take, and turns it once: the codes of both. After WAITING go on with vahepito_turn_take. */
+/* Begins a take, and turns it once: the codes of both. After WAITING continue with vahepito_turn_take. */
 uint32_t vahepito_try_take(vahepito_pass *receiver, vahepito_item *item, uint64_t *total, uint32_t *served);
 
-/* The same two calls, of an item with all words of its body. They never tell WIDE. */
+/* The same two calls, of an item with all words of its body. They never return WIDE. */
 uint32_t vahepito_turn_take_words(vahepito_pass *receiver, vahepito_words_item *item, uint64_t *total, uint32_t *served);
 uint32_t vahepito_try_take_words(vahepito_pass *receiver, vahepito_words_item *item, uint64_t *total, uint32_t *served);
 
-/* Lets a pass go at any moment, and leaves the handle empty. A call that was begun is given up: it may stay in the queue
- * unanswered, and stop its side, as said above. The last handle of a queue frees it. The thread that holds the handle
+/* Drops a pass at any moment, and leaves the handle empty. A begun call is abandoned: it may stay in the queue unanswered,
+ * and stop its side, as said above. The last handle of a queue frees it. The thread that holds the handle
  * calls.
  * DONE, NO_PASS. */
 uint32_t vahepito_drop(vahepito_pass *pass);
 
-/* What the thread sanitizer is told. Each word of a body is handed over under a place of this table, one for all words of one hash: so
- * what was done before its send comes before what is done after its take, and hardly anything else does. */
+/* Announcements to the thread sanitizer. Each word of a body is handed over under a place of this table, one for all words of
+ * one hash: so what was done before its send comes before what is done after its take, and hardly anything else does. */
 #if !defined(VAHEPITO_UNTOLD) && defined(__SANITIZE_THREAD__)
 #define VAHEPITO_TOLD 1
 #elif !defined(VAHEPITO_UNTOLD) && defined(__has_feature)
