@@ -3,7 +3,7 @@
 
     tools/plain_words.py [--words]
 
-Four checks, in about a second:
+Five checks, in about a second:
 
 - Words: README.md has at most 900, and README.md with docs/*.md at most 35,000, as `wc -w` counts them, without
   docs/STATEMENTS*, which a script writes. --words prints the number of words of each document, and checks nothing.
@@ -11,6 +11,7 @@ Four checks, in about a second:
 - Quotes: after a line `<!-- from PATH -->` the next block of code has the lines of that file, one after another.
 - Figures: after README's line `<!-- figures of docs/BENCH.md -->` a table has in its columns the medians that docs/BENCH.md
   has in the tables and columns of FIGURES, row by row.
+- Pictures: those that bench/pictures.py draws are of the tables that docs/BENCH.md has.
 
 Blocks of code, words between backquotes, headings and comments hold no patterns, and neither does the table of steps in
 docs/ALGORITHM.md, which tools/steps_table.sh writes. The exit status is 0 if all checks pass.
@@ -18,6 +19,7 @@ docs/ALGORITHM.md, which tools/steps_table.sh writes. The exit status is 0 if al
 import glob
 import os
 import re
+import subprocess
 import sys
 import textwrap
 
@@ -182,6 +184,11 @@ def check_figures():
                 yield f"README.md: {name}: {cell}, and docs/BENCH.md has {column.get(name)}"
 
 
+def check_pictures():
+    check = [sys.executable, os.path.join(TOP, "bench", "pictures.py"), "--check"]
+    yield from subprocess.run(check, capture_output=True, text=True).stdout.splitlines()
+
+
 def main():
     if sys.argv[1:] == ["--words"]:
         for path in documents(COUNTED):
@@ -191,7 +198,7 @@ def main():
     if sys.argv[1:]:
         print(__doc__)
         return 0 if sys.argv[1:] == ["--help"] else 64
-    faults = [fault for check in (check_words, check_patterns, check_quotes, check_figures) for fault in check()]
+    faults = [fault for check in (check_words, check_patterns, check_quotes, check_figures, check_pictures) for fault in check()]
     for fault in faults:
         print(fault)
     print(f"plain words: {len(faults)} faults" if faults else "plain words: README and docs are as they should be")
