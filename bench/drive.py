@@ -1,20 +1,21 @@
 #!/usr/bin/env python3
-"""Times `ccq drive` beside another build of it and beside the driver by hand, interleaved: each round runs every program
-once, and the median of the rounds is told with its quartiles.
+"""Times `ccq drive`, another build of it and the driver by hand, interleaved: each round runs every program once, and the
+median of the rounds is printed with its quartiles.
 
-    bench/drive.py [--rounds N] [--seconds N] [--beside PROGRAM] [--only crowd|few|twice|memory]..
+    bench/drive.py [--rounds N] [--seconds N] [--beside PROGRAM] [--only crowd|few|twice|memory].. [--write]
 
 It runs `crates/ccq/out/ccq` (build it by `rt run` in crates/ccq) and `plain drive` of bench/plain (`cargo build --release`),
-the driver by hand over std's Mutex with Condvars, which has no bound; --beside names another `ccq`, told as `before`. A
-round goes over all shapes of a part; no further round of a part begins when it has had its share of --seconds.
+the driver by hand over std's Mutex with Condvars, which has no bound; --beside names another `ccq`, called `before`. A
+round goes over all shapes of a part; no further round of a part begins when it has had its share of --seconds. With --write
+`crowd` writes the table `driver` of docs/BENCH.md, and `memory` the table `memory`.
 
   crowd   4, 16, 32 and 63 or 64 threads on each side, bounds 1, 8 and 64, capacity 64; and capacity 1
   few     one thread, two and four on each side, capacities 64 and 1024
   twice   a sender and a receiver for each processor: twice as many threads as processors
   memory  one million items, four million, and none: what a run keeps for each item at its peak
 
-A row a shape: for an item the nanoseconds of the clock, with the quartiles and behind them the worst run, and in square
-brackets those of all processors together; `memory` tells the bytes for an item.
+A row a shape: for an item the nanoseconds of the clock, with the quartiles and after them the worst run, and in square
+brackets those of all processors together; `memory` has the bytes for an item.
 """
 import argparse
 import os
@@ -24,6 +25,9 @@ import statistics
 import sys
 import threading
 import time
+
+sys.dont_write_bytecode = True
+from document import row, spread, write
 
 TOP = os.path.dirname(os.path.dirname(os.path.abspath(__file__)))
 QUEUE = os.path.join(TOP, "crates", "ccq", "out", "ccq")
@@ -38,6 +42,7 @@ FEW = [(s, s, c, 8, 200_000 // s) for s in (1, 2, 4) for c in (64, 1024)] + [(1,
 TWICE = [(PROCESSORS, PROCESSORS, 64, b, 40_000 // PROCESSORS) for b in (1, 2, 8, 64)]
 MEMORY = [(4, 4, 64, 8, n) for n in (0, 250_000, 1_000_000)]
 PARTS = {"crowd": CROWD, "few": FEW, "twice": TWICE, "memory": MEMORY}
+TABLES = {"crowd": "driver", "memory": "memory"}
 
 
 def command(program, shape):
@@ -78,42 +83,32 @@ def machine():
     return os.getloadavg(), sum(times), times[7]
 
 
-def told(values):
-    low, middle, high = statistics.quantiles(values, n=4) if len(values) > 1 else values * 3
-    return f"{middle:,.0f} ({low:,.0f}–{high:,.0f})"
-
-
-def row(*cells):
-    print(f"| {' | '.join(cells)} |", flush=True)
-
-
-def show(shapes, names, runs):
-    """A line for each shape, with the time of each program."""
-    row("senders and receivers", "capacity", "bound", *names.values())
-    row(*["---"] * (3 + len(names)))
+def times(shapes, names, runs):
+    """A row for each shape, with the time of each program."""
+    rows = [["senders and receivers", "capacity", "bound", *names.values()]]
     for shape in shapes:
         senders, receivers, capacity, bound, items = shape
         per = 1e9 / (senders * items)
         cells = []
         for measured in runs[shape].values():
             clocks, processors, _ = zip(*measured)
-            cells.append(f"{told([c * per for c in clocks])}, {max(clocks) * per:,.0f} [{statistics.median(processors) * per:,.0f}]")
-        row(f"{senders} and {receivers}", str(capacity), str(bound), *cells)
+            cells.append(f"{spread([c * per for c in clocks])}, {max(clocks) * per:,.0f} [{statistics.median(processors) * per:,.0f}]")
+        rows.append([f"{senders} and {receivers}", str(capacity), str(bound), *cells])
+    return rows
 
 
-def show_memory(shapes, names, runs):
-    """A line for each number of items, with what each program keeps of an item at its peak, and its time."""
-    row("items", *names.values())
-    row(*["---"] * (1 + len(names)))
+def memory(shapes, names, runs):
+    """A row for each number of items, with the bytes that each program keeps of an item at its peak."""
+    rows = [["items", *names.values()]]
     none, *rest = shapes
     for shape in rest:
         items = shape[0] * shape[4]
         cells = []
         for name, measured in runs[shape].items():
             least = statistics.median(kept for _, _, kept in runs[none][name])
-            clocks, _, most = zip(*measured)
-            cells.append(f"{told([(kept - least) / items for kept in most])} bytes, {told([c * 1e9 / items for c in clocks])} ns")
-        row(f"{items:,}", *cells)
+            cells.append(spread([(kept - least) / items for _, _, kept in measured]))
+        rows.append([f"{items:,}", *cells])
+    return rows
 
 
 def main():
@@ -122,8 +117,9 @@ def main():
     parser.add_argument("--seconds", type=float, default=1e9)
     parser.add_argument("--beside", metavar="PROGRAM")
     parser.add_argument("--only", action="append", choices=PARTS)
+    parser.add_argument("--write", action="store_true")
     options = parser.parse_args()
-    names = {QUEUE: "ccq"}
+    names = {QUEUE: "`ccq drive`"}
     if options.beside:
         names[os.path.abspath(options.beside)] = "before"
     names["by hand"] = "by hand"
@@ -141,7 +137,10 @@ def main():
                     runs[shape][name].append(run(name, shape))
             rounds += 1
         print(f"{part}, {rounds} rounds", flush=True)
-        (show_memory if part == "memory" else show)(shapes, names, runs)
+        rows = (memory if part == "memory" else times)(shapes, names, runs)
+        print(*map(row, rows), sep="\n", flush=True)
+        if options.write and part in TABLES:
+            write(TABLES[part], rows)
     load, total_now, stolen_now = machine()
     share = (stolen_now - stolen) / max(1, total_now - total)
     print(f"load {load[0]:.2f} at the end; the host took {share:.3f} of the processors", flush=True)

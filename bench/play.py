@@ -1,12 +1,12 @@
 #!/usr/bin/env python3
-"""Times the parts of `ccq play` beside the same steps by hand, interleaved, and tells medians with their quartiles.
+"""Times the parts of `ccq play` and the same steps by hand, interleaved, and prints medians with their quartiles.
 
-    bench/play.py [--rounds N] [--calls N] [--beside PROGRAM]
+    bench/play.py [--rounds N] [--calls N] [--beside PROGRAM | --write]
 
 It runs `crates/ccq/out/ccq` (build it by `rt run` in crates/ccq) on plans of 64 senders and 64 receivers with capacity
 4,096 whose calls are all accepted and all get their items, a sender's 3,500 whole calls and then a receiver's, and
-`plain stepping_four` and `plain stepping` of bench/plain (`cargo build --release`); --beside names another `ccq`, told as
-`before`. The parts:
+`plain stepping_four` and `plain stepping` of bench/plain (`cargo build --release`); --beside names another `ccq`, called
+`before`. With --write the table `player` of docs/BENCH.md is written. The parts:
 
   read    the plan with no schedule: its text is read, and the machine opened
   play    the schedule, and the audit of its receipts: the same plan written to /dev/full, where the first write of the
@@ -24,6 +24,9 @@ import subprocess
 import sys
 import tempfile
 import time
+
+sys.dont_write_bytecode = True
+from document import spread, write
 
 TOP = os.path.dirname(os.path.dirname(os.path.abspath(__file__)))
 QUEUE = os.path.join(TOP, "crates", "ccq", "out", "ccq")
@@ -63,16 +66,13 @@ def processors(command, text, sink, status):
     return usage.ru_utime + usage.ru_stime
 
 
-def told(values):
-    low, middle, high = statistics.quantiles(values, n=4) if len(values) > 1 else values * 3
-    return f"{middle:.1f} ({low:.1f}–{high:.1f})"
-
-
 def main():
     parser = argparse.ArgumentParser()
     parser.add_argument("--rounds", type=int, default=9)
     parser.add_argument("--calls", type=int, default=28_000)
-    parser.add_argument("--beside", metavar="PROGRAM")
+    alternatives = parser.add_mutually_exclusive_group()
+    alternatives.add_argument("--beside", metavar="PROGRAM")
+    alternatives.add_argument("--write", action="store_true")
     options = parser.parse_args()
     names = {QUEUE: "ccq"}
     if options.beside:
@@ -102,10 +102,14 @@ def main():
     print(f"{events:,} events, nanoseconds of the processors an event, {options.rounds} rounds", flush=True)
     for (name, part), values in parts.items():
         ratio = f", {statistics.median(values) / statistics.median(hand['stepping_four']):.2f} of by hand" if part == "play" else ""
-        print(f"{names[name]}  {part}  {told(values)}{ratio}", flush=True)
+        print(f"{names[name]}  {part}  {spread(values, 1)}{ratio}", flush=True)
     for mode, room in HAND.items():
-        print(f"by hand, room for {room}  {told(hand[mode])}", flush=True)
+        print(f"by hand, room for {room}  {spread(hand[mode], 1)}", flush=True)
     print(f"load {os.getloadavg()[0]:.2f}", flush=True)
+    if options.write:
+        cells = {part: spread(parts[QUEUE, part], 1) for part in ("read", "play", "report")}
+        write("player", [["part", "`ccq play`", "by hand"], ["reading", cells["read"], ""],
+                         ["playing, and the audit", cells["play"], spread(hand["stepping_four"], 1)], ["report", cells["report"], ""]])
 
 
 if __name__ == "__main__":

@@ -1,14 +1,15 @@
 #!/usr/bin/env python3
-"""Times the queue beside other queues, interleaved: each round runs every program once, and the medians are told.
+"""Times the queue and other queues, interleaved: each round runs every program once, and the medians are printed.
 
-    bench/run.py [--rounds N] [--items N] [--beside TREE | --words]
+    bench/run.py [--rounds N] [--items N] [--beside TREE | --words] [--write]
 
 `cc_bench` is the proved queue (build it by `rt run` in crates/cc_bench), `plain` the same atomic steps by hand, as they
 are and `released` (with the stores `Release` that need no locked instruction of their own), std's Mutex with Condvar, and
 std's sync_channel (build it by `cargo build --release` in bench/plain). A line a shape: senders, receivers, capacity, and
 the nanoseconds of the clock an item of each program; in brackets those of the processors.
-With --beside the queue runs beside that of another tree alone, which is told as `before`, and their ratios are told too.
-With --words it runs alone, with bodies of one word, of two and of four; else each body has one word.
+With --beside the queue runs with that of another tree alone, called `before`, and the ratios are printed.
+With --words it runs alone, with bodies of one word, of two and of four, and quartiles are in brackets; else each body has
+one word. With --write the table `steps` of docs/BENCH.md is written, or with --words `bodies`.
 """
 import argparse
 import os
@@ -17,6 +18,9 @@ import statistics
 import subprocess
 import sys
 import time
+
+sys.dont_write_bytecode = True
+from document import spread, write
 
 TOP = os.path.dirname(os.path.dirname(os.path.abspath(__file__)))
 QUEUE = os.path.join(TOP, "crates", "cc_bench", "out", "cc_bench")
@@ -35,8 +39,8 @@ def timed(command):
     return out, clock, after.ru_utime + after.ru_stime - before.ru_utime - before.ru_stime
 
 
-def compare(commands, items, rounds):
-    """The medians of the rounds, in nanoseconds an item, of each command."""
+def measure(commands, items, rounds):
+    """The nanoseconds an item of each command in each round, by the clock and of the processors."""
     times = {name: [] for name in commands}
     for _ in range(rounds):
         for name, command in commands.items():
@@ -44,6 +48,12 @@ def compare(commands, items, rounds):
             if out != f"passed {items}\n":
                 sys.exit(f"{name}: {out!r} in place of {items} items")
             times[name].append((clock * 1e9 / items, processors * 1e9 / items))
+    return times
+
+
+def compare(commands, items, rounds):
+    """The medians of the rounds, in nanoseconds an item, of each command."""
+    times = measure(commands, items, rounds)
     return {name: tuple(statistics.median(t[k] for t in ts) for k in (0, 1)) for name, ts in times.items()}
 
 
@@ -64,11 +74,36 @@ def beside(before, items, rounds):
 
 
 def by_words(items, rounds):
-    """The queue with bodies of one word, of two and of four, in one run."""
+    """The queue with bodies of one word, of two and of four, in one run: the rows of the table `bodies`."""
+    rows = [["senders and receivers", "one word", "two", "four"]]
     for senders, receivers in [(0, 1), *SHAPES]:
         shape = [str(n) for n in (senders, receivers, 64, items)]
-        commands = {f"{words} words": [QUEUE, *shape, str(words)] for words in (1, 2, 4)}
-        show(f"{senders} and {receivers} threads, capacity 64", compare(commands, items, rounds))
+        times = measure({words: [QUEUE, *shape, str(words)] for words in (1, 2, 4)}, items, rounds)
+        name = f"{senders} and {receivers}" if senders else "one thread"
+        rows.append([name, *(spread([clock for clock, _ in of]) for of in times.values())])
+        print(*rows[-1], sep="  ", flush=True)
+    return rows
+
+
+def by_steps(items, rounds):
+    """The queue, the same steps by hand and other queues: the rows of the table `steps`."""
+    rows = [["senders and receivers", "capacity", "queue", "steps", "released", "released / steps"]]
+    room = ["1", "64", str(items)]
+    alone = {"queue": [QUEUE, "0", *room]}
+    alone.update({name: [PLAIN, mode, "1", *room] for name, mode in (("steps", "alone"), ("released", "alone_released"))})
+    shapes = [("one thread, a send and a take", 64, alone)]
+    for senders, receivers in SHAPES:
+        for capacity in CAPACITIES:
+            shape = [str(n) for n in (senders, receivers, capacity, items)]
+            commands = {"queue": [QUEUE, *shape]}
+            commands.update({mode: [PLAIN, mode, *shape] for mode in ("steps", "released", "mutex", "sync_channel")})
+            shapes.append((f"{senders} and {receivers}", capacity, commands))
+    for name, capacity, commands in shapes:
+        medians = compare(commands, items, rounds)
+        show(f"{name}, capacity {capacity}", medians)
+        cells = [f"{clock:.0f} ({processors:.0f})" for clock, processors in (medians[it] for it in rows[0][2:5])]
+        rows.append([name, str(capacity), *cells, f"{medians['released'][0] / medians['steps'][0]:.2f}"])
+    return rows
 
 
 def main():
@@ -78,24 +113,14 @@ def main():
     alternatives = parser.add_mutually_exclusive_group()
     alternatives.add_argument("--beside", metavar="TREE")
     alternatives.add_argument("--words", action="store_true")
+    parser.add_argument("--write", action="store_true")
     options = parser.parse_args()
-    items = options.items
     if options.beside:
-        beside(os.path.join(options.beside, os.path.relpath(QUEUE, TOP)), items, options.rounds)
+        beside(os.path.join(options.beside, os.path.relpath(QUEUE, TOP)), options.items, options.rounds)
         return
-    if options.words:
-        by_words(items, options.rounds)
-        return
-    room = ["1", "64", str(items)]
-    alone = {"queue": [QUEUE, "0", *room]}
-    alone.update({name: [PLAIN, mode, "1", *room] for name, mode in (("steps", "alone"), ("released", "alone_released"))})
-    show("one thread, a send and a take", compare(alone, items, options.rounds))
-    for senders, receivers in SHAPES:
-        for capacity in CAPACITIES:
-            shape = [str(n) for n in (senders, receivers, capacity, items)]
-            commands = {"queue": [QUEUE, *shape]}
-            commands.update({mode: [PLAIN, mode, *shape] for mode in ("steps", "released", "mutex", "sync_channel")})
-            show(f"{senders} and {receivers} threads, capacity {capacity}", compare(commands, items, options.rounds))
+    rows = (by_words if options.words else by_steps)(options.items, options.rounds)
+    if options.write:
+        write("bodies" if options.words else "steps", rows)
 
 
 if __name__ == "__main__":
