@@ -11,13 +11,13 @@ use Rattle.cc_model.proofs.InOrder.{handed_front}
 
 -- ---- lists
 
-all_at : {X : Type 0} (P : X → Type 0) (xs : List X) (i : ℕ) (x : X) → AllByRecursion P xs → slice_get xs i ≡ Some x → P x
+pub all_at : {X : Type 0} (P : X → Type 0) (xs : List X) (i : ℕ) (x : X) → AllByRecursion P xs → slice_get xs i ≡ Some x → P x
 all_at P [] i x all is = cc
 all_at P (y ∷ xs) zero x all is = let same : y ≡ x = cc in subst P same all.0
 all_at P (y ∷ xs) (suc i) x all is = all_at P xs i x all.1 is
 
 -- of two fronts of one list the shorter is a front of the longer
-shorter_front : {X : Type 0} (xs ys whole : List X) → IsFront xs whole → IsFront ys whole → length xs ≤ length ys → IsFront xs ys
+pub shorter_front : {X : Type 0} (xs ys whole : List X) → IsFront xs whole → IsFront ys whole → length xs ≤ length ys → IsFront xs ys
 shorter_front [] ys whole a b less = (ys, refl)
 shorter_front (x ∷ xs) [] whole a b less = absurd (omega (arith, less))
 shorter_front {X} (x ∷ xs) (y ∷ ys) whole a b less =
@@ -35,7 +35,7 @@ d_front items shut n [] (a ∷ before) rest h = absurd h
 d_front items shut n (c ∷ calls) (a ∷ before) rest h = (h.0, d_front items shut (n + length (handed_item a)) calls before rest h.1)
 
 -- the answer of a take, behind others
-d_at : (items : List Item) (shut : Bool) (n : ℕ) (calls : List Entry) (before behind : List Answer) (c : Entry) (a : Answer) → DAnswers items shut n calls (before ++ a ∷ behind) → slice_get calls (length before) ≡ Some c → DAnswer items shut (n + length (handed_by before)) c.known a
+pub d_at : (items : List Item) (shut : Bool) (n : ℕ) (calls : List Entry) (before behind : List Answer) (c : Entry) (a : Answer) → DAnswers items shut n calls (before ++ a ∷ behind) → slice_get calls (length before) ≡ Some c → DAnswer items shut (n + length (handed_by before)) c.known a
 d_at items shut n [] before behind c a h is = cc
 d_at items shut n (d ∷ calls) [] behind c a h is = let same : d ≡ c = cc in rw (sym same, add-zero) h.0
 d_at items shut n (d ∷ calls) (b ∷ before) behind c a h is =
@@ -48,7 +48,7 @@ taker_knows cfg g h (Pass.Sender s) k is = absurd is
 
 -- ---- sends
 
-e_at : (cfg : Config) (n : ℕ) (shut : Bool) (calls : List Entry) (before behind : List Answer) (c : Entry) (a : Answer) → EAnswers cfg n shut calls (before ++ a ∷ behind) → slice_get calls (length before) ≡ Some c
+pub e_at : (cfg : Config) (n : ℕ) (shut : Bool) (calls : List Entry) (before behind : List Answer) (c : Entry) (a : Answer) → EAnswers cfg n shut calls (before ++ a ∷ behind) → slice_get calls (length before) ≡ Some c
     → EAnswer cfg (n + length (accepted_by calls before)) (shut || list_any shuts before) c.known c.call a
 e_at cfg n shut [] before behind c a h is = cc
 e_at cfg n shut (d ∷ calls) [] behind c a h is = let same : d ≡ c = cc in rw (sym same, add-zero) (or_nil shut h.0)
@@ -66,7 +66,7 @@ e_at cfg n shut (d ∷ calls) (b ∷ before) behind c a h is =
     or_assoc true q r = refl
     or_assoc false q r = refl
 
-sender_knows : (cfg : Config) (h : Record) (p : Pass) (k : Call) → IsSenders cfg p k → known_at p h ≡ handed_to_all h
+pub sender_knows : (cfg : Config) (h : Record) (p : Pass) (k : Call) → IsSenders cfg p k → known_at p h ≡ handed_to_all h
 sender_knows cfg h (Pass.Sender s) k is = refl
 sender_knows cfg h (Pass.Receiver r) k is = absurd is
 
@@ -100,7 +100,7 @@ closed_none cfg n (c ∷ calls) (a ∷ answers) h =
     omega (arith, length-append (accepted_item c a) (accepted_by calls answers), closed_adds cfg n c a h.0, closed_none cfg (n + length (accepted_item c a)) calls answers h.1)
 
 -- the items accepted in a front of a history are a front of those of the whole
-accepted_front : (cfg : Config) (n : ℕ) (shut : Bool) (calls more : List Entry) (answers rest : List Answer) → EAnswers cfg n shut calls answers → IsFront (accepted_by calls answers) (accepted_by (calls ++ more) (answers ++ rest))
+pub accepted_front : (cfg : Config) (n : ℕ) (shut : Bool) (calls more : List Entry) (answers rest : List Answer) → EAnswers cfg n shut calls answers → IsFront (accepted_by calls answers) (accepted_by (calls ++ more) (answers ++ rest))
 accepted_front cfg n shut [] more [] rest h = (accepted_by more rest, refl)
 accepted_front cfg n shut [] more (a ∷ answers) rest h = absurd h
 accepted_front cfg n shut (c ∷ calls) more [] rest h = (accepted_by ((c ∷ calls) ++ more) rest, refl)
@@ -142,7 +142,7 @@ module _ (cfg : Config) (h later : Record) (on : GoesOn cfg h later) where
   lawful : EAnswers cfg 0 false Calls Answers
   lawful = subst (λ (z : List Entry × List Answer). EAnswers cfg 0 false z.0 z.1) (λ i. (on.begins.sends.calls.1 i, on.begins.sends.answers.1 i)) on.later_legal.answers
 
-  front : IsFront (accepted h) (accepted later)
+  pub front : IsFront (accepted h) (accepted later)
   front = subst (λ (l : List Item). IsFront (accepted h) l) (sym is_later) (accepted_front cfg 0 false h.sends.calls on.begins.sends.calls.0 h.sends.answers on.begins.sends.answers.0 on.legal.answers)
 
   all_there : is_shut h ≡ true → length (accepted later) ≡ length (accepted h)

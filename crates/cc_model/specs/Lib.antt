@@ -9,3 +9,4 @@ pub mod Items
 pub mod Legal
 pub mod Fifo
 pub mod Fresh
+pub mod After
