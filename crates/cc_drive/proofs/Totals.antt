@@ -9,7 +9,8 @@ use Rattle.cc_model.specs.Legal.{Legal, LegalTakes, EAnswer, EAnswers, DAnswer, 
 use Rattle.cc_drive.specs.Names.{Config, Call, Pass, Item, Entry, Answer, SendAnswer, CloseAnswer, TakeAnswer}
 use Rattle.cc_runs.specs.ChainLaws.{IsLastAnswer}
 use Rattle.cc_audit.specs.Receipts.{sends_of, takes_of, takes_by, take_receipt, total_of, total_by, send_receipt}
-use Rattle.cc_queue.proofs.OnItsSide.{Told, its_side, on_its_side}
+use Rattle.cc_model.specs.After.{side_of}
+use Rattle.cc_queue.proofs.OnItsSide.{Told, on_its_side}
 use Rattle.cc_model.specs.Record.{Side, silent, of_group}
 use Rattle.cc_model.specs.Config.{group_of}
 use Rattle.std.proofs.lemmas.Bool.{cases_lt}
@@ -36,9 +37,9 @@ in_filter f z (x ∷ xs) i = go (f x) (in_filter f z xs) i
     go false rest j = inr (rest j)
 
 -- a pass's last answer is one of its side
-last_in : (cfg : Config) (who : Pass) (h : Record) (told : Answer) → Legal cfg h → (k : IsLastAnswer who h told) → In (k.entry, Some told) (answered (its_side cfg who h).calls (its_side cfg who h).answers)
+last_in : (cfg : Config) (who : Pass) (h : Record) (told : Answer) → Legal cfg h → (k : IsLastAnswer who h told) → In (k.entry, Some told) (answered (side_of cfg who h).calls (side_of cfg who h).answers)
 last_in cfg who h told l k =
-    let side = its_side cfg who h in
+    let side = side_of cfg who h in
     in_filter (λ c. is_pass who c.0.pass) (k.entry, Some told) (answered side.calls side.answers) (subst (In (k.entry, Some told)) (sym k.last ∙ on_its_side cfg h who l) (in_last k.before (k.entry, Some told)))
 
 -- what a call with its answer is

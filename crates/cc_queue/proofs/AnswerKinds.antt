@@ -93,7 +93,7 @@ all_suit cfg h who l =
     (all_both SuitsIt (answered h.sends.calls h.sends.answers) (flat_map (λ side. answered side.calls side.answers) h.takes) (e_all cfg 0 false h.sends.calls h.sends.answers l.answers)
     (all_sides SuitsIt h.takes (side_suits cfg h l)))
 
-map_last : {X Y : Type 0} (f : X → Y) (xs : List X) (x : X) → map f (xs ++ x ∷ []) ≡ map f xs ++ f x ∷ []
+pub map_last : {X Y : Type 0} (f : X → Y) (xs : List X) (x : X) → map f (xs ++ x ∷ []) ≡ map f xs ++ f x ∷ []
 map_last f [] x = refl
 map_last f (y ∷ xs) x = λ i. f y ∷ map_last f xs x i
 

@@ -1,4 +1,5 @@
 pub mod Headline
+pub mod Heeded
 pub mod AnswerKinds
 pub mod SendCount
 pub mod Meetings

@@ -5,7 +5,8 @@ use Rattle.std.proofs.lemmas.Bool.{cases_lt, ne_eqb}
 use Rattle.std.proofs.lemmas.List.{get_or_past}
 use Rattle.std.proofs.lemmas.List.Elements.{filter-append}
 use Rattle.cc_model.specs.Record.{Side, Record, silent, of_group}
-use Rattle.cc_model.specs.Items.{answered, calls_of, is_pass}
+use Rattle.cc_model.specs.Items.{Begins, SideBegins, answered, calls_of, is_pass}
+use Rattle.cc_model.specs.After.{side_of}
 use Rattle.cc_model.specs.Legal.{Legal, IsSenders, IsReceivers}
 use Rattle.cc_model.specs.Config.{group_of}
 use Rattle.cc_queue.specs.Names.{Config, Call, Pass, Entry, Answer}
@@ -69,11 +70,11 @@ receiver_on_its_side cfg h r l =
     ∙ ap (λ (xs : List Told). xs ++ flat_map (λ side. its (Pass.Receiver r) side.calls side.answers) h.takes) (none_of (λ e. IsSenders cfg e.pass e.call) (Pass.Receiver r) (λ e is. not_a_sender cfg r e.pass e.call is) h.sends.calls h.sends.answers l.senders)
     ∙ flat-one (is_its (Pass.Receiver r)) h.takes (group_of cfg r) (λ k ne. none_of_group cfg h (Pass.Receiver r) k l (not_in_group cfg k r (λ e. ne (sym e))))
 
--- the side of a pass
-abbrev pub its_side : Config → Pass → Record → Side
-its_side cfg (Pass.Sender s) h = h.sends
-its_side cfg (Pass.Receiver r) h = of_group h (group_of cfg r)
+-- a history begins another on this side too
+pub side_begins : (cfg : Config) (p : Pass) (h later : Record) → Begins h later → SideBegins (side_of cfg p h) (side_of cfg p later)
+side_begins cfg (Pass.Sender s) h later b = b.sends
+side_begins cfg (Pass.Receiver r) h later b = b.takes (group_of cfg r)
 
-pub on_its_side : (cfg : Config) (h : Record) (p : Pass) → Legal cfg h → calls_of p h ≡ its p (its_side cfg p h).calls (its_side cfg p h).answers
+pub on_its_side : (cfg : Config) (h : Record) (p : Pass) → Legal cfg h → calls_of p h ≡ its p (side_of cfg p h).calls (side_of cfg p h).answers
 on_its_side cfg h (Pass.Sender s) l = sender_on_its_side cfg h s l
 on_its_side cfg h (Pass.Receiver r) l = receiver_on_its_side cfg h r l

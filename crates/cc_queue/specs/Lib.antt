@@ -6,6 +6,7 @@ pub mod Passes
 pub mod SendCount
 pub mod Calls
 pub mod Met
+pub mod Noted
 pub mod Opened
 pub mod Receipts
 pub mod Group

@@ -16,6 +16,7 @@ mod codes;
 mod combine;
 mod given_up;
 mod meets;
+mod notes;
 mod passes;
 mod queue;
 mod receipts;
@@ -29,8 +30,9 @@ mod turns;
 pub use blocking::{close, send, send_until, take, take_until};
 pub use cc_model::{CloseAnswer, Config, ConfigFault, Item, SendAnswer, TakeAnswer};
 pub use cc_runs::OpenFault;
-pub use given_up::GivenUp;
+pub use cc_steps::notes::Note;
 pub use meets::{meet, meet_all, meet_receivers, meet_senders};
+pub use notes::{again, heeded_is_fresh, heeded_stays, send_after, take_after, turns_complete};
 pub use passes::{
     CloseTurn, PendingClose, PendingSend, PendingTake, Receiver, SendTurn, Sender, TakeTurn,
 };

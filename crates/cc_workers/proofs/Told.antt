@@ -4,14 +4,14 @@ use Rattle.std.specs.List.{AllByRecursion}
 use Rattle.cc_model.specs.Record.{Side, Record, of_group}
 use Rattle.cc_model.specs.Items.{HasAnswer, SideBegins, Begins, calls_of, is_pass}
 use Rattle.cc_model.specs.Legal.{Legal}
-use Rattle.cc_model.specs.Config.{group_of}
 use Rattle.cc_workers.specs.Names.{Config, Pass, Entry, Answer, Setting}
 use Rattle.cc_runs.specs.ChainLaws.{IsLastAnswer}
 use Rattle.cc_runs.specs.State.{pass_at}
 use Rattle.cc_steps.specs.Walk.{Walk}
 use Rattle.cc_queue.specs.Headline.{StandsInOne, name, history}
 use Rattle.cc_queue.proofs.AnswerKinds.{all_last, last_is}
-use Rattle.cc_queue.proofs.OnItsSide.{its, kept, its_side, on_its_side}
+use Rattle.cc_model.specs.After.{side_of}
+use Rattle.cc_queue.proofs.OnItsSide.{its, kept, side_begins, on_its_side}
 use Rattle.cc_workers.specs.Back.{calls}
 pub use Rattle.cc_queue.proofs.OnItsSide.{Told}
 
@@ -71,15 +71,11 @@ stays p (c ∷ calls) more [] [] all =
 stays p (c ∷ calls) more [] (y ∷ later) all =
     front_skips (is_pass p c.pass) c (c, Some y) (its p calls []) (its p (calls ++ more) later) all (λ rest. stays p calls more [] later rest)
 
-side_begins : (cfg : Config) (p : Pass) (h h' : Record) → Begins h h' → SideBegins (its_side cfg p h) (its_side cfg p h')
-side_begins cfg (Pass.Sender s) h h' b = b.sends
-side_begins cfg (Pass.Receiver r) h h' b = b.takes (group_of cfg r)
-
 -- a pass's calls stay, with their answers, in each history that begins so
 all_stay : (cfg cfg' : Config) (h h' : Record) (p : Pass) → cfg' ≡ cfg → Legal cfg h → Legal cfg' h' → Begins h h' → AllByRecursion HasAnswer (calls_of p h) → Front (calls_of p h) (calls_of p h')
 all_stay cfg cfg' h h' p same l l' b all =
-    let s : Side = its_side cfg p h in
-    let more : SideBegins s (its_side cfg p h') = side_begins cfg p h h' b in
+    let s : Side = side_of cfg p h in
+    let more : SideBegins s (side_of cfg p h') = side_begins cfg p h h' b in
     let lawful : Legal cfg h' = subst (λ (c : Config). Legal c h') same l' in
     let f = stays p s.calls more.calls.0 s.answers more.answers.0 (subst (AllByRecursion HasAnswer) (on_its_side cfg h p l) all) in (
       f.0,
@@ -151,6 +147,6 @@ calls_more v w e told sv all sw k =
 -- where its last call has its answer, each of its calls has
 pub each_answered : (v w : Walk) (more : List Entry) (told : Answer) → StandsInOne v more w → IsLastAnswer (name w) (history w) told → AllByRecursion HasAnswer (calls w)
 each_answered v w more told s k =
-    let on : calls w ≡ its (name w) (its_side w.setting.config (name w) (history w)).calls (its_side w.setting.config (name w) (history w)).answers = on_its_side w.setting.config (history w) (name w) s.legal in
-    let side : Side = its_side w.setting.config (name w) (history w) in
+    let on : calls w ≡ its (name w) (side_of w.setting.config (name w) (history w)).calls (side_of w.setting.config (name w) (history w)).answers = on_its_side w.setting.config (history w) (name w) s.legal in
+    let side : Side = side_of w.setting.config (name w) (history w) in
     subst (AllByRecursion HasAnswer) (sym on) (all_have (name w) side.calls side.answers k.before (k.entry, Some told) tt (sym on ∙ k.last))
