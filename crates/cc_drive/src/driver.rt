@@ -203,7 +203,7 @@ fn run_in<'s, E, G: Gate + Send + 's, R: Threads + Wait + Sync + 's>(
         count + 1,
         receivers,
         taking,
-        false,
+        None,
     );
     let refused = taking.refused;
     let sending = start_all(scope, rt, alloc, queue, brief, 0, senders, sending, refused);

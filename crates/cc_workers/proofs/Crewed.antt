@@ -3,7 +3,7 @@ use Rattle.std.proofs.Common.{◌≡◌, ℕ, zero, suc, ◌+◌, ◌<◌, ◌�
 use Rattle.std.specs.Prelude.{⊤}
 use Rattle.std.specs.List.{All, AllByRecursion}
 use Rattle.std.proofs.lemmas.List.{length-map}
-use Rattle.cc_workers.specs.Names.{CloseAnswer, Config, ConfigFault, SendReceipt, TakeReceipt, DriveConfig, Worked, DriveFault}
+use Rattle.cc_workers.specs.Names.{CloseAnswer, Config, ConfigFault, SendReceipt, TakeReceipt, DriveConfig, Worked, DriveFault, Refused}
 use Rattle.cc_steps.specs.Topic.{Topic}
 use Rattle.cc_steps.specs.Walk.{Walk, IsOf, fresh}
 use Rattle.cc_queue.specs.Met.{HasMet}
@@ -14,6 +14,7 @@ use Rattle.cc_workers.specs.Config.{queue_of, IsDue}
 use Rattle.cc_workers.specs.Crew.{present, least_missing, in_turn}
 use Rattle.cc_workers.specs.Ran.{ClosedAfter, IsTold, due}
 use Rattle.cc_workers.specs.Row.{InRow, Pairs}
+use Rattle.cc_workers.specs.Start.{IsStarted, AreStarted}
 use Rattle.cc_workers.proofs.Crews.{crew_passes, crew_count, crew_receipts, crew_all}
 use Rattle.cc_workers.proofs.Unclosed.{unclosed}
 use Rattle.cc_workers.proofs.Ended.{row_weaker, row_met, sender_met, receipts_met, pairs_length}
@@ -91,12 +92,17 @@ due_below false workers None None false whole told low low' e = (let is : DriveF
 due_below false workers None None true false told low low' e = (let is : DriveFault.NoMemory ≡ told = cc e in subst (IsDue (Ok tt) workers) is tt)
 due_below false workers None None true true told low low' e = absurd (cc e)
 
+-- all of them, if none was refused
+pub all_started : (senders receivers sending taking : ℕ) (refused : Option Refused) → is_some refused ≡ false → AreStarted senders receivers sending taking refused → (sending ≡ senders) × (taking ≡ receivers)
+all_started senders receivers sending taking None none all = all
+all_started senders receivers sending taking (Some e) none at = absurd (cc none)
+
 told_due : (z : Topic) (c : DriveConfig) (told : DriveFault) → IsTold z c told → IsDue (Ok tt) (c.senders + c.receivers) told
 told_due z c told (inl is) = subst (IsDue (Ok tt) (c.senders + c.receivers)) (sym is) tt
 told_due z c told (inr e) =
-    due_below e.refused (c.senders + c.receivers) _ _ e.closed e.whole told
-    (λ on n is. let below = least_below 0 n (map (λ d. d.pass) e.senders) is in let many = (e.all on).0 in omega (arith, below, many, length-map e.senders (λ d. d.pass)))
-    (λ on n is. let below = least_below c.senders n (map (λ d. d.pass) e.receivers) is in let many = (e.all on).1 in omega (arith, below, many, length-map e.receivers (λ d. d.pass))) e.why
+    due_below (is_some e.refused) (c.senders + c.receivers) _ _ e.closed e.whole told
+    (λ on n is. let below = least_below 0 n (map (λ d. d.pass) e.senders) is in let many = (all_started _ _ _ _ e.refused on e.started).0 in omega (arith, below, many, length-map e.senders (λ d. d.pass)))
+    (λ on n is. let below = least_below c.senders n (map (λ d. d.pass) e.receivers) is in let many = (all_started _ _ _ _ e.refused on e.started).1 in omega (arith, below, many, length-map e.receivers (λ d. d.pass))) e.why
 
 pub all_due : {A : Type 0} (z : Topic) (c : DriveConfig) (r : Result A DriveFault) → IfErr r (IsTold z c) → IfErr r (IsDue (Ok tt) (c.senders + c.receivers))
 all_due z c (Ok a) told = tt
@@ -112,7 +118,8 @@ pub none_at : {A : Type 0} (P : Type 0) (x : Option A) → is_some x ≡ false �
 none_at P (Some a) is p = absurd (cc is)
 none_at P None is p = p
 
--- a thread was refused in one of two rows
-pub fewer_of : (first second : Bool) (s r senders receivers : ℕ) → s ≤ senders → r ≤ receivers → (first ≡ true → r < receivers) → (first ≡ false → second ≡ true → s < senders) → second ≡ true → s + r < senders + receivers
-fewer_of true second s r senders receivers few few' one other is = let less = one refl in omega (arith, less, few)
-fewer_of false second s r senders receivers few few' one other is = let less = other refl is in omega (arith, less, few')
+-- the threads of both rows, the receivers' first
+pub both_started : (senders receivers sending taking : ℕ) (first second : Option Refused) → IsStarted None (senders + 1) receivers taking first → IsStarted first 0 senders sending second → AreStarted senders receivers sending taking second
+both_started senders receivers sending taking None None all all' = (all', all)
+both_started senders receivers sending taking None (Some e) all at = inr (at.0 ∙ omega arith, at.1, all)
+both_started senders receivers sending taking (Some e) second at none = subst (AreStarted senders receivers sending taking) (sym none.1) (inl (at.0, at.1, none.0))

@@ -6,3 +6,4 @@ pub mod Row
 pub mod Crew
 pub mod Ran
 pub mod Jobs
+pub mod Start

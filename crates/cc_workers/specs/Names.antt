@@ -14,6 +14,7 @@ pub use Rattle.cc_runs.specs.declared.place.Kind.{Kind}
 pub use Rattle.cc_runs.specs.declared.setting.Setting.{Setting}
 pub use Rattle.cc_audit.specs.declared.receipt.SendReceipt.{SendReceipt}
 pub use Rattle.cc_audit.specs.declared.receipt.TakeReceipt.{TakeReceipt}
+pub use Rattle.cc_workers.specs.declared.calls.Left.{Left}
 pub use Rattle.cc_workers.specs.declared.config.DriveConfig.{DriveConfig}
 pub use Rattle.cc_workers.specs.declared.config.DriveFault.{DriveFault}
 pub use Rattle.cc_workers.specs.declared.crew.Crew.{Crew}
@@ -22,5 +23,6 @@ pub use Rattle.cc_workers.specs.declared.gate.Point.{Point}
 pub use Rattle.cc_workers.specs.declared.gate.Go.{Go}
 pub use Rattle.cc_workers.specs.declared.kept.Worked.{Worked}
 pub use Rattle.cc_workers.specs.declared.sending.Sent.{Sent}
+pub use Rattle.cc_workers.specs.declared.starting.Refused.{Refused}
 pub use Rattle.cc_workers.specs.declared.threads.Brief.{Brief}
 pub use Rattle.cc_workers.specs.declared.turns.Turns.{Turns}

@@ -1,15 +1,17 @@
 -- A run whose threads have ended.
-use Rattle.std.specs.Prelude.{ℕ, ◌≡◌, ◌<◌, ◌+◌, ◌⊎◌, Bool, true, false, List, length, map, Option, Some, None, IfSome, IfNone}
+use Rattle.std.specs.Prelude.{ℕ, ◌≡◌, ◌+◌, ◌⊎◌, Bool, true, false, List, length, map, Option, Some, None, IfSome, IfNone, is_some}
 use Rattle.std.specs.List.{All, AllByRecursion}
-use Rattle.cc_workers.specs.Names.{Answer, Call, CloseAnswer, DriveConfig, DriveFault, Ran, Crew, Worked, Brief, Turns, SendReceipt, TakeReceipt}
+use Rattle.cc_workers.specs.Names.{Answer, Call, CloseAnswer, DriveConfig, DriveFault, Ran, Refused, Crew, Worked, Brief, Turns, SendReceipt, TakeReceipt}
 use Rattle.cc_steps.specs.Topic.{Topic}
 use Rattle.cc_steps.specs.Walk.{Walk, fresh}
-use Rattle.cc_queue.specs.Calls.{Completed}
+use Rattle.cc_queue.specs.Calls.{Begun, Completed}
 use Rattle.cc_queue.specs.Met.{HasMet}
 use Rattle.cc_queue.specs.Receipts.{receipts_by, sent, got}
 use Rattle.cc_workers.specs.Back.{SenderIsBack, ReceiverIsBack, SenderGave, ReceiverGave, IsNotClosed, calls}
 use Rattle.cc_workers.specs.Crew.{IsCrew, least_missing}
 use Rattle.cc_workers.specs.Row.{InRow, Pairs}
+use Rattle.cc_workers.specs.Start.{AreStarted}
+use Rattle.cc_workers.specs.Work.{RanOut}
 
 -- the total that a close tells
 abbrev pub total_in : CloseAnswer → ℕ
@@ -23,6 +25,15 @@ pub record ClosedAfter (closer : Walk) (senders : List Walk) (told : CloseAnswer
   pub after : All (λ s. s.seen ≡ met.seen) senders
   pub close : Completed met Call.Close (Answer.Close told) w
 
+-- The closer met these senders, and began its close then; each turn since was a read of its state, and none is left.
+pub record ClosesStill (closer : Walk) (senders : List Walk) (old new : Turns) (w : Walk) : Type 0 where
+  pub met : Walk
+  pub first : HasMet closer met
+  pub after : All (λ s. s.seen ≡ met.seen) senders
+  pub begun : Walk
+  pub close : Begun met Call.Close begun
+  pub waited : RanOut begun old new w
+
 -- So many senders are back, and have met the closer then, which closed behind that: it has its answer, or made as many turns
 -- as it may.
 pub record HasClosed (z : Topic) (b : Brief) (closer : Walk) (count : ℕ) (crew : Crew Walk SendReceipt) (closed : Option (Walk × CloseAnswer)) : Type 0 where
@@ -35,14 +46,13 @@ pub record HasClosed (z : Topic) (b : Brief) (closer : Walk) (count : ℕ) (crew
   pub limited : IfNone closed (turns.made ≡ turns.limit)
 
 -- All threads of a run that were started have ended, and its queue was closed between the senders' end and the receivers'.
--- Where a thread was refused they are fewer than the run has workers.
-pub record HasEnded (z : Topic) (c : DriveConfig) (refused : Bool) (sent_by : Crew Walk SendReceipt) (closed : Option (Walk × CloseAnswer)) (got_by : Crew Walk TakeReceipt) : Type 0 where
+-- They are all, or just those before the one that was refused.
+pub record HasEnded (z : Topic) (c : DriveConfig) (refused : Option Refused) (sent_by : Crew Walk SendReceipt) (closed : Option (Walk × CloseAnswer)) (got_by : Crew Walk TakeReceipt) : Type 0 where
   pub sending : ℕ
   pub taking : ℕ
   pub senders : HasClosed z (record { items = c.items; limit = c.limit }) (fresh z c.senders) sending sent_by closed
   pub receivers : IsCrew (ReceiverGave z c.limit) (c.senders + 1) c.senders taking got_by.passes.items got_by
-  pub all : refused ≡ false → (sending ≡ c.senders) × (taking ≡ c.receivers)
-  pub fewer : refused ≡ true → sending + taking < c.senders + c.receivers
+  pub started : AreStarted c.senders c.receivers sending taking refused
 
 -- A run has come to its end. The senders are back, none of whose sends was told that the queue is closed, and then the closer
 -- closed; the receivers are back, each of which was told the end. The receipts are those of their calls.
@@ -66,22 +76,21 @@ due false workers None None false whole = Some (DriveFault.Limit workers)
 due false workers None None true false = Some DriveFault.NoMemory
 due false workers None None true true = None
 
--- All threads of a run that were started have ended, and this is due for what they gave back. Where a thread was refused they
--- are fewer than the run has workers; where the close has no answer the closer made as many turns as it may.
+-- All threads of a run that were started have ended, and this is due for what they gave back. They are all, or just those before
+-- the one that was refused; where the close has no answer the closer made as many turns as it may.
 pub record EndedWith (z : Topic) (c : DriveConfig) (told : DriveFault) : Type 0 where
   pub senders : List (Worked Walk SendReceipt)
   pub receivers : List (Worked Walk TakeReceipt)
   pub turns : Turns
-  pub refused : Bool
+  pub refused : Option Refused
   pub closed : Bool
   pub whole : Bool
   pub senders_gave : InRow (SenderGave z c.items c.limit) 0 senders
   pub receivers_gave : InRow (ReceiverGave z c.limit) (c.senders + 1) receivers
-  pub all : refused ≡ false → (length senders ≡ c.senders) × (length receivers ≡ c.receivers)
-  pub fewer : refused ≡ true → length senders + length receivers < c.senders + c.receivers
+  pub started : AreStarted c.senders c.receivers (length senders) (length receivers) refused
   pub limit : turns.limit ≡ c.limit
   pub limited : closed ≡ false → turns.made ≡ turns.limit
-  pub why : due refused (c.senders + c.receivers) (least_missing 0 (map (λ d. d.pass) senders)) (least_missing c.senders (map (λ d. d.pass) receivers)) closed whole ≡ Some told
+  pub why : due (is_some refused) (c.senders + c.receivers) (least_missing 0 (map (λ d. d.pass) senders)) (least_missing c.senders (map (λ d. d.pass) receivers)) closed whole ≡ Some told
 
 -- why a run has no end: memory was refused before a thread was started; or else its threads have ended so
 abbrev pub IsTold : Topic → DriveConfig → DriveFault → Type 0

@@ -14,6 +14,7 @@ use crate::crew::{Crew, gather};
 use crate::gate::Gate;
 use crate::jobs::Job;
 use crate::kept::Worked;
+use crate::starting::Refused;
 use crate::threads::{Brief, Started, join_all};
 use crate::turns::Turns;
 use cc_audit::{SendReceipt, TakeReceipt};
@@ -134,15 +135,20 @@ pub fn close_behind<G: Gate + Send, R: Threads>(
 {
     let mut sent = join_senders(rt, alloc, queue, brief, sending, room);
     let mut turns = Turns::new(brief.limit);
-    let closed = close_after(alloc, queue, &mut turns, closer, &mut sent.passes);
-    (sent, closed)
+    match close_after(alloc, queue, &mut turns, closer, &mut sent.passes) {
+        Ok(closed) => (sent, Some(closed)),
+        Err(pending) => {
+            pending.abandon();
+            (sent, None)
+        }
+    }
 }
 
 /// What is left of a run whose threads have ended, or why it has no end to tell.
 pub fn ran_of(
     queue: &Queue,
     config: DriveConfig,
-    refused: bool,
+    refused: Option<Refused>,
     sent: Crew<Sender, SendReceipt>,
     closed: Option<(Sender, CloseAnswer)>,
     taken: Crew<Receiver, TakeReceipt>,
@@ -154,7 +160,9 @@ pub fn ran_of(
     ensures told { IfErr result (IsTold queue.now config) }
 {
     let _ = queue;
-    if let Some(fault) = fault_in(config, refused, &sent, &taken, closed.is_some()) {
+    let is_refused = refused.is_some();
+    let is_closed = closed.is_some();
+    if let Some(fault) = fault_in(config, is_refused, &sent, &taken, is_closed) {
         return Err(fault);
     }
     let Some((closer, closed)) = closed else {

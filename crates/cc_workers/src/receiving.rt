@@ -1,82 +1,47 @@
 //! The work of a receiver's thread.
-ghost use Rattle.std.specs.Prelude.{◌≡◌, ◌<◌, ◌≤◌, [], IfSome, IfNone, OnSome};
+ghost use Rattle.std.specs.Prelude.{◌≡◌, ◌≤◌, IfOk};
 ghost use Rattle.cc_workers.specs.Names.{Answer, Call, Pass};
 ghost use Rattle.cc_runs.specs.State.{pass_at};
 ghost use Rattle.cc_steps.specs.Walk.{IsOf, fresh};
-ghost use Rattle.cc_queue.specs.Calls.{Completed, Ended};
-ghost use Rattle.cc_queue.specs.Headline.{StandsInOne};
+ghost use Rattle.cc_queue.specs.Calls.{Completed};
 ghost use Rattle.cc_workers.specs.Back.{ReceiverGave};
-ghost use Rattle.cc_workers.specs.Work.{WentOn, EachRead};
+ghost use Rattle.cc_workers.specs.Work.{WentOn, IsAskedInTake, CostsOfTake};
 
+use crate::calls::{Left, answer_within};
 use crate::gate::{Gate, Point};
 use crate::kept::{Kept, Worked};
 use crate::pace::Pace;
 use crate::turns::Turns;
 use cc_audit::TakeReceipt;
 use cc_model::TakeAnswer;
-use cc_queue::{PendingTake, Queue, Receiver, TakeTurn, begin_take, turn_take};
-use crossbeam_utils::Backoff;
+use cc_queue::{PendingTake, Queue, Receiver, begin_take};
 use std::alloc::Global;
 use std::sync::Wait;
 
-/// Waits for the answer of a take within the limit.
-fn await_take(
-    queue: &Queue,
-    pending: PendingTake,
-    turns: &mut Turns,
-) -> Option<(Receiver, TakeAnswer)>
-    requires here { IsOf queue.now pending }
-    requires stands { StandsInOne pending [] pending }
-    requires within { turns.old.made ≤ turns.old.limit }
-    ensures ended { IfSome result (λ r. Ended pending (Answer.Take r.1) r.0) }
-    ensures turned { OnSome result (turns.old.made < turns.new.made) }
-    ensures reads { IfSome result (λ r. EachRead turns.old turns.new pending.did r.0.did) }
-    ensures limited { IfNone result (turns.new.made ≡ turns.new.limit) }
-    ensures on { WentOn turns.old turns.new }
-{
-    let backoff = Backoff::new();
-    let mut pending = pending;
-    while turns.made < turns.limit {
-        turns.made += 1;
-        match turn_take(queue, pending) {
-            TakeTurn::Waiting(same) => pending = same,
-            TakeTurn::Done {
-                receiver,
-                answer,
-                served: _,
-            } => return Some((receiver, answer)),
-        }
-        backoff.snooze();
-    }
-    pending.abandon();
-    None
-}
-
-/// Takes, and waits for the answer within the limit. The gate is asked after the begin and after the answer. None where the
-/// worker reached its limit; a pending call was given up then.
+/// Takes, and waits for the answer within the limit. The gate is asked after the begin and after the answer. Err says where
+/// the worker stood in this call when it reached its limit.
 fn take_one<G: Gate>(
     queue: &Queue,
     receiver: Receiver,
     gate: &mut G,
     turns: &mut Turns,
-) -> Option<(Receiver, TakeAnswer)>
+) -> Result<(Receiver, TakeAnswer), Left<PendingTake, Receiver>>
     requires here { IsOf queue.now receiver }
     requires within { turns.old.made ≤ turns.old.limit }
-    ensures taken { IfSome result (λ r. Completed receiver Call.Take (Answer.Take r.1) r.0) }
-    ensures turned { OnSome result (turns.old.made < turns.new.made) }
-    ensures limited { IfNone result (turns.new.made ≡ turns.new.limit) }
+    ensures taken { IfOk result (λ r. Completed receiver Call.Take (Answer.Take r.1) r.0) }
+    ensures asked { IsAskedInTake G.tells receiver turns.old turns.new gate.old gate.new result }
+    ensures costs { CostsOfTake turns.old turns.new result }
     ensures on { WentOn turns.old turns.new }
 {
     let pending = begin_take(queue, receiver);
-    if !turns.pass(gate, Point::TakeBegun) {
-        pending.abandon();
-        return None;
-    }
-    let (receiver, answer) = await_take(queue, pending, turns)?;
-    if !turns.pass(gate, Point::TakeAnswered) {
-        return None;
-    }
-    Some((receiver, answer))
+    answer_within(
+        queue,
+        pending,
+        gate,
+        turns,
+        Point::TakeBegun,
+        Point::TakeAnswered,
+    )
 }
 
 /// Takes until the queue has ended, again after Empty, and keeps a receipt of each item. The pass is given back, but where
@@ -104,12 +69,16 @@ pub(crate) fn take_all<G: Gate, R: Wait>(
     let mut pace = Pace::new();
     while turns.made < turns.limit {
         let before = turns.made;
-        let Some((after, answer)) = take_one(queue, receiver, &mut gate, &mut turns) else {
-            return Worked {
-                pass: None,
-                made: turns.made,
-                kept,
-            };
+        let (after, answer) = match take_one(queue, receiver, &mut gate, &mut turns) {
+            Ok((after, answer)) => (after, answer),
+            Err(left) => {
+                left.give_up();
+                return Worked {
+                    pass: None,
+                    made: turns.made,
+                    kept,
+                };
+            }
         };
         match answer {
             TakeAnswer::Got(item) => {

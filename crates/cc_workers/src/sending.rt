@@ -1,21 +1,19 @@
 //! The work of a sender's thread.
-ghost use Rattle.std.specs.Prelude.{◌≡◌, ◌+◌, ◌-◌, ◌^◌, ◌<◌, ◌≤◌, [], IfSome, IfNone, OnSome};
-ghost use Rattle.cc_workers.specs.Names.{Answer, Pass};
+ghost use Rattle.std.specs.Prelude.{◌≡◌, ◌+◌, ◌-◌, ◌^◌, ◌<◌, ◌≤◌};
+ghost use Rattle.cc_workers.specs.Names.{Pass};
 ghost use Rattle.cc_runs.specs.State.{pass_at};
 ghost use Rattle.cc_steps.specs.Walk.{IsOf, fresh};
-ghost use Rattle.cc_queue.specs.Calls.{Ended};
-ghost use Rattle.cc_queue.specs.Headline.{StandsInOne};
 ghost use Rattle.cc_workers.specs.Back.{SenderGave, one_word};
-ghost use Rattle.cc_workers.specs.Work.{WentOn, EachRead, IsSent, CostsOfSend};
+ghost use Rattle.cc_workers.specs.Work.{WentOn, IsAskedInSend, IsSent, CostsOfSend};
 
+use crate::calls::{Left, answer_within};
 use crate::gate::{Gate, Point};
 use crate::kept::{Kept, Worked};
 use crate::pace::Pace;
 use crate::turns::Turns;
 use cc_audit::SendReceipt;
 use cc_model::{Body, SendAnswer};
-use cc_queue::{PendingSend, Queue, SendTurn, Sender, begin_send, turn_send};
-use crossbeam_utils::Backoff;
+use cc_queue::{PendingSend, Queue, Sender, begin_send};
 use std::alloc::Global;
 use std::sync::Wait;
 
@@ -25,42 +23,8 @@ pub(crate) enum Sent {
     Answered(Sender, SendAnswer),
     /// The sender has begun as many sends as one sender may.
     Worn(Sender),
-    /// The worker reached its limit. A pending call was given up.
-    Limited,
-}
-
-/// Waits for the answer of a send within the limit.
-fn await_send(
-    queue: &Queue,
-    pending: PendingSend,
-    turns: &mut Turns,
-) -> Option<(Sender, SendAnswer)>
-    requires here { IsOf queue.now pending }
-    requires stands { StandsInOne pending [] pending }
-    requires within { turns.old.made ≤ turns.old.limit }
-    ensures ended { IfSome result (λ r. Ended pending (Answer.Send r.1) r.0) }
-    ensures begun { IfSome result (λ r. r.0.stand.begun ≡ pending.stand.begun) }
-    ensures turned { OnSome result (turns.old.made < turns.new.made) }
-    ensures reads { IfSome result (λ r. EachRead turns.old turns.new pending.did r.0.did) }
-    ensures limited { IfNone result (turns.new.made ≡ turns.new.limit) }
-    ensures on { WentOn turns.old turns.new }
-{
-    let backoff = Backoff::new();
-    let mut pending = pending;
-    while turns.made < turns.limit {
-        turns.made += 1;
-        match turn_send(queue, pending) {
-            SendTurn::Waiting(same) => pending = same,
-            SendTurn::Done {
-                sender,
-                answer,
-                served: _,
-            } => return Some((sender, answer)),
-        }
-        backoff.snooze();
-    }
-    pending.abandon();
-    None
+    /// The worker reached its limit.
+    Limited(Left<PendingSend, Sender>),
 }
 
 /// Sends this body, and waits for the answer within the limit. The gate is asked after the begin and after the answer.
@@ -74,24 +38,25 @@ pub(crate) fn send_body<G: Gate>(
     requires here { IsOf queue.now sender }
     requires within { turns.old.made ≤ turns.old.limit }
     ensures sent { IsSent sender body result }
-    ensures on { WentOn turns.old turns.new }
+    ensures asked { IsAskedInSend G.tells sender body turns.old turns.new gate.old gate.new result }
     ensures costs { CostsOfSend turns.old turns.new result }
+    ensures on { WentOn turns.old turns.new }
 {
     let pending = match begin_send(queue, sender, body) {
         Ok(pending) => pending,
         Err(sender) => return Sent::Worn(sender),
     };
-    if !turns.pass(gate, Point::SendBegun) {
-        pending.abandon();
-        return Sent::Limited;
+    match answer_within(
+        queue,
+        pending,
+        gate,
+        turns,
+        Point::SendBegun,
+        Point::SendAnswered,
+    ) {
+        Ok((sender, answer)) => Sent::Answered(sender, answer),
+        Err(left) => Sent::Limited(left),
     }
-    let Some((sender, answer)) = await_send(queue, pending, turns) else {
-        return Sent::Limited;
-    };
-    if !turns.pass(gate, Point::SendAnswered) {
-        return Sent::Limited;
-    }
-    Sent::Answered(sender, answer)
 }
 
 /// The body of the send behind so many that were accepted: the next number, as one word.
@@ -157,7 +122,8 @@ pub(crate) fn send_all<G: Gate, R: Wait>(
                     kept,
                 };
             }
-            Sent::Limited => {
+            Sent::Limited(left) => {
+                left.give_up();
                 return Worked {
                     pass: None,
                     made: turns.made,

@@ -1,7 +1,9 @@
 //! Workers in threads: starting them in a row, and joining them.
-ghost use Rattle.std.specs.Prelude.{[], ◌≡◌, ◌+◌, ◌<◌, ◌≤◌, ◌^◌, true, false, vec_len, vec_capacity};
+ghost use Rattle.std.specs.Prelude.{[], ◌≡◌, ◌+◌, ◌<◌, ◌≤◌, ◌^◌, vec_len, vec_capacity};
 ghost use Rattle.cc_workers.specs.Row.{InRow};
+ghost use Rattle.cc_workers.specs.Start.{IsStarted};
 
+use crate::starting::{Refused, start};
 use cc_queue::Queue;
 use std::alloc::Global;
 use std::marker::PhantomData;
@@ -58,7 +60,8 @@ impl<J: Worker> Promise<J::Done> for WorkOf<J> {
     ghost kept_by = { λ p d. J.gives p.queue.value p.brief p.row d };
 }
 
-fn work_of<J: Worker>(queue: &Queue, brief: Brief, row: u32) -> WorkOf<J>
+/// What is promised of this worker's thread.
+pub(crate) fn work_of<J: Worker>(queue: &Queue, brief: Brief, row: u32) -> WorkOf<J>
     ensures queue { result.queue.value ≡ queue.now }
     ensures brief { result.brief ≡ brief }
     ensures row { result.row ≡ row }
@@ -71,15 +74,15 @@ fn work_of<J: Worker>(queue: &Queue, brief: Brief, row: u32) -> WorkOf<J>
     }
 }
 
-/// Threads that run, and whether one was refused.
+/// Threads that run, and which one was refused, if one was.
 #[derive(Drop)]
 pub struct Started<J: Worker> {
     pub handles: Vec<PromisedHandle<J::Done, WorkOf<J>>>,
-    pub refused: bool,
+    pub refused: Option<Refused>,
 }
 
-/// Starts a thread for each worker in turn, until one is refused, and none where one was refused before. They stand from
-/// this place on in the row of all passes.
+/// Starts a thread for each worker in turn, until one is refused, and none if one was refused before. They stand from this
+/// place on in the row of all passes.
 pub fn start_all<'s, E, J: Worker + 's, R: Wait + Sync + 's>(
     scope: &Scope<'s, E>,
     rt: &'s R,
@@ -89,7 +92,7 @@ pub fn start_all<'s, E, J: Worker + 's, R: Wait + Sync + 's>(
     first: u32,
     workers: Vec<J>,
     handles: Vec<PromisedHandle<J::Done, WorkOf<J>>>,
-    refused: bool,
+    before: Option<Refused>,
 ) -> Started<J>
     requires ready { InRow (J.is_ready queue.now) first workers.items }
     requires few { first + vec_len workers < 2 ^ 32 }
@@ -97,35 +100,35 @@ pub fn start_all<'s, E, J: Worker + 's, R: Wait + Sync + 's>(
     requires room { vec_len workers ≤ vec_capacity handles }
     ensures promised { InRow (λ n h. (h.promise.queue.value ≡ queue.now) × (h.promise.brief ≡ brief) × (h.promise.row ≡ n)) first result.handles.items }
     ensures few { vec_len result.handles ≤ vec_len workers }
-    ensures before { result.refused ≡ false → refused ≡ false }
-    ensures all { result.refused ≡ false → vec_len result.handles ≡ vec_len workers }
-    ensures fewer { refused ≡ false → result.refused ≡ true → vec_len result.handles < vec_len workers }
+    ensures started { IsStarted before first (vec_len workers) (vec_len result.handles) result.refused }
 {
     let mut handles = handles;
     let mut row = first;
-    if refused {
+    if before.is_some() {
         return Started {
             handles,
-            refused: true,
+            refused: before,
         };
     }
     for worker in workers {
-        let promise = work_of::<J>(queue, brief, row);
-        let run = move || worker.run(rt, alloc, queue, brief, row);
-        let Ok(handle) = scope.spawn_with(promise, run) else {
-            return Started {
-                handles,
-                refused: true,
-            };
-        };
-        let Ok(()) = handles.push(handle) else {
-            unreachable!()
-        };
+        match start(scope, rt, alloc, queue, brief, row, worker) {
+            Ok(handle) => {
+                let Ok(()) = handles.push(handle) else {
+                    unreachable!()
+                };
+            }
+            Err(refused) => {
+                return Started {
+                    handles,
+                    refused: Some(refused),
+                };
+            }
+        }
         row += 1;
     }
     Started {
         handles,
-        refused: false,
+        refused: None,
     }
 }
 

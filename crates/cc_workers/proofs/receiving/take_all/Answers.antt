@@ -11,8 +11,8 @@ loop-turns-init g c = (working_none got c.args.queue.now c.args.row (Pass.Receiv
 pub returns-in-Ended : goal.returns-in-Ended
 returns-in-Ended g c =
     let was = c.loop-turns.invariant.0 in
-    let done = subst (λ (a : TakeAnswer). Completed c.loop-turns.receiver Call.Take (Answer.Take a) c.in-Some.after) c.in-Ended.is c.in-Some.ensures.taken in
-    let last = taken_none c.args.queue.now c.args.row c.args.number c.loop-turns.receiver c.in-Some.after c.loop-turns.kept.is_whole c.loop-turns.kept.receipts.items _ was done (got_end c.args.number c.loop-turns.receiver c.in-Ended.total was.named) in (
+    let done = subst (λ (a : TakeAnswer). Completed c.loop-turns.receiver Call.Take (Answer.Take a) c.in-Ok.after) c.in-Ended.is c.in-Ok.ensures.taken in
+    let last = taken_none c.args.queue.now c.args.row c.args.number c.loop-turns.receiver c.in-Ok.after c.loop-turns.kept.is_whole c.loop-turns.kept.receipts.items _ was done (got_end c.args.number c.loop-turns.receiver c.in-Ended.total was.named) in (
       record { back = last.back; total = c.in-Ended.total; ended = done.last },
       last.kept,
       tt,
@@ -22,8 +22,8 @@ returns-in-Ended g c =
 pub loop-turns-preserved-in-Got : goal.loop-turns-preserved-in-Got
 loop-turns-preserved-in-Got g c =
     let was = c.loop-turns.invariant.0 in
-    let done = subst (λ (a : TakeAnswer). Completed c.loop-turns.receiver Call.Take (Answer.Take a) c.in-Some.after) c.in-Got.is c.in-Some.ensures.taken in (
-      working_more got c.args.queue.now c.args.row (Pass.Receiver c.args.number) c.loop-turns.receiver c.in-Some.after _ _ _ _ Call.Take _ was done c.keep.ensures.whole
+    let done = subst (λ (a : TakeAnswer). Completed c.loop-turns.receiver Call.Take (Answer.Take a) c.in-Ok.after) c.in-Got.is c.in-Ok.ensures.taken in (
+      working_more got c.args.queue.now c.args.row (Pass.Receiver c.args.number) c.loop-turns.receiver c.in-Ok.after _ _ _ _ Call.Take _ was done c.keep.ensures.whole
           (λ is. c.keep.ensures.kept is ∙ ap (λ l. c.loop-turns.kept.receipts.items ++ l) (sym (got_one c.args.number c.loop-turns.receiver c.in-Got.item was.named))),
       search rules,
       search rules,
@@ -32,8 +32,8 @@ loop-turns-preserved-in-Got g c =
 pub loop-turns-preserved : goal.loop-turns-preserved
 loop-turns-preserved g c =
     let was = c.loop-turns.invariant.0 in
-    let done = subst (λ (a : TakeAnswer). Completed c.loop-turns.receiver Call.Take (Answer.Take a) c.in-Some.after) c.in-Empty.is c.in-Some.ensures.taken in (
-      taken_none c.args.queue.now c.args.row c.args.number c.loop-turns.receiver c.in-Some.after c.loop-turns.kept.is_whole c.loop-turns.kept.receipts.items _ was done (got_empty c.args.number c.loop-turns.receiver was.named),
+    let done = subst (λ (a : TakeAnswer). Completed c.loop-turns.receiver Call.Take (Answer.Take a) c.in-Ok.after) c.in-Empty.is c.in-Ok.ensures.taken in (
+      taken_none c.args.queue.now c.args.row c.args.number c.loop-turns.receiver c.in-Ok.after c.loop-turns.kept.is_whole c.loop-turns.kept.receipts.items _ was done (got_empty c.args.number c.loop-turns.receiver was.named),
       search rules,
       search rules,
     )

@@ -1,10 +1,15 @@
-use Rattle.std.proofs.Common.{◌∙◌}
-use Rattle.cc_queue.proofs.Headline.{completed_so}
+use Rattle.std.proofs.Common.{rules, ◌∙◌}
+use Rattle.cc_workers.proofs.Counted.{answer_of, turns_made}
 use Rattle.cc_workers.proofs.Told.{stands_self}
 use Rattle.cc_workers.proofs.sending.send_body.Goals as goal
 
-pub await_send-requires-clause-stands : goal.await_send-requires-clause-stands
-await_send-requires-clause-stands g c = stands_self c.args.sender c.in-Ok.pending _ c.in-Ok.ensures.begun.stands
+pub answer_within-requires-clause-pending : goal.answer_within-requires-clause-pending
+answer_within-requires-clause-pending g c = (search rules, stands_self c.args.sender c.in-Ok.pending _ c.in-Ok.ensures.begun.stands)
 
-pub returns-clause-sent : goal.returns-clause-sent
-returns-clause-sent g c = (completed_so _ _ _ _ _ c.in-Ok.ensures.begun c.in-Some.ensures.ended, c.in-Some.ensures.begun ∙ c.in-Ok.ensures.begun.begun, c.in-Ok.ensures.may)
+pub returns-in-Ok-answer_within-clause-sent : goal.returns-in-Ok-answer_within-clause-sent
+returns-in-Ok-answer_within-clause-sent g c =
+    let begun = c.in-Ok.ensures.begun in let answer = c.in-Ok-answer_within.ensures.back.answer in
+    (answer_of _ _ _ _ _ _ _ begun answer, answer.read.begun ∙ begun.begun, c.in-Ok.ensures.may)
+
+pub returns-in-Ok-answer_within-clause-costs : goal.returns-in-Ok-answer_within-clause-costs
+returns-in-Ok-answer_within-clause-costs g c = turns_made _ _ _ _ _ _ _ _ _ _ _ c.in-Ok-answer_within.ensures.back
