@@ -1,92 +1,122 @@
 #!/bin/bash
-# Proves and builds the static library, crates/cc_binding/out/libcc_binding.a, by `rt lib`; tells first what that does, and
-# then how long it took. Where the gate has just proved what lies below it, of the same sources, it proves cc_binding alone,
-# over what the gate left. The last line of a proof, `logic=proved ...`, is kept beside the archive in libcc_binding.proof,
-# with the sums of the archive and of its sources, and only where this script has seen it.
-# The exit status is 0 where the library is proved and built. `--help` prints this.
+# Proves and builds the static library from the sources, and compares it with the archives in bindings/lib, byte for byte.
+#
+# Usage: tools/build_library.sh [--over-gate] [--update]
+#        tools/build_library.sh --sums
+#
+# `rt lib` proves and builds crates/cc_binding. In its archive, and in the toolchain's functions for memory (liblibc_c.a), the
+# three symbols that don't begin with vahepito_ are renamed; all else stays as it was built. PROOF has the sums of both
+# archives and of the sources, and the line by which the library was proved.
+#
+# --over-gate takes the libraries below cc_binding as `rt ci` left them in this folder a moment ago: `rt lib` would prove them
+# once more. Both ways give the same bytes.
+# --update writes what was built into bindings/lib.
+# --sums builds nothing: it compares the sums in PROOF with the archives and the sources as they stand.
+# Exit status 0 if bindings/lib is what was built.
 set -u
-cd "$(dirname "$0")/.." || exit 1
-. tools/no_words.sh
-. tools/library.sh
+top=$(cd "$(dirname "$0")/.." && pwd) || exit 1
+name=library
+. "$top/tools/building.sh"
+cd "$top" || exit 1
+target=x86_64-unknown-linux-gnu
+kept=bindings/lib/$target
+made=out/lib/$target
+build=rt_lib update=
+mapfile -t crates < <(crates_of cc_binding)
+
+sum_of() { sha256sum "$@" | cut -d' ' -f1; }
+
+# What the library is built of and what is proved of it: the code with its contracts, and the definitions.
+sum_of_sources() {
+    local crate
+    for crate in "${crates[@]}"; do
+        grep -E "^$crate[ :]" crates.txt
+        find "crates/$crate"/{src,specs} -type f 2>/dev/null | LC_ALL=C sort | xargs -rd '\n' sha256sum
+    done | sum_of
+}
+
+# The lines of PROOF with the sums of the archives in a folder, and of the sources.
+sums() {
+    echo "sha256 of libvahepito.a: $(sum_of "$1/libvahepito.a")"
+    echo "sha256 of libvahepito_heap.a: $(sum_of "$1/libvahepito_heap.a")"
+    echo "sha256 of the sources: $(sum_of_sources)"
+}
+
+for word; do
+    case $word in
+    -h | --help) sed -n '2,/^[^#]/s/^# \{0,1\}//p' tools/build_library.sh && exit ;;
+    --over-gate) build=over_gate ;;
+    --update) update=yes ;;
+    --sums)
+        diff <(grep '^sha256 of ' "$kept/PROOF") <(sums "$kept") && exit
+        echo "library: $kept/PROOF isn't of these sources and archives: tools/build_library.sh --update builds them anew" >&2
+        exit 1
+        ;;
+    *) echo 'usage: tools/build_library.sh [--over-gate] [--update | --sums]' >&2 && exit 64 ;;
+    esac
+done
 if ! command -v rt >/dev/null; then
     echo 'library: the command rt is not on the path: it proves and builds the library, and nothing else does' >&2
     exit 1
 fi
-out=$PWD/crates/cc_binding/out
-archive=$out/libcc_binding.a
-record=$out/libcc_binding.proof
-log=$(mktemp) || exit 1
-trap 'rm -f "$log"' EXIT
+kit=$(dirname "$(dirname "$(realpath "$(command -v rt)")")")
 
-below=$(library_crates | grep -vx cc_binding | xargs)
+rt_lib() { build_with_those_below cc_binding rt lib; }
 
-# As `rt lib` does it, but for the libraries below, which `rt ci` leaves without the stamp that `rt lib` asks for.
-build_over_gate() {
-    local kit crate words
-    kit=$(dirname "$(dirname "$(realpath "$(command -v rt)")")")
-    words=(--crate-name cc_binding src/lib.rt --extern "std=$kit/rlibs/std.rlib" -L "dependency=$kit/rlibs")
-    for crate in $(sed -n 's/^cc_binding[^:]*://p' crates.txt); do
-        words+=(--extern "$crate=$PWD/crates/$crate/out/rlib/$crate.rlib")
-    done
-    for crate in $below; do
-        words+=(-L "dependency=$PWD/crates/$crate/out/rlib")
+# As `rt lib` does it. The libraries of `rt ci` lack the stamp that `rt lib` asks for.
+over_gate() {
+    local crate words=(--crate-name cc_binding src/lib.rt --extern "std=$kit/rlibs/std.rlib" -L "dependency=$kit/rlibs")
+    for crate in "${crates[@]}"; do
+        [ "$crate" = cc_binding ] && continue
+        grep -qE "^cc_binding.*:.* $crate( |$)" crates.txt && words+=(--extern "$crate=$top/crates/$crate/out/rlib/$crate.rlib")
+        words+=(-L "dependency=$top/crates/$crate/out/rlib")
     done
     words+=(--antt-project "$kit/rattle/logic/antt-project.json" --logic-built "$kit/logic_built" --jobs 1)
-    words+=(--links cc_binding= --crate-type staticlib --backend llvm --toolchain "$kit/toolchain" -o "$archive")
-    (cd crates/cc_binding && "$kit/bin/rattle" build "${words[@]}")
+    words+=(--links cc_binding= --crate-type staticlib --backend llvm --toolchain "$kit/toolchain" -o out/libcc_binding.a)
+    left=$(functions_of cc_binding) running=
+    scratch=$(mktemp -d) || return 1
+    trap clean_up EXIT
+    run_in cc_binding "$kit/bin/rattle" build "${words[@]}" </dev/null || { tail -n 60 "$scratch/log" >&2 && return 1; }
 }
 
-by_rt_lib() {
-    (cd crates/cc_binding && rt lib)
-}
+# The toolchain's three names for memory, as the library's own: of the same lengths, so that no other byte changes.
+renamed='s/rattle_alloc/vahepito_new/g; s/rattle_realloc/vahepito_renew/g; s/rattle_dealloc/vahepito_freed/g'
 
-if gate_stands; then
-    echo "library: rattle proves and builds cc_binding over $below, which the gate proved of these sources: about a minute of one processor."
-    build() {
-        build_over_gate && return
-        echo 'rt: the library was not built over what the gate left: rt lib builds it from nothing'
-        by_rt_lib
-    }
-else
-    anew=()
-    for crate in $(library_crates); do
-        [ -d "crates/$crate/out" ] || anew+=("$crate")
-    done
-    echo "library: rt lib proves and builds cc_binding over $below."
-    if [ "${#anew[@]}" -gt 0 ]; then
-        echo "library: nothing is kept of ${anew[*]}: all of them from nothing take some ten minutes of one processor."
-    else
-        echo 'library: of each of them something is kept: what has changed since is proved again, which takes up to minutes.'
-    fi
-    build() { by_rt_lib; }
+sources=$(sum_of_sources)
+"$build" || { echo "library: FAILED after $SECONDS s" >&2 && exit 1; }
+proof=$(grep -a '^logic=proved ' "$scratch/log" | tail -n 1)
+if [ -z "$proof" ] || [ "$(sum_of_sources)" != "$sources" ]; then
+    echo 'library: FAILED: no line logic=proved was seen, or the sources have changed meanwhile' >&2
+    exit 1
 fi
+mkdir -p "$made"
+LC_ALL=C sed "$renamed" crates/cc_binding/out/libcc_binding.a >"$made/libvahepito.a"
+# `realloc` shares bytes with a name there, so that one is renamed by its table.
+objcopy -D --redefine-sym rattle_alloc=vahepito_new --redefine-sym rattle_realloc=vahepito_renew \
+    --redefine-sym rattle_dealloc=vahepito_freed "$kit/c/liblibc_c.a" "$made/libvahepito_heap.a" || exit 1
+if nm -g --format=just-symbols "$made"/*.a | grep -vxE 'vahepito_.*|.*\.o:|mem(cpy|move|set)|malloc|realloc|free|'; then
+    echo 'library: FAILED: these symbols are neither of the library nor what it needs of the C library' >&2
+    exit 1
+fi
+cat >"$made/PROOF" <<END
+Vahepito $(sed -n 's/^version = "\(.*\)"$/\1/p' bindings/rust/Cargo.toml) for $target: the proved library, and its functions for memory.
+docs/TRUST.md in the repository says what each word of the proof's line means, and how to compare a second build.
 
-rm -f "$record"
-before=$(sources_sum)
-started=$SECONDS
-# Keeps all that the build says, and shows how far it is. Before a build from nothing, a quick pass of rt prints errors for code
-# that the library doesn't link: they don't count, so they are shown only if the build fails.
-build 2>&1 | tee "$log" | sed -un '/^rt: the quick pass/d; s/^\(so far:\|rt:\) /library: &/p'
-status=${PIPESTATUS[0]}
-taken=$((SECONDS - started))
-proof=$(grep '^logic=proved ' "$log" | tail -n 1)
-if [ "$status" != 0 ]; then
-    cat "$log"
-    echo "library: FAILED after $taken s (status $status)"
-    exit 1
-elif [ ! -f "$archive" ]; then
-    echo "library: FAILED: the build ended well after $taken s, and left no $archive"
-    exit 1
-elif [ -z "$proof" ]; then
-    echo "library: built in $taken s, but no line logic=proved was seen: no record is kept"
-elif [ "$(sources_sum)" != "$before" ]; then
-    echo "library: built in $taken s, but its sources have changed meanwhile: no record is kept"
+$(sums "$made")
+crates: ${crates[*]}
+toolchain: $(rt version)
+proof: $proof
+
+The proofs end at the exports of libvahepito.a. The crate, the headers and libvahepito_heap.a are not proved.
+END
+if [ -n "$update" ]; then
+    mkdir -p "$kept"
+    cp "$made"/* "$kept/"
+    echo "library: $kept is what was built, in $SECONDS s"
+elif cmp "$kept/libvahepito.a" "$made/libvahepito.a" && cmp "$kept/libvahepito_heap.a" "$made/libvahepito_heap.a" &&
+    diff <(grep -v '^proof: ' "$kept/PROOF") <(grep -v '^proof: ' "$made/PROOF"); then
+    echo "library: proved and built in $SECONDS s, and $kept is the same, byte for byte"
 else
-    {
-        echo "archive: $(sum_of "$archive")"
-        echo "sources: $before"
-        echo "toolchain: $(rt version)"
-        echo "proof: $proof"
-    } >"$record"
-    echo "library: proved and built in $taken s: $archive, $(stat -c %s "$archive") bytes"
+    echo "library: $kept isn't what was built of these sources: tools/build_library.sh --update writes it" >&2
+    exit 1
 fi

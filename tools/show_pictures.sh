@@ -9,7 +9,8 @@
 # Chromium, with the program that `rt run` in crates/ccq_show built.
 set -u
 cd "$(dirname "$0")/.." || exit 1
-. tools/programs.sh
+room=$(mktemp -d) || exit 1
+trap 'rm -rf "$room"' EXIT
 folder=docs/pictures
 record=$folder/show.sums
 

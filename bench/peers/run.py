@@ -5,8 +5,7 @@
 
 One command, in some N seconds (420 where no number is given; 120 are a short form, and 20 a trial), after the build. It
 takes crossbeam's, flume's and smol's queues from Debian's packages: those that aren't there it installs, where it is root
-and there is apt-get, and goes on without those that it can't have. The proved queue is linked from
-crates/cc_binding/out, which tools/build_library.sh fills; where nothing is there, that is run first, in some ten minutes.
+and there is apt-get, and goes on without those that it can't have. The proved queue is linked from bindings/lib.
 
 A run is some rounds of bursts: each round runs each queue in each shape once, all of them in a random order, each in a
 process of its own. The medians of the rounds are told, and their quartiles. What others took of the processors
@@ -32,7 +31,6 @@ sys.path.insert(0, os.path.dirname(HERE))
 sys.dont_write_bytecode = True
 from picture import draw
 OUT = os.path.join(HERE, "out")
-ARCHIVE = os.path.join(TOP, "crates", "cc_binding", "out", "libcc_binding.a")
 BENCH = os.path.join(TOP, "docs", "BENCH.md")
 PICTURES = os.path.join(TOP, "docs", "pictures")
 BEGIN, END = "<!-- bench/peers/run.py writes from here -->\n", "<!-- to here -->\n"
@@ -69,8 +67,6 @@ def install():
 
 def build(there):
     """The program, of the libraries that are there; its package names no other ones."""
-    if not os.path.isfile(ARCHIVE) and "VAHEPITO_LIB" not in os.environ:
-        subprocess.run([os.path.join(TOP, "tools", "build_library.sh")], check=True)
     os.makedirs(os.path.join(OUT, ".cargo"), exist_ok=True)
     wanted, features = "", ""
     for library in LIBRARIES:

@@ -1,6 +1,6 @@
 /* Vahepito for C: a FIFO queue that threads share, from many senders to many receivers.
  *
- * Link libcc_binding.a, and after it the kit's liblibc_c.a (memory comes from malloc, realloc and free).
+ * Link libvahepito.a, and after it libvahepito_heap.a (memory comes from malloc, realloc and free).
  *
  * A pass is one sender or one receiver of one queue, and C holds it by a handle. Passes are not copied and not shared
  * by two threads at once: a queue has as many as its configuration says, all given by its opening.

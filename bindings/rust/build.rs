@@ -1,20 +1,12 @@
-//! Links the proved static library, and after it the toolchain's C functions for memory.
+//! Links the proved library, and behind it the functions by which it takes memory (they call `malloc`,
+//! `realloc` and `free`).
 //!
-//! `VAHEPITO_LIB` names the first archive (`libcc_binding.a`) and `VAHEPITO_HEAP` the second
-//! (`liblibc_c.a`). Where they aren't set, both are those of `lib/` here, as a package has it. In the
-//! repository there is no `lib/`: the first is looked for where `rt lib` leaves it there, and the
-//! second beside the command `rt`.
+//! Both archives lie in `lib/TARGET/`, beside `PROOF`, which has their sums and the line by which they were
+//! proved. `VAHEPITO_LIB` names another library, and `VAHEPITO_HEAP` other functions for memory. A line of
+//! `cargo build -vv` says which archives are linked.
 use std::env;
 use std::path::{Path, PathBuf};
 use std::process::exit;
-
-/// What both archives are built for, as cargo tells it of a target.
-const TARGET: [(&str, &str); 4] = [
-    ("CARGO_CFG_TARGET_ARCH", "x86_64"),
-    ("CARGO_CFG_TARGET_POINTER_WIDTH", "64"),
-    ("CARGO_CFG_TARGET_OS", "linux"),
-    ("CARGO_CFG_TARGET_ENV", "gnu"),
-];
 
 fn stop(lines: &[&str]) -> ! {
     for line in lines {
@@ -28,7 +20,10 @@ fn named(variable: &str) -> Option<PathBuf> {
     println!("cargo::rerun-if-env-changed={variable}");
     let path = PathBuf::from(env::var_os(variable)?);
     match path.canonicalize() {
-        Ok(path) if path.is_file() => Some(path),
+        Ok(path) if path.is_file() => {
+            println!("cargo::warning={variable} names {}", path.display());
+            Some(path)
+        }
         _ => stop(&[&format!(
             "{variable} names {}, and no such file can be read",
             path.display()
@@ -36,57 +31,36 @@ fn named(variable: &str) -> Option<PathBuf> {
     }
 }
 
-/// Stops where the target is another one than that of the archives.
-fn check_target() {
-    let fits = |(variable, wanted): &(&str, &str)| env::var(variable).as_deref() == Ok(*wanted);
-    if !TARGET.iter().all(fits) {
-        let target = env::var("TARGET").unwrap_or_default();
-        stop(&[
-            &format!(
-                "vahepito is built for x86_64 Linux with the GNU C library, and the target is {target}"
-            ),
-            "its archives fit no other one; those for another are named by VAHEPITO_LIB and VAHEPITO_HEAP",
-        ]);
-    }
-}
-
-fn crate_folder() -> PathBuf {
-    PathBuf::from(env::var_os("CARGO_MANIFEST_DIR").expect("cargo sets it"))
-}
-
-/// The archive of this name in a package.
-fn packed(name: &str) -> Option<PathBuf> {
-    let path = crate_folder().join("lib").join(name);
-    path.is_file().then_some(path)
-}
-
-/// The archive in the repository that this crate lies in.
-fn built() -> PathBuf {
-    let path = crate_folder().join("../../crates/cc_binding/out/libcc_binding.a");
-    println!("cargo::rerun-if-changed={}", path.display());
+/// The archive of this name beside the crate.
+fn packed(name: &str) -> PathBuf {
+    let root = PathBuf::from(env::var_os("CARGO_MANIFEST_DIR").expect("cargo sets it"));
+    let target = env::var("TARGET").expect("cargo sets it");
+    let path = root.join("lib").join(&target).join(name);
     path.canonicalize().unwrap_or_else(|_| {
         stop(&[
-            "the proved library isn't built: there is no crates/cc_binding/out/libcc_binding.a",
-            "run tools/build_library.sh (it proves and builds it), or let VAHEPITO_LIB name the archive",
+            &format!("vahepito is built for x86_64-unknown-linux-gnu, and the target is {target}: there is no {}", path.display()),
+            "VAHEPITO_LIB and VAHEPITO_HEAP name archives that were built for it",
         ])
     })
 }
 
-/// The archive of the toolchain whose `rt` is on the path.
-fn of_toolchain() -> PathBuf {
-    println!("cargo::rerun-if-env-changed=PATH");
-    let heap = |folder: PathBuf| {
-        let rt = folder.join("rt").canonicalize().ok()?;
-        let heap = rt.parent()?.parent()?.join("c/liblibc_c.a");
-        heap.is_file().then_some(heap)
-    };
-    let path = env::var_os("PATH").unwrap_or_default();
-    env::split_paths(&path).find_map(heap).unwrap_or_else(|| {
-        stop(&[
-            "the toolchain's liblibc_c.a wasn't found: the command `rt` isn't on the path",
-            "put it there, or let VAHEPITO_HEAP name the archive (c/liblibc_c.a in the toolchain's folder)",
-        ])
-    })
+/// Warns if what is built runs here, and this processor lacks instructions of the archives.
+fn check_processor() {
+    #[cfg(target_arch = "x86_64")]
+    {
+        let is_native = env::var("HOST") == env::var("TARGET");
+        let is_v2 = is_x86_feature_detected!("sse3")
+            && is_x86_feature_detected!("ssse3")
+            && is_x86_feature_detected!("sse4.1")
+            && is_x86_feature_detected!("sse4.2")
+            && is_x86_feature_detected!("popcnt")
+            && is_x86_feature_detected!("cmpxchg16b");
+        if is_native && !is_v2 {
+            println!(
+                "cargo::warning=this processor isn't an x86-64-v2, which the archives are built for: a program that is built here won't run here"
+            );
+        }
+    }
 }
 
 /// Links the archive `libNAME.a` at this path.
@@ -97,6 +71,7 @@ fn link(archive: &Path) {
     let (Some(name), Some(folder)) = (name, archive.parent()) else {
         stop(&[&format!("{} isn't named lib*.a", archive.display())]);
     };
+    println!("vahepito: links {}", archive.display());
     println!("cargo::rerun-if-changed={}", archive.display());
     println!("cargo::rustc-link-search=native={}", folder.display());
     println!("cargo::rustc-link-lib=static={name}");
@@ -104,12 +79,10 @@ fn link(archive: &Path) {
 
 fn main() {
     println!("cargo::rerun-if-changed=build.rs");
-    let (library, heap) = (named("VAHEPITO_LIB"), named("VAHEPITO_HEAP"));
-    if library.is_none() || heap.is_none() {
-        check_target();
-    }
-    let library = library.or_else(|| packed("libcc_binding.a"));
-    let heap = heap.or_else(|| packed("liblibc_c.a"));
-    link(&library.unwrap_or_else(built));
-    link(&heap.unwrap_or_else(of_toolchain));
+    let library = named("VAHEPITO_LIB").unwrap_or_else(|| {
+        check_processor();
+        packed("libvahepito.a")
+    });
+    link(&library);
+    link(&named("VAHEPITO_HEAP").unwrap_or_else(|| packed("libvahepito_heap.a")));
 }

@@ -1,0 +1,1 @@
+../c/vahepito.h
