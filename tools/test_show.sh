@@ -1,6 +1,7 @@
 #!/bin/bash
-# Tests the pages of ccq_show in a browser without a window, Chromium, where the machine has one: the page of each plan in
-# examples/ is stepped to its end by its keys and back, and one of 20,000 events too.
+# Tests the pages of ccq_show: the one in docs/pages is what the program writes. And in a browser without a window, Chromium,
+# where the machine has one: the page of each plan in examples/ is stepped to its end by its keys and back, and one of 20,000
+# events too.
 #
 # Usage: tools/test_show.sh
 #
@@ -8,6 +9,11 @@
 # doesn't have is skipped, and its line says so. The exit status is 0 where no step failed.
 set -u
 cd "$(dirname "$0")/.." || exit 1
+case ${1-} in
+'') ;;
+-h | --help) sed -n '2,/^[^#]/s/^# \{0,1\}//p' tools/test_show.sh && exit ;;
+*) echo 'usage: tools/test_show.sh' >&2 && exit 64 ;;
+esac
 top=$PWD
 export top
 tests=show
@@ -20,8 +26,13 @@ if [ ! -x "$show" ]; then
     skip 'pages' "$show isn't there"
     end_steps
 fi
+is_page() { "$show" <examples/bodies_of_words.json | cmp - docs/pages/bodies_of_words.html; }
+export show play
+export -f is_page
+step 'docs/pages has the page that the program writes' bash -c is_page
+
 . tools/browser.sh
-export show play browser
+export browser
 
 # Writes the page of a plan, with what steps through it behind its own script.
 walk_page() {
