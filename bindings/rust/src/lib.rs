@@ -5,8 +5,9 @@ mod channel;
 pub mod words;
 
 pub use channel::{
-    CloneError, IntoIter, Iter, Receiver, RecvError, RecvFuture, RecvTimeoutError, SendError,
-    SendFuture, SendTimeoutError, Sender, TryIter, TryRecvError, TrySendError, channel, groups,
+    IntoIter, Iter, Receiver, RecvError, RecvFuture, RecvTimeoutError, SendError, SendFuture,
+    SendTimeoutError, Sender, TryIter, TryRecvError, TrySendError, WeakReceiver, WeakSender,
+    channel, groups,
 };
 pub use words::OpenError;
 #[doc(hidden)]

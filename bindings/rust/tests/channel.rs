@@ -11,8 +11,8 @@ use std::sync::{Arc, Mutex};
 use std::thread;
 use std::time::{Duration, Instant};
 use vahepito::{
-    CloneError, OpenError, Receiver, RecvError, RecvTimeoutError, SendError, SendTimeoutError,
-    Sender, TryRecvError, TrySendError, channel, groups,
+    OpenError, Receiver, RecvError, RecvTimeoutError, SendError, SendTimeoutError, Sender,
+    TryRecvError, TrySendError, channel, groups,
 };
 
 /// An item that counts how many of its kind there are.
@@ -153,31 +153,62 @@ fn the_last_handle_of_a_side_closes() {
     assert_eq!(sender.send(2), Err(SendError(2)));
 }
 
+/// Ten thousand handles of each side live at a time, and each of them sends and takes.
 #[test]
-fn sixty_four_handles_of_each_side() {
+fn any_number_of_handles() {
+    const MANY: usize = 10_000;
     let (sender, receiver) = channel(64).unwrap();
-    for _ in 0..3 {
-        let senders: Vec<_> = (0..63).map(|_| sender.clone()).collect();
-        let receivers: Vec<_> = (0..63).map(|_| receiver.clone()).collect();
-        assert_eq!(sender.try_clone().unwrap_err(), CloneError::Senders);
-        assert_eq!(receiver.try_clone().unwrap_err(), CloneError::Receivers);
-        let clones = AssertUnwindSafe(|| drop(sender.clone()));
-        let panic = catch_unwind(clones).unwrap_err();
-        let told = panic.downcast_ref::<String>().unwrap();
-        assert_eq!(told, "the channel has 64 senders already");
-        // Each of them sends and takes.
-        for (number, sender) in senders.iter().enumerate() {
+    for _ in 0..2 {
+        let senders: Vec<_> = (1..MANY).map(|_| sender.clone()).collect();
+        let receivers: Vec<_> = (1..MANY).map(|_| receiver.clone()).collect();
+        assert_eq!(sender.sender_count(), MANY);
+        assert_eq!(receiver.receiver_count(), MANY);
+        for (number, (sender, receiver)) in senders.iter().zip(&receivers).enumerate() {
             sender.send(number).unwrap();
+            assert_eq!(receiver.recv(), Ok(number));
         }
-        let taken = receivers.iter().map(|receiver| receiver.recv().unwrap());
-        assert!(taken.eq(0..63));
-        // A seat that is given back is another's.
-        drop(senders.into_iter().nth(40));
-        assert_eq!(sender.clone().send(7), Ok(()));
-        assert_eq!(receivers[62].recv(), Ok(7));
     }
+    assert_eq!((sender.sender_count(), receiver.receiver_count()), (1, 1));
+    assert!(!sender.is_closed());
     assert!(sender.same_channel(&sender.clone()));
+    assert!(receiver.same_channel(&receiver.clone()));
     assert!(!receiver.same_channel(&channel(1).unwrap().1));
+
+    let (sender, groups) = groups(4, 2).unwrap();
+    let clones: Vec<_> = (1..MANY).map(|_| groups[1].clone()).collect();
+    assert_eq!(
+        (groups[0].receiver_count(), groups[1].receiver_count()),
+        (1, MANY)
+    );
+    for (number, receiver) in clones.iter().enumerate() {
+        sender.send(number).unwrap();
+        assert_eq!(
+            (groups[0].recv(), receiver.recv()),
+            (Ok(number), Ok(number))
+        );
+    }
+    assert!(groups[0].same_channel(&clones[0]));
+}
+
+#[test]
+fn weak_handles_keep_nothing_open() {
+    let (sender, receivers) = groups(4, 2).unwrap();
+    let (weak, weaks) = (
+        sender.downgrade(),
+        receivers.iter().map(Receiver::downgrade),
+    );
+    let weaks: Vec<_> = weaks.collect();
+    assert_eq!(
+        format!("{weak:?} {:?}", weaks[0]),
+        "WeakSender { .. } WeakReceiver { .. }"
+    );
+    weak.clone().upgrade().unwrap().send(7).unwrap();
+    assert_eq!(weaks[1].clone().upgrade().unwrap().recv(), Ok(7));
+    drop(receivers);
+    assert!(sender.is_closed() && weaks[0].upgrade().is_none() && weaks[1].upgrade().is_none());
+    assert_eq!(weak.upgrade().unwrap().send(8), Err(SendError(8)));
+    drop(sender);
+    assert!(weak.upgrade().is_none());
 }
 
 #[test]
@@ -226,7 +257,7 @@ fn errors_say_what_is_wrong() {
     const ENDED: &str = "receiving on a channel that is closed and has no more items";
     // An item without `Debug`.
     struct Item;
-    let errors: [(&str, &str, Box<dyn Error>); 12] = [
+    let errors: [(&str, &str, Box<dyn Error>); 10] = [
         (CLOSED, "SendError(..)", SendError(Item).into()),
         (
             "sending on a channel that is full",
@@ -264,16 +295,6 @@ fn errors_say_what_is_wrong() {
             ENDED,
             "Disconnected",
             RecvTimeoutError::from(RecvError).into(),
-        ),
-        (
-            "the channel has 64 senders already",
-            "Senders",
-            CloneError::Senders.into(),
-        ),
-        (
-            "the group has 64 receivers already",
-            "Receivers",
-            CloneError::Receivers.into(),
         ),
     ];
     for (display, debug, error) in errors {

@@ -1,4 +1,5 @@
-//! No send and no take asks for memory: what each thread asks the allocator for is counted.
+//! How much memory a channel takes, and which calls ask for some: what each thread asks the allocator
+//! for is counted, and what the C library has handed out.
 use std::alloc::{GlobalAlloc, Layout, System};
 use std::cell::Cell;
 use std::thread;
@@ -39,27 +40,31 @@ fn what_asks_is_counted() {
     assert!(asked(|| drop(channel::<u8>(1))) > 0);
 }
 
-/// By the first handles and by clones of them, from each one's first call on.
+/// By the first handles and by clones of them, from each one's first call on: an item of up to 32 bytes
+/// asks for none, and a larger one, or one of groups, for a box.
 #[test]
 fn calls_that_do_not_wait_ask_for_none() {
-    fn fill_and_empty<T: Send + Copy>(item: T) {
+    fn fill_and_empty<T: Send + Copy>(item: T, boxes: u64) {
         let (sender, receiver) = channel(20).unwrap();
         let rounds = asked(|| {
             for round in 0..30 {
                 let (sent, taken) = (sender.clone(), receiver.clone());
                 let senders = [&sender, &sent].into_iter().cycle();
-                let many = senders.take_while(|sender| sender.try_send(item).is_ok());
-                assert_eq!(many.count(), 20, "{round}");
+                let many = senders.take(20).all(|sender| sender.try_send(item).is_ok());
+                assert!(many && sender.is_full(), "{round}");
                 assert_eq!(receiver.try_iter().take(15).count(), 15);
                 assert_eq!(taken.try_iter().count(), 5);
                 assert!(receiver.try_recv().is_err() && sender.is_empty());
             }
             sender.close();
         });
-        assert_eq!(rounds, 0);
+        assert_eq!(rounds, 600 * boxes);
     }
-    fill_and_empty(7_u64);
-    fill_and_empty([7_u8; 300]);
+    fill_and_empty((), 0);
+    fill_and_empty(7_u64, 0);
+    fill_and_empty([7_u8; 17], 0);
+    fill_and_empty([7_u64; 4], 0);
+    fill_and_empty([7_u8; 33], 1);
 
     let (sender, receivers) = groups(20, 3).unwrap();
     let rounds = asked(|| {
@@ -71,10 +76,10 @@ fn calls_that_do_not_wait_ask_for_none() {
             }
         }
     });
-    assert_eq!(rounds, 0);
+    assert_eq!(rounds, 100);
 }
 
-/// A thread's first wait takes some, and no later one does.
+/// A thread's first wait takes some, and the first wait on a channel, and no later one does.
 #[test]
 fn a_second_wait_asks_for_none() {
     const SOON: Duration = Duration::from_millis(2);
@@ -86,18 +91,18 @@ fn a_second_wait_asks_for_none() {
         assert_eq!(told, Err(SendTimeoutError::Timeout(2)));
         assert_eq!(receiver.recv(), Ok(1));
     };
-    waits();
+    // Where the processors are busy, one may time out before it waits.
+    (0..5).for_each(|_| waits());
     assert_eq!(asked(waits), 0);
 
     let (there, here) = channel(1).unwrap();
-    let (_open, empty) = channel::<u8>(1).unwrap();
     thread::scope(|scope| {
         let takes = scope.spawn(move || {
-            assert_eq!(empty.recv_timeout(SOON), Err(RecvTimeoutError::Timeout));
+            assert_eq!(here.recv_timeout(SOON), Err(RecvTimeoutError::Timeout));
             asked(|| assert!(here.iter().eq(0..6)))
         });
         for number in 0..6 {
-            thread::sleep(SOON);
+            thread::sleep(2 * SOON);
             there.send(number).unwrap();
         }
         drop(there);

@@ -24,6 +24,8 @@ enum Fault {
     DroppedKeepsRing,
     /// A thread whose time is over doesn't try once more, and keeps the ring that took it out.
     NoTryAtTheEnd,
+    /// A waiter in two lines keeps the ring of the one from which it took nothing.
+    SelectKeepsOther,
 }
 
 #[derive(Clone, Copy, PartialEq, Eq, Hash, Debug)]
@@ -40,19 +42,20 @@ enum Kind {
     Steals,
 }
 
+/// Where a process is; if that is at a channel, at which.
 #[derive(Clone, Copy, PartialEq, Eq, Hash, Debug)]
 enum At {
-    Stand,
-    TryInLine,
-    LeaveWithItem,
+    Stand(usize),
+    TryInLine(usize),
     Park,
-    Leave,
-    TryAgain,
-    Dropped,
+    Leave(usize),
+    TryAgain(usize),
+    /// It makes no further try: it rings for the next in each line from which a ring took it out.
+    PassOn(usize),
     Make,
-    Look,
-    TakeOut,
-    Wake(usize),
+    Look(usize),
+    TakeOut(usize),
+    Wake(usize, usize),
     Steal,
     Done,
 }
@@ -60,6 +63,8 @@ enum At {
 #[derive(Clone, PartialEq, Eq, Hash, Debug)]
 struct Process {
     kind: Kind,
+    /// A bit for each channel of which it waits for an item; or the one for which it makes items.
+    channels: u8,
     at: At,
     /// So many items it makes still.
     makes: u8,
@@ -68,60 +73,89 @@ struct Process {
     over: bool,
     /// Whether it saw somebody in line before it made its item.
     saw: bool,
+    /// Whether it has an item, or was dropped: it tries no more.
+    ends: bool,
+    /// Whether a ring took it out of the line of each channel.
+    rung: [bool; 2],
+}
+
+impl Process {
+    /// Its first channel from this one on.
+    fn channel(&self, from: usize) -> Option<usize> {
+        (from..2).find(|channel| self.channels >> channel & 1 == 1)
+    }
+
+    /// At its first channel from this one on, or there where all are done.
+    fn next(&self, from: usize, at: fn(usize) -> At, done: At) -> At {
+        self.channel(from).map_or(done, at)
+    }
 }
 
 #[derive(Clone, PartialEq, Eq, Hash, Debug)]
 struct State {
-    items: u8,
-    line: Vec<usize>,
+    items: [u8; 2],
+    lines: [Vec<usize>; 2],
     processes: Vec<Process>,
 }
 
+/// The kind, the channels, and how many items it makes.
+type Model = &'static [(Kind, u8, u8)];
+
 impl State {
-    fn start(kinds: &[(Kind, u8)], fault: Fault) -> State {
-        let process = |&(kind, makes): &(Kind, u8)| Process {
-            kind,
-            at: match kind {
-                Kind::Makes if fault == Fault::LookBeforeMaking => At::Look,
+    fn start(kinds: Model, fault: Fault) -> State {
+        let process = |&(kind, channels, makes): &(Kind, u8, u8)| {
+            let mut process = Process {
+                kind,
+                channels,
+                at: At::Done,
+                makes,
+                woken: false,
+                over: false,
+                saw: false,
+                ends: false,
+                rung: [false; 2],
+            };
+            process.at = match kind {
+                Kind::Makes if fault == Fault::LookBeforeMaking => {
+                    process.next(0, At::Look, At::Done)
+                }
                 Kind::Makes => At::Make,
                 Kind::Steals => At::Steal,
-                _ if fault == Fault::NoTryInLine => At::TryAgain,
-                _ => At::Stand,
-            },
-            makes,
-            woken: false,
-            over: false,
-            saw: false,
+                _ if fault == Fault::NoTryInLine => process.next(0, At::TryAgain, At::Done),
+                _ => process.next(0, At::Stand, At::Done),
+            };
+            process
         };
         State {
-            items: 0,
-            line: vec![],
+            items: [0; 2],
+            lines: [vec![], vec![]],
             processes: kinds.iter().map(process).collect(),
         }
     }
 
-    /// Leaves the line. Tells whether it was still there.
-    fn remove(&mut self, who: usize) -> bool {
-        let at = self.line.iter().position(|&other| other == who);
-        at.map(|at| self.line.remove(at)).is_some()
+    /// Leaves the line of this channel. Returns whether it was still there.
+    fn remove(&mut self, who: usize, channel: usize) -> bool {
+        let line = &mut self.lines[channel];
+        let at = line.iter().position(|&other| other == who);
+        at.map(|at| line.remove(at)).is_some()
     }
 
-    fn take(&mut self) -> bool {
-        let some = self.items > 0;
-        self.items -= u8::from(some);
+    fn take(&mut self, channel: usize) -> bool {
+        let some = self.items[channel] > 0;
+        self.items[channel] -= u8::from(some);
         some
     }
 
-    /// After a ring.
-    fn rung(&mut self, who: usize, fault: Fault) -> At {
+    /// After a ring in this line.
+    fn rings(&mut self, who: usize, channel: usize, fault: Fault) -> At {
         let process = &mut self.processes[who];
         if process.kind != Kind::Makes {
-            return At::Done;
+            return process.next(channel + 1, At::PassOn, At::Done);
         }
         process.makes -= 1;
         match process.makes {
             0 => At::Done,
-            _ if fault == Fault::LookBeforeMaking => At::Look,
+            _ if fault == Fault::LookBeforeMaking => At::Look(channel),
             _ => At::Make,
         }
     }
@@ -133,68 +167,93 @@ impl State {
         let process = &self.processes[who];
         let early = fault == Fault::LookBeforeMaking && process.kind == Kind::Makes;
         let at = match process.at {
-            At::Stand => {
-                next.line.push(who);
+            At::Stand(channel) => {
+                next.lines[channel].push(who);
                 next.processes[who].woken = false;
-                match fault {
+                next.processes[who].rung = [false; 2];
+                let looks = match fault {
                     Fault::NoTryInLine => At::Park,
-                    _ => At::TryInLine,
-                }
+                    _ => process.next(0, At::TryInLine, At::Done),
+                };
+                process.next(channel + 1, At::Stand, looks)
             }
-            At::TryInLine if next.take() => At::LeaveWithItem,
-            At::TryInLine => At::Park,
-            At::LeaveWithItem if next.remove(who) || fault == Fault::TakerKeepsRing => At::Done,
-            At::LeaveWithItem => At::Look,
+            At::TryInLine(channel) if next.take(channel) => {
+                next.processes[who].ends = true;
+                process.next(0, At::Leave, At::Done)
+            }
+            At::TryInLine(channel) => process.next(channel + 1, At::TryInLine, At::Park),
             At::Park => {
-                let mut gives_up = |at, over| {
+                let leaves = process.next(0, At::Leave, At::Done);
+                let mut gives_up = |over, ends| {
                     let mut other = self.clone();
-                    other.processes[who].at = at;
-                    other.processes[who].over = over;
+                    let process = &mut other.processes[who];
+                    (process.at, process.over, process.ends) = (leaves, over, ends);
                     others.push(other);
                 };
                 match process.kind {
-                    Kind::HasTime => gives_up(At::Leave, true),
-                    Kind::Task => gives_up(At::Dropped, false),
+                    Kind::HasTime => gives_up(true, false),
+                    Kind::Task => gives_up(false, true),
                     _ => {}
                 }
                 if !process.woken {
                     return others;
                 }
-                At::Leave
+                leaves
             }
-            At::Leave => {
-                next.remove(who);
+            At::Leave(channel) => {
+                next.processes[who].rung[channel] = !next.remove(who, channel);
+                let keeps = match process.kind {
+                    Kind::Task if fault == Fault::DroppedKeepsRing => true,
+                    _ => fault == Fault::TakerKeepsRing,
+                };
+                let then = match process.ends {
+                    true if keeps => At::Done,
+                    true => process.next(0, At::PassOn, At::Done),
+                    false if fault == Fault::NoTryAtTheEnd && process.over => At::Done,
+                    false => process.next(0, At::TryAgain, At::Done),
+                };
+                process.next(channel + 1, At::Leave, then)
+            }
+            At::TryAgain(channel) if next.take(channel) => {
+                next.processes[who].rung[channel] = false;
                 match fault {
-                    Fault::NoTryAtTheEnd if process.over => At::Done,
-                    _ => At::TryAgain,
+                    Fault::SelectKeepsOther => At::Done,
+                    _ => process.next(0, At::PassOn, At::Done),
                 }
             }
-            At::TryAgain if next.take() || process.over => At::Done,
-            At::TryAgain => At::Stand,
-            At::Dropped if next.remove(who) || fault == Fault::DroppedKeepsRing => At::Done,
-            At::Dropped => At::Look,
+            At::TryAgain(channel) => {
+                let again = match process.over {
+                    true => At::Done,
+                    false => process.next(0, At::Stand, At::Done),
+                };
+                process.next(channel + 1, At::TryAgain, again)
+            }
+            At::PassOn(channel) if process.rung[channel] => At::Look(channel),
+            At::PassOn(channel) => process.next(channel + 1, At::PassOn, At::Done),
             At::Make => {
-                next.items += 1;
+                let channel = process.channel(0).expect("it has one");
+                next.items[channel] += 1;
                 match early {
-                    true if process.saw => At::TakeOut,
-                    true => next.rung(who, fault),
-                    false => At::Look,
+                    true if process.saw => At::TakeOut(channel),
+                    true => next.rings(who, channel, fault),
+                    false => At::Look(channel),
                 }
             }
-            At::Look if early => {
-                next.processes[who].saw = !self.line.is_empty();
+            At::Look(channel) if early => {
+                next.processes[who].saw = !self.lines[channel].is_empty();
                 At::Make
             }
-            At::Look if self.line.is_empty() => next.rung(who, fault),
-            At::Look => At::TakeOut,
-            At::TakeOut if self.line.is_empty() => next.rung(who, fault),
-            At::TakeOut => At::Wake(next.line.remove(0)),
-            At::Wake(waiter) => {
+            At::Look(channel) | At::TakeOut(channel) if self.lines[channel].is_empty() => {
+                next.rings(who, channel, fault)
+            }
+            At::Look(channel) => At::TakeOut(channel),
+            At::TakeOut(channel) => At::Wake(channel, next.lines[channel].remove(0)),
+            At::Wake(channel, waiter) => {
                 next.processes[waiter].woken = true;
-                next.rung(who, fault)
+                next.rings(who, channel, fault)
             }
             At::Steal => {
-                next.take();
+                process.channel(0).map(|channel| next.take(channel));
                 At::Done
             }
             At::Done => return others,
@@ -207,7 +266,7 @@ impl State {
 
 /// Searches all states that these processes reach. Gives their number, or one in which nobody goes
 /// on, though there is an item and somebody waits for one.
-fn search(kinds: &[(Kind, u8)], fault: Fault) -> Result<usize, State> {
+fn search(kinds: Model, fault: Fault) -> Result<usize, State> {
     let mut seen = HashSet::new();
     let mut left = vec![State::start(kinds, fault)];
     while let Some(state) = left.pop() {
@@ -215,12 +274,12 @@ fn search(kinds: &[(Kind, u8)], fault: Fault) -> Result<usize, State> {
             continue;
         }
         let stopped = |process: &Process| process.at == At::Park && !process.woken;
-        let waits = state.processes.iter().any(stopped);
-        let rests = state
-            .processes
-            .iter()
-            .all(|it| stopped(it) || it.at == At::Done);
-        if rests && waits && state.items > 0 {
+        let could = |process: &Process| {
+            (0..2).any(|channel| process.channels >> channel & 1 == 1 && state.items[channel] > 0)
+        };
+        let all = &state.processes;
+        let rests = all.iter().all(|it| stopped(it) || it.at == At::Done);
+        if rests && all.iter().any(|it| stopped(it) && could(it)) {
             return Err(state);
         }
         left.extend((0..kinds.len()).flat_map(|who| state.after(who, fault)));
@@ -228,48 +287,80 @@ fn search(kinds: &[(Kind, u8)], fault: Fault) -> Result<usize, State> {
     Ok(seen.len())
 }
 
-const MODELS: [&[(Kind, u8)]; 8] = [
-    &[(Kind::Waits, 0), (Kind::Makes, 1)],
-    &[(Kind::Waits, 0), (Kind::Waits, 0), (Kind::Makes, 2)],
-    &[
-        (Kind::Waits, 0),
-        (Kind::Waits, 0),
-        (Kind::Makes, 1),
-        (Kind::Makes, 1),
-    ],
-    &[
-        (Kind::Waits, 0),
-        (Kind::HasTime, 0),
-        (Kind::Makes, 1),
-        (Kind::Steals, 0),
-    ],
-    &[
-        (Kind::Waits, 0),
-        (Kind::Task, 0),
-        (Kind::Makes, 1),
-        (Kind::Makes, 1),
-    ],
-    &[
-        (Kind::Waits, 0),
-        (Kind::Task, 0),
-        (Kind::HasTime, 0),
-        (Kind::Makes, 2),
-    ],
-    &[
-        (Kind::Waits, 0),
-        (Kind::Waits, 0),
-        (Kind::Makes, 2),
-        (Kind::Steals, 0),
-        (Kind::Makes, 1),
-    ],
-    &[
-        (Kind::Waits, 0),
-        (Kind::Waits, 0),
-        (Kind::Waits, 0),
-        (Kind::Makes, 2),
-        (Kind::Makes, 1),
-    ],
-];
+/// The channels of a process: the one, the other, or both.
+const ONE: u8 = 1;
+const OTHER: u8 = 2;
+const BOTH: u8 = 3;
+
+const MODELS: [Model; 13] = {
+    use Kind::*;
+    [
+        &[(Waits, ONE, 0), (Makes, ONE, 1)],
+        &[(Waits, ONE, 0), (Waits, ONE, 0), (Makes, ONE, 2)],
+        &[
+            (Waits, ONE, 0),
+            (Waits, ONE, 0),
+            (Makes, ONE, 1),
+            (Makes, ONE, 1),
+        ],
+        &[
+            (Waits, ONE, 0),
+            (HasTime, ONE, 0),
+            (Makes, ONE, 1),
+            (Steals, ONE, 0),
+        ],
+        &[
+            (Waits, ONE, 0),
+            (Task, ONE, 0),
+            (Makes, ONE, 1),
+            (Makes, ONE, 1),
+        ],
+        &[
+            (Waits, ONE, 0),
+            (Task, ONE, 0),
+            (HasTime, ONE, 0),
+            (Makes, ONE, 2),
+        ],
+        &[
+            (Waits, ONE, 0),
+            (Waits, ONE, 0),
+            (Makes, ONE, 2),
+            (Steals, ONE, 0),
+            (Makes, ONE, 1),
+        ],
+        &[
+            (Waits, ONE, 0),
+            (Waits, ONE, 0),
+            (Waits, ONE, 0),
+            (Makes, ONE, 2),
+        ],
+        &[(Waits, BOTH, 0), (Makes, ONE, 1), (Makes, OTHER, 1)],
+        &[
+            (Waits, BOTH, 0),
+            (Waits, OTHER, 0),
+            (Makes, ONE, 1),
+            (Makes, OTHER, 1),
+        ],
+        &[
+            (Waits, BOTH, 0),
+            (Waits, BOTH, 0),
+            (Makes, ONE, 1),
+            (Makes, OTHER, 1),
+        ],
+        &[
+            (HasTime, BOTH, 0),
+            (Waits, ONE, 0),
+            (Makes, ONE, 1),
+            (Makes, OTHER, 1),
+        ],
+        &[
+            (Task, BOTH, 0),
+            (Waits, OTHER, 0),
+            (Makes, OTHER, 1),
+            (Steals, OTHER, 0),
+        ],
+    ]
+};
 
 #[test]
 fn no_interleaving_loses_a_wake_up() {
@@ -288,10 +379,181 @@ fn the_search_finds_each_fault() {
         Fault::TakerKeepsRing,
         Fault::DroppedKeepsRing,
         Fault::NoTryAtTheEnd,
+        Fault::SelectKeepsOther,
     ] {
         let found = MODELS.iter().any(|kinds| search(kinds, fault).is_err());
         assert!(found, "{fault:?}");
     }
+}
+
+/// The seats of a pool, and callers that each make some calls by them. A try looks at one seat after
+/// another. A seat is freed, and the line looked at, in either order; so a ring may be missed, and a caller
+/// that waits looks again after some time.
+mod seats {
+    use std::collections::HashMap;
+
+    /// Where a caller is: at which seat, if it looks for one or has it.
+    #[derive(Clone, Copy, PartialEq, Eq, Hash, Debug)]
+    enum At {
+        Try(usize),
+        Stand,
+        TryInLine(usize),
+        Park,
+        Leave,
+        LeaveWithSeat(usize),
+        Call(usize),
+        /// It has looked whether somebody waits, before others see that the seat is free.
+        Looked(usize, bool),
+        Look,
+        TakeOut,
+        Done,
+    }
+
+    #[derive(Clone, PartialEq, Eq, Hash, Debug)]
+    pub struct State {
+        taken: Vec<bool>,
+        line: Vec<usize>,
+        at: Vec<At>,
+        /// How many calls each makes still, and whether it was woken.
+        calls: Vec<u8>,
+        woken: Vec<bool>,
+    }
+
+    impl State {
+        /// Takes this seat if it is free; else goes on to the next, or to this place behind the last.
+        fn try_seat(&mut self, seat: usize, [got, next]: [fn(usize) -> At; 2], none: At) -> At {
+            match std::mem::replace(&mut self.taken[seat], true) {
+                false => got(seat),
+                true if seat + 1 < self.taken.len() => next(seat + 1),
+                true => none,
+            }
+        }
+
+        fn free(&mut self, who: usize, seat: usize, then: At) -> At {
+            assert!(self.taken[seat], "two callers had the seat");
+            self.taken[seat] = false;
+            self.calls[who] -= 1;
+            match then {
+                At::Done => self.ends(who),
+                then => then,
+            }
+        }
+
+        fn ends(&self, who: usize) -> At {
+            match self.calls[who] {
+                0 => At::Done,
+                _ => At::Try(0),
+            }
+        }
+
+        /// The states after one step of this caller.
+        fn after(&self, who: usize, looks_again: bool) -> Vec<State> {
+            let (mut next, mut others) = (self.clone(), vec![]);
+            let at = match self.at[who] {
+                At::Try(seat) => next.try_seat(seat, [At::Call, At::Try], At::Stand),
+                At::Stand => {
+                    next.line.push(who);
+                    next.woken[who] = false;
+                    At::TryInLine(0)
+                }
+                At::TryInLine(seat) => {
+                    next.try_seat(seat, [At::LeaveWithSeat, At::TryInLine], At::Park)
+                }
+                At::Park if !self.woken[who] && !looks_again => return others,
+                At::Park => At::Leave,
+                At::Leave => {
+                    next.line.retain(|&other| other != who);
+                    At::Try(0)
+                }
+                At::LeaveWithSeat(seat) => {
+                    // It keeps the ring that took it out: it rings when it frees the seat.
+                    next.line.retain(|&other| other != who);
+                    At::Call(seat)
+                }
+                At::Call(seat) => {
+                    let mut early = self.clone();
+                    early.at[who] = At::Looked(seat, !self.line.is_empty());
+                    others.push(early);
+                    next.free(who, seat, At::Look)
+                }
+                At::Looked(seat, true) => next.free(who, seat, At::TakeOut),
+                At::Looked(seat, false) => next.free(who, seat, At::Done),
+                At::Look | At::TakeOut if self.line.is_empty() => self.ends(who),
+                At::Look => At::TakeOut,
+                At::TakeOut => {
+                    let first = next.line.remove(0);
+                    next.woken[first] = true;
+                    self.ends(who)
+                }
+                At::Done => return others,
+            };
+            next.at[who] = at;
+            others.push(next);
+            others
+        }
+    }
+
+    /// Searches all states of so many seats and these callers' calls. Gives their number, or one from which
+    /// no way leads to the end.
+    pub fn search(seats: usize, calls: &[u8], looks_again: bool) -> Result<usize, State> {
+        let count = calls.len();
+        let start = State {
+            taken: vec![false; seats],
+            line: vec![],
+            at: vec![At::Try(0); count],
+            calls: calls.to_vec(),
+            woken: vec![false; count],
+        };
+        let mut numbers = HashMap::from([(start.clone(), 0)]);
+        let (mut all, mut before) = (vec![start], vec![vec![]]);
+        let mut number = 0;
+        while let Some(state) = all.get(number).cloned() {
+            for next in (0..count).flat_map(|who| state.after(who, looks_again)) {
+                let to = *numbers.entry(next).or_insert_with_key(|next| {
+                    all.push(next.clone());
+                    before.push(vec![]);
+                    all.len() - 1
+                });
+                before[to].push(number);
+            }
+            number += 1;
+        }
+        let is_end = |state: &State| state.at.iter().all(|&at| at == At::Done);
+        let mut ends = vec![false; all.len()];
+        let mut left: Vec<usize> = (0..all.len()).filter(|&at| is_end(&all[at])).collect();
+        while let Some(state) = left.pop() {
+            if !std::mem::replace(&mut ends[state], true) {
+                left.extend(&before[state]);
+            }
+        }
+        match ends.iter().position(|ends| !ends) {
+            Some(state) => Err(all[state].clone()),
+            None => Ok(all.len()),
+        }
+    }
+}
+
+const SEATS: [(usize, &[u8]); 4] = [
+    (1, &[1, 1]),
+    (1, &[2, 1, 1]),
+    (2, &[1, 1, 1]),
+    (2, &[2, 1, 1]),
+];
+
+#[test]
+fn no_interleaving_leaves_a_caller_without_a_seat() {
+    for (seats, calls) in SEATS {
+        let states = seats::search(seats, calls, true);
+        let states = states.unwrap_or_else(|state| panic!("{state:#?}"));
+        assert!(states > 20, "{seats} {calls:?}");
+    }
+}
+
+/// A caller that waits for a ring alone waits for good in some interleaving.
+#[test]
+fn the_search_finds_the_ring_for_a_seat_that_is_missed() {
+    let mut all = SEATS.iter();
+    assert!(all.any(|(seats, calls)| seats::search(*seats, calls, false).is_err()));
 }
 
 /// Does this on a thread of its own. It stops for good where one wake-up is lost, and has two minutes.

@@ -49,16 +49,6 @@ pub enum RecvTimeoutError {
     Disconnected,
 }
 
-/// Why [`try_clone`](crate::Sender::try_clone) gave no further handle: 64 are open. Once one of them
-/// is dropped, there is room for another.
-#[derive(Clone, Copy, Debug, PartialEq, Eq, Hash)]
-pub enum CloneError {
-    /// The channel has 64 senders.
-    Senders,
-    /// The receiver's group has 64 receivers.
-    Receivers,
-}
-
 impl<T> SendError<T> {
     /// The item.
     pub fn into_inner(self) -> T {
@@ -204,22 +194,12 @@ impl Display for RecvTimeoutError {
     }
 }
 
-impl Display for CloneError {
-    fn fmt(&self, f: &mut Formatter<'_>) -> fmt::Result {
-        f.write_str(match self {
-            CloneError::Senders => "the channel has 64 senders already",
-            CloneError::Receivers => "the group has 64 receivers already",
-        })
-    }
-}
-
 impl<T> Error for SendError<T> {}
 impl<T> Error for TrySendError<T> {}
 impl<T> Error for SendTimeoutError<T> {}
 impl Error for RecvError {}
 impl Error for TryRecvError {}
 impl Error for RecvTimeoutError {}
-impl Error for CloneError {}
 
 impl<T> From<SendError<T>> for TrySendError<T> {
     fn from(error: SendError<T>) -> TrySendError<T> {

@@ -1,7 +1,7 @@
-//! Where callers wait for an item, or for room, and why no wake-up is lost.
+//! Where callers wait, and why no wake-up is lost.
 //!
-//! An event is a line of those that wait. A waiter is a [`Waker`]: a task's, or that of a thread that
-//! parks. Waiting goes so, step by step on either side:
+//! An event is a line of those that wait: for an item, for room, or for a free seat. A waiter is a
+//! [`Waker`]: a task's, or that of a thread that parks. Waiting goes so, step by step on either side:
 //!
 //! ```text
 //! waiter                                        ringer
@@ -13,7 +13,8 @@
 //! ```
 //!
 //! *Stand*, *take out* and *leave* each hold the line's lock; *check* doesn't. `waiting` is written
-//! under the lock, so that *check* reads the length of the line at some moment.
+//! under the lock, so that *check* reads the length of the line at some moment. A task that is polled
+//! again while it stands in line keeps its place: its poll is a further *look*.
 //!
 //! **What is used of the queue.** A try that begins after *make* was answered finds what it made,
 //! unless another try took it first: all steps of the queue are sequentially consistent, and each step
@@ -23,24 +24,35 @@
 //! **The claim.** When nobody makes a step any more, there isn't at once a waiter in line and something
 //! for its try to take.
 //!
-//! **Why.** Suppose that there were: a waiter `w` in line for good, and an item (or room) that no try
-//! took. Let `t` be the moment of `w`'s last try, which is its *look*: it came after its *stand*, since
-//! which `waiting` has never been 0, and it found nothing. Let `e` be the last moment at which there
-//! was nothing to take, so `e >= t`. After `e` things were made, and fewer were taken, since one is
-//! left. Each thing that was made after `e` has its *make* after `e`, and then its *check*, which is
-//! after `w` stood in line: so it finds `waiting` above 0, and goes on to *take out* a waiter: not `w`,
-//! who is there for good, but one that came before `w`. Each waiter that is taken out makes a try after
-//! that: its *retry*, or its *look* where it was only about to try. This try begins after `e`, and
-//! after the *make* of the ring that took the waiter out; from then on there was always something to
+//! **Why.** Suppose that there were: a waiter `w` in line for good, and an item (or
+//! room) that no try took. Let `t` be the moment of `w`'s last try, which is its *look*: it came after
+//! its *stand*, since which `waiting` has never been 0, and it found nothing. Let `e` be the last moment
+//! at which there was nothing to take, so `e >= t`. After `e` things were made, and fewer were taken,
+//! since one is left. Each thing that was made after `e` has its *make* after `e`, and then its *check*,
+//! which is after `w` stood in line: so it finds `waiting` above 0, and goes on to *take out* a waiter:
+//! not `w`, which is there for good, but one that came before `w`. Each waiter that is taken out makes a
+//! try after that: its *retry*, or its *look* where it was only about to try. This try begins after `e`,
+//! and after the *make* of the ring that took the waiter out; from then on there was always something to
 //! take. So the try took something. Different rings take out different entries of the line, and each
 //! entry has its own try; so at least as many things were taken after `e` as were made. That is a
 //! contradiction.
 //!
+//! **Seats.** A seat is freed by a store, and the holder's *check* may come before other threads see that
+//! store; an exchange would mend it, and each call would pay for it. So a ring for a seat may be missed.
+//! Therefore a waiter for a seat doesn't wait for a ring alone: it looks again after a millisecond. It gets
+//! a seat in the end, since each seat is freed: its holder makes one call of the queue, which waits in no
+//! line and runs no code of others. So a try for an item, which needs a seat, may wait for one while it
+//! stands in line for the item: the two kinds of lines don't hold each other up.
+//!
 //! **Who is taken out and doesn't try any more** rings for the next in line instead
-//! ([`Entry`]'s drop): a waiter whose *look* took something while it was taken out (its try may have
+//! ([`Event::pass_on`]): a waiter whose *look* took something while it was taken out (its try may have
 //! come before the *make*), and a task that is dropped before its next poll. A thread whose time is
 //! over tries once more after it left the line, and so needs no ring. The ring that is passed on ends
-//! at a waiter that tries, or at an empty line.
+//! at a waiter that tries, or at an empty line. **A waiter in two lines** (of two channels, say) that
+//! takes something from one has given up its tries in the other: it passes on the ring of either line
+//! that took it out.
+//!
+//! **A waker that panics** has woken nobody: the ring is the next waiter's.
 //!
 //! **Rings for nothing** are harmless: their waiter tries, finds nothing, and stands in line again.
 //! So a take rings for room though another group hasn't taken the item yet, and a close rings for all.
@@ -48,9 +60,11 @@
 //! `tests/wakeups.rs` searches all interleavings of these steps in small models, and finds the lost
 //! wake-up where one of them is left out.
 use crate::words::backoff::Backoff;
-use std::cell::Cell;
-use std::collections::VecDeque;
+use std::any::Any;
+use std::cell::RefCell;
 use std::fmt;
+use std::mem::{forget, replace};
+use std::panic::{AssertUnwindSafe, catch_unwind};
 use std::sync::atomic::{AtomicBool, AtomicUsize, Ordering};
 use std::sync::{Arc, Mutex, MutexGuard, PoisonError};
 use std::task::{Wake, Waker};
@@ -59,17 +73,122 @@ use std::time::{Duration, Instant};
 
 /// Tries before parking, with spins and yields between: a park costs some microseconds, so few.
 const TRIES: u32 = 12;
-/// So many stand in line without taking memory.
-const LINE: usize = 64;
+/// A line that empties gives memory back above this number of nodes.
+const KEPT: usize = 64;
 
 pub fn lock<T>(mutex: &Mutex<T>) -> MutexGuard<'_, T> {
     mutex.lock().unwrap_or_else(PoisonError::into_inner)
 }
 
+pub type Panic = Box<dyn Any + Send>;
+
+/// Runs code of others, and gives its panic.
+pub fn panic_of(foreign: impl FnOnce()) -> Option<Panic> {
+    catch_unwind(AssertUnwindSafe(foreign)).err()
+}
+
+/// Keeps the first panic. The drop of another would be code of others, too, so it is forgotten.
+pub fn keep_first(first: &mut Option<Panic>, next: Option<Panic>) {
+    match first {
+        None => *first = next,
+        Some(_) => forget(next),
+    }
+}
+
+/// A waiter, linked to those before and after it. Node 0 is none: it closes the ring of nodes.
+struct Node {
+    before: usize,
+    after: usize,
+    /// That of its ticket; 0 in a node that is free, whose `after` is the next free one.
+    number: u64,
+    waker: Option<Waker>,
+}
+
 struct Line {
-    /// The number of the next waiter: each has one of its own.
-    next: u64,
-    waiters: VecDeque<(u64, Waker)>,
+    nodes: Vec<Node>,
+    free: usize,
+    length: usize,
+    /// The number of the last ticket: each has one of its own.
+    last: u64,
+}
+
+/// A place in the line of an event, until a ring takes it out.
+#[derive(Clone, Copy, Debug)]
+pub struct Ticket {
+    at: usize,
+    number: u64,
+}
+
+impl Line {
+    fn push(&mut self, waker: Waker) -> Ticket {
+        self.last += 1;
+        let number = self.last;
+        if self.nodes.is_empty() {
+            self.nodes.push(Node {
+                before: 0,
+                after: 0,
+                number: 0,
+                waker: None,
+            });
+        }
+        let node = Node {
+            before: self.nodes[0].before,
+            after: 0,
+            number,
+            waker: Some(waker),
+        };
+        let before = node.before;
+        let at = match self.free {
+            0 => {
+                self.nodes.push(node);
+                self.nodes.len() - 1
+            }
+            at => {
+                self.free = self.nodes[at].after;
+                self.nodes[at] = node;
+                at
+            }
+        };
+        self.nodes[before].after = at;
+        self.nodes[0].before = at;
+        self.length += 1;
+        Ticket { at, number }
+    }
+
+    /// The waker of this ticket, if it is still in line.
+    fn waker(&mut self, ticket: Ticket) -> Option<&mut Waker> {
+        let node = self.nodes.get_mut(ticket.at)?;
+        node.waker.as_mut().filter(|_| node.number == ticket.number)
+    }
+
+    /// Takes this node out, which is in line.
+    fn take(&mut self, at: usize) -> Option<Waker> {
+        let Node { before, after, .. } = self.nodes[at];
+        self.nodes[before].after = after;
+        self.nodes[after].before = before;
+        self.length -= 1;
+        let node = &mut self.nodes[at];
+        node.number = 0;
+        node.after = replace(&mut self.free, at);
+        let waker = node.waker.take();
+        if self.length == 0 && self.nodes.len() > KEPT {
+            self.nodes = Vec::new();
+            self.free = 0;
+        }
+        waker
+    }
+
+    fn remove(&mut self, ticket: Ticket) -> Option<Waker> {
+        self.waker(ticket)?;
+        self.take(ticket.at)
+    }
+
+    fn pop(&mut self) -> Option<Waker> {
+        match self.nodes.first()?.after {
+            0 => None,
+            first => self.take(first),
+        }
+    }
 }
 
 pub struct Event {
@@ -79,35 +198,54 @@ pub struct Event {
 
 impl Event {
     pub fn new() -> Event {
-        let waiters = VecDeque::with_capacity(LINE);
         Event {
             waiting: AtomicUsize::new(0),
-            line: Mutex::new(Line { next: 0, waiters }),
+            line: Mutex::new(Line {
+                nodes: Vec::new(),
+                free: 0,
+                length: 0,
+                last: 0,
+            }),
         }
     }
 
-    /// Changes the line, and then tells its length.
+    /// Changes the line, and then tells its length. A waker that it gives is used, or dropped, once
+    /// the lock is released.
     fn with_line<R>(&self, change: impl FnOnce(&mut Line) -> R) -> R {
         let mut line = lock(&self.line);
         let changed = change(&mut line);
-        self.waiting.store(line.waiters.len(), Ordering::SeqCst);
+        self.waiting.store(line.length, Ordering::SeqCst);
         changed
     }
 
     /// Stands in line. The waiter has to try after this, before it waits.
-    pub fn stand(&self, waker: Waker) -> Entry<'_> {
-        let number = self.with_line(|line| {
-            line.next += 1;
-            line.waiters.push_back((line.next, waker));
-            line.next
+    pub fn stand(&self, waker: Waker) -> Ticket {
+        self.with_line(|line| line.push(waker))
+    }
+
+    /// Stays in line with this waker, after a try that found nothing. Returns whether it was still
+    /// there.
+    pub fn stay(&self, ticket: Ticket, waker: Waker) -> bool {
+        let before = self.with_line(|line| {
+            let place = line.waker(ticket)?;
+            Some(replace(place, waker))
         });
-        Entry {
-            event: self,
-            number,
+        before.is_some()
+    }
+
+    /// Leaves the line. A try has to follow, since a ring may have taken this one out.
+    pub fn leave_and_try(&self, ticket: Ticket) {
+        drop(self.with_line(|line| line.remove(ticket)));
+    }
+
+    /// Leaves the line without a further try: a ring that took this one out is passed on.
+    pub fn pass_on(&self, ticket: Ticket) {
+        if self.with_line(|line| line.remove(ticket)).is_none() {
+            self.ring();
         }
     }
 
-    /// Wakes the first in line, if there is one.
+    /// Wakes the first in line, if there is one. It never panics.
     #[inline]
     pub fn ring(&self) {
         if self.waiting.load(Ordering::SeqCst) != 0 {
@@ -117,15 +255,23 @@ impl Event {
 
     #[cold]
     fn wake_first(&self) {
-        if let Some((_, waker)) = self.with_line(|line| line.waiters.pop_front()) {
-            waker.wake();
+        while let Some(waker) = self.with_line(Line::pop) {
+            let Some(panic) = panic_of(|| waker.wake()) else {
+                return;
+            };
+            forget(panic);
         }
     }
 
-    /// Wakes all that stand in line now.
-    pub fn ring_for_all(&self) {
-        let all = self.with_line(|line| line.waiters.len());
-        (0..all).for_each(|_| self.wake_first());
+    /// Wakes all that stand in line now, and returns the first panic of their wakers.
+    pub fn ring_for_all(&self) -> Option<Panic> {
+        let pops = |line: &mut Line| std::iter::from_fn(|| line.pop()).collect();
+        let all: Vec<Waker> = self.with_line(pops);
+        let mut first = None;
+        for waker in all {
+            keep_first(&mut first, panic_of(|| waker.wake()));
+        }
+        first
     }
 }
 
@@ -137,37 +283,12 @@ impl fmt::Debug for Event {
     }
 }
 
-/// A place in the line of an event.
-#[derive(Debug)]
-pub struct Entry<'a> {
-    event: &'a Event,
-    number: u64,
-}
+/// A thread's place in line. Its drop passes on the ring that took it out.
+struct Place<'a>(&'a Event, Ticket);
 
-impl Entry<'_> {
-    /// Leaves the line. Tells whether it was still there: else a ring has taken it out.
-    fn remove(&self) -> bool {
-        let removed = self.event.with_line(|line| {
-            let mut numbers = line.waiters.iter().map(|waiter| waiter.0);
-            let at = numbers.position(|number| number == self.number)?;
-            line.waiters.remove(at)
-        });
-        removed.is_some()
-    }
-
-    /// Leaves the line. A try has to follow, since a ring may have taken this one out.
-    pub fn leave_and_try(self) {
-        self.remove();
-        std::mem::forget(self);
-    }
-}
-
-/// Leaves the line without a further try: a ring that took this one out is passed on.
-impl Drop for Entry<'_> {
+impl Drop for Place<'_> {
     fn drop(&mut self) {
-        if !self.remove() {
-            self.event.ring();
-        }
+        self.0.pass_on(self.1);
     }
 }
 
@@ -189,23 +310,23 @@ impl Wake for Parker {
 }
 
 thread_local! {
-    /// The one of this thread, while it doesn't wait. A wait inside of another, by an item's own drop
-    /// or clone, has one of its own, so that it doesn't use up the other's ring.
-    static PARKER: Cell<Option<Arc<Parker>>> = const { Cell::new(None) };
+    /// Those of this thread that are idle. A wait inside of another (for a seat, or by an item's own
+    /// drop or clone) has one of its own, so that it doesn't use up the other's ring.
+    static PARKERS: RefCell<Vec<Arc<Parker>>> = const { RefCell::new(Vec::new()) };
 }
 
 impl Parker {
     fn get() -> Arc<Parker> {
-        let parker = PARKER.try_with(Cell::take).ok().flatten();
-        parker.unwrap_or_else(|| {
+        let parker = PARKERS.try_with(|idle| idle.borrow_mut().pop());
+        parker.ok().flatten().unwrap_or_else(|| {
             let (thread, woken) = (thread::current(), AtomicBool::new(false));
             Arc::new(Parker { thread, woken })
         })
     }
 
     fn give_back(self: Arc<Self>) {
-        // Where the thread locals are gone already, it goes too.
-        let _ = PARKER.try_with(|parker| parker.set(Some(self)));
+        // If the thread locals are gone already, it goes too.
+        let _ = PARKERS.try_with(|idle| idle.borrow_mut().push(self));
     }
 
     /// Until it is woken, or this moment. It may be woken by a ring of an earlier wait.
@@ -220,7 +341,7 @@ impl Parker {
     }
 }
 
-/// What a try gave that has to be made again.
+/// When a try is to be made again.
 pub enum Again {
     /// Once it is rung for.
     AtARing,
@@ -258,14 +379,15 @@ fn park_until<R>(
         if until.is_some_and(|until| until <= Instant::now()) {
             return attempt().ok();
         }
-        let entry = event.stand(parker.clone().into());
+        let place = Place(event, event.stand(parker.clone().into()));
         let look_again = match attempt() {
             Ok(done) => return Some(done),
             Err(Again::AtARing) => None,
             Err(Again::Soon) => Some(Instant::now() + Duration::from_millis(1)),
         };
         parker.park(until.into_iter().chain(look_again).min());
-        entry.leave_and_try();
+        event.leave_and_try(place.1);
+        forget(place);
         if let Ok(done) = attempt() {
             return Some(done);
         }

@@ -1,80 +1,117 @@
 //! Sends and takes as futures. A poll makes a call of the queue to its end, and so may spin for its
 //! answer, but none is left begun between two polls: it would stop its side.
-use super::event::{Again, Entry, Event};
+use super::body::Parcel;
+use super::event::{Again, Event, Ticket};
 use super::{Receiver, RecvError, SendError, Sender};
 use std::fmt;
+use std::ops::Deref;
 use std::pin::Pin;
 use std::task::{Context, Poll};
 
-/// One poll: leaves the line, tries, stands in line again, and tries once more.
-fn poll<'a, R>(
-    entry: &mut Option<Entry<'a>>,
-    event: &'a Event,
+/// A handle that a future borrows, or has.
+pub enum Handle<'a, H> {
+    Borrowed(&'a H),
+    Owned(H),
+}
+
+impl<H> Deref for Handle<'_, H> {
+    type Target = H;
+
+    fn deref(&self) -> &H {
+        match self {
+            Handle::Borrowed(handle) => handle,
+            Handle::Owned(handle) => handle,
+        }
+    }
+}
+
+/// One poll: tries, and stays in line; or stands in line, and tries once more.
+fn poll<R>(
+    place: &mut Option<Ticket>,
+    event: &Event,
     context: &mut Context<'_>,
     mut attempt: impl FnMut() -> Result<R, Again>,
 ) -> Poll<R> {
-    if let Some(entry) = entry.take() {
-        entry.leave_and_try();
+    let waker = context.waker();
+    let mut tried = attempt();
+    if tried.is_err() && !place.is_some_and(|ticket| event.stay(ticket, waker.clone())) {
+        *place = Some(event.stand(waker.clone()));
+        tried = attempt();
     }
-    if let Ok(done) = attempt() {
-        return Poll::Ready(done);
+    match tried {
+        Ok(done) => {
+            leave(place, event);
+            Poll::Ready(done)
+        }
+        Err(again) => {
+            if let Again::Soon = again {
+                waker.wake_by_ref();
+            }
+            Poll::Pending
+        }
     }
-    let stands = event.stand(context.waker().clone());
-    match attempt() {
-        Ok(done) => return Poll::Ready(done),
-        Err(Again::AtARing) => {}
-        Err(Again::Soon) => context.waker().wake_by_ref(),
+}
+
+/// Leaves the line without a further try.
+fn leave(place: &mut Option<Ticket>, event: &Event) {
+    if let Some(ticket) = place.take() {
+        event.pass_on(ticket);
     }
-    *entry = Some(stands);
-    Poll::Pending
 }
 
 /// A take: see [`Receiver::recv_async`].
 #[must_use = "a future does nothing unless it is polled"]
 pub struct RecvFuture<'a, T> {
-    receiver: &'a Receiver<T>,
-    entry: Option<Entry<'a>>,
+    receiver: Handle<'a, Receiver<T>>,
+    place: Option<Ticket>,
 }
 
 impl<'a, T> RecvFuture<'a, T> {
-    pub(super) fn new(receiver: &'a Receiver<T>) -> RecvFuture<'a, T> {
-        let entry = None;
-        RecvFuture { receiver, entry }
+    pub(super) fn new(receiver: Handle<'a, Receiver<T>>) -> RecvFuture<'a, T> {
+        let place = None;
+        RecvFuture { receiver, place }
     }
 }
+
+// Neither a handle nor an item is pinned.
+impl<T> Unpin for RecvFuture<'_, T> {}
+impl<T> Unpin for SendFuture<'_, T> {}
 
 impl<T> Future for RecvFuture<'_, T> {
     type Output = Result<T, RecvError>;
 
     fn poll(mut self: Pin<&mut Self>, context: &mut Context<'_>) -> Poll<Self::Output> {
-        let receiver = self.receiver;
-        poll(&mut self.entry, receiver.items(), context, || {
-            receiver.attempt()
-        })
+        let Self { receiver, place } = &mut *self;
+        let taken = poll(place, receiver.items(), context, || receiver.attempt());
+        taken.map(|parcel| parcel.map(Parcel::unpack).ok_or(RecvError))
+    }
+}
+
+impl<T> Drop for RecvFuture<'_, T> {
+    fn drop(&mut self) {
+        leave(&mut self.place, self.receiver.items());
     }
 }
 
 /// A send: see [`Sender::send_async`].
 #[must_use = "a future does nothing unless it is polled"]
 pub struct SendFuture<'a, T> {
-    sender: &'a Sender<T>,
-    entry: Option<Entry<'a>>,
-    /// None once it is sent.
-    item: Option<T>,
+    sender: Handle<'a, Sender<T>>,
+    place: Option<Ticket>,
+    /// None once it is sent, or handed back.
+    parcel: Option<Parcel<T>>,
 }
 
 impl<'a, T> SendFuture<'a, T> {
-    pub(super) fn new(sender: &'a Sender<T>, item: T) -> SendFuture<'a, T> {
+    pub(super) fn new(sender: Handle<'a, Sender<T>>, item: T) -> SendFuture<'a, T> {
+        let parcel = Some(sender.pack(item));
         SendFuture {
             sender,
-            entry: None,
-            item: Some(item),
+            place: None,
+            parcel,
         }
     }
 }
-
-// The item isn't pinned: it is moved into the channel.
-impl<T> Unpin for SendFuture<'_, T> {}
 
 impl<T> Future for SendFuture<'_, T> {
     type Output = Result<(), SendError<T>>;
@@ -84,10 +121,24 @@ impl<T> Future for SendFuture<'_, T> {
     /// It is polled after it was done.
     fn poll(mut self: Pin<&mut Self>, context: &mut Context<'_>) -> Poll<Self::Output> {
         let this = &mut *self;
+        let parcel = this.parcel.as_ref().expect("the item isn't sent yet");
         let room = &this.sender.core().room;
-        poll(&mut this.entry, room, context, || {
-            this.sender.attempt(&mut this.item)
+        let sent = poll(&mut this.place, room, context, || {
+            this.sender.attempt(parcel)
+        });
+        sent.map(|sent| {
+            let parcel = this.parcel.take().expect("it was there");
+            match sent {
+                true => parcel.sent(),
+                false => Err(SendError(parcel.unpack())),
+            }
         })
+    }
+}
+
+impl<T> Drop for SendFuture<'_, T> {
+    fn drop(&mut self) {
+        leave(&mut self.place, &self.sender.core().room);
     }
 }
 

@@ -1,48 +1,44 @@
 //! Channels of any type, over queues of words.
+mod body;
 mod core;
 mod error;
 mod event;
 mod future;
-mod line;
 #[cfg(test)]
 mod linear;
+mod pool;
 mod receiver;
+mod renew;
 #[cfg(test)]
 mod rounds;
-mod seat;
 mod sender;
-mod slots;
 #[cfg(test)]
 mod tests;
 
 pub use error::{
-    CloneError, RecvError, RecvTimeoutError, SendError, SendTimeoutError, TryRecvError,
-    TrySendError,
+    RecvError, RecvTimeoutError, SendError, SendTimeoutError, TryRecvError, TrySendError,
 };
 pub use future::{RecvFuture, SendFuture};
-pub use receiver::{IntoIter, Iter, Receiver, TryIter};
-pub use sender::Sender;
+pub use receiver::{IntoIter, Iter, Receiver, TryIter, WeakReceiver};
+pub use sender::{Sender, WeakSender};
 
+use self::body::Copies;
 use self::core::Core;
-use self::slots::Slots;
 use crate::words::{Config, OpenError};
 use std::sync::Arc;
 
-/// So many senders a channel has at most, and so many receivers each group.
-const PASSES: usize = 64;
-
 /// The configuration of the queues of a channel.
 fn config(capacity: usize) -> Config {
+    let seats = pool::seats() as u32;
     // Numbers that are too large are refused as such.
-    let capacity = capacity.try_into().unwrap_or(u32::MAX);
-    Config::new(PASSES as u32, PASSES as u32, capacity)
+    Config::new(seats, seats, capacity.try_into().unwrap_or(u32::MAX))
 }
 
 /// Opens a channel of items of one type, and gives its first sender and its first receiver.
 ///
-/// Both can be cloned, up to 64 of each at a time. Each item goes to one of the receivers. Of the
-/// items that the channel holds there are at most `capacity`, 1 to 4,096; room for them is made here,
-/// and neither a send nor a take allocates.
+/// Both can be cloned any number of times. Each item goes to one of the receivers. The channel holds at
+/// most `capacity` items, 1 to 4,096: that is the range of the proved queue below. No take allocates, and
+/// a send only if an item has more than 32 bytes: it then lies in a box until it is taken.
 ///
 /// The channel is closed by [`Sender::close`] or [`Receiver::close`], by the drop of the last sender,
 /// or by that of the last receiver, which also drops what is left in the channel.
@@ -63,20 +59,19 @@ fn config(capacity: usize) -> Config {
 /// # Errors
 ///
 /// The linked library is another one than this crate is for; a capacity out of its range; or want of
-/// memory for the queue. (Where std has no memory for the slots, it ends the process, as always.)
-pub fn channel<T: Send>(capacity: usize) -> Result<(Sender<T>, Receiver<T>), OpenError> {
-    let (sender, mut receivers) = open(config(capacity), 1, Slots::of_one_group)?;
+/// memory for the queue.
+pub fn channel<T>(capacity: usize) -> Result<(Sender<T>, Receiver<T>), OpenError> {
+    let (sender, mut receivers) = open(config(capacity), 1, None)?;
     Ok((sender, receivers.remove(0)))
 }
 
 /// Opens a channel each of whose groups gets every item, and gives its first sender, and the first
 /// receiver of each group.
 ///
-/// There are 1 to 8 groups. A receiver is cloned within its group, up to 64 at a time, and those of a
-/// group share the items: each item goes to one of them. A group gets a clone of each item, and the
-/// last one that takes it gets the item itself. An item takes up room until every group has it, so the
-/// slowest group sets the pace. A group that has lost its last receiver holds nobody up: what it would
-/// get is let go.
+/// There are 1 to 8 groups. A receiver is cloned within its group, and those of a group share the items:
+/// each item goes to one of them. A group gets a clone of each item, and the last one that takes it gets
+/// the item itself. An item takes up room until every group has it, so the slowest group sets the pace. A
+/// group that has lost its last receiver holds nobody up: the channel goes on without it.
 ///
 /// ```
 /// let (sender, mut services) = vahepito::groups::<String>(16, 2)?;
@@ -87,29 +82,30 @@ pub fn channel<T: Send>(capacity: usize) -> Result<(Sender<T>, Receiver<T>), Ope
 /// # Ok::<(), Box<dyn std::error::Error>>(())
 /// ```
 ///
-/// Items are `Sync`, since two groups may clone one at the same time. Where a clone panics, that
-/// receiver's call does, and its group has lost the item; the others get theirs.
+/// Items are `Sync`, since two groups may clone one at the same time. If a clone panics, that receiver's
+/// call does, and its group has lost the item; the others get theirs. A send allocates a box, in which the
+/// item lies until the last group has it.
 ///
 /// # Errors
 ///
 /// As of [`channel`], and a number of groups out of its range.
-pub fn groups<T: Clone + Send + Sync>(
+pub fn groups<T: Clone + Sync>(
     capacity: usize,
     groups: usize,
 ) -> Result<(Sender<T>, Vec<Receiver<T>>), OpenError> {
     let groups = groups.try_into().unwrap_or(u32::MAX);
-    open(config(capacity), groups, |count, owners| {
-        Slots::of_groups(count, owners, groups)
-    })
+    open(config(capacity), groups, Some(T::clone))
 }
 
+/// Opens a channel with this configuration. Its groups share items if there is a function that copies
+/// them.
 fn open<T>(
     config: Config,
     groups: u32,
-    slots: impl FnOnce(usize, usize) -> Slots<T>,
+    copies: Option<Copies<T>>,
 ) -> Result<(Sender<T>, Vec<Receiver<T>>), OpenError> {
-    let core = Arc::new(Core::open(config, groups, slots)?);
-    let receiver = |group| Receiver::new(core.clone(), group, 0);
+    let core = Arc::new(Core::open(config, groups, copies)?);
+    let receiver = |group| Receiver::new(core.clone(), group);
     let receivers = (0..groups as usize).map(receiver).collect();
-    Ok((Sender::new(core, 0), receivers))
+    Ok((Sender::new(core), receivers))
 }

@@ -1,39 +1,63 @@
 //! The receivers of a channel.
+use super::body::Parcel;
 use super::core::{Core, NoItem};
 use super::event::{Again, Event, wait};
-use super::future::RecvFuture;
-use super::{CloneError, RecvError, RecvTimeoutError, TryRecvError};
+use super::future::{Handle, RecvFuture};
+use super::{RecvError, RecvTimeoutError, TryRecvError};
 use std::fmt;
 use std::iter::FusedIterator;
 use std::panic::{RefUnwindSafe, UnwindSafe};
-use std::sync::Arc;
+use std::sync::{Arc, Weak};
 use std::time::{Duration, Instant};
+
+/// What all receivers of a group share. It goes with the last of them.
+pub struct Receivers<T> {
+    core: Arc<Core<T>>,
+    group: usize,
+}
+
+impl<T> Drop for Receivers<T> {
+    fn drop(&mut self) {
+        self.core.lose_group(self.group);
+    }
+}
 
 /// A receiver of a channel: see [`channel`](crate::channel()) and [`groups`](crate::groups).
 ///
-/// Its calls take it by `&self`, and threads may share it; but each has its answer sooner with a clone
-/// of its own. The drop of the last receiver closes the channel, and drops the items that are left.
+/// Its calls take it by `&self`, and threads may share it. There may be any number of clones. The drop
+/// of the last receiver closes the channel, and drops the items that are left.
 pub struct Receiver<T> {
+    side: Arc<Receivers<T>>,
+}
+
+/// A receiver that doesn't keep its group: see [`Receiver::downgrade`].
+pub struct WeakReceiver<T> {
+    side: Weak<Receivers<T>>,
     core: Arc<Core<T>>,
     group: usize,
-    seat: usize,
 }
 
 impl<T> UnwindSafe for Receiver<T> {}
 impl<T> RefUnwindSafe for Receiver<T> {}
 
 impl<T> Receiver<T> {
-    pub(super) fn new(core: Arc<Core<T>>, group: usize, seat: usize) -> Receiver<T> {
-        Receiver { core, group, seat }
+    pub(super) fn new(core: Arc<Core<T>>, group: usize) -> Receiver<T> {
+        let side = Arc::new(Receivers { core, group });
+        Receiver { side }
+    }
+
+    #[inline]
+    pub(super) fn core(&self) -> &Core<T> {
+        &self.side.core
     }
 
     /// Where its group waits for items.
     pub(super) fn items(&self) -> &Event {
-        &self.core.groups[self.group].items
+        &self.core().groups[self.side.group].items
     }
 
-    /// Takes an item, if there is one. It doesn't wait for an item, but where another thread serves
-    /// the calls of its group at this moment, for its answer.
+    /// Takes an item, if there is one. It doesn't wait for an item; but if another thread serves the
+    /// calls of its group at this moment, it waits for its answer.
     ///
     /// # Errors
     ///
@@ -52,26 +76,37 @@ impl<T> Receiver<T> {
     /// ```
     #[inline]
     pub fn try_recv(&self) -> Result<T, TryRecvError> {
-        let taken = self.core.try_recv(self.group, self.seat);
-        taken.map_err(|none| match none {
-            NoItem::Empty => TryRecvError::Empty,
-            NoItem::Ended => TryRecvError::Disconnected,
-        })
+        match self.core().try_recv(self.side.group) {
+            Ok(parcel) => Ok(parcel.unpack()),
+            Err(NoItem::Empty) => Err(TryRecvError::Empty),
+            Err(NoItem::Ended) => Err(TryRecvError::Disconnected),
+        }
     }
 
-    /// Tries to take an item. Tells the end of the channel by an answer.
-    pub(super) fn attempt(&self) -> Result<Result<T, RecvError>, Again> {
-        match self.core.try_recv(self.group, self.seat) {
-            Ok(item) => Ok(Ok(item)),
-            Err(NoItem::Ended) => Ok(Err(RecvError)),
+    /// Tries to take an item. Gives None at the end of the channel.
+    #[inline]
+    pub(super) fn attempt(&self) -> Result<Option<Parcel<T>>, Again> {
+        match self.core().try_recv(self.side.group) {
+            Ok(parcel) => Ok(Some(parcel)),
+            Err(NoItem::Ended) => Ok(None),
             Err(NoItem::Empty) => Err(Again::AtARing),
         }
     }
 
     /// Takes an item, and waits for one until this moment.
+    #[inline]
     fn recv_until(&self, until: Option<Instant>) -> Result<T, RecvTimeoutError> {
+        match self.core().try_recv(self.side.group) {
+            Ok(parcel) => Ok(parcel.unpack()),
+            Err(_) => self.wait_for_item(until),
+        }
+    }
+
+    #[inline(never)]
+    fn wait_for_item(&self, until: Option<Instant>) -> Result<T, RecvTimeoutError> {
         match wait(self.items(), until, || self.attempt()) {
-            Some(taken) => taken.map_err(RecvTimeoutError::from),
+            Some(Some(parcel)) => Ok(parcel.unpack()),
+            Some(None) => Err(RecvTimeoutError::Disconnected),
             None => Err(RecvTimeoutError::Timeout),
         }
     }
@@ -139,7 +174,7 @@ impl<T> Receiver<T> {
         self.recv_until(Some(until))
     }
 
-    /// Takes an item, as a future of any runtime. Where it is dropped before it is done, nothing was
+    /// Takes an item, as a future of any runtime. If it is dropped before it is done, nothing was
     /// taken.
     ///
     /// ```
@@ -152,7 +187,12 @@ impl<T> Receiver<T> {
     /// }
     /// ```
     pub fn recv_async(&self) -> RecvFuture<'_, T> {
-        RecvFuture::new(self)
+        RecvFuture::new(Handle::Borrowed(self))
+    }
+
+    /// The same, as a future that has the receiver.
+    pub fn into_recv_async(self) -> RecvFuture<'static, T> {
+        RecvFuture::new(Handle::Owned(self))
     }
 
     /// Takes items until the end, by [`recv`](Receiver::recv).
@@ -180,25 +220,28 @@ impl<T> Receiver<T> {
         TryIter { receiver: self }
     }
 
-    /// A further receiver of its group.
-    ///
-    /// # Errors
-    ///
-    /// 64 receivers of the group are open.
+    /// A receiver that doesn't keep its group, or the channel, from being lost.
     ///
     /// ```
-    /// let (sender, receiver) = vahepito::channel(2)?;
-    /// let other = receiver.try_clone().expect("it is the second one");
-    /// sender.send(1).unwrap();
-    /// sender.send(2).unwrap();
-    /// // Each item goes to one of them.
-    /// assert_eq!((other.recv(), receiver.recv()), (Ok(1), Ok(2)));
+    /// let (sender, receiver) = vahepito::channel(1)?;
+    /// let weak = receiver.downgrade();
+    /// sender.send('a').unwrap();
+    /// assert_eq!(weak.upgrade().expect("there is one").recv(), Ok('a'));
+    /// drop(receiver);
+    /// assert!(weak.upgrade().is_none() && sender.is_closed());
     /// # Ok::<(), vahepito::OpenError>(())
     /// ```
-    pub fn try_clone(&self) -> Result<Receiver<T>, CloneError> {
-        let seat = self.core.add_receiver(self.group);
-        let seat = seat.ok_or(CloneError::Receivers)?;
-        Ok(Receiver::new(self.core.clone(), self.group, seat))
+    pub fn downgrade(&self) -> WeakReceiver<T> {
+        WeakReceiver {
+            side: Arc::downgrade(&self.side),
+            core: self.side.core.clone(),
+            group: self.side.group,
+        }
+    }
+
+    /// How many receivers its group has.
+    pub fn receiver_count(&self) -> usize {
+        Arc::strong_count(&self.side)
     }
 
     /// Closes the channel, as [`Sender::close`](crate::Sender::close): what was sent before can still
@@ -213,18 +256,18 @@ impl<T> Receiver<T> {
     /// # Ok::<(), vahepito::OpenError>(())
     /// ```
     pub fn close(&self) -> bool {
-        self.core.close()
+        self.core().close()
     }
 
     /// Whether the channel is closed: by a call, or since all senders or all receivers are gone. It may
     /// still hold items.
     pub fn is_closed(&self) -> bool {
-        self.core.is_closed()
+        self.core().is_closed()
     }
 
     /// Its group, from 1. A channel of [`channel`](crate::channel()) has one.
     pub fn group(&self) -> usize {
-        self.group + 1
+        self.side.group + 1
     }
 
     /// How many items its group hasn't taken. While others send and take it is near the number.
@@ -237,7 +280,7 @@ impl<T> Receiver<T> {
     /// # Ok::<(), vahepito::OpenError>(())
     /// ```
     pub fn len(&self) -> usize {
-        self.core.len_of(self.group)
+        self.core().len_of(self.side.group)
     }
 
     /// Whether its group has taken all items.
@@ -247,32 +290,53 @@ impl<T> Receiver<T> {
 
     /// Whether its group hasn't taken as many items as the channel may hold.
     pub fn is_full(&self) -> bool {
-        self.len() == self.core.capacity()
+        self.len() == self.core().capacity()
     }
 
     /// How many items the channel may hold. Every channel has a bound.
     pub fn capacity(&self) -> Option<usize> {
-        Some(self.core.capacity())
+        Some(self.core().capacity())
     }
 
     /// Whether both are receivers of one channel.
     pub fn same_channel(&self, other: &Receiver<T>) -> bool {
-        Arc::ptr_eq(&self.core, &other.core)
+        std::ptr::eq(self.core(), other.core())
     }
 }
 
-/// # Panics
-///
-/// 64 receivers of the group are open: [`try_clone`](Receiver::try_clone) tells that by an error.
+/// A further receiver of its group.
 impl<T> Clone for Receiver<T> {
     fn clone(&self) -> Receiver<T> {
-        self.try_clone().unwrap_or_else(|error| panic!("{error}"))
+        let side = self.side.clone();
+        Receiver { side }
     }
 }
 
-impl<T> Drop for Receiver<T> {
-    fn drop(&mut self) {
-        self.core.drop_receiver(self.group, self.seat);
+impl<T> WeakReceiver<T> {
+    /// A receiver of its group, if there is one still.
+    pub fn upgrade(&self) -> Option<Receiver<T>> {
+        let Some(side) = self.side.upgrade() else {
+            // The last one may be on its way.
+            self.core.until(|core| core.is_gone(self.group));
+            return None;
+        };
+        Some(Receiver { side })
+    }
+}
+
+impl<T> Clone for WeakReceiver<T> {
+    fn clone(&self) -> WeakReceiver<T> {
+        WeakReceiver {
+            side: self.side.clone(),
+            core: self.core.clone(),
+            group: self.group,
+        }
+    }
+}
+
+impl<T> fmt::Debug for WeakReceiver<T> {
+    fn fmt(&self, f: &mut fmt::Formatter<'_>) -> fmt::Result {
+        f.pad("WeakReceiver { .. }")
     }
 }
 

@@ -1,37 +1,59 @@
 //! The senders of a channel.
+use super::body::Parcel;
 use super::core::{Core, Refusal};
 use super::event::{Again, wait};
-use super::future::SendFuture;
-use super::{CloneError, SendError, SendTimeoutError, TrySendError};
+use super::future::{Handle, SendFuture};
+use super::{SendError, SendTimeoutError, TrySendError};
 use std::fmt;
 use std::panic::{RefUnwindSafe, UnwindSafe};
-use std::sync::Arc;
+use std::sync::{Arc, Weak};
 use std::time::{Duration, Instant};
+
+/// What all senders of a channel share. It goes with the last of them.
+pub struct Senders<T> {
+    core: Arc<Core<T>>,
+}
+
+impl<T> Drop for Senders<T> {
+    fn drop(&mut self) {
+        self.core.lose_senders();
+    }
+}
 
 /// A sender of a channel: see [`channel`](crate::channel()).
 ///
-/// Its calls take it by `&self`, and threads may share it; but each has its answer sooner with a clone
-/// of its own. The drop of the last sender closes the channel.
+/// Its calls take it by `&self`, and threads may share it. There may be any number of clones. The drop
+/// of the last sender closes the channel.
 pub struct Sender<T> {
+    side: Arc<Senders<T>>,
+}
+
+/// A sender that doesn't keep the channel open: see [`Sender::downgrade`].
+pub struct WeakSender<T> {
+    side: Weak<Senders<T>>,
     core: Arc<Core<T>>,
-    seat: usize,
 }
 
 impl<T> UnwindSafe for Sender<T> {}
 impl<T> RefUnwindSafe for Sender<T> {}
 
 impl<T> Sender<T> {
-    pub(super) fn new(core: Arc<Core<T>>, seat: usize) -> Sender<T> {
-        Sender { core, seat }
+    pub(super) fn new(core: Arc<Core<T>>) -> Sender<T> {
+        let side = Arc::new(Senders { core });
+        Sender { side }
     }
 
+    #[inline]
     pub(super) fn core(&self) -> &Core<T> {
-        &self.core
+        &self.side.core
     }
 
-    /// Sends, if there is room. It doesn't wait for room, but where another thread serves the calls
-    /// of all senders at this moment, for its answer; and where there is no room, it may wait for the
-    /// end of a call that a receiver makes at this moment, but not of one that waits for an item.
+    pub(super) fn pack(&self, item: T) -> Parcel<T> {
+        Parcel::pack(item, self.core().copies())
+    }
+
+    /// Sends, if there is room. It doesn't wait for room; but if another thread serves the calls of
+    /// all senders at this moment, it waits for its answer.
     ///
     /// # Errors
     ///
@@ -49,38 +71,45 @@ impl<T> Sender<T> {
     /// ```
     #[inline]
     pub fn try_send(&self, item: T) -> Result<(), TrySendError<T>> {
-        let sent = self.core.try_send(self.seat, item);
-        sent.map_err(|(refusal, item)| match refusal {
-            Refusal::Closed => TrySendError::Disconnected(item),
-            Refusal::Full | Refusal::NoMemory => TrySendError::Full(item),
-        })
+        let parcel = self.pack(item);
+        match self.core().try_send(&parcel) {
+            Ok(()) => parcel.sent(),
+            Err(Refusal::Closed) => Err(TrySendError::Disconnected(parcel.unpack())),
+            Err(_) => Err(TrySendError::Full(parcel.unpack())),
+        }
     }
 
-    /// Tries to send the item, which is there as long as it isn't sent. Tells an end of the channel
-    /// by `Err`.
-    pub(super) fn attempt(&self, item: &mut Option<T>) -> Result<Result<(), SendError<T>>, Again> {
-        let sends = item.take().expect("the item isn't sent yet");
-        let Err((refusal, back)) = self.core.try_send(self.seat, sends) else {
-            return Ok(Ok(()));
-        };
-        match refusal {
-            Refusal::Closed => return Ok(Err(SendError(back))),
-            Refusal::Full | Refusal::NoMemory => *item = Some(back),
+    /// Tries to send. Returns whether the item is sent; if not, the channel is closed.
+    #[inline]
+    pub(super) fn attempt(&self, parcel: &Parcel<T>) -> Result<bool, Again> {
+        match self.core().try_send(parcel) {
+            Ok(()) => Ok(true),
+            Err(Refusal::Closed) => Ok(false),
+            Err(Refusal::Full) => Err(Again::AtARing),
+            Err(Refusal::NoMemory) => Err(Again::Soon),
         }
-        Err(match refusal {
-            Refusal::NoMemory => Again::Soon,
-            _ => Again::AtARing,
-        })
     }
 
     /// Sends, and waits for room until this moment.
+    #[inline]
     fn send_until(&self, item: T, until: Option<Instant>) -> Result<(), SendTimeoutError<T>> {
-        let mut item = Some(item);
-        match wait(&self.core.room, until, || self.attempt(&mut item)) {
-            Some(sent) => sent.map_err(SendTimeoutError::from),
-            None => Err(SendTimeoutError::Timeout(
-                item.expect("the item isn't sent yet"),
-            )),
+        let parcel = self.pack(item);
+        match self.core().try_send(&parcel) {
+            Ok(()) => parcel.sent(),
+            Err(_) => self.wait_for_room(parcel, until),
+        }
+    }
+
+    #[inline(never)]
+    fn wait_for_room(
+        &self,
+        parcel: Parcel<T>,
+        until: Option<Instant>,
+    ) -> Result<(), SendTimeoutError<T>> {
+        match wait(&self.core().room, until, || self.attempt(&parcel)) {
+            Some(true) => parcel.sent(),
+            Some(false) => Err(SendTimeoutError::Disconnected(parcel.unpack())),
+            None => Err(SendTimeoutError::Timeout(parcel.unpack())),
         }
     }
 
@@ -142,7 +171,7 @@ impl<T> Sender<T> {
         self.send_until(item, Some(until))
     }
 
-    /// Sends, as a future of any runtime. Where it is dropped before it is done, the item wasn't sent,
+    /// Sends, as a future of any runtime. If it is dropped before it is done, the item wasn't sent,
     /// and is dropped with it.
     ///
     /// ```
@@ -156,26 +185,34 @@ impl<T> Sender<T> {
     /// }
     /// ```
     pub fn send_async(&self, item: T) -> SendFuture<'_, T> {
-        SendFuture::new(self, item)
+        SendFuture::new(Handle::Borrowed(self), item)
     }
 
-    /// A further sender of the channel.
-    ///
-    /// # Errors
-    ///
-    /// 64 senders are open.
+    /// The same, as a future that has the sender.
+    pub fn into_send_async(self, item: T) -> SendFuture<'static, T> {
+        SendFuture::new(Handle::Owned(self), item)
+    }
+
+    /// A sender that doesn't keep the channel open.
     ///
     /// ```
     /// let (sender, receiver) = vahepito::channel(1)?;
-    /// let other = sender.try_clone().expect("it is the second one");
-    /// drop(sender); // the channel stays open
-    /// other.send('a').unwrap();
-    /// assert_eq!(receiver.recv(), Ok('a'));
+    /// let weak = sender.downgrade();
+    /// weak.upgrade().expect("the channel is open").send('a').unwrap();
+    /// drop(sender);
+    /// assert!(weak.upgrade().is_none());
+    /// assert!(receiver.iter().eq(['a']));
     /// # Ok::<(), vahepito::OpenError>(())
     /// ```
-    pub fn try_clone(&self) -> Result<Sender<T>, CloneError> {
-        let seat = self.core.add_sender().ok_or(CloneError::Senders)?;
-        Ok(Sender::new(self.core.clone(), seat))
+    pub fn downgrade(&self) -> WeakSender<T> {
+        let side = Arc::downgrade(&self.side);
+        let core = self.side.core.clone();
+        WeakSender { side, core }
+    }
+
+    /// How many senders the channel has.
+    pub fn sender_count(&self) -> usize {
+        Arc::strong_count(&self.side)
     }
 
     /// Closes the channel: nothing is sent after it, and the receivers see the end once they have what
@@ -191,12 +228,12 @@ impl<T> Sender<T> {
     /// # Ok::<(), vahepito::OpenError>(())
     /// ```
     pub fn close(&self) -> bool {
-        self.core.close()
+        self.core().close()
     }
 
     /// Whether the channel is closed: by a call, or since all senders or all receivers are gone.
     pub fn is_closed(&self) -> bool {
-        self.core.is_closed()
+        self.core().is_closed()
     }
 
     /// How many items the channel holds: those that some group hasn't taken. While others send and take
@@ -212,7 +249,7 @@ impl<T> Sender<T> {
     /// # Ok::<(), vahepito::OpenError>(())
     /// ```
     pub fn len(&self) -> usize {
-        self.core.len()
+        self.core().len()
     }
 
     /// Whether the channel holds no item.
@@ -222,37 +259,54 @@ impl<T> Sender<T> {
 
     /// Whether the channel holds as many items as it may.
     pub fn is_full(&self) -> bool {
-        self.len() == self.core.capacity()
+        self.len() == self.core().capacity()
     }
 
     /// How many items the channel may hold. Every channel has a bound.
     pub fn capacity(&self) -> Option<usize> {
-        Some(self.core.capacity())
+        Some(self.core().capacity())
     }
 
     /// Whether both are senders of one channel.
     pub fn same_channel(&self, other: &Sender<T>) -> bool {
-        Arc::ptr_eq(&self.core, &other.core)
+        Arc::ptr_eq(&self.side, &other.side)
     }
 }
 
-/// # Panics
-///
-/// 64 senders are open: [`try_clone`](Sender::try_clone) tells that by an error.
 impl<T> Clone for Sender<T> {
     fn clone(&self) -> Sender<T> {
-        self.try_clone().unwrap_or_else(|error| panic!("{error}"))
+        let side = self.side.clone();
+        Sender { side }
     }
 }
 
-impl<T> Drop for Sender<T> {
-    fn drop(&mut self) {
-        self.core.drop_sender(self.seat);
+impl<T> WeakSender<T> {
+    /// A sender, if there is one still.
+    pub fn upgrade(&self) -> Option<Sender<T>> {
+        let Some(side) = self.side.upgrade() else {
+            // The last one may be on its way.
+            self.core.until(Core::is_closed);
+            return None;
+        };
+        Some(Sender { side })
+    }
+}
+
+impl<T> Clone for WeakSender<T> {
+    fn clone(&self) -> WeakSender<T> {
+        let (side, core) = (self.side.clone(), self.core.clone());
+        WeakSender { side, core }
     }
 }
 
 impl<T> fmt::Debug for Sender<T> {
     fn fmt(&self, f: &mut fmt::Formatter<'_>) -> fmt::Result {
         f.pad("Sender { .. }")
+    }
+}
+
+impl<T> fmt::Debug for WeakSender<T> {
+    fn fmt(&self, f: &mut fmt::Formatter<'_>) -> fmt::Result {
+        f.pad("WeakSender { .. }")
     }
 }

@@ -1,6 +1,5 @@
 //! A channel has no end: its queues accept a few items, and its senders begin a few sends.
 use super::rounds::rounds;
-use super::slots::Slots;
 use super::*;
 use std::collections::BTreeMap;
 use std::sync::Mutex;
@@ -14,7 +13,7 @@ fn short<T: Send>(capacity: usize, life: u64, per_sender: u32) -> (Sender<T>, Re
         per_sender,
         ..config(capacity)
     };
-    let (sender, mut receivers) = open(config, 1, Slots::of_one_group).unwrap();
+    let (sender, mut receivers) = open(config, 1, None).unwrap();
     (sender, receivers.remove(0))
 }
 
@@ -114,8 +113,7 @@ fn groups_meet_no_end() {
         per_sender: 2,
         ..config(2)
     };
-    let slots = |count, owners| Slots::of_groups(count, owners, 2);
-    let (sender, receivers) = open::<String>(config, 2, slots).unwrap();
+    let (sender, receivers) = open::<String>(config, 2, Some(String::clone)).unwrap();
     let taken: Vec<Vec<String>> = thread::scope(|scope| {
         let taking = receivers
             .into_iter()

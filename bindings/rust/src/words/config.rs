@@ -1,6 +1,6 @@
 //! What a queue is opened with, and its opening.
 use crate::words::begun::Begun;
-use crate::words::handle::{self, Handle, code, unexpected};
+use crate::words::handle;
 use crate::words::{Item, ItemForm, OpenError, Receiver, Sender, WordsItem};
 use std::sync::Arc;
 use std::sync::atomic::{AtomicUsize, Ordering};
@@ -67,33 +67,6 @@ impl Left {
     pub fn has_lost_a_group(&self) -> bool {
         let gone = |left: &AtomicUsize| left.load(Ordering::Acquire) == 0;
         self.receivers.iter().any(gone)
-    }
-}
-
-/// Handles for so many groups of so many passes.
-fn empty_handles(groups: u32, in_each: u32) -> Vec<Handle> {
-    // Numbers that are refused below take no memory.
-    let count = if groups <= 8 && in_each <= 64 {
-        groups * in_each
-    } else {
-        0
-    };
-    (0..count).map(|_| Handle::empty()).collect()
-}
-
-fn told(code: u32) -> Result<(), OpenError> {
-    match code {
-        code::DONE => Ok(()),
-        code::BAD_SENDERS => Err(OpenError::Senders),
-        code::BAD_RECEIVERS => Err(OpenError::Receivers),
-        code::BAD_CAPACITY => Err(OpenError::Capacity),
-        code::BAD_BOUND => Err(OpenError::Bound),
-        code::BAD_LIFE => Err(OpenError::Life),
-        code::BAD_PER_SENDER => Err(OpenError::PerSender),
-        code::BAD_GROUPS => Err(OpenError::Groups),
-        code::BAD_WORDS => Err(OpenError::Words),
-        code::NO_MEMORY => Err(OpenError::NoMemory),
-        code => unexpected(code),
     }
 }
 
@@ -187,11 +160,7 @@ pub fn open_words(config: Config, groups: u32, words: u32) -> Result<Opened<Word
 
 /// Opens a queue whose receivers give items of this form, which have room for so many words.
 fn open_all<I: ItemForm>(config: Config, groups: u32, words: u32) -> Result<Opened<I>, OpenError> {
-    handle::check_library()?;
-    let mut senders = empty_handles(1, config.senders);
-    let mut receivers = empty_handles(groups, config.receivers);
-    let code = handle::open(&config, groups, words, &mut senders, &mut receivers);
-    told(code)?;
+    let (senders, receivers) = handle::open(&config, groups, words)?;
     let in_each = config.receivers as usize;
     let left = Arc::new(Left {
         senders: AtomicUsize::new(senders.len()),
@@ -211,16 +180,4 @@ fn open_all<I: ItemForm>(config: Config, groups: u32, words: u32) -> Result<Open
         .map(|_| receivers.by_ref().take(in_each).collect())
         .collect();
     Ok((senders, groups))
-}
-
-#[cfg(test)]
-mod tests {
-    use super::*;
-
-    /// The other codes of an opening are shown by `tests/answers.rs` and `groups.rs`, this one's
-    /// cause by `bindings/c/memory.c`.
-    #[test]
-    fn want_of_memory_is_told() {
-        assert_eq!(told(code::NO_MEMORY), Err(OpenError::NoMemory));
-    }
 }

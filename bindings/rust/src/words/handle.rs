@@ -1,10 +1,11 @@
 //! The exports of the proved library, as `bindings/c/vahepito.h` declares them, and a handle that
-//! keeps what they ask for. All unsafe code of this crate is here.
+//! keeps what they ask for. No other file calls them.
 #![allow(unsafe_code)]
 
+use crate::words::backoff::turn_until;
 use crate::words::{Config, Item, OpenError, WordsItem};
 use std::ffi::c_void;
-use std::mem::{offset_of, size_of};
+use std::mem::{MaybeUninit, offset_of, size_of};
 use std::ptr::{null_mut, read_volatile};
 
 /// What a call tells, by the header's names.
@@ -58,7 +59,7 @@ const _: () = {
     assert!(size_of::<Item>() == 24);
     assert!(offset_of!(Item, place) == 0 && offset_of!(Item, sender) == 8);
     assert!(offset_of!(Item, number) == 12 && offset_of!(Item, body) == 16);
-    assert!(WordsItem::IS_LAID_OUT);
+    assert!(WordsItem::IS_LAID_OUT && size_of::<RawItem>() == size_of::<WordsItem>());
 };
 
 /// The version that this crate is for, as the library tells its own: this crate's own version.
@@ -94,7 +95,12 @@ unsafe extern "C" {
     fn vahepito_begin_send(sender: &mut Pass, body: u64) -> u32;
     fn vahepito_begin_send_words(sender: &mut Pass, words: *const u64, count: usize) -> u32;
     fn vahepito_turn_send(sender: &mut Pass, place: &mut u64, served: &mut u32) -> u32;
-    fn vahepito_try_send(sender: &mut Pass, body: u64, place: &mut u64, served: &mut u32) -> u32;
+    fn vahepito_try_send(
+        sender: &mut Pass,
+        body: MaybeUninit<u64>,
+        place: &mut u64,
+        served: &mut u32,
+    ) -> u32;
     fn vahepito_try_send_words(
         sender: &mut Pass,
         words: *const u64,
@@ -108,25 +114,25 @@ unsafe extern "C" {
     fn vahepito_begin_take(receiver: &mut Pass) -> u32;
     fn vahepito_turn_take(
         receiver: &mut Pass,
-        item: &mut Item,
+        item: *mut Item,
         total: &mut u64,
         served: &mut u32,
     ) -> u32;
     fn vahepito_try_take(
         receiver: &mut Pass,
-        item: &mut Item,
+        item: *mut Item,
         total: &mut u64,
         served: &mut u32,
     ) -> u32;
     fn vahepito_turn_take_words(
         receiver: &mut Pass,
-        item: &mut WordsItem,
+        item: *mut WordsItem,
         total: &mut u64,
         served: &mut u32,
     ) -> u32;
     fn vahepito_try_take_words(
         receiver: &mut Pass,
-        item: &mut WordsItem,
+        item: *mut WordsItem,
         total: &mut u64,
         served: &mut u32,
     ) -> u32;
@@ -199,6 +205,24 @@ pub trait TakeCalls: Copy {
     fn try_take(handle: &mut Handle, item: &mut Self, total: &mut u64, served: &mut u32) -> u32;
 }
 
+/// The words of a body, of which some may not be used. Those of an item may have bytes that nobody wrote.
+pub type Words = [MaybeUninit<u64>; 4];
+
+/// Words before those of the body, in the type of an item with several words; one fewer has that of an
+/// item with one word.
+const FIELDS: usize = 3;
+
+/// Room for an item of either type, by words.
+type RawItem = [MaybeUninit<u64>; FIELDS + 4];
+
+/// Turns a call until it is answered, if this first code says that it waits.
+fn answer(first: u32, turn: &mut dyn FnMut() -> u32) -> u32 {
+    match first {
+        code::WAITING => turn_until(|_| Some(turn()).filter(|&code| code != code::WAITING)),
+        code => code,
+    }
+}
+
 /// A field of an item that the library has just written, read by itself: what reads two fields at once
 /// waits until both are written.
 #[inline]
@@ -228,7 +252,7 @@ impl SendCalls for u64 {
 
     #[inline]
     fn try_send(self, handle: &mut Handle, place: &mut u64, served: &mut u32) -> u32 {
-        unsafe { vahepito_try_send(&mut handle.0, self, place, served) }
+        unsafe { vahepito_try_send(&mut handle.0, MaybeUninit::new(self), place, served) }
     }
 }
 
@@ -384,6 +408,91 @@ impl Handle {
         })
     }
 
+    /// Sends these words, of which there are so many, and waits for the answer. If they aren't accepted,
+    /// it gives the code: FULL, CLOSED, SPENT or WORN.
+    #[inline]
+    pub fn send(&mut self, words: &Words, count: usize) -> Result<(), u32> {
+        let (mut place, mut served) = (0, 0);
+        let code = match count {
+            1 => unsafe { vahepito_try_send(&mut self.0, words[0], &mut place, &mut served) },
+            _ => unsafe {
+                let words = words.as_ptr().cast();
+                vahepito_try_send_words(&mut self.0, words, count, &mut place, &mut served)
+            },
+        };
+        match code {
+            code::ACCEPTED => Ok(()),
+            code => self.go_on_sending(code),
+        }
+    }
+
+    #[inline(never)]
+    fn go_on_sending(&mut self, first: u32) -> Result<(), u32> {
+        let mut turn = || self.turn_send().code;
+        match answer(first, &mut turn) {
+            code::ACCEPTED => Ok(()),
+            told @ (code::FULL | code::CLOSED | code::SPENT | code::WORN) => Err(told),
+            told => unexpected(told),
+        }
+    }
+
+    /// Takes the words of an item, of which there are so many, and waits for the answer. If there is no
+    /// item, it gives the code: EMPTY or ENDED.
+    #[inline]
+    pub fn take(&mut self, count: usize) -> Result<Words, u32> {
+        let mut item = [MaybeUninit::new(0); FIELDS + 4];
+        let (mut total, mut served) = (0, 0);
+        let (at, first) = (
+            item.as_mut_ptr(),
+            if count == 1 { FIELDS - 1 } else { FIELDS },
+        );
+        let code = match count {
+            1 => unsafe { vahepito_try_take(&mut self.0, at.cast(), &mut total, &mut served) },
+            _ => unsafe {
+                vahepito_try_take_words(&mut self.0, at.cast(), &mut total, &mut served)
+            },
+        };
+        if code != code::GOT {
+            self.go_on_taking(code, count, &mut item)?;
+        }
+        let mut words = [MaybeUninit::uninit(); 4];
+        for (word, at) in words.iter_mut().zip(&item[first..]).take(count) {
+            *word = field(at);
+        }
+        Ok(words)
+    }
+
+    #[inline(never)]
+    fn go_on_taking(&mut self, first: u32, count: usize, item: &mut RawItem) -> Result<(), u32> {
+        let (mut total, mut served, at) = (0, 0, item.as_mut_ptr());
+        let mut turn = || match count {
+            1 => unsafe { vahepito_turn_take(&mut self.0, at.cast(), &mut total, &mut served) },
+            _ => unsafe {
+                vahepito_turn_take_words(&mut self.0, at.cast(), &mut total, &mut served)
+            },
+        };
+        match answer(first, &mut turn) {
+            code::GOT => Ok(()),
+            told @ (code::EMPTY | code::ENDED) => Err(told),
+            told => unexpected(told),
+        }
+    }
+
+    /// Closes the queue. Returns whether it was open.
+    pub fn close(&mut self) -> bool {
+        let begun = self.begin_close();
+        let first = if begun == code::BEGUN {
+            code::WAITING
+        } else {
+            begun
+        };
+        match answer(first, &mut || self.turn_close().code) {
+            code::SHUT => true,
+            code::ALREADY => false,
+            told => unexpected(told),
+        }
+    }
+
     /// The code, and the group where that is DONE.
     pub fn group(&mut self) -> (u32, u32) {
         let mut group = 0;
@@ -418,16 +527,44 @@ pub fn check_library() -> Result<(), OpenError> {
     })
 }
 
-/// Fills the handles, all of which are empty.
+/// Handles for so many groups of so many passes.
+fn empty_handles(groups: u32, in_each: u32) -> Vec<Handle> {
+    // Numbers that the library refuses take no memory.
+    let count = if groups <= 8 && in_each <= 64 {
+        groups * in_each
+    } else {
+        0
+    };
+    (0..count).map(|_| Handle::empty()).collect()
+}
+
+fn told(code: u32) -> Result<(), OpenError> {
+    match code {
+        code::DONE => Ok(()),
+        code::BAD_SENDERS => Err(OpenError::Senders),
+        code::BAD_RECEIVERS => Err(OpenError::Receivers),
+        code::BAD_CAPACITY => Err(OpenError::Capacity),
+        code::BAD_BOUND => Err(OpenError::Bound),
+        code::BAD_LIFE => Err(OpenError::Life),
+        code::BAD_PER_SENDER => Err(OpenError::PerSender),
+        code::BAD_GROUPS => Err(OpenError::Groups),
+        code::BAD_WORDS => Err(OpenError::Words),
+        code::NO_MEMORY => Err(OpenError::NoMemory),
+        code => unexpected(code),
+    }
+}
+
+/// Opens a queue, and gives the handles of its senders, and those of its receivers group by group.
 pub fn open(
     config: &Config,
     groups: u32,
     words: u32,
-    senders: &mut [Handle],
-    receivers: &mut [Handle],
-) -> u32 {
-    // SAFETY: the pointers and counts are those of two slices, and the handles of both are empty.
-    unsafe {
+) -> Result<(Vec<Handle>, Vec<Handle>), OpenError> {
+    check_library()?;
+    let mut senders = empty_handles(1, config.senders);
+    let mut receivers = empty_handles(groups, config.receivers);
+    // SAFETY: the pointers and counts are those of two lists, and the handles of both are empty.
+    let code = unsafe {
         vahepito_open_words(
             config,
             groups,
@@ -437,8 +574,40 @@ pub fn open(
             receivers.as_mut_ptr(),
             receivers.len(),
         )
+    };
+    told(code)?;
+    Ok((senders, receivers))
+}
+
+/// What the thread sanitizer is told, as the library isn't built for it: what is done before a send on
+/// this channel comes before what is done after a take.
+#[cfg(vahepito_tsan)]
+mod sanitizer {
+    use std::ffi::c_void;
+
+    unsafe extern "C" {
+        fn __tsan_release(at: *mut c_void);
+        fn __tsan_acquire(at: *mut c_void);
+    }
+
+    pub fn hands_over<C>(channel: &C) {
+        // SAFETY: the address is a name, and nothing is read there.
+        unsafe { __tsan_release((channel as *const C).cast_mut().cast()) }
+    }
+
+    pub fn has_taken<C>(channel: &C) {
+        // SAFETY: as above.
+        unsafe { __tsan_acquire((channel as *const C).cast_mut().cast()) }
     }
 }
+
+#[cfg(not(vahepito_tsan))]
+mod sanitizer {
+    pub fn hands_over<C>(_: &C) {}
+    pub fn has_taken<C>(_: &C) {}
+}
+
+pub use sanitizer::{hands_over, has_taken};
 
 #[cfg(test)]
 mod tests {
@@ -507,6 +676,13 @@ mod tests {
         let mut lines = HEADER.lines();
         let version = lines.find_map(|line| line.strip_prefix("#define VAHEPITO_VERSION "));
         assert_eq!(version, Some(VERSION.to_string().as_str()));
+    }
+
+    /// The other codes of an opening are shown by `tests/answers.rs` and `groups.rs`, this one's
+    /// cause by `bindings/c/memory.c`.
+    #[test]
+    fn want_of_memory_is_told() {
+        assert_eq!(super::told(NO_MEMORY), Err(super::OpenError::NoMemory));
     }
 
     #[test]

@@ -6,7 +6,7 @@ pub(crate) mod backoff;
 mod begun;
 mod config;
 mod error;
-mod handle;
+pub(crate) mod handle;
 mod item;
 mod receiver;
 mod sender;
@@ -16,8 +16,6 @@ pub use error::{OpenError, RecvError, SendError, TryRecvError, TrySendError, Wor
 pub use item::{Item, ItemForm, WordsItem};
 pub use receiver::{IntoIter, Iter, PendingRecv, Receiver, TryIter};
 pub use sender::{Closed, PendingClose, PendingSend, Sender};
-
-pub(crate) use handle::{Taken, Told};
 
 /// What one turn of a guard told.
 #[derive(Debug)]

@@ -1,0 +1,177 @@
+//! The seats of one side. A seat has a pass of the queue; a call takes a free seat, makes one call of
+//! the pass, and gives the seat back. So there may be any number of handles.
+//!
+//! To take a seat is one exchange, and to give it back one store, after which the line is looked at. A
+//! caller that finds none free tries a few times more, and then parks: see [`event`](super::event).
+#![allow(unsafe_code)]
+
+use super::event::{Again, Event, wait};
+use crate::words::backoff::Backoff;
+use crate::words::handle::Handle;
+use std::cell::{Cell, UnsafeCell};
+use std::sync::OnceLock;
+use std::sync::atomic::{AtomicBool, AtomicU64, AtomicUsize, Ordering};
+use std::thread::available_parallelism;
+
+/// The passes of a side are no more than these.
+const MOST: usize = 64;
+
+/// How many seats a side has: twice as many as processors, as a power of two.
+pub fn seats() -> usize {
+    static SEATS: OnceLock<usize> = OnceLock::new();
+    *SEATS.get_or_init(|| {
+        let processors = available_parallelism().map_or(1, usize::from);
+        (2 * processors).next_power_of_two().min(MOST)
+    })
+}
+
+/// A pass, and which of the channel's queues it is of.
+pub struct Pass {
+    pub handle: Handle,
+    pub queue: u64,
+}
+
+/// A line of the cache for itself, and the one that is fetched with it.
+#[repr(align(128))]
+struct Seat {
+    taken: AtomicBool,
+    /// How many items went through it. The holder alone writes it.
+    count: AtomicU64,
+    pass: UnsafeCell<Pass>,
+}
+
+// SAFETY: `pass` is reached by the holder of the seat alone ([`Held`]), and there is one at a time:
+// whoever sets `taken` from false to true, until it is set back. Threads so have the pass one after
+// another, each with what the one before it did, by an acquire and a release; which is to send it from
+// one to the next, and `Pass` is `Send`.
+unsafe impl Sync for Seat {}
+
+const _: fn() = || {
+    fn sends<T: Send>() {}
+    sends::<Pass>();
+};
+
+pub struct Pool {
+    /// A power of two.
+    seats: Box<[Seat]>,
+    /// Where callers wait for a free seat.
+    free: Event,
+}
+
+/// A seat that is taken, until the drop.
+pub struct Held<'a> {
+    pool: &'a Pool,
+    seat: &'a Seat,
+}
+
+impl Held<'_> {
+    #[inline]
+    pub fn pass(&mut self) -> &mut Pass {
+        // SAFETY: this is the holder of the seat, so there is no other reference to its pass; and this
+        // one lasts no longer than the borrow of `self`, which gives the seat back at its drop.
+        unsafe { &mut *self.seat.pass.get() }
+    }
+
+    /// Counts an item that went through the seat.
+    #[inline]
+    pub fn count_one(&mut self) {
+        let count = self.seat.count.load(Ordering::Relaxed);
+        self.seat.count.store(count + 1, Ordering::Release);
+    }
+}
+
+impl Drop for Held<'_> {
+    #[inline]
+    fn drop(&mut self) {
+        self.seat.taken.store(false, Ordering::Release);
+        self.pool.free.ring();
+    }
+}
+
+thread_local! {
+    /// Which seat this thread tries first, of each pool.
+    static HINT: Cell<usize> = const { Cell::new(usize::MAX) };
+}
+
+/// The hint of a thread that has none: threads begin at different seats.
+#[cold]
+fn first_hint() -> usize {
+    static NEXT: AtomicUsize = AtomicUsize::new(0);
+    let hint = NEXT.fetch_add(1, Ordering::Relaxed) % MOST;
+    HINT.set(hint);
+    hint
+}
+
+impl Pool {
+    /// With a seat for each of these handles, whose number is a power of two.
+    pub fn new(handles: Vec<Handle>) -> Pool {
+        debug_assert!(handles.len().is_power_of_two());
+        let seat = |handle| Seat {
+            taken: AtomicBool::new(false),
+            count: AtomicU64::new(0),
+            pass: UnsafeCell::new(Pass { handle, queue: 0 }),
+        };
+        Pool {
+            seats: handles.into_iter().map(seat).collect(),
+            free: Event::new(),
+        }
+    }
+
+    /// How many items went through all seats.
+    #[inline]
+    pub fn count(&self) -> u64 {
+        let counts = self.seats.iter().map(|it| it.count.load(Ordering::Acquire));
+        counts.sum()
+    }
+
+    /// Takes the seat at this place, if it is free.
+    #[inline]
+    fn try_take(&self, at: usize) -> Option<Held<'_>> {
+        let seat = &self.seats[at & (self.seats.len() - 1)];
+        let taken = seat.taken.swap(true, Ordering::Acquire);
+        (!taken).then(|| Held { pool: self, seat })
+    }
+
+    /// Takes a free seat, and waits for one.
+    #[inline]
+    pub fn take(&self) -> Held<'_> {
+        let hint = HINT.get();
+        if hint != usize::MAX
+            && let Some(held) = self.try_take(hint)
+        {
+            return held;
+        }
+        self.take_another()
+    }
+
+    #[cold]
+    fn take_another(&self) -> Held<'_> {
+        let hint = match HINT.get() {
+            usize::MAX => first_hint(),
+            hint => hint,
+        };
+        let first_free = || {
+            let mut places = hint..hint + self.seats.len();
+            let found = places.find_map(|at| Some((at, self.try_take(at)?)));
+            // The look at the line may come before the store for this thread: so not at a ring alone.
+            let (at, held) = found.ok_or(Again::Soon)?;
+            HINT.set(at % MOST);
+            Ok(held)
+        };
+        wait(&self.free, None, first_free).expect("it waits without end")
+    }
+
+    /// Takes all seats, each once it is free.
+    pub fn take_all(&self) -> Vec<Held<'_>> {
+        let take = |at| {
+            let mut backoff = Backoff::new();
+            loop {
+                match self.try_take(at) {
+                    Some(held) => return held,
+                    None => backoff.between_tries(),
+                }
+            }
+        };
+        (0..self.seats.len()).map(take).collect()
+    }
+}
