@@ -330,10 +330,7 @@ fn iterators_end_where_they_say() {
     assert_eq!(second.try_recv(), Err(TryRecvError::Empty));
     (7..=9).for_each(|body| assert_eq!(sender.send(body), Ok(body - 1)));
     drop((sender, other));
-    assert_eq!(
-        (&mut second).into_iter().next().map(|item| item.body),
-        Some(7)
-    );
+    assert_eq!(second.iter().next().map(|item| item.body), Some(7));
     assert_eq!(bodies(second.into_iter().collect()), [8, 9]);
     assert_eq!(first.iter().next(), None);
     assert_eq!(first.try_iter().next(), None);
@@ -351,7 +348,7 @@ fn errors_say_what_is_wrong() {
             OpenError::Receivers.into(),
         ),
         (
-            "the capacity isn't from 1 to 4096",
+            "the capacity isn't from 1 to 4096, which is what a queue can hold",
             OpenError::Capacity.into(),
         ),
         ("the bound isn't from 1 to 1024", OpenError::Bound.into()),

@@ -4,6 +4,7 @@ use std::sync::Arc;
 use std::sync::atomic::{AtomicUsize, Ordering};
 use std::task::{Context, Poll, Wake, Waker};
 use std::thread;
+use std::time::{Duration, Instant};
 use vahepito::{RecvError, SendError, channel};
 
 struct Unpark(thread::Thread);
@@ -158,4 +159,53 @@ fn a_task_that_is_dropped_passes_the_ring_on() {
     drop(first);
     assert_eq!(two.times(), 1);
     assert_eq!(poll(&mut second, &two), Poll::Ready(Ok(7)));
+}
+
+/// Futures that have their handles: they go where they like, and a drop of one lets its handle go.
+#[test]
+fn futures_that_have_their_handles() {
+    fn goes<T: Send + 'static>(it: T) -> T {
+        it
+    }
+    let (sender, receiver) = channel(1).unwrap();
+    let woken = Arc::new(Woken::default());
+    let mut takes = goes(receiver.clone().into_recv_async());
+    assert!(poll(&mut takes, &woken).is_pending());
+    let mut sends = goes(sender.clone().into_send_async(Box::new(1)));
+    assert_eq!(poll(&mut sends, &woken), Poll::Ready(Ok(())));
+    assert_eq!(woken.times(), 1);
+    assert_eq!(sender.sender_count(), 2);
+    assert_eq!(block_on(takes), Ok(Box::new(1)));
+    drop(sends);
+    assert_eq!((sender.sender_count(), receiver.receiver_count()), (1, 1));
+    let mut takes = receiver.into_recv_async();
+    assert!(poll(&mut takes, &woken).is_pending());
+    drop(takes);
+    assert!(sender.is_closed());
+}
+
+/// A hundred thousand tasks wait in one line. Each is polled again, and keeps its place; then each leaves.
+#[test]
+fn a_task_leaves_a_long_line_at_once() {
+    const MANY: usize = 100_000;
+    let (sender, receiver) = channel::<u64>(1).unwrap();
+    let woken = Arc::new(Woken::default());
+    let mut all: Vec<_> = (0..MANY).map(|_| receiver.recv_async()).collect();
+    assert!(all.iter_mut().all(|it| poll(it, &woken).is_pending()));
+    let start = Instant::now();
+    assert!(all.iter_mut().rev().all(|it| poll(it, &woken).is_pending()));
+    let again = start.elapsed();
+    sender.send(1).unwrap();
+    assert_eq!(woken.times(), 1);
+    // The first in line was woken, and its ring is passed on as long as tasks leave.
+    let first = Arc::new(Woken::default());
+    assert_eq!(poll(&mut all[0], &first), Poll::Ready(Ok(1)));
+    let start = Instant::now();
+    while all.len() > 1 {
+        drop(all.swap_remove(all.len() / 2));
+    }
+    let left = start.elapsed();
+    println!("polled again in {again:?}, left in {left:?}");
+    // A line that is searched takes tens of seconds. As it is, an optimized build has some 30 ms.
+    assert!(again + left < Duration::from_secs(5));
 }

@@ -121,52 +121,37 @@ impl RecvTimeoutError {
 const CLOSED: &str = "sending on a channel that is closed";
 const ENDED: &str = "receiving on a channel that is closed and has no more items";
 
-// An item needs no `Debug`, so that each error has it.
-impl<T> Debug for SendError<T> {
-    fn fmt(&self, f: &mut Formatter<'_>) -> fmt::Result {
-        f.write_str("SendError(..)")
-    }
+/// What each variant of an error says, and what its `Debug` is.
+macro_rules! says {
+    ($($error:ident { $($variant:pat => $debug:expr, $text:expr,)+ })+) => {$(
+        // An item needs no `Debug`, so that each error has it.
+        impl<T> Debug for $error<T> {
+            fn fmt(&self, f: &mut Formatter<'_>) -> fmt::Result {
+                f.write_str(match self { $($variant => $debug,)+ })
+            }
+        }
+
+        impl<T> Display for $error<T> {
+            fn fmt(&self, f: &mut Formatter<'_>) -> fmt::Result {
+                f.write_str(match self { $($variant => $text,)+ })
+            }
+        }
+
+        impl<T> Error for $error<T> {}
+    )+};
 }
 
-impl<T> Debug for TrySendError<T> {
-    fn fmt(&self, f: &mut Formatter<'_>) -> fmt::Result {
-        f.write_str(match self {
-            TrySendError::Full(_) => "Full(..)",
-            TrySendError::Disconnected(_) => "Disconnected(..)",
-        })
+says! {
+    SendError {
+        SendError(_) => "SendError(..)", CLOSED,
     }
-}
-
-impl<T> Debug for SendTimeoutError<T> {
-    fn fmt(&self, f: &mut Formatter<'_>) -> fmt::Result {
-        f.write_str(match self {
-            SendTimeoutError::Timeout(_) => "Timeout(..)",
-            SendTimeoutError::Disconnected(_) => "Disconnected(..)",
-        })
+    TrySendError {
+        TrySendError::Full(_) => "Full(..)", "sending on a channel that is full",
+        TrySendError::Disconnected(_) => "Disconnected(..)", CLOSED,
     }
-}
-
-impl<T> Display for SendError<T> {
-    fn fmt(&self, f: &mut Formatter<'_>) -> fmt::Result {
-        f.write_str(CLOSED)
-    }
-}
-
-impl<T> Display for TrySendError<T> {
-    fn fmt(&self, f: &mut Formatter<'_>) -> fmt::Result {
-        f.write_str(match self {
-            TrySendError::Full(_) => "sending on a channel that is full",
-            TrySendError::Disconnected(_) => CLOSED,
-        })
-    }
-}
-
-impl<T> Display for SendTimeoutError<T> {
-    fn fmt(&self, f: &mut Formatter<'_>) -> fmt::Result {
-        f.write_str(match self {
-            SendTimeoutError::Timeout(_) => "sending took longer than it was given",
-            SendTimeoutError::Disconnected(_) => CLOSED,
-        })
+    SendTimeoutError {
+        SendTimeoutError::Timeout(_) => "Timeout(..)", "sending took longer than it was given",
+        SendTimeoutError::Disconnected(_) => "Disconnected(..)", CLOSED,
     }
 }
 
@@ -194,9 +179,6 @@ impl Display for RecvTimeoutError {
     }
 }
 
-impl<T> Error for SendError<T> {}
-impl<T> Error for TrySendError<T> {}
-impl<T> Error for SendTimeoutError<T> {}
 impl Error for RecvError {}
 impl Error for TryRecvError {}
 impl Error for RecvTimeoutError {}

@@ -225,11 +225,14 @@ impl Event {
 
     /// Stays in line with this waker, after a try that found nothing. Returns whether it was still
     /// there.
-    pub fn stay(&self, ticket: Ticket, waker: Waker) -> bool {
-        let before = self.with_line(|line| {
-            let place = line.waker(ticket)?;
-            Some(replace(place, waker))
-        });
+    pub fn stay(&self, ticket: Ticket, waker: &Waker) -> bool {
+        let is_same = |line: &mut Line| Some(line.waker(ticket)?.will_wake(waker));
+        match is_same(&mut lock(&self.line)) {
+            Some(false) => {}
+            there => return there.is_some(),
+        }
+        let waker = waker.clone();
+        let before = self.with_line(|line| Some(replace(line.waker(ticket)?, waker)));
         before.is_some()
     }
 

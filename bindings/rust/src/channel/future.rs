@@ -34,7 +34,7 @@ fn poll<R>(
 ) -> Poll<R> {
     let waker = context.waker();
     let mut tried = attempt();
-    if tried.is_err() && !place.is_some_and(|ticket| event.stay(ticket, waker.clone())) {
+    if tried.is_err() && !place.is_some_and(|ticket| event.stay(ticket, waker)) {
         *place = Some(event.stand(waker.clone()));
         tried = attempt();
     }
@@ -59,7 +59,7 @@ fn leave(place: &mut Option<Ticket>, event: &Event) {
     }
 }
 
-/// A take: see [`Receiver::recv_async`].
+/// A take: see [`Receiver::recv_async`]. If it is polled after it was done, it takes a further item.
 #[must_use = "a future does nothing unless it is polled"]
 pub struct RecvFuture<'a, T> {
     receiver: Handle<'a, Receiver<T>>,

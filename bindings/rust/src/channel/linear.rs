@@ -3,6 +3,7 @@
 //! sends and takes, with and without a time, closes, clones, drops, and upgrades of weak handles.
 use super::rounds::rounds;
 use super::*;
+use crate::words::backoff::Backoff;
 use std::collections::{HashSet, VecDeque};
 use std::sync::atomic::{AtomicU64, AtomicUsize, Ordering};
 use std::thread;
@@ -263,8 +264,9 @@ struct Clock {
 impl Clock {
     fn start(&self) {
         self.ready.fetch_add(1, Ordering::SeqCst);
+        let mut backoff = Backoff::new();
         while self.ready.load(Ordering::SeqCst) < THREADS {
-            thread::yield_now();
+            backoff.between_turns();
         }
     }
 

@@ -1,9 +1,6 @@
 //! What a queue is opened with, and its opening.
-use crate::words::begun::Begun;
-use crate::words::handle;
-use crate::words::{Item, ItemForm, OpenError, Receiver, Sender, WordsItem};
-use std::sync::Arc;
-use std::sync::atomic::{AtomicUsize, Ordering};
+use crate::words::begun::{Pass, Side, Sides};
+use crate::words::{OpenError, Receiver, Sender, handle};
 
 /// What a queue is opened with.
 ///
@@ -49,26 +46,7 @@ impl Config {
 }
 
 /// The senders of a queue, and its receivers by their groups.
-type Opened<I> = (Vec<Sender>, Vec<Vec<Receiver<I>>>);
-
-/// How many senders are left, and how many receivers of each group; and the senders' calls that were
-/// begun by guards, of which none is a take.
-#[derive(Debug)]
-pub(crate) struct Left {
-    pub senders: AtomicUsize,
-    pub receivers: Box<[AtomicUsize]>,
-    pub sends: Begun<Item>,
-    /// How many words a body may have.
-    pub longest: usize,
-}
-
-impl Left {
-    /// Whether no receiver is left of some group.
-    pub fn has_lost_a_group(&self) -> bool {
-        let gone = |left: &AtomicUsize| left.load(Ordering::Acquire) == 0;
-        self.receivers.iter().any(gone)
-    }
-}
+type Opened = (Vec<Sender>, Vec<Vec<Receiver>>);
 
 /// Opens a queue, and gives all its senders and receivers, each in the order of its numbers.
 ///
@@ -130,54 +108,17 @@ pub fn open(config: Config) -> Result<(Vec<Sender>, Vec<Receiver>), OpenError> {
 ///
 /// As of [`open`]: another library; the first field of the configuration that is out of its range;
 /// then the number of groups, where it isn't from 1 to 8; else want of memory.
-pub fn open_groups(config: Config, groups: u32) -> Result<Opened<Item>, OpenError> {
-    open_all(config, groups, 1)
-}
-
-/// Opens a queue whose bodies have one to so many words, four at most, and gives its senders, and its
-/// receivers by their groups, as [`open_groups`].
-///
-/// [`Sender::send_words`] and its like send a body of several words, and the others one of one word.
-/// The receivers give all words of each ([`WordsItem::words`]).
-///
-/// ```
-/// use vahepito::words::{Config, open_words};
-///
-/// let (mut senders, mut groups) = open_words(Config::new(1, 1, 16), 1, 3)?;
-/// senders[0].send_words(&[7, 8, 9]).unwrap();
-/// senders[0].send(10).unwrap();
-/// let bodies: Vec<_> = groups[0][0].try_iter().map(|item| item.words().to_vec()).collect();
-/// assert_eq!(bodies, [vec![7, 8, 9], vec![10]]);
-/// # Ok::<(), vahepito::words::OpenError>(())
-/// ```
-///
-/// # Errors
-///
-/// As of [`open_groups`]; and behind the number of groups that of the words, where it isn't from 1 to 4.
-pub fn open_words(config: Config, groups: u32, words: u32) -> Result<Opened<WordsItem>, OpenError> {
-    open_all(config, groups, words)
-}
-
-/// Opens a queue whose receivers give items of this form, which have room for so many words.
-fn open_all<I: ItemForm>(config: Config, groups: u32, words: u32) -> Result<Opened<I>, OpenError> {
-    let (senders, receivers) = handle::open(&config, groups, words)?;
+pub fn open_groups(config: Config, groups: u32) -> Result<Opened, OpenError> {
+    let (senders, receivers) = handle::open(&config, groups, 1)?;
     let in_each = config.receivers as usize;
-    let left = Arc::new(Left {
-        senders: AtomicUsize::new(senders.len()),
-        receivers: (0..groups).map(|_| AtomicUsize::new(in_each)).collect(),
-        sends: Begun::new(senders.len()),
-        longest: words as usize,
+    let counts = (0..=groups).map(|side| if side == 0 { senders.len() } else { in_each });
+    let sides: Sides = counts.map(Side::new).collect();
+    let senders = (0..).zip(senders);
+    let senders = senders.map(|(place, handle)| Sender::new(Pass::new(handle, &sides, 0, place)));
+    let mut receivers = (0..).zip(receivers).map(|(number, handle)| {
+        let (group, place) = (1 + number / in_each, number % in_each);
+        Receiver::new(Pass::new(handle, &sides, group, place), number)
     });
-    let takes: Arc<[_]> = (0..groups).map(|_| Begun::new(in_each)).collect();
-    let senders = (1..)
-        .zip(senders)
-        .map(|(number, handle)| Sender::new(handle, number, &left))
-        .collect();
-    let mut receivers = (1..)
-        .zip(receivers)
-        .map(|(number, handle)| Receiver::new(handle, number, &left, &takes));
-    let groups = (0..groups)
-        .map(|_| receivers.by_ref().take(in_each).collect())
-        .collect();
-    Ok((senders, groups))
+    let groups = (0..groups).map(|_| receivers.by_ref().take(in_each).collect());
+    Ok((senders.collect(), groups.collect()))
 }

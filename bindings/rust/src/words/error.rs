@@ -2,8 +2,8 @@
 use std::error::Error;
 use std::fmt::{Display, Formatter, Result};
 
-/// Why a queue wasn't opened: another library, the first field of its configuration that is out of
-/// its range, its number of groups, its number of words, or want of memory.
+/// Why a queue or a channel wasn't opened: another library, the first field of its configuration that is
+/// out of its range, its number of groups, or want of memory.
 #[derive(Clone, Copy, Debug, PartialEq, Eq, Hash)]
 #[non_exhaustive]
 pub enum OpenError {
@@ -21,8 +21,6 @@ pub enum OpenError {
     PerSender,
     /// The number of groups isn't from 1 to 8.
     Groups,
-    /// The most words of a body aren't from 1 to 4.
-    Words,
     /// Memory was refused.
     NoMemory,
     /// The linked library isn't the one that this crate is for: it is of another version, or of the
@@ -87,25 +85,6 @@ pub struct RecvError {
 #[derive(Clone, Copy, Debug, PartialEq, Eq, Hash)]
 pub struct Worn;
 
-/// Why a body of several words wasn't sent.
-#[derive(Clone, Copy, Debug, PartialEq, Eq, Hash)]
-pub enum WordsError<E> {
-    /// There is no word, or there are more than a body of the queue may have. The queue wasn't asked.
-    Count {
-        /// How many it may have: as many as were said to [`open_words`](crate::words::open_words), and
-        /// else one.
-        most: usize,
-    },
-    /// Why a body of one word wouldn't have been sent either.
-    Send(E),
-}
-
-impl<E> From<E> for WordsError<E> {
-    fn from(error: E) -> WordsError<E> {
-        WordsError::Send(error)
-    }
-}
-
 impl From<Worn> for TrySendError {
     fn from(_: Worn) -> TrySendError {
         TrySendError::Worn
@@ -145,12 +124,13 @@ impl Display for OpenError {
         f.write_str(match *self {
             OpenError::Senders => "the number of senders isn't from 1 to 64",
             OpenError::Receivers => "the number of receivers isn't from 1 to 64",
-            OpenError::Capacity => "the capacity isn't from 1 to 4096",
+            OpenError::Capacity => {
+                "the capacity isn't from 1 to 4096, which is what a queue can hold"
+            }
             OpenError::Bound => "the bound isn't from 1 to 1024",
             OpenError::Life => "the life isn't from 1 to 2^48",
             OpenError::PerSender => "the number of sends of a sender is 0",
             OpenError::Groups => "the number of groups isn't from 1 to 8",
-            OpenError::Words => "the number of words isn't from 1 to 4",
             OpenError::NoMemory => "there is no memory for the queue",
             OpenError::OtherLibrary { linked, wanted } => {
                 let (library, crate_for) = (Version(linked), Version(wanted));
@@ -167,73 +147,42 @@ impl Display for OpenError {
     }
 }
 
-impl Display for TrySendError {
-    fn fmt(&self, f: &mut Formatter<'_>) -> Result {
-        f.write_str(match self {
-            TrySendError::Full => "the queue is full",
-            TrySendError::Closed => CLOSED,
-            TrySendError::Spent => SPENT,
-            TrySendError::Worn => WORN,
-        })
-    }
-}
-
-impl Display for SendError {
-    fn fmt(&self, f: &mut Formatter<'_>) -> Result {
-        f.write_str(match self {
-            SendError::Closed => CLOSED,
-            SendError::Spent => SPENT,
-            SendError::Worn => WORN,
-            SendError::Disconnected => "the queue is full and a group of receivers is gone",
-        })
-    }
-}
-
-impl Display for TryRecvError {
-    fn fmt(&self, f: &mut Formatter<'_>) -> Result {
-        f.write_str(match self {
-            TryRecvError::Empty => "the queue is empty",
-            TryRecvError::Ended { .. } => ENDED,
-        })
-    }
-}
-
-impl Display for RecvError {
-    fn fmt(&self, f: &mut Formatter<'_>) -> Result {
-        f.write_str(ENDED)
-    }
-}
-
-impl Display for Worn {
-    fn fmt(&self, f: &mut Formatter<'_>) -> Result {
-        f.write_str(WORN)
-    }
-}
-
-impl<E: Display> Display for WordsError<E> {
-    fn fmt(&self, f: &mut Formatter<'_>) -> Result {
-        match self {
-            WordsError::Count { most: 1 } => f.write_str("the bodies of this queue have one word"),
-            WordsError::Count { most } => {
-                write!(f, "the bodies of this queue have from 1 to {most} words")
-            }
-            WordsError::Send(error) => error.fmt(f),
-        }
-    }
-}
-
-impl<E: Error> Error for WordsError<E> {
-    fn source(&self) -> Option<&(dyn Error + 'static)> {
-        match self {
-            WordsError::Count { .. } => None,
-            WordsError::Send(error) => error.source(),
-        }
-    }
-}
-
 impl Error for OpenError {}
-impl Error for TrySendError {}
-impl Error for SendError {}
-impl Error for TryRecvError {}
-impl Error for RecvError {}
-impl Error for Worn {}
+
+/// What each variant of an error says.
+macro_rules! says {
+    ($($error:ident { $($variant:pat => $text:expr,)+ })+) => {$(
+        impl Display for $error {
+            fn fmt(&self, f: &mut Formatter<'_>) -> Result {
+                f.write_str(match self { $($variant => $text,)+ })
+            }
+        }
+
+        impl Error for $error {}
+    )+};
+}
+
+says! {
+    TrySendError {
+        TrySendError::Full => "the queue is full",
+        TrySendError::Closed => CLOSED,
+        TrySendError::Spent => SPENT,
+        TrySendError::Worn => WORN,
+    }
+    SendError {
+        SendError::Closed => CLOSED,
+        SendError::Spent => SPENT,
+        SendError::Worn => WORN,
+        SendError::Disconnected => "the queue is full and a group of receivers is gone",
+    }
+    TryRecvError {
+        TryRecvError::Empty => "the queue is empty",
+        TryRecvError::Ended { .. } => ENDED,
+    }
+    RecvError {
+        _ => ENDED,
+    }
+    Worn {
+        Worn => WORN,
+    }
+}

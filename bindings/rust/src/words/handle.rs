@@ -3,7 +3,7 @@
 #![allow(unsafe_code)]
 
 use crate::words::backoff::turn_until;
-use crate::words::{Config, Item, OpenError, WordsItem};
+use crate::words::{Config, Item, OpenError};
 use std::ffi::c_void;
 use std::mem::{MaybeUninit, offset_of, size_of};
 use std::ptr::{null_mut, read_volatile};
@@ -32,7 +32,6 @@ pub mod code {
     pub const EMPTY: u32 = 24;
     pub const ENDED: u32 = 25;
     pub const BAD_GROUPS: u32 = 26;
-    pub const BAD_WORDS: u32 = 28;
 }
 
 /// A code that the call doesn't tell.
@@ -59,7 +58,6 @@ const _: () = {
     assert!(size_of::<Item>() == 24);
     assert!(offset_of!(Item, place) == 0 && offset_of!(Item, sender) == 8);
     assert!(offset_of!(Item, number) == 12 && offset_of!(Item, body) == 16);
-    assert!(WordsItem::IS_LAID_OUT && size_of::<RawItem>() == size_of::<WordsItem>());
 };
 
 /// The version that this crate is for, as the library tells its own: this crate's own version.
@@ -93,7 +91,6 @@ unsafe extern "C" {
         receiver_count: usize,
     ) -> u32;
     fn vahepito_begin_send(sender: &mut Pass, body: u64) -> u32;
-    fn vahepito_begin_send_words(sender: &mut Pass, words: *const u64, count: usize) -> u32;
     fn vahepito_turn_send(sender: &mut Pass, place: &mut u64, served: &mut u32) -> u32;
     fn vahepito_try_send(
         sender: &mut Pass,
@@ -103,7 +100,7 @@ unsafe extern "C" {
     ) -> u32;
     fn vahepito_try_send_words(
         sender: &mut Pass,
-        words: *const u64,
+        words: *const MaybeUninit<u64>,
         count: usize,
         place: &mut u64,
         served: &mut u32,
@@ -112,52 +109,30 @@ unsafe extern "C" {
     fn vahepito_begin_close(sender: &mut Pass) -> u32;
     fn vahepito_turn_close(sender: &mut Pass, total: &mut u64, served: &mut u32) -> u32;
     fn vahepito_begin_take(receiver: &mut Pass) -> u32;
-    fn vahepito_turn_take(
-        receiver: &mut Pass,
-        item: *mut Item,
-        total: &mut u64,
-        served: &mut u32,
-    ) -> u32;
-    fn vahepito_try_take(
-        receiver: &mut Pass,
-        item: *mut Item,
-        total: &mut u64,
-        served: &mut u32,
-    ) -> u32;
-    fn vahepito_turn_take_words(
-        receiver: &mut Pass,
-        item: *mut WordsItem,
-        total: &mut u64,
-        served: &mut u32,
-    ) -> u32;
-    fn vahepito_try_take_words(
-        receiver: &mut Pass,
-        item: *mut WordsItem,
-        total: &mut u64,
-        served: &mut u32,
-    ) -> u32;
-    fn vahepito_group(receiver: &mut Pass, group: &mut u32) -> u32;
     fn vahepito_drop(pass: &mut Pass) -> u32;
 }
 
-/// What a send or a close tells: the place or the total where the code has one, and how many calls
-/// were served.
+/// One of the four calls of a take that write an item of one word, or one with all its words.
+type Take = unsafe extern "C" fn(&mut Pass, &mut RawItem, &mut u64, &mut u32) -> u32;
+
+unsafe extern "C" {
+    fn vahepito_turn_take(_: &mut Pass, _: &mut RawItem, _: &mut u64, _: &mut u32) -> u32;
+    fn vahepito_try_take(_: &mut Pass, _: &mut RawItem, _: &mut u64, _: &mut u32) -> u32;
+    fn vahepito_turn_take_words(_: &mut Pass, _: &mut RawItem, _: &mut u64, _: &mut u32) -> u32;
+    fn vahepito_try_take_words(_: &mut Pass, _: &mut RawItem, _: &mut u64, _: &mut u32) -> u32;
+}
+
+/// What a call returns: its code, the place or the total if the code has one, and how many calls were
+/// served.
+#[derive(Clone, Copy)]
 pub struct Told {
     pub code: u32,
     pub number: u64,
     pub served: u32,
 }
 
-/// What a take tells: the item or the total where the code has one, and how many calls were served.
-pub struct Taken<I> {
-    pub code: u32,
-    pub item: I,
-    pub total: u64,
-    pub served: u32,
-}
-
 impl Told {
-    /// What a call tells that writes the number and how many were served, and answers its code.
+    /// By a call that writes the number and how many were served.
     #[inline]
     fn by(call: impl FnOnce(&mut u64, &mut u32) -> u32) -> Told {
         let (mut number, mut served) = (0, 0);
@@ -170,65 +145,57 @@ impl Told {
     }
 }
 
-impl<I: TakeCalls> Taken<I> {
-    /// The same of a take.
-    #[inline]
-    fn by(call: impl FnOnce(&mut I, &mut u64, &mut u32) -> u32) -> Taken<I> {
-        let (mut item, mut total, mut served) = (I::NONE, 0, 0);
-        let code = call(&mut item, &mut total, &mut served);
-        Taken {
-            code,
-            item,
-            total,
-            served,
+/// The words of a body, of which some may not be used. Those of an item may have bytes that nobody wrote.
+pub type Words = [MaybeUninit<u64>; 4];
+
+/// Room for an item, by words: place, sender and number, and the body; or the count and all words of the
+/// body. It is aligned as both are.
+type RawItem = [MaybeUninit<u64>; 7];
+
+const NO_ITEM: RawItem = [MaybeUninit::new(0); 7];
+
+/// The words of the body of an item that the library has just written, one by one: what reads two fields
+/// at once waits until both are written.
+#[inline]
+fn words_of(item: &RawItem, count: usize) -> Words {
+    let mut words = [MaybeUninit::uninit(); 4];
+    let first = if count == 1 { 2 } else { 3 };
+    for (word, field) in words.iter_mut().zip(&item[first..]).take(count) {
+        // SAFETY: it is read from a reference.
+        *word = unsafe { read_volatile(field) };
+    }
+    words
+}
+
+/// An item of one word, which the library has just written there, field by field as above.
+#[inline]
+fn item_of(item: &RawItem) -> Item {
+    let at = item.as_ptr().cast::<Item>();
+    // SAFETY: the room is as large as an item, and aligned as it; and each field was written, by `NO_ITEM`
+    // at first.
+    unsafe {
+        Item {
+            place: read_volatile(&raw const (*at).place),
+            sender: read_volatile(&raw const (*at).sender),
+            number: read_volatile(&raw const (*at).number),
+            body: read_volatile(&raw const (*at).body),
         }
     }
 }
 
-/// What is sent, by its calls: a word, or one to four of them.
-pub trait SendCalls: Copy {
-    fn begin_send(self, handle: &mut Handle) -> u32;
-
-    fn try_send(self, handle: &mut Handle, place: &mut u64, served: &mut u32) -> u32;
+/// What is begun.
+#[derive(Clone, Copy, PartialEq, Eq)]
+pub enum Kind {
+    Send,
+    Close,
+    Take,
 }
 
-/// An item that is taken, by its calls: of one word, or of one to four.
-pub trait TakeCalls: Copy {
-    /// No item.
-    const NONE: Self;
-
-    /// The same item, read field by field.
-    fn read(&self) -> Self;
-
-    fn turn_take(handle: &mut Handle, item: &mut Self, total: &mut u64, served: &mut u32) -> u32;
-
-    fn try_take(handle: &mut Handle, item: &mut Self, total: &mut u64, served: &mut u32) -> u32;
-}
-
-/// The words of a body, of which some may not be used. Those of an item may have bytes that nobody wrote.
-pub type Words = [MaybeUninit<u64>; 4];
-
-/// Words before those of the body, in the type of an item with several words; one fewer has that of an
-/// item with one word.
-const FIELDS: usize = 3;
-
-/// Room for an item of either type, by words.
-type RawItem = [MaybeUninit<u64>; FIELDS + 4];
-
-/// Turns a call until it is answered, if this first code says that it waits.
-fn answer(first: u32, turn: &mut dyn FnMut() -> u32) -> u32 {
-    match first {
-        code::WAITING => turn_until(|_| Some(turn()).filter(|&code| code != code::WAITING)),
-        code => code,
-    }
-}
-
-/// A field of an item that the library has just written, read by itself: what reads two fields at once
-/// waits until both are written.
-#[inline]
-pub fn field<T: Copy>(at: &T) -> T {
-    // SAFETY: it is read from a reference.
-    unsafe { read_volatile(at) }
+/// What a call returned; of a take with its item if it got one, else with no item.
+#[derive(Clone, Copy)]
+pub struct Answer {
+    pub told: Told,
+    pub item: Item,
 }
 
 /// One pass of a queue. It is empty, or `open` filled it; it isn't copied, and its drop lets the
@@ -243,90 +210,7 @@ unsafe impl Send for Handle {}
 
 // SAFETY, of all the calls below: the handle is empty or was filled by `vahepito_open_words`, since
 // the field is private; it is the only one of its pass, and this call's alone, by `&mut`; each other
-// pointer is that of a variable of its own, or of a slice with its length.
-impl SendCalls for u64 {
-    #[inline]
-    fn begin_send(self, handle: &mut Handle) -> u32 {
-        unsafe { vahepito_begin_send(&mut handle.0, self) }
-    }
-
-    #[inline]
-    fn try_send(self, handle: &mut Handle, place: &mut u64, served: &mut u32) -> u32 {
-        unsafe { vahepito_try_send(&mut handle.0, MaybeUninit::new(self), place, served) }
-    }
-}
-
-impl SendCalls for &[u64] {
-    #[inline]
-    fn begin_send(self, handle: &mut Handle) -> u32 {
-        unsafe { vahepito_begin_send_words(&mut handle.0, self.as_ptr(), self.len()) }
-    }
-
-    #[inline]
-    fn try_send(self, handle: &mut Handle, place: &mut u64, served: &mut u32) -> u32 {
-        let (words, count) = (self.as_ptr(), self.len());
-        unsafe { vahepito_try_send_words(&mut handle.0, words, count, place, served) }
-    }
-}
-
-impl TakeCalls for Item {
-    const NONE: Item = Item {
-        place: 0,
-        sender: 0,
-        number: 0,
-        body: 0,
-    };
-
-    #[inline]
-    fn read(&self) -> Item {
-        Item {
-            place: field(&self.place),
-            sender: field(&self.sender),
-            number: field(&self.number),
-            body: field(&self.body),
-        }
-    }
-
-    #[inline]
-    fn turn_take(handle: &mut Handle, item: &mut Item, total: &mut u64, served: &mut u32) -> u32 {
-        unsafe { vahepito_turn_take(&mut handle.0, item, total, served) }
-    }
-
-    #[inline]
-    fn try_take(handle: &mut Handle, item: &mut Item, total: &mut u64, served: &mut u32) -> u32 {
-        unsafe { vahepito_try_take(&mut handle.0, item, total, served) }
-    }
-}
-
-impl TakeCalls for WordsItem {
-    const NONE: WordsItem = WordsItem::NONE;
-
-    #[inline]
-    fn read(&self) -> WordsItem {
-        self.by_fields()
-    }
-
-    #[inline]
-    fn turn_take(
-        handle: &mut Handle,
-        item: &mut WordsItem,
-        total: &mut u64,
-        served: &mut u32,
-    ) -> u32 {
-        unsafe { vahepito_turn_take_words(&mut handle.0, item, total, served) }
-    }
-
-    #[inline]
-    fn try_take(
-        handle: &mut Handle,
-        item: &mut WordsItem,
-        total: &mut u64,
-        served: &mut u32,
-    ) -> u32 {
-        unsafe { vahepito_try_take_words(&mut handle.0, item, total, served) }
-    }
-}
-
+// pointer is that of a variable of its own, or of an array with as many elements as are said.
 impl Handle {
     pub const fn empty() -> Handle {
         Handle(Pass {
@@ -335,92 +219,76 @@ impl Handle {
         })
     }
 
-    #[inline]
-    pub fn begin_send(&mut self, body: impl SendCalls) -> u32 {
-        body.begin_send(self)
-    }
-
-    #[inline]
-    pub fn turn_send(&mut self) -> Told {
-        Told::by(|number, served| unsafe { vahepito_turn_send(&mut self.0, number, served) })
-    }
-
-    /// The place, where the code is ACCEPTED. What else is told is put together only then.
-    #[inline]
-    pub fn try_send(&mut self, body: impl SendCalls) -> Result<u64, Told> {
-        let (mut number, mut served) = (0, 0);
-        let code = body.try_send(self, &mut number, &mut served);
-        if code == code::ACCEPTED {
-            return Ok(number);
-        }
-        Err(Told {
-            code,
-            number,
-            served,
-        })
-    }
-
-    #[inline]
-    pub fn is_worn(&mut self) -> u32 {
-        unsafe { vahepito_is_worn(&mut self.0) }
+    pub fn begin_send(&mut self, body: u64) -> u32 {
+        unsafe { vahepito_begin_send(&mut self.0, body) }
     }
 
     pub fn begin_close(&mut self) -> u32 {
         unsafe { vahepito_begin_close(&mut self.0) }
     }
 
-    pub fn turn_close(&mut self) -> Told {
-        Told::by(|number, served| unsafe { vahepito_turn_close(&mut self.0, number, served) })
-    }
-
-    #[inline]
     pub fn begin_take(&mut self) -> u32 {
         unsafe { vahepito_begin_take(&mut self.0) }
     }
 
-    #[inline]
-    pub fn turn_take<I: TakeCalls>(&mut self) -> Taken<I> {
-        Taken::by(|item, total, served| I::turn_take(self, item, total, served))
+    pub fn is_worn(&mut self) -> u32 {
+        unsafe { vahepito_is_worn(&mut self.0) }
     }
 
+    /// Begins a send of these words, of which there are so many, and turns it once.
     #[inline]
-    pub fn try_take<I: TakeCalls>(&mut self) -> Taken<I> {
-        Taken::by(|item, total, served| I::try_take(self, item, total, served))
-    }
-
-    /// The same, and reads a GOT item where the library wrote it, field by field: to copy it as a whole
-    /// waits until all its fields are written.
-    #[inline]
-    pub fn try_take_as<I: TakeCalls, R>(
-        &mut self,
-        read: impl FnOnce(&I) -> R,
-    ) -> Result<R, Taken<I>> {
-        let (mut item, mut total, mut served) = (I::NONE, 0, 0);
-        let code = I::try_take(self, &mut item, &mut total, &mut served);
-        if code == code::GOT {
-            return Ok(read(&item));
-        }
-        Err(Taken {
-            code,
-            item,
-            total,
-            served,
+    pub fn try_send(&mut self, words: &Words, count: usize) -> Told {
+        Told::by(|place, served| match count {
+            1 => unsafe { vahepito_try_send(&mut self.0, words[0], place, served) },
+            _ => unsafe {
+                vahepito_try_send_words(&mut self.0, words.as_ptr(), count, place, served)
+            },
         })
+    }
+
+    #[inline]
+    fn take_by(&mut self, take: Take, item: &mut RawItem) -> Told {
+        Told::by(|total, served| unsafe { take(&mut self.0, item, total, served) })
+    }
+
+    /// Begins a take of an item of one word, and turns it once.
+    #[inline]
+    pub fn try_take(&mut self) -> Answer {
+        let mut item = NO_ITEM;
+        let told = self.take_by(vahepito_try_take, &mut item);
+        let item = item_of(&item);
+        Answer { told, item }
+    }
+
+    /// One turn of a call of this kind. Gives the answer if it is there.
+    pub fn turn(&mut self, kind: Kind) -> Option<Answer> {
+        let mut item = NO_ITEM;
+        let told = match kind {
+            Kind::Send => {
+                Told::by(|it, served| unsafe { vahepito_turn_send(&mut self.0, it, served) })
+            }
+            Kind::Close => {
+                Told::by(|it, served| unsafe { vahepito_turn_close(&mut self.0, it, served) })
+            }
+            Kind::Take => self.take_by(vahepito_turn_take, &mut item),
+        };
+        let item = item_of(&item);
+        (told.code != code::WAITING).then_some(Answer { told, item })
+    }
+
+    /// Waits for the answer of a call of this kind if this first code says that it isn't there yet.
+    fn code_of(&mut self, first: u32, kind: Kind) -> u32 {
+        match first {
+            code::WAITING => turn_until(|_| self.turn(kind)).told.code,
+            code => code,
+        }
     }
 
     /// Sends these words, of which there are so many, and waits for the answer. If they aren't accepted,
     /// it gives the code: FULL, CLOSED, SPENT or WORN.
     #[inline]
     pub fn send(&mut self, words: &Words, count: usize) -> Result<(), u32> {
-        let (mut place, mut served) = (0, 0);
-        let code = match count {
-            1 => unsafe { vahepito_try_send(&mut self.0, words[0], &mut place, &mut served) },
-            _ => unsafe {
-                let words = words.as_ptr().cast();
-                vahepito_try_send_words(&mut self.0, words, count, &mut place, &mut served)
-            },
-        };
-        match code {
+        match self.try_send(words, count).code {
             code::ACCEPTED => Ok(()),
             code => self.go_on_sending(code),
         }
@@ -428,8 +296,7 @@ impl Handle {
 
     #[inline(never)]
     fn go_on_sending(&mut self, first: u32) -> Result<(), u32> {
-        let mut turn = || self.turn_send().code;
-        match answer(first, &mut turn) {
+        match self.code_of(first, Kind::Send) {
             code::ACCEPTED => Ok(()),
             told @ (code::FULL | code::CLOSED | code::SPENT | code::WORN) => Err(told),
             told => unexpected(told),
@@ -440,64 +307,49 @@ impl Handle {
     /// item, it gives the code: EMPTY or ENDED.
     #[inline]
     pub fn take(&mut self, count: usize) -> Result<Words, u32> {
-        let mut item = [MaybeUninit::new(0); FIELDS + 4];
-        let (mut total, mut served) = (0, 0);
-        let (at, first) = (
-            item.as_mut_ptr(),
-            if count == 1 { FIELDS - 1 } else { FIELDS },
-        );
-        let code = match count {
-            1 => unsafe { vahepito_try_take(&mut self.0, at.cast(), &mut total, &mut served) },
-            _ => unsafe {
-                vahepito_try_take_words(&mut self.0, at.cast(), &mut total, &mut served)
-            },
+        let mut item = NO_ITEM;
+        let take = if count == 1 {
+            vahepito_try_take
+        } else {
+            vahepito_try_take_words
         };
-        if code != code::GOT {
-            self.go_on_taking(code, count, &mut item)?;
+        match self.take_by(take, &mut item).code {
+            code::GOT => {}
+            code => self.go_on_taking(code, count, &mut item)?,
         }
-        let mut words = [MaybeUninit::uninit(); 4];
-        for (word, at) in words.iter_mut().zip(&item[first..]).take(count) {
-            *word = field(at);
-        }
-        Ok(words)
+        Ok(words_of(&item, count))
     }
 
     #[inline(never)]
     fn go_on_taking(&mut self, first: u32, count: usize, item: &mut RawItem) -> Result<(), u32> {
-        let (mut total, mut served, at) = (0, 0, item.as_mut_ptr());
-        let mut turn = || match count {
-            1 => unsafe { vahepito_turn_take(&mut self.0, at.cast(), &mut total, &mut served) },
-            _ => unsafe {
-                vahepito_turn_take_words(&mut self.0, at.cast(), &mut total, &mut served)
-            },
+        let take = if count == 1 {
+            vahepito_turn_take
+        } else {
+            vahepito_turn_take_words
         };
-        match answer(first, &mut turn) {
+        let mut turn = || Some(self.take_by(take, item).code).filter(|&it| it != code::WAITING);
+        let told = match first {
+            code::WAITING => turn_until(|_| turn()),
+            code => code,
+        };
+        match told {
             code::GOT => Ok(()),
-            told @ (code::EMPTY | code::ENDED) => Err(told),
+            code::EMPTY | code::ENDED => Err(told),
             told => unexpected(told),
         }
     }
 
     /// Closes the queue. Returns whether it was open.
     pub fn close(&mut self) -> bool {
-        let begun = self.begin_close();
-        let first = if begun == code::BEGUN {
-            code::WAITING
-        } else {
-            begun
+        let first = match self.begin_close() {
+            code::BEGUN => code::WAITING,
+            code => unexpected(code),
         };
-        match answer(first, &mut || self.turn_close().code) {
+        match self.code_of(first, Kind::Close) {
             code::SHUT => true,
             code::ALREADY => false,
             told => unexpected(told),
         }
-    }
-
-    /// The code, and the group where that is DONE.
-    pub fn group(&mut self) -> (u32, u32) {
-        let mut group = 0;
-        let code = unsafe { vahepito_group(&mut self.0, &mut group) };
-        (code, group)
     }
 }
 
@@ -548,7 +400,6 @@ fn told(code: u32) -> Result<(), OpenError> {
         code::BAD_LIFE => Err(OpenError::Life),
         code::BAD_PER_SENDER => Err(OpenError::PerSender),
         code::BAD_GROUPS => Err(OpenError::Groups),
-        code::BAD_WORDS => Err(OpenError::Words),
         code::NO_MEMORY => Err(OpenError::NoMemory),
         code => unexpected(code),
     }
@@ -638,6 +489,7 @@ mod tests {
             "BUSY",
             "NOT_BEGUN",
             "BAD_VERSION",
+            "BAD_WORDS",
             "LONG",
             "WIDE",
         ] {
@@ -666,7 +518,6 @@ mod tests {
             ("EMPTY", EMPTY),
             ("ENDED", ENDED),
             ("BAD_GROUPS", BAD_GROUPS),
-            ("BAD_WORDS", BAD_WORDS),
         ];
         assert_eq!(header, BTreeMap::from(here));
     }
@@ -706,8 +557,9 @@ mod tests {
         };
         let mut header = names(HEADER, ["uint32_t vahepito_", "void vahepito_"]);
         assert_eq!(header.len(), 20);
-        // This crate opens each queue by `open_words`.
-        header.retain(|&name| name != "open" && name != "open_groups");
+        // This crate opens each queue by `open_words`, and begins no send of several words by itself.
+        let others = ["open", "open_groups", "begin_send_words", "group"];
+        header.retain(|name| !others.contains(name));
         let here = names(code, ["    fn vahepito_", "    safe fn vahepito_"]);
         assert_eq!(here, header);
     }

@@ -11,27 +11,12 @@ mod item;
 mod receiver;
 mod sender;
 
-pub use config::{Config, open, open_groups, open_words};
-pub use error::{OpenError, RecvError, SendError, TryRecvError, TrySendError, WordsError, Worn};
-pub use item::{Item, ItemForm, WordsItem};
-pub use receiver::{IntoIter, Iter, PendingRecv, Receiver, TryIter};
+pub use begun::{Pending, Turn};
+pub use config::{Config, open, open_groups};
+pub use error::{OpenError, RecvError, SendError, TryRecvError, TrySendError, Worn};
+pub use item::Item;
+pub use receiver::{IntoIter, PendingRecv, Receiver};
 pub use sender::{Closed, PendingClose, PendingSend, Sender};
-
-/// What one turn of a guard told.
-#[derive(Debug)]
-#[must_use = "a call that was begun is to be turned until it is done"]
-pub enum Turn<P, A> {
-    /// The answer isn't there yet: turn the guard again.
-    Waiting(P),
-    /// The call is done.
-    Done {
-        /// The queue's answer.
-        answer: A,
-        /// How many calls this turn served: 0 where another pass had served this one, else from 1
-        /// to `bound`.
-        served: u32,
-    },
-}
 
 /// What doesn't compile: a pass is neither shared nor cloned, and a guard holds its pass.
 ///

@@ -1,0 +1,127 @@
+#!/usr/bin/env python3
+"""Times the channel of bindings/rust beside the same crate at another commit, and beside crossbeam's, in one run.
+
+    bench/channel.py COMMIT [--seconds N] [--only MODE]
+
+One command, in some N seconds (330 if no number is given) after the build. The crate of the commit is taken by
+git archive into bench/channel/out, and both are linked with crates/cc_binding/out/libcc_binding.a, which
+tools/build_library.sh builds. crossbeam's channel is Debian's librust-crossbeam-channel-dev; the run goes on without it.
+
+A round runs each burst once, in a random order, each in a process of its own: half of the rounds with nothing beside it,
+and half with a process that is busy on each processor. Medians are printed, with quartiles in brackets, and the median
+of each round's quotient to the crate of the commit, or to crossbeam where that is compared.
+"""
+import argparse
+import os
+import random
+import shutil
+import statistics
+import subprocess
+import sys
+import time
+
+HERE = os.path.dirname(os.path.abspath(__file__))
+TOP = os.path.dirname(HERE)
+OUT = os.path.join(HERE, "channel", "out")
+REGISTRY = "/usr/share/cargo/registry"
+ARCHIVE = os.environ.get("VAHEPITO_LIB", os.path.join(TOP, "crates", "cc_binding", "out", "libcc_binding.a"))
+
+# What a burst is, its mode and number, its milliseconds, and what it is compared with: "old" or "crossbeam".
+BURSTS = [
+    ("a pair on one thread", "alone", 1, 150, "old"),
+    ("a pair of 16 bytes", "alone", 2, 100, "old"),
+    ("a pair of 32 bytes", "alone", 4, 100, "old"),
+    ("a pair of 40 bytes", "alone", 5, 100, "old"),
+    ("1 and 1", "shared", 1, 250, "old"),
+    ("4 and 4", "shared", 4, 250, "old"),
+    ("8 and 8", "shared", 8, 250, "old"),
+    ("32 and 32", "shared", 32, 300, "old"),
+    ("a receiver that waits, p50", "blocked", 1, 300, "crossbeam"),
+    ("a round trip of two tasks", "tasks", 1, 150, "old"),
+    ("channel::<u64>(1)", "open", 1, 100, "old"),
+    ("len", "len", 1, 50, "old"),
+]
+
+
+def build(name, crate, peers):
+    """The program over this crate."""
+    room = os.path.join(OUT, name)
+    os.makedirs(os.path.join(room, ".cargo"), exist_ok=True)
+    wanted = 'crossbeam-channel = { version = "*", optional = true }\n' if peers else ""
+    feature = '["dep:crossbeam-channel"]' if peers else "[]"
+    with open(os.path.join(room, "Cargo.toml"), "w") as file:
+        file.write('[package]\nname = "channel"\nversion = "0.1.0"\nedition = "2024"\n\n[workspace]\n\n'
+                   f'[[bin]]\nname = "channel"\npath = "{HERE}/channel/src/main.rs"\n\n'
+                   f'[dependencies]\nvahepito = {{ path = "{crate}" }}\n{wanted}\n[features]\ncrossbeam-channel = {feature}\n')
+    with open(os.path.join(room, ".cargo", "config.toml"), "w") as file:
+        file.write(f'[source.crates-io]\nreplace-with = "debian"\n\n[source.debian]\ndirectory = "{REGISTRY}"\n' if peers else "")
+    words = ["cargo", "build", "-q", "--release", "--offline"] + (["--features", "crossbeam-channel"] if peers else [])
+    environment = {**os.environ, "VAHEPITO_LIB": ARCHIVE, "CARGO_TARGET_DIR": os.path.join(room, "target")}
+    subprocess.run(words, cwd=room, check=True, env=environment)
+    return os.path.join(room, "target", "release", "channel")
+
+
+def crate_at(commit):
+    room = os.path.join(OUT, "tree")
+    shutil.rmtree(room, ignore_errors=True)
+    os.makedirs(room)
+    archive = subprocess.run(["git", "archive", commit, "bindings"], cwd=TOP, check=True, capture_output=True)
+    subprocess.run(["tar", "x", "-C", room], input=archive.stdout, check=True)
+    return os.path.join(room, "bindings", "rust")
+
+
+def run(program, queue, burst):
+    _, mode, number, milliseconds, _ = burst
+    words = [program, mode, queue, str(number), str(milliseconds)]
+    return float(subprocess.run(words, check=True, capture_output=True, text=True).stdout)
+
+
+def others(busy):
+    """Processes that are busy, one for each processor."""
+    return [subprocess.Popen([sys.executable, "-c", "while True: pass"]) for _ in range(os.cpu_count() if busy else 0)]
+
+
+def told(values):
+    low, middle, high = statistics.quantiles(values, n=4, method="inclusive") if len(values) > 1 else values * 3
+    return f"{middle:.0f} ({low:.0f} to {high:.0f})"
+
+
+def main():
+    parser = argparse.ArgumentParser(description=__doc__, formatter_class=argparse.RawDescriptionHelpFormatter)
+    parser.add_argument("commit", help="of the crate that is beside this one")
+    parser.add_argument("--seconds", type=int, default=330)
+    parser.add_argument("--only", help="bursts of this mode alone")
+    words = parser.parse_args()
+    peers = any(name.startswith("crossbeam-channel-") for name in os.listdir(REGISTRY)) if os.path.isdir(REGISTRY) else False
+    programs = {"new": (build("new", os.path.join(TOP, "bindings", "rust"), peers), "vahepito"),
+                "old": (build("old", crate_at(words.commit), False), "vahepito")}
+    if peers:
+        programs["crossbeam"] = (programs["new"][0], "crossbeam")
+    bursts = [burst for burst in BURSTS if words.only in (None, burst[1])]
+    took = {}
+    start, rounds = time.time(), 0
+    while time.time() - start < words.seconds or rounds < 2:
+        busy = rounds % 2 == 1
+        beside = others(busy)
+        cells = [(burst, name) for burst in bursts for name in programs if not (name == "crossbeam" and burst[1] == "tasks")]
+        random.shuffle(cells)
+        for burst, name in cells:
+            took.setdefault((burst[0], busy, name), []).append(run(*programs[name], burst))
+        for process in beside:
+            process.kill()
+            process.wait()
+        rounds += 1
+    print(f"{rounds} rounds in {time.time() - start:.0f} s, {os.cpu_count()} processors, load {os.getloadavg()[0]:.1f}: nanoseconds\n")
+    for busy in [False, True]:
+        print("| " + ("beside a busy process on each processor" if busy else "alone") + " | now | " + words.commit
+              + " | now to that | crossbeam | now to crossbeam |\n|---|---|---|---|---|---|")
+        for burst in bursts:
+            new, old = (took[burst[0], busy, name] for name in ["new", "old"])
+            peer = took.get((burst[0], busy, "crossbeam"))
+            quotient = lambda base: f"{statistics.median(a / b for a, b in zip(new, base)):.2f}" if base else ""
+            print(f"| {burst[0]} | {told(new)} | {told(old)} | {quotient(old)} | {told(peer) if peer else ''} | {quotient(peer)} |")
+        print()
+
+
+if __name__ == "__main__":
+    main()

@@ -1,0 +1,114 @@
+//! A [`Stream`] of what a receiver of a [`vahepito`] channel takes, and a [`Sink`] that sends.
+//!
+//! ```
+//! use vahepito_futures::{RecvStream, SendSink};
+//!
+//! let (sender, receiver) = vahepito::channel::<u32>(16)?;
+//! let sink = SendSink::from(sender);
+//! let stream = RecvStream::from(receiver);
+//! # drop((sink, stream));
+//! # Ok::<(), vahepito::OpenError>(())
+//! ```
+#![deny(missing_docs, unsafe_code)]
+
+use futures_core::stream::{FusedStream, Stream};
+use futures_sink::Sink;
+use std::pin::Pin;
+use std::task::{Context, Poll, ready};
+use vahepito::{Receiver, RecvFuture, SendError, SendFuture, Sender};
+
+/// The items of a receiver, until the end of its channel. While it waits it keeps its place in line.
+#[derive(Debug)]
+#[must_use = "a stream does nothing unless it is polled"]
+pub struct RecvStream<T: 'static> {
+    takes: RecvFuture<'static, T>,
+    ended: bool,
+}
+
+impl<T: 'static> From<Receiver<T>> for RecvStream<T> {
+    fn from(receiver: Receiver<T>) -> RecvStream<T> {
+        RecvStream {
+            takes: receiver.into_recv_async(),
+            ended: false,
+        }
+    }
+}
+
+impl<T: 'static> Stream for RecvStream<T> {
+    type Item = T;
+
+    fn poll_next(mut self: Pin<&mut Self>, context: &mut Context<'_>) -> Poll<Option<T>> {
+        // A future that took an item takes a further one.
+        let taken = ready!(Pin::new(&mut self.takes).poll(context));
+        self.ended |= taken.is_err();
+        Poll::Ready(taken.ok())
+    }
+}
+
+impl<T: 'static> FusedStream for RecvStream<T> {
+    fn is_terminated(&self) -> bool {
+        self.ended
+    }
+}
+
+/// Sends items, one after another. A close sends what was begun, and lets the sender go.
+#[derive(Debug)]
+#[must_use = "a sink does nothing unless it is polled"]
+pub struct SendSink<T: 'static> {
+    /// None once it is closed.
+    sender: Option<Sender<T>>,
+    sends: Option<SendFuture<'static, T>>,
+}
+
+impl<T: 'static> From<Sender<T>> for SendSink<T> {
+    fn from(sender: Sender<T>) -> SendSink<T> {
+        SendSink {
+            sender: Some(sender),
+            sends: None,
+        }
+    }
+}
+
+impl<T: 'static> Sink<T> for SendSink<T> {
+    type Error = SendError<T>;
+
+    /// Ready once the item before is sent.
+    fn poll_ready(
+        self: Pin<&mut Self>,
+        context: &mut Context<'_>,
+    ) -> Poll<Result<(), SendError<T>>> {
+        self.poll_flush(context)
+    }
+
+    /// # Errors
+    ///
+    /// The sink is closed: the item is handed back.
+    fn start_send(mut self: Pin<&mut Self>, item: T) -> Result<(), SendError<T>> {
+        let Some(sender) = &self.sender else {
+            return Err(SendError(item));
+        };
+        self.sends = Some(sender.clone().into_send_async(item));
+        Ok(())
+    }
+
+    fn poll_flush(
+        mut self: Pin<&mut Self>,
+        context: &mut Context<'_>,
+    ) -> Poll<Result<(), SendError<T>>> {
+        let Some(sends) = &mut self.sends else {
+            return Poll::Ready(Ok(()));
+        };
+        let sent = ready!(Pin::new(sends).poll(context));
+        self.sends = None;
+        Poll::Ready(sent)
+    }
+
+    fn poll_close(
+        mut self: Pin<&mut Self>,
+        context: &mut Context<'_>,
+    ) -> Poll<Result<(), SendError<T>>> {
+        let sent = ready!(self.as_mut().poll_flush(context));
+        self.sender = None;
+        Poll::Ready(sent)
+    }
+}

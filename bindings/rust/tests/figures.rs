@@ -1,0 +1,92 @@
+//! What a channel costs: its memory, as the C library has handed it out, and its opening. One test, so that
+//! no other one asks for memory meanwhile. The README's table has these figures for four processors.
+use std::thread::available_parallelism;
+use std::time::Instant;
+use vahepito::{channel, groups};
+
+/// What `mallinfo2` of the GNU C library tells.
+#[repr(C)]
+struct Info {
+    arena: usize,
+    free_chunks: [usize; 2],
+    mapped_chunks: usize,
+    mapped: usize,
+    fast: [usize; 2],
+    used: usize,
+    free: [usize; 2],
+}
+
+unsafe extern "C" {
+    safe fn mallinfo2() -> Info;
+}
+
+fn used() -> usize {
+    let info = mallinfo2();
+    info.used + info.mapped
+}
+
+/// The bytes that this holds.
+fn bytes<R>(name: &str, open: impl Fn() -> R) -> usize {
+    drop(open());
+    let before = used();
+    let open = open();
+    let taken = used().saturating_sub(before);
+    drop(open);
+    println!("{name}: {taken} bytes");
+    taken
+}
+
+/// The median of the nanoseconds that this takes.
+fn nanoseconds(rounds: usize, call: impl Fn()) -> u128 {
+    let times = (0..rounds).map(|_| {
+        let start = Instant::now();
+        call();
+        start.elapsed().as_nanos()
+    });
+    let mut times: Vec<_> = times.collect();
+    times.sort();
+    times[rounds / 2]
+}
+
+#[test]
+fn a_channel_is_cheap_in_memory() {
+    const KB: usize = 1024;
+    // A side has twice as many seats as there are processors, and 64 at most.
+    let processors = available_parallelism().map_or(1, usize::from);
+    let seats = (2 * processors).next_power_of_two().min(64);
+    let sixteen = 16 * KB * seats.max(8) / 8;
+    let small = bytes("channel::<u64>(1)", || channel::<u64>(1));
+    assert!(small < sixteen, "{small}");
+    let of_words = bytes("channel::<[u64; 4]>(1)", || channel::<[u64; 4]>(1));
+    assert!(of_words < sixteen, "{of_words}");
+    let large = bytes("channel::<[u8; 65536]>(1)", || channel::<[u8; 65536]>(1));
+    assert!(large < sixteen, "{large}");
+    let filled = bytes("channel::<[u8; 65536]>(1) with an item", || {
+        let (sender, receiver) = channel::<[u8; 65536]>(1).unwrap();
+        sender.send([7; 65536]).unwrap();
+        (sender, receiver)
+    });
+    assert!(filled < sixteen + 68 * KB, "{filled}");
+    let deep = bytes("channel::<u64>(64)", || channel::<u64>(64));
+    assert!(deep < sixteen + 5 * KB, "{deep}");
+    let deepest = bytes("channel::<u64>(4096)", || channel::<u64>(4096));
+    assert!(deepest < sixteen + 260 * KB, "{deepest}");
+    let shared = bytes("groups::<u64>(64, 8)", || groups::<u64>(64, 8));
+    assert!(shared < 5 * sixteen, "{shared}");
+    let (sender, receiver) = channel::<u64>(1).unwrap();
+    let clones = bytes("a thousand clones of each side", || {
+        let clones = (0..1000).map(|_| (sender.clone(), receiver.clone()));
+        clones.collect::<Vec<_>>()
+    });
+    // The handles themselves: nothing is behind them.
+    assert!(clones < 1000 * 17 + KB, "{clones}");
+
+    let open = nanoseconds(101, || drop(channel::<u64>(1)));
+    println!("channel::<u64>(1): opened and dropped in {open} ns");
+    let look = nanoseconds(101, || {
+        for _ in 0..1000 {
+            std::hint::black_box((sender.len(), receiver.is_empty()));
+        }
+    });
+    println!("len and is_empty: {} ns", look / 1000);
+}
