@@ -87,6 +87,19 @@ fn any_type_passes() {
     passes([(), (), ()]);
     passes([1_u8, 0, 255]);
     passes([[7_u64; 40], [0; 40], [u64::MAX; 40]]);
+    // Each number of words, with bytes that nobody writes, and more alignment than a word has.
+    passes([(1_u8, 7_u32), (0, 0), (255, u32::MAX)]);
+    passes([7_u128, 0, u128::MAX]);
+    passes([[7_u16; 5], [0; 5], [u16::MAX; 5]]);
+    passes([(1_u8, [7_u64; 2]), (0, [0; 2]), (255, [u64::MAX; 2])]);
+    passes([[7_u8; 31], [0; 31], [255; 31]]);
+    passes([[7_u64; 4], [0; 4], [u64::MAX; 4]]);
+    passes([[7_u8; 33], [0; 33], [255; 33]]);
+    #[derive(PartialEq, Debug)]
+    #[repr(align(64))]
+    struct Aligned(u8);
+    passes([Aligned(1), Aligned(0), Aligned(255)]);
+    passes([vec!["a".to_string(); 3], vec![], vec![String::new()]]);
     passes([Some(Box::new(1)), None, Some(Box::new(3))]);
 }
 
