@@ -7,7 +7,8 @@ Five checks, in about a second:
 
 - Words: README.md has at most 900, and README.md with docs/*.md at most 35,000, as `wc -w` counts them, without
   docs/STATEMENTS*, which a script writes. --words prints the number of words of each document, and checks nothing.
-- Patterns: none of PATTERNS is found in a document. Each names the words to use, and has a sentence in which it is found.
+- Patterns: none of PATTERNS is found in a document, or in a comment of the C headers. Each names the words to use, and has a
+  sentence in which it is found.
 - Quotes: after a line `<!-- from PATH -->` the next block of code has the lines of that file, one after another.
 - Figures: after README's line `<!-- figures of docs/BENCH.md -->` a table has in its columns the medians that docs/BENCH.md
   has in the tables and columns of FIGURES, row by row.
@@ -27,6 +28,7 @@ TOP = os.path.dirname(os.path.dirname(os.path.abspath(__file__)))
 LIMIT_OF_README, LIMIT_OF_ALL = 900, 35_000
 COUNTED = ["README.md", "docs/*.md"]
 READ = [*COUNTED, "CONTRIBUTING.md", "bindings/c/README.md", "examples/README.md"]
+HEADERS = ["bindings/c/vahepito*.h"]
 FIGURES = [
     ("An item's time, by the clock", "one thread"),
     ("An item's time, by the clock", "4/4"),
@@ -109,15 +111,22 @@ def prose(text):
         fenced ^= fence
 
 
+def comments(text):
+    """The comments of a C file, each with the number of its first line."""
+    for comment in re.finditer(r"/\*.*?\*/", text, flags=re.DOTALL):
+        yield text[:comment.start()].count("\n") + 1, re.sub(r"\n \*( |$)", " ", comment[0], flags=re.MULTILINE)
+
+
 def check_patterns():
+    parts = [(path, *part) for path in documents(READ) for part in prose(read(path))]
+    parts += [(path, *part) for path in documents(HEADERS) for part in comments(read(path))]
     for pattern, instead, example in PATTERNS:
         if not re.search(pattern, example):
             yield f"tools/plain_words.py: the pattern {pattern!r} isn't found in its example"
-        for path in documents(READ):
-            for number, part in prose(read(path)):
-                for found in re.finditer(pattern, part):
-                    near = part[max(0, found.start() - 30):found.end() + 30].strip()
-                    yield f"{path}:{number}: {near!r} has {found[0].strip()!r}; better: {instead}"
+        for path, number, part in parts:
+            for found in re.finditer(pattern, part):
+                near = part[max(0, found.start() - 30):found.end() + 30].strip()
+                yield f"{path}:{number}: {near!r} has {found[0].strip()!r}; better: {instead}"
 
 
 def block_after(lines, number):
