@@ -100,7 +100,8 @@ else
     skip 'Rust: the sanitizers' 'there is no nightly cargo on this machine'
 fi
 
-# The package as a stranger uses it, and the repository as a dependency by git: the main of the crate's README runs.
+# The package as a stranger uses it, also within a workspace, and the repository as a dependency by git: the mains of both
+# READMEs run.
 step 'Rust: the package is made, and compiles' cargo package --quiet --offline --allow-dirty
 package=$(echo "$room"/target/package/vahepito-*.crate)
 tar xzf "$package" -C "$room"
@@ -111,12 +112,23 @@ cargo clippy --version >/dev/null 2>&1 &&
     step 'Rust: clippy on the package' bash -c "cd '$package' && cargo clippy --quiet --offline --all-targets -- -D warnings"
 (cp -r "$top/bindings" "$room/repository" && cd "$room/repository" && git init -q . && git add . &&
     git -c user.name=test -c user.email=test@localhost commit -qm bindings) || failed=$((failed + 1))
-for source in "path = '$package'" "git = 'file://$room/repository'"; do
+
+# The main that a README shows, with the lines that it uses, from the margin on.
+main_of() {
+    awk '/^ *fn main\(\) ->/ { margin = $0; sub(/fn.*/, "", margin); shown = 1 }
+        /^use .*;$/ || shown { print substr($0, length(margin) + 1) }
+        shown && $0 == margin "}" { exit }' "$1"
+}
+for source in "path = '$package'" "path = 'within'" "git = 'file://$room/repository'"; do
     rm -rf "$room/trial"
     cargo new --quiet --vcs none "$room/trial" 2>/dev/null
-    echo "vahepito = { $source }" >>"$room/trial/Cargo.toml"
-    sed -n '/^use std/,/^}$/p' README.md >"$room/trial/src/main.rs"
-    step "Rust: the README's main, ${source%% *}" bash -c "cd '$room/trial' && prints '$(seq -f 'line %g' 0 9)' cargo run --quiet"
+    [[ $source != *within* ]] || cp -r "$package" "$room/trial/within"
+    printf 'vahepito = { %s }\n\n[workspace]\n' "$source" >>"$room/trial/Cargo.toml"
+    for readme in README.md "$top/README.md"; do
+        main_of "$readme" >"$room/trial/src/main.rs"
+        due=$([ "$readme" != README.md ] || seq -f 'line %g' 0 9)
+        step "Rust: the main of $readme, by ${source:0:14}" bash -c "cd '$room/trial' && prints '$due' cargo run --quiet"
+    done
 done
 step 'Rust: another target is refused' bash -c "cd '$room/trial' && ! cargo check --offline --target aarch64-unknown-linux-gnu 2>'$room/said' &&
     grep -F 'is built for x86_64-unknown-linux-gnu, and the target is aarch64' '$room/said'"
