@@ -214,7 +214,10 @@ impl Event {
     fn with_line<R>(&self, change: impl FnOnce(&mut Line) -> R) -> R {
         let mut line = lock(&self.line);
         let changed = change(&mut line);
-        self.waiting.store(line.length, Ordering::SeqCst);
+        // It is written under the lock alone.
+        if self.waiting.load(Ordering::Relaxed) != line.length {
+            self.waiting.store(line.length, Ordering::SeqCst);
+        }
         changed
     }
 

@@ -25,15 +25,20 @@ impl<H> Deref for Handle<'_, H> {
     }
 }
 
-/// One poll: tries, and stays in line; or stands in line, and tries once more.
+/// One poll: tries, and stays in line; or stands in line, and tries once more. If it doesn't stand there and
+/// would seem to find nothing, it doesn't try before.
 fn poll<R>(
     place: &mut Option<Ticket>,
     event: &Event,
     context: &mut Context<'_>,
+    finds_nothing: impl FnOnce() -> bool,
     mut attempt: impl FnMut() -> Result<R, Again>,
 ) -> Poll<R> {
     let waker = context.waker();
-    let mut tried = attempt();
+    let mut tried = match place.is_none() && finds_nothing() {
+        true => Err(Again::AtARing),
+        false => attempt(),
+    };
     if tried.is_err() && !place.is_some_and(|ticket| event.stay(ticket, waker)) {
         *place = Some(event.stand(waker.clone()));
         tried = attempt();
@@ -82,7 +87,8 @@ impl<T> Future for RecvFuture<'_, T> {
 
     fn poll(mut self: Pin<&mut Self>, context: &mut Context<'_>) -> Poll<Self::Output> {
         let Self { receiver, place } = &mut *self;
-        let taken = poll(place, receiver.items(), context, || receiver.attempt());
+        let (items, is_empty) = (receiver.items(), || receiver.is_empty());
+        let taken = poll(place, items, context, is_empty, || receiver.attempt());
         taken.map(|parcel| parcel.map(Parcel::unpack).ok_or(RecvError))
     }
 }
@@ -123,7 +129,8 @@ impl<T> Future for SendFuture<'_, T> {
         let this = &mut *self;
         let parcel = this.parcel.as_ref().expect("the item isn't sent yet");
         let room = &this.sender.core().room;
-        let sent = poll(&mut this.place, room, context, || {
+        let is_full = || this.sender.is_full();
+        let sent = poll(&mut this.place, room, context, is_full, || {
             this.sender.attempt(parcel)
         });
         sent.map(|sent| {
