@@ -9,7 +9,7 @@ use crate::words::handle::Words;
 use std::marker::PhantomData;
 use std::mem::{ManuallyDrop, MaybeUninit, forget, size_of};
 use std::ptr::NonNull;
-use std::sync::atomic::{AtomicUsize, Ordering, fence};
+use std::sync::atomic::{AtomicUsize, Ordering};
 
 /// So many bytes an item has at most that is its body.
 const INLINE: usize = size_of::<Words>();
@@ -165,11 +165,10 @@ impl<T> Parcel<T> {
     unsafe fn release(at: NonNull<Shared<T>>) -> Option<T> {
         // SAFETY: the box is there as long as there is a share of it, and this is one.
         let left = unsafe { &at.as_ref().left };
-        if left.fetch_sub(1, Ordering::Release) != 1 {
+        // What was done with the other shares comes before what is done with the item.
+        if left.fetch_sub(1, Ordering::AcqRel) != 1 {
             return None;
         }
-        // What was done with the other shares comes before what is done with the item.
-        fence(Ordering::Acquire);
         // SAFETY: this was the last share, so nobody else has the box.
         let shared = unsafe { Box::from_raw(at.as_ptr()) };
         Some(ManuallyDrop::into_inner(shared.item))

@@ -8,14 +8,13 @@
 //! **Order of locks**: the state, all seats, a line. A holder of a seat makes one call of the queue, and
 //! takes no other lock. Code of others (an item's drop or copy, a waker) runs while none is held.
 use super::body::{Copies, Parcel, words_of};
-use super::event::{Event, Panic, keep_first, lock, panic_of};
+use super::event::{Event, Panic, keep_first, let_be, lock, panic_of};
 use super::pool::{Pass, Pool};
 use super::renew::open_queue;
 use crate::words::backoff::Backoff;
 use crate::words::handle::{code, hands_over, has_taken};
 use crate::words::{Config, OpenError};
 use std::marker::PhantomData;
-use std::mem::forget;
 use std::panic::resume_unwind;
 use std::sync::Mutex;
 use std::sync::atomic::{AtomicBool, AtomicUsize, Ordering};
@@ -86,7 +85,7 @@ fn drop_all<D>(all: Vec<D>) -> Option<Panic> {
 fn go_on(panic: Option<Panic>) {
     match panic {
         Some(panic) if !std::thread::panicking() => resume_unwind(panic),
-        other => forget(other),
+        other => let_be(other),
     }
 }
 
@@ -165,9 +164,9 @@ impl<T> Core<T> {
     /// Sends what is in this parcel, which is the queue's then.
     #[inline]
     pub fn try_send(&self, parcel: &Parcel<T>) -> Result<(), Refusal> {
-        hands_over(self);
         let mut seat = self.senders.take();
         parcel.is_for(self.shares.load(Ordering::Relaxed));
+        hands_over(self);
         match seat.pass().handle.send(parcel.words(), self.words()) {
             Ok(()) => seat.count_one(),
             Err(code) => {
@@ -206,8 +205,8 @@ impl<T> Core<T> {
         }
         drop(state);
         // The item isn't sent yet, but this call may go on for others: it doesn't panic.
-        forget(drop_all(let_go));
-        forget(self.room.ring_for_all());
+        let_be(drop_all(let_go));
+        let_be(self.room.ring_for_all());
         self.try_send(parcel)
     }
 

@@ -87,12 +87,17 @@ pub fn panic_of(foreign: impl FnOnce()) -> Option<Panic> {
     catch_unwind(AssertUnwindSafe(foreign)).err()
 }
 
-/// Keeps the first panic. The drop of another would be code of others, too, so it is forgotten.
+/// Keeps the first panic.
 pub fn keep_first(first: &mut Option<Panic>, next: Option<Panic>) {
     match first {
         None => *first = next,
-        Some(_) => forget(next),
+        Some(_) => let_be(next),
     }
+}
+
+/// Ends a panic here. Its drop is code of others, too.
+pub fn let_be(panic: Option<Panic>) {
+    forget(panic_of(|| drop(panic)));
 }
 
 /// A waiter, linked to those before and after it. Node 0 is none: it closes the ring of nodes.
@@ -262,10 +267,10 @@ impl Event {
     #[cold]
     fn wake_first(&self) {
         while let Some(waker) = self.with_line(Line::pop) {
-            let Some(panic) = panic_of(|| waker.wake()) else {
-                return;
-            };
-            forget(panic);
+            match panic_of(|| waker.wake()) {
+                None => return,
+                panic => let_be(panic),
+            }
         }
     }
 
