@@ -125,19 +125,19 @@ The answer is three lines:
   sent N       how many sends were accepted
   taken N      how many items were taken
   audit clean  the verdict on the receipts of all threads; else the line of a fault, as `ccq audit`
-               tells it
+               prints it
 
-What is measured: what the threads were told, each item that was sent and each that was taken, and
-whether these receipts fit together. What isn't: times, and the order of the threads' steps, which
-is another in each run.
+A drive measures what the threads received, each item that was sent and each that was taken, and
+whether these receipts fit together. It doesn't measure times, or the order of the threads' steps,
+which is another in each run.
 
-A combiner serves at most as many calls as the bound says, and hands over to the next in line. With
+A combiner serves as many calls as the bound allows, and hands over to the next in line. With
 more threads than processors, a bound below a quarter of a side's threads is slow: the next in line
 is often a thread that doesn't run, and the side waits for it.
 
-Each thread has a stack as large as the limit on stacks says (`ulimit -s`); 128 KiB are enough. At
+Each thread has a stack as large as the limit on stacks (`ulimit -s`); 128 KiB are enough. At
 8 MiB the stacks of 127 threads are 1 GB of address space, of which little is used, and with what
-the C library sets aside such a run wants up to 3.5 GB of it on four processors. Under a limit on
+the C library reserves such a run needs up to 3.5 GB of it on four processors. Under a limit on
 that (`ulimit -v`) a thread may be refused; with small stacks 100 MB are enough:
   (ulimit -s 128; ulimit -v 100000; ccq drive --senders 63 --receivers 64)
 
