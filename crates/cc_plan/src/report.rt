@@ -71,6 +71,7 @@ fn write_parts<W: Sink>(sink: &mut W, pen: &mut Pen, report: &Report<'_>)
 }
 
 /// The lines of one group after another.
+#[tactic(auto, using(crate::proofs::Lines::none, crate::proofs::Lines::all))]
 fn write_groups<W: Sink>(sink: &mut W, pen: &mut Pen, version: u32, history: &History)
     requires { pen.old.failed ≡ false → W.write_failures sink.old < 2 ^ 64 - 1 }
     ensures { Pens (desk pen.old (W.bytes_written sink.old) (W.write_failures sink.old))
@@ -97,6 +98,7 @@ fn caller_in(version: u32, group: usize) -> Caller
 }
 
 /// A line for each call, numbered from 0.
+#[tactic(auto, using(crate::proofs::Lines::none, crate::proofs::Lines::all))]
 fn write_lines<W: Sink>(
     sink: &mut W,
     pen: &mut Pen,
@@ -225,6 +227,7 @@ fn write_item<W: Sink>(sink: &mut W, pen: &mut Pen, item: Item)
 }
 
 /// Writes the words of a body, each behind a space, as a call and an item in a report tell them.
+#[tactic(auto, using(crate::proofs::Lines::none, crate::proofs::Lines::all))]
 pub fn write_body<W: Sink>(sink: &mut W, pen: &mut Pen, body: Body)
     requires { pen.old.failed ≡ false → W.write_failures sink.old < 2 ^ 64 - 1 }
     ensures { Pens (desk pen.old (W.bytes_written sink.old) (W.write_failures sink.old))

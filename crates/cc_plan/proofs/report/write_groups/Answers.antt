@@ -3,11 +3,8 @@ use Rattle.std.proofs.Math.ListN.{get_or-map}
 use Rattle.std.proofs.lemmas.List.{length-map}
 use Rattle.cc_model.specs.Record.{silent}
 use Rattle.cc_model.specs.HistoryRoom.{SideRoom, lists}
-use Rattle.cc_plan.proofs.Lines.{none, one_more, all}
+use Rattle.cc_plan.proofs.Lines.{one_more}
 use Rattle.cc_plan.proofs.report.write_groups.Goals as goal
-
-pub loop-group-init : goal.loop-group-init
-loop-group-init g c = none _ _ _
 
 pub loop-group-preserved : goal.loop-group-preserved
 loop-group-preserved g c =
@@ -16,6 +13,3 @@ loop-group-preserved g c =
     let side = get_or-map (λ (s : SideRoom). s.lists) groups c.loop-group.group (record { lists = silent; room = 0 }) in
     one_more _ (lists c.args.history.now).takes _ _ _ c.loop-group.group silent (omega (arith, all_groups)) c.loop-group.invariant
     (rw side (rw (c.caller_in-caller.ensures, c.calls.ensures, c.answers.ensures, c.takes-takes.ensures) at c.write_lines.ensures))
-
-pub returns : goal.returns
-returns g c = all _ (lists c.args.history.now).takes _ _ c.loop-group.group (omega (arith, length-map c.args.history.now.takes (λ (s : SideRoom). s.lists))) c.loop-group.invariant
