@@ -1,5 +1,5 @@
 //! One thread sends the numbers 1 to 100 and closes, another takes until the end and adds them up. Then one thread sends an
-//! item in turns, closes, and takes what there is.
+//! item in turns, closes, and takes what there is. At last one thread sends an item and hands a note on to another, which takes it.
 #![tactic(auto)]
 
 ghost use Rattle.std.specs.Prelude.{◌≡◌, IfSome};
@@ -7,11 +7,13 @@ ghost use Rattle.std.specs.Thread.{IsSync};
 ghost use Rattle.cc_queue.specs.Opened.{HasOpened};
 ghost use Rattle.cc_steps.specs.Walk.{IsOf};
 
+mod handed_on;
 mod in_turns;
 mod opening;
 
 use cc_model::{Body, Config, SendAnswer, TakeAnswer};
 use cc_queue::{Opened, Queue, Receiver, Sender, close, send_until, take_until};
+use handed_on::handed_on;
 use in_turns::one_thread;
 use opening::first_passes;
 use std::alloc::Global;
@@ -119,5 +121,8 @@ fn main(rt: HostRuntime) -> io::Result<ExitCode> {
     };
     println!(rt; "sent {}, sum {sum}", sent.unwrap_or(0))?;
     one_thread(&rt, rt.alloc(), &config)?;
+    if let Some(item) = handed_on(&rt, rt.alloc(), &config, Body::one(9)) {
+        println!(rt; "handed on {}", item.body.words()[0])?;
+    }
     Ok(ExitCode::SUCCESS)
 }
