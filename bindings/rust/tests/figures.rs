@@ -25,13 +25,15 @@ fn used() -> usize {
     info.used + info.mapped
 }
 
-/// The bytes that this holds.
+/// The bytes that this holds: the mean of many at once, as what a thread keeps of freed memory counts as
+/// handed out.
 fn bytes<R>(name: &str, open: impl Fn() -> R) -> usize {
-    drop(open());
+    const MANY: usize = 64;
+    let mut all = Vec::with_capacity(MANY);
     let before = used();
-    let open = open();
-    let taken = used().saturating_sub(before);
-    drop(open);
+    all.extend((0..MANY).map(|_| open()));
+    let taken = used().saturating_sub(before) / MANY;
+    drop(all);
     println!("{name}: {taken} bytes");
     taken
 }

@@ -2,6 +2,7 @@
 //! for is counted, and what the C library has handed out.
 use std::alloc::{GlobalAlloc, Layout, System};
 use std::cell::Cell;
+use std::sync::Barrier;
 use std::thread;
 use std::time::Duration;
 use vahepito::{RecvTimeoutError, SendTimeoutError, TryRecvError, channel, groups};
@@ -96,13 +97,18 @@ fn a_second_wait_asks_for_none() {
     assert_eq!(asked(waits), 0);
 
     let (there, here) = channel(1).unwrap();
+    let ready = &Barrier::new(2);
     thread::scope(|scope| {
         let takes = scope.spawn(move || {
-            assert_eq!(here.recv_timeout(SOON), Err(RecvTimeoutError::Timeout));
+            for _ in 0..5 {
+                assert_eq!(here.recv_timeout(SOON), Err(RecvTimeoutError::Timeout));
+            }
+            ready.wait();
             asked(|| assert!(here.iter().eq(0..6)))
         });
+        ready.wait();
         for number in 0..6 {
-            thread::sleep(2 * SOON);
+            thread::sleep(SOON);
             there.send(number).unwrap();
         }
         drop(there);

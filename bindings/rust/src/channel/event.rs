@@ -62,8 +62,7 @@
 use crate::words::backoff::Backoff;
 use std::any::Any;
 use std::cell::RefCell;
-use std::fmt;
-use std::mem::{forget, replace};
+use std::mem::{forget, replace, swap};
 use std::panic::{AssertUnwindSafe, catch_unwind};
 use std::sync::atomic::{AtomicBool, AtomicUsize, Ordering};
 use std::sync::{Arc, Mutex, MutexGuard, PoisonError};
@@ -239,9 +238,12 @@ impl Event {
             Some(false) => {}
             there => return there.is_some(),
         }
-        let waker = waker.clone();
-        let before = self.with_line(|line| Some(replace(line.waker(ticket)?, waker)));
-        before.is_some()
+        // The one that isn't in line then is dropped once the lock is released.
+        let mut waker = waker.clone();
+        self.with_line(|line| {
+            let place = line.waker(ticket);
+            place.map(|place| swap(place, &mut waker)).is_some()
+        })
     }
 
     /// Leaves the line. A try has to follow, since a ring may have taken this one out.
@@ -283,14 +285,6 @@ impl Event {
             keep_first(&mut first, panic_of(|| waker.wake()));
         }
         first
-    }
-}
-
-impl fmt::Debug for Event {
-    fn fmt(&self, f: &mut fmt::Formatter<'_>) -> fmt::Result {
-        f.debug_struct("Event")
-            .field("waiting", &self.waiting)
-            .finish_non_exhaustive()
     }
 }
 

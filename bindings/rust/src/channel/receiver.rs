@@ -364,29 +364,20 @@ pub struct IntoIter<T> {
     receiver: Receiver<T>,
 }
 
-impl<T> Iterator for Iter<'_, T> {
-    type Item = T;
+/// Iterators that take items by this call.
+macro_rules! takes {
+    ($($iterator:ty: $call:ident),+) => {$(
+        impl<T> Iterator for $iterator {
+            type Item = T;
 
-    fn next(&mut self) -> Option<T> {
-        self.receiver.recv().ok()
-    }
+            fn next(&mut self) -> Option<T> {
+                self.receiver.$call().ok()
+            }
+        }
+    )+};
 }
 
-impl<T> Iterator for TryIter<'_, T> {
-    type Item = T;
-
-    fn next(&mut self) -> Option<T> {
-        self.receiver.try_recv().ok()
-    }
-}
-
-impl<T> Iterator for IntoIter<T> {
-    type Item = T;
-
-    fn next(&mut self) -> Option<T> {
-        self.receiver.recv().ok()
-    }
-}
+takes!(Iter<'_, T>: recv, TryIter<'_, T>: try_recv, IntoIter<T>: recv);
 
 impl<T> FusedIterator for Iter<'_, T> {}
 impl<T> FusedIterator for IntoIter<T> {}
