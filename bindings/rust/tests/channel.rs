@@ -334,6 +334,15 @@ fn handles_go_where_they_may() {
     goes::<Receiver<std::cell::Cell<u8>>>();
 }
 
+/// Items that stay on their thread pass too: the handles are asked whether they may go, and not the opening.
+#[test]
+fn items_of_one_thread_pass() {
+    let (sender, receiver) = channel(1).unwrap();
+    let item = std::rc::Rc::new(7);
+    sender.send(item.clone()).unwrap();
+    assert!(std::rc::Rc::ptr_eq(&receiver.recv().unwrap(), &item));
+}
+
 /// What is left is dropped with the last receiver; else with whoever takes it.
 #[test]
 fn what_is_left_is_dropped() {

@@ -109,3 +109,22 @@ fn open<T>(
     let receivers = (0..groups as usize).map(receiver).collect();
     Ok((Sender::new(core), receivers))
 }
+
+/// What doesn't compile: a handle doesn't go to another thread if its items can't, and no group clones items
+/// on one thread while another reads them unless they are made for it.
+///
+/// ```compile_fail,E0277
+/// fn goes<T: Send>() {}
+/// goes::<vahepito::Sender<std::rc::Rc<u8>>>();
+/// ```
+///
+/// ```compile_fail,E0277
+/// fn shared<T: Sync>() {}
+/// shared::<vahepito::Receiver<std::rc::Rc<u8>>>();
+/// ```
+///
+/// ```compile_fail,E0277
+/// let _ = vahepito::groups::<std::cell::Cell<u8>>(1, 2);
+/// ```
+#[cfg(doctest)]
+mod refused {}
