@@ -1,0 +1,6 @@
+pub mod Places
+pub mod Turns
+pub mod Runs
+pub mod Orders
+pub mod NoOrder
+pub mod Tables

@@ -1,0 +1,113 @@
+-- An element of a list that is read at an index, one turn of a loop further.
+use Rattle.std.proofs.Common.{◌≡◌, ◌≢◌, ℕ, zero, suc, ◌+◌, ◌<◌, ◌≤◌, ◌⊎◌, inl, inr, List, [], ◌∷◌, length, get_or, Bool, true, false, Some, refl, sym, ap, ◌∙◌, subst, arith}
+use Rattle.std.specs.List.{slice_get, slice_set}
+use Rattle.std.proofs.lemmas.Bool.{cases_lt}
+use Rattle.std.proofs.lemmas.Option.{get_or_from_slice_get, slice_get-get_or, slice_get_within}
+use Rattle.cc_judge.specs.Names.{Call, Step}
+use Rattle.cc_judge.specs.Order.{EndsBefore, Has}
+use Rattle.cc_judge.specs.Checks.{GoesOn, Marks}
+
+pub nat_cases : (a b : ℕ) → (a ≡ b) ⊎ (a ≢ b)
+nat_cases a b = elim (cases_lt a b) [
+  | inl less ↦ inr (λ same. omega (arith, less, same))
+  | inr not_less ↦ elim (cases_lt b a) [ inl more ↦ inr (λ same. omega (arith, more, same)) | inr not_more ↦ inl (omega (arith, not_less, not_more)) ]
+]
+
+-- of the elements below i + 1 each is below i, or the one at i
+pub below_or_at : {X : Type 0} (xs : List X) (i k : ℕ) (d x : X) → k < i + 1 → slice_get xs k ≡ Some x → (k < i) ⊎ ((k ≡ i) × (x ≡ get_or xs i d))
+below_or_at xs i k d x below is = elim (cases_lt k i) [
+  | inl less ↦ inl less
+  | inr not_less ↦ let same : k ≡ i = omega arith in inr (same, sym (get_or_from_slice_get xs i x d (subst (λ n. slice_get xs n ≡ Some x) same is)))
+]
+
+-- ---- time
+
+-- no call of the steps so far began after a time
+abbrev pub Begun : List Call → List Step → (upto latest : ℕ) → Type 0
+Begun calls order upto latest = (k : ℕ) (s : Step) (c : Call) → k < upto → slice_get order k ≡ Some s → slice_get calls s.place ≡ Some c → c.begin ≤ latest
+
+-- none of the steps so far stands behind one whose call began after its own had ended
+abbrev pub TimelyTo : List Call → List Step → (upto : ℕ) → Type 0
+TimelyTo calls order upto = (j k : ℕ) (s t : Step) → j < k → k < upto → slice_get order j ≡ Some s → slice_get order k ≡ Some t → EndsBefore calls t.place s.place → ⊥
+
+pub begun_on : (calls : List Call) (order : List Step) (i latest next : ℕ) (d : Step) → Begun calls order i latest → GoesOn calls (get_or order i d).place latest next → Begun calls order (i + 1) next
+begun_on calls order i latest next d begun on k s c below s_is c_is = elim (below_or_at order i k d s below s_is) [
+  | inl less ↦ omega (arith, begun k s c less s_is c_is, on.earlier)
+  | inr here ↦
+      let both : Some c ≡ Some on.call = sym c_is ∙ subst (λ (x : Step). slice_get calls x.place ≡ Some on.call) (sym here.1) on.call_is in
+      let one : c ≡ on.call = cc in
+      subst (λ (x : Call). x.begin ≤ next) (sym one) on.begun
+]
+
+pub timely_on : (calls : List Call) (order : List Step) (i latest next : ℕ) (d : Step) → Begun calls order i latest → TimelyTo calls order i → GoesOn calls (get_or order i d).place latest next → TimelyTo calls order (i + 1)
+timely_on calls order i latest next d begun timely on j k s t less below s_is t_is ends = elim (below_or_at order i k d t below t_is) [
+  | inl lesser ↦ timely j k s t less lesser s_is t_is ends
+  | inr here ↦
+      let both : Some ends.one ≡ Some on.call = sym ends.one_is ∙ subst (λ (x : Step). slice_get calls x.place ≡ Some on.call) (sym here.1) on.call_is in
+      let one : ends.one ≡ on.call = cc in
+      let ended : latest ≤ ends.end = on.not_ended ends.end (subst (λ (x : Call). x.end ≡ Some ends.end) one ends.ended) in
+      let began : ends.other.begin ≤ latest = begun j s ends.other (omega arith) s_is ends.other_is in
+      omega (arith, ended, began, ends.before)
+]
+
+-- ---- marks
+
+pub set_at : {X : Type 0} (xs : List X) (p : ℕ) (x y : X) → slice_get xs p ≡ Some x → slice_get (slice_set xs p y) p ≡ Some y
+set_at [] p x y is = cc
+set_at (z ∷ xs) zero x y is = refl
+set_at (z ∷ xs) (suc p) x y is = set_at xs p x y is
+
+pub set_elsewhere : {X : Type 0} (xs : List X) (p q : ℕ) (y : X) → q ≢ p → slice_get (slice_set xs p y) q ≡ slice_get xs q
+set_elsewhere [] p q y apart = refl
+set_elsewhere (z ∷ xs) zero zero y apart = absurd (apart refl)
+set_elsewhere (z ∷ xs) zero (suc q) y apart = refl
+set_elsewhere (z ∷ xs) (suc p) zero y apart = refl
+set_elsewhere (z ∷ xs) (suc p) (suc q) y apart = set_elsewhere xs p q y (λ same. apart (ap suc same))
+
+-- only calls of steps are marked
+abbrev pub Marked : List Step → List Bool → Type 0
+Marked order marks = (place : ℕ) → slice_get marks place ≡ Some true → Has order place
+
+-- the calls of the steps so far are marked
+abbrev pub MarkedTo : List Step → List Bool → (upto : ℕ) → Type 0
+MarkedTo order marks upto = (k : ℕ) (s : Step) → k < upto → slice_get order k ≡ Some s → slice_get marks s.place ≡ Some true
+
+-- no two of the steps so far are of one call
+abbrev pub OnceTo : List Step → (upto : ℕ) → Type 0
+OnceTo order upto = (j k : ℕ) (s t : Step) → j < k → k < upto → slice_get order j ≡ Some s → slice_get order k ≡ Some t → s.place ≢ t.place
+
+pub marked_on : (order : List Step) (i : ℕ) (d : Step) (before after : List Bool) → i < length order → Marked order before → Marks before (get_or order i d).place after → Marked order after
+marked_on order i d before after within marked on place is = elim (nat_cases place (get_or order i d).place) [
+  | inl same ↦ record { at = i; step = get_or order i d; step_is = slice_get-get_or order i d within; place_is = sym same }
+  | inr other ↦ marked place (sym (set_elsewhere before (get_or order i d).place place true other) ∙ subst (λ (l : List Bool). slice_get l place ≡ Some true) on.now is)
+]
+
+marked_still : (before after : List Bool) (p place : ℕ) → Marks before p after → slice_get before place ≡ Some true → slice_get after place ≡ Some true
+marked_still before after p place on is = elim (nat_cases place p) [
+  | inl same ↦ let both : Some true ≡ Some false = sym is ∙ ap (slice_get before) same ∙ on.was in cc
+  | inr other ↦ subst (λ (l : List Bool). slice_get l place ≡ Some true) (sym on.now) (set_elsewhere before p place true other ∙ is)
+]
+
+marked_here : (before after : List Bool) (p : ℕ) → Marks before p after → slice_get after p ≡ Some true
+marked_here before after p on = subst (λ (l : List Bool). slice_get l p ≡ Some true) (sym on.now) (set_at before p false true on.was)
+
+pub marked_to_on : (order : List Step) (i : ℕ) (d : Step) (before after : List Bool) → MarkedTo order before i → Marks before (get_or order i d).place after → MarkedTo order after (i + 1)
+marked_to_on order i d before after marked on k s below is = elim (below_or_at order i k d s below is) [
+  | inl less ↦ marked_still before after (get_or order i d).place s.place on (marked k s less is)
+  | inr here ↦ subst (λ (x : Step). slice_get after x.place ≡ Some true) (sym here.1) (marked_here before after (get_or order i d).place on)
+]
+
+pub once_on : (order : List Step) (i : ℕ) (d : Step) (before after : List Bool) → MarkedTo order before i → OnceTo order i → Marks before (get_or order i d).place after → OnceTo order (i + 1)
+once_on order i d before after marked once on j k s t less below s_is t_is same = elim (below_or_at order i k d t below t_is) [
+  | inl lesser ↦ once j k s t less lesser s_is t_is same
+  | inr here ↦
+      let was : slice_get before s.place ≡ Some true = marked j s (omega arith) s_is in
+      let place_is : s.place ≡ (get_or order i d).place = same ∙ ap (λ (x : Step). x.place) here.1 in
+      let both : Some true ≡ Some false = sym was ∙ ap (slice_get before) place_is ∙ on.was in
+      cc
+]
+
+-- ---- the end of a loop
+
+pub all_steps : (order : List Step) (P : ℕ → Step → Type 0) (i : ℕ) → length order ≤ i → ((k : ℕ) (s : Step) → k < i → slice_get order k ≡ Some s → P k s) → (k : ℕ) (s : Step) → slice_get order k ≡ Some s → P k s
+all_steps order P i end below k s is = let within : k < length order = slice_get_within order k s is in below k s (omega arith) is
