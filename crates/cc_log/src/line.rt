@@ -1,0 +1,144 @@
+//! One line of a log.
+
+use crate::fault::LineFault;
+use serde_json::Value;
+
+/// The words of a body, and how many they are.
+pub type Body = (usize, u64, u64, u64, u64);
+
+/// What a line says of a call.
+#[derive(Clone, Copy, Debug, PartialEq, Eq)]
+pub enum Said {
+    /// A send that was accepted, or hasn't returned.
+    Send(Body),
+    /// A take that got an item.
+    Took(Body),
+    /// A take that found none.
+    FoundNone,
+    /// A take that hasn't returned.
+    Taking,
+    /// A call that was answered Full, Closed or Ended, which isn't judged.
+    NotJudged,
+}
+
+/// The times of a call, and what the line says of it.
+#[derive(Clone, Copy, Debug, PartialEq, Eq)]
+pub struct Line {
+    /// When it began.
+    pub begin: u64,
+    /// When it ended.
+    pub end: Option<u64>,
+    /// What it did.
+    pub said: Said,
+}
+
+/// Whether the tree is an object with keys of a call alone.
+fn has_keys(tree: &Value) -> Result<(), LineFault> {
+    let Some(object) = tree.as_object() else {
+        return Err(LineFault::NoObject);
+    };
+    for key in object.keys() {
+        if !matches!(
+            key.as_str(),
+            "thread" | "begin" | "end" | "send" | "take" | "answer"
+        ) {
+            return Err(LineFault::Key);
+        }
+    }
+    Ok(())
+}
+
+/// The word at a place of a body, or 0 behind its end.
+fn word(list: &[Value], at: usize) -> Result<u64, LineFault> {
+    match list.get(at) {
+        Some(value) => value.as_u64().ok_or(LineFault::Call),
+        None => Ok(0),
+    }
+}
+
+/// The body of one to four words.
+fn body(value: &Value) -> Result<Body, LineFault> {
+    let Some(list) = value.as_array() else {
+        return Err(LineFault::Call);
+    };
+    let list = list.as_slice();
+    if list.is_empty() || list.len() > 4 {
+        return Err(LineFault::Call);
+    }
+    Ok((
+        list.len(),
+        word(list, 0)?,
+        word(list, 1)?,
+        word(list, 2)?,
+        word(list, 3)?,
+    ))
+}
+
+/// The end of a call that began at a time, if it has one.
+fn end(tree: &Value, begin: u64) -> Result<Option<u64>, LineFault> {
+    let Some(value) = tree.get("end") else {
+        return Ok(None);
+    };
+    match value.as_u64() {
+        Some(end) if begin <= end => Ok(Some(end)),
+        _ => Err(LineFault::End),
+    }
+}
+
+/// Whether the call was answered Full, Closed or Ended.
+fn is_not_judged(tree: &Value, sends: bool, ended: bool) -> Result<bool, LineFault> {
+    let Some(value) = tree.get("answer") else {
+        return Ok(false);
+    };
+    match value.as_str() {
+        Some("full" | "closed") if sends && ended => Ok(true),
+        Some("ended") if !sends && ended => Ok(true),
+        _ => Err(LineFault::Answer),
+    }
+}
+
+/// What the line says of a send.
+fn send(tree: &Value, value: &Value, end: Option<u64>) -> Result<Said, LineFault> {
+    let body = body(value)?;
+    if is_not_judged(tree, true, end.is_some())? {
+        return Ok(Said::NotJudged);
+    }
+    Ok(Said::Send(body))
+}
+
+/// What the line says of a take.
+fn take(tree: &Value, value: &Value, end: Option<u64>) -> Result<Said, LineFault> {
+    if value.is_null() {
+        if is_not_judged(tree, false, end.is_some())? {
+            return Ok(Said::NotJudged);
+        }
+        return Ok(if end.is_some() {
+            Said::FoundNone
+        } else {
+            Said::Taking
+        });
+    }
+    if tree.get("answer").is_some() {
+        return Err(LineFault::Answer);
+    }
+    let body = body(value)?;
+    if end.is_none() {
+        return Err(LineFault::Open);
+    }
+    Ok(Said::Took(body))
+}
+
+/// What a line says, whose tree this is.
+pub fn read_line(tree: &Value) -> Result<Line, LineFault> {
+    has_keys(tree)?;
+    let Some(begin) = tree.get("begin").and_then(Value::as_u64) else {
+        return Err(LineFault::Begin);
+    };
+    let end = end(tree, begin)?;
+    let said = match (tree.get("send"), tree.get("take")) {
+        (Some(value), None) => send(tree, value, end)?,
+        (None, Some(value)) => take(tree, value, end)?,
+        _ => return Err(LineFault::Call),
+    };
+    Ok(Line { begin, end, said })
+}
