@@ -1,82 +1,81 @@
 //! Doing what a command line asks for.
 ghost use Rattle.std.specs.Prelude.{◌<◌, ◌-◌, ◌^◌, map, string_bytes};
-ghost use Rattle.clap.specs.Words.{fault_of, kind_of};
+ghost use Rattle.clap.specs.Words.{fault_of};
 ghost use Rattle.cc_command.specs.CommandLine.{commands, task_of};
-ghost use Rattle.cc_command.specs.Run.{Declines, Helps, Runs};
+ghost use Rattle.cc_command.specs.Run.{Runs};
+ghost use Rattle.cc_command.specs.Drive.{Answers, Drives};
+ghost use Rattle.cc_command.specs.Line.{asks_to_drive};
+ghost use Rattle.std.specs.Bool.{OnTrue, OnFalse};
 
-use crate::command_line::{Task, asked};
-use cc_device::{Sink, Source, write_bytes};
-use cc_play::play::play;
-use cc_play::{PlayFault, audit_bytes, out_of_memory, tell, told};
-use clap::Error;
-use clap::error::ErrorKind;
+use crate::drive_line::{asked, asks_to_drive};
+use crate::driving::{drive_to, tell_end};
+use crate::reading;
+use crate::reading::decline;
+use cc_device::{Sink, Source};
 use std::alloc::Global;
+use std::sync::Wait;
+use std::thread::Threads;
 
-/// One command line, without the program's name: plays the plan of the source, or audits its receipts, and answers the exit
-/// status. It is 0 where that was done and the verdict is clean, or help was asked for and went to the sink; 1 where the
-/// audit found a fault, 2 where the input is refused, 3 where memory is, 4 where a device fails, and 64 where the line is
-/// refused. What went wrong is told on `errors`, whose own failures change nothing.
-pub fn run<R: Source, W: Sink, E: Sink>(
+/// One command line, without the program's name. Where its first word is `drive`, a queue is driven by threads, and nothing
+/// is read; any other line is done as `reading` does it. It answers the exit status: 0 where that was done and the verdict
+/// is clean, or help was asked for and went to the sink; 1 where the audit found a fault, 2 where the input is refused, 3
+/// where memory or a thread is, or a worker reached its limit, 4 where a device fails, and 64 where the line is refused. What
+/// went wrong is told on `errors`, whose own failures change nothing.
+pub fn run<R: Threads + Wait + Sync, S: Source, W: Sink, E: Sink>(
+    rt: &R,
     alloc: Global,
     words: &[String],
-    source: &mut R,
+    source: &mut S,
     sink: &mut W,
     errors: &mut E,
 ) -> u8
-    requires reads { R.read_failures source.old < 2 ^ 64 - 1 }
+    requires reads { S.read_failures source.old < 2 ^ 64 - 1 }
     requires writes { W.write_failures sink.old < 2 ^ 64 - 1 }
     requires errors { E.write_failures errors.old < 2 ^ 64 - 1 }
 
-    ensures { Runs (R.bytes_left source.old) (R.bytes_left source.new)
-        (R.read_failures source.old) (R.read_failures source.new)
+    ensures drives { OnTrue (asks_to_drive (map string_bytes words.now))
+        (Drives (S.bytes_left source.old) (S.bytes_left source.new)
+        (S.read_failures source.old) (S.read_failures source.new)
+        (W.bytes_written sink.old) (W.bytes_written sink.new)
+        (W.write_failures sink.old) (W.write_failures sink.new)
+        (E.bytes_written errors.old) (E.bytes_written errors.new)
+        (E.write_failures errors.old) (E.write_failures errors.new) result) }
+    ensures others { OnFalse (asks_to_drive (map string_bytes words.now))
+        (Runs (S.bytes_left source.old) (S.bytes_left source.new)
+        (S.read_failures source.old) (S.read_failures source.new)
         (W.bytes_written sink.old) (W.bytes_written sink.new)
         (W.write_failures sink.old) (W.write_failures sink.new)
         (E.bytes_written errors.old) (E.bytes_written errors.new)
         (E.write_failures errors.old) (E.write_failures errors.new) result
-        (task_of (map string_bytes words.now)) (fault_of commands (map string_bytes words.now)) }
+        (task_of (map string_bytes words.now)) (fault_of commands (map string_bytes words.now))) }
 {
-    match asked(alloc, words) {
-        Ok(Task::Play) => {
-            let outcome = play(alloc, source, sink);
-            tell(errors, outcome)
-        }
-        Ok(Task::Audit) => {
-            let outcome = audit_bytes(alloc, source, sink);
-            tell(errors, outcome)
-        }
-        Err(error) => decline(alloc, &error, sink, errors),
+    if asks_to_drive(words) {
+        answer(rt, alloc, words, sink, errors)
+    } else {
+        reading::run(alloc, words, source, sink, errors)
     }
 }
 
-/// Answers a command line that asks for no task: writes the help that it asks for, or tells what is wrong with it, and
-/// answers the status.
-pub fn decline<W: Sink, E: Sink>(alloc: Global, error: &Error, sink: &mut W, errors: &mut E) -> u8
+/// A line that asks for a drive, on both outputs; it gets no source to read.
+fn answer<R: Threads + Wait + Sync, W: Sink, E: Sink>(
+    rt: &R,
+    alloc: Global,
+    words: &[String],
+    sink: &mut W,
+    errors: &mut E,
+) -> u8
     requires writes { W.write_failures sink.old < 2 ^ 64 - 1 }
     requires errors { E.write_failures errors.old < 2 ^ 64 - 1 }
-    ensures { Declines (W.bytes_written sink.old) (W.bytes_written sink.new)
-        (W.write_failures sink.old) (W.write_failures sink.new)
-        (E.bytes_written errors.old) (E.bytes_written errors.new)
-        (E.write_failures errors.old) (E.write_failures errors.new) result (kind_of error.now) }
-{
-    let kind = error.kind();
-    match (kind, format!(in alloc; "{error}")) {
-        (ErrorKind::OutOfMemory, _) | (_, Err(_)) => out_of_memory(errors),
-        (ErrorKind::DisplayHelp, Ok(text)) => help(sink, errors, text.as_bytes()),
-        (_, Ok(text)) => told(errors, text.as_bytes(), 64),
-    }
-}
-
-/// Writes a text of help, and answers the status.
-fn help<W: Sink, E: Sink>(sink: &mut W, errors: &mut E, text: &[u8]) -> u8
-    requires writes { W.write_failures sink.old < 2 ^ 64 - 1 }
-    requires errors { E.write_failures errors.old < 2 ^ 64 - 1 }
-    ensures { Helps (W.bytes_written sink.old) (W.bytes_written sink.new)
+    ensures { Answers (W.bytes_written sink.old) (W.bytes_written sink.new)
         (W.write_failures sink.old) (W.write_failures sink.new)
         (E.bytes_written errors.old) (E.bytes_written errors.new)
         (E.write_failures errors.old) (E.write_failures errors.new) result }
 {
-    match write_bytes(sink, text) {
-        Ok(()) => told(errors, b"", 0),
-        Err(_) => tell(errors, Err(PlayFault::Write)),
+    match asked(alloc, words) {
+        Ok(config) => {
+            let outcome = drive_to(rt, alloc, &config, sink);
+            tell_end(errors, outcome.map(|end| end.verdict))
+        }
+        Err(error) => decline(alloc, &error, sink, errors),
     }
 }

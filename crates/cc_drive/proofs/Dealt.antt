@@ -5,10 +5,10 @@ use Rattle.cc_runs.specs.State.{pass_at}
 use Rattle.cc_steps.specs.Topic.{Topic}
 use Rattle.cc_steps.specs.Walk.{Walk, fresh, fresh_from}
 use Rattle.cc_queue.proofs.Held.{sender_named, receiver_named}
-use Rattle.cc_workers.specs.declared.jobs.Job.{Job}
-use Rattle.cc_workers.specs.Config.{queue_of}
-use Rattle.cc_workers.specs.Jobs.{IsSending, IsTaking}
-use Rattle.cc_workers.specs.Row.{InRow}
+use Rattle.cc_drive.specs.declared.jobs.Job.{Job}
+use Rattle.cc_drive.specs.Config.{queue_of}
+use Rattle.cc_drive.specs.Jobs.{IsSending, IsTaking}
+use Rattle.cc_drive.specs.Row.{InRow}
 
 split : (z : Topic) (n : ℕ) (xs : List Walk) (x : Walk) → fresh_from z n (xs ++ x ∷ []) → fresh_from z n xs × (x ≡ fresh z (n + length xs))
 split z n [] x f = (tt, f.0 ∙ ap (fresh z) (omega arith))

@@ -1,3 +1,12 @@
+pub mod Told
+pub mod Workers
+pub mod Counted
+pub mod Unclosed
+pub mod Rows
+pub mod Crews
+pub mod Pairs
+pub mod Ended
+pub mod Crewed
 pub mod Totals
 pub mod Settled
 pub mod Dealt

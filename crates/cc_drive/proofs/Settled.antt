@@ -14,14 +14,14 @@ use Rattle.cc_queue.specs.Met.{AreOfOne, HasMet, HaveSeenOne}
 use Rattle.cc_queue.specs.Receipts.{AreAll, AreInRow, in_group, receipts_by, seen_by, sent, got}
 use Rattle.cc_queue.proofs.Held.{sends_held, takes_held, only_group, seen_is}
 use Rattle.cc_runs.specs.Words.{groups}
-use Rattle.cc_workers.specs.Config.{queue_of}
-use Rattle.cc_workers.specs.Back.{IsBack, SenderIsBack, ReceiverIsBack}
-use Rattle.cc_workers.specs.Ran.{HasRun, total_in}
-use Rattle.cc_workers.specs.Row.{InRow, Pairs}
-use Rattle.cc_workers.proofs.Rows.{row_push}
+use Rattle.cc_drive.specs.Config.{queue_of}
+use Rattle.cc_drive.specs.Back.{IsBack, SenderIsBack, ReceiverIsBack}
+use Rattle.cc_drive.specs.Ran.{HasRun, total_in}
+use Rattle.cc_drive.specs.Row.{InRow, Pairs}
+use Rattle.cc_drive.proofs.Rows.{row_push}
 use Rattle.cc_drive.proofs.Totals.{total_is, taken_is_sent}
-use Rattle.cc_workers.proofs.Pairs.{pairs_last, all_split}
-use Rattle.cc_workers.proofs.Ended.{row_weaker, row_all, row_met, back_met, receiver_met, receipts_met, pairs_length, are_in_row, no_more_receipts, all_items, closer_back, closer_sent_none, closer_told}
+use Rattle.cc_drive.proofs.Pairs.{pairs_last, all_split}
+use Rattle.cc_drive.proofs.Ended.{row_weaker, row_all, row_met, back_met, receiver_met, receipts_met, pairs_length, are_in_row, no_more_receipts, all_items, closer_back, closer_sent_none, closer_told}
 
 -- what an end needs, of the passes that have met
 pub record Settled (z : Topic) (c : DriveConfig) (r : Ran) (senders receivers : List Walk) : Type 0 where

@@ -15,7 +15,7 @@ use Rattle.cc_model.specs.Record.{Side, silent, of_group}
 use Rattle.cc_model.specs.Config.{group_of}
 use Rattle.std.proofs.lemmas.Bool.{cases_lt}
 use Rattle.std.proofs.lemmas.List.{get_or_past}
-use Rattle.cc_workers.specs.Ran.{total_in}
+use Rattle.cc_drive.specs.Ran.{total_in}
 
 -- ---- a call among others
 

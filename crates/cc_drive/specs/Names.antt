@@ -1,4 +1,5 @@
--- The types that proofs and contracts of this crate speak of. A variant stands behind its type, as `Verdict.Clean`.
+-- The types that specs, proofs and contracts of this crate speak of. A variant stands behind its type, as `Answer.Send`.
+pub use Rattle.cc_model.specs.declared.body.Body.{Body}
 pub use Rattle.cc_model.specs.declared.call.Pass.{Pass}
 pub use Rattle.cc_model.specs.declared.call.Call.{Call}
 pub use Rattle.cc_model.specs.declared.call.Item.{Item}
@@ -9,10 +10,22 @@ pub use Rattle.cc_model.specs.declared.call.Answer.{Answer}
 pub use Rattle.cc_model.specs.declared.call.Entry.{Entry}
 pub use Rattle.cc_model.specs.declared.config.Config.{Config}
 pub use Rattle.cc_model.specs.declared.config.ConfigFault.{ConfigFault}
+pub use Rattle.cc_runs.specs.declared.place.Kind.{Kind}
+pub use Rattle.cc_runs.specs.declared.setting.Setting.{Setting}
+pub use Rattle.cc_audit.specs.declared.receipt.SendReceipt.{SendReceipt}
+pub use Rattle.cc_audit.specs.declared.receipt.TakeReceipt.{TakeReceipt}
+pub use Rattle.cc_drive.specs.declared.calls.Left.{Left}
+pub use Rattle.cc_drive.specs.declared.config.DriveConfig.{DriveConfig}
+pub use Rattle.cc_drive.specs.declared.config.DriveFault.{DriveFault}
+pub use Rattle.cc_drive.specs.declared.crew.Crew.{Crew}
+pub use Rattle.cc_drive.specs.declared.ending.Ran.{Ran}
+pub use Rattle.cc_drive.specs.declared.gate.Point.{Point}
+pub use Rattle.cc_drive.specs.declared.gate.Go.{Go}
+pub use Rattle.cc_drive.specs.declared.kept.Worked.{Worked}
+pub use Rattle.cc_drive.specs.declared.sending.Sent.{Sent}
+pub use Rattle.cc_drive.specs.declared.starting.Refused.{Refused}
+pub use Rattle.cc_drive.specs.declared.threads.Brief.{Brief}
+pub use Rattle.cc_drive.specs.declared.turns.Turns.{Turns}
 pub use Rattle.cc_runs.specs.declared.run.Move.{Move}
 pub use Rattle.cc_runs.specs.declared.setting.Served.{Served}
-pub use Rattle.cc_runs.specs.declared.setting.Setting.{Setting}
 pub use Rattle.cc_audit.specs.declared.receipt.Verdict.{Verdict}
-pub use Rattle.cc_workers.specs.declared.config.DriveConfig.{DriveConfig}
-pub use Rattle.cc_workers.specs.declared.config.DriveFault.{DriveFault}
-pub use Rattle.cc_workers.specs.declared.ending.Ran.{Ran}

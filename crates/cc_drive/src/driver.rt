@@ -3,16 +3,19 @@ ghost use Rattle.std.specs.Prelude.{◌≡◌, ◌+◌, ◌*◌, ◌-◌, ◌<�
 ghost use Rattle.cc_drive.specs.Names.{Verdict, Served, DriveFault};
 ghost use Rattle.cc_queue.specs.Opened.{HasOpened};
 ghost use Rattle.cc_steps.specs.Walk.{fresh, fresh_from};
-ghost use Rattle.cc_workers.specs.Config.{drive_fault, queue_of, IsDue};
-ghost use Rattle.cc_workers.specs.Jobs.{IsSending, IsTaking};
-ghost use Rattle.cc_workers.specs.Ran.{HasRun, IsTold};
-ghost use Rattle.cc_workers.specs.Row.{InRow};
+ghost use Rattle.cc_drive.specs.Config.{drive_fault, queue_of, IsDue};
+ghost use Rattle.cc_drive.specs.Jobs.{IsSending, IsTaking};
+ghost use Rattle.cc_drive.specs.Ran.{HasRun, IsTold};
+ghost use Rattle.cc_drive.specs.Row.{InRow};
 
+use crate::closing::total_of;
+use crate::config::{DriveConfig, DriveEnd, DriveFault};
+use crate::ending::{Ran, close_behind, join_receivers, ran_of, room_for};
+use crate::gate::Gate;
+use crate::jobs::{Job, deal};
+use crate::meeting::meet_everyone;
+use crate::threads::{Brief, start_all};
 use cc_queue::{Opened, Queue, Receiver, Sender, audit_all};
-use cc_workers::{
-    Brief, DriveConfig, DriveEnd, DriveFault, Gate, Job, Ran, close_behind, deal, join_receivers,
-    meet_everyone, ran_of, room_for, start_all, total_of,
-};
 use std::alloc::Global;
 use std::sync::Wait;
 use std::thread::{Scope, Threads, scope, scope_env};

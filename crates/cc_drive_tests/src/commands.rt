@@ -1,10 +1,11 @@
-//! Lines that ask `cc_drive_command` for a drive, outputs that fail, and ends of runs. What a line leaves of the program is in
+//! Lines that ask `cc_command` for a drive, outputs that fail, and ends of runs. What a line leaves of the program is in
 //! tests/command_lines.
 use cc_audit::Verdict;
+use cc_command::drive_line::asked;
+use cc_command::run::run;
+use cc_command::{Open, RunFault, drive_to, tell_end};
 use cc_device::Device;
 use cc_drive::{DriveConfig, DriveFault, Gate, Go, Point};
-use cc_drive_command::run::run;
-use cc_drive_command::{Open, RunFault, asked, drive_to, tell_end};
 use cc_model::ConfigFault;
 use std::alloc::{AllocError, Global};
 use std::process::Abort;

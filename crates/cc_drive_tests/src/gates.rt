@@ -1,8 +1,8 @@
 //! Gates of the tests.
 ghost use Rattle.std.specs.Prelude.{◌≡◌, ◌+◌, IfOk, length, vec_len};
 
+use cc_command::Open;
 use cc_drive::{DriveConfig, DriveEnd, DriveFault, Gate, Go, Point, drive};
-use cc_drive_command::Open;
 use crossbeam_utils::Backoff;
 use std::alloc::{AllocError, Global};
 use std::sync::Wait;

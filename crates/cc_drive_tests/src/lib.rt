@@ -1,6 +1,6 @@
 //! The tests of the shared queue, and of what stands on it. Of `cc_queue` the calls that wait; of `cc_broker` what is refused
 //! and in which order, and how names lead to numbers; of `cc_drive` runs with gates that go on, that wait for each other, and
-//! that never let a worker go on; of `cc_drive_command` lines that ask for a drive. Begins and turns, each answer by its row,
+//! that never let a worker go on; of `cc_command` lines that ask for a drive. Begins and turns, each answer by its row,
 //! calls that are given up, groups and threads are in the tests of the bindings, which make these calls.
 #![tactic(auto)]
 

@@ -2,9 +2,9 @@
 #![tactic(auto)]
 
 use cc_command::not_text;
-use cc_command::run::decline;
+use cc_command::reading::decline;
+use cc_command::run::run;
 use cc_device::Device;
-use cc_drive_command::run::run;
 use clap::Error;
 use std::alloc::AllocError;
 use std::env;

@@ -3,7 +3,7 @@ use Rattle.std.proofs.Common.{Result, Ok, Err, IfErr, ◌+◌, sym, subst}
 use Rattle.std.specs.Prelude.{⊤}
 use Rattle.cc_drive.specs.Names.{Config, ConfigFault}
 use Rattle.cc_queue.specs.Opened.{HasOpened}
-use Rattle.cc_workers.specs.Config.{IsDue}
+use Rattle.cc_drive.specs.Config.{IsDue}
 use Rattle.cc_drive.proofs.driver.drive.Goals as goal
 
 pub drive_opened-requires-clause-opened : goal.drive_opened-requires-clause-opened

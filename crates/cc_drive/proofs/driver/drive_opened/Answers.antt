@@ -1,8 +1,8 @@
 use Rattle.std.proofs.Common.{arith, ◌≡◌, ◌∙◌, length, ap}
 use Rattle.cc_runs.proofs.Ranges.{in_range}
 use Rattle.cc_steps.specs.Walk.{fresh}
-use Rattle.cc_workers.specs.Config.{queue_of}
-use Rattle.cc_workers.proofs.Rows.{one_longer}
+use Rattle.cc_drive.specs.Config.{queue_of}
+use Rattle.cc_drive.proofs.Rows.{one_longer}
 use Rattle.cc_drive.proofs.Dealt.{fresh_split}
 use Rattle.cc_drive.proofs.driver.drive_opened.Goals as goal
 

@@ -1,4 +1,4 @@
-use Rattle.cc_workers.proofs.Crewed.{all_due}
+use Rattle.cc_drive.proofs.Crewed.{all_due}
 use Rattle.cc_drive.proofs.driver.run.Goals as goal
 
 pub returns-clause-due : goal.returns-clause-due

@@ -1,6 +1,6 @@
 use Rattle.std.proofs.Common.{◌+◌, Ok, refl, ap}
 use Rattle.cc_drive.specs.Names.{Setting}
-use Rattle.cc_workers.proofs.Crewed.{memory_due}
+use Rattle.cc_drive.proofs.Crewed.{memory_due}
 use Rattle.cc_drive.proofs.driver.run_and_settle.Goals as goal
 
 pub run-requires-clause-setting : goal.run-requires-clause-setting

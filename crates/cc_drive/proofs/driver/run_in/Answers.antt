@@ -1,8 +1,8 @@
 use Rattle.std.proofs.Common.{ℕ, ◌+◌, None, subst, vec_len}
 use Rattle.cc_steps.specs.Walk.{Walk}
-use Rattle.cc_workers.specs.Ran.{HasClosed}
-use Rattle.cc_workers.specs.Start.{IsStarted}
-use Rattle.cc_workers.proofs.Crewed.{both_started}
+use Rattle.cc_drive.specs.Ran.{HasClosed}
+use Rattle.cc_drive.specs.Start.{IsStarted}
+use Rattle.cc_drive.proofs.Crewed.{both_started}
 use Rattle.cc_drive.proofs.driver.run_in.Goals as goal
 
 pub ran_of-requires-clause-ended : goal.ran_of-requires-clause-ended

@@ -1,0 +1,70 @@
+-- What a run by threads answers, what it writes, and what is told of it.
+use Rattle.std.specs.Prelude.{ℕ, ◌≡◌, ◌⊎◌, ◌+◌, ◌++◌, List, [], codes, Option, Result, Ok, Err}
+use Rattle.std.specs.Io.KnownBytes.{Keeps, Appends}
+use Rattle.clap.specs.declared.error.kind.ErrorKind.{ErrorKind}
+use Rattle.cc_model.specs.Items.{IsFront}
+use Rattle.cc_device.specs.Written.{word_text}
+use Rattle.cc_audit.specs.declared.receipt.Verdict.{Verdict}
+use Rattle.cc_plan.specs.Report.{verdict_text}
+use Rattle.cc_play.specs.Outcome.{Told, no_memory_line}
+use Rattle.cc_drive.specs.declared.config.DriveEnd.{DriveEnd}
+use Rattle.cc_drive.specs.declared.config.DriveFault.{DriveFault}
+use Rattle.cc_command.specs.Run.{Declines}
+use Rattle.cc_command.specs.declared.driving.RunFault.{RunFault}
+
+-- the lines of both counts
+unfoldable pub counts_text : ℕ → ℕ → List ℕ
+counts_text sent taken = word_text (codes "sent ") sent ++ word_text (codes "\ntaken ") taken ++ codes "\n"
+
+-- the lines of the counts, and the line of the verdict
+unfoldable pub end_text : DriveEnd → List ℕ
+end_text e = counts_text e.sent e.taken ++ verdict_text e.verdict
+
+-- all that was sent was taken, and the audit finds nothing wrong
+pub record IsWhole (e : DriveEnd) : Type 0 where
+  pub clean : e.verdict ≡ Verdict.Clean
+  pub all_taken : e.taken ≡ e.sent
+
+-- What a run leaves on the sink, with its number of failed writes: the whole text of its end, a front of it where a write
+-- failed, and nothing where it has no end.
+abbrev pub Leaves : Result DriveEnd RunFault → Option (List ℕ) → Option (List ℕ) → ℕ → ℕ → Type 0
+Leaves (Ok e) old new fails fails_after = IsWhole e × Appends old new (end_text e) × (fails_after ≡ fails)
+Leaves (Err RunFault.Write) old new fails fails_after = (e : DriveEnd) × (front : List ℕ) × IsWhole e × IsFront front (end_text e) × Appends old new front × (fails_after ≡ fails + 1)
+Leaves (Err (RunFault.Drive f)) old new fails fails_after = Keeps old new × (fails_after ≡ fails)
+
+-- the exit status
+abbrev pub status_of : Result Verdict RunFault → ℕ
+status_of (Ok Verdict.Clean) = 0
+status_of (Ok (Verdict.Fault kind place)) = 1
+status_of (Err (RunFault.Drive (DriveFault.Config f))) = 64
+status_of (Err (RunFault.Drive f)) = 3
+status_of (Err RunFault.Write) = 4
+
+-- the line on standard error: none where all went well
+unfoldable pub line_of : Result Verdict RunFault → List ℕ
+line_of (Ok verdict) = []
+line_of (Err (RunFault.Drive DriveFault.NoMemory)) = no_memory_line
+line_of (Err (RunFault.Drive DriveFault.Thread)) = codes "ccq: a thread was refused\n"
+line_of (Err (RunFault.Drive (DriveFault.Limit n))) = codes "ccq: a worker reached its limit\n"
+line_of (Err (RunFault.Drive (DriveFault.Config f))) = codes "ccq: a number is out of its range\n"
+line_of (Err RunFault.Write) = codes "ccq: writing failed\n"
+
+-- what is audited of a run
+abbrev pub verdict_in : Result DriveEnd RunFault → Result Verdict RunFault
+verdict_in (Ok e) = Ok e.verdict
+verdict_in (Err f) = Err f
+
+-- What a line that asks for a drive leaves on both outputs: it is done and its outcome told, or the line is declined for what
+-- was found in it.
+module _ (old new : Option (List ℕ)) (fails fails_after : ℕ) (errors_old errors_new : Option (List ℕ)) (before after status : ℕ) where
+  abbrev pub Done : Type 0
+  Done = (outcome : Result DriveEnd RunFault) × Leaves outcome old new fails fails_after
+      × (status ≡ status_of (verdict_in outcome)) × Told errors_old errors_new before after (line_of (verdict_in outcome))
+
+  abbrev pub Answers : Type 0
+  Answers = Done ⊎ ((found : ErrorKind) × Declines old new fails fails_after errors_old errors_new before after status found)
+
+-- Nothing is read beside that.
+module _ (left_old left_new : Option (List ℕ)) (reads reads_after : ℕ) (old new : Option (List ℕ)) (fails fails_after : ℕ) (errors_old errors_new : Option (List ℕ)) (before after status : ℕ) where
+  abbrev pub Drives : Type 0
+  Drives = Keeps left_old left_new × (reads_after ≡ reads) × Answers old new fails fails_after errors_old errors_new before after status

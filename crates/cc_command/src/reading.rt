@@ -1,0 +1,82 @@
+//! Doing what a command line asks for that reads standard input, or asks for nothing.
+ghost use Rattle.std.specs.Prelude.{◌<◌, ◌-◌, ◌^◌, map, string_bytes};
+ghost use Rattle.clap.specs.Words.{fault_of, kind_of};
+ghost use Rattle.cc_command.specs.CommandLine.{commands, task_of};
+ghost use Rattle.cc_command.specs.Run.{Declines, Helps, Runs};
+
+use crate::command_line::{Task, asked};
+use cc_device::{Sink, Source, write_bytes};
+use cc_play::play::play;
+use cc_play::{PlayFault, audit_bytes, out_of_memory, tell, told};
+use clap::Error;
+use clap::error::ErrorKind;
+use std::alloc::Global;
+
+/// One command line, without the program's name: plays the plan of the source, or audits its receipts, and answers the exit
+/// status. It is 0 where that was done and the verdict is clean, or help was asked for and went to the sink; 1 where the
+/// audit found a fault, 2 where the input is refused, 3 where memory is, 4 where a device fails, and 64 where the line is
+/// refused. What went wrong is told on `errors`, whose own failures change nothing.
+pub fn run<R: Source, W: Sink, E: Sink>(
+    alloc: Global,
+    words: &[String],
+    source: &mut R,
+    sink: &mut W,
+    errors: &mut E,
+) -> u8
+    requires reads { R.read_failures source.old < 2 ^ 64 - 1 }
+    requires writes { W.write_failures sink.old < 2 ^ 64 - 1 }
+    requires errors { E.write_failures errors.old < 2 ^ 64 - 1 }
+
+    ensures { Runs (R.bytes_left source.old) (R.bytes_left source.new)
+        (R.read_failures source.old) (R.read_failures source.new)
+        (W.bytes_written sink.old) (W.bytes_written sink.new)
+        (W.write_failures sink.old) (W.write_failures sink.new)
+        (E.bytes_written errors.old) (E.bytes_written errors.new)
+        (E.write_failures errors.old) (E.write_failures errors.new) result
+        (task_of (map string_bytes words.now)) (fault_of commands (map string_bytes words.now)) }
+{
+    match asked(alloc, words) {
+        Ok(Task::Play) => {
+            let outcome = play(alloc, source, sink);
+            tell(errors, outcome)
+        }
+        Ok(Task::Audit) => {
+            let outcome = audit_bytes(alloc, source, sink);
+            tell(errors, outcome)
+        }
+        Err(error) => decline(alloc, &error, sink, errors),
+    }
+}
+
+/// Answers a command line that asks for no task: writes the help that it asks for, or tells what is wrong with it, and
+/// answers the status.
+pub fn decline<W: Sink, E: Sink>(alloc: Global, error: &Error, sink: &mut W, errors: &mut E) -> u8
+    requires writes { W.write_failures sink.old < 2 ^ 64 - 1 }
+    requires errors { E.write_failures errors.old < 2 ^ 64 - 1 }
+    ensures { Declines (W.bytes_written sink.old) (W.bytes_written sink.new)
+        (W.write_failures sink.old) (W.write_failures sink.new)
+        (E.bytes_written errors.old) (E.bytes_written errors.new)
+        (E.write_failures errors.old) (E.write_failures errors.new) result (kind_of error.now) }
+{
+    let kind = error.kind();
+    match (kind, format!(in alloc; "{error}")) {
+        (ErrorKind::OutOfMemory, _) | (_, Err(_)) => out_of_memory(errors),
+        (ErrorKind::DisplayHelp, Ok(text)) => help(sink, errors, text.as_bytes()),
+        (_, Ok(text)) => told(errors, text.as_bytes(), 64),
+    }
+}
+
+/// Writes a text of help, and answers the status.
+fn help<W: Sink, E: Sink>(sink: &mut W, errors: &mut E, text: &[u8]) -> u8
+    requires writes { W.write_failures sink.old < 2 ^ 64 - 1 }
+    requires errors { E.write_failures errors.old < 2 ^ 64 - 1 }
+    ensures { Helps (W.bytes_written sink.old) (W.bytes_written sink.new)
+        (W.write_failures sink.old) (W.write_failures sink.new)
+        (E.bytes_written errors.old) (E.bytes_written errors.new)
+        (E.write_failures errors.old) (E.write_failures errors.new) result }
+{
+    match write_bytes(sink, text) {
+        Ok(()) => told(errors, b"", 0),
+        Err(_) => tell(errors, Err(PlayFault::Write)),
+    }
+}

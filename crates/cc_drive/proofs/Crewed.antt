@@ -1,0 +1,125 @@
+-- A run whose threads were all started and came to their ends.
+use Rattle.std.proofs.Common.{◌≡◌, ℕ, zero, suc, ◌+◌, ◌<◌, ◌≤◌, inl, inr, Bool, true, false, List, [], ◌∷◌, ◌++◌, length, map, Option, Some, None, IfSome, IfNone, IfErr, is_some, Result, Ok, Err, refl, sym, ap, ◌∙◌, subst, arith}
+use Rattle.std.specs.Prelude.{⊤}
+use Rattle.std.specs.List.{All, AllByRecursion}
+use Rattle.std.proofs.lemmas.List.{length-map}
+use Rattle.cc_drive.specs.Names.{CloseAnswer, Config, ConfigFault, SendReceipt, TakeReceipt, DriveConfig, Worked, DriveFault, Refused}
+use Rattle.cc_steps.specs.Topic.{Topic}
+use Rattle.cc_steps.specs.Walk.{Walk, IsOf, fresh}
+use Rattle.cc_queue.specs.Met.{HasMet}
+use Rattle.cc_queue.specs.Receipts.{receipts_in, receipts_by, sent, got}
+use Rattle.cc_queue.proofs.OnItsSide.{Told}
+use Rattle.cc_drive.specs.Back.{IsBack, SenderIsBack, ReceiverIsBack, SenderGave, ReceiverGave, IsNotClosed, calls}
+use Rattle.cc_drive.specs.Config.{queue_of, IsDue}
+use Rattle.cc_drive.specs.Crew.{present, least_missing, in_turn}
+use Rattle.cc_drive.specs.Ran.{ClosedAfter, IsTold, due}
+use Rattle.cc_drive.specs.Row.{InRow, Pairs}
+use Rattle.cc_drive.specs.Start.{IsStarted, AreStarted}
+use Rattle.cc_drive.proofs.Crews.{crew_passes, crew_count, crew_receipts, crew_all}
+use Rattle.cc_drive.proofs.Unclosed.{unclosed}
+use Rattle.cc_drive.proofs.Ended.{row_weaker, row_met, sender_met, receipts_met, pairs_length}
+
+by_turn : {X : Type 0} (receipts : Told → List X) (ws : List Walk) → in_turn (map (λ w. receipts_in receipts (calls w)) ws) ≡ receipts_by receipts ws
+by_turn receipts [] = refl
+by_turn receipts (w ∷ ws) = ap (λ l. receipts_in receipts (calls w) ++ l) (by_turn receipts ws)
+
+-- a run without a fault
+pub none_due : (refused : Bool) (workers : ℕ) (sender receiver : Option ℕ) (closed whole : Bool) → due refused workers sender receiver closed whole ≡ None → (refused ≡ false) × (sender ≡ None) × (receiver ≡ None) × (closed ≡ true) × (whole ≡ true)
+none_due true workers sender receiver closed whole e = absurd (cc e)
+none_due false workers (Some n) receiver closed whole e = absurd (cc e)
+none_due false workers None (Some n) closed whole e = absurd (cc e)
+none_due false workers None None false whole e = absurd (cc e)
+none_due false workers None None true false e = absurd (cc e)
+none_due false workers None None true true e = (refl, refl, refl, refl, refl)
+
+all_indexed : {A : Type 0} (P : A → Type 0) (xs : List A) → AllByRecursion P xs → All P xs
+all_indexed P [] all k d less = absurd (omega (arith, less))
+all_indexed P (x ∷ xs) all zero d less = all.0
+all_indexed P (x ∷ xs) all (suc k) d less = all_indexed P xs all.1 k d (omega (arith, less))
+
+-- the senders that are back are of the queue
+pub are_of : (z : Topic) (items limit : ℕ) (workers : List (Worked Walk SendReceipt)) (passes : List Walk) → InRow (SenderGave z items limit) 0 workers → passes ≡ present (map (λ d. d.pass) workers) → All (IsOf z) passes
+are_of z items limit workers passes gave is =
+    subst (All (IsOf z)) (sym is) (all_indexed (IsOf z) _ (crew_all (λ d. d.pass) (SenderIsBack z items limit) (IsOf z) (λ k w s. s.back.here) 0 workers
+    (row_weaker (SenderGave z items limit) (λ n d. IfSome d.pass (SenderIsBack z items limit n)) (λ n d gave. gave.0) 0 workers gave)))
+
+pub has_run : (z : Topic) (c : DriveConfig) (sent_by : List (Worked Walk SendReceipt)) (got_by : List (Worked Walk TakeReceipt)) (passes senders receivers : List Walk) (sends : List SendReceipt) (takes : List TakeReceipt) (closer w : Walk) (told : CloseAnswer)
+    → InRow (SenderGave z c.items c.limit) 0 sent_by → InRow (ReceiverGave z c.limit) (c.senders + 1) got_by → length sent_by ≡ c.senders → length got_by ≡ c.receivers
+    → least_missing 0 (map (λ d. d.pass) sent_by) ≡ None → least_missing c.senders (map (λ d. d.pass) got_by) ≡ None
+    → passes ≡ present (map (λ d. d.pass) sent_by) → receivers ≡ present (map (λ d. d.pass) got_by)
+    → AllByRecursion (λ d. d.kept.is_whole ≡ true) sent_by → AllByRecursion (λ d. d.kept.is_whole ≡ true) got_by
+    → sends ≡ in_turn (map (λ d. d.kept.receipts.items) sent_by) → takes ≡ in_turn (map (λ d. d.kept.receipts.items) got_by)
+    → z.setting.config ≡ queue_of c → Pairs HasMet passes senders → closer ≡ fresh z c.senders → ClosedAfter closer senders told w
+    → (InRow (SenderIsBack z c.items c.limit) 0 senders) × (length senders ≡ c.senders) × (ClosedAfter (fresh z c.senders) senders told w) × (InRow (ReceiverIsBack z) (c.senders + 1) receivers) × (length receivers ≡ c.receivers) × (sends ≡ receipts_by sent senders) × (takes ≡ receipts_by got receivers) × AllByRecursion (λ x. AllByRecursion IsNotClosed (calls x)) senders
+has_run z c sent_by got_by passes senders receivers sends takes closer w told gave gave' count count' none none' are are' whole whole' sends_are takes_are config met is closed =
+    let theirs : InRow (SenderIsBack z c.items c.limit) 0 passes = subst (InRow (SenderIsBack z c.items c.limit) 0) (sym are) (crew_passes (λ d. d.pass) (SenderIsBack z c.items c.limit) 0 0 sent_by none
+    (row_weaker (SenderGave z c.items c.limit) (λ n d. IfSome d.pass (SenderIsBack z c.items c.limit n)) (λ n d g. g.0) 0 sent_by gave)) in
+    let back : InRow (IsBack z) 0 passes = row_weaker (SenderIsBack z c.items c.limit) (IsBack z) (λ k x s. s.back) 0 passes theirs in
+    let theirs_met : InRow (SenderIsBack z c.items c.limit) 0 senders = row_met (SenderIsBack z c.items c.limit) (sender_met z c.items c.limit) 0 passes senders theirs met in
+    let many : length senders ≡ c.senders = pairs_length passes senders met ∙ ap length are ∙ crew_count (λ d. d.pass) 0 sent_by none ∙ count in
+    let first : ClosedAfter (fresh z c.senders) senders told w = subst (λ (x : Walk). ClosedAfter x senders told w) is closed in (
+      theirs_met,
+      many,
+      first,
+      subst (InRow (ReceiverIsBack z) (c.senders + 1)) (sym are') (crew_passes (λ d. d.pass) (ReceiverIsBack z) (c.senders + 1) c.senders got_by none'
+          (row_weaker (ReceiverGave z c.limit) (λ n d. IfSome d.pass (ReceiverIsBack z n)) (λ n d g. g.0) (c.senders + 1) got_by gave')),
+      ap length are' ∙ crew_count (λ d. d.pass) c.senders got_by none' ∙ count',
+      sends_are
+          ∙ crew_receipts (λ d. d.pass) (λ d. d.kept.receipts.items) (λ d. d.kept.is_whole) (λ x. receipts_in sent (calls x)) 0 0 sent_by none whole
+          (row_weaker (SenderGave z c.items c.limit) (λ n d. IfSome d.pass (λ x. d.kept.is_whole ≡ true → d.kept.receipts.items ≡ receipts_in sent (calls x))) (λ n d g. g.1) 0 sent_by gave)
+          ∙ by_turn sent (present (map (λ d. d.pass) sent_by)) ∙ ap (receipts_by sent) (sym are) ∙ sym (receipts_met sent z 0 passes senders back met),
+      takes_are
+          ∙ crew_receipts (λ d. d.pass) (λ d. d.kept.receipts.items) (λ d. d.kept.is_whole) (λ x. receipts_in got (calls x)) (c.senders + 1) c.senders got_by none' whole'
+          (row_weaker (ReceiverGave z c.limit) (λ n d. IfSome d.pass (λ x. d.kept.is_whole ≡ true → d.kept.receipts.items ≡ receipts_in got (calls x))) (λ n d g. g.1) (c.senders + 1) got_by gave')
+          ∙ by_turn got (present (map (λ d. d.pass) got_by)) ∙ ap (receipts_by got) (sym are'),
+      unclosed z c.items c.limit senders first.met (ap (λ (k : Config). k.senders) config ∙ ap (λ (n : ℕ). n + 1) (sym many)) theirs_met (subst (λ (n : ℕ). HasMet (fresh z n) first.met) (sym many) first.first) first.after,
+    )
+
+-- ---- a run without an end
+
+-- the least that is missing is one of them
+least_below : {A : Type 0} (n m : ℕ) (xs : List (Option A)) → least_missing n xs ≡ Some m → m < n + length xs
+least_below n m [] e = absurd (cc e)
+least_below n m (Some x ∷ xs) e = let rest = least_below (n + 1) m xs e in omega (arith, rest)
+least_below n m (None ∷ xs) e = let same : n ≡ m = cc e in omega (arith, same)
+
+due_below : (refused : Bool) (workers : ℕ) (sender receiver : Option ℕ) (closed whole : Bool) (told : DriveFault) → (refused ≡ false → (n : ℕ) → sender ≡ Some n → n ≤ workers) → (refused ≡ false → (n : ℕ) → receiver ≡ Some n → n ≤ workers)
+    → due refused workers sender receiver closed whole ≡ Some told → IsDue (Ok tt) workers told
+due_below true workers sender receiver closed whole told low low' e = (let is : DriveFault.Thread ≡ told = cc e in subst (IsDue (Ok tt) workers) is tt)
+due_below false workers (Some n) receiver closed whole told low low' e = (let is : DriveFault.Limit n ≡ told = cc e in subst (IsDue (Ok tt) workers) is (low refl n refl))
+due_below false workers None (Some n) closed whole told low low' e = (let is : DriveFault.Limit n ≡ told = cc e in subst (IsDue (Ok tt) workers) is (low' refl n refl))
+due_below false workers None None false whole told low low' e = (let is : DriveFault.Limit workers ≡ told = cc e in subst (IsDue (Ok tt) workers) is (omega arith))
+due_below false workers None None true false told low low' e = (let is : DriveFault.NoMemory ≡ told = cc e in subst (IsDue (Ok tt) workers) is tt)
+due_below false workers None None true true told low low' e = absurd (cc e)
+
+-- all of them, if none was refused
+pub all_started : (senders receivers sending taking : ℕ) (refused : Option Refused) → is_some refused ≡ false → AreStarted senders receivers sending taking refused → (sending ≡ senders) × (taking ≡ receivers)
+all_started senders receivers sending taking None none all = all
+all_started senders receivers sending taking (Some e) none at = absurd (cc none)
+
+told_due : (z : Topic) (c : DriveConfig) (told : DriveFault) → IsTold z c told → IsDue (Ok tt) (c.senders + c.receivers) told
+told_due z c told (inl is) = subst (IsDue (Ok tt) (c.senders + c.receivers)) (sym is) tt
+told_due z c told (inr e) =
+    due_below (is_some e.refused) (c.senders + c.receivers) _ _ e.closed e.whole told
+    (λ on n is. let below = least_below 0 n (map (λ d. d.pass) e.senders) is in let many = (all_started _ _ _ _ e.refused on e.started).0 in omega (arith, below, many, length-map e.senders (λ d. d.pass)))
+    (λ on n is. let below = least_below c.senders n (map (λ d. d.pass) e.receivers) is in let many = (all_started _ _ _ _ e.refused on e.started).1 in omega (arith, below, many, length-map e.receivers (λ d. d.pass))) e.why
+
+pub all_due : {A : Type 0} (z : Topic) (c : DriveConfig) (r : Result A DriveFault) → IfErr r (IsTold z c) → IfErr r (IsDue (Ok tt) (c.senders + c.receivers))
+all_due z c (Ok a) told = tt
+all_due z c (Err f) told = told_due z c f told
+
+-- and so is missing memory, of a lawful configuration
+pub memory_due : {A : Type 0} (lawful : Result ⊤ ConfigFault) (workers : ℕ) (r : Result A DriveFault) → lawful ≡ Ok tt → IfErr r (λ f. f ≡ DriveFault.NoMemory) → IfErr r (IsDue lawful workers)
+memory_due lawful workers (Ok a) fine none = tt
+memory_due lawful workers (Err f) fine none = subst (λ (y : Result ⊤ ConfigFault × DriveFault). IsDue y.0 workers y.1) (λ i. (sym fine i, sym none i)) tt
+
+-- a closer without an answer
+pub none_at : {A : Type 0} (P : Type 0) (x : Option A) → is_some x ≡ false → IfNone x P → P
+none_at P (Some a) is p = absurd (cc is)
+none_at P None is p = p
+
+-- the threads of both rows, the receivers' first
+pub both_started : (senders receivers sending taking : ℕ) (first second : Option Refused) → IsStarted None (senders + 1) receivers taking first → IsStarted first 0 senders sending second → AreStarted senders receivers sending taking second
+both_started senders receivers sending taking None None all all' = (all', all)
+both_started senders receivers sending taking None (Some e) all at = inr (at.0 ∙ omega arith, at.1, all)
+both_started senders receivers sending taking (Some e) second at none = subst (AreStarted senders receivers sending taking) (sym none.1) (inl (at.0, at.1, none.0))

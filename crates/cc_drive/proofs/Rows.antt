@@ -1,0 +1,70 @@
+-- Elements that leave a row in front, and come at its end.
+use Rattle.std.proofs.Common.{◌≡◌, ℕ, ◌+◌, ◌<◌, ◌≤◌, List, [], ◌∷◌, ◌++◌, length, sym, ap, ◌∙◌, subst, arith, map, append_assoc, length-append}
+use Rattle.std.proofs.lemmas.List.{map-append}
+use Rattle.cc_drive.specs.Row.{InRow}
+
+-- the first one is such a one of its place, and so are the others
+pub row_first : {A : Type 0} (Is : ℕ → A → Type 0) (n : ℕ) (xs rest : List A) (x : A) → xs ≡ x ∷ rest → InRow Is n xs → Is n x
+row_first Is n xs rest x front row = (subst (InRow Is n) front row).0
+
+pub row_rest : {A : Type 0} (Is : ℕ → A → Type 0) (n : ℕ) (xs rest : List A) (x : A) → xs ≡ x ∷ rest → InRow Is n xs → InRow Is (n + 1) rest
+row_rest Is n xs rest x front row = (subst (InRow Is n) front row).1
+
+-- one more at the end
+row_end : {A : Type 0} (Is : ℕ → A → Type 0) (n m : ℕ) (xs : List A) (x : A) → m ≡ n + length xs → InRow Is n xs → Is m x → InRow Is n (xs ++ x ∷ [])
+row_end Is n m [] x at row is = (let e : m ≡ n = omega (arith, at) in subst (λ (k : ℕ). Is k x) e is, tt)
+row_end Is n m (y ∷ xs) x at row is = (row.0, row_end Is (n + 1) m xs x (omega (arith, at)) row.1 is)
+
+pub row_push : {A : Type 0} (Is : ℕ → A → Type 0) (n m : ℕ) (xs new : List A) (x : A) → new ≡ xs ++ x ∷ [] → m ≡ n + length xs → InRow Is n xs → Is m x → InRow Is n new
+row_push Is n m xs new x end at row is = subst (InRow Is n) (sym end) (row_end Is n m xs x at row is)
+
+-- the same row under other names
+pub row_same : {A : Type 0} (Is : ℕ → A → Type 0) (n m : ℕ) (xs ys : List A) → ys ≡ xs → m ≡ n → InRow Is n xs → InRow Is m ys
+row_same Is n m xs ys same at row = subst (λ (k : ℕ). InRow Is k ys) (sym at) (subst (InRow Is n) (sym same) row)
+
+pub row_none : {A : Type 0} (Is : ℕ → A → Type 0) (n : ℕ) (xs : List A) → xs ≡ [] → InRow Is n xs
+row_none Is n xs none = subst (InRow Is n) (sym none) tt
+
+pub one_longer : {A : Type 0} (xs new : List A) (x : A) → new ≡ xs ++ x ∷ [] → length new ≡ length xs + 1
+one_longer xs new x end = ap length end ∙ length-append xs (x ∷ [])
+
+-- one goes over from the front of a list to the end of another
+pub dealt_over : {A B : Type 0} (of : A → B) (xs new : List A) (x : A) (ys rest all : List B) (y : B) → ys ≡ y ∷ rest → new ≡ xs ++ x ∷ [] → of x ≡ y → map of xs ++ ys ≡ all → map of new ++ rest ≡ all
+dealt_over of xs new x ys rest all y front end same was =
+    ap (λ l. map of l ++ rest) end ∙ ap (λ l. l ++ rest) (map-append of xs (x ∷ [])) ∙ append_assoc (map of xs) (of x ∷ []) rest ∙ ap (λ z. map of xs ++ z ∷ rest) same ∙ ap (λ l. map of xs ++ l) (sym front) ∙ was
+
+-- so many were taken from the front, and so many are left: none is taken at the start
+pub none_yet : (n left all room : ℕ) → n ≡ 0 → left ≡ all → all ≤ room → n + left ≤ room
+none_yet n left all room none same fits = omega arith
+
+-- one more is taken, and one fewer left
+pub one_fewer : (n left rest all : ℕ) → rest + 1 ≡ left → n + left ≡ all → n + 1 + rest ≡ all
+one_fewer n left rest all next was = omega arith
+
+-- while one is left there is room for it
+pub room_for_one : (n left rest room : ℕ) → rest + 1 ≡ left → n + left ≤ room → n < room
+room_for_one n left rest room next was = omega arith
+
+-- and the next number is in its range
+pub one_more_fits : (n left rest all bound : ℕ) → rest + 1 ≡ left → n + left ≡ all → all < bound → n + 1 < bound
+one_more_fits n left rest all bound next was fits = omega arith
+
+-- there is room for the others when one was taken, of which one more is kept at most
+pub room_still : (n more left rest room wider : ℕ) → rest + 1 ≡ left → more ≤ n + 1 → n + left ≤ room → room ≤ wider → more + rest ≤ wider
+room_still n more left rest room wider next one was grown = omega arith
+
+-- no more are taken than there were
+pub no_more_than : (n left all : ℕ) → n + left ≤ all → n ≤ all
+no_more_than n left all was = omega arith
+
+-- the next number, where one element more stands in the row
+pub one_counted : (number count more : ℕ) → number ≡ 1 + count → more ≡ count + 1 → number + 1 ≡ 1 + more
+one_counted number count more was next = omega arith
+
+-- one that was left is dealt
+pub one_dealt : (n more left rest all : ℕ) → more ≡ n + 1 → rest + 1 ≡ left → n + left ≡ all → more + rest ≡ all
+one_dealt n more left rest all one next was = omega arith
+
+-- and one more of the gates
+pub gates_taken : (gates left n more all : ℕ) → left + 1 ≡ gates → more ≡ n + 1 → gates + n ≡ all → left + more ≡ all
+gates_taken gates left n more all next one was = omega arith

@@ -1,0 +1,233 @@
+//! The end of a run: its threads are joined, its queue is closed, and what came of it is told.
+ghost use Rattle.std.specs.Prelude.{[], ◌≡◌, ◌+◌, ◌<◌, ◌≤◌, ◌^◌, ◌&&◌, IfOk, IfErr, is_some, vec_len, vec_capacity};
+ghost use Rattle.cc_steps.specs.Walk.{IsOf};
+ghost use Rattle.cc_drive.specs.Names.{DriveFault};
+ghost use Rattle.cc_drive.specs.Back.{SenderGave, ReceiverGave};
+ghost use Rattle.cc_drive.specs.Config.{queue_of};
+ghost use Rattle.cc_drive.specs.Crew.{IsCrew};
+ghost use Rattle.cc_drive.specs.Ran.{HasClosed, HasEnded, HasRun, IsTold, due};
+ghost use Rattle.cc_drive.specs.Row.{InRow};
+
+use crate::closing::close_after;
+use crate::config::{DriveConfig, DriveFault};
+use crate::crew::{Crew, gather};
+use crate::gate::Gate;
+use crate::jobs::Job;
+use crate::kept::Worked;
+use crate::starting::Refused;
+use crate::threads::{Brief, Started, join_all};
+use crate::turns::Turns;
+use cc_audit::{SendReceipt, TakeReceipt};
+use cc_model::CloseAnswer;
+use cc_queue::{Queue, Receiver, Sender};
+use std::alloc::Global;
+use std::thread::Threads;
+
+/// What is left of a run when its threads have ended.
+#[derive(Drop)]
+pub struct Ran {
+    /// The senders that sent.
+    pub senders: Vec<Sender>,
+    /// The sender that closed.
+    pub closer: Sender,
+    /// What the close was answered.
+    pub closed: CloseAnswer,
+    /// The receivers, each of which was told the end.
+    pub receivers: Vec<Receiver>,
+    /// The receipts of the senders' calls.
+    pub sends: Vec<SendReceipt>,
+    /// The receipts of the receivers' calls.
+    pub takes: Vec<TakeReceipt>,
+}
+
+/// Room for what a row of workers gives back.
+#[derive(Drop)]
+pub struct Room<P: Drop, X: Drop> {
+    pub done: Vec<Worked<P, X>>,
+    /// With room for one more.
+    pub passes: Vec<P>,
+}
+
+/// Room for the threads of so many workers, and for what they give back.
+pub fn room_for<H: Drop, P: Drop, X: Drop>(
+    alloc: Global,
+    count: usize,
+) -> Result<(Vec<H>, Room<P, X>), DriveFault>
+    requires few { count < 2 ^ 16 }
+    ensures memory { IfErr result (λ f. f ≡ DriveFault.NoMemory) }
+    ensures none { IfOk result (λ r. r.0.items ≡ []) }
+    ensures none_done { IfOk result (λ r. r.1.done.items ≡ []) }
+    ensures no_passes { IfOk result (λ r. r.1.passes.items ≡ []) }
+    ensures threads { IfOk result (λ r. count ≤ vec_capacity r.0) }
+    ensures done { IfOk result (λ r. count ≤ vec_capacity r.1.done) }
+    ensures passes { IfOk result (λ r. count < vec_capacity r.1.passes) }
+{
+    let handles = Vec::with_capacity(alloc, count)?;
+    let done = Vec::with_capacity(alloc, count)?;
+    let passes = Vec::with_capacity(alloc, count + 1)?;
+    Ok((handles, Room { done, passes }))
+}
+
+/// Joins the senders, and gathers what they gave back. There is room for one pass more.
+fn join_senders<G: Gate + Send, R: Threads>(
+    rt: &R,
+    alloc: Global,
+    queue: &Queue,
+    brief: Brief,
+    sending: Started<Job<Sender, G>>,
+    room: Room<Sender, SendReceipt>,
+) -> Crew<Sender, SendReceipt>
+    requires promised { InRow (λ n h. (h.promise.queue.value ≡ queue.now) × (h.promise.brief ≡ brief) × (h.promise.row ≡ n)) 0 sending.handles.items }
+    requires few { vec_len sending.handles < 2 ^ 32 }
+    requires none_done { room.done.items ≡ [] }
+    requires no_passes { room.passes.items ≡ [] }
+    requires done { vec_len sending.handles ≤ vec_capacity room.done }
+    requires passes { vec_len sending.handles < vec_capacity room.passes }
+    ensures back { IsCrew (SenderGave queue.now brief.items brief.limit) 0 0 (vec_len sending.handles) result.passes.items result }
+    ensures room { vec_len result.passes < vec_capacity result.passes }
+{
+    let Room { done, passes } = room;
+    let done = join_all(rt, queue, brief, 0, sending.handles, done);
+    gather(done, 0, passes, Vec::new(alloc))
+}
+
+/// Joins the receivers of a run of so many senders, and gathers what they gave back.
+pub fn join_receivers<G: Gate + Send, R: Threads>(
+    rt: &R,
+    alloc: Global,
+    queue: &Queue,
+    brief: Brief,
+    senders: u32,
+    taking: Started<Job<Receiver, G>>,
+    room: Room<Receiver, TakeReceipt>,
+) -> Crew<Receiver, TakeReceipt>
+    requires promised { InRow (λ n h. (h.promise.queue.value ≡ queue.now) × (h.promise.brief ≡ brief) × (h.promise.row ≡ n)) (senders + 1) taking.handles.items }
+    requires few { senders + vec_len taking.handles + 1 < 2 ^ 32 }
+    requires none_done { room.done.items ≡ [] }
+    requires no_passes { room.passes.items ≡ [] }
+    requires done { vec_len taking.handles ≤ vec_capacity room.done }
+    requires passes { vec_len taking.handles < vec_capacity room.passes }
+    ensures { IsCrew (ReceiverGave queue.now brief.limit) (senders + 1) senders (vec_len taking.handles) result.passes.items result }
+{
+    let Room { done, passes } = room;
+    let done = join_all(rt, queue, brief, senders + 1, taking.handles, done);
+    gather(done, senders, passes, Vec::new(alloc))
+}
+
+/// Joins the senders, and closes the queue then.
+pub fn close_behind<G: Gate + Send, R: Threads>(
+    rt: &R,
+    alloc: Global,
+    queue: &Queue,
+    brief: Brief,
+    closer: Sender,
+    sending: Started<Job<Sender, G>>,
+    room: Room<Sender, SendReceipt>,
+) -> (Crew<Sender, SendReceipt>, Option<(Sender, CloseAnswer)>)
+    requires closer { IsOf queue.now closer }
+    requires promised { InRow (λ n h. (h.promise.queue.value ≡ queue.now) × (h.promise.brief ≡ brief) × (h.promise.row ≡ n)) 0 sending.handles.items }
+    requires few { vec_len sending.handles < 2 ^ 32 }
+    requires none_done { room.done.items ≡ [] }
+    requires no_passes { room.passes.items ≡ [] }
+    requires done { vec_len sending.handles ≤ vec_capacity room.done }
+    requires passes { vec_len sending.handles < vec_capacity room.passes }
+    ensures { HasClosed queue.now brief closer (vec_len sending.handles) result.0 result.1 }
+{
+    let mut sent = join_senders(rt, alloc, queue, brief, sending, room);
+    let mut turns = Turns::new(brief.limit);
+    match close_after(alloc, queue, &mut turns, closer, &mut sent.passes) {
+        Ok(closed) => (sent, Some(closed)),
+        Err(pending) => {
+            pending.abandon();
+            (sent, None)
+        }
+    }
+}
+
+/// What is left of a run whose threads have ended, or why it has no end to tell.
+pub fn ran_of(
+    queue: &Queue,
+    config: DriveConfig,
+    refused: Option<Refused>,
+    sent: Crew<Sender, SendReceipt>,
+    closed: Option<(Sender, CloseAnswer)>,
+    taken: Crew<Receiver, TakeReceipt>,
+) -> Result<Ran, DriveFault>
+    requires few { config.senders + config.receivers < 2 ^ 16 }
+    requires setting { queue.now.setting.config ≡ queue_of config }
+    requires ended { HasEnded queue.now config refused sent closed taken }
+    ensures run { IfOk result (HasRun queue.now config) }
+    ensures told { IfErr result (IsTold queue.now config) }
+{
+    let _ = queue;
+    let is_refused = refused.is_some();
+    let is_closed = closed.is_some();
+    if let Some(fault) = fault_in(config, is_refused, &sent, &taken, is_closed) {
+        return Err(fault);
+    }
+    let Some((closer, closed)) = closed else {
+        unreachable!()
+    };
+    Ok(Ran {
+        senders: sent.passes,
+        closer,
+        closed,
+        receivers: taken.passes,
+        sends: sent.receipts,
+        takes: taken.receipts,
+    })
+}
+
+/// Why a run has no end, if it has none: whether a thread was refused, what the rows of workers gave back, and whether the
+/// queue was closed.
+fn fault_in(
+    config: DriveConfig,
+    refused: bool,
+    sent: &Crew<Sender, SendReceipt>,
+    taken: &Crew<Receiver, TakeReceipt>,
+    is_closed: bool,
+) -> Option<DriveFault>
+    requires few { config.senders + config.receivers < 2 ^ 16 }
+    ensures { result ≡ due refused (config.senders + config.receivers) sent.now.limited taken.now.limited is_closed (sent.now.is_whole && taken.now.is_whole) }
+{
+    let workers = config.senders + config.receivers;
+    let is_whole = sent.is_whole & taken.is_whole;
+    fault_of(
+        refused,
+        workers,
+        sent.limited,
+        taken.limited,
+        is_closed,
+        is_whole,
+    )
+}
+
+/// The first of a refused thread, the least worker that reached its limit or else the closer, and a receipt that wasn't
+/// kept; None if there is none of them.
+fn fault_of(
+    refused: bool,
+    workers: u32,
+    sender: Option<u32>,
+    receiver: Option<u32>,
+    is_closed: bool,
+    is_whole: bool,
+) -> Option<DriveFault>
+    ensures { result ≡ due refused workers sender receiver is_closed is_whole }
+{
+    if refused {
+        return Some(DriveFault::Thread);
+    }
+    if let Some(number) = sender {
+        return Some(DriveFault::Limit(number));
+    }
+    if let Some(number) = receiver {
+        return Some(DriveFault::Limit(number));
+    }
+    if !is_closed {
+        return Some(DriveFault::Limit(workers));
+    }
+    if !is_whole {
+        return Some(DriveFault::NoMemory);
+    }
+    None
+}

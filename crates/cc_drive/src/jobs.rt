@@ -1,0 +1,91 @@
+//! The work of each thread: a pass, its number and its gate.
+
+ghost use Rattle.std.specs.Prelude.{◌≡◌, ◌+◌, ◌<◌, ◌≤◌, ◌^◌, map, IfOk, OnOk, vec_len};
+ghost use Rattle.cc_drive.specs.Row.{InRow};
+
+use crate::gate::Gate;
+use crate::kept::Worked;
+use crate::receiving::take_all;
+use crate::sending::send_all;
+use crate::threads::{Brief, Worker};
+use cc_audit::{SendReceipt, TakeReceipt};
+use cc_queue::{Queue, Receiver, Sender};
+use std::alloc::{AllocError, Global};
+use std::sync::Wait;
+
+/// A pass of a queue with its number, from 1, and the gate of its worker.
+#[derive(Drop)]
+pub struct Job<P: Drop, G: Gate> {
+    pub number: u32,
+    pub pass: P,
+    pub gate: G,
+}
+
+impl<G: Gate + Send> Worker for Job<Sender, G> {
+    ghost use Rattle.cc_drive.specs.Back.{SenderGave};
+    ghost use Rattle.cc_drive.specs.Jobs.{IsSending};
+
+    type Done = Worked<Sender, SendReceipt>;
+
+    ghost is_ready = { λ z n j. IsSending z n j };
+
+    ghost gives = { λ z b n d. SenderGave z b.items b.limit n d };
+
+    fn run<R: Wait>(
+        self,
+        rt: &R,
+        alloc: Global,
+        queue: &Queue,
+        brief: Brief,
+        row: u32,
+    ) -> Worked<Sender, SendReceipt> {
+        let Self { number, pass, gate } = self;
+        let Brief { items, limit } = brief;
+        send_all(rt, alloc, queue, row, number, items, limit, pass, gate)
+    }
+}
+
+impl<G: Gate + Send> Worker for Job<Receiver, G> {
+    ghost use Rattle.cc_drive.specs.Back.{ReceiverGave};
+    ghost use Rattle.cc_drive.specs.Jobs.{IsTaking};
+
+    type Done = Worked<Receiver, TakeReceipt>;
+
+    ghost is_ready = { λ z n j. IsTaking z n j };
+
+    ghost gives = { λ z b n d. ReceiverGave z b.limit n d };
+
+    fn run<R: Wait>(
+        self,
+        rt: &R,
+        alloc: Global,
+        queue: &Queue,
+        brief: Brief,
+        row: u32,
+    ) -> Worked<Receiver, TakeReceipt> {
+        let Self { number, pass, gate } = self;
+        take_all(rt, alloc, queue, row, number, brief.limit, pass, gate)
+    }
+}
+
+/// A job for each of these passes, numbered from 1, with the next of the gates.
+pub fn deal<P: Drop, G: Gate>(
+    alloc: Global,
+    passes: Vec<P>,
+    gates: &mut Vec<G>,
+) -> Result<Vec<Job<P, G>>, AllocError>
+    requires gates { vec_len passes ≤ vec_len gates.old }
+    requires few { vec_len passes < 2 ^ 16 }
+    ensures passes { IfOk result (λ v. map (λ j. j.pass) v.items ≡ passes.items) }
+    ensures numbers { IfOk result (λ v. InRow (λ n j. j.number ≡ n) 1 v.items) }
+    ensures gates { OnOk result (vec_len gates.new + vec_len passes ≡ vec_len gates.old) }
+{
+    let mut jobs = Vec::new(alloc);
+    let mut number = 1;
+    for pass in passes {
+        let gate = gates.remove(0);
+        jobs.push(Job { number, pass, gate })?;
+        number += 1;
+    }
+    Ok(jobs)
+}

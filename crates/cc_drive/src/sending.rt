@@ -1,0 +1,140 @@
+//! The work of a sender's thread.
+ghost use Rattle.std.specs.Prelude.{◌≡◌, ◌+◌, ◌-◌, ◌^◌, ◌<◌, ◌≤◌};
+ghost use Rattle.cc_drive.specs.Names.{Pass};
+ghost use Rattle.cc_runs.specs.State.{pass_at};
+ghost use Rattle.cc_steps.specs.Walk.{IsOf, fresh};
+ghost use Rattle.cc_drive.specs.Back.{SenderGave, one_word};
+ghost use Rattle.cc_drive.specs.Work.{WentOn, IsAskedInSend, IsSent, CostsOfSend};
+
+use crate::calls::{Left, answer_within};
+use crate::gate::{Gate, Point};
+use crate::kept::{Kept, Worked};
+use crate::pace::Pace;
+use crate::turns::Turns;
+use cc_audit::SendReceipt;
+use cc_model::{Body, SendAnswer};
+use cc_queue::{PendingSend, Queue, Sender, begin_send};
+use std::alloc::Global;
+use std::sync::Wait;
+
+/// How a send went.
+pub(crate) enum Sent {
+    /// It was answered.
+    Answered(Sender, SendAnswer),
+    /// The sender has begun as many sends as one sender may.
+    Worn(Sender),
+    /// The worker reached its limit.
+    Limited(Left<PendingSend, Sender>),
+}
+
+/// Sends this body, and waits for the answer within the limit. The gate is asked after the begin and after the answer.
+pub(crate) fn send_body<G: Gate>(
+    queue: &Queue,
+    sender: Sender,
+    body: Body,
+    gate: &mut G,
+    turns: &mut Turns,
+) -> Sent
+    requires here { IsOf queue.now sender }
+    requires within { turns.old.made ≤ turns.old.limit }
+    ensures sent { IsSent sender body result }
+    ensures asked { IsAskedInSend G.tells sender body turns.old turns.new gate.old gate.new result }
+    ensures costs { CostsOfSend turns.old turns.new result }
+    ensures on { WentOn turns.old turns.new }
+{
+    let pending = match begin_send(queue, sender, body) {
+        Ok(pending) => pending,
+        Err(sender) => return Sent::Worn(sender),
+    };
+    match answer_within(
+        queue,
+        pending,
+        gate,
+        turns,
+        Point::SendBegun,
+        Point::SendAnswered,
+    ) {
+        Ok((sender, answer)) => Sent::Answered(sender, answer),
+        Err(left) => Sent::Limited(left),
+    }
+}
+
+/// The body of the send behind so many that were accepted: the next number, as one word.
+fn body_behind(accepted: u64) -> Body
+    requires { accepted < 2 ^ 64 - 1 }
+    ensures { result ≡ one_word (accepted + 1) }
+{
+    Body::one(accepted + 1)
+}
+
+/// Sends the numbers from 1 to `items` as bodies of one word, each again until it is accepted, and keeps a receipt of each. In
+/// a run the answer is Full until then: the queue is closed when all senders are joined, and its life is longer than any sends
+/// that they can begin. A worn sender stops. The pass is given back, but where the worker reached its limit.
+pub(crate) fn send_all<G: Gate, R: Wait>(
+    rt: &R,
+    alloc: Global,
+    queue: &Queue,
+    row: u32,
+    number: u32,
+    items: u64,
+    limit: u64,
+    sender: Sender,
+    gate: G,
+) -> Worked<Sender, SendReceipt>
+    requires fresh { sender ≡ fresh queue.now row }
+    requires named { pass_at queue.now.setting.config row ≡ Pass.Sender number }
+    requires worn { queue.now.setting.config.per_sender ≡ 2 ^ 32 - 1 }
+    ensures { SenderGave queue.now items limit row result }
+{
+    let _ = row;
+    let mut gate = gate;
+    let mut sender = sender;
+    sender.is_sound();
+    let mut turns = Turns::new(limit);
+    let mut kept = Kept::new(alloc);
+    let mut begun: u32 = 0;
+    let mut accepted: u64 = 0;
+    let mut pace = Pace::new();
+    while accepted < items {
+        let body = body_behind(accepted);
+        let before = turns.made;
+        match send_body(queue, sender, body, &mut gate, &mut turns) {
+            Sent::Answered(after, answer) => {
+                sender = after;
+                begun += 1;
+                if let SendAnswer::Accepted { place } = answer {
+                    accepted += 1;
+                    kept.keep(SendReceipt {
+                        sender: number,
+                        number: begun,
+                        place,
+                        body,
+                    });
+                    pace.go_on(rt, turns.made - before);
+                } else {
+                    pace.rest();
+                }
+            }
+            Sent::Worn(after) => {
+                return Worked {
+                    pass: Some(after),
+                    made: turns.made,
+                    kept,
+                };
+            }
+            Sent::Limited(left) => {
+                left.give_up();
+                return Worked {
+                    pass: None,
+                    made: turns.made,
+                    kept,
+                };
+            }
+        }
+    }
+    Worked {
+        pass: Some(sender),
+        made: turns.made,
+        kept,
+    }
+}

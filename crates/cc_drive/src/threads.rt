@@ -1,0 +1,160 @@
+//! Workers in threads: starting them in a row, and joining them.
+ghost use Rattle.std.specs.Prelude.{[], ◌≡◌, ◌+◌, ◌<◌, ◌≤◌, ◌^◌, vec_len, vec_capacity};
+ghost use Rattle.cc_drive.specs.Row.{InRow};
+ghost use Rattle.cc_drive.specs.Start.{IsStarted};
+
+use crate::starting::{Refused, start};
+use cc_queue::Queue;
+use std::alloc::Global;
+use std::marker::PhantomData;
+use std::snapshot::Snapshot;
+use std::sync::Wait;
+use std::thread::{Promise, PromisedHandle, Scope, Threads};
+
+/// What all workers of a run are told.
+#[derive(Clone, Copy, Debug, PartialEq, Eq)]
+pub struct Brief {
+    /// How many items each sender sends.
+    pub items: u64,
+    /// How many turns each worker may make.
+    pub limit: u64,
+}
+
+/// The work of one thread, on a pass of a queue.
+pub trait Worker: Send + Drop {
+    ghost use Rattle.std.specs.Prelude.{ℕ};
+    ghost use Rattle.cc_steps.specs.Topic.{Topic};
+    ghost use Rattle.cc_drive.specs.Names.{Brief};
+
+    /// What it gives back.
+    type Done: Send + Drop;
+
+    /// It stands at the start, at this place in the row of all passes of the queue.
+    ghost is_ready: { Topic → ℕ → Self → Type 0 };
+
+    /// What a worker that stood at that place may give back.
+    ghost gives: { Topic → Brief → ℕ → Self.Done → Type 0 };
+
+    fn run<R: Wait>(
+        self,
+        rt: &R,
+        alloc: Global,
+        queue: &Queue,
+        brief: Brief,
+        row: u32,
+    ) -> Self::Done
+        requires { is_ready queue.now row self }
+        ensures { gives queue.now brief row result };
+}
+
+/// What a worker's thread gives at its join.
+#[derive(Drop)]
+pub struct WorkOf<J: Worker> {
+    pub queue: Snapshot<Queue>,
+    pub brief: Brief,
+    pub row: u32,
+    of: PhantomData<J>,
+}
+
+impl<J: Worker> Promise<J::Done> for WorkOf<J> {
+    ghost kept_by = { λ p d. J.gives p.queue.value p.brief p.row d };
+}
+
+/// What is promised of this worker's thread.
+pub(crate) fn work_of<J: Worker>(queue: &Queue, brief: Brief, row: u32) -> WorkOf<J>
+    ensures queue { result.queue.value ≡ queue.now }
+    ensures brief { result.brief ≡ brief }
+    ensures row { result.row ≡ row }
+{
+    WorkOf {
+        queue: Snapshot::of(queue),
+        brief,
+        row,
+        of: PhantomData,
+    }
+}
+
+/// Threads that run, and which one was refused, if one was.
+#[derive(Drop)]
+pub struct Started<J: Worker> {
+    pub handles: Vec<PromisedHandle<J::Done, WorkOf<J>>>,
+    pub refused: Option<Refused>,
+}
+
+/// Starts a thread for each worker in turn, until one is refused, and none if one was refused before. They stand from this
+/// place on in the row of all passes.
+pub fn start_all<'s, E, J: Worker + 's, R: Wait + Sync + 's>(
+    scope: &Scope<'s, E>,
+    rt: &'s R,
+    alloc: Global,
+    queue: &'s Queue,
+    brief: Brief,
+    first: u32,
+    workers: Vec<J>,
+    handles: Vec<PromisedHandle<J::Done, WorkOf<J>>>,
+    before: Option<Refused>,
+) -> Started<J>
+    requires ready { InRow (J.is_ready queue.now) first workers.items }
+    requires few { first + vec_len workers < 2 ^ 32 }
+    requires none { handles.items ≡ [] }
+    requires room { vec_len workers ≤ vec_capacity handles }
+    ensures promised { InRow (λ n h. (h.promise.queue.value ≡ queue.now) × (h.promise.brief ≡ brief) × (h.promise.row ≡ n)) first result.handles.items }
+    ensures few { vec_len result.handles ≤ vec_len workers }
+    ensures started { IsStarted before first (vec_len workers) (vec_len result.handles) result.refused }
+{
+    let mut handles = handles;
+    let mut row = first;
+    if before.is_some() {
+        return Started {
+            handles,
+            refused: before,
+        };
+    }
+    for worker in workers {
+        match start(scope, rt, alloc, queue, brief, row, worker) {
+            Ok(handle) => {
+                let Ok(()) = handles.push(handle) else {
+                    unreachable!()
+                };
+            }
+            Err(refused) => {
+                return Started {
+                    handles,
+                    refused: Some(refused),
+                };
+            }
+        }
+        row += 1;
+    }
+    Started {
+        handles,
+        refused: None,
+    }
+}
+
+/// Waits for the end of each of these threads.
+pub fn join_all<R: Threads, J: Worker>(
+    rt: &R,
+    queue: &Queue,
+    brief: Brief,
+    first: u32,
+    handles: Vec<PromisedHandle<J::Done, WorkOf<J>>>,
+    done: Vec<J::Done>,
+) -> Vec<J::Done>
+    requires promised { InRow (λ n h. (h.promise.queue.value ≡ queue.now) × (h.promise.brief ≡ brief) × (h.promise.row ≡ n)) first handles.items }
+    requires none { done.items ≡ [] }
+    requires room { vec_len handles ≤ vec_capacity done }
+    ensures gives { InRow (J.gives queue.now brief) first result.items }
+    ensures len { vec_len result ≡ vec_len handles }
+{
+    let _ = queue;
+    let _ = brief;
+    let _ = first;
+    let mut done = done;
+    for handle in handles {
+        let Ok(()) = done.push(handle.join(rt)) else {
+            unreachable!()
+        };
+    }
+    done
+}

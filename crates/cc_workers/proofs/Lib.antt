@@ -1,9 +1,0 @@
-pub mod Told
-pub mod Workers
-pub mod Counted
-pub mod Unclosed
-pub mod Rows
-pub mod Crews
-pub mod Pairs
-pub mod Ended
-pub mod Crewed

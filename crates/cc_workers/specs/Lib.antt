@@ -1,9 +1,0 @@
-pub mod Names
-pub mod Config
-pub mod Work
-pub mod Back
-pub mod Row
-pub mod Crew
-pub mod Ran
-pub mod Jobs
-pub mod Start
