@@ -113,13 +113,13 @@ unsafe extern "C" {
 }
 
 /// One of the four calls of a take that write an item of one word, or one with all its words.
-type Take = unsafe extern "C" fn(&mut Pass, &mut RawItem, &mut u64, &mut u32) -> u32;
+type Take = unsafe extern "C" fn(&mut Pass, &mut WordsItem, &mut u64, &mut u32) -> u32;
 
 unsafe extern "C" {
-    fn vahepito_turn_take(_: &mut Pass, _: &mut RawItem, _: &mut u64, _: &mut u32) -> u32;
-    fn vahepito_try_take(_: &mut Pass, _: &mut RawItem, _: &mut u64, _: &mut u32) -> u32;
-    fn vahepito_turn_take_words(_: &mut Pass, _: &mut RawItem, _: &mut u64, _: &mut u32) -> u32;
-    fn vahepito_try_take_words(_: &mut Pass, _: &mut RawItem, _: &mut u64, _: &mut u32) -> u32;
+    fn vahepito_turn_take(_: &mut Pass, _: &mut WordsItem, _: &mut u64, _: &mut u32) -> u32;
+    fn vahepito_try_take(_: &mut Pass, _: &mut WordsItem, _: &mut u64, _: &mut u32) -> u32;
+    fn vahepito_turn_take_words(_: &mut Pass, _: &mut WordsItem, _: &mut u64, _: &mut u32) -> u32;
+    fn vahepito_try_take_words(_: &mut Pass, _: &mut WordsItem, _: &mut u64, _: &mut u32) -> u32;
 }
 
 /// What a call returns: its code, the place or the total if the code has one, and how many calls were
@@ -148,16 +148,16 @@ impl Told {
 /// The words of a body, of which some may not be used. Those of an item may have bytes that nobody wrote.
 pub type Words = [MaybeUninit<u64>; 4];
 
-/// Room for an item, by words: place, sender and number, and the body; or the count and all words of the
-/// body. It is aligned as both are.
-type RawItem = [MaybeUninit<u64>; 7];
+/// An item with all words of its body, by words: place, sender and number, count, and the words. It has room
+/// for an item of one word, too, whose body is the third.
+type WordsItem = [MaybeUninit<u64>; 7];
 
-const NO_ITEM: RawItem = [MaybeUninit::new(0); 7];
+const NO_ITEM: WordsItem = [MaybeUninit::new(0); 7];
 
 /// The words of the body of an item that the library has just written, one by one: what reads two fields
 /// at once waits until both are written.
 #[inline]
-fn words_of(item: &RawItem, count: usize) -> Words {
+fn words_of(item: &WordsItem, count: usize) -> Words {
     let mut words = [MaybeUninit::uninit(); 4];
     let first = if count == 1 { 2 } else { 3 };
     for (word, field) in words.iter_mut().zip(&item[first..]).take(count) {
@@ -169,7 +169,7 @@ fn words_of(item: &RawItem, count: usize) -> Words {
 
 /// An item of one word, which the library has just written there, field by field as above.
 #[inline]
-fn item_of(item: &RawItem) -> Item {
+fn item_of(item: &WordsItem) -> Item {
     let at = item.as_ptr().cast::<Item>();
     // SAFETY: the room is as large as an item, and aligned as it; and each field was written, by `NO_ITEM`
     // at first.
@@ -247,7 +247,7 @@ impl Handle {
     }
 
     #[inline]
-    fn take_by(&mut self, take: Take, item: &mut RawItem) -> Told {
+    fn take_by(&mut self, take: Take, item: &mut WordsItem) -> Told {
         Told::by(|total, served| unsafe { take(&mut self.0, item, total, served) })
     }
 
@@ -321,7 +321,7 @@ impl Handle {
     }
 
     #[inline(never)]
-    fn go_on_taking(&mut self, first: u32, count: usize, item: &mut RawItem) -> Result<(), u32> {
+    fn go_on_taking(&mut self, first: u32, count: usize, item: &mut WordsItem) -> Result<(), u32> {
         let take = if count == 1 {
             vahepito_turn_take
         } else {
