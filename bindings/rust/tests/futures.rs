@@ -1,4 +1,8 @@
 //! Sends and takes as futures, polled by a loop that parks.
+#[path = "../src/channel/rounds.rs"]
+mod rounds;
+
+use rounds::rounds;
 use std::pin::{Pin, pin};
 use std::sync::Arc;
 use std::sync::atomic::{AtomicUsize, Ordering};
@@ -187,10 +191,11 @@ fn futures_that_have_their_handles() {
 /// A hundred thousand tasks wait in one line. Each is polled again, and keeps its place; then each leaves.
 #[test]
 fn a_task_leaves_a_long_line_at_once() {
-    const MANY: usize = 100_000;
     let (sender, receiver) = channel::<u64>(1).unwrap();
     let woken = Arc::new(Woken::default());
-    let mut all: Vec<_> = (0..MANY).map(|_| receiver.recv_async()).collect();
+    let mut all: Vec<_> = (0..rounds(100_000))
+        .map(|_| receiver.recv_async())
+        .collect();
     assert!(all.iter_mut().all(|it| poll(it, &woken).is_pending()));
     let start = Instant::now();
     assert!(all.iter_mut().rev().all(|it| poll(it, &woken).is_pending()));
