@@ -47,54 +47,40 @@ if [ -n "$quick" ]; then end_steps; fi
 if cargo clippy --version >/dev/null 2>&1; then
     step 'Rust: clippy' cargo "${options[@]}" clippy --all-targets -- -D warnings
 else
-    limit=600 step 'Rust: tests' cargo "${options[@]}" test
-    for name in older newer larger; do
-        if [ -f "$room/$name/libcc_binding.a" ]; then
-            case $name in older) linked=999 ;; newer) linked=2003004 ;; *) linked=$version ;; esac
-            step "Rust: an archive of another version is told ($name)" env "VAHEPITO_LINKED=$linked" \
-                "VAHEPITO_LIB=$room/$name/libcc_binding.a" "CARGO_TARGET_DIR=$room/others" \
-                cargo "${options[@]}" test --test other_library -- --ignored
-        else
-            skip "Rust: an archive of another version is told ($name)" 'it was not made'
-        fi
-    done
-    step 'Rust: the thread pool' bash -c "prints '9592 primes below 100000' cargo ${options[*]} run --example thread_pool"
-    step 'Rust: the pipeline' bash -c "prints '77031 takes 350 steps' cargo ${options[*]} run --example pipeline"
-    step 'Rust: the log' bash -c "prints '40000 events in the archive, 4000 alarms' cargo ${options[*]} run --example log"
-    # Its dependencies are Debian's librust-futures-core-dev and librust-futures-sink-dev.
-    registry=/usr/share/cargo/registry
-    if compgen -G "$registry/futures-core-*" >/dev/null && compgen -G "$registry/futures-sink-*" >/dev/null; then
-        cp -r futures "$room/futures" && sed -i "s:path = \"\.\.\":path = \"$PWD\":" "$room/futures/Cargo.toml"
-        step 'Rust: streams and sinks' cargo --config 'source.crates-io.replace-with = "debian"' \
-            --config "source.debian.directory = \"$registry\"" --quiet --offline test --manifest-path "$room/futures/Cargo.toml"
+    skip 'Rust: clippy' 'it is not on this machine'
+fi
+# Two tests look at how much memory the process has, which says nothing under another allocator; two search a model,
+# and call nothing. Of the rounds of the long tests a twentieth is enough here; all were made by the tests above.
+fewer=(--skip frees_the_queue --skip cheap_in_memory --skip interleaving --skip the_search)
+# Its dependencies are Debian's librust-futures-core-dev and librust-futures-sink-dev.
+registry=/usr/share/cargo/registry
+if compgen -G "$registry/futures-core-*" >/dev/null && compgen -G "$registry/futures-sink-*" >/dev/null; then
+    cp -r futures "$room/futures" && sed -i "s:path = \"\.\.\":path = \"$PWD\":" "$room/futures/Cargo.toml"
+    step 'Rust: streams and sinks' cargo --config 'source.crates-io.replace-with = "debian"' \
+        --config "source.debian.directory = \"$registry\"" --quiet --offline test --manifest-path "$room/futures/Cargo.toml"
+else
+    skip 'Rust: streams and sinks' "librust-futures-core-dev or librust-futures-sink-dev is not on this machine"
+fi
+host=$(rustc -vV | sed -n 's/^host: //p')
+if has valgrind; then
+    lost='definite,indirect'
+    valgrind="valgrind -q --fair-sched=yes --error-exitcode=99 --leak-check=full --show-leak-kinds=$lost --errors-for-leak-kinds=$lost"
+    limit=600 step 'Rust: under valgrind' env "CARGO_TARGET_$(tr 'a-z-' 'A-Z_' <<<"$host")_RUNNER=$valgrind" VAHEPITO_ROUNDS=5 \
+        cargo "${options[@]}" test --tests -- "${fewer[@]}"
+else
+    skip 'Rust: under valgrind' 'valgrind is not on this machine'
+fi
+if cargo +nightly --version >/dev/null 2>&1; then
+    limit=600 step 'Rust: sanitizer address' env RUSTFLAGS=-Zsanitizer=address VAHEPITO_ROUNDS=5 cargo +nightly "${options[@]}" test \
+        --target "$host" --tests -- "${fewer[@]}"
+    # Its std isn't built for this sanitizer, which so reports the test runner's own channel.
+    thread='-Zsanitizer=thread -Cunsafe-allow-abi-mismatch=sanitizer --cfg vahepito_tsan'
+    echo 'race:std::sync::mpmc::list::Channel<test::event::CompletedTest>' >"$room/of_the_runner"
+    if echo 'fn main() {}' | rustc +nightly $thread -o "$room/probe" - 2>/dev/null && "$room/probe" 2>/dev/null; then
+        step 'Rust: sanitizer thread' env RUSTFLAGS="$thread" TSAN_OPTIONS="suppressions=$room/of_the_runner" \
+            cargo +nightly "${options[@]}" test --target "$host" --test hand_over -- --test-threads=1
     else
-        skip 'Rust: streams and sinks' "librust-futures-core-dev or librust-futures-sink-dev is not on this machine"
-    fi
-    host=$(rustc -vV | sed -n 's/^host: //p')
-    runner=CARGO_TARGET_$(tr 'a-z-' 'A-Z_' <<<"$host")_RUNNER
-    # Two tests look at how much memory the process has, which says nothing under another allocator; and four search a
-    # model, and call nothing. Of the rounds of the long tests a twentieth is enough here; all were made by the tests above.
-    fewer=(--skip frees_the_queue --skip cheap_in_memory --skip interleaving --skip the_search)
-    if has valgrind; then
-        limit=600 step 'Rust: under valgrind' env "$runner=${valgrind[*]}" VAHEPITO_ROUNDS=5 cargo "${options[@]}" test --tests -- \
-            "${fewer[@]}"
-    else
-        skip 'Rust: under valgrind' 'valgrind is not on this machine'
-    fi
-    if cargo +nightly --version >/dev/null 2>&1; then
-        limit=600 step 'Rust: sanitizer address' env RUSTFLAGS=-Zsanitizer=address VAHEPITO_ROUNDS=5 cargo +nightly "${options[@]}" test \
-            --target "$host" --tests -- "${fewer[@]}"
-        # Its std isn't built for this sanitizer, which so reports the test runner's own channel.
-        thread='-Zsanitizer=thread -Cunsafe-allow-abi-mismatch=sanitizer --cfg vahepito_tsan'
-        echo 'race:std::sync::mpmc::list::Channel<test::event::CompletedTest>' >"$room/of_the_runner"
-        if echo 'fn main() {}' | rustc +nightly $thread -o "$room/probe" - 2>/dev/null && "$room/probe" 2>/dev/null; then
-            step 'Rust: sanitizer thread' env RUSTFLAGS="$thread" TSAN_OPTIONS="suppressions=$room/of_the_runner" \
-                cargo +nightly "${options[@]}" test --target "$host" --test hand_over -- --test-threads=1
-        else
-            skip 'Rust: sanitizer thread' 'the nightly compiler has none that runs here'
-        fi
-    else
-        skip 'Rust: the sanitizers' 'there is no nightly cargo on this machine'
+        skip 'Rust: sanitizer thread' 'the nightly compiler has none that runs here'
     fi
 else
     skip 'Rust: the sanitizers' 'there is no nightly cargo on this machine'
