@@ -1,5 +1,6 @@
 -- The passes of an opened queue, as they are dealt to the workers.
 use Rattle.std.proofs.Common.{◌≡◌, ℕ, suc, ◌+◌, ◌≤◌, List, [], ◌∷◌, ◌++◌, length, map, refl, sym, ap, ◌∙◌, subst, arith}
+use Rattle.std.proofs.lemmas.List.{length-map}
 use Rattle.cc_drive.specs.Names.{Config, Pass, DriveConfig}
 use Rattle.cc_runs.specs.State.{pass_at}
 use Rattle.cc_steps.specs.Topic.{Topic}
@@ -56,3 +57,7 @@ pub taking_row : {G : Type 0} (z : Topic) (c : DriveConfig) (jobs : List (Job Wa
 taking_row {G} z c jobs passes config are f numbers =
     let none : c.senders + 1 + 0 ≡ c.senders + 1 = omega arith in
     subst (λ (n : ℕ). InRow (IsTaking {G = G} z) n jobs) none (taking_from z c 0 jobs passes config are (subst (λ (n : ℕ). fresh_from z n passes) (sym none) f) numbers)
+
+-- as many jobs as passes
+pub dealt_count : {G : Type 0} (count : ℕ) (jobs : List (Job Walk G)) (passes : List Walk) → map (λ j. j.pass) jobs ≡ passes → length passes ≡ count → length jobs ≡ count
+dealt_count count jobs passes are is = sym (length-map jobs (λ j. j.pass)) ∙ ap length are ∙ is

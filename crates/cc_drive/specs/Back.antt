@@ -60,10 +60,10 @@ pub record ReceiverIsBack (z : Topic) (row : ℕ) (w : Walk) : Type 0 where
 abbrev pub SenderGave : Topic → (items limit row : ℕ) → Worked Walk SendReceipt → Type 0
 SenderGave z items limit row d =
     IfSome d.pass (SenderIsBack z items limit row) × IfSome d.pass (λ w. d.kept.is_whole ≡ true → d.kept.receipts.items ≡ receipts_in sent (calls w))
-    × IfNone d.pass (d.made ≡ limit) × (d.made ≤ limit)
+    × IfNone d.pass (d.made ≡ limit) × (d.made ≤ limit) × (d.row ≡ row)
 
 -- and that of a receiver
 abbrev pub ReceiverGave : Topic → (limit row : ℕ) → Worked Walk TakeReceipt → Type 0
 ReceiverGave z limit row d =
     IfSome d.pass (ReceiverIsBack z row) × IfSome d.pass (λ w. d.kept.is_whole ≡ true → d.kept.receipts.items ≡ receipts_in got (calls w))
-    × IfNone d.pass (d.made ≡ limit) × (d.made ≤ limit)
+    × IfNone d.pass (d.made ≡ limit) × (d.made ≤ limit) × (d.row ≡ row)

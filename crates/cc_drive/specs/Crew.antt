@@ -1,7 +1,7 @@
 -- What workers gave back, one after another.
-use Rattle.std.specs.Prelude.{ℕ, ◌≡◌, ◌+◌, true, List, [], ◌∷◌, ◌++◌, length, map, Option, Some, None}
+use Rattle.std.specs.Prelude.{ℕ, ◌≡◌, ◌+◌, ◌<◌, ◌≤◌, true, vec_capacity, List, [], ◌∷◌, ◌++◌, length, map, Option, Some, None}
 use Rattle.std.specs.List.{AllByRecursion}
-use Rattle.cc_drive.specs.Names.{Crew, Worked}
+use Rattle.cc_drive.specs.Names.{Crew, Room, Worked}
 use Rattle.cc_drive.specs.Row.{InRow}
 
 -- those that are there
@@ -26,6 +26,14 @@ abbrev pub in_turn : {A : Type 0} → List (List A) → List A
 in_turn [] = []
 in_turn (xs ∷ rest) = xs ++ in_turn rest
 
+-- What these workers gave back is gathered here, who are numbered from this number on: their passes, the least number of one
+-- that is missing, and their receipts, if each of them was kept.
+pub record AreGathered {P X : Type 0} (number : ℕ) (workers : List (Worked P X)) (passes : List P) (crew : Crew P X) : Type 0 where
+  pub back : passes ≡ present (map (λ d. d.pass) workers)
+  pub missing : crew.limited ≡ least_missing number (map (λ d. d.pass) workers)
+  pub whole : crew.is_whole ≡ true → AllByRecursion (λ d. d.kept.is_whole ≡ true) workers
+  pub kept : crew.is_whole ≡ true → crew.receipts.items ≡ in_turn (map (λ d. d.kept.receipts.items) workers)
+
 -- So many workers are back, who stand in the row of all passes from this place on, and are told by their numbers from this one
 -- on. What they gave back is gathered here: their passes, the least number of one that is missing, and their receipts, where
 -- each of them was kept.
@@ -37,3 +45,10 @@ pub record IsCrew {P X : Type 0} (Gave : ℕ → Worked P X → Type 0) (place n
   pub missing : crew.limited ≡ least_missing number (map (λ d. d.pass) workers)
   pub whole : crew.is_whole ≡ true → AllByRecursion (λ d. d.kept.is_whole ≡ true) workers
   pub kept : crew.is_whole ≡ true → crew.receipts.items ≡ in_turn (map (λ d. d.kept.receipts.items) workers)
+
+-- there is room for what so many workers give back, and for one pass more, and nothing is in it
+pub record IsRoomFor {P X : Type 0} (count : ℕ) (room : Room P X) : Type 0 where
+  pub none_done : room.done.items ≡ []
+  pub no_passes : room.passes.items ≡ []
+  pub done : count ≤ vec_capacity room.done
+  pub passes : count < vec_capacity room.passes

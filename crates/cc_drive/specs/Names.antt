@@ -16,9 +16,11 @@ pub use Rattle.cc_audit.specs.declared.receipt.SendReceipt.{SendReceipt}
 pub use Rattle.cc_audit.specs.declared.receipt.TakeReceipt.{TakeReceipt}
 pub use Rattle.cc_drive.specs.declared.calls.Left.{Left}
 pub use Rattle.cc_drive.specs.declared.config.DriveConfig.{DriveConfig}
+pub use Rattle.cc_drive.specs.declared.config.DriveEnd.{DriveEnd}
 pub use Rattle.cc_drive.specs.declared.config.DriveFault.{DriveFault}
 pub use Rattle.cc_drive.specs.declared.crew.Crew.{Crew}
 pub use Rattle.cc_drive.specs.declared.ending.Ran.{Ran}
+pub use Rattle.cc_drive.specs.declared.ending.Room.{Room}
 pub use Rattle.cc_drive.specs.declared.gate.Point.{Point}
 pub use Rattle.cc_drive.specs.declared.gate.Go.{Go}
 pub use Rattle.cc_drive.specs.declared.kept.Worked.{Worked}

@@ -1,7 +1,7 @@
 -- A run whose threads have ended.
-use Rattle.std.specs.Prelude.{ℕ, ◌≡◌, ◌+◌, ◌⊎◌, Bool, true, false, List, length, map, Option, Some, None, IfSome, IfNone, is_some}
+use Rattle.std.specs.Prelude.{ℕ, ◌≡◌, ◌+◌, ◌*◌, ◌-◌, ◌^◌, ◌<◌, ◌⊎◌, Bool, true, false, List, length, map, Option, Some, None, IfSome, IfNone, is_some}
 use Rattle.std.specs.List.{All, AllByRecursion}
-use Rattle.cc_drive.specs.Names.{Answer, Call, CloseAnswer, DriveConfig, DriveFault, Ran, Refused, Crew, Worked, Brief, Turns, SendReceipt, TakeReceipt}
+use Rattle.cc_drive.specs.Names.{Answer, Call, CloseAnswer, DriveConfig, DriveEnd, DriveFault, Verdict, Ran, Refused, Crew, Worked, Brief, Turns, SendReceipt, TakeReceipt}
 use Rattle.cc_steps.specs.Topic.{Topic}
 use Rattle.cc_steps.specs.Walk.{Walk, fresh}
 use Rattle.cc_queue.specs.Calls.{Begun, Completed}
@@ -25,25 +25,26 @@ pub record ClosedAfter (closer : Walk) (senders : List Walk) (told : CloseAnswer
   pub after : All (λ s. s.seen ≡ met.seen) senders
   pub close : Completed met Call.Close (Answer.Close told) w
 
--- The closer met these senders, and began its close then; each turn since was a read of its state, and none is left.
-pub record ClosesStill (closer : Walk) (senders : List Walk) (old new : Turns) (w : Walk) : Type 0 where
+-- The closer met these senders, and began its close then; each turn since was a read of its state, and at this limit none is
+-- left.
+pub record ClosesStill (closer : Walk) (senders : List Walk) (most : ℕ) (w : Walk) : Type 0 where
   pub met : Walk
   pub first : HasMet closer met
   pub after : All (λ s. s.seen ≡ met.seen) senders
   pub begun : Walk
   pub close : Begun met Call.Close begun
-  pub waited : RanOut begun old new w
+  pub turns : Turns
+  pub limit : turns.limit ≡ most
+  pub waited : RanOut begun (record { made = 0; limit = most }) turns w
 
--- So many senders are back, and have met the closer then, which closed behind that: it has its answer, or made as many turns
--- as it may.
+-- So many senders are back, and have met the closer then, which closed behind that: it has its answer, or its close waits still
+-- and no turn is left.
 pub record HasClosed (z : Topic) (b : Brief) (closer : Walk) (count : ℕ) (crew : Crew Walk SendReceipt) (closed : Option (Walk × CloseAnswer)) : Type 0 where
   pub back : List Walk
   pub senders : IsCrew (SenderGave z b.items b.limit) 0 0 count back crew
   pub met : Pairs HasMet back crew.passes.items
   pub after : IfSome closed (λ r. ClosedAfter closer crew.passes.items r.1 r.0)
-  pub turns : Turns
-  pub limit : turns.limit ≡ b.limit
-  pub limited : IfNone closed (turns.made ≡ turns.limit)
+  pub still : IfNone closed ((w : Walk) × ClosesStill closer crew.passes.items b.limit w)
 
 -- All threads of a run that were started have ended, and its queue was closed between the senders' end and the receivers'.
 -- They are all, or just those before the one that was refused.
@@ -57,6 +58,7 @@ pub record HasEnded (z : Topic) (c : DriveConfig) (refused : Option Refused) (se
 -- A run has come to its end. The senders are back, none of whose sends was told that the queue is closed, and then the closer
 -- closed; the receivers are back, each of which was told the end. The receipts are those of their calls.
 pub record HasRun (z : Topic) (c : DriveConfig) (r : Ran) : Type 0 where
+  pub of : r.config ≡ c
   pub senders : InRow (SenderIsBack z c.items c.limit) 0 r.senders.items
   pub count_senders : length r.senders.items ≡ c.senders
   pub unclosed : AllByRecursion (λ w. AllByRecursion IsNotClosed (calls w)) r.senders.items
@@ -65,6 +67,15 @@ pub record HasRun (z : Topic) (c : DriveConfig) (r : Ran) : Type 0 where
   pub count_receivers : length r.receivers.items ≡ c.receivers
   pub sends : r.sends.items ≡ receipts_by sent r.senders.items
   pub takes : r.takes.items ≡ receipts_by got r.receivers.items
+
+-- How a run ended: the verdict is clean, the numbers are those of the receipts, and all that was sent was taken; these are all
+-- items of all senders, if a worker could make fewer turns than a sender may begin sends.
+pub record IsEndOf (r : Ran) (e : DriveEnd) : Type 0 where
+  pub clean : e.verdict ≡ Verdict.Clean
+  pub sent : e.sent ≡ length r.sends.items
+  pub taken : e.taken ≡ length r.takes.items
+  pub all_taken : e.taken ≡ e.sent
+  pub all_sent : r.config.limit < 2 ^ 32 - 1 → e.sent ≡ r.config.senders * r.config.items
 
 -- Why a run has no end, if it has none: a thread was refused; else the least sender, or else receiver, that reached its limit,
 -- or else the closer, whose number is that of all workers; else a receipt wasn't kept.
@@ -77,19 +88,17 @@ due false workers None None true false = Some DriveFault.NoMemory
 due false workers None None true true = None
 
 -- All threads of a run that were started have ended, and this is due for what they gave back. They are all, or just those before
--- the one that was refused; where the close has no answer the closer made as many turns as it may.
+-- the one that was refused; where the close has no answer it waits still, and no turn is left.
 pub record EndedWith (z : Topic) (c : DriveConfig) (told : DriveFault) : Type 0 where
   pub senders : List (Worked Walk SendReceipt)
   pub receivers : List (Worked Walk TakeReceipt)
-  pub turns : Turns
   pub refused : Option Refused
   pub closed : Bool
   pub whole : Bool
   pub senders_gave : InRow (SenderGave z c.items c.limit) 0 senders
   pub receivers_gave : InRow (ReceiverGave z c.limit) (c.senders + 1) receivers
   pub started : AreStarted c.senders c.receivers (length senders) (length receivers) refused
-  pub limit : turns.limit ≡ c.limit
-  pub limited : closed ≡ false → turns.made ≡ turns.limit
+  pub still : closed ≡ false → (passes : List Walk) × (w : Walk) × ClosesStill (fresh z c.senders) passes c.limit w
   pub why : due (is_some refused) (c.senders + c.receivers) (least_missing 0 (map (λ d. d.pass) senders)) (least_missing c.senders (map (λ d. d.pass) receivers)) closed whole ≡ Some told
 
 -- why a run has no end: memory was refused before a thread was started; or else its threads have ended so

@@ -1,11 +1,10 @@
 //! The close of a run.
-ghost use Rattle.std.specs.Prelude.{◌≡◌, ◌<◌, ◌≤◌, IfOk, IfErr, vec_len, vec_capacity};
+ghost use Rattle.std.specs.Prelude.{◌≡◌, ◌<◌, IfOk, IfErr, vec_len, vec_capacity};
 ghost use Rattle.std.specs.List.{All};
 ghost use Rattle.cc_steps.specs.Walk.{IsOf};
 ghost use Rattle.cc_queue.specs.Met.{HasMet};
 ghost use Rattle.cc_drive.specs.Ran.{ClosedAfter, ClosesStill, total_in};
 ghost use Rattle.cc_drive.specs.Row.{Pairs};
-ghost use Rattle.cc_drive.specs.Work.{WentOn};
 
 use crate::calls::await_answer;
 use crate::meeting::meet_everyone;
@@ -15,23 +14,20 @@ use cc_queue::{PendingClose, Queue, Sender, begin_close};
 use std::alloc::Global;
 
 /// Lets the closer and these senders meet, and then closes the queue: the closer with its answer, or else the close, which
-/// waits still at the limit. The list has room for the closer.
+/// waits still at this limit on turns. The list has room for the closer.
 pub fn close_after(
     alloc: Global,
     queue: &Queue,
-    turns: &mut Turns,
+    limit: u64,
     closer: Sender,
     senders: &mut Vec<Sender>,
 ) -> Result<(Sender, CloseAnswer), PendingClose>
     requires closer { IsOf queue.now closer }
     requires senders { All (IsOf queue.now) senders.old.items }
     requires room { vec_len senders.old < vec_capacity senders.old }
-    requires within { turns.old.made ≤ turns.old.limit }
     ensures met { Pairs HasMet senders.old.items senders.new.items }
-    ensures room { vec_capacity senders.old ≤ vec_capacity senders.new }
     ensures closed { IfOk result (λ r. ClosedAfter closer senders.new.items r.1 r.0) }
-    ensures left { IfErr result (λ p. ClosesStill closer senders.new.items turns.old turns.new p) }
-    ensures on { WentOn turns.old turns.new }
+    ensures left { IfErr result (ClosesStill closer senders.new.items limit) }
 {
     let Ok(()) = senders.push(closer) else {
         unreachable!()
@@ -41,7 +37,8 @@ pub fn close_after(
         unreachable!()
     };
     let pending = begin_close(queue, closer);
-    await_answer(queue, pending, turns)
+    let mut turns = Turns::new(limit);
+    await_answer(queue, pending, &mut turns)
 }
 
 /// The total that a close tells.

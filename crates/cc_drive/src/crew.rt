@@ -1,10 +1,10 @@
 //! Workers that are back: their passes and their receipts in one list each.
-ghost use Rattle.std.specs.Prelude.{[], ◌≡◌, ◌+◌, ◌<◌, ◌≤◌, ◌^◌, ◌++◌, if◌then◌else◌, Some, None, map, true, is_some, vec_len, vec_capacity};
+ghost use Rattle.std.specs.Prelude.{[], ◌≡◌, ◌+◌, ◌<◌, ◌≤◌, ◌^◌, ◌++◌, if◌then◌else◌, Some, None, true, is_some, vec_len, vec_capacity};
 ghost use Rattle.std.specs.Option.{option_to_list};
-ghost use Rattle.std.specs.List.{AllByRecursion};
-ghost use Rattle.cc_drive.specs.Crew.{present, least_missing, in_turn, sooner};
+ghost use Rattle.cc_drive.specs.Crew.{AreGathered, sooner};
 
 use crate::kept::{Kept, Worked};
+use std::alloc::Global;
 
 /// What a row of workers gave back.
 #[derive(Drop)]
@@ -21,29 +21,26 @@ pub struct Crew<P: Drop, X: Drop> {
 
 /// Gathers what workers gave back, which are numbered from `first` on.
 pub fn gather<P: Drop, X: Drop>(
+    alloc: Global,
     workers: Vec<Worked<P, X>>,
     first: u32,
     passes: Vec<P>,
-    receipts: Vec<X>,
 ) -> Crew<P, X>
     requires few { first + vec_len workers < 2 ^ 32 }
     requires none { passes.items ≡ [] }
     requires room { vec_len workers ≤ vec_capacity passes }
-    requires empty { receipts.items ≡ [] }
-    ensures passes { result.passes.items ≡ present (map (λ d. d.pass) workers.items) }
+    ensures gathered { AreGathered first workers.items result.passes.items result }
     ensures few { vec_len result.passes ≤ vec_len workers }
     ensures room { vec_capacity passes ≤ vec_capacity result.passes }
-    ensures whole { result.is_whole ≡ true → AllByRecursion (λ d. d.kept.is_whole ≡ true) workers.items }
-    ensures receipts { result.is_whole ≡ true → result.receipts.items ≡ in_turn (map (λ d. d.kept.receipts.items) workers.items) }
-    ensures limited { result.limited ≡ least_missing first (map (λ d. d.pass) workers.items) }
 {
     let mut passes = passes;
-    let mut receipts = receipts;
+    let mut receipts = Vec::new(alloc);
     let mut is_whole = true;
     let mut limited = None;
     let mut number = first;
     for worker in workers {
         let Worked {
+            row: _,
             pass,
             made: _,
             kept,

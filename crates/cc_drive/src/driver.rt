@@ -1,21 +1,19 @@
 //! A run: threads that send beside threads that take, the close, and the audit.
-ghost use Rattle.std.specs.Prelude.{◌≡◌, ◌+◌, ◌*◌, ◌-◌, ◌<◌, ◌^◌, IfOk, OnOk, IfErr, Ok, length, vec_len};
-ghost use Rattle.cc_drive.specs.Names.{Verdict, Served, DriveFault};
+ghost use Rattle.std.specs.Prelude.{◌≡◌, ◌+◌, ◌*◌, ◌-◌, ◌<◌, ◌^◌, IfOk, OnOk, IfErr, Ok, vec_len};
+ghost use Rattle.cc_drive.specs.Names.{Verdict, DriveFault};
 ghost use Rattle.cc_queue.specs.Opened.{HasOpened};
-ghost use Rattle.cc_steps.specs.Walk.{fresh, fresh_from};
 ghost use Rattle.cc_drive.specs.Config.{drive_fault, queue_of, IsDue};
-ghost use Rattle.cc_drive.specs.Jobs.{IsSending, IsTaking};
-ghost use Rattle.cc_drive.specs.Ran.{HasRun, IsTold};
-ghost use Rattle.cc_drive.specs.Row.{InRow};
+ghost use Rattle.cc_drive.specs.Jobs.{ArePasses, AreReady, IsQueueOf};
+ghost use Rattle.cc_drive.specs.Ran.{HasRun, IsEndOf, IsTold};
 
 use crate::closing::total_of;
 use crate::config::{DriveConfig, DriveEnd, DriveFault};
-use crate::ending::{Ran, close_behind, join_receivers, ran_of, room_for};
+use crate::ending::{Ran, close_behind, join_receivers, join_senders, ran_of, room_for};
 use crate::gate::Gate;
-use crate::jobs::{Job, deal};
+use crate::jobs::{Passes, Workers, deal};
 use crate::meeting::meet_everyone;
-use crate::threads::{Brief, start_all};
-use cc_queue::{Opened, Queue, Receiver, Sender, audit_all};
+use crate::threads::{Brief, Row, start_all};
+use cc_queue::{Opened, Queue, audit_all};
 use std::alloc::Global;
 use std::sync::Wait;
 use std::thread::{Scope, Threads, scope, scope_env};
@@ -69,7 +67,12 @@ fn drive_opened<G: Gate + Send, R: Threads + Wait + Sync>(
     let Some(closer) = senders.pop() else {
         unreachable!()
     };
-    deal_and_run(rt, alloc, &queue, config, gates, closer, senders, receivers)
+    let passes = Passes {
+        closer,
+        senders,
+        receivers,
+    };
+    deal_and_run(rt, alloc, &queue, config, gates, passes)
 }
 
 /// Deals the passes out to workers, the gates in their order, and runs these.
@@ -79,28 +82,29 @@ fn deal_and_run<G: Gate + Send, R: Threads + Wait + Sync>(
     queue: &Queue,
     config: &DriveConfig,
     gates: Vec<G>,
-    closer: Sender,
-    senders: Vec<Sender>,
-    receivers: Vec<Receiver>,
+    passes: Passes,
 ) -> Result<DriveEnd, DriveFault>
     requires gates { vec_len gates ≡ config.now.senders + config.now.receivers }
-    requires closer { closer ≡ fresh queue.now config.now.senders }
-    requires senders { fresh_from queue.now 0 senders.items }
-    requires count_senders { length senders.items ≡ config.now.senders }
-    requires receivers { fresh_from queue.now (config.now.senders + 1) receivers.items }
-    requires count_receivers { length receivers.items ≡ config.now.receivers }
-    requires some { 0 < config.now.receivers }
-    requires few { config.now.senders + config.now.receivers < 2 ^ 16 }
-    requires setting { queue.now.setting ≡ record { served = Served.List; config = queue_of config.now } }
+    requires passes { ArePasses queue.now config.now passes }
     ensures due { IfErr result (IsDue (Ok tt) (config.now.senders + config.now.receivers)) }
     ensures clean { IfOk result (λ e. e.verdict ≡ Verdict.Clean) }
     ensures all_taken { IfOk result (λ e. e.taken ≡ e.sent) }
     ensures all_sent { config.now.limit < 2 ^ 32 - 1 → IfOk result (λ e. e.sent ≡ config.now.senders * config.now.items) }
 {
+    let Passes {
+        closer,
+        senders,
+        receivers,
+    } = passes;
     let mut gates = gates;
     let senders = deal(alloc, senders, &mut gates)?;
     let receivers = deal(alloc, receivers, &mut gates)?;
-    run_and_settle(rt, alloc, queue, config, closer, senders, receivers)
+    let workers = Workers {
+        closer,
+        senders,
+        receivers,
+    };
+    run_and_settle(rt, alloc, queue, config, workers)
 }
 
 /// Runs all workers, and settles what is left of the run.
@@ -109,25 +113,16 @@ fn run_and_settle<G: Gate + Send, R: Threads + Wait + Sync>(
     alloc: Global,
     queue: &Queue,
     config: &DriveConfig,
-    closer: Sender,
-    senders: Vec<Job<Sender, G>>,
-    receivers: Vec<Job<Receiver, G>>,
+    workers: Workers<G>,
 ) -> Result<DriveEnd, DriveFault>
-    requires closer { closer ≡ fresh queue.now config.now.senders }
-    requires senders { InRow (IsSending queue.now) 0 senders.items }
-    requires count_senders { vec_len senders ≡ config.now.senders }
-    requires receivers { InRow (IsTaking queue.now) (config.now.senders + 1) receivers.items }
-    requires count_receivers { vec_len receivers ≡ config.now.receivers }
-    requires some { 0 < config.now.receivers }
-    requires few { config.now.senders + config.now.receivers < 2 ^ 16 }
-    requires setting { queue.now.setting ≡ record { served = Served.List; config = queue_of config.now } }
+    requires ready { AreReady queue.now config.now workers }
     ensures due { IfErr result (IsDue (Ok tt) (config.now.senders + config.now.receivers)) }
     ensures clean { IfOk result (λ e. e.verdict ≡ Verdict.Clean) }
     ensures all_taken { IfOk result (λ e. e.taken ≡ e.sent) }
     ensures all_sent { config.now.limit < 2 ^ 32 - 1 → IfOk result (λ e. e.sent ≡ config.now.senders * config.now.items) }
 {
-    let ran = run(rt, alloc, queue, config, closer, senders, receivers)?;
-    settle(alloc, queue, config, ran)
+    let ran = run(rt, alloc, queue, config, workers)?;
+    settle(alloc, queue, ran)
 }
 
 /// Runs all workers in threads, and closes between the senders' end and the receivers'.
@@ -136,17 +131,9 @@ fn run<G: Gate + Send, R: Threads + Wait + Sync>(
     alloc: Global,
     queue: &Queue,
     config: &DriveConfig,
-    closer: Sender,
-    senders: Vec<Job<Sender, G>>,
-    receivers: Vec<Job<Receiver, G>>,
+    workers: Workers<G>,
 ) -> Result<Ran, DriveFault>
-    requires closer { closer ≡ fresh queue.now config.now.senders }
-    requires senders { InRow (IsSending queue.now) 0 senders.items }
-    requires count_senders { vec_len senders ≡ config.now.senders }
-    requires receivers { InRow (IsTaking queue.now) (config.now.senders + 1) receivers.items }
-    requires count_receivers { vec_len receivers ≡ config.now.receivers }
-    requires few { config.now.senders + config.now.receivers < 2 ^ 16 }
-    requires setting { queue.now.setting.config ≡ queue_of config.now }
+    requires ready { AreReady queue.now config.now workers }
     ensures run { IfOk result (HasRun queue.now config.now) }
     ensures told { IfErr result (IsTold queue.now config.now) }
     ensures due { IfErr result (IsDue (Ok tt) (config.now.senders + config.now.receivers)) }
@@ -156,16 +143,10 @@ fn run<G: Gate + Send, R: Threads + Wait + Sync>(
         scope_env(),
         rt,
         move |scope| -> Result<Ran, DriveFault>
-            requires closer { closer ≡ fresh queue.now config.senders }
-            requires senders { InRow (IsSending queue.now) 0 senders.items }
-            requires count_senders { vec_len senders ≡ config.senders }
-            requires receivers { InRow (IsTaking queue.now) (config.senders + 1) receivers.items }
-            requires count_receivers { vec_len receivers ≡ config.receivers }
-            requires few { config.senders + config.receivers < 2 ^ 16 }
-            requires setting { queue.now.setting.config ≡ queue_of config }
+            requires ready { AreReady queue.now config workers }
             ensures run { IfOk result (HasRun queue.entry.now config) }
             ensures told { IfErr result (IsTold queue.entry.now config) }
-        { run_in(scope, rt, alloc, queue, config, closer, senders, receivers) },
+        { run_in(scope, rt, alloc, queue, config, workers) },
     )
 }
 
@@ -176,65 +157,52 @@ fn run_in<'s, E, G: Gate + Send + 's, R: Threads + Wait + Sync + 's>(
     alloc: Global,
     queue: &'s Queue,
     config: DriveConfig,
-    closer: Sender,
-    senders: Vec<Job<Sender, G>>,
-    receivers: Vec<Job<Receiver, G>>,
+    workers: Workers<G>,
 ) -> Result<Ran, DriveFault>
-    requires closer { closer ≡ fresh queue.now config.senders }
-    requires senders { InRow (IsSending queue.now) 0 senders.items }
-    requires count_senders { vec_len senders ≡ config.senders }
-    requires receivers { InRow (IsTaking queue.now) (config.senders + 1) receivers.items }
-    requires count_receivers { vec_len receivers ≡ config.receivers }
-    requires few { config.senders + config.receivers < 2 ^ 16 }
-    requires setting { queue.now.setting.config ≡ queue_of config }
+    requires ready { AreReady queue.now config workers }
     ensures run { IfOk result (HasRun queue.now config) }
     ensures told { IfErr result (IsTold queue.now config) }
 {
+    let Workers {
+        closer,
+        senders,
+        receivers,
+    } = workers;
     let count = config.senders;
     let brief = Brief {
         items: config.items,
         limit: config.limit,
     };
-    let (taking, to_take) = room_for(alloc, receivers.len())?;
-    let (sending, to_send) = room_for(alloc, senders.len())?;
-    let taking = start_all(
-        scope,
-        rt,
-        alloc,
-        queue,
-        brief,
-        count + 1,
-        receivers,
-        taking,
-        None,
-    );
-    let refused = taking.refused;
-    let sending = start_all(scope, rt, alloc, queue, brief, 0, senders, sending, refused);
+    let (handles, to_take) = room_for(alloc, receivers.len())?;
+    let taking = Row {
+        first: count + 1,
+        workers: receivers,
+        handles,
+    };
+    let (handles, to_send) = room_for(alloc, senders.len())?;
+    let sending = Row {
+        first: 0,
+        workers: senders,
+        handles,
+    };
+    let taking = start_all(scope, rt, queue, brief, taking, None);
+    let sending = start_all(scope, rt, queue, brief, sending, taking.refused);
     let refused = sending.refused;
-    let (sent, closed) = close_behind(rt, alloc, queue, brief, closer, sending, to_send);
-    let taken = join_receivers(rt, alloc, queue, brief, count, taking, to_take);
-    ran_of(queue, config, refused, sent, closed, taken)
+    let sent = join_senders(rt, alloc, sending, to_send);
+    let (sent, closed) = close_behind(alloc, queue, brief, closer, sent);
+    let taken = join_receivers(rt, alloc, count, taking, to_take);
+    ran_of(config, refused, sent, closed, taken)
 }
 
 /// Lets all passes meet, and audits their receipts with the close's total.
-fn settle(
-    alloc: Global,
-    queue: &Queue,
-    config: &DriveConfig,
-    ran: Ran,
-) -> Result<DriveEnd, DriveFault>
-    requires setting { queue.now.setting ≡ record { served = Served.List; config = queue_of config.now } }
-    requires some { 0 < config.now.receivers }
-    requires run { HasRun queue.now config.now ran }
+fn settle(alloc: Global, queue: &Queue, ran: Ran) -> Result<DriveEnd, DriveFault>
+    requires queue { IsQueueOf ran.config queue.now }
+    requires run { HasRun queue.now ran.config ran }
     ensures memory { IfErr result (λ f. f ≡ DriveFault.NoMemory) }
-    ensures clean { IfOk result (λ e. e.verdict ≡ Verdict.Clean) }
-    ensures sent { IfOk result (λ e. e.sent ≡ length ran.sends.items) }
-    ensures taken { IfOk result (λ e. e.taken ≡ length ran.takes.items) }
-    ensures all_taken { IfOk result (λ e. e.taken ≡ e.sent) }
-    ensures all_sent { config.now.limit < 2 ^ 32 - 1 → IfOk result (λ e. e.sent ≡ config.now.senders * config.now.items) }
+    ensures end { IfOk result (IsEndOf ran) }
 {
-    let _ = config;
     let Ran {
+        config: _,
         mut senders,
         closer,
         closed,

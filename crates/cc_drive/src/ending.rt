@@ -1,10 +1,12 @@
 //! The end of a run: its threads are joined, its queue is closed, and what came of it is told.
-ghost use Rattle.std.specs.Prelude.{[], ◌≡◌, ◌+◌, ◌<◌, ◌≤◌, ◌^◌, ◌&&◌, IfOk, IfErr, is_some, vec_len, vec_capacity};
+ghost use Rattle.std.specs.Prelude.{ℕ, [], ◌≡◌, ◌+◌, ◌<◌, ◌≤◌, ◌^◌, ◌&&◌, IfOk, IfErr, is_some, vec_len, vec_capacity};
+ghost use Rattle.std.specs.List.{All};
+ghost use Rattle.cc_steps.specs.Topic.{Topic};
 ghost use Rattle.cc_steps.specs.Walk.{IsOf};
-ghost use Rattle.cc_drive.specs.Names.{DriveFault};
+ghost use Rattle.cc_drive.specs.Names.{Brief, DriveFault};
 ghost use Rattle.cc_drive.specs.Back.{SenderGave, ReceiverGave};
 ghost use Rattle.cc_drive.specs.Config.{queue_of};
-ghost use Rattle.cc_drive.specs.Crew.{IsCrew};
+ghost use Rattle.cc_drive.specs.Crew.{IsCrew, IsRoomFor};
 ghost use Rattle.cc_drive.specs.Ran.{HasClosed, HasEnded, HasRun, IsTold, due};
 ghost use Rattle.cc_drive.specs.Row.{InRow};
 
@@ -16,7 +18,6 @@ use crate::jobs::Job;
 use crate::kept::Worked;
 use crate::starting::Refused;
 use crate::threads::{Brief, Started, join_all};
-use crate::turns::Turns;
 use cc_audit::{SendReceipt, TakeReceipt};
 use cc_model::CloseAnswer;
 use cc_queue::{Queue, Receiver, Sender};
@@ -26,6 +27,8 @@ use std::thread::Threads;
 /// What is left of a run when its threads have ended.
 #[derive(Drop)]
 pub struct Ran {
+    /// What it was driven with.
+    pub config: DriveConfig,
     /// The senders that sent.
     pub senders: Vec<Sender>,
     /// The sender that closed.
@@ -48,7 +51,7 @@ pub struct Room<P: Drop, X: Drop> {
     pub passes: Vec<P>,
 }
 
-/// Room for the threads of so many workers, and for what they give back.
+/// Room for the handles of so many threads, and for what they give back.
 pub fn room_for<H: Drop, P: Drop, X: Drop>(
     alloc: Global,
     count: usize,
@@ -56,11 +59,8 @@ pub fn room_for<H: Drop, P: Drop, X: Drop>(
     requires few { count < 2 ^ 16 }
     ensures memory { IfErr result (λ f. f ≡ DriveFault.NoMemory) }
     ensures none { IfOk result (λ r. r.0.items ≡ []) }
-    ensures none_done { IfOk result (λ r. r.1.done.items ≡ []) }
-    ensures no_passes { IfOk result (λ r. r.1.passes.items ≡ []) }
     ensures threads { IfOk result (λ r. count ≤ vec_capacity r.0) }
-    ensures done { IfOk result (λ r. count ≤ vec_capacity r.1.done) }
-    ensures passes { IfOk result (λ r. count < vec_capacity r.1.passes) }
+    ensures room { IfOk result (λ r. IsRoomFor count r.1) }
 {
     let handles = Vec::with_capacity(alloc, count)?;
     let done = Vec::with_capacity(alloc, count)?;
@@ -69,73 +69,54 @@ pub fn room_for<H: Drop, P: Drop, X: Drop>(
 }
 
 /// Joins the senders, and gathers what they gave back. There is room for one pass more.
-fn join_senders<G: Gate + Send, R: Threads>(
+pub fn join_senders<G: Gate + Send, R: Threads>(
     rt: &R,
     alloc: Global,
-    queue: &Queue,
-    brief: Brief,
     sending: Started<Job<Sender, G>>,
     room: Room<Sender, SendReceipt>,
 ) -> Crew<Sender, SendReceipt>
-    requires promised { InRow (λ n h. (h.promise.queue.value ≡ queue.now) × (h.promise.brief ≡ brief) × (h.promise.row ≡ n)) 0 sending.handles.items }
     requires few { vec_len sending.handles < 2 ^ 32 }
-    requires none_done { room.done.items ≡ [] }
-    requires no_passes { room.passes.items ≡ [] }
-    requires done { vec_len sending.handles ≤ vec_capacity room.done }
-    requires passes { vec_len sending.handles < vec_capacity room.passes }
-    ensures back { IsCrew (SenderGave queue.now brief.items brief.limit) 0 0 (vec_len sending.handles) result.passes.items result }
+    requires room { IsRoomFor (vec_len sending.handles) room }
+    ensures back { (z : Topic) (b : Brief) → InRow (λ n h. (h.promise.queue.value ≡ z) × (h.promise.brief ≡ b) × (h.promise.row ≡ n)) 0 sending.handles.items → IsCrew (SenderGave z b.items b.limit) 0 0 (vec_len sending.handles) result.passes.items result }
     ensures room { vec_len result.passes < vec_capacity result.passes }
 {
     let Room { done, passes } = room;
-    let done = join_all(rt, queue, brief, 0, sending.handles, done);
-    gather(done, 0, passes, Vec::new(alloc))
+    let done = join_all(rt, sending.handles, done);
+    gather(alloc, done, 0, passes)
 }
 
 /// Joins the receivers of a run of so many senders, and gathers what they gave back.
 pub fn join_receivers<G: Gate + Send, R: Threads>(
     rt: &R,
     alloc: Global,
-    queue: &Queue,
-    brief: Brief,
     senders: u32,
     taking: Started<Job<Receiver, G>>,
     room: Room<Receiver, TakeReceipt>,
 ) -> Crew<Receiver, TakeReceipt>
-    requires promised { InRow (λ n h. (h.promise.queue.value ≡ queue.now) × (h.promise.brief ≡ brief) × (h.promise.row ≡ n)) (senders + 1) taking.handles.items }
-    requires few { senders + vec_len taking.handles + 1 < 2 ^ 32 }
-    requires none_done { room.done.items ≡ [] }
-    requires no_passes { room.passes.items ≡ [] }
-    requires done { vec_len taking.handles ≤ vec_capacity room.done }
-    requires passes { vec_len taking.handles < vec_capacity room.passes }
-    ensures { IsCrew (ReceiverGave queue.now brief.limit) (senders + 1) senders (vec_len taking.handles) result.passes.items result }
+    requires few { senders + vec_len taking.handles < 2 ^ 32 }
+    requires room { IsRoomFor (vec_len taking.handles) room }
+    ensures { (z : Topic) (b : Brief) → InRow (λ n h. (h.promise.queue.value ≡ z) × (h.promise.brief ≡ b) × (h.promise.row ≡ n)) (senders + 1) taking.handles.items → IsCrew (ReceiverGave z b.limit) (senders + 1) senders (vec_len taking.handles) result.passes.items result }
 {
     let Room { done, passes } = room;
-    let done = join_all(rt, queue, brief, senders + 1, taking.handles, done);
-    gather(done, senders, passes, Vec::new(alloc))
+    let done = join_all(rt, taking.handles, done);
+    gather(alloc, done, senders, passes)
 }
 
-/// Joins the senders, and closes the queue then.
-pub fn close_behind<G: Gate + Send, R: Threads>(
-    rt: &R,
+/// Closes the queue behind the senders, which are joined.
+pub fn close_behind(
     alloc: Global,
     queue: &Queue,
     brief: Brief,
     closer: Sender,
-    sending: Started<Job<Sender, G>>,
-    room: Room<Sender, SendReceipt>,
+    sent: Crew<Sender, SendReceipt>,
 ) -> (Crew<Sender, SendReceipt>, Option<(Sender, CloseAnswer)>)
     requires closer { IsOf queue.now closer }
-    requires promised { InRow (λ n h. (h.promise.queue.value ≡ queue.now) × (h.promise.brief ≡ brief) × (h.promise.row ≡ n)) 0 sending.handles.items }
-    requires few { vec_len sending.handles < 2 ^ 32 }
-    requires none_done { room.done.items ≡ [] }
-    requires no_passes { room.passes.items ≡ [] }
-    requires done { vec_len sending.handles ≤ vec_capacity room.done }
-    requires passes { vec_len sending.handles < vec_capacity room.passes }
-    ensures { HasClosed queue.now brief closer (vec_len sending.handles) result.0 result.1 }
+    requires senders { All (IsOf queue.now) sent.passes.items }
+    requires room { vec_len sent.passes < vec_capacity sent.passes }
+    ensures { (count : ℕ) → IsCrew (SenderGave queue.now brief.items brief.limit) 0 0 count sent.passes.items sent → HasClosed queue.now brief closer count result.0 result.1 }
 {
-    let mut sent = join_senders(rt, alloc, queue, brief, sending, room);
-    let mut turns = Turns::new(brief.limit);
-    match close_after(alloc, queue, &mut turns, closer, &mut sent.passes) {
+    let mut sent = sent;
+    match close_after(alloc, queue, brief.limit, closer, &mut sent.passes) {
         Ok(closed) => (sent, Some(closed)),
         Err(pending) => {
             pending.abandon();
@@ -144,9 +125,8 @@ pub fn close_behind<G: Gate + Send, R: Threads>(
     }
 }
 
-/// What is left of a run whose threads have ended, or why it has no end to tell.
+/// What is left of a run whose threads have ended, or why it has no end to tell: of each queue that it may have been a run of.
 pub fn ran_of(
-    queue: &Queue,
     config: DriveConfig,
     refused: Option<Refused>,
     sent: Crew<Sender, SendReceipt>,
@@ -154,12 +134,9 @@ pub fn ran_of(
     taken: Crew<Receiver, TakeReceipt>,
 ) -> Result<Ran, DriveFault>
     requires few { config.senders + config.receivers < 2 ^ 16 }
-    requires setting { queue.now.setting.config ≡ queue_of config }
-    requires ended { HasEnded queue.now config refused sent closed taken }
-    ensures run { IfOk result (HasRun queue.now config) }
-    ensures told { IfErr result (IsTold queue.now config) }
+    ensures run { (z : Topic) → z.setting.config ≡ queue_of config → HasEnded z config refused sent closed taken → IfOk result (HasRun z config) }
+    ensures told { (z : Topic) → HasEnded z config refused sent closed taken → IfErr result (IsTold z config) }
 {
-    let _ = queue;
     let is_refused = refused.is_some();
     let is_closed = closed.is_some();
     if let Some(fault) = fault_in(config, is_refused, &sent, &taken, is_closed) {
@@ -169,6 +146,7 @@ pub fn ran_of(
         unreachable!()
     };
     Ok(Ran {
+        config,
         senders: sent.passes,
         closer,
         closed,

@@ -13,9 +13,10 @@ use cc_queue::{Queue, Receiver, Sender};
 use std::alloc::{AllocError, Global};
 use std::sync::Wait;
 
-/// A pass of a queue with its number, from 1, and the gate of its worker.
+/// A pass of a queue with its number, from 1, the gate of its worker, and where memory for its receipts comes from.
 #[derive(Drop)]
 pub struct Job<P: Drop, G: Gate> {
+    pub alloc: Global,
     pub number: u32,
     pub pass: P,
     pub gate: G,
@@ -34,14 +35,11 @@ impl<G: Gate + Send> Worker for Job<Sender, G> {
     fn run<R: Wait>(
         self,
         rt: &R,
-        alloc: Global,
         queue: &Queue,
         brief: Brief,
         row: u32,
     ) -> Worked<Sender, SendReceipt> {
-        let Self { number, pass, gate } = self;
-        let Brief { items, limit } = brief;
-        send_all(rt, alloc, queue, row, number, items, limit, pass, gate)
+        send_all(rt, queue, brief, row, self)
     }
 }
 
@@ -58,14 +56,29 @@ impl<G: Gate + Send> Worker for Job<Receiver, G> {
     fn run<R: Wait>(
         self,
         rt: &R,
-        alloc: Global,
         queue: &Queue,
         brief: Brief,
         row: u32,
     ) -> Worked<Receiver, TakeReceipt> {
-        let Self { number, pass, gate } = self;
-        take_all(rt, alloc, queue, row, number, brief.limit, pass, gate)
+        take_all(rt, queue, brief, row, self)
     }
+}
+
+/// The passes of a queue, before they are dealt out to workers.
+#[derive(Drop)]
+pub struct Passes {
+    /// The last sender, which closes the queue.
+    pub closer: Sender,
+    pub senders: Vec<Sender>,
+    pub receivers: Vec<Receiver>,
+}
+
+/// The workers of a run before their threads start, and the closer.
+#[derive(Drop)]
+pub struct Workers<G: Gate> {
+    pub closer: Sender,
+    pub senders: Vec<Job<Sender, G>>,
+    pub receivers: Vec<Job<Receiver, G>>,
 }
 
 /// A job for each of these passes, numbered from 1, with the next of the gates.
@@ -84,7 +97,12 @@ pub fn deal<P: Drop, G: Gate>(
     let mut number = 1;
     for pass in passes {
         let gate = gates.remove(0);
-        jobs.push(Job { number, pass, gate })?;
+        jobs.push(Job {
+            alloc,
+            number,
+            pass,
+            gate,
+        })?;
         number += 1;
     }
     Ok(jobs)

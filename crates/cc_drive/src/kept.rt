@@ -11,9 +11,11 @@ pub struct Kept<X: Drop> {
     pub is_whole: bool,
 }
 
-/// What a worker gives back: its pass, but where it reached its limit, how many turns it made, and what it kept.
+/// What a worker leaves: its place, its pass, but where it reached its limit, how many turns it made, and what it kept.
 #[derive(Drop)]
 pub struct Worked<P: Drop, X: Drop> {
+    /// Where its pass stands in the row of all passes.
+    pub row: u32,
     pub pass: Option<P>,
     pub made: u64,
     pub kept: Kept<X>,

@@ -1,21 +1,22 @@
 //! The work of a receiver's thread.
 ghost use Rattle.std.specs.Prelude.{◌≡◌, ◌≤◌, IfOk};
-ghost use Rattle.cc_drive.specs.Names.{Answer, Call, Pass};
-ghost use Rattle.cc_runs.specs.State.{pass_at};
-ghost use Rattle.cc_steps.specs.Walk.{IsOf, fresh};
+ghost use Rattle.cc_drive.specs.Names.{Answer, Call};
+ghost use Rattle.cc_steps.specs.Walk.{IsOf};
 ghost use Rattle.cc_queue.specs.Calls.{Completed};
 ghost use Rattle.cc_drive.specs.Back.{ReceiverGave};
+ghost use Rattle.cc_drive.specs.Jobs.{IsTaking};
 ghost use Rattle.cc_drive.specs.Work.{WentOn, IsAskedInTake, CostsOfTake};
 
 use crate::calls::{Left, answer_within};
 use crate::gate::{Gate, Point};
+use crate::jobs::Job;
 use crate::kept::{Kept, Worked};
 use crate::pace::Pace;
+use crate::threads::Brief;
 use crate::turns::Turns;
 use cc_audit::TakeReceipt;
 use cc_model::TakeAnswer;
 use cc_queue::{PendingTake, Queue, Receiver, begin_take};
-use std::alloc::Global;
 use std::sync::Wait;
 
 /// Takes, and waits for the answer within the limit. The gate is asked after the begin and after the answer. Err says where
@@ -48,23 +49,23 @@ fn take_one<G: Gate>(
 /// the worker reached its limit.
 pub(crate) fn take_all<G: Gate, R: Wait>(
     rt: &R,
-    alloc: Global,
     queue: &Queue,
+    brief: Brief,
     row: u32,
-    number: u32,
-    limit: u64,
-    receiver: Receiver,
-    gate: G,
+    job: Job<Receiver, G>,
 ) -> Worked<Receiver, TakeReceipt>
-    requires fresh { receiver ≡ fresh queue.now row }
-    requires named { pass_at queue.now.setting.config row ≡ Pass.Receiver number }
-    ensures { ReceiverGave queue.now limit row result }
+    requires { IsTaking queue.now row job }
+    ensures { ReceiverGave queue.now brief.limit row result }
 {
-    let _ = row;
-    let mut gate = gate;
-    let mut receiver = receiver;
+    let Job {
+        alloc,
+        number,
+        pass,
+        mut gate,
+    } = job;
+    let mut receiver = pass;
     receiver.is_sound();
-    let mut turns = Turns::new(limit);
+    let mut turns = Turns::new(brief.limit);
     let mut kept = Kept::new(alloc);
     let mut pace = Pace::new();
     while turns.made < turns.limit {
@@ -74,6 +75,7 @@ pub(crate) fn take_all<G: Gate, R: Wait>(
             Err(left) => {
                 left.give_up();
                 return Worked {
+                    row,
                     pass: None,
                     made: turns.made,
                     kept,
@@ -91,6 +93,7 @@ pub(crate) fn take_all<G: Gate, R: Wait>(
             TakeAnswer::Empty => pace.rest(),
             TakeAnswer::Ended { total: _ } => {
                 return Worked {
+                    row,
                     pass: Some(after),
                     made: turns.made,
                     kept,
@@ -100,6 +103,7 @@ pub(crate) fn take_all<G: Gate, R: Wait>(
         receiver = after;
     }
     Worked {
+        row,
         pass: None,
         made: turns.made,
         kept,

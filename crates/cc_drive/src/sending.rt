@@ -1,20 +1,20 @@
 //! The work of a sender's thread.
 ghost use Rattle.std.specs.Prelude.{◌≡◌, ◌+◌, ◌-◌, ◌^◌, ◌<◌, ◌≤◌};
-ghost use Rattle.cc_drive.specs.Names.{Pass};
-ghost use Rattle.cc_runs.specs.State.{pass_at};
-ghost use Rattle.cc_steps.specs.Walk.{IsOf, fresh};
+ghost use Rattle.cc_steps.specs.Walk.{IsOf};
 ghost use Rattle.cc_drive.specs.Back.{SenderGave, one_word};
+ghost use Rattle.cc_drive.specs.Jobs.{IsSending};
 ghost use Rattle.cc_drive.specs.Work.{WentOn, IsAskedInSend, IsSent, CostsOfSend};
 
 use crate::calls::{Left, answer_within};
 use crate::gate::{Gate, Point};
+use crate::jobs::Job;
 use crate::kept::{Kept, Worked};
 use crate::pace::Pace;
+use crate::threads::Brief;
 use crate::turns::Turns;
 use cc_audit::SendReceipt;
 use cc_model::{Body, SendAnswer};
 use cc_queue::{PendingSend, Queue, Sender, begin_send};
-use std::alloc::Global;
 use std::sync::Wait;
 
 /// How a send went.
@@ -67,35 +67,33 @@ fn body_behind(accepted: u64) -> Body
     Body::one(accepted + 1)
 }
 
-/// Sends the numbers from 1 to `items` as bodies of one word, each again until it is accepted, and keeps a receipt of each. In
+/// Sends the numbers from 1 to `items` of the brief as bodies of one word, each again until it is accepted, and keeps a receipt of each. In
 /// a run the answer is Full until then: the queue is closed when all senders are joined, and its life is longer than any sends
 /// that they can begin. A worn sender stops. The pass is given back, but where the worker reached its limit.
 pub(crate) fn send_all<G: Gate, R: Wait>(
     rt: &R,
-    alloc: Global,
     queue: &Queue,
+    brief: Brief,
     row: u32,
-    number: u32,
-    items: u64,
-    limit: u64,
-    sender: Sender,
-    gate: G,
+    job: Job<Sender, G>,
 ) -> Worked<Sender, SendReceipt>
-    requires fresh { sender ≡ fresh queue.now row }
-    requires named { pass_at queue.now.setting.config row ≡ Pass.Sender number }
-    requires worn { queue.now.setting.config.per_sender ≡ 2 ^ 32 - 1 }
-    ensures { SenderGave queue.now items limit row result }
+    requires { IsSending queue.now row job }
+    ensures { SenderGave queue.now brief.items brief.limit row result }
 {
-    let _ = row;
-    let mut gate = gate;
-    let mut sender = sender;
+    let Job {
+        alloc,
+        number,
+        pass,
+        mut gate,
+    } = job;
+    let mut sender = pass;
     sender.is_sound();
-    let mut turns = Turns::new(limit);
+    let mut turns = Turns::new(brief.limit);
     let mut kept = Kept::new(alloc);
     let mut begun: u32 = 0;
     let mut accepted: u64 = 0;
     let mut pace = Pace::new();
-    while accepted < items {
+    while accepted < brief.items {
         let body = body_behind(accepted);
         let before = turns.made;
         match send_body(queue, sender, body, &mut gate, &mut turns) {
@@ -117,6 +115,7 @@ pub(crate) fn send_all<G: Gate, R: Wait>(
             }
             Sent::Worn(after) => {
                 return Worked {
+                    row,
                     pass: Some(after),
                     made: turns.made,
                     kept,
@@ -125,6 +124,7 @@ pub(crate) fn send_all<G: Gate, R: Wait>(
             Sent::Limited(left) => {
                 left.give_up();
                 return Worked {
+                    row,
                     pass: None,
                     made: turns.made,
                     kept,
@@ -133,6 +133,7 @@ pub(crate) fn send_all<G: Gate, R: Wait>(
         }
     }
     Worked {
+        row,
         pass: Some(sender),
         made: turns.made,
         kept,

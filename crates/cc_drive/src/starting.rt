@@ -3,7 +3,6 @@ ghost use Rattle.std.specs.Prelude.{◌≡◌, IfOk, IfErr};
 
 use crate::threads::{Brief, WorkOf, Worker, work_of};
 use cc_queue::Queue;
-use std::alloc::Global;
 use std::marker::PhantomData;
 use std::sync::Wait;
 use std::thread::{PromisedHandle, Scope};
@@ -20,7 +19,6 @@ pub struct Refused {
 pub(crate) fn start<'s, E, J: Worker + 's, R: Wait + Sync + 's>(
     scope: &Scope<'s, E>,
     rt: &'s R,
-    alloc: Global,
     queue: &'s Queue,
     brief: Brief,
     row: u32,
@@ -31,7 +29,7 @@ pub(crate) fn start<'s, E, J: Worker + 's, R: Wait + Sync + 's>(
     ensures refused { IfErr result (λ e. e.row ≡ row) }
 {
     let promise = work_of::<J>(queue, brief, row);
-    let run = move || worker.run(rt, alloc, queue, brief, row);
+    let run = move || worker.run(rt, queue, brief, row);
     match scope.spawn_with(promise, run) {
         Ok(handle) => Ok(handle),
         Err(_) => Err(Refused {

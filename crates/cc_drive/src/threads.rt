@@ -1,11 +1,12 @@
 //! Workers in threads: starting them in a row, and joining them.
-ghost use Rattle.std.specs.Prelude.{[], ◌≡◌, ◌+◌, ◌<◌, ◌≤◌, ◌^◌, vec_len, vec_capacity};
+ghost use Rattle.std.specs.Prelude.{ℕ, [], ◌≡◌, ◌+◌, ◌<◌, ◌≤◌, ◌^◌, vec_len, vec_capacity};
+ghost use Rattle.cc_steps.specs.Topic.{Topic};
+ghost use Rattle.cc_drive.specs.Names.{Brief};
 ghost use Rattle.cc_drive.specs.Row.{InRow};
 ghost use Rattle.cc_drive.specs.Start.{IsStarted};
 
 use crate::starting::{Refused, start};
 use cc_queue::Queue;
-use std::alloc::Global;
 use std::marker::PhantomData;
 use std::snapshot::Snapshot;
 use std::sync::Wait;
@@ -35,14 +36,7 @@ pub trait Worker: Send + Drop {
     /// What a worker that stood at that place may give back.
     ghost gives: { Topic → Brief → ℕ → Self.Done → Type 0 };
 
-    fn run<R: Wait>(
-        self,
-        rt: &R,
-        alloc: Global,
-        queue: &Queue,
-        brief: Brief,
-        row: u32,
-    ) -> Self::Done
+    fn run<R: Wait>(self, rt: &R, queue: &Queue, brief: Brief, row: u32) -> Self::Done
         requires { is_ready queue.now row self }
         ensures { gives queue.now brief row result };
 }
@@ -81,37 +75,45 @@ pub struct Started<J: Worker> {
     pub refused: Option<Refused>,
 }
 
-/// Starts a thread for each worker in turn, until one is refused, and none if one was refused before. They stand from this
-/// place on in the row of all passes.
+/// Workers that stand one behind another in the row of all passes, with room for the handles of their threads.
+#[derive(Drop)]
+pub struct Row<J: Worker> {
+    /// Where the first of them stands.
+    pub first: u32,
+    pub workers: Vec<J>,
+    pub handles: Vec<PromisedHandle<J::Done, WorkOf<J>>>,
+}
+
+/// Starts a thread for each worker in turn, until one is refused, and none if one was refused before.
 pub fn start_all<'s, E, J: Worker + 's, R: Wait + Sync + 's>(
     scope: &Scope<'s, E>,
     rt: &'s R,
-    alloc: Global,
     queue: &'s Queue,
     brief: Brief,
-    first: u32,
-    workers: Vec<J>,
-    handles: Vec<PromisedHandle<J::Done, WorkOf<J>>>,
+    row: Row<J>,
     before: Option<Refused>,
 ) -> Started<J>
-    requires ready { InRow (J.is_ready queue.now) first workers.items }
-    requires few { first + vec_len workers < 2 ^ 32 }
-    requires none { handles.items ≡ [] }
-    requires room { vec_len workers ≤ vec_capacity handles }
-    ensures promised { InRow (λ n h. (h.promise.queue.value ≡ queue.now) × (h.promise.brief ≡ brief) × (h.promise.row ≡ n)) first result.handles.items }
-    ensures few { vec_len result.handles ≤ vec_len workers }
-    ensures started { IsStarted before first (vec_len workers) (vec_len result.handles) result.refused }
+    requires ready { InRow (J.is_ready queue.now) row.first row.workers.items }
+    requires few { row.first + vec_len row.workers < 2 ^ 32 }
+    requires none { row.handles.items ≡ [] }
+    requires room { vec_len row.workers ≤ vec_capacity row.handles }
+    ensures promised { InRow (λ n h. (h.promise.queue.value ≡ queue.now) × (h.promise.brief ≡ brief) × (h.promise.row ≡ n)) row.first result.handles.items }
+    ensures started { IsStarted before row.first (vec_len row.workers) (vec_len result.handles) result.refused }
 {
-    let mut handles = handles;
-    let mut row = first;
+    let Row {
+        first,
+        workers,
+        mut handles,
+    } = row;
     if before.is_some() {
         return Started {
             handles,
             refused: before,
         };
     }
+    let mut place = first;
     for worker in workers {
-        match start(scope, rt, alloc, queue, brief, row, worker) {
+        match start(scope, rt, queue, brief, place, worker) {
             Ok(handle) => {
                 let Ok(()) = handles.push(handle) else {
                     unreachable!()
@@ -124,7 +126,7 @@ pub fn start_all<'s, E, J: Worker + 's, R: Wait + Sync + 's>(
                 };
             }
         }
-        row += 1;
+        place += 1;
     }
     Started {
         handles,
@@ -132,24 +134,18 @@ pub fn start_all<'s, E, J: Worker + 's, R: Wait + Sync + 's>(
     }
 }
 
-/// Waits for the end of each of these threads.
+/// Waits for the end of each of these threads. Whatever queue they were promised for, and from which place on, each result is
+/// that of its place.
 pub fn join_all<R: Threads, J: Worker>(
     rt: &R,
-    queue: &Queue,
-    brief: Brief,
-    first: u32,
     handles: Vec<PromisedHandle<J::Done, WorkOf<J>>>,
     done: Vec<J::Done>,
 ) -> Vec<J::Done>
-    requires promised { InRow (λ n h. (h.promise.queue.value ≡ queue.now) × (h.promise.brief ≡ brief) × (h.promise.row ≡ n)) first handles.items }
     requires none { done.items ≡ [] }
     requires room { vec_len handles ≤ vec_capacity done }
-    ensures gives { InRow (J.gives queue.now brief) first result.items }
+    ensures gives { (z : Topic) (b : Brief) (first : ℕ) → InRow (λ n h. (h.promise.queue.value ≡ z) × (h.promise.brief ≡ b) × (h.promise.row ≡ n)) first handles.items → InRow (J.gives z b) first result.items }
     ensures len { vec_len result ≡ vec_len handles }
 {
-    let _ = queue;
-    let _ = brief;
-    let _ = first;
     let mut done = done;
     for handle in handles {
         let Ok(()) = done.push(handle.join(rt)) else {

@@ -1,4 +1,6 @@
-use Rattle.std.proofs.Common.{◌≡◌, ◌∙◌, sym}
+use Rattle.std.proofs.Common.{◌≡◌, ◌∙◌, sym, ap, subst}
+use Rattle.cc_drive.specs.Names.{Turns}
+use Rattle.cc_drive.specs.Work.{RanOut}
 use Rattle.cc_queue.specs.Met.{HasMet}
 use Rattle.cc_drive.proofs.Counted.{answer_of}
 use Rattle.cc_drive.proofs.Crews.{ok_weaker, err_weaker}
@@ -44,6 +46,8 @@ returns-clause-left c =
       after = λ k d less. seen.0 k d less ∙ sym seen.1;
       begun = c.begin_close-pending.result;
       close = c.begin_close-pending.ensures;
-      waited = e;
+      turns = c.await_answer.new.turns;
+      limit = c.await_answer.ensures.on.limit ∙ ap (λ (t : Turns). t.limit) c.new-turns.ensures;
+      waited = subst (λ (t : Turns). RanOut c.begin_close-pending.result t c.await_answer.new.turns p) c.new-turns.ensures e;
     })
     c.await_answer.ensures.left

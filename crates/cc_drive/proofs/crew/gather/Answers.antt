@@ -1,4 +1,4 @@
-use Rattle.std.proofs.Common.{◌≡◌, ◌+◌, ◌^◌, ◌++◌, ◌∙◌, length, map, sym, ap, subst, true, if◌then◌else◌, Some, None, refl, le_refl, le_trans, vec_len, vec_capacity}
+use Rattle.std.proofs.Common.{rules, [], ◌≡◌, ◌+◌, ◌^◌, ◌++◌, ◌∙◌, length, map, sym, ap, subst, true, if◌then◌else◌, Some, None, refl, le_refl, le_trans, vec_len, vec_capacity}
 use Rattle.std.specs.List.{AllByRecursion}
 use Rattle.std.specs.Vec.Iter.{into_iter_len}
 use Rattle.std.proofs.lemmas.List.{nil_from_length}
@@ -13,7 +13,7 @@ loop-worker-init g c =
     let none : vec_len c.args.passes ≡ 0 = c.args.passes.ok.0 ∙ ap length c.requires.none in (
       (λ i. c.requires.none i ++ present (map (λ d. d.pass) (all.0 i))),
       (λ whole each. subst (AllByRecursion (λ d. d.kept.is_whole ≡ true)) all.0 each),
-      (λ whole i. c.requires.empty i ++ in_turn (map (λ d. d.kept.receipts.items) (all.0 i))),
+      (λ whole i. (let empty : c.new-receipts.result.items ≡ [] = search rules in empty) i ++ in_turn (map (λ d. d.kept.receipts.items) (all.0 i))),
       (λ i. least_missing c.args.first (map (λ d. d.pass) (all.0 i))),
       (λ i. c.args.first + all.1 i),
       none_yet (vec_len c.args.passes) (into_iter_len c.into_iter-worker-iterator.result) (vec_len c.args.workers) (vec_capacity c.args.passes) none all.1 c.requires.room,
@@ -40,28 +40,17 @@ loop-worker-preserved g c =
       le_trans was.7 c.add_pass-is_back.ensures.room,
     )
 
-pub returns-clause-passes : goal.returns-clause-passes
-returns-clause-passes g c =
-    let end = nil_from_length _ (sym c.loop-worker.worker-iterator.rest.ok.0 ∙ c.in-None.ensures.steps.0) in
-    none_left (λ l. present (map (λ d. d.pass) l)) _ _ _ refl end c.loop-worker.invariant.0
-
 pub returns-clause-few : goal.returns-clause-few
 returns-clause-few g c = no_more_than (vec_len c.loop-worker.passes) (into_iter_len c.loop-worker.worker-iterator) (vec_len c.args.workers) c.loop-worker.invariant.6
 
 pub returns-clause-room : goal.returns-clause-room
 returns-clause-room g c = c.loop-worker.invariant.7
 
-pub returns-clause-whole : goal.returns-clause-whole
-returns-clause-whole g c whole =
-    let end = nil_from_length _ (sym c.loop-worker.worker-iterator.rest.ok.0 ∙ c.in-None.ensures.steps.0) in
-    c.loop-worker.invariant.1 whole (subst (AllByRecursion (λ d. d.kept.is_whole ≡ true)) (sym end) tt)
-
-pub returns-clause-receipts : goal.returns-clause-receipts
-returns-clause-receipts g c whole =
-    let end = nil_from_length _ (sym c.loop-worker.worker-iterator.rest.ok.0 ∙ c.in-None.ensures.steps.0) in
-    none_left (λ l. in_turn (map (λ d. d.kept.receipts.items) l)) _ _ _ refl end (c.loop-worker.invariant.2 whole)
-
-pub returns-clause-limited : goal.returns-clause-limited
-returns-clause-limited g c =
-    let end = nil_from_length _ (sym c.loop-worker.worker-iterator.rest.ok.0 ∙ c.in-None.ensures.steps.0) in
-    missing_end (λ d. d.pass) _ _ c.loop-worker.number _ end c.loop-worker.invariant.3
+pub returns-clause-gathered : goal.returns-clause-gathered
+returns-clause-gathered g c =
+    let end = nil_from_length _ (sym c.loop-worker.worker-iterator.rest.ok.0 ∙ c.in-None.ensures.steps.0) in record {
+      back = none_left (λ l. present (map (λ d. d.pass) l)) _ _ _ refl end c.loop-worker.invariant.0;
+      missing = missing_end (λ d. d.pass) _ _ c.loop-worker.number _ end c.loop-worker.invariant.3;
+      whole = λ whole. c.loop-worker.invariant.1 whole (subst (AllByRecursion (λ d. d.kept.is_whole ≡ true)) (sym end) tt);
+      kept = λ whole. none_left (λ l. in_turn (map (λ d. d.kept.receipts.items) l)) _ _ _ refl end (c.loop-worker.invariant.2 whole);
+    }

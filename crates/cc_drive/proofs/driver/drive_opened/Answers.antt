@@ -6,35 +6,20 @@ use Rattle.cc_drive.proofs.Rows.{one_longer}
 use Rattle.cc_drive.proofs.Dealt.{fresh_split}
 use Rattle.cc_drive.proofs.driver.drive_opened.Goals as goal
 
-pub deal_and_run-requires-clause-closer : goal.deal_and_run-requires-clause-closer
-deal_and_run-requires-clause-closer g c κs within =
-    let parts = fresh_split c.args.opened.queue 0 _ _ c.in-Some.closer c.in-Some.ensures.items c.requires.opened.senders in
+pub deal_and_run-requires-clause-passes : goal.deal_and_run-requires-clause-passes
+deal_and_run-requires-clause-passes g c κs within =
+    let opened = c.requires.opened in
+    let r = in_range (queue_of c.args.config.now) opened.lawful in
+    let parts = fresh_split c.args.opened.queue 0 _ _ c.in-Some.closer c.in-Some.ensures.items opened.senders in
     let long = one_longer _ _ c.in-Some.closer c.in-Some.ensures.items in
-    let opened = c.requires.opened.count_senders in
-    let count : length c.pop.new.self.items ≡ c.args.config.now.senders = omega (arith, long, opened) in
-    parts.1 ∙ ap (fresh c.args.opened.queue) (omega (arith, count))
-
-pub deal_and_run-requires-clause-senders : goal.deal_and_run-requires-clause-senders
-deal_and_run-requires-clause-senders g c κs within =
-    (fresh_split c.args.opened.queue 0 _ _ c.in-Some.closer c.in-Some.ensures.items c.requires.opened.senders).0
-
-pub deal_and_run-requires-clause-count_senders : goal.deal_and_run-requires-clause-count_senders
-deal_and_run-requires-clause-count_senders g c κs within =
-    let long = one_longer _ _ c.in-Some.closer c.in-Some.ensures.items in
-    let opened = c.requires.opened.count_senders in
-    omega (arith, long, opened)
-
-pub deal_and_run-requires-clause-receivers : goal.deal_and_run-requires-clause-receivers
-deal_and_run-requires-clause-receivers g c κs within = c.requires.opened.receivers
-
-pub deal_and_run-requires-clause-count_receivers : goal.deal_and_run-requires-clause-count_receivers
-deal_and_run-requires-clause-count_receivers g c κs within = let opened = c.requires.opened.count_receivers in omega (arith, opened)
-
-pub deal_and_run-requires-clause-few : goal.deal_and_run-requires-clause-few
-deal_and_run-requires-clause-few g c κs within = let r = in_range (queue_of c.args.config.now) c.requires.opened.lawful in omega (arith, r.senders, r.receivers)
-
-pub deal_and_run-requires-clause-some : goal.deal_and_run-requires-clause-some
-deal_and_run-requires-clause-some g c κs within = let r = in_range (queue_of c.args.config.now) c.requires.opened.lawful in omega (arith, r.receivers)
-
-pub deal_and_run-requires-clause-setting : goal.deal_and_run-requires-clause-setting
-deal_and_run-requires-clause-setting g c κs within = c.requires.opened.setting
+    let total = opened.count_senders in
+    let count : length c.pop.new.self.items ≡ c.args.config.now.senders = omega (arith, long, total) in
+    let count' : length c.args.opened.receivers.items ≡ c.args.config.now.receivers = let all = opened.count_receivers in omega (arith, all) in
+    record {
+      queue = record { setting = opened.setting; few = omega (arith, r.senders, r.receivers); some = omega (arith, r.receivers) };
+      closer = parts.1 ∙ ap (fresh c.args.opened.queue) (omega (arith, count));
+      senders = parts.0;
+      count_senders = count;
+      receivers = opened.receivers;
+      count_receivers = count';
+    }

@@ -1,10 +1,27 @@
-use Rattle.std.proofs.Common.{◌+◌, Ok, refl, ap}
-use Rattle.cc_drive.specs.Names.{Setting}
+use Rattle.std.proofs.Common.{◌≡◌, ◌+◌, ◌-◌, ◌*◌, ◌^◌, ◌<◌, Ok, refl, sym, subst}
+use Rattle.cc_drive.specs.Names.{DriveConfig}
+use Rattle.cc_drive.specs.Jobs.{IsQueueOf}
+use Rattle.cc_drive.specs.Ran.{HasRun, IsEndOf}
 use Rattle.cc_drive.proofs.Crewed.{memory_due}
+use Rattle.cc_drive.proofs.Crews.{ok_weaker}
 use Rattle.cc_drive.proofs.driver.run_and_settle.Goals as goal
 
-pub run-requires-clause-setting : goal.run-requires-clause-setting
-run-requires-clause-setting g c κs within = ap (λ (s : Setting). s.config) c.requires.setting
+pub settle-requires-clause-queue : goal.settle-requires-clause-queue
+settle-requires-clause-queue g c = subst (λ (k : DriveConfig). IsQueueOf k c.args.queue.now) (sym c.in_ok-ran.ensures.run.of) c.requires.ready.queue
+
+pub settle-requires-clause-run : goal.settle-requires-clause-run
+settle-requires-clause-run g c = subst (λ (k : DriveConfig). HasRun c.args.queue.now k c.in_ok-ran.ran) (sym c.in_ok-ran.ensures.run.of) c.in_ok-ran.ensures.run
 
 pub returns-clause-due : goal.returns-clause-due
 returns-clause-due g c = memory_due (Ok tt) (c.args.config.now.senders + c.args.config.now.receivers) c.settle.result refl c.settle.ensures.memory
+
+pub returns-clause-clean : goal.returns-clause-clean
+returns-clause-clean g c = ok_weaker c.settle.result _ _ (λ e end. end.clean) c.settle.ensures.end
+
+pub returns-clause-all_taken : goal.returns-clause-all_taken
+returns-clause-all_taken g c = ok_weaker c.settle.result _ _ (λ e end. end.all_taken) c.settle.ensures.end
+
+pub returns-clause-all_sent : goal.returns-clause-all_sent
+returns-clause-all_sent g c few =
+    let of = c.in_ok-ran.ensures.run.of in
+    ok_weaker c.settle.result _ _ (λ e end. subst (λ (k : DriveConfig). e.sent ≡ k.senders * k.items) of (end.all_sent (subst (λ (k : DriveConfig). k.limit < 2 ^ 32 - 1) (sym of) few))) c.settle.ensures.end
