@@ -65,5 +65,10 @@ pub met_back : {A : Type 0} (Are : A → A → Type 0) (n : ℕ) (old lent new s
 met_back Are n old lent new slots is long len each =
     subst (λ (ys : List _). Pairs Are old ys) (sym (written_back n new slots (long ∙ len))) (subst (λ (xs : List _). Pairs Are xs new) is (pairs_of Are lent new long each))
 
-pub one_back : (n m : ℕ) (xs ys slots others : List Walk) → length xs ≡ n → length ys ≡ m → HaveSeenOne xs ys → HaveSeenOne (take n (xs ++ slots)) (take m (ys ++ others))
-one_back n m xs ys slots others len len' one = subst (λ (z : List Walk × List Walk). HaveSeenOne z.0 z.1) (λ i. (sym (written_back n xs slots len) i, sym (written_back m ys others len') i)) one
+pub one_back : (n m : ℕ) (xs ys gone slots others : List Walk) → length xs ≡ n → length ys ≡ m → HaveSeenOne xs ys gone → HaveSeenOne (take n (xs ++ slots)) (take m (ys ++ others)) []
+one_back n m xs ys gone slots others len len' one = subst (λ (z : List Walk × List Walk). HaveSeenOne z.0 z.1 []) (λ i. (sym (written_back n xs slots len) i, sym (written_back m ys others len') i)) (record {
+  seen = one.seen;
+  senders_have = one.senders_have;
+  receivers_have = one.receivers_have;
+  given_up_have = λ k d less. absurd (omega (arith, less));
+})

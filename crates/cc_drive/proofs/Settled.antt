@@ -10,8 +10,8 @@ use Rattle.cc_steps.specs.Topic.{Topic}
 use Rattle.cc_steps.specs.Walk.{Walk, IsOf, fresh}
 use Rattle.cc_audit.specs.Receipts.{sends_of, takes_of, total_of}
 use Rattle.cc_queue.specs.Headline.{name, history}
-use Rattle.cc_queue.specs.Met.{AreOfOne, HasMet, HaveSeenOne}
-use Rattle.cc_queue.specs.Receipts.{AreAll, AreInRow, in_group, receipts_by, seen_by, sent, got}
+use Rattle.cc_queue.specs.Met.{AreOf, HasMet, HaveSeenOne}
+use Rattle.cc_queue.specs.Receipts.{AreInRow, in_group, receipts_by, seen_by, sent, got}
 use Rattle.cc_queue.proofs.Held.{sends_held, takes_held, only_group, seen_is}
 use Rattle.cc_runs.specs.Words.{groups}
 use Rattle.cc_drive.specs.Config.{queue_of}
@@ -25,7 +25,8 @@ use Rattle.cc_drive.proofs.Ended.{row_weaker, row_all, row_met, back_met, receiv
 
 -- what an end needs, of the passes that have met
 pub record Settled (z : Topic) (c : DriveConfig) (r : Ran) (senders receivers : List Walk) : Type 0 where
-  pub all : AreAll z senders receivers
+  pub senders_are : AreInRow z 0 z.setting.config.senders senders
+  pub receivers_are : AreInRow z z.setting.config.senders (groups z.setting.config * z.setting.config.receivers) receivers
   pub sends : receipts_by sent senders ≡ r.sends.items
   pub takes : receipts_by got (in_group z.setting.config 1 receivers) ≡ r.takes.items
   pub total : Some (total_in r.closed) ≡ total_of (seen_by senders)
@@ -47,7 +48,7 @@ even_so z n (w ∷ ws) seen group some row one =
     subst (λ (h : Record). length (takes_of h 0) ≡ length (sends_of h)) (seen_of z n w seen row.0.back is) (taken_is_sent w.setting.config (history w) (name w) row.0.total (ap (λ (s : Setting). s.config.groups) row.0.back.here.1 ∙ group) row.0.back.stands.legal row.0.ended)
 
 pub settled : (z : Topic) (c : DriveConfig) (r : Ran) (all senders receivers : List Walk) → z.setting ≡ record { served = Served.List; config = queue_of c } → 0 < c.receivers → HasRun z c r
-    → all ≡ r.senders.items ++ r.closer ∷ [] → Pairs HasMet all senders → Pairs HasMet r.receivers.items receivers → HaveSeenOne senders receivers → Settled z c r senders receivers
+    → all ≡ r.senders.items ++ r.closer ∷ [] → Pairs HasMet all senders → Pairs HasMet r.receivers.items receivers → HaveSeenOne senders receivers [] → Settled z c r senders receivers
 settled z c r all senders receivers setting some run is met met' one =
     let config : z.setting.config ≡ queue_of c = ap (λ (s : Setting). s.config) setting in
     let closer : IsBack z c.senders r.closer = closer_back z c.senders (fresh z c.senders) r.closer r.senders.items r.closed refl run.closed in
@@ -61,7 +62,7 @@ settled z c r all senders receivers setting some run is met met' one =
     let one_group : z.setting.config.groups ≡ 1 = ap (λ (k : Config). k.groups) config in
     let all_groups : groups z.setting.config * z.setting.config.receivers ≡ c.receivers = ap (λ (k : Config). k.groups * k.receivers) config ∙ (omega arith) in
     let its : in_group z.setting.config 1 receivers ≡ receivers = only_group z.setting.config receivers (count' ∙ ap (λ (k : Config). k.receivers) (sym config)) in
-    let first : AreAll z senders receivers = (
+    let first : AreInRow z 0 z.setting.config.senders senders × AreInRow z z.setting.config.senders (groups z.setting.config * z.setting.config.receivers) receivers = (
       are_in_row z 0 z.setting.config.senders senders (count ∙ ap (λ (k : Config). k.senders) (sym config)) ours,
       subst (λ (n : ℕ). AreInRow z n (groups z.setting.config * z.setting.config.receivers) receivers) (ap (λ (k : Config). k.senders) (sym config)) (are_in_row z (c.senders + 1) (groups z.setting.config * z.setting.config.receivers) receivers (count' ∙ sym all_groups) theirs_back),
     ) in
@@ -74,7 +75,8 @@ settled z c r all senders receivers setting some run is met met' one =
     let seen : seen_by senders ≡ history_of z.setting one.seen = seen_is z senders one.seen (let n = count in omega (arith, n)) first.0 one.senders_have in
     let legal = lawful z c.senders who one.seen who_back who_seen in
     record {
-      all = first;
+      senders_are = first.0;
+      receivers_are = first.1;
       sends = sends;
       takes = takes;
       total = total_is who.setting.config (history who) (name who) r.closed who_back.stands.legal (closer_told z c.senders (fresh z c.senders) r.closer who r.senders.items r.closed refl run.closed last.4)
@@ -85,12 +87,12 @@ settled z c r all senders receivers setting some run is met met' one =
     }
 
 -- they are of one queue before they meet
-pub together : (z : Topic) (c : DriveConfig) (r : Ran) (all : List Walk) → HasRun z c r → all ≡ r.senders.items ++ r.closer ∷ [] → AreOfOne all r.receivers.items
+pub together : (z : Topic) (c : DriveConfig) (r : Ran) (all : List Walk) → HasRun z c r → all ≡ r.senders.items ++ r.closer ∷ [] → AreOf z all r.receivers.items []
 together z c r all run is =
     let closer : IsBack z c.senders r.closer = closer_back z c.senders (fresh z c.senders) r.closer r.senders.items r.closed refl run.closed in
     let row : InRow (IsBack z) 0 all = row_push (IsBack z) 0 c.senders r.senders.items all r.closer is (let n = run.count_senders in omega (arith, n)) (row_weaker (SenderIsBack z c.items c.limit) (IsBack z) (λ k w s. s.back) 0 r.senders.items run.senders) closer in
     record {
-      queue = z;
       senders_are = row_all (IsBack z) (IsOf z) (λ k w b. b.here) 0 all row;
       receivers_are = row_all (ReceiverIsBack z) (IsOf z) (λ k w b. b.back.here) (c.senders + 1) r.receivers.items run.receivers;
+      given_up_are = λ k d less. absurd (omega (arith, less));
     }

@@ -32,7 +32,7 @@ pub fn close_after(
     let Ok(()) = senders.push(closer) else {
         unreachable!()
     };
-    meet_everyone(senders, &mut Vec::new(alloc));
+    meet_everyone(queue, senders, &mut Vec::new(alloc));
     let Some(closer) = senders.pop() else {
         unreachable!()
     };

@@ -213,13 +213,14 @@ fn settle(alloc: Global, queue: &Queue, ran: Ran) -> Result<DriveEnd, DriveFault
     let Ok(()) = senders.push(closer) else {
         return Err(DriveFault::NoMemory);
     };
-    meet_everyone(&mut senders, &mut receivers);
+    meet_everyone(queue, &mut senders, &mut receivers);
     let total = total_of(closed);
     let verdict = audit_all(
         alloc,
         queue,
         &senders,
         &receivers,
+        &[],
         1,
         &sends,
         &takes,

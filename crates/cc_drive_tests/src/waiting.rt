@@ -4,7 +4,7 @@ ghost use Rattle.cc_steps.specs.Walk.{IsOf, fresh_from};
 ghost use Rattle.cc_broker.specs.Opened.{AreItsPasses};
 
 use cc_broker::{Broker, OpenedTopic};
-use cc_model::{Body, CloseAnswer, Config, Item, SendAnswer, TakeAnswer};
+use cc_model::{Body, CloseAnswer, Config, Item, Pass, SendAnswer, TakeAnswer};
 use cc_queue::{
     Opened, Queue, Receiver, Sender, begin_take, close, meet, meet_receivers, meet_senders, send,
     send_until, take, take_until,
@@ -221,6 +221,10 @@ fn each_group(rt: HostRuntime) -> Result<(), Fail> {
     sends(&rt, &queue, sender, 5, false, (accepted(0), 1));
     let begun = begin_take(&queue, one);
     takes(&rt, &queue, two, false, got(0, 1, 5));
-    begun.abandon();
+    let given_up = begun.abandon();
+    assert!(rt;
+        given_up.pass() == Pass::Receiver(1),
+        "another pass was given up"
+    );
     Ok(())
 }

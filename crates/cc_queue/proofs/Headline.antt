@@ -33,7 +33,7 @@ begins_on c seen log on run =
     subst (λ (l : List Move). Begins (history_of c seen) (history_of c l)) (sym g.is) (fronts_begin c g.more seen (subst (IsRun c) g.is run)).1
 
 -- the history has of the pass just the calls that it made
-calls_in : (w : Walk) → IsSound w → to_exchange w.stand.place ≡ [] → map (λ z. z.0) (calls_of (name w) (history w)) ≡ w.made
+pub calls_in : (w : Walk) → IsSound w → to_exchange w.stand.place ≡ [] → map (λ z. z.0) (calls_of (name w) (history w)) ≡ w.made
 unfolding stand_in made_in
 calls_in w s out =
     let law : made w.setting w.seen w.number ≡ map (λ z. z.0) (calls_of (name w) (history w)) ++ to_exchange ((reached w.setting w.seen).stand w.number).place = calls_made w.setting s.checked w.seen s.run w.number s.below in
@@ -150,7 +150,7 @@ pub stopped_stands : (u v : Walk) → v ≡ u → HasStopped v → IsSound v →
 stopped_stands u v is stop s = subst (λ (x : Walk). StandsInOne x [] x) is (stands_in_one v v [] s stop.list (still_out v.stand.place stop.still) (refl, refl, refl) (λ first k. k) (sym (append-nil v.made)))
 
 -- the calls of a pass that is out of its chain have their answers
-answers_in : (w : Walk) → IsSound w → IsOut w.stand.place → AllByRecursion HasAnswer (calls_of (name w) (history w))
+pub answers_in : (w : Walk) → IsSound w → IsOut w.stand.place → AllByRecursion HasAnswer (calls_of (name w) (history w))
 unfolding stand_in
 answers_in w s out = calls_end w.setting s.checked w.seen s.run w.number s.below (subst (λ (x : Stand). IsOut x.place) s.shows.0 out)
 

@@ -19,16 +19,17 @@ use Rattle.cc_runs.specs.Run.{history_of}
 use Rattle.cc_runs.proofs.ListRuns.Posts.{all_map}
 use Rattle.cc_runs.proofs.Ranges.{in_range}
 use Rattle.cc_audit.specs.Receipts.{send_receipt, take_receipt, sends_of, takes_of, takes_by, total_of}
-use Rattle.cc_audit.specs.Verdict.{IsVerdict}
+use Rattle.cc_audit.specs.Verdict.{IsVerdict, Holds, double_accept, double_take, stranger, altered, gap, disorder, overrun}
 use Rattle.cc_audit.proofs.Clean.{no_fault}
 use Rattle.cc_audit.proofs.Lawful.{fair_of}
 use Rattle.cc_audit.proofs.Orders.{same_verdict}
 use Rattle.cc_steps.specs.Topic.{Topic}
 use Rattle.cc_steps.specs.Walk.{Walk}
-use Rattle.cc_queue.specs.Headline.{name, history, IsAtRest}
+use Rattle.cc_queue.specs.Headline.{StandsInOne, name, history, IsAtRest}
 use Rattle.cc_queue.specs.Met.{HaveSeenOne}
-use Rattle.cc_queue.specs.Receipts.{AreInRow, AreAll, in_group, HasJustItsCalls, HasJustCallsOf, seen_by, sent, got, receipts_in, receipts_by}
+use Rattle.cc_queue.specs.Receipts.{Last, Row, AreInRow, AreAll, in_group, walk_at, HasEnded, HasJustCallsOf, IsTotal, seen_by, sent, got, receipts_in, receipts_by, receipts_told, receipts_left}
 use Rattle.cc_queue.proofs.OnItsSide.{Told, on_its_side}
+use Rattle.cc_queue.proofs.Lasts.{all_walks, all_stand, all_just, told_and_left, group_of_map}
 
 -- what holds of the elements before an element, and of it
 pub one_more : {X : Type 0} (P : X → Type 0) (xs : List X) (i : ℕ) (x : X) → i < length xs → x ≡ get_or xs i x → P x → ((k : ℕ) (d : X) → k < i → P (get_or xs k d)) → (k : ℕ) (d : X) → k < i + 1 → P (get_or xs k d)
@@ -247,39 +248,63 @@ pub seen_is : (z : Topic) (ws : List Walk) (seen : List Move) → 0 < length ws 
 seen_is z [] seen some row one = absurd (omega (arith, some))
 seen_is z (w ∷ ws) seen some row one = seen_at z 0 z.setting.config.senders (w ∷ ws) seen row one 0 w (omega arith)
 
--- what the first of them has seen is lawful, where all have come to rest
-lawful_seen : (z : Topic) (ws : List Walk) → 0 < length ws → AreInRow z 0 z.setting.config.senders ws → All IsAtRest ws → Legal z.setting.config (seen_by ws)
-lawful_seen z [] some row rest = absurd (omega (arith, some))
-lawful_seen z (w ∷ ws) some row rest = subst (λ (c : Setting). Legal c.config (history w)) (row.are 0 w (omega arith)).1 (rest 0 w (omega arith)).stands.legal
+-- what the first of them has seen is lawful
+lawful_seen : (z : Topic) (ws : List Walk) → 0 < length ws → AreInRow z 0 z.setting.config.senders ws → All (λ w. StandsInOne w [] w) ws → Legal z.setting.config (seen_by ws)
+lawful_seen z [] some row stand = absurd (omega (arith, some))
+lawful_seen z (w ∷ ws) some row stand = subst (λ (c : Setting). Legal c.config (history w)) (row.are 0 w (omega arith)).1 (stand 0 w (omega arith)).legal
 
--- a pass that has come to rest: all that it has seen stands in one history, and each of its calls has its answer there
-at_rest : (h : Record) (w : Walk) → history w ≡ h → IsAtRest w → HasJustItsCalls h w
-at_rest h w same rest = subst (λ (x : Record). HasJustItsCalls x w) same (rest.stands.calls_are, rest.answered)
+-- all passes of a queue at the end, live ones and those that were given up, which have met
+module _ (z : Topic) (row : Row) (senders receivers given_up : List Walk) (checked : config_fault z.setting.config ≡ Ok tt) (all : AreAll z row senders receivers given_up) (one : HaveSeenOne senders receivers given_up) (rest : All IsAtRest senders) (ended : All HasEnded given_up) where
+  abbrev their_senders : List Walk
+  their_senders = map walk_at row.senders
 
-all_at_rest : (h : Record) (ws : List Walk) → All (λ w. history w ≡ h) ws → All IsAtRest ws → All (HasJustItsCalls h) ws
-all_at_rest h ws same rest k d less = at_rest h (get_or ws k d) (same k d less) (rest k d less)
+  abbrev their_receivers : List Walk
+  their_receivers = map walk_at row.receivers
 
--- what they have seen is the history of their calls
-pub has_just : (z : Topic) (senders receivers : List Walk) → config_fault z.setting.config ≡ Ok tt → AreAll z senders receivers → HaveSeenOne senders receivers → All IsAtRest senders → All IsAtRest receivers → HasJustCallsOf senders receivers (seen_by senders)
-has_just z senders receivers checked all one rest also =
-    let some : 0 < length senders = has_sender z senders checked all.0 in
-    let cfg : Config = z.setting.config in
-    let h : Record = history_of z.setting one.seen in
-    let here : h ≡ seen_by senders = sym (seen_is z senders one.seen some all.0 one.senders_have) in
-    let lawful : Legal cfg h = subst (Legal cfg) (sym here) (lawful_seen z senders some all.0 rest) in
-    let sent_row : IsRow Pass.Sender h 1 senders = senders_row z senders one.seen all.0 one.senders_have in
-    let got_row : IsRow Pass.Receiver h 1 receivers = receivers_row z receivers one.seen all.1 one.receivers_have in
-    subst (HasJustCallsOf senders receivers) here (record {
-      sends = all_at (λ e. Any (λ w. e.pass ≡ name w) senders) h.sends.calls (all_map (λ e. IsSenders cfg e.pass e.call) (λ e. Any (λ w. e.pass ≡ name w) senders) h.sends.calls
-          (λ e is. let s = sender_of cfg e.pass e.call is in subst (λ (p : Pass). Any (λ w. p ≡ name w) senders) (sym s.3) (one_called Pass.Sender h senders s.0 sent_row s.1 (omega (arith, s.2, all.0.count_is)))) lawful.senders);
-      takes = λ g. elim (cases_lt g cfg.groups) [
-        | inl inside ↦ all_at (λ e. Any (λ w. e.pass ≡ name w) receivers) (of_group h g).calls (all_map (λ e. IsReceivers cfg g e.pass e.call) (λ e. Any (λ w. e.pass ≡ name w) receivers) (of_group h g).calls
-            (λ e is. let r = receiver_of cfg g e.pass e.call is in subst (λ (p : Pass). Any (λ w. p ≡ name w) receivers) (sym r.4) (one_called Pass.Receiver h receivers r.0 got_row r.1 (omega (arith, r.2, all.1.count_is)))) (lawful.takes g inside).receivers)
-        | inr far ↦ subst (λ (s : Side). All (λ e. Any (λ w. e.pass ≡ name w) receivers) s.calls) (sym (get_or_past h.takes g silent (omega (arith, far, lawful.groups)))) (λ k d less. absurd (omega (arith, less)))
-      ];
-      of_senders = all_at_rest h senders (λ k d less. sent_row.seen k d less) rest;
-      of_receivers = all_at_rest h receivers (λ k d less. got_row.seen k d less) also;
-    })
+  abbrev h : Record
+  h = history_of z.setting one.seen
+
+  senders_have : All (λ w. w.seen ≡ one.seen) their_senders
+  senders_have = all_walks (λ w. w.seen ≡ one.seen) senders given_up row.senders one.senders_have one.given_up_have all.senders_from
+
+  receivers_have : All (λ w. w.seen ≡ one.seen) their_receivers
+  receivers_have = all_walks (λ w. w.seen ≡ one.seen) receivers given_up row.receivers one.receivers_have one.given_up_have all.receivers_from
+
+  some : 0 < length their_senders
+  some = has_sender z their_senders checked all.senders_are
+
+  here : seen_by their_senders ≡ h
+  here = seen_is z their_senders one.seen some all.senders_are senders_have
+
+  lawful : Legal z.setting.config h
+  lawful = subst (Legal z.setting.config) here (lawful_seen z their_senders some all.senders_are (all_stand senders given_up row.senders rest ended all.senders_from))
+
+  sent_row : IsRow Pass.Sender h 1 their_senders
+  sent_row = senders_row z their_senders one.seen all.senders_are senders_have
+
+  got_row : IsRow Pass.Receiver h 1 their_receivers
+  got_row = receivers_row z their_receivers one.seen all.receivers_are receivers_have
+
+  sends_just : All (λ e. Any (λ w. e.pass ≡ name w) their_senders) h.sends.calls
+  sends_just =
+      all_at (λ e. Any (λ w. e.pass ≡ name w) their_senders) h.sends.calls (all_map (λ e. IsSenders z.setting.config e.pass e.call) (λ e. Any (λ w. e.pass ≡ name w) their_senders) h.sends.calls
+      (λ e is. let s = sender_of z.setting.config e.pass e.call is in subst (λ (p : Pass). Any (λ w. p ≡ name w) their_senders) (sym s.3) (one_called Pass.Sender h their_senders s.0 sent_row s.1 (omega (arith, s.2, all.senders_are.count_is)))) lawful.senders)
+
+  takes_just : (g : ℕ) → All (λ e. Any (λ w. e.pass ≡ name w) their_receivers) (of_group h g).calls
+  takes_just g = elim (cases_lt g z.setting.config.groups) [
+    | inl inside ↦ all_at (λ e. Any (λ w. e.pass ≡ name w) their_receivers) (of_group h g).calls (all_map (λ e. IsReceivers z.setting.config g e.pass e.call) (λ e. Any (λ w. e.pass ≡ name w) their_receivers) (of_group h g).calls
+        (λ e is. let r = receiver_of z.setting.config g e.pass e.call is in subst (λ (p : Pass). Any (λ w. p ≡ name w) their_receivers) (sym r.4) (one_called Pass.Receiver h their_receivers r.0 got_row r.1 (omega (arith, r.2, all.receivers_are.count_is)))) (lawful.takes g inside).receivers)
+    | inr far ↦ subst (λ (s : Side). All (λ e. Any (λ w. e.pass ≡ name w) their_receivers) s.calls) (sym (get_or_past h.takes g silent (omega (arith, far, lawful.groups)))) (λ k d less. absurd (omega (arith, less)))
+  ]
+
+  -- what they have seen is the history of their calls
+  pub has_just : All IsAtRest receivers → HasJustCallsOf row (seen_by their_senders)
+  has_just also = subst (HasJustCallsOf row) (sym here) (record {
+    sends = sends_just;
+    takes = takes_just;
+    of_senders = all_just h senders given_up row.senders (λ k d less. sent_row.seen k d less) rest ended all.senders_from;
+    of_receivers = all_just h receivers given_up row.receivers (λ k d less. got_row.seen k d less) also ended all.receivers_from;
+  })
 
 -- the receipts that they hold are those of the history
 pub sends_held : (z : Topic) (ws : List Walk) (seen : List Move) → Legal z.setting.config (history_of z.setting seen) → AreInRow z 0 z.setting.config.senders ws → All (λ w. w.seen ≡ seen) ws → IsPermutation (receipts_by sent ws) (sends_of (history_of z.setting seen))
@@ -318,17 +343,43 @@ only_group cfg ws all =
     let to : 1 * cfg.receivers ≡ length ws = omega (arith, all) in
     (λ i. take (to i - from i) (drop (from i) ws)) ∙ ap (λ (n : ℕ). take n ws) (omega arith) ∙ take-length ws
 
--- so the verdict on them is Clean, in whatever order they come
-pub are_clean : (z : Topic) (senders receivers : List Walk) (group : ℕ) (sends : List SendReceipt) (takes : List TakeReceipt) (total : Option ℕ) → config_fault z.setting.config ≡ Ok tt → 1 ≤ group → group ≤ groups z.setting.config
-    → AreAll z senders receivers → HaveSeenOne senders receivers → All IsAtRest senders
-    → IsPermutation (receipts_by sent senders) sends → IsPermutation (receipts_by got (in_group z.setting.config group receivers)) takes → total ≡ total_of (seen_by senders) → IsVerdict sends takes total Verdict.Clean
-are_clean z senders receivers group sends takes total checked low high all one rest same also last =
-    let some : 0 < length senders = has_sender z senders checked all.0 in
+-- the verdict stays Clean where no total is told
+without_total : {sends : List SendReceipt} {takes : List TakeReceipt} {kind p : ℕ} (total : Option ℕ) → Holds sends takes None kind p → Holds sends takes total kind p
+without_total total (double_accept is h) = double_accept is h
+without_total total (double_take is h) = double_take is h
+without_total total (stranger is h) = stranger is h
+without_total total (altered is h) = altered is h
+without_total total (gap is h) = gap is h
+without_total total (disorder is h) = disorder is h
+without_total total (overrun is h) = absurd h.0
+
+by_total : (h : Record) (sends : List SendReceipt) (takes : List TakeReceipt) (total : Option ℕ) → IsTotal h total → IsVerdict sends takes (total_of h) Verdict.Clean → IsVerdict sends takes total Verdict.Clean
+by_total h sends takes None is clean = λ kind p held. clean kind p (without_total (total_of h) held)
+by_total h sends takes (Some total) is clean = subst (λ (t : Option ℕ). IsVerdict sends takes t Verdict.Clean) is clean
+
+-- so the verdict on the receipts that are held, in whatever order they come, and those that are left is Clean
+pub are_clean : (z : Topic) (row : Row) (senders receivers given_up : List Walk) (group : ℕ) (sends : List SendReceipt) (takes : List TakeReceipt) (total : Option ℕ) → config_fault z.setting.config ≡ Ok tt → 1 ≤ group → group ≤ groups z.setting.config
+    → AreAll z row senders receivers given_up → HaveSeenOne senders receivers given_up → All IsAtRest senders → All HasEnded given_up
+    → IsPermutation (receipts_told sent row.senders) sends → IsPermutation (receipts_told got (in_group z.setting.config group row.receivers)) takes → IsTotal (seen_by (map walk_at row.senders)) total
+    → IsVerdict (sends ++ receipts_left sent row.senders) (takes ++ receipts_left got (in_group z.setting.config group row.receivers)) total Verdict.Clean
+are_clean z row senders receivers given_up group sends takes total checked low high all one rest ended same also last =
+    let cfg : Config = z.setting.config in
     let h : Record = history_of z.setting one.seen in
-    let here : seen_by senders ≡ h = seen_is z senders one.seen some all.0 one.senders_have in
-    let lawful : Legal z.setting.config h = subst (Legal z.setting.config) here (lawful_seen z senders some all.0 rest) in
-    let clean : IsVerdict (sends_of h) (takes_of h (group - 1)) (total_of h) Verdict.Clean = no_fault (accepted h) (takes_of h (group - 1)) (total_of h) (fair_of z.setting.config h (group - 1) (omega (arith, low, high)) lawful) in
-    subst (λ (t : Option ℕ). IsVerdict sends takes t Verdict.Clean) (sym (last ∙ ap total_of here))
-    (same_verdict (sends_of h) sends (takes_of h (group - 1)) takes (total_of h) Verdict.Clean
-    (IsPermutation-trans (sends_of h) (receipts_by sent senders) sends (IsPermutation-sym (receipts_by sent senders) (sends_of h) (sends_held z senders one.seen lawful all.0 one.senders_have)) same)
-    (IsPermutation-trans (takes_of h (group - 1)) (receipts_by got (in_group z.setting.config group receivers)) takes (IsPermutation-sym (receipts_by got (in_group z.setting.config group receivers)) (takes_of h (group - 1)) (takes_held z receivers one.seen group (in_range z.setting.config checked).receivers.0 low high lawful all.1 one.receivers_have)) also) clean)
+    let l : Legal cfg h = lawful z row senders receivers given_up checked all one rest ended in
+    let part : List Last = in_group cfg group row.receivers in
+    let left : List SendReceipt = receipts_left sent row.senders in
+    let left' : List TakeReceipt = receipts_left got part in
+    let clean : IsVerdict (sends_of h) (takes_of h (group - 1)) (total_of h) Verdict.Clean = no_fault (accepted h) (takes_of h (group - 1)) (total_of h) (fair_of cfg h (group - 1) (omega (arith, low, high)) l) in
+    let all_sends : IsPermutation (receipts_by sent (map walk_at row.senders)) (sends_of h) = sends_held z (map walk_at row.senders) one.seen l all.senders_are (senders_have z row senders receivers given_up checked all one rest ended) in
+    let of_group_held : IsPermutation (receipts_by got (in_group cfg group (map walk_at row.receivers))) (takes_of h (group - 1)) =
+    takes_held z (map walk_at row.receivers) one.seen group (in_range cfg checked).receivers.0 low high l all.receivers_are (receivers_have z row senders receivers given_up checked all one rest ended) in
+    let all_takes : IsPermutation (receipts_by got (map walk_at part)) (takes_of h (group - 1)) = subst (λ (ws : List Walk). IsPermutation (receipts_by got ws) (takes_of h (group - 1))) (group_of_map walk_at cfg group row.receivers) of_group_held in
+    by_total h (sends ++ left) (takes ++ left') total (subst (λ (x : Record). IsTotal x total) (here z row senders receivers given_up checked all one rest ended) last)
+    (same_verdict (sends_of h) (sends ++ left) (takes_of h (group - 1)) (takes ++ left') (total_of h) Verdict.Clean
+    (IsPermutation-sym (sends ++ left) (sends_of h) (IsPermutation-trans (sends ++ left) (receipts_told sent row.senders ++ left) (sends_of h)
+    (IsPermutation-append_left left sends (receipts_told sent row.senders) (IsPermutation-sym (receipts_told sent row.senders) sends same))
+    (IsPermutation-trans (receipts_told sent row.senders ++ left) (receipts_by sent (map walk_at row.senders)) (sends_of h) (told_and_left sent row.senders) all_sends)))
+    (IsPermutation-sym (takes ++ left') (takes_of h (group - 1)) (IsPermutation-trans (takes ++ left') (receipts_told got part ++ left') (takes_of h (group - 1))
+    (IsPermutation-append_left left' takes (receipts_told got part) (IsPermutation-sym (receipts_told got part) takes also))
+    (IsPermutation-trans (receipts_told got part ++ left') (receipts_by got (map walk_at part)) (takes_of h (group - 1)) (told_and_left got part) all_takes)))
+    clean)

@@ -11,3 +11,5 @@ pub mod Rounds
 pub mod WordByWord
 pub mod Service
 pub mod Requests
+pub mod Waiting
+pub mod Lasts

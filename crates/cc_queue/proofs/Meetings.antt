@@ -3,48 +3,58 @@ use Rattle.std.proofs.Common.{◌≡◌, ◌≢◌, ℕ, zero, suc, ◌+◌, ◌
 use Rattle.std.proofs.lemmas.Bool.{ltb-true}
 use Rattle.std.specs.List.{All}
 use native.Mathlib.Decide.{ℕ_discrete}
-use Rattle.cc_queue.specs.Names.{Move, Served, Place}
+use Rattle.cc_runs.specs.CallsMade.{to_exchange}
+use Rattle.cc_queue.specs.Names.{Move, Served, Stand, Place}
 use Rattle.cc_steps.specs.Seen.{Later, Onward}
 use Rattle.cc_steps.specs.Shown.{longer}
 use Rattle.cc_steps.specs.Topic.{Topic}
 use Rattle.cc_steps.specs.Walk.{Walk, IsOf, IsSound}
-use Rattle.cc_queue.specs.Met.{IsOfOne, IsIdle, Sees, HasMet, EachHasMet, Swept, Gathered}
-use Rattle.cc_queue.proofs.Headline.{stands_on, stands_more}
+use Rattle.cc_queue.specs.Passes.{IsStill, HasStopped}
+use Rattle.cc_queue.specs.Met.{IsOfOne, Sees, HasMet, EachHasMet, Swept, Gathered}
+use Rattle.cc_queue.proofs.Headline.{stands_in_one, stands_more, still_out}
 
--- an idle pass whose seat has seen more
-pub met_so : (u v w : Walk) (begun node : ℕ) → v ≡ u → v.setting.served ≡ Served.List → v.stand ≡ record { begun = begun; node = node; place = Place.Idle } → Sees v w → HasMet u w
-met_so u v w begun node is list stand s = subst (λ (x : Walk). HasMet x w) is (record {
-  stands = stands_on v w [] begun node Place.Idle (ap (λ (x : Walk). x.stand) s.same ∙ stand) refl s.sound list
+-- a pass that stands still, whose seat has seen more
+pub met_stopped : (u v w : Walk) → v ≡ u → HasStopped v → Sees v w → HasMet u w
+met_stopped u v w is stop s = subst (λ (x : Walk). HasMet x w) is (record {
+  stands = stands_in_one v w [] s.sound (ap (λ (x : Walk). x.setting.served) s.same ∙ stop.list) (ap (λ (x : Walk). to_exchange x.stand.place) s.same ∙ still_out v.stand.place stop.still)
       (ap (λ (x : Walk). x.table_id) s.same, ap (λ (x : Walk). x.setting) s.same, ap (λ (x : Walk). x.number) s.same) s.onward (ap (λ (x : Walk). x.made) s.same ∙ sym (append-nil v.made));
   same = s.same;
 })
 
--- the pass of a seat, which is idle and stays so
-pub met_on : (v w : Walk) → IsIdle v → Sees v w → HasMet v w
-met_on v w idle s = met_so v v w v.stand.begun v.stand.node refl idle.list idle.stand s
+-- an idle pass stands still
+pub idle_stopped : (v : Walk) (begun node : ℕ) → v.setting.served ≡ Served.List → v.stand ≡ record { begun = begun; node = node; place = Place.Idle } → HasStopped v
+idle_stopped v begun node list stand = record { list = list; still = subst (λ (x : Stand). IsStill x.place) (sym stand) tt }
 
-pub idle_still : (v w : Walk) → IsIdle v → w ≡ record v { seen = w.seen } → IsIdle w
-idle_still v w idle same = record {
-  list = ap (λ (x : Walk). x.setting.served) same ∙ idle.list;
-  stand = ap (λ (x : Walk). x.stand) same ∙ idle.stand ∙ (λ i. record { begun = (sym same i).stand.begun; node = (sym same i).stand.node; place = Place.Idle });
+-- so it has met
+pub met_so : (u v w : Walk) (begun node : ℕ) → v ≡ u → v.setting.served ≡ Served.List → v.stand ≡ record { begun = begun; node = node; place = Place.Idle } → Sees v w → HasMet u w
+met_so u v w begun node is list stand s = met_stopped u v w is (idle_stopped v begun node list stand) s
+
+-- the pass of a seat, which stands still
+pub met_on : (v w : Walk) → HasStopped v → Sees v w → HasMet v w
+met_on v w stop s = met_stopped v v w refl stop s
+
+pub still_stopped : (v w : Walk) → HasStopped v → w ≡ record v { seen = w.seen } → HasStopped w
+still_stopped v w stop same = record {
+  list = ap (λ (x : Walk). x.setting.served) same ∙ stop.list;
+  still = subst (λ (x : Walk). IsStill x.stand.place) (sym same) stop.still;
 }
 
 -- one that has seen no more has met itself
-pub met_self : (u v : Walk) (begun node : ℕ) → v ≡ u → v.setting.served ≡ Served.List → v.stand ≡ record { begun = begun; node = node; place = Place.Idle } → IsSound v → HasMet u u
-met_self u v begun node is list stand s = subst (λ (x : Walk). HasMet x x) is (met_so v v v begun node refl list stand (record { same = refl; onward = λ first k. k; sound = s }))
+pub met_still : (v : Walk) → HasStopped v → IsSound v → HasMet v v
+met_still v stop s = met_stopped v v v refl stop (record { same = refl; onward = λ first k. k; sound = s })
 
-pub met_still : (v : Walk) → IsIdle v → IsSound v → HasMet v v
-met_still v idle s = met_self v v v.stand.begun v.stand.node refl idle.list idle.stand s
+pub met_self : (u v : Walk) (begun node : ℕ) → v ≡ u → v.setting.served ≡ Served.List → v.stand ≡ record { begun = begun; node = node; place = Place.Idle } → IsSound v → HasMet u u
+met_self u v begun node is list stand s = subst (λ (x : Walk). HasMet x x) is (met_still v (idle_stopped v begun node list stand) s)
 
 pub met_more : (a b c : Walk) → HasMet a b → HasMet b c → HasMet a c
 met_more a b c f g = record { stands = stands_more a b c [] [] f.stands g.stands; same = g.same ∙ (λ i. record (f.same i) { seen = c.seen }) }
 
--- it is of the same queue still, and idle, and of one with the others
+-- it is of the same queue still, and stands still, and is of one with the others
 pub of_met : (t : Topic) (v w : Walk) → IsOf t v → HasMet v w → IsOf t w
 of_met t v w is met = subst (IsOf t) (sym met.same) is
 
-pub idle_met : (v w : Walk) → IsIdle v → HasMet v w → IsIdle w
-idle_met v w idle met = idle_still v w idle met.same
+pub stopped_met : (v w : Walk) → HasStopped v → HasMet v w → HasStopped w
+stopped_met v w stop met = still_stopped v w stop met.same
 
 pub one_met : (v w : Walk) (xs : List Walk) → All (λ o. IsOfOne v o) xs → HasMet v w → All (λ o. IsOfOne w o) xs
 one_met v w xs all met = subst (λ (x : Walk). All (λ o. IsOfOne x o) xs) (sym met.same) all
@@ -131,20 +141,27 @@ later_all first after xs met all = λ k d less. later_more _ _ _ (all k d less) 
 each_more : (xs ys zs : List Walk) → length ys ≡ length xs → EachHasMet xs ys → EachHasMet ys zs → EachHasMet xs zs
 each_more xs ys zs same f g k d less = met_more _ _ _ (f k d less) (g k d (omega (arith, same)))
 
--- two sweeps over two lists
-pub gathered : (v0 v1 v2 v3 v4 : Walk) (a0 a1 a2 b0 b1 b2 : List Walk) → length a1 ≡ length a0 → length b1 ≡ length b0 → Swept v0 v1 a0 a1 → Swept v1 v2 b0 b1 → Swept v2 v3 a1 a2 → Swept v3 v4 b1 b2 → Gathered v0 v4 a0 a2 b0 b2
-gathered v0 v1 v2 v3 v4 a0 a1 a2 b0 b1 b2 la lb one two three four =
-    let third = three.still (later_all v1 v2 a1 two.first one.within) in
-    let fourth = four.still (later_all v2 v3 b1 three.first two.within) in
+-- two sweeps over three lists
+pub gathered : (v0 v1 v2 v3 v4 v5 v6 : Walk) (a0 a1 a2 b0 b1 b2 c0 c1 c2 : List Walk) → length a1 ≡ length a0 → length b1 ≡ length b0 → length c1 ≡ length c0
+    → Swept v0 v1 a0 a1 → Swept v1 v2 b0 b1 → Swept v2 v3 c0 c1 → Swept v3 v4 a1 a2 → Swept v4 v5 b1 b2 → Swept v5 v6 c1 c2 → Gathered v0 v6 a0 a2 b0 b2 c0 c2
+gathered v0 v1 v2 v3 v4 v5 v6 a0 a1 a2 b0 b1 b2 c0 c1 c2 la lb lc one two three four five six =
+    let fourth = four.still (later_all v1 v3 a1 (met_more v1 v2 v3 two.first three.first) one.within) in
+    let fifth = five.still (later_all v2 v4 b1 (met_more v2 v3 v4 three.first four.first) two.within) in
+    let sixth = six.still (later_all v3 v5 c1 (met_more v3 v4 v5 four.first five.first) three.within) in
     record {
-      first = met_more v0 v1 v4 one.first (met_more v1 v2 v4 two.first (met_more v2 v3 v4 three.first four.first));
-      others_met = each_more a0 a1 a2 la one.others three.others;
-      more_met = each_more b0 b1 b2 lb two.others four.others;
-      others_one = λ k d less. third.1 k d less ∙ sym fourth.0;
-      more_one = fourth.1;
+      first = met_more v0 v1 v6 one.first (met_more v1 v2 v6 two.first (met_more v2 v3 v6 three.first (met_more v3 v4 v6 four.first (met_more v4 v5 v6 five.first six.first))));
+      senders_met = each_more a0 a1 a2 la one.others four.others;
+      receivers_met = each_more b0 b1 b2 lb two.others five.others;
+      given_up_met = each_more c0 c1 c2 lc three.others six.others;
+      senders_one = λ k d less. fourth.1 k d less ∙ sym fifth.0 ∙ sym sixth.0;
+      receivers_one = λ k d less. fifth.1 k d less ∙ sym sixth.0;
+      given_up_one = sixth.1;
     }
 
 -- the first of a list of passes of one queue, and the others
+pub first_of : (q : Topic) (all rest : List Walk) (x : Walk) → All (IsOf q) all → all ≡ x ∷ rest → IsOf q x
+first_of q all rest x are is = subst (All (IsOf q)) is are 0 x (omega arith)
+
 pub of_rest : (q : Topic) (all rest : List Walk) (x : Walk) → All (IsOf q) all → all ≡ x ∷ rest → All (λ w. IsOfOne x w) rest
 of_rest q all rest x are is = λ k d less.
     let here : IsOf q x = subst (All (IsOf q)) is are 0 x (omega arith) in

@@ -1,7 +1,7 @@
 -- What passes know that have met.
 use Rattle.std.specs.Prelude.{◌≡◌, ℕ, ◌<◌, List, [], length, slice_index_or}
 use Rattle.std.specs.List.{All}
-use Rattle.cc_queue.specs.Names.{Move, Served, Place}
+use Rattle.cc_queue.specs.Names.{Move}
 use Rattle.cc_steps.specs.Topic.{Topic}
 use Rattle.cc_steps.specs.Seen.{Onward, Later}
 use Rattle.cc_steps.specs.Walk.{Walk, IsOf, IsSound}
@@ -11,16 +11,11 @@ use Rattle.cc_queue.specs.Headline.{StandsInOne}
 abbrev pub IsOfOne : Walk → Walk → Type 0
 IsOfOne v w = (w.table_id ≡ v.table_id) × (w.setting ≡ v.setting)
 
--- and so are all of two lists of them
-pub record AreOfOne (senders receivers : List Walk) : Type 0 where
-  pub queue : Topic
-  pub senders_are : All (IsOf queue) senders
-  pub receivers_are : All (IsOf queue) receivers
-
--- a pass that has no call, of a topic that is a list
-pub record IsIdle (w : Walk) : Type 0 where
-  pub list : w.setting.served ≡ Served.List
-  pub stand : w.stand ≡ record { begun = w.stand.begun; node = w.stand.node; place = Place.Idle }
+-- all passes of three lists are of this queue
+pub record AreOf (z : Topic) (senders receivers given_up : List Walk) : Type 0 where
+  pub senders_are : All (IsOf z) senders
+  pub receivers_are : All (IsOf z) receivers
+  pub given_up_are : All (IsOf z) given_up
 
 -- a seat has seen more, and its pass did nothing
 pub record Sees (v w : Walk) : Type 0 where
@@ -45,16 +40,19 @@ pub record Swept (v w : Walk) (old new : List Walk) : Type 0 where
   pub within : All (λ o. Later o.seen w.seen) new
   pub still : All (λ o. Later o.seen v.seen) old → (w.seen ≡ v.seen) × All (λ o. o.seen ≡ w.seen) new
 
--- a pass that gathered two lists of others: all have seen what it has
-pub record Gathered (v w : Walk) (others others' more more' : List Walk) : Type 0 where
+-- a pass that gathered three lists of others: all have seen what it has
+pub record Gathered (v w : Walk) (senders senders' receivers receivers' given_up given_up' : List Walk) : Type 0 where
   pub first : HasMet v w
-  pub others_met : EachHasMet others others'
-  pub more_met : EachHasMet more more'
-  pub others_one : All (λ o. o.seen ≡ w.seen) others'
-  pub more_one : All (λ o. o.seen ≡ w.seen) more'
+  pub senders_met : EachHasMet senders senders'
+  pub receivers_met : EachHasMet receivers receivers'
+  pub given_up_met : EachHasMet given_up given_up'
+  pub senders_one : All (λ o. o.seen ≡ w.seen) senders'
+  pub receivers_one : All (λ o. o.seen ≡ w.seen) receivers'
+  pub given_up_one : All (λ o. o.seen ≡ w.seen) given_up'
 
 -- all have seen one run, so one history
-pub record HaveSeenOne (senders receivers : List Walk) : Type 0 where
+pub record HaveSeenOne (senders receivers given_up : List Walk) : Type 0 where
   pub seen : List Move
   pub senders_have : All (λ w. w.seen ≡ seen) senders
   pub receivers_have : All (λ w. w.seen ≡ seen) receivers
+  pub given_up_have : All (λ w. w.seen ≡ seen) given_up

@@ -46,6 +46,11 @@ pub record HasStopped (w : Walk) : Type 0 where
   pub list : w.setting.served ≡ Served.List
   pub still : IsStill w.stand.place
 
+-- a pass that was given up, by its name
+pub record KeepsGivenUp (w : Walk) (p : Pass) : Type 0 where
+  pub stopped : HasStopped w
+  pub named : name w ≡ p
+
 -- which calls are sends, and which are closes
 abbrev pub IsSend : Call → Type 0
 IsSend (Call.Send body) = Unit {0}

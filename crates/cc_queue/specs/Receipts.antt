@@ -1,14 +1,14 @@
 -- All passes of a queue, and the receipts of their calls.
-use Rattle.std.specs.Prelude.{◌≡◌, ℕ, ◌+◌, ◌*◌, ◌-◌, ◌<◌, List, [], ◌∷◌, ◌++◌, length, map, slice_index_or, slice_range, Option, Some, None}
+use Rattle.std.specs.Prelude.{◌≡◌, ℕ, ◌+◌, ◌*◌, ◌-◌, ◌<◌, List, [], ◌∷◌, ◌++◌, length, map, take, drop, slice_index_or, slice_range, Option, Some, None}
 use Rattle.std.specs.List.{All, AllByRecursion, Any}
 use Rattle.cc_model.specs.Record.{Record, empty, of_group}
 use Rattle.cc_model.specs.Items.{HasAnswer, accepted_item, calls_of}
-use Rattle.cc_queue.specs.Names.{Entry, Answer, SendReceipt, TakeReceipt, Config}
-use Rattle.cc_audit.specs.Receipts.{send_receipt, take_receipt}
+use Rattle.cc_queue.specs.Names.{Entry, Answer, Place, SendReceipt, TakeReceipt, Config}
+use Rattle.cc_audit.specs.Receipts.{send_receipt, take_receipt, total_of}
 use Rattle.cc_runs.specs.Words.{groups}
 use Rattle.cc_steps.specs.Topic.{Topic}
 use Rattle.cc_steps.specs.Walk.{Walk, IsOf}
-use Rattle.cc_queue.specs.Headline.{name, history}
+use Rattle.cc_queue.specs.Headline.{StandsInOne, name, history}
 
 -- these are the passes of a queue from the first on, so many, in the order of its row
 pub record AreInRow (z : Topic) (first count : ℕ) (ws : List Walk) : Type 0 where
@@ -16,12 +16,35 @@ pub record AreInRow (z : Topic) (first count : ℕ) (ws : List Walk) : Type 0 wh
   pub are : All (IsOf z) ws
   pub numbered : (k : ℕ) (d : Walk) → k < length ws → (slice_index_or ws k d).number ≡ first + k
 
--- all passes of a queue, the senders and the receivers in order
-abbrev pub AreAll : Topic → List Walk → List Walk → Type 0
-AreAll z senders receivers = AreInRow z 0 z.setting.config.senders senders × AreInRow z z.setting.config.senders (groups z.setting.config * z.setting.config.receivers) receivers
+-- a pass at the end: it is live and has no call, or it was given up, and may have left a call waiting
+pub data Last : Type 0 where
+  Live : Walk → Last
+  Gone : Walk → Last
+
+-- the pass
+abbrev pub walk_at : Last → Walk
+walk_at (Live w) = w
+walk_at (Gone w) = w
+
+-- all passes of a queue at the end, in the order of its row
+pub record Row : Type 0 where
+  pub senders : List Last
+  pub receivers : List Last
+
+-- it is one of the live passes of its side, or one of those that were given up
+abbrev pub IsOneOf : (live given_up : List Walk) → Last → Type 0
+IsOneOf live given_up (Live w) = Any (λ x. x ≡ w) live
+IsOneOf live given_up (Gone w) = Any (λ x. x ≡ w) given_up
+
+-- the row is all passes of a queue, each of which is live or was given up
+pub record AreAll (z : Topic) (row : Row) (senders receivers given_up : List Walk) : Type 0 where
+  pub senders_are : AreInRow z 0 z.setting.config.senders (map walk_at row.senders)
+  pub receivers_are : AreInRow z z.setting.config.senders (groups z.setting.config * z.setting.config.receivers) (map walk_at row.receivers)
+  pub senders_from : All (IsOneOf senders given_up) row.senders
+  pub receivers_from : All (IsOneOf receivers given_up) row.receivers
 
 -- those of a group, from 1, among all receivers
-abbrev pub in_group : Config → (group : ℕ) → List Walk → List Walk
+abbrev pub in_group : {X : Type 0} → Config → (group : ℕ) → List X → List X
 in_group c g receivers = slice_range receivers ((g - 1) * c.receivers) (g * c.receivers)
 
 -- the history that the first of them has seen
@@ -44,19 +67,60 @@ abbrev pub receipts_in : {X : Type 0} → (Entry × Option Answer → List X) �
 receipts_in receipts [] = []
 receipts_in receipts (z ∷ zs) = receipts z ++ receipts_in receipts zs
 
--- the receipts that these passes hold, each of its own calls in the history that it has seen
+-- the receipts of these passes, each of all its calls in the history that it has seen
 abbrev pub receipts_by : {X : Type 0} → (Entry × Option Answer → List X) → List Walk → List X
 receipts_by receipts [] = []
 receipts_by receipts (w ∷ ws) = receipts_in receipts (calls_of (name w) (history w)) ++ receipts_by receipts ws
 
--- The history has of a pass just the calls that it made, and each has its answer.
-abbrev pub HasJustItsCalls : Record → Walk → Type 0
-HasJustItsCalls h w = (map (λ z. z.0) (calls_of (name w) h) ≡ w.made) × AllByRecursion HasAnswer (calls_of (name w) h)
+-- of the calls of a pass that was given up here: those whose answers it was told, which are all but one that it left waiting
+abbrev pub told_of : Place → List (Entry × Option Answer) → List (Entry × Option Answer)
+told_of Place.Idle calls = calls
+told_of _ calls = take (length calls - 1) calls
 
--- The history is that of these passes: each call is of one of them, and of each of them it has just those that it made,
--- each with its answer.
-pub record HasJustCallsOf (senders receivers : List Walk) (h : Record) : Type 0 where
-  pub sends : All (λ e. Any (λ w. e.pass ≡ name w) senders) h.sends.calls
-  pub takes : (g : ℕ) → All (λ e. Any (λ w. e.pass ≡ name w) receivers) (of_group h g).calls
-  pub of_senders : All (HasJustItsCalls h) senders
-  pub of_receivers : All (HasJustItsCalls h) receivers
+-- and that one, which may have its answer meanwhile
+abbrev pub left_of : Place → List (Entry × Option Answer) → List (Entry × Option Answer)
+left_of Place.Idle calls = []
+left_of _ calls = drop (length calls - 1) calls
+
+-- the same of a pass at the end, in a history: a live one was told all its answers
+abbrev pub told_in : Record → Last → List (Entry × Option Answer)
+told_in h (Live w) = calls_of (name w) h
+told_in h (Gone w) = told_of w.stand.place (calls_of (name w) h)
+
+abbrev pub left_in : Record → Last → List (Entry × Option Answer)
+left_in h (Live w) = []
+left_in h (Gone w) = left_of w.stand.place (calls_of (name w) h)
+
+-- the receipts that these passes hold: of the calls whose answers they were told
+abbrev pub receipts_told : {X : Type 0} → (Entry × Option Answer → List X) → List Last → List X
+receipts_told receipts [] = []
+receipts_told receipts (p ∷ ps) = receipts_in receipts (told_in (history (walk_at p)) p) ++ receipts_told receipts ps
+
+-- those that nobody holds: of the calls that were left waiting, and have their answers in the history
+abbrev pub receipts_left : {X : Type 0} → (Entry × Option Answer → List X) → List Last → List X
+receipts_left receipts [] = []
+receipts_left receipts (p ∷ ps) = receipts_in receipts (left_in (history (walk_at p)) p) ++ receipts_left receipts ps
+
+-- the total of the close that is answered Shut in the history, or none, as where nobody was told it
+abbrev pub IsTotal : Record → Option ℕ → Type 0
+IsTotal h None = Unit {0}
+IsTotal h (Some total) = total_of h ≡ Some total
+
+-- The history has of a pass just the calls that it made, and each whose answer it was told has its answer.
+pub record HasJustItsCalls (h : Record) (p : Last) : Type 0 where
+  pub made : map (λ z. z.0) (calls_of (name (walk_at p)) h) ≡ (walk_at p).made
+  pub answered : AllByRecursion HasAnswer (told_in h p)
+
+-- The history is that of these passes: each call is of one of them, and of each of them it has just those that it made. Each
+-- has its answer, but for those that were left waiting, of each pass that was given up at most the last one.
+pub record HasJustCallsOf (row : Row) (h : Record) : Type 0 where
+  pub sends : All (λ e. Any (λ w. e.pass ≡ name w) (map walk_at row.senders)) h.sends.calls
+  pub takes : (g : ℕ) → All (λ e. Any (λ w. e.pass ≡ name w) (map walk_at row.receivers)) (of_group h g).calls
+  pub of_senders : All (HasJustItsCalls h) row.senders
+  pub of_receivers : All (HasJustItsCalls h) row.receivers
+
+-- A pass was given up here: all that it has seen stands in one history, in which each call whose answer it was told has its
+-- answer.
+pub record HasEnded (w : Walk) : Type 0 where
+  pub stands : StandsInOne w [] w
+  pub answered : AllByRecursion HasAnswer (told_of w.stand.place (calls_of (name w) (history w)))

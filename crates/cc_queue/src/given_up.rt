@@ -1,36 +1,48 @@
 //! Passes that are given up, idle or with a pending call.
-ghost use Rattle.std.specs.Prelude.{◌≡◌, []};
-ghost use Rattle.cc_queue.specs.Headline.{StandsInOne};
+ghost use Rattle.std.specs.Prelude.{◌≡◌};
+ghost use Rattle.cc_queue.specs.Headline.{name};
+ghost use Rattle.cc_queue.specs.Names.{Pass};
 ghost use Rattle.cc_queue.specs.Passes.{HasStopped};
+ghost use Rattle.cc_queue.specs.Receipts.{HasEnded};
 
 use crate::passes::{
     PendingClose, PendingSend, PendingTake, Receiver, ReceiverSeat, Sender, SenderSeat,
 };
+use cc_model::Pass;
 use cc_steps::seats::PassSeat;
 use std::marker::Model;
 
-/// A pass that was given up, as it was then. It has no bytes. Contracts see the run that it had seen and the steps that it
-/// had done (`Walk`), and no call but a meeting takes it, so its pass makes no further step.
+/// A pass that was given up, as it was then. Contracts see the run that it had seen and the steps that it had done (`Walk`),
+/// and no call but a meeting takes it, so its pass makes no further step.
 #[derive(Drop)]
 pub struct GivenUp {
     pub(crate) seat: PassSeat,
+    pass: Pass,
 }
 
 impl Model for GivenUp {
     ghost use Rattle.cc_steps.specs.Walk.{Walk};
-    ghost use Rattle.cc_queue.specs.Passes.{HasStopped};
+    ghost use Rattle.cc_queue.specs.Passes.{KeepsGivenUp};
 
     ghost Value = { Walk };
 
     ghost view = { λ g. g.seat };
 
-    ghost invariant = { λ g. HasStopped g.seat };
+    ghost invariant = { λ g. KeepsGivenUp g.seat g.pass };
 }
 
 impl GivenUp {
-    /// All that the pass has seen stands in one history: a fact for proofs, and no work.
+    /// The name by which the queue knows the pass.
+    pub fn pass(&self) -> Pass
+        ensures { name self.now ≡ result }
+    {
+        self.pass
+    }
+
+    /// All that the pass has seen stands in one history, in which each call whose answer it was told has its answer: a fact
+    /// for proofs, and no work.
     pub fn is_sound(&self)
-        ensures { StandsInOne self.now [] self.now }
+        ensures { HasEnded self.now }
     {
         self.seat.is_sound();
     }
@@ -38,33 +50,41 @@ impl GivenUp {
 
 /// The seat of a sender, without its share of the queue.
 fn sender_seat(at: SenderSeat) -> GivenUp
-    requires { HasStopped at.seat }
+    requires still { HasStopped at.seat }
+    requires named { name at.seat ≡ Pass.Sender at.number }
     ensures { result ≡ at.seat }
 {
     let SenderSeat {
         words: _,
         seat,
         node: _,
-        number: _,
+        number,
         limit: _,
         begun: _,
     } = at;
-    GivenUp { seat }
+    GivenUp {
+        seat,
+        pass: Pass::Sender(number),
+    }
 }
 
 /// The seat of a receiver, without its share of the queue.
 fn receiver_seat(at: ReceiverSeat) -> GivenUp
-    requires { HasStopped at.seat }
+    requires still { HasStopped at.seat }
+    requires named { name at.seat ≡ Pass.Receiver at.number }
     ensures { result ≡ at.seat }
 {
     let ReceiverSeat {
         words: _,
         seat,
         node: _,
-        number: _,
+        number,
         group: _,
     } = at;
-    GivenUp { seat }
+    GivenUp {
+        seat,
+        pass: Pass::Receiver(number),
+    }
 }
 
 impl Sender {

@@ -28,9 +28,10 @@ mod tell;
 mod turns;
 
 pub use blocking::{close, send, send_until, take, take_until};
-pub use cc_model::{CloseAnswer, Config, ConfigFault, Item, SendAnswer, TakeAnswer};
+pub use cc_model::{CloseAnswer, Config, ConfigFault, Item, Pass, SendAnswer, TakeAnswer};
 pub use cc_runs::OpenFault;
 pub use cc_steps::notes::Note;
+pub use given_up::GivenUp;
 pub use meets::{meet, meet_all, meet_receivers, meet_senders};
 pub use notes::{again, heeded_is_fresh, heeded_stays, send_after, take_after, turns_complete};
 pub use passes::{

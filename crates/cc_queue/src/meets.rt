@@ -3,9 +3,12 @@ ghost use Rattle.std.specs.Prelude.{◌≡◌, [], length};
 ghost use Rattle.std.specs.List.{All};
 ghost use Rattle.cc_steps.specs.Shown.{longer};
 ghost use Rattle.cc_steps.specs.Walk.{IsOf, IsSound};
-ghost use Rattle.cc_queue.specs.Met.{HasMet, EachHasMet, AreOfOne, IsOfOne, IsIdle, Sees, Swept, Gathered, HaveSeenOne};
+ghost use Rattle.cc_queue.specs.Passes.{HasStopped};
+ghost use Rattle.cc_queue.specs.Met.{HasMet, EachHasMet, AreOf, IsOfOne, Sees, Swept, Gathered, HaveSeenOne};
 
+use crate::given_up::GivenUp;
 use crate::passes::{Receiver, Sender};
+use crate::queue::Queue;
 use cc_steps::looks::look;
 use cc_steps::seats::PassSeat;
 use cc_steps::words::Words;
@@ -57,10 +60,10 @@ pub fn meet_receivers(one: &mut Receiver, other: &mut Receiver)
     meet_seats(&one.at.words, &mut one.at.seat, &mut other.at.seat);
 }
 
-/// The idle pass of this seat meets each of the senders in turn.
+/// The pass of this seat meets each of the senders in turn.
 fn sweep_senders(words: &Words, first: &mut PassSeat, others: &mut [Sender])
     requires here { IsOf words.now first.old }
-    requires idle { IsIdle first.old }
+    requires still { HasStopped first.old }
     requires others { All (λ w. IsOfOne first.old w) others.old }
     ensures { Swept first.old first.new others.old others.new }
 {
@@ -73,7 +76,7 @@ fn sweep_senders(words: &Words, first: &mut PassSeat, others: &mut [Sender])
 /// It meets each of the receivers in turn.
 fn sweep_receivers(words: &Words, first: &mut PassSeat, others: &mut [Receiver])
     requires here { IsOf words.now first.old }
-    requires idle { IsIdle first.old }
+    requires still { HasStopped first.old }
     requires others { All (λ w. IsOfOne first.old w) others.old }
     ensures { Swept first.old first.new others.old others.new }
 {
@@ -83,30 +86,68 @@ fn sweep_receivers(words: &Words, first: &mut PassSeat, others: &mut [Receiver])
     }
 }
 
-/// Afterwards the pass of this seat, these senders and these receivers have seen one history.
-fn gather(words: &Words, first: &mut PassSeat, senders: &mut [Sender], receivers: &mut [Receiver])
+/// It meets each of the passes that were given up.
+fn sweep_given_up(words: &Words, first: &mut PassSeat, others: &mut [GivenUp])
     requires here { IsOf words.now first.old }
-    requires idle { IsIdle first.old }
-    requires senders { All (λ w. IsOfOne first.old w) senders.old }
-    requires receivers { All (λ w. IsOfOne first.old w) receivers.old }
-    ensures { Gathered first.old first.new senders.old senders.new receivers.old receivers.new }
+    requires still { HasStopped first.old }
+    requires others { All (λ w. IsOfOne first.old w) others.old }
+    ensures { Swept first.old first.new others.old others.new }
 {
-    sweep_senders(words, first, senders);
-    sweep_receivers(words, first, receivers);
-    sweep_senders(words, first, senders);
-    sweep_receivers(words, first, receivers);
+    first.is_sound();
+    for other in others.iter_mut() {
+        meet_seats(words, first, &mut other.seat);
+    }
 }
 
-/// Afterwards all these passes, which are of one queue, have seen one history, which begins with what each had seen.
-pub fn meet_all(senders: &mut [Sender], receivers: &mut [Receiver])
-    requires { AreOfOne senders.old receivers.old }
+/// Afterwards the pass of this seat, these senders, these receivers and these passes that were given up have seen one
+/// history.
+fn gather(
+    words: &Words,
+    first: &mut PassSeat,
+    senders: &mut [Sender],
+    receivers: &mut [Receiver],
+    given_up: &mut [GivenUp],
+)
+    requires here { IsOf words.now first.old }
+    requires still { HasStopped first.old }
+    requires senders { All (λ w. IsOfOne first.old w) senders.old }
+    requires receivers { All (λ w. IsOfOne first.old w) receivers.old }
+    requires given_up { All (λ w. IsOfOne first.old w) given_up.old }
+    ensures { Gathered first.old first.new senders.old senders.new receivers.old receivers.new given_up.old given_up.new }
+{
+    sweep_senders(words, first, senders);
+    sweep_receivers(words, first, receivers);
+    sweep_given_up(words, first, given_up);
+    sweep_senders(words, first, senders);
+    sweep_receivers(words, first, receivers);
+    sweep_given_up(words, first, given_up);
+}
+
+/// Afterwards all these passes of the queue have seen one history, which begins with what each had seen. Those that were
+/// given up are among them: they see it, and did nothing more.
+pub fn meet_all(
+    queue: &Queue,
+    senders: &mut [Sender],
+    receivers: &mut [Receiver],
+    given_up: &mut [GivenUp],
+)
+    requires { AreOf queue.now senders.old receivers.old given_up.old }
     ensures senders { EachHasMet senders.old senders.new }
     ensures receivers { EachHasMet receivers.old receivers.new }
-    ensures one { HaveSeenOne senders.new receivers.new }
+    ensures given_up { EachHasMet given_up.old given_up.new }
+    ensures one { HaveSeenOne senders.new receivers.new given_up.new }
 {
     if let Some((first, others)) = senders.split_first_mut() {
-        gather(&first.at.words, &mut first.at.seat, others, receivers);
+        gather(
+            &queue.words,
+            &mut first.at.seat,
+            others,
+            receivers,
+            given_up,
+        );
     } else if let Some((first, others)) = receivers.split_first_mut() {
-        gather(&first.at.words, &mut first.at.seat, senders, others);
+        gather(&queue.words, &mut first.at.seat, senders, others, given_up);
+    } else if let Some((first, others)) = given_up.split_first_mut() {
+        gather(&queue.words, &mut first.seat, senders, receivers, others);
     }
 }

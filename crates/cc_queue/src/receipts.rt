@@ -1,14 +1,14 @@
 //! The audit of what all passes of a queue got.
-ghost use Rattle.std.specs.Prelude.{◌≡◌, ◌≤◌, IfOk, IsPermutation};
+ghost use Rattle.std.specs.Prelude.{◌≡◌, ◌≤◌, ◌++◌, [], map, IfOk, IsPermutation};
 ghost use Rattle.std.specs.List.{All};
-ghost use Rattle.cc_audit.specs.Receipts.{total_of};
 ghost use Rattle.cc_audit.specs.Verdict.{IsVerdict};
 ghost use Rattle.cc_queue.specs.Names.{Verdict};
 ghost use Rattle.cc_runs.specs.Words.{groups};
 ghost use Rattle.cc_queue.specs.Headline.{IsAtRest};
 ghost use Rattle.cc_queue.specs.Met.{HaveSeenOne};
-ghost use Rattle.cc_queue.specs.Receipts.{AreAll, HasJustCallsOf, in_group, seen_by, receipts_by, sent, got};
+ghost use Rattle.cc_queue.specs.Receipts.{Row, AreAll, HasJustCallsOf, HasEnded, IsTotal, in_group, seen_by, walk_at, receipts_told, receipts_left, sent, got};
 
+use crate::given_up::GivenUp;
 use crate::passes::{Receiver, Sender};
 use crate::queue::Queue;
 use cc_audit::{SendReceipt, TakeReceipt, Verdict, audit};
@@ -32,34 +32,49 @@ fn all_receivers_stand(receivers: &[Receiver])
     }
 }
 
-/// The audit of the receipts of all senders of a queue and of the receivers of one group, in any order, with the total that
-/// a close gave, where all passes of the queue have met: the history that they have seen is made of their calls, each with
-/// its answer, and the verdict on these receipts is Clean. `group` is what `Receiver::group` tells. It takes memory in
-/// proportion to the receipts.
+/// Each pass that was given up has ended so, with a call that it may have left waiting.
+fn all_given_up_stand(given_up: &[GivenUp])
+    ensures { All HasEnded given_up.now }
+{
+    for pass in given_up {
+        pass.is_sound();
+    }
+}
+
+/// The audit of all receipts of a queue: those of its senders, those of the receivers of one group, each in any order, and the
+/// total of a close, if one was told it. All passes of the queue have met, live ones and those that were given up, in the order
+/// of its row (`passes`). The history that they have seen is made of their calls, each with its answer, but for at most one that
+/// each pass that was given up left waiting. Beside the receipts that are given there are those of calls that were left
+/// waiting and served all the same: nobody holds them. With these the verdict is Clean. So it is Clean where there are none.
+/// `group` is what `Receiver::group` tells. It takes memory in proportion to the receipts.
 pub fn audit_all(
     alloc: Global,
     queue: &Queue,
     senders: &[Sender],
     receivers: &[Receiver],
+    given_up: &[GivenUp],
     group: u32,
     sends: &[SendReceipt],
     takes: &[TakeReceipt],
     total: Option<u64>,
 ) -> Result<Verdict, AllocError>
-    requires all { AreAll queue.now senders.now receivers.now }
-    requires one { HaveSeenOne senders.now receivers.now }
+    ghost passes: { Row }
+    requires all { AreAll queue.now passes senders.now receivers.now given_up.now }
+    requires one { HaveSeenOne senders.now receivers.now given_up.now }
     requires low { 1 ≤ group }
     requires high { group ≤ groups queue.now.setting.config }
-    requires sends { IsPermutation (receipts_by sent senders.now) sends.now }
-    requires takes { IsPermutation (receipts_by got (in_group queue.now.setting.config group receivers.now)) takes.now }
-    requires total { total ≡ total_of (seen_by senders.now) }
-    ensures just { HasJustCallsOf senders.now receivers.now (seen_by senders.now) }
-    ensures clean { IsVerdict sends.now takes.now total Verdict.Clean }
-    ensures told { IfOk result (λ v. v ≡ Verdict.Clean) }
+    requires sends { IsPermutation (receipts_told sent passes.senders) sends.now }
+    requires takes { IsPermutation (receipts_told got (in_group queue.now.setting.config group passes.receivers)) takes.now }
+    requires total { IsTotal (seen_by (map walk_at passes.senders)) total }
+    ensures just { HasJustCallsOf passes (seen_by (map walk_at passes.senders)) }
+    ensures clean { IsVerdict (sends.now ++ receipts_left sent passes.senders) (takes.now ++ receipts_left got (in_group queue.now.setting.config group passes.receivers)) total Verdict.Clean }
+    ensures told { IfOk result (λ v. IsVerdict sends.now takes.now total v) }
+    ensures none_left { receipts_left sent passes.senders ≡ [] → receipts_left got (in_group queue.now.setting.config group passes.receivers) ≡ [] → IfOk result (λ v. v ≡ Verdict.Clean) }
 {
     let _ = group;
     queue.is_sound();
     all_senders_stand(senders);
     all_receivers_stand(receivers);
+    all_given_up_stand(given_up);
     audit(alloc, sends, takes, total)
 }

@@ -1,11 +1,16 @@
 use Rattle.std.proofs.Common.{rules, ◌≡◌, ◌∙◌, List, length, sym, subst}
-use Rattle.cc_queue.specs.Met.{AreOfOne, HasMet}
-use Rattle.cc_steps.specs.Walk.{Walk}
+use Rattle.std.specs.List.{All}
+use Rattle.cc_queue.specs.Met.{HasMet}
+use Rattle.cc_steps.specs.Walk.{IsOf, Walk}
 use Rattle.cc_drive.proofs.Pairs.{met_back, one_back}
 use Rattle.cc_drive.proofs.meeting.meet_everyone.Goals as goal
 
 pub meet_all-requires : goal.meet_all-requires
-meet_all-requires c = subst (λ (y : List Walk × List Walk). AreOfOne y.0 y.1) (λ i. (sym c.deref_mut.ensures.value i, sym c.deref_mut-2.ensures.value i)) c.requires
+meet_all-requires c = record {
+  senders_are = subst (λ (l : List Walk). All (IsOf c.args.queue.now) l) (sym c.deref_mut.ensures.value) c.requires.senders_are;
+  receivers_are = subst (λ (l : List Walk). All (IsOf c.args.queue.now) l) (sym c.deref_mut-2.ensures.value) c.requires.receivers_are;
+  given_up_are = c.requires.given_up_are;
+}
 
 pub returns-clause-senders : goal.returns-clause-senders
 returns-clause-senders c =
@@ -21,4 +26,4 @@ pub returns-clause-one : goal.returns-clause-one
 returns-clause-one c =
     let len : length c.meet_all.new.senders ≡ length c.deref_mut.result.now = search rules in
     let len' : length c.meet_all.new.receivers ≡ length c.deref_mut-2.result.now = search rules in
-    one_back _ _ c.meet_all.new.senders c.meet_all.new.receivers _ _ (len ∙ c.deref_mut.ensures.len) (len' ∙ c.deref_mut-2.ensures.len) c.meet_all.ensures.one
+    one_back _ _ c.meet_all.new.senders c.meet_all.new.receivers c.meet_all.new.given_up _ _ (len ∙ c.deref_mut.ensures.len) (len' ∙ c.deref_mut-2.ensures.len) c.meet_all.ensures.one

@@ -1,5 +1,5 @@
-use Rattle.cc_queue.proofs.Headline.{stopped_stands}
+use Rattle.cc_queue.proofs.Waiting.{ended_so}
 use Rattle.cc_queue.proofs.given_up.GivenUp.is_sound.Goals as goal
 
 pub returns : goal.returns
-returns c = stopped_stands _ c.self.inside.seat c.self.view_is c.self.invariant c.is_sound.ensures
+returns c = ended_so _ c.self.inside.seat c.self.view_is c.self.invariant.stopped c.is_sound.ensures
