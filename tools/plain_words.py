@@ -27,7 +27,7 @@ import textwrap
 TOP = os.path.dirname(os.path.dirname(os.path.abspath(__file__)))
 LIMIT_OF_README, LIMIT_OF_ALL = 900, 35_000
 COUNTED = ["README.md", "docs/*.md"]
-READ = [*COUNTED, "CONTRIBUTING.md", "bindings/c/README.md", "examples/README.md"]
+READ = [*COUNTED, "CONTRIBUTING.md", "CHANGELOG.md", "bindings/*/*.md", "examples/README.md"]
 HEADERS = ["bindings/c/vahepito*.h"]
 FIGURES = [
     ("An item's time, by the clock", "one thread"),
