@@ -3,12 +3,12 @@ use Rattle.std.specs.Prelude.{◌≡◌, ℕ, ◌+◌, ◌<◌, ◌≤◌, ◌�
 use Rattle.std.specs.Borrow.{Bor}
 use Rattle.cc_audit.specs.Names.{SendReceipt, Verdict}
 
--- the least place at which P holds, or None where it holds nowhere
+-- the least place at which P holds, or None if there is none
 abbrev pub IsLeast : (ℕ → Type 0) → Option ℕ → Type 0
 IsLeast P None = (q : ℕ) → P q → ⊥
 IsLeast P (Some p) = P p × ((q : ℕ) → q < p → P q → ⊥)
 
--- the same, where nothing is asked of a place at which M holds as well
+-- the same, if nothing is asked of a place at which M holds as well
 abbrev pub IsLeastUnless : (P M : ℕ → Type 0) → Option ℕ → Type 0
 IsLeastUnless P M None = (q : ℕ) → P q → M q
 IsLeastUnless P M (Some p) = (P p ⊎ M p) × ((q : ℕ) → q < p → P q → M q)
@@ -25,7 +25,7 @@ or_fault_of verdict kind None = verdict
 or_fault_of Verdict.Clean kind (Some p) = Verdict.Fault kind p
 or_fault_of (Verdict.Fault found q) kind (Some p) = if nat_lt p q then Verdict.Fault kind p else Verdict.Fault found q
 
--- the receipts behind references
+-- the receipts of references
 abbrev pub referred : List (Bor SendReceipt) → List SendReceipt
 referred sends = map (λ s. s.now) sends
 

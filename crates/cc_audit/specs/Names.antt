@@ -1,4 +1,4 @@
--- The types that specs, proofs and contracts of this crate speak of. A variant stands behind its type, as `Verdict.Clean`.
+-- The types that specs, proofs and contracts of this crate speak of. A variant comes after its type, as `Verdict.Clean`.
 pub use Rattle.cc_model.specs.declared.call.Pass.{Pass}
 pub use Rattle.cc_model.specs.declared.call.Call.{Call}
 pub use Rattle.cc_model.specs.declared.call.Item.{Item}

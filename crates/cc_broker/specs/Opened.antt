@@ -32,7 +32,7 @@ AreTheirPasses [] [] = Unit {0}
 AreTheirPasses (z ∷ zs) (p ∷ ps) = AreItsPasses z p × AreTheirPasses zs ps
 AreTheirPasses _ _ = ⊥
 
--- The names were few enough and distinct, and each configuration was lawful. The topics have these names, in order; each
+-- The names were few enough and distinct, and each configuration was legal. The topics have these names, in order; each
 -- has a queue of its configuration, and the passes are those of these queues.
 pub record HasOpened (asked : List (Bor (List ℕ) × Config)) (o : OpenedBroker) : Type 0 where
   pub few : length asked ≤ 64
@@ -49,13 +49,13 @@ pub record IsTopicFault (asked : List (Bor (List ℕ) × Config)) (place : ℕ) 
   pub fault : IsOpenFault topic.1 cause
   pub lawful : All (λ a. config_fault a.1 ≡ Ok tt) (take place asked)
 
--- the topics up to this place can be opened: their configurations are lawful
+-- the topics up to this place can be opened: their configurations are legal
 pub record CanOpenUpTo (asked : List (Bor (List ℕ) × Config)) (place : ℕ) : Type 0 where
   pub within : place < length asked
   pub lawful : All (λ a. config_fault a.1 ≡ Ok tt) (take (place + 1) asked)
 
 -- Too many topics are refused first, then a double name, and then the topics are opened in order. Other memory than for
--- an opening is asked for only behind the opening of a topic.
+-- an opening is asked for only after the opening of a topic.
 abbrev pub IsBrokerFault : List (Bor (List ℕ) × Config) → BrokerFault → Type 0
 IsBrokerFault asked BrokerFault.TooMany = 64 < length asked
 IsBrokerFault asked (BrokerFault.DoubleName place) = (length asked ≤ 64) × IsFirstDouble (asked_names asked) place

@@ -1,4 +1,4 @@
--- What a contract sees of a broker: its topics in order, each with its name.
+-- A contract sees of a broker its topics in order, each with its name.
 use Rattle.std.specs.Prelude.{ℕ, List, map}
 use Rattle.std.specs.Borrow.{Bor}
 use Rattle.cc_model.specs.declared.config.Config.{Config}

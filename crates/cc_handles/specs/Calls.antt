@@ -1,4 +1,4 @@
--- What each call of a handle tells, by the pass that stood behind it before and the one that stands there afterwards.
+-- The result of each call of a handle, by its pass before and after the call.
 use Rattle.std.specs.Prelude.{◌≡◌, ◌≢◌, ℕ, ◌≤◌, Bool, true, false, nat_le, if◌then◌else◌, List, [], ◌∷◌, length, Option, Some, None, Ok, Err}
 use Rattle.std.specs.declared.result.Result.{Result}
 use Rattle.cc_model.specs.Body.{body_of}
@@ -33,7 +33,7 @@ no_pending_take (Pass.Receiver w) = NOT_BEGUN
 no_pending_take (Pass.Taking w) = NOT_BEGUN
 no_pending_take _ = WRONG_SIDE
 
--- a begin, and where the call was begun one turn of it; else its code alone is told
+-- a begin, and if the call was begun one turn of it; else its code alone is returned
 pub record Tries {T : Type 0} (alone : ℕ → T) (Begins : Option Pass → Option Pass → ℕ → Type 0) (Turns : Option Pass → Option Pass → T → Type 0) (old new : Option Pass) (told : T) : Type 0 where
   pub between : Option Pass
   pub code : ℕ
@@ -43,7 +43,7 @@ pub record Tries {T : Type 0} (alone : ℕ → T) (Begins : Option Pass → Opti
 
 -- ---- a send
 
--- the body of these words, where there are one to four of them, and a body of the queue may have so many; or why not
+-- the body of these words, if there are one to four of them, and a body of the queue may have that many; or why not
 abbrev pub fitting : ℕ → List ℕ → Result Body ℕ
 fitting most words = if are_few (length words) then (if nat_le (length words) most then Ok (body_of words) else Err LONG) else Err BAD_WORDS
 
@@ -51,20 +51,20 @@ fitting most words = if are_few (length words) then (if nat_le (length words) mo
 abbrev pub single : ℕ → Result Body ℕ
 single word = Ok (body_of (word ∷ []))
 
--- an idle sender begins a send of this body, or is worn and stays as it is; and where there is no body it stays so too
+-- an idle sender begins a send of this body, or is exhausted and stays as it is; and if there is no body it stays so too
 abbrev pub SenderBegins : Result Body ℕ → Walk → Option Pass → ℕ → Type 0
 SenderBegins (Err why) v new code = (new ≡ Some (Pass.Sender v)) × (code ≡ why)
 SenderBegins (Ok body) v (Some (Pass.Sending w)) code = (code ≡ BEGUN) × Begun v (Call.Send body) w
 SenderBegins (Ok body) v (Some (Pass.Sender w)) code = (code ≡ WORN) × (w ≡ v) × (v.setting.config.per_sender ≤ v.stand.begun)
 SenderBegins (Ok body) v _ code = ⊥
 
--- the begin of a send: where it can't be begun, the pass stays as it is
+-- the begin of a send: if it can't be begun, the pass stays as it is
 abbrev pub BeginsSend : Result Body ℕ → Option Pass → Option Pass → ℕ → Type 0
 BeginsSend body (Some (Pass.Sender v)) new code = SenderBegins body v new code
 BeginsSend body (Some p) new code = (new ≡ Some p) × (code ≡ no_idle_sender p)
 BeginsSend body None new code = (new ≡ None) × (code ≡ NO_PASS)
 
--- a send was answered in this turn, and this is told of it
+-- a send was answered in this turn, with this result
 pub record SendIsTold (v w : Walk) (told : Told) : Type 0 where
   pub given : SendAnswer
   pub told_is : told ≡ sent_as given told.served
@@ -82,11 +82,11 @@ TurnsSend (Some (Pass.Sending v)) new told = SendTurns v new told
 TurnsSend (Some p) new told = (new ≡ Some p) × (told ≡ only (no_pending_sender p))
 TurnsSend None new told = (new ≡ None) × (told ≡ only NO_PASS)
 
--- a begin of a send, and where it was begun a turn of it
+-- a begin of a send, and if it was begun a turn of it
 abbrev pub TriesSend : Result Body ℕ → Option Pass → Option Pass → Told → Type 0
 TriesSend body = Tries only (BeginsSend body) TurnsSend
 
--- whether a sender is worn; nothing changes
+-- whether a sender is exhausted; nothing changes
 abbrev pub worn_code : Pass → ℕ
 worn_code (Pass.Sender w) = if nat_le w.setting.config.per_sender w.stand.begun then WORN else FRESH
 worn_code p = no_idle_sender p
@@ -108,7 +108,7 @@ BeginsClose (Some (Pass.Sender v)) new code = CloserBegins v new code
 BeginsClose (Some p) new code = (new ≡ Some p) × (code ≡ no_idle_sender p)
 BeginsClose None new code = (new ≡ None) × (code ≡ NO_PASS)
 
--- a close was answered in this turn, and this is told of it
+-- a close was answered in this turn, with this result
 pub record CloseIsTold (v w : Walk) (told : Told) : Type 0 where
   pub given : CloseAnswer
   pub told_is : told ≡ closed_as given told.served
@@ -140,7 +140,7 @@ BeginsTake (Some p) new code = (new ≡ Some p) × (code ≡ no_idle_receiver p)
 BeginsTake None new code = (new ≡ None) × (code ≡ NO_PASS)
 
 module _ {I : Type 0} (form : Form I) where
-  -- a take was answered in this turn, and this is told of it
+  -- a take was answered in this turn, with this result
   pub record TakeIsTold (v w : Walk) (told : Taken I) : Type 0 where
     pub given : TakeAnswer
     pub told_is : told ≡ taken_as form given told.served
@@ -158,11 +158,11 @@ module _ {I : Type 0} (form : Form I) where
   TurnsTake (Some p) new told = (new ≡ Some p) × (told ≡ none_taken form (no_pending_take p))
   TurnsTake None new told = (new ≡ None) × (told ≡ none_taken form NO_PASS)
 
-  -- a begin of a take, and where it was begun a turn of it
+  -- a begin of a take, and if it was begun a turn of it
   abbrev pub TriesTake : Option Pass → Option Pass → Taken I → Type 0
   TriesTake = Tries (none_taken form) BeginsTake TurnsTake
 
-  -- a call that tells an item isn't made where a body of the queue may have more words than the item has room for
+  -- a call that returns an item isn't made if a body of the queue may have more words than the item has room for
   abbrev pub IfRoom : Bool → (Option Pass → Option Pass → Taken I → Type 0) → Option Pass → Option Pass → Taken I → Type 0
   IfRoom true Tells old new told = Tells old new told
   IfRoom false Tells old new told = (new ≡ old) × (told ≡ none_taken form WIDE)

@@ -4,7 +4,7 @@ use Rattle.cc_model.specs.Body.{words_of}
 use Rattle.cc_runs.specs.Codes.{words_in}
 use Rattle.cc_handles.specs.Names.{Item, TakenItem, TakenWords}
 
--- a body may have so many words
+-- a body may have this number of words
 abbrev pub are_few : ℕ → Bool
 are_few words = nat_lt 0 words && nat_le words 4
 
@@ -22,7 +22,7 @@ one_word = record {
   of = λ item. record { place = item.place; sender = item.sender; number = item.number; body = (words_in item.body).first };
 }
 
--- of a body all words, and 0 behind them
+-- of a body all words, and 0 after them
 abbrev pub all_words : Form TakenWords
 all_words = record {
   room = 4;

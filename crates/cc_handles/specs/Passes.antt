@@ -1,4 +1,4 @@
--- What a handle holds.
+-- The content of a handle.
 use Rattle.std.specs.Prelude.{ℕ, Option, Some, None}
 use Rattle.cc_steps.specs.Topic.{Topic}
 use Rattle.cc_steps.specs.Walk.{Walk, IsOf}
@@ -27,6 +27,6 @@ pub record Holding : Type 0 where
   pub pass : Option Pass
   pub words : ℕ
 
--- the pass of a queue whose bodies have so many words at most
+-- the pass of a queue whose bodies have this many words at most
 abbrev pub holding : ℕ → Pass → Holding
 holding words p = record { pass = Some p; words = words }

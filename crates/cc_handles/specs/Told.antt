@@ -1,4 +1,4 @@
--- What a call tells: its code, and the numbers of its answer. A number that the code tells nothing of is 0.
+-- The result of a call: its code, and the numbers of its answer. A number that the code gives no meaning is 0.
 use Rattle.std.specs.Prelude.{ℕ}
 use Rattle.cc_handles.specs.Items.{Form}
 use Rattle.cc_handles.specs.Names.{SendAnswer, CloseAnswer, TakeAnswer, Told, Taken}
@@ -8,7 +8,7 @@ use Rattle.cc_handles.specs.declared.codes.TheConstants.{ACCEPTED, FULL, CLOSED,
 abbrev pub only : ℕ → Told
 only code = record { code = code; number = 0; served = 0 }
 
--- the answer of a send, in a turn that served so many calls
+-- the answer of a send, in a turn that served this number of calls
 abbrev pub sent_as : SendAnswer → ℕ → Told
 sent_as (SendAnswer.Accepted place) served = record { code = ACCEPTED; number = place; served = served }
 sent_as SendAnswer.Full served = record { code = FULL; number = 0; served = served }

@@ -47,7 +47,7 @@ HasRoom h x at = WhileUndecided at (HasAnswerRoom h x)
 abbrev pub stand_of : Stepper → Place → Stand
 stand_of who at = record { begun = who.begun; node = who.node; place = at }
 
--- where it stands before its step
+-- its place before its step
 abbrev pub place_of : Board → Stepper → Place
 place_of b who = ((state_of b).stand who.pass).place
 
@@ -82,11 +82,11 @@ pub record Stepped (old : Board) (who : Stepper) (at : Place) (kind : Kind) (new
   pub state : state_of new ≡ stepped_from old.setting (state_of old) who.chain who.pass (stand_of who at)
   pub keeps : Keeps old new
 
--- a pass as it stands
+-- a pass in its place
 abbrev pub stepper_at : Board → ℕ → Stepper
 stepper_at b p = record { pass = p; chain = chain_of b.setting.config p; begun = ((state_of b).stand p).begun; node = ((state_of b).stand p).node }
 
--- an event is the one step of its pass, and Idle where the pass has none: then nothing changes
+-- an event is the one step of its pass, and Idle if the pass has none: then nothing changes
 pub record Moved (old : Board) (p : ℕ) (event : Event) (new : Board) : Type 0 where
   pub event_is : event ≡ event_at ((state_of old).stand p).place
   pub state : event ≢ Event.Idle → state_of new ≡ stepped old.setting (state_of old) p

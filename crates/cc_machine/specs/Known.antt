@@ -5,7 +5,7 @@ use Rattle.cc_model.specs.Record.{Record, of_group}
 use Rattle.cc_model.specs.Items.{accepted_by, accepted_item, shuts, handed_by, handed_item}
 use Rattle.cc_machine.specs.Names.{Entry, Answer, CloseAnswer, Known}
 
--- what a further call with its answer adds to the entries of the list, where it was shut before or wasn't
+-- what a further call with its answer adds to the entries of the list, if it was shut before or wasn't
 abbrev pub adds_entry : Bool → Entry → Answer → ℕ
 adds_entry shut c (Answer.Close (CloseAnswer.Shut total)) = if shut then 0 else 1
 adds_entry shut c a = length (accepted_item c a)
@@ -18,7 +18,7 @@ adds_handed a = length (handed_item a)
 abbrev pub entries_by : List Entry → List Answer → ℕ
 entries_by calls answers = length (accepted_by calls answers) + (if list_any shuts answers then 1 else 0)
 
--- this is counted of the history, up to so many answers of each side
+-- this is counted of the history, up to this number of answers of each side
 pub record IsKnown (h : Record) (k : Known) : Type 0 where
   pub sent_few : k.sent ≤ length h.sends.answers
   pub entries_is : k.entries ≡ entries_by h.sends.calls (take k.sent h.sends.answers)

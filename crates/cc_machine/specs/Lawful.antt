@@ -17,7 +17,7 @@ to_come Chain.Send Chain.Send at = before_exchange at
 to_come (Chain.Take g) (Chain.Take h) at = if g == h then before_exchange at else 0
 to_come x y at = 0
 
--- one where there is such a call
+-- one if there is such a call
 abbrev pub if_to_come : Bool → ℕ
 if_to_come b = if b then 1 else 0
 
@@ -50,7 +50,7 @@ pub record IsCounter (b : Board) : Type 0 where
   pub served_is : b.setting.served ≡ Served.Counter
   pub lawful : IsLawful b
 
--- the board of a list, with what there is to be known of its history; no answer stands there before its call
+-- the board of a list, with what there is to know of its history; no answer is there before its call
 pub record IsMachine (b : Board) (k : Known) : Type 0 where
   pub served_is : b.setting.served ≡ Served.List
   pub lawful : IsLawful b

@@ -1,4 +1,4 @@
--- What a caller sees of a machine, and what each call does to it.
+-- A caller's view of a machine, and the effect of each call.
 use Rattle.std.specs.Prelude.{◌≡◌, ◌≢◌, ◌==◌, ◌<◌, ◌⊎◌, Bool, true, false, ℕ, zero, suc, ◌+◌, ◌-◌, ◌*◌, nat_lt, if◌then◌else◌, List, Option, Some, None, Result, Ok, Err, ⊤}
 use Rattle.cc_model.specs.Range.{within}
 use Rattle.cc_machine.specs.Names.{Config, Pass, Call, Answer, Setting, Served, BeginFault, Chain, Event, Place, NodeField, Word, Move}
@@ -34,7 +34,7 @@ abbrev pub receiver_index : Served → Config → ℕ → Option ℕ
 receiver_index Served.Counter c n = None
 receiver_index Served.List c n = if within 1 (groups c * c.receivers) n then Some (c.senders + (n - 1)) else None
 
--- which place a pass has in the row of all passes, where there is such a pass
+-- the place of a pass in the row of all passes, if there is such a pass
 abbrev pub index_of : Setting → Pass → Option ℕ
 index_of c (Pass.Sender n) = if within 1 c.config.senders n then Some (n - 1) else None
 index_of c (Pass.Receiver n) = receiver_index c.served c.config n
@@ -59,18 +59,18 @@ unless_wrong _ _ _ rest = Err BeginFault.WrongSide
 abbrev pub OnSide : Served → Chain → Call → Bool → Type 0
 OnSide what x call b = (rest : Result ⊤ BeginFault) → unless_wrong what x call rest ≡ (if b then rest else Err BeginFault.WrongSide)
 
--- why the pass at this place of the row can't begin a call, but for want of memory
+-- why the pass at this place of the row can't begin a call, but for lack of memory
 abbrev pub fault_at : View → Call → Option ℕ → Result ⊤ BeginFault
 fault_at m call None = Err BeginFault.NoSuchPass
 fault_at m call (Some p) =
     unless_wrong m.setting.served (chain_of m.setting.config p) call
     (unless_busy ((state_in m).stand p).place (unless_worn m.setting.config (begun_after call ((state_in m).stand p).begun)))
 
--- the first cause that holds why a call can't be begun, but for want of memory
+-- the first cause that holds why a call can't be begun, but for lack of memory
 abbrev pub begin_fault : View → Pass → Call → Result ⊤ BeginFault
 begin_fault m pass call = fault_at m call (index_of m.setting pass)
 
--- a begin is refused for its first cause, or else for want of memory
+-- a begin is refused for its first cause, or else for lack of memory
 abbrev pub IsBeginFault : View → Pass → Call → BeginFault → Type 0
 IsBeginFault m pass call BeginFault.NoMemory = begin_fault m pass call ≡ Ok tt
 IsBeginFault m pass call cause = begin_fault m pass call ≡ Err cause
@@ -80,7 +80,7 @@ abbrev pub HasBegun : View → Option ℕ → Call → ℕ → View → Type 0
 HasBegun old None call known new = ⊥
 HasBegun old (Some p) call known new = IsAfter old (Move.Begin p call known) new
 
--- the kind of the next step of a pass, where it has one
+-- the kind of the next step of a pass, if it has one
 abbrev pub event_in : View → Option ℕ → Event
 event_in m None = Event.Idle
 event_in m (Some p) = event_at ((state_in m).stand p).place
@@ -110,12 +110,12 @@ HasStepped old (Some p) (Event.Did kind) new = IsAfter old (Move.Step p) new
 HasStepped old None (Event.Did kind) new = ⊥
 HasStepped old _ Event.Idle new = new ≡ old
 
--- where so many steps of pass p lead
+-- the state to which this number of steps of pass p leads
 abbrev pub stepped_on : Setting → State → ℕ → ℕ → State
 stepped_on c s p zero = s
 stepped_on c s p (suc n) = stepped c (stepped_on c s p n) p
 
--- so many steps of pass p were done, each of which it had, and they alone
+-- this number of steps of pass p was done, each of which it had, and they alone
 pub record HasGone (old : View) (p n : ℕ) (new : View) : Type 0 where
   pub setting : new.setting ≡ old.setting
   pub state : state_in new ≡ stepped_on old.setting (state_in old) p n
@@ -126,7 +126,7 @@ abbrev pub HasGoneOn : View → Option ℕ → ℕ → View → Type 0
 HasGoneOn old None n new = (n ≡ 0) × (new ≡ old)
 HasGoneOn old (Some p) n new = HasGone old p n new
 
--- the last of so many steps of pass p
+-- the last of this number of steps of pass p
 abbrev pub last_event : View → ℕ → ℕ → Event
 last_event m p zero = Event.Idle
 last_event m p (suc n) = event_at ((stepped_on m.setting (state_in m) p n).stand p).place
@@ -149,7 +149,7 @@ told_in m (Some p) = told_at ((state_in m).stand p).place
 abbrev pub answer_of : View → Pass → Option Answer
 answer_of m pass = told_in m (index_of m.setting pass)
 
--- it was taken, where there was one
+-- it was taken, if there was one
 abbrev pub HasTaken : View → Option ℕ → Option Answer → View → Type 0
 HasTaken old (Some p) (Some told) new = IsAfter old (Move.Take p) new
 HasTaken old None (Some told) new = ⊥

@@ -1,4 +1,4 @@
--- What a caller sees of a machine: its words, where each pass stands, and the history; and the state that they are.
+-- A caller's view of a machine: its words, the place of each pass, and the history; and the state that they are.
 use Rattle.std.specs.Prelude.{ℕ, List, slice_index_or}
 use Rattle.cc_model.specs.Record.{Record}
 use Rattle.cc_machine.specs.Names.{Setting, Stand}

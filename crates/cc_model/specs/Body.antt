@@ -13,7 +13,7 @@ in_all (Words.Four words) = words
 abbrev pub words_of : Body → List ℕ
 words_of b = in_all b.words
 
--- how many of them stand behind the first
+-- how many of them follow the first
 abbrev pub further_of : Body → ℕ
 further_of b = length (words_of b) - 1
 

@@ -1,9 +1,9 @@
--- What a reading function of the code answers.
+-- The results of a reading function of the code.
 use Rattle.std.specs.Prelude.{◌≡◌, Result, Ok, Err, ⊤}
 use Rattle.cc_plan.specs.Names.{PlanFault}
 use Rattle.cc_plan.specs.Refusal.{Refusal, no_json, wrong_shape, out_of_range, unknown_pass}
 
--- the refusal is the one that is due; of P5, want of memory, nothing is said
+-- the refusal is the one that is due; of P5, lack of memory, nothing is said
 abbrev pub Refuses : {V : Type 0} → PlanFault → Result V Refusal → Type 0
 Refuses PlanFault.P1 due = due ≡ Err no_json
 Refuses PlanFault.P2 due = due ≡ Err wrong_shape

@@ -1,4 +1,4 @@
--- What a function that is handed over computes.
+-- The values that a function which is handed over computes.
 use Rattle.std.specs.Prelude.{ℕ, ◌≡◌, Bool, List}
 use Rattle.std.specs.Fn.{FnReturnsAt, Shared}
 use Rattle.std.specs.Borrow.{Bor}

@@ -52,7 +52,7 @@ each f (d ∷ ds) = do
 abbrev pub is_number : Data → Bool
 is_number d = is_some (as_number d)
 
--- the number, where it is whole and fits 64 bits
+-- the number, if it is whole and fits 64 bits
 abbrev pub whole_number : Data → Option ℕ
 whole_number d = option_and_then as_u64 (as_number d)
 

@@ -1,4 +1,4 @@
--- What a plan says.
+-- The content of a plan.
 use Rattle.std.specs.Prelude.{ℕ, List, map}
 use Rattle.cc_plan.specs.Names.{Config, Call, Pass, Plan}
 

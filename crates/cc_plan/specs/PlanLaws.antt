@@ -1,4 +1,4 @@
--- What holds of every plan that an input describes.
+-- The laws of every plan that an input describes.
 use Rattle.std.specs.Prelude.{true, ◌≡◌, ◌≤◌, ◌⊎◌, ◌^◌, ◌-◌, ◌*◌, length, All, Ok, ⊤}
 use Rattle.cc_model.specs.Config.{config_fault}
 use Rattle.cc_plan.specs.Names.{Call}
@@ -11,7 +11,7 @@ IsOfSender (Call.Send body) = ⊤
 IsOfSender Call.Close = ⊤
 IsOfSender Call.Take = ⊥
 
--- the version is 1, and then there is one group, or 2; the configuration is lawful, lets each sender send 2^32 - 1 times, and
+-- the version is 1, and then there is one group, or 2; the configuration is legal, lets each sender send 2^32 - 1 times, and
 -- has as many senders, and in all groups as many receivers, as are listed; the lists are no longer than the limits, and each
 -- sender's calls are those of senders; each entry names a pass of the configuration and a number of steps in its range
 pub record Lawful (p : PlanValue) : Type 0 where

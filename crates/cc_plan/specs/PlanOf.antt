@@ -14,7 +14,7 @@ use Rattle.cc_plan.specs.Plan.{PlanValue}
 abbrev pub config_of : (groups senders receivers capacity bound life : ℕ) → Config
 config_of groups senders receivers capacity bound life = record { senders = senders; receivers = receivers; capacity = capacity; bound = bound; life = life; per_sender = 2 ^ 32 - 1; groups = groups }
 
--- the plan of these numbers and of the lists, where they are in their ranges
+-- the plan of these numbers and of the lists, if they are in their ranges
 unfoldable pub plan_of_lists : (version groups capacity bound life : ℕ) → Data → Result PlanValue Refusal
 plan_of_lists version groups capacity bound life d = do
   senders ← value_at (senders_of version) (codes "senders") d
@@ -22,7 +22,7 @@ plan_of_lists version groups capacity bound life d = do
   schedule ← value_at schedule_of (codes "schedule") d
   Ok (record { version = version; config = config_of groups (length senders) (length receivers / groups) capacity bound life; senders = senders; receivers = receivers; schedule = schedule })
 
--- the values in their ranges; of several out of range the first in this order is told
+-- the values in their ranges; of several out of range the first in this order is reported
 unfoldable pub plan_of_values : Data → Result PlanValue Refusal
 plan_of_values d = do
   version ← or_range (codes "version") (version_of d)

@@ -49,7 +49,7 @@ is_entry d = unwrap_or (option_map (λ p. is_some (named p.0) && is_number p.1) 
 abbrev pub is_plan_key : (version : ℕ) → List ℕ → Bool
 is_plan_key version key = bytes_eq key (codes "version") || bytes_eq key (codes "capacity") || bytes_eq key (codes "bound") || bytes_eq key (codes "life") || bytes_eq key (codes "senders") || bytes_eq key (codes "receivers") || bytes_eq key (codes "schedule") || (version == 2 && bytes_eq key (codes "groups"))
 
--- where the version has groups, their number
+-- the number of groups, if the version has them
 abbrev pub has_groups : (version : ℕ) → Data → Bool
 has_groups version d = if version == 2 then has is_number (codes "groups") d else true
 

@@ -7,7 +7,7 @@ use Rattle.cc_plan.specs.Names.{Call, Pass}
 use Rattle.cc_plan.specs.Json.{◌>>=◌, elements, pair_of, each, is_word, number_in, body_as}
 use Rattle.cc_plan.specs.PlanShape.{named}
 
--- so many elements as the range allows
+-- as many elements as the range allows
 abbrev pub counted : ℕ → ℕ → Data → Option (List Data)
 counted low high d = do
   ds ← elements d
@@ -31,7 +31,7 @@ senders_of version d = do
   ds ← counted 1 64 d
   each (calls_of version) ds
 
--- so many receivers make up the groups: in each are as many as in the others, 1 to 64
+-- this number of receivers makes up the groups: each has as many as the others, 1 to 64
 abbrev pub fill_groups : (groups count : ℕ) → Bool
 fill_groups groups count = (count % groups == 0) && within 1 64 (count / groups)
 

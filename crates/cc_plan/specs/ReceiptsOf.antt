@@ -7,7 +7,7 @@ use Rattle.cc_plan.specs.ReceiptsShape.{has_receipts_shape}
 use Rattle.cc_plan.specs.ReceiptsValues.{total_of, accepted_of, taken_of}
 use Rattle.cc_plan.specs.Version.{version_of}
 
--- the values in their ranges; of several out of range the first in this order is told
+-- the values in their ranges; of several out of range the first in this order is reported
 unfoldable pub receipts_of_values : Data → Result ReceiptsValue Refusal
 receipts_of_values d = do
   version ← or_range (codes "version") (version_of d)

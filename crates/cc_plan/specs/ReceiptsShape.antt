@@ -7,7 +7,7 @@ use Rattle.serde_json.specs.Find.{as_null}
 use Rattle.cc_plan.specs.Json.{elements, is_list_of, is_number, is_body, has_only, has, may_have}
 use Rattle.cc_plan.specs.Version.{table_of}
 
--- just so many numbers, and a body behind them
+-- exactly this number of numbers, and then a body
 abbrev pub are_parts : (version numbers : ℕ) → List Data → Bool
 are_parts version numbers ds = (length ds == numbers + 1)
     && list_all is_number (take numbers ds)

@@ -5,7 +5,7 @@ use Rattle.serde_json.specs.Find.{get, as_null}
 use Rattle.cc_plan.specs.Json.{◌>>=◌, elements, each, whole_number, number_in, body_as}
 use Rattle.cc_plan.specs.Names.{Body, SendReceipt, TakeReceipt}
 
--- any 64-bit number, or none where it is absent or null
+-- any 64-bit number, or none if it is absent or null
 abbrev pub total_in : Option Data → Option (Option ℕ)
 total_in None = Some None
 total_in (Some d) = if is_some (as_null d) then Some None else option_map Some (whole_number d)

@@ -15,7 +15,7 @@ unfoldable pub pass_text : Pass → List ℕ
 pass_text (Pass.Sender s) = word_text (codes "s") s
 pass_text (Pass.Receiver r) = word_text (codes "r") r
 
--- the words of a body, each behind a space
+-- the words of a body, each after a space
 abbrev pub words_text : List ℕ → List ℕ
 words_text words = texts (λ i word. word_text (codes " ") word) 0 words
 
@@ -39,13 +39,13 @@ answer_text (Some (Answer.Take (TakeAnswer.Got x))) = item_text x
 answer_text (Some (Answer.Take TakeAnswer.Empty)) = codes "empty"
 answer_text (Some (Answer.Take (TakeAnswer.Ended total))) = word_text (codes "ended ") total
 
--- who calls, at the front of a line
+-- the caller, at the beginning of a line
 unfoldable pub caller_text : Caller → List ℕ
 caller_text Caller.Sender = codes "E"
 caller_text Caller.Receiver = codes "D"
 caller_text (Caller.ReceiverOf group) = word_text (codes "D ") group
 
--- who calls in the lines of a group, from 0: version 2 tells which group it is, from 1
+-- the caller in the lines of a group, from 0: version 2 names the group, from 1
 abbrev pub caller_in : (version group : ℕ) → Caller
 caller_in version group = if version == 2 then Caller.ReceiverOf (group + 1) else Caller.Receiver
 

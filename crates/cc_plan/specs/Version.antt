@@ -8,10 +8,10 @@ abbrev pub version_in : Option Data → Option ℕ
 version_in None = Some 1
 version_in (Some d) = number_in 1 2 d
 
--- 1 or 2, and 1 where none is named
+-- 1 or 2, and 1 if none is named
 abbrev pub version_of : Data → Option ℕ
 version_of d = version_in (get (codes "version") d)
 
--- the version whose table of keys the tree is read by: where it names another, or what is no version, it is that of 1
+-- the version by whose table of keys the tree is read: if it names another, or no version, it is that of 1
 abbrev pub table_of : Data → ℕ
 table_of d = unwrap_or (version_of d) 1

@@ -1,4 +1,4 @@
--- What the begin of a call and each of its turns tell.
+-- The results of the begin of a call and of each of its turns.
 use Rattle.std.specs.Prelude.{◌≡◌, ℕ, ◌+◌, ◌*◌, ◌≤◌, ◌==◌, if◌then◌else◌, List, [], ◌∷◌, ◌++◌}
 use Rattle.cc_queue.specs.Names.{Body, Call, Entry, SendAnswer, TakeAnswer, Answer, Kind, Place}
 use Rattle.cc_runs.specs.ChainLaws.{IsLastAnswer}
@@ -11,7 +11,7 @@ use Rattle.cc_queue.specs.declared.passes.TakeTurn.{TakeTurn}
 use Rattle.cc_queue.specs.Work.{tally, reads, marks, hands, scans}
 use Rattle.cc_queue.specs.Headline.{StandsInOne, entry_of, name, history}
 
--- A begun call stands in one history as its pass's last call, and is pending there. It is linked into its chain, so that the
+-- A begun call is in one history as its pass's last call, and is pending there. It is linked into its chain, so that the
 -- combiner can come to it: the next step of its pass reads the state of its node. No state was read and nobody served.
 pub record Begun (v : Walk) (call : Call) (w : Walk) : Type 0 where
   pub stands : StandsInOne v (entry_of v call ∷ []) w
@@ -21,14 +21,14 @@ pub record Begun (v : Walk) (call : Call) (w : Walk) : Type 0 where
   pub reads : tally reads w.did ≡ tally reads v.did
   pub marks : tally marks w.did ≡ tally marks v.did
 
--- A turn that waits did one step, a read of the state which gave 1: the call is where it was.
+-- A turn that waits did one step, a read of the state which gave 1: the call is in its place.
 pub record Waited (v w : Walk) : Type 0 where
   pub stands : StandsInOne v [] w
   pub still : w.stand ≡ v.stand
   pub did : w.did ≡ Kind.ReadState ∷ v.did
 
--- A turn that is done read the state once. The answer is that of its pass's last call in one history. Where the state
--- was 2 it served nobody; where it was 0 it served at least its own call and at most `bound` calls, reading at most
+-- A turn that is done read the state once. The answer is that of its pass's last call in one history. If the state was
+-- 2 it served nobody; if it was 0 it served at least its own call and at most `bound` calls, reading at most
 -- `capacity + 1` list nodes for each, and handed over once.
 pub record Answered (v : Walk) (told : Answer) (served : ℕ) (w : Walk) : Type 0 where
   pub stands : StandsInOne v [] w
@@ -91,7 +91,7 @@ entries_of call v [] = []
 entries_of call v (w ∷ ws) = entry_of v call ∷ entries_of call w ws
 
 -- The same call was made again and again, and each time completed with this answer, until the pass came here. All of them
--- stand in one history.
+-- are in one history.
 pub record Tried (call : Call) (told : Answer) (v w : Walk) : Type 0 where
   pub tried : List Walk
   pub each : Repeated call told v tried
@@ -99,7 +99,7 @@ pub record Tried (call : Call) (told : Answer) (v w : Walk) : Type 0 where
   pub stands : StandsInOne v (entries_of call v tried) w
 
 -- Takes that were made until one of them gave an item or the end: each of the earlier ones was completed as a take that
--- found nothing, and then the last one was completed so. All of them stand in one history.
+-- found nothing, and then the last one was completed in this way. All of them are in one history.
 pub record TakenUntil (v : Walk) (told : TakeAnswer) (w : Walk) : Type 0 where
   pub tried : List Walk
   pub none : Repeated Call.Take (Answer.Take TakeAnswer.Empty) v tried
@@ -107,8 +107,8 @@ pub record TakenUntil (v : Walk) (told : TakeAnswer) (w : Walk) : Type 0 where
   pub stands : StandsInOne v (entries_of Call.Take v tried ++ entry_of (last_of v tried) Call.Take ∷ []) w
   pub settled : IsSettled told
 
--- Sends of this body that were made until one of them was accepted, or told that none will be: each of the earlier ones was
--- completed as a send that found the queue full, and then the last one was completed so. All of them stand in one history.
+-- Sends of this body that were made until one of them was accepted, or none will be: each of the earlier ones was completed
+-- as a send that found the queue full, and then the last one was completed in this way. All of them are in one history.
 pub record SentUntil (v : Walk) (body : Body) (told : SendAnswer) (w : Walk) : Type 0 where
   pub tried : List Walk
   pub full : Repeated (Call.Send body) (Answer.Send SendAnswer.Full) v tried

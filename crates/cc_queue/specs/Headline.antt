@@ -1,4 +1,4 @@
--- What each answer stands in: one history, that of a run of single steps, which begins with all that the caller had seen.
+-- Each answer belongs to one history, that of a run of single steps, which begins with all that the caller had seen.
 use Rattle.std.specs.Prelude.{◌≡◌, List, [], ◌++◌, map}
 use Rattle.std.specs.List.{AllByRecursion}
 use Rattle.cc_model.specs.Record.{Record}
@@ -23,9 +23,9 @@ history w = history_of w.setting w.seen
 abbrev pub entry_of : Walk → Call → Entry
 entry_of v call = record { pass = name v; call = call; number = number_of call v.stand.begun; known = known_in v.setting v.number v.seen }
 
--- There is one history, and it is what the pass has seen now: that of a run of single steps which goes on from all that
--- it had seen. It is lawful, and first in first out. Of the pass it has just the calls that it made, each once and in
--- order: those that it had made, and these.
+-- There is one history, the one that the pass has seen now: that of a run of single steps which extends all that it had
+-- seen. It is legal, and first in, first out. Of the pass it has exactly the calls that it made, each once and in order:
+-- those that it had made, and these.
 pub record StandsInOne (v : Walk) (calls : List Entry) (w : Walk) : Type 0 where
   pub same : IsSameSeat v w
   pub run : IsRun w.setting w.seen
@@ -36,7 +36,7 @@ pub record StandsInOne (v : Walk) (calls : List Entry) (w : Walk) : Type 0 where
   pub made : w.made ≡ v.made ++ calls
   pub calls_are : map (λ z. z.0) (calls_of (name w) (history w)) ≡ w.made
 
--- A pass has come to rest: all that it has seen stands in one history, in which each of its calls has its answer.
+-- A pass has come to rest: all that it has seen is one history, in which each of its calls has its answer.
 pub record IsAtRest (w : Walk) : Type 0 where
   pub stands : StandsInOne w [] w
   pub answered : AllByRecursion HasAnswer (calls_of (name w) (history w))

@@ -34,8 +34,8 @@ pub record HasHeeded (n : Noted) (w : Walk) : Type 0 where
   pub stands : StandsInOne w [] w
   pub queue : IsListChecked w.setting
 
--- This call stands in the history that the pass has seen, and is answered so. It comes after all of the noted history; and
--- this is what its answer says of that.
+-- This call is in the history that the pass has seen, and has this answer. It comes after all of the noted history, of which
+-- its answer says this.
 pub record IsFreshAfter (n : Noted) (call : Entry) (told : Answer) (w : Walk) : Type 0 where
   pub before : List Answer
   pub after : ComesAfter w.setting.config (noted_history n) (history w) before call told

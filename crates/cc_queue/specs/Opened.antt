@@ -6,7 +6,7 @@ use Rattle.cc_runs.specs.Words.{groups}
 use Rattle.cc_steps.specs.Walk.{fresh_from}
 use Rattle.cc_queue.specs.declared.queue.Opened.{Opened}
 
--- The configuration is lawful, and the queue is a list with it. It has all the senders and then all the receivers of it,
+-- The configuration is legal, and the queue is a list with it. It has all the senders and then all the receivers of it,
 -- each numbered from 1, and none has begun a call or seen anything.
 pub record HasOpened (c : Config) (o : Opened) : Type 0 where
   pub lawful : config_fault c ≡ Ok tt

@@ -13,7 +13,7 @@ abbrev pub sends_in : List Entry → ℕ
 sends_in [] = 0
 sends_in (e ∷ calls) = is_send e.call + sends_in calls
 
--- so many of the calls that the pass has made are sends, and this is the count that bounds them
+-- this many of the calls that the pass has made are sends, and this is the count that bounds them
 pub record HasBegunSends (w : Walk) (count : ℕ) : Type 0 where
   pub made : count ≡ sends_in w.made
   pub counted : count ≡ w.stand.begun

@@ -1,4 +1,4 @@
--- A part of a call, as its seat sees it: where its pass has come, and which steps it did.
+-- A part of a call, as its seat sees it: the place that its pass has come to, and the steps that it did.
 use Rattle.std.specs.Prelude.{◌≡◌, ℕ, ◌≤◌, ◌+◌, ◌==◌, if◌then◌else◌, ◌*◌, List, [], ◌∷◌, ◌++◌}
 use Rattle.cc_queue.specs.Names.{Call, Config, Served, Chain, Place, Stand, Kind}
 use Rattle.cc_runs.specs.State.{chain_of}
@@ -56,7 +56,7 @@ scans _ = 0
 abbrev pub worked_to : Walk → Place → Walk → Walk
 worked_to v at w = record v { seen = w.seen; did = w.did; stand = record v.stand { place = at } }
 
--- where a combiner stands at the end of a round
+-- the place of a combiner at the end of a round
 abbrev pub round_place : ℕ → ℕ → ℕ → Place
 round_place bound at served = if served == bound then Place.HandOver at else Place.ReadNext record { at = at; served = served }
 
@@ -72,11 +72,11 @@ pub record Tally : Type 0 where
 abbrev pub looked : ℕ → Tally
 looked most = record { reads = 0; marks = 0; hands = 0; scans = most }
 
--- a combiner served so many requests: it marked each, looked at each list node once at most for each, and handed over so often
+-- a combiner served this many requests: it marked each, looked at each list node once at most for each, and handed over this often
 abbrev pub combined : Config → (served hands : ℕ) → Tally
 combined c served hands = record { reads = 0; marks = served; hands = hands; scans = served * (c.capacity + 1) }
 
--- a turn reads the state once, and hands over where it served any
+-- a turn reads the state once, and hands over if it served any
 abbrev pub turned : Config → (served : ℕ) → Tally
 turned c served = record { reads = 1; marks = served; hands = if served == 0 then 0 else 1; scans = served * (c.capacity + 1) }
 
@@ -99,7 +99,7 @@ pub record Waits (v w : Walk) : Type 0 where
   pub did : w.did ≡ Kind.ReadState ∷ v.did
   pub later : Onward v.seen w.seen
 
--- the pass began this call, by which it came to stand here, and neither read a state nor marked a request
+-- the pass began this call, by which it came to this place, and neither read a state nor marked a request
 pub record Enters (v : Walk) (call : Call) (at : Stand) (w : Walk) : Type 0 where
   pub same : IsSameSeat v w
   pub stand : w.stand ≡ at

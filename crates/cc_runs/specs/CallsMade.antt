@@ -23,7 +23,7 @@ to_exchange (Place.ResetState call) = call ∷ []
 to_exchange (Place.Exchange call) = call ∷ []
 to_exchange _ = []
 
--- after every run the history has of each pass just those calls, each once and in order, that have exchanged
+-- after every run the history has of each pass exactly those calls, each once and in order, that have exchanged
 abbrev pub CallsOfRuns : Type 0
 CallsOfRuns = (c : Setting) → config_fault c.config ≡ Ok tt → (moves : List Move) → IsRun c moves → (p : ℕ) → p < passes c →
     made c moves p ≡ map (λ z. z.0) (calls_of (pass_at c.config p) (reached c moves).history) ++ to_exchange ((reached c moves).stand p).place

@@ -1,4 +1,4 @@
--- What holds of each chain after every run, whatever is served; and of a counter.
+-- The laws of each chain after every run, whatever is served; and of a counter.
 use Rattle.std.specs.Prelude.{◌≡◌, ◌≢◌, ℕ, ◌+◌, ◌<◌, ◌≤◌, List, [], ◌∷◌, ◌++◌, length, Option, Some, None, Ok}
 use Rattle.std.specs.List.{AllByRecursion, slice_get}
 use Rattle.cc_model.specs.Record.{Record}
@@ -37,7 +37,7 @@ served_by (Place.WriteAnswerBody job item i) = job.round.served
 served_by (Place.MarkDone job) = job.round.served
 served_by _ = 0
 
--- the nodes that it will touch, beside the pass's own, are among the chain's
+-- the nodes that it will touch, with the pass's own, are among the chain's
 abbrev pub AreNodes : ℕ → Place → Type 0
 AreNodes n (Place.WriteTag put request) = put ≤ n
 AreNodes n (Place.WriteBody put request i) = put ≤ n
@@ -128,7 +128,7 @@ IsOut _ = ⊥
 pub record ChainLaws (c : Setting) (s : State) : Type 0 where
   -- one pass of a chain combines at most
   pub one : (p q : ℕ) → p < passes c → q < passes c → chain_of c.config p ≡ chain_of c.config q → IsCombining (s.stand p).place → IsCombining (s.stand q).place → p ≡ q
-  -- it goes on only where it has served fewer than the bound, and answers no more than that in all
+  -- it continues only if it has served fewer than the bound, and answers no more than that in all
   pub bounded : (p : ℕ) → p < passes c → served_by (s.stand p).place < c.config.bound
   pub within : (p : ℕ) → p < passes c → IsCombining (s.stand p).place →
       IsWithinBound c.config.bound (calls_on (chain_of c.config p) s.history) (answers_on (chain_of c.config p) s.history) (pass_at c.config p)
@@ -148,7 +148,7 @@ pub record ChainLaws (c : Setting) (s : State) : Type 0 where
   -- no two passes of a chain own one node, and nobody owns the node in its tail: so a pass that resets its node resets nobody else's
   pub apart : (p q : ℕ) → p < passes c → q < passes c → chain_of c.config p ≡ chain_of c.config q → (s.stand p).node ≡ (s.stand q).node → p ≡ q
   pub free : (p : ℕ) → p < passes c → s.mem (Word.Tail (chain_of c.config p)) ≢ (s.stand p).node + 1
-  -- and while a pass is out of its chain, so also where it resets its node, no other pass's step touches that node
+  -- and while a pass is out of its chain, also when it resets its node, no other pass's step touches that node
   pub untouched : (p q : ℕ) (f : NodeField) → p < passes c → q < passes c → p ≢ q → IsOut (s.stand p).place →
       word_of (operation c (chain_of c.config q) (s.stand q).node (s.stand q).place) ≢ Word.Node (chain_of c.config p) (s.stand p).node f
 

@@ -7,7 +7,7 @@ use Rattle.cc_runs.specs.Names.{Body, Entry, Item, Call, Pass, Answer, SendAnswe
 abbrev pub pack : ℕ → ℕ → ℕ
 pack sender number = sender * 2 ^ 32 + number
 
--- how many words of its body a tag tells of beside the first: three at most
+-- how many words of its body a tag counts after the first: three at most
 abbrev pub further_words : ℕ → ℕ
 further_words tag = tag / 2 ^ 48 % 4
 
@@ -41,18 +41,18 @@ with_word body (suc (suc (suc (suc _)))) value = body
 abbrev pub no_words : BodyWords
 no_words = record { first = 0; second = 0; third = 0; fourth = 0 }
 
--- where the step at a word leads: to the next one, while there is one of this many behind the first, or on
+-- the next place of the step at a word: the next word, while there is one of this many after the first, or on
 abbrev pub behind : {A : Type 0} → ℕ → ℕ → A → A → A
 behind further index next on = if nat_lt index further then next else on
 
--- the words of a body, and 0 behind them
+-- the words of a body, and 0 after them
 abbrev pub slots : List ℕ → BodyWords
 slots words = record { first = slice_index_or words 0 0; second = slice_index_or words 1 0; third = slice_index_or words 2 0; fourth = slice_index_or words 3 0 }
 
 abbrev pub words_in : Body → BodyWords
 words_in body = slots (words_of body)
 
--- the body of the first of these words, and of so many behind it
+-- the body of the first of these words, and of this many after it
 abbrev pub body_in : ℕ → BodyWords → Body
 body_in zero words = body_of (words.first ∷ [])
 body_in (suc zero) words = body_of (words.first ∷ words.second ∷ [])
@@ -118,7 +118,7 @@ list_word (Answer.Take (TakeAnswer.Got item)) = coded 1 item.place
 list_word (Answer.Take TakeAnswer.Empty) = coded 2 0
 list_word (Answer.Take (TakeAnswer.Ended total)) = coded 3 total
 
--- the counter's answer is the number that it held, and stands in the history as that of a send accepted at this place
+-- the counter's answer is the number that it held, and is in the history that of a send accepted at this place
 abbrev pub count_word : Answer → ℕ
 count_word (Answer.Send (SendAnswer.Accepted place)) = place
 count_word _ = 0

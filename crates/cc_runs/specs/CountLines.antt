@@ -1,4 +1,4 @@
--- The service of a request to the counter: a line for each place at which its combiner can stand. It hands out the number
+-- The service of a request to the counter: a line for each place of its combiner. It hands out the number
 -- that the counter holds, and adds one.
 use Rattle.std.specs.Prelude.{ℕ, ◌+◌, Option}
 use Rattle.cc_runs.specs.Names.{Answer, SendAnswer, Chain, NodeField, Object, Word, Kind, Job, Place, Counting as Service}

@@ -1,4 +1,4 @@
--- A call on its chain: a line for each place at which a pass can stand. Chain x is the pass's, own its node. The order of
+-- A call on its chain: a line for each place of a pass. Chain x is the pass's, own its node. The order of
 -- steps is this project's own, after CC-Synch (Fatourou and Kallimanis, PPoPP 2012), with the two flags of its nodes in one
 -- word of state: 1 waiting, 2 done, 0 serve.
 use Rattle.std.specs.Prelude.{ℕ, zero, suc, ◌+◌, ◌-◌, ◌==◌, if◌then◌else◌, Option, Some, None}
@@ -31,12 +31,12 @@ serves Served.Counter x job = Place.Counting job Counting.ReadTag
 serves Served.List Chain.Send job = Place.Sending job Sending.ReadTag
 serves Served.List (Chain.Take g) job = Place.Taking job Taking.ReadHead
 
--- where no node is linked yet, the combiner stops here
+-- if no node is linked yet, the combiner stops here
 abbrev pub after_next : Served → Chain → Round → ℕ → Place
 after_next served x round zero = Place.HandOver round.at
 after_next served x round (suc next) = serves served x record { round = round; next = next }
 
--- a take that is handed an item is told its tag and its body too
+-- a take that is handed an item gets its tag and its body too
 abbrev pub after_answer : Job → Answer → Place
 after_answer job (Answer.Take (TakeAnswer.Got item)) = Place.WriteAnswerTag job item
 after_answer job _ = Place.MarkDone job

@@ -1,4 +1,4 @@
--- What holds after every run of a machine; but for the last law, of one whose chains serve the list.
+-- The laws of every run of a machine; but for the last law, of one whose chains serve the list.
 use Rattle.std.specs.Prelude.{◌≡◌, ◌⊎◌, ℕ, zero, suc, ◌+◌, ◌<◌, ◌≤◌, ◌==◌, if◌then◌else◌, List, [], ◌∷◌, ◌++◌, length, Some, Ok}
 use Rattle.std.specs.List.{AllByRecursion, slice_get}
 use Rattle.cc_model.specs.Config.{config_fault}
@@ -21,7 +21,7 @@ AfterEveryRun P = (c : Setting) (moves : List Move) → c.served ≡ Served.List
 
 -- ---- the history
 
--- its answers are lawful
+-- its answers are legal
 abbrev pub HistoryIsLegal : Type 0
 HistoryIsLegal = AfterEveryRun (λ c moves. Legal c.config (history_of c moves))
 
@@ -49,7 +49,7 @@ IsPreparing (Sending.ReadLast count at) x = at ≡ x
 IsPreparing (Sending.LinkItem count at last) x = at ≡ x
 IsPreparing _ x = ⊥
 
--- a pass that stands here does
+-- a pass at this place does
 abbrev pub Prepares : Place → ℕ → Type 0
 Prepares (Place.Sending job service) x = IsPreparing service x
 Prepares _ x = ⊥
@@ -73,7 +73,7 @@ abbrev pub links : Sending → List ℕ
 links (Sending.LinkItem count at last) = at ∷ []
 links _ = []
 
--- and a step of a pass that stands here
+-- and a step of a pass at this place
 abbrev pub links_at : Place → List ℕ
 links_at (Place.Sending job service) = links service
 links_at _ = []
@@ -108,7 +108,7 @@ Holds (Taking.WriteHead dummy at parcel) x = (dummy ≡ x) ⊎ (at ≡ x)
 Holds (Taking.WriteTaken dummy parcel) x = dummy ≡ x
 Holds (Taking.AddPassed dummy parcel) x = dummy ≡ x
 
--- a pass that stands here does
+-- a pass at this place does
 abbrev pub HoldsAt : Place → ℕ → Type 0
 HoldsAt (Place.Taking job service) x = Holds service x
 HoldsAt _ x = ⊥
@@ -123,7 +123,7 @@ PreparedAlone = AfterEveryRun (λ c moves. let s : State = reached c moves in (p
 abbrev pub NamesNode : Config → ℕ → Type 0
 NamesNode c link = (1 ≤ link) × (link ≤ c.capacity + 1)
 
--- What a step of a service finds: `last` and `head` name ordinary nodes, and the dummy's next is null or names a node, or the
+-- A step of a service finds: `last` and `head` name ordinary nodes, and the dummy's next is null or names a node, or the
 -- closing mark. The scan starts at an ordinary node, and from there on up to the last word of its send the node that is
 -- looked at, or was found, is an ordinary one.
 abbrev pub FindsNode : Config → State → Chain → Place → Type 0
@@ -147,7 +147,7 @@ FindsNode c s x _ = Unit {0}
 abbrev pub LinksNameNodes : Type 0
 LinksNameNodes = AfterEveryRun (λ c moves. (p : ℕ) → FindsNode c.config (reached c moves) (chain_of c.config p) ((reached c moves).stand p).place)
 
--- a scan that stands here has read so many nodes, the next one counted in
+-- a scan at this place has read this many nodes, with the next one
 abbrev pub scan_reads : Place → ℕ
 scan_reads (Place.Sending job (Sending.ReadPassed parcel at reads)) = reads
 scan_reads _ = 0
@@ -187,8 +187,8 @@ StepsAreReady = AfterEveryRun (λ c moves. (p : ℕ) → p < passes c → IsRead
 abbrev pub AnswersAreTold : Type 0
 AnswersAreTold = AfterEveryRun (λ c moves. (p : ℕ) (told : Answer) → p < passes c → ((reached c moves).stand p).place ≡ Place.Finished told → IsLastAnswer (pass_at c.config p) (history_of c moves) told)
 
--- ---- fronts of runs, whatever is served
+-- ---- prefixes of runs, whatever is served
 
--- a front of a run is a run, and its history begins the later one
+-- a prefix of a run is a run, and its history begins the later one
 abbrev pub FrontsBegin : Type 0
 FrontsBegin = (c : Setting) (later earlier : List Move) → IsRun c (later ++ earlier) → IsRun c earlier × Begins (history_of c earlier) (history_of c (later ++ earlier))

@@ -1,4 +1,4 @@
--- What belongs to a chain: its passes, its calls and their answers.
+-- The passes of a chain, its calls and their answers.
 use Rattle.std.specs.Prelude.{ℕ, ◌<◌, ◌^◌, List}
 use Rattle.cc_model.specs.Body.{IsBody}
 use Rattle.cc_model.specs.Record.{Record}

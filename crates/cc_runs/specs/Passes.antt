@@ -1,4 +1,4 @@
--- What one pass did in a run, what others' moves leave of it, and what it can know of a front.
+-- The part of one pass in a run, what others' moves leave of it, and what it can know of a prefix.
 use Rattle.std.specs.Prelude.{◌≡◌, ℕ, ◌≤◌, ◌==◌, if◌then◌else◌, List, [], ◌∷◌, ◌++◌, Ok}
 use Rattle.cc_model.specs.Config.{config_fault}
 use Rattle.cc_model.specs.Items.{known_at}
@@ -30,12 +30,12 @@ kinds c [] p = []
 kinds c (Move.Step q ∷ earlier) p = if q == p then then_did (event_at ((reached c earlier).stand p).place) (kinds c earlier p) else kinds c earlier p
 kinds c (_ ∷ earlier) p = kinds c earlier p
 
--- moves of others alone leave a pass where it stands, with the calls that it began and the steps that it did
+-- moves of others alone leave a pass in its place, with the calls that it began and the steps that it did
 abbrev pub OthersLeaveAPass : Type 0
 OthersLeaveAPass = (c : Setting) (more seen : List Move) (p : ℕ) → by p more ≡ [] →
     ((reached c (more ++ seen)).stand p ≡ (reached c seen).stand p) × (made c (more ++ seen) p ≡ made c seen p) × (kinds c (more ++ seen) p ≡ kinds c seen p)
 
--- of a front of a run a pass can know no more than of the run
+-- of a prefix of a run a pass can know no more than of the run
 abbrev pub FrontsKnowNoMore : Type 0
 FrontsKnowNoMore = (c : Setting) → config_fault c.config ≡ Ok tt → (more seen : List Move) → IsRun c (more ++ seen) → (p : ℕ) →
     known_at (pass_at c.config p) (history_of c seen) ≤ known_at (pass_at c.config p) (history_of c (more ++ seen))

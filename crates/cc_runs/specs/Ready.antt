@@ -1,4 +1,4 @@
--- What a step needs: its word is there, and no number leaves its range.
+-- A step that is ready finds its word, and no number leaves its range.
 use Rattle.std.specs.Prelude.{ℕ, ◌+◌, ◌<◌, ◌^◌, length, IsTrue}
 use Rattle.cc_model.specs.Record.{Record}
 use Rattle.cc_runs.specs.Names.{Setting, Chain, Place, Counting, Sending, Taking}

@@ -1,4 +1,4 @@
--- A run: begins, steps and answers taken, the newest first; where it leads, and its history.
+-- A run: begins, steps and answers taken, the newest first; its state, and its history.
 use Rattle.std.specs.Prelude.{◌≢◌, ℕ, ◌+◌, ◌*◌, ◌<◌, ◌≤◌, ◌==◌, nat_lt, if◌then◌else◌, List, [], ◌∷◌}
 use Rattle.cc_runs.specs.Names.{Config, Setting, Served, Call, Word, Object, ItemField, Chain, Event, Stand, Place, Move}
 use Rattle.cc_model.specs.Body.{IsBody}
@@ -29,7 +29,7 @@ first_word c (Word.Object (Object.Head g)) = if nat_lt g (groups c) then 1 else 
 first_word c (Word.Item i ItemField.Passed) = if i == 0 then 0 else if nat_lt i (c.capacity + 1) then groups c else 0
 first_word c _ = 0
 
--- no pass stands here: what a list of places shows past its end
+-- no pass has this place: what a list of places shows past its end
 abbrev pub nowhere : Stand
 nowhere = record { begun = 0; node = 0; place = Place.Idle }
 
@@ -69,7 +69,7 @@ moved c s (Move.Begin p call known) = record { mem = s.mem; stand = hold s.stand
 moved c s (Move.Step p) = stepped c s p
 moved c s (Move.Take p) = record { mem = s.mem; stand = hold s.stand p (rests (s.stand p)); history = s.history }
 
--- where a run leads
+-- the state to which a run leads
 abbrev pub reached : Setting → List Move → State
 reached c [] = opening c
 reached c (m ∷ earlier) = moved c (reached c earlier) m
@@ -92,14 +92,14 @@ IsFinished (Place.Finished answer) = Unit {0}
 IsFinished _ = ⊥
 
 -- A move that can be made. A pass begins no call while it has one, at most per_sender sends in all, and knows at most
--- what there is to be known; it steps where it has a step.
+-- what there is to know; it steps if it has a step.
 abbrev pub May : Setting → State → Move → Type 0
 May c s (Move.Begin p call known) =
     (p < passes c) × IsOn c.served (chain_of c.config p) call × IsIdle (s.stand p).place × (begun_after call (s.stand p).begun ≤ c.config.per_sender) × (known ≤ known_at (pass_at c.config p) s.history)
 May c s (Move.Step p) = (p < passes c) × (event_at (s.stand p).place ≢ Event.Idle)
 May c s (Move.Take p) = (p < passes c) × IsFinished (s.stand p).place
 
--- each move could be made where the earlier ones led
+-- each move could be made in the state to which the earlier ones led
 abbrev pub IsRun : Setting → List Move → Type 0
 IsRun c [] = Unit {0}
 IsRun c (m ∷ earlier) = IsRun c earlier × May c (reached c earlier) m

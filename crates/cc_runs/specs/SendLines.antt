@@ -1,4 +1,4 @@
--- The service of a send or a close to the list: a line for each place at which its combiner can stand.
+-- The service of a send or a close to the list: a line for each place of its combiner.
 use Rattle.std.specs.Prelude.{ℕ, zero, suc, ◌+◌, ◌-◌, ◌%◌, ◌==◌, if◌then◌else◌, Option}
 use Rattle.cc_runs.specs.Names.{Config, Answer, SendAnswer, CloseAnswer, Chain, NodeField, ItemField, Object, Word, Kind, Parcel, Request, Job, Place, Sending as Service}
 use Rattle.cc_runs.specs.declared.place.Sending.TheVariants.{ReadTag, ReadBody, ReadShut, ReadTotal, ReadCount, ReadLastToClose, LinkMark, WriteLastMark, WriteShut, ReadCursor, ReadPassed, ResetPassed, ResetItemNext, WriteItemTag, WriteItemBody, ReadLast, LinkItem, WriteLast, WriteCount, WriteCursor}
@@ -15,7 +15,7 @@ mark c = c.capacity + 1
 abbrev pub after : Config → ℕ → ℕ
 after c at = (at + 1) % (c.capacity + 1)
 
--- once it is shut, a send is told so, and a close how many items were accepted
+-- once it is shut, a send returns Closed, and a close how many items were accepted
 abbrev pub by_shut : Request → ℕ → Next Service
 by_shut request zero = On (ReadCount request)
 by_shut request (suc _) = if request.tag == 0 then On ReadTotal else Decides (Answer.Send SendAnswer.Closed)
@@ -49,7 +49,7 @@ line c served (WriteShut total) _ = store Kind.WriteObject (Word.Object Object.S
 -- the scan for a free node
 line c served (ReadCursor parcel) cursor = load Kind.ReadObject (Word.Object Object.Cursor) (On (ReadPassed parcel cursor 1))
 line c served (ReadPassed parcel at reads) passed = load Kind.ReadPassed (Word.Item at ItemField.Passed) (by_passed c parcel at reads passed)
--- the node is prepared, and linked behind the last one
+-- the node is prepared, and linked to the last one
 line c served (ResetPassed parcel at) _ = store Kind.ResetListNode (Word.Item at ItemField.Passed) 0 (On (ResetItemNext parcel at))
 line c served (ResetItemNext parcel at) _ = store Kind.ResetListNode (Word.Item at ItemField.Next) 0 (On (WriteItemTag parcel at))
 line c served (WriteItemTag parcel at) _ = store Kind.WriteItem (Word.Item at ItemField.Tag) parcel.tag (On (WriteItemBody parcel at 0))

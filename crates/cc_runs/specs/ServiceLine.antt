@@ -1,10 +1,10 @@
--- What a service's step leads to, and one line of the table of steps.
+-- The continuations of a service's step, and one line of the table of steps.
 use Rattle.std.specs.Prelude.{ℕ, Option, Some, None}
 use Rattle.cc_runs.specs.Names.{Answer, Kind, Job, Place, Word}
 use Rattle.cc_runs.specs.State.{Operation, Load, Store, Add}
 
--- A step of a service leads on in the service; or it decides the answer, which is told next; or both; or it leads to the
--- telling of an answer that was decided before.
+-- A step of a service continues the service; or it decides the answer, which is written next; or both; or it leads to the
+-- writing of an answer that was decided before.
 pub data Next (S : Type 0) : Type 0 where
   On : S → Next S
   Decides : Answer → Next S

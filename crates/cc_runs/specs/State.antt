@@ -4,13 +4,13 @@ use Rattle.cc_runs.specs.Names.{Config, Entry, Answer, Pass, Chain, Word, Stand}
 use Rattle.cc_model.specs.Record.{Side, Record, of_group, with_sends, with_takes}
 use Rattle.cc_runs.specs.Words.{put}
 
--- what each word holds, where each pass stands, and the calls that have exchanged with the answers decided so far
+-- the value of each word, the place of each pass, and the calls that have exchanged with the answers decided so far
 pub record State : Type 0 where
   pub mem : Word → ℕ
   pub stand : ℕ → Stand
   pub history : Record
 
--- passes stand in one row, the senders first, then the receivers, group by group
+-- passes are in one row, the senders first, then the receivers, group by group
 abbrev pub chain_of : Config → ℕ → Chain
 chain_of c p = if nat_lt p c.senders then Chain.Send else Chain.Take ((p - c.senders) / c.receivers)
 
@@ -22,7 +22,7 @@ pass_at c p = if nat_lt p c.senders then Pass.Sender (p + 1) else Pass.Receiver 
 abbrev pub first_node : Config → ℕ → ℕ
 first_node c p = if nat_lt p c.senders then p + 1 else (p - c.senders) % c.receivers + 1
 
--- pass p stands so, and every other pass as it stood
+-- pass p is at this place, and every other pass at its own
 abbrev pub hold : (ℕ → Stand) → ℕ → Stand → ℕ → Stand
 hold stands p stand q = if p == q then stand else stands q
 

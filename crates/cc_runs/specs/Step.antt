@@ -4,11 +4,11 @@ use Rattle.cc_runs.specs.Names.{Setting, Chain, Stand}
 use Rattle.cc_runs.specs.State.{State, chain_of, hold, noted, word_of, stored}
 use Rattle.cc_runs.specs.Lines.{operation, node_after, goes, enters, decides}
 
--- where a pass of chain x stands after a step that found this
+-- the place of a pass of chain x after a step that found this
 abbrev pub advanced : Setting → Chain → Stand → ℕ → Stand
 advanced c x at found = record { begun = at.begun; node = node_after at.node at.place found; place = goes c x at.node at.place found }
 
--- the state after the step of pass p, of chain x, that stands so
+-- the state after the step of pass p, of chain x, at this place
 abbrev pub stepped_from : Setting → State → Chain → ℕ → Stand → State
 stepped_from c s x p at =
     let does = operation c x at.node at.place in

@@ -1,4 +1,4 @@
--- The service of a take in group g: a line for each place at which its combiner can stand.
+-- The service of a take in group g: a line for each place of its combiner.
 use Rattle.std.specs.Prelude.{ℕ, zero, suc, ◌+◌, ◌-◌, Option}
 use Rattle.cc_runs.specs.Names.{Answer, TakeAnswer, ItemField, Object, Word, Kind, Job, Place, Taking as Service}
 use Rattle.cc_runs.specs.declared.place.Taking.TheVariants.{ReadHead, ReadTaken, ReadDummyNext, ReadItemTag, ReadItemBody, WriteHead, WriteTaken, AddPassed}
@@ -6,7 +6,7 @@ use Rattle.cc_runs.specs.Codes.{item_in, further_words, no_words, parcel, with_r
 use Rattle.cc_runs.specs.State.{Operation}
 use Rattle.cc_runs.specs.ServiceLine.{ServiceLine, Next, On, Decides, load, store, add, place_of, answer_of}
 
--- where no node is after the dummy the list is empty
+-- if no node is after the dummy the list is empty
 abbrev pub by_next : ℕ → ℕ → ℕ → Next Service
 by_next dummy taken zero = Decides (Answer.Take TakeAnswer.Empty)
 by_next dummy taken (suc at) = On (ReadItemTag dummy taken at)

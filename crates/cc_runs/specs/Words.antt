@@ -1,4 +1,4 @@
--- The words of one topic's table: their names, where they lie, and what a store changes.
+-- The words of one topic's table: their names, their places, and what a store changes.
 use Rattle.std.specs.Prelude.{◌≡◌, ℕ, ◌+◌, ◌*◌, ◌<◌, ◌≤◌, Bool, true, false, ◌==◌, ◌&&◌, nat_lt, if◌then◌else◌, List, slice_index_or, IsTrue}
 use Rattle.cc_runs.specs.Names.{Config, Chain, NodeField, ItemField, Object, Word}
 
@@ -52,10 +52,10 @@ abbrev pub is_item_field : ItemField → Bool
 is_item_field (ItemField.Body i) = nat_lt i 4
 is_item_field _ = true
 
--- Where words lie in one row. Words 0 to 7 are kept for the configuration: the machine of one thread leaves them 0, and a
+-- The places of words in one row. Words 0 to 7 are kept for the configuration: the machine of one thread leaves them 0, and a
 -- table that threads share has it there. Then come the senders' tail, the words of the object, the ends of the groups
 -- (each its tail, then its head and its count of items taken), the senders' nodes, the nodes of each group, and the list
--- nodes: where the first of a kind is, and how far from it the next one.
+-- nodes: the place of the first of a kind, and the distance to the next one.
 pub record Spacing : Type 0 where
   pub tail : ℕ
   pub objects : ℕ
@@ -65,7 +65,7 @@ pub record Spacing : Type 0 where
   pub node_step : ℕ
   pub item_step : ℕ
 
--- each word is behind the one before it
+-- each word comes after the one before it
 abbrev pub dense : Spacing
 dense = record { tail = 8; objects = 9; ends = 13; end_step = 3; end_words = 1; node_step = 8; item_step = 7 }
 
@@ -73,15 +73,15 @@ dense = record { tail = 8; objects = 9; ends = 13; end_step = 3; end_words = 1; 
 abbrev pub IsRoomy : Spacing → Type 0
 IsRoomy k = (8 ≤ k.tail) × (k.tail < k.objects) × (k.objects + 4 ≤ k.ends) × (0 < k.end_words) × (k.end_words + 2 ≤ k.end_step) × (8 ≤ k.node_step) × (7 ≤ k.item_step)
 
--- where the senders' nodes begin
+-- the place of the first of the senders' nodes
 abbrev pub send_nodes : Spacing → Layout → ℕ
 send_nodes k l = k.ends + k.end_step * l.groups
 
--- where the nodes of a group begin
+-- the place of the first node of a group
 abbrev pub take_nodes : Spacing → Layout → ℕ → ℕ
 take_nodes k l g = send_nodes k l + k.node_step * (l.senders + 1) + k.node_step * (g * (l.receivers + 1))
 
--- where the list nodes begin
+-- the place of the first list node
 abbrev pub items : Spacing → Layout → ℕ
 items k l = take_nodes k l l.groups
 
@@ -89,7 +89,7 @@ items k l = take_nodes k l l.groups
 abbrev pub row_size : Spacing → Layout → ℕ
 row_size k l = items k l + k.item_step * (l.capacity + 2)
 
--- where a word lies in it
+-- the place of a word in it
 abbrev pub lies : Spacing → Layout → Word → ℕ
 lies k l (Word.Tail Chain.Send) = k.tail
 lies k l (Word.Tail (Chain.Take g)) = k.ends + k.end_step * g
@@ -128,7 +128,7 @@ same_chain Chain.Send Chain.Send = true
 same_chain (Chain.Take g) (Chain.Take h) = g == h
 same_chain _ _ = false
 
--- object words are told apart by a number
+-- object words differ by a number
 abbrev pub object_number : Object → ℕ
 object_number Object.Last = 0
 object_number Object.Shut = 1
@@ -164,7 +164,7 @@ same _ _ = false
 abbrev pub word_in_row : Spacing → Layout → List ℕ → Word → ℕ
 word_in_row k l words w = if exists l w then slice_index_or words (lies k l w) 0 else 0
 
--- the word of this name, each word behind the one before it
+-- the word of this name, each word after the one before it
 abbrev pub word_at : Layout → List ℕ → Word → ℕ
 word_at l words w = word_in_row dense l words w
 

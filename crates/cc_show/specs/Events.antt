@@ -10,7 +10,7 @@ use Rattle.cc_play.specs.Schedule.{place_in, IsAt}
 abbrev pub event_limit : ℕ
 event_limit = 20000
 
--- an event of the pass in this row goes behind the earlier ones, if it was one
+-- an event of the pass in this row comes after the earlier ones, if it was one
 abbrev pub noted : ℕ → Event → List Done → List Done
 noted row (Event.Did kind) events = events ++ record { row = row; kind = kind } ∷ []
 noted row Event.Idle events = events
@@ -22,7 +22,7 @@ happened plan (Move.Step row ∷ earlier) = noted row (event_at (place_in plan e
 happened plan (Move.Begin row call known ∷ earlier) = happened plan earlier
 happened plan (Move.Take row ∷ earlier) = happened plan earlier
 
--- the machine stands where the run leads, and these are its events
+-- the machine is at the end of the run, and these are its events
 pub record Stands (plan : PlanValue) (m : View) (begun : List ℕ) (events : List Done) (run : List Move) : Type 0 where
   pub at : IsAt plan m begun run
   pub told : events ≡ happened plan run

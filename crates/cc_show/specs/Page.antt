@@ -63,7 +63,7 @@ config_text p = word_text (codes " ") p.version ++ word_text (codes " ") p.confi
 unfoldable pub run_text : PlanValue → List Done → List ℕ
 run_text p events = config_text p ++ senders_text p.senders ++ words_text p.receivers ++ codes "\n" ++ events_text events ++ codes "\n"
 
--- what stands before the report
+-- the text before the report
 unfoldable pub front_text : PlanValue → List Done → List ℕ
 front_text p events = FRONT.now ++ run_text p events ++ MIDDLE.now
 

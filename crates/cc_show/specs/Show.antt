@@ -1,4 +1,4 @@
--- What showing an input answers, and what it leaves on the two devices.
+-- The result of showing an input, and what it leaves on the two devices.
 use Rattle.std.specs.Prelude.{ℕ, ◌≡◌, ◌<◌, List, codes, length, Option, Result, Ok, Err}
 use Rattle.std.specs.Io.KnownBytes.{Keeps}
 use Rattle.cc_plan.specs.Plan.{PlanValue}
@@ -10,7 +10,7 @@ use Rattle.cc_show.specs.Names.{ShowFault, Verdict}
 use Rattle.cc_show.specs.Events.{event_limit, happened}
 use Rattle.cc_show.specs.Page.{IsPage}
 
--- Showing a plan: its page is written where a play writes the report. Where the run has more events than a page shows, nothing is.
+-- Showing a plan: its page is written as a play writes the report. If the run has more events than a page shows, nothing is.
 abbrev pub Shows : Option (List ℕ) → Option (List ℕ) → Result Verdict ShowFault → Option (List ℕ) → Option (List ℕ) → Type 0
 Shows left_old left_new (Ok verdict) old new = WorksOn plan_of IsPage left_old left_new (Ok verdict) old new
 Shows left_old left_new (Err (ShowFault.Play f)) old new = WorksOn plan_of IsPage left_old left_new (Err f) old new
@@ -31,7 +31,7 @@ shown_status (Ok verdict) = status_of (Ok verdict)
 shown_status (Err (ShowFault.Play f)) = status_of (Err f)
 shown_status (Err ShowFault.Long) = 5
 
--- the line on standard error: none where all went well
+-- the line on standard error: none if all went well
 unfoldable pub shown_line : Result Verdict ShowFault → List ℕ
 shown_line (Ok verdict) = line_of (Ok verdict)
 shown_line (Err (ShowFault.Play f)) = line_of (Err f)

@@ -1,4 +1,4 @@
--- Who has seen the longest run: the pass that has just stepped.
+-- The pass that has just stepped has seen the longest run.
 use Rattle.std.specs.Prelude.{◌≡◌, ℕ, List, [], ◌∷◌, slice_index_or, slice_set, Option}
 use mathlib.Core.Option.{some}
 use lib.ListN.{get_elem?}
@@ -28,7 +28,7 @@ slot_of v call = slot (layout_of v.setting.config) (word_of (does v call))
 abbrev pub found_in : State (Unit {0}) View → View → Option Call → ℕ
 found_in s v call = slice_index_or s.words (slot_of v call) 0
 
--- the table after that step, where the pass at seat j has view w
+-- the table after that step, in which the pass at seat j has view w
 abbrev pub after : State (Unit {0}) View → ℕ → View → Option Call → View → State (Unit {0}) View
 after s j v call w = record { words = slice_set s.words (slot_of v call) (left (does v call) (found_in s v call)); homes = s.homes; views = slice_set s.views j w }
 

@@ -1,4 +1,4 @@
--- What a contract sees of a note: of which table it is, and the run that its pass had seen.
+-- A contract sees of a note its table, and the run that its pass had seen.
 use Rattle.std.specs.Prelude.{◌≡◌, List, []}
 use Rattle.atomic_table.specs.Seated.{TableId}
 use Rattle.atomic_table.specs.declared.shared.Seat.{Seat}
@@ -12,11 +12,11 @@ pub record Noted : Type 0 where
   pub setting : Setting
   pub seen : List Move
 
--- what the seat of a note tells
+-- the data of a note's seat
 abbrev pub noted : Seat (Unit {0}) View → Noted
 noted s = record { table_id = s.table_id; setting = s.me.0.setting; seen = s.me.0.seen }
 
--- what a pass has seen, as its note tells it
+-- what a pass has seen, as a note
 abbrev pub noted_by : Walk → Noted
 noted_by w = record { table_id = w.table_id; setting = w.setting; seen = w.seen }
 

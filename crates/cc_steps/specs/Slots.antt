@@ -1,11 +1,11 @@
--- Where the words of a topic lie in its table: those that different threads write stand on different lines.
+-- The places of a topic's words in its table: those that different threads write are on different lines.
 use Rattle.std.specs.Prelude.{◌≡◌, ℕ, ◌/◌, ◌<◌, List, length, slice_index_or, IsTrue}
 use Rattle.cc_steps.specs.Names.{NodeField, ItemField, Object, Word, Starts}
 use Rattle.cc_runs.specs.Words as laid
 use Rattle.cc_runs.specs.Words.{Layout, Spacing, exists, lies, row_size, word_in_row}
 
--- A slot holds one word of 64 bits, a line 8 slots. Processors fetch lines in pairs, so what many threads wait for stands 16
--- slots apart: each tail, the words of each side, each node of a chain. List nodes stand 8 apart.
+-- A slot holds one word of 64 bits, a line 8 slots. Processors fetch lines in pairs, so words that many threads wait for are
+-- 16 slots apart: each tail, the words of each side, each node of a chain. List nodes are 8 apart.
 abbrev pub spread : Spacing
 spread = record { tail = 16; objects = 32; ends = 48; end_step = 32; end_words = 16; node_step = 16; item_step = 8 }
 
@@ -13,7 +13,7 @@ spread = record { tail = 16; objects = 32; ends = 48; end_step = 32; end_words =
 abbrev pub slot : Layout → Word → ℕ
 slot l w = lies spread l w
 
--- these are the slots where words of each kind begin
+-- these are the slots at which words of each kind begin
 pub record HasStarts (l : Layout) (s : Starts) : Type 0 where
   pub send_nodes : s.send_nodes ≡ laid.send_nodes spread l
   pub eight : length s.take_nodes ≡ 8
@@ -28,7 +28,7 @@ slot_count l = row_size spread l
 abbrev pub held : Layout → List ℕ → Word → ℕ
 held l slots w = word_in_row spread l slots w
 
--- the first of the words that lie beside this one, which the same threads write
+-- the first of the words next to this one, which the same threads write
 abbrev pub first_beside : Word → Word
 first_beside (Word.Tail x) = Word.Tail x
 first_beside (Word.Object (Object.Head g)) = Word.Object (Object.Head g)
@@ -37,6 +37,6 @@ first_beside (Word.Object _) = Word.Object Object.Last
 first_beside (Word.Node x i f) = Word.Node x i NodeField.Next
 first_beside (Word.Item i f) = Word.Item i ItemField.Tag
 
--- two words on one line lie beside one another
+-- two words on one line are neighbours
 abbrev pub LinesApart : Type 0
 LinesApart = (l : Layout) (v w : Word) → IsTrue (exists l v) → IsTrue (exists l w) → slot l v / 8 ≡ slot l w / 8 → first_beside v ≡ first_beside w

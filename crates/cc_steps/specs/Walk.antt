@@ -1,4 +1,4 @@
--- What a contract sees of a seat: whose it is, the run that it has seen, and where its pass stands.
+-- A contract sees of a seat its pass, the run that it has seen, and the place of its pass.
 use Rattle.std.specs.Prelude.{◌≡◌, ◌≢◌, ℕ, ◌+◌, ◌<◌, List, [], ◌∷◌, ◌++◌, IsTrue, Option, Some, Ok}
 use Rattle.atomic_table.specs.Seated.{TableId}
 use Rattle.atomic_table.specs.declared.shared.Seat.{Seat}
@@ -17,7 +17,7 @@ use Rattle.cc_steps.specs.Seen.{Onward, Later, Covers, stand_in, word_in, entere
 use Rattle.cc_steps.specs.Shown.{CanStart, stand_of, longer}
 
 -- A pass as plain data: its table and setting, its number in the row of all passes (senders first, from 0), the run that it
--- has seen, where it stands with its registers, the calls that it began, and the kinds of its steps, the newest first.
+-- has seen, its place with its registers, the calls that it began, and the kinds of its steps, the newest first.
 pub record Walk : Type 0 where
   pub table_id : TableId
   pub setting : Setting
@@ -27,7 +27,7 @@ pub record Walk : Type 0 where
   pub made : List Entry
   pub did : List Kind
 
--- what a view tells of its pass: stand, calls and kinds are those of the run that it has seen
+-- the data of a view: place, calls and kinds are those of the run that it has seen
 abbrev pub walk_of : TableId → View → Walk
 walk_of z v = record {
   table_id = z;
@@ -39,7 +39,7 @@ walk_of z v = record {
   did = did_in v.setting v.seen v.number;
 }
 
--- and what a seat tells
+-- the data of a seat
 abbrev pub walk : Seat (Unit {0}) View → Walk
 walk s = walk_of s.table_id s.me.0
 
@@ -71,7 +71,7 @@ fresh z p = record {
   did = [];
 }
 
--- the seats of so many passes, from p on
+-- the seats of this number of passes, from p on
 abbrev pub fresh_from : Topic → ℕ → List Walk → Type 0
 fresh_from z p [] = Unit {0}
 fresh_from z p (w ∷ ws) = (w ≡ fresh z p) × fresh_from z (p + 1) ws
@@ -84,7 +84,7 @@ CanDo v op = (event_at v.stand.place ≢ Event.Idle) × (does_at v.setting v.num
 abbrev pub Steps : Walk → Kind → Operation → Type 0
 Steps v kind op = (event_at v.stand.place ≡ Event.Did kind) × (does_at v.setting v.number v.stand ≡ op)
 
--- where the pass stands in its step
+-- the place of the pass in its step
 abbrev pub stepping : Walk → Option Call → Stand
 stepping v call = entered v.setting v.number v.seen call v.stand
 
@@ -92,7 +92,7 @@ stepping v call = entered v.setting v.number v.seen call v.stand
 abbrev pub CanBegin : Walk → Call → Operation → Type 0
 CanBegin v call op = CanStart v.setting v.number (Some call) v.stand × (does_at v.setting v.number (stepping v (Some call)) ≡ op)
 
--- where the pass stands after its step, of what that found
+-- the place of the pass after its step, of what that found
 abbrev pub next_stand : Walk → Option Call → ℕ → Stand
 next_stand v call found = after_step v.setting v.number (stepping v call) found
 
@@ -112,7 +112,7 @@ walked_to v call found seen = record {
 abbrev pub IsReadyToStep : Walk → Type 0
 IsReadyToStep w = IsTrue (exists (layout_of w.setting.config) (word_of (does_at w.setting w.number w.stand))) × IsPlaceSafe w.setting w.stand.node (word_in w.setting w.seen (word_of (does_at w.setting w.number w.stand))) w.stand.place
 
--- what is told of the pass is so in the run that it has seen
+-- the data of the pass are those in the run that it has seen
 abbrev pub IsTrueTo : Walk → Type 0
 IsTrueTo w = (w.stand ≡ stand_in w.setting w.seen w.number) × (w.made ≡ made_in w.setting w.seen w.number) × (w.did ≡ did_in w.setting w.seen w.number)
 
@@ -153,7 +153,7 @@ abbrev pub IsToldAt : Walk → Place → Type 0
 IsToldAt w (Place.Finished told) = IsLastAnswer (pass_at w.setting.config w.number) (history_of w.setting w.seen) told
 IsToldAt w _ = Unit {0}
 
--- where the step leads, before an answer is taken
+-- the next place of the step, before an answer is taken
 abbrev pub leads_to : Walk → ℕ → Place
 leads_to v found = goes v.setting (chain_of v.setting.config v.number) v.stand.node v.stand.place found
 
@@ -162,8 +162,8 @@ abbrev pub LinksOwn : Place → ℕ → Type 0
 LinksOwn (Place.ReadNext round) found = round.served ≡ 0 → 0 < found
 LinksOwn _ found = Unit {0}
 
--- What holds of every seat of a pass: its topic's configuration was checked, it is one of the topic's passes, what it has
--- seen is a run, and what is told of it is so in that run.
+-- Of every seat of a pass holds: its topic's configuration was checked, it is one of the topic's passes, it has seen a run,
+-- and its data are those in that run.
 pub record IsSound (w : Walk) : Type 0 where
   pub checked : config_fault w.setting.config ≡ Ok tt
   pub below : w.number < passes w.setting
