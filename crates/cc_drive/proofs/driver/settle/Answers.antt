@@ -23,8 +23,7 @@ audit_all-requires c =
     let k : Config = z.setting.config in
     let ours : List Walk = c.deref.result.now in
     let theirs : List Walk = c.deref-2.result.now in
-    let groups_is = ap (λ (x : Setting). x.config.groups) c.requires.queue.setting in
-    (
+    let groups_is = ap (λ (x : Setting). x.config.groups) c.requires.queue.setting in (
       all_live z ours theirs [] (subst (AreInRow z 0 k.senders) (sym c.deref.ensures.value) s.senders_are) (subst (AreInRow z k.senders (groups k * k.receivers)) (sym c.deref-2.ensures.value) s.receivers_are),
       (
         subst (λ (y : List Walk × List Walk). HaveSeenOne y.0 y.1 []) (λ i. (sym c.deref.ensures.value i, sym c.deref-2.ensures.value i)) c.meet_everyone.ensures.one,
@@ -36,14 +35,14 @@ audit_all-requires c =
               subst (λ l. IsPermutation (receipts_told sent (map Live ours)) l) (live_told sent ours ∙ ap (receipts_by sent) c.deref.ensures.value ∙ s.sends ∙ sym c.deref-3.ensures.value) (IsPermutation-refl (receipts_told sent (map Live ours))),
               (
                 subst (λ l. IsPermutation (receipts_told got (in_group k 1 (map Live theirs))) l)
-                (ap (receipts_told got) (group_of_map Live k 1 theirs) ∙ live_told got (in_group k 1 theirs) ∙ ap (λ (l : List Walk). receipts_by got (in_group k 1 l)) c.deref-2.ensures.value ∙ s.takes ∙ sym c.deref-4.ensures.value)
-                (IsPermutation-refl (receipts_told got (in_group k 1 (map Live theirs)))),
-                ap (λ l. total_of (seen_by l)) (live_walks ours ∙ c.deref.ensures.value) ∙ sym s.total ∙ ap Some (sym c.total_of-total.ensures)
-              )
-            )
-          )
-        )
-      )
+                    (ap (receipts_told got) (group_of_map Live k 1 theirs) ∙ live_told got (in_group k 1 theirs) ∙ ap (λ (l : List Walk). receipts_by got (in_group k 1 l)) c.deref-2.ensures.value ∙ s.takes ∙ sym c.deref-4.ensures.value)
+                    (IsPermutation-refl (receipts_told got (in_group k 1 (map Live theirs)))),
+                ap (λ l. total_of (seen_by l)) (live_walks ours ∙ c.deref.ensures.value) ∙ sym s.total ∙ ap Some (sym c.total_of-total.ensures),
+              ),
+            ),
+          ),
+        ),
+      ),
     )
 
 pub returns-clause-end : goal.returns-clause-end
