@@ -60,8 +60,8 @@ def changes_of_definitions(files):
     far = first("cc_runs", lambda it: it.name not in named and it.lines[1:] and it.lines[1].startswith(it.name + " "))
     start = re.escape(far.lines[1].split(" = ")[0])
     yield "a definition two steps away", "cc_runs", "specs", rf"(\n{start} =)", r"\1 changed"
-    record = first("cc_workers", lambda it: it.lines[0].startswith("pub record ") and it.lines[1:])
-    yield "a field goes", "cc_workers", "specs", rf"(\n(?:pub )?record {re.escape(record.name)}\b[^\n]*)\n[^\n]*", r"\1"
+    record = first("cc_drive", lambda it: it.lines[0].startswith("pub record ") and it.lines[1:])
+    yield "a field goes", "cc_drive", "specs", rf"(\n(?:pub )?record {re.escape(record.name)}\b[^\n]*)\n[^\n]*", r"\1"
     cases = first("cc_plan", lambda it: len(it.lines) > 2 and all(line.startswith(it.name) for line in it.lines[1:]))
     one, other = (re.escape(line) for line in cases.lines[1:3])
     yield "two lines change places", "cc_plan", "specs", rf"\n({one})\n({other})", r"\n\2\n\1"

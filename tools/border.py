@@ -18,6 +18,7 @@ OF_THE_HEADER = {"BAD_VERSION"}
 STRUCTS = [
     ("vahepito_config", "Settings", "Config"),
     ("vahepito_item", "TakenItem", "Item"),
+    # The crate has it as an array of words, and compares its size with the library's when it opens a queue.
     ("vahepito_words_item", "TakenWords", "WordsItem"),
 ]
 # Types as C has them. The crate lends a pass as a Pass or as a Handle, which has nothing beside it.
@@ -103,7 +104,7 @@ def of_the_crate():
         for name, parameters, result in re.findall(r"fn (vahepito_\w+)\(([^)]*)\)(?: -> (\w+))?;", text)
     }
     fields = dict(re.findall(r"#\[repr\(C\)\]\n(?:pub )?struct (\w+) {(.*?)\n}", text, re.S))
-    structs = {name: from_rust(listed(" ".join(fields[crate].split()))) for name, _, crate in STRUCTS}
+    structs = {name: from_rust(listed(" ".join(fields[crate].split()))) for name, _, crate in STRUCTS if crate in fields}
     version = int(digits[1]) * 1_000_000 + int(digits[2]) * 1_000 + int(digits[3])
     return codes, version, exports, structs
 

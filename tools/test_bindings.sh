@@ -88,8 +88,8 @@ fi
 
 # The package as a stranger uses it, also within a workspace, and the repository as a dependency by git: the mains of both
 # READMEs run.
-step 'Rust: the package is made, and compiles' cargo package --quiet --offline --allow-dirty
-package=$(echo "$room"/target/package/vahepito-*.crate)
+step 'Rust: the package is made, and compiles' "$top/tools/package_crate.sh" "$room"
+package=$(echo "$room"/vahepito-*.crate)
 tar xzf "$package" -C "$room"
 package=$room/$(basename "$package" .crate)
 export CARGO_TARGET_DIR=$room/of_package

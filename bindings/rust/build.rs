@@ -1,8 +1,8 @@
 //! Links the proved library, and behind it the functions by which it takes memory (they call `malloc`,
 //! `realloc` and `free`).
 //!
-//! Both archives lie in `lib/TARGET/`, beside `PROOF`, which has their sums and the line by which they were
-//! proved. `VAHEPITO_LIB` names another library, and `VAHEPITO_HEAP` other functions for memory. A line of
+//! Both archives lie in `lib/TARGET/` beside the crate's folder, and in the package in it, with `PROOF`, which has
+//! their sums and the line by which they were proved. `VAHEPITO_LIB` names another library, and `VAHEPITO_HEAP` other functions for memory. A line of
 //! `cargo build -vv` says which archives are linked.
 use std::env;
 use std::path::{Path, PathBuf};
@@ -31,17 +31,27 @@ fn named(variable: &str) -> Option<PathBuf> {
     }
 }
 
-/// The archive of this name beside the crate.
-fn packed(name: &str) -> PathBuf {
+/// What lies in the package, or else at another path in the repository.
+fn packed(in_package: &Path, in_repository: &Path) -> PathBuf {
     let root = PathBuf::from(env::var_os("CARGO_MANIFEST_DIR").expect("cargo sets it"));
+    let path = root.join(in_package);
+    path.canonicalize()
+        .or_else(|_| root.join(in_repository).canonicalize())
+        .unwrap_or(path)
+}
+
+/// The archive of this name.
+fn archive(name: &str) -> PathBuf {
     let target = env::var("TARGET").expect("cargo sets it");
-    let path = root.join("lib").join(&target).join(name);
-    path.canonicalize().unwrap_or_else(|_| {
+    let place = Path::new("lib").join(&target).join(name);
+    let path = packed(&place, &Path::new("..").join(&place));
+    if !path.is_file() {
         stop(&[
             &format!("vahepito is built for x86_64-unknown-linux-gnu, and the target is {target}: there is no {}", path.display()),
             "VAHEPITO_LIB and VAHEPITO_HEAP name archives that were built for it",
-        ])
-    })
+        ]);
+    }
+    path
 }
 
 /// Warns if what is built runs here, and this processor lacks instructions of the archives.
@@ -81,8 +91,11 @@ fn main() {
     println!("cargo::rerun-if-changed=build.rs");
     let library = named("VAHEPITO_LIB").unwrap_or_else(|| {
         check_processor();
-        packed("libvahepito.a")
+        archive("libvahepito.a")
     });
     link(&library);
-    link(&named("VAHEPITO_HEAP").unwrap_or_else(|| packed("libvahepito_heap.a")));
+    link(&named("VAHEPITO_HEAP").unwrap_or_else(|| archive("libvahepito_heap.a")));
+    // A test compares the crate's codes with those of the header.
+    let header = packed(Path::new("vahepito.h"), Path::new("../c/vahepito.h"));
+    println!("cargo::rustc-env=VAHEPITO_HEADER={}", header.display());
 }

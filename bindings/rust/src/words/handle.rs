@@ -466,7 +466,7 @@ mod tests {
     use super::{VERSION, check_library};
     use std::collections::BTreeMap;
 
-    const HEADER: &str = include_str!("../../vahepito.h");
+    const HEADER: &str = include_str!(env!("VAHEPITO_HEADER"));
 
     /// The header's codes by their names.
     fn codes() -> BTreeMap<&'static str, u32> {

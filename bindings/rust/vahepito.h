@@ -1,1 +1,0 @@
-../c/vahepito.h
