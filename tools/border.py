@@ -109,6 +109,15 @@ def of_the_crate():
     return codes, version, exports, structs
 
 
+def kinds(parameters):
+    """The types of parameters or fields, whatever their names. The crate gives room for an item of words for each item."""
+    return [re.sub(r"\w+(?=\[|$)", "", part).replace("words_item", "item") for part in parameters[1:]]
+
+
+def is_same(kind, ours, theirs):
+    return kinds(ours) == kinds(theirs) and ours[0] == theirs[0] if kind == "export" else ours == theirs
+
+
 def differences():
     library, header, crate = of_the_library(), of_the_header(), of_the_crate()
     for name in OF_THE_HEADER:
@@ -123,7 +132,7 @@ def differences():
             in_library, in_header = library[at].get(name), header[at].get(name)
             if in_header != in_library:
                 yield f"{kind} {name}: the library has {in_library}, the header {in_header}"
-            if crate[at].get(name, in_library) != in_library:
+            if name in crate[at] and not is_same(kind, crate[at][name], in_library):
                 yield f"{kind} {name}: the library has {in_library}, the crate {crate[at][name]}"
     if not library[1] == header[1] == crate[1]:
         yield f"the version is {library[1]} of the library, {header[1]} of the header, {crate[1]} of the crate"

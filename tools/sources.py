@@ -382,7 +382,7 @@ def read_chunks(module, chunks, given):
             read_chunks(module, chunks_of(chunk[inside:]), one_line(given + " " + "\n".join(chunk[:inside])))
             current = None
         elif rest[0] in ("infixl", "infixr", "infix"):
-            fixities = [one_line(chunk[0])]
+            fixities = [one_line(" ".join(chunk))]
             current = None
         elif rest[0] in ("record", "data") or rest[1:2] == [":"] or words[0] in MODIFIERS:
             name = rest[1] if rest[0] in ("record", "data") else rest[0]
