@@ -15,6 +15,13 @@ const SMALL: Config = Config {
     groups: 1,
 };
 
+/// Lawful too, with other numbers of passes.
+const OTHER: Config = Config {
+    senders: 1,
+    receivers: 3,
+    ..SMALL
+};
+
 const NO_BOUND: Config = Config { bound: 0, ..SMALL };
 
 const NO_LIFE: Config = Config { life: 0, ..SMALL };
@@ -66,6 +73,28 @@ fn finds_each<R: Abort>(rt: &R, alloc: Global, topics: &[(&str, Config)], strang
         finds(rt, &broker, name, None);
     }
     has_queue(rt, &broker, topics.len(), false);
+}
+
+/// A topic has this number of senders and of receivers.
+fn has_passes<R: Abort>(
+    rt: &R,
+    broker: &OpenedBroker,
+    number: usize,
+    senders: usize,
+    receivers: usize,
+) {
+    match broker.passes.get(number) {
+        Some(passes) => assert_eq!(rt; (passes.0.len(), passes.1.len()), (senders, receivers)),
+        None => panic!(rt; "a topic is missing"),
+    }
+}
+
+/// Each topic has its own configuration.
+#[test]
+fn two_configurations(rt: HostRuntime) {
+    let broker = opened(&rt, rt.alloc(), &[("a", SMALL), ("b", OTHER)]);
+    has_passes(&rt, &broker, 0, 2, 1);
+    has_passes(&rt, &broker, 1, 1, 3);
 }
 
 #[test]
