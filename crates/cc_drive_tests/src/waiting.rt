@@ -25,7 +25,7 @@ const NARROW: Config = Config {
 };
 
 /// Takes the first sender out of the list, the one at this place among all passes.
-fn next_sender<R: Abort>(rt: &R, queue: &Queue, place: u64, senders: &mut Vec<Sender>) -> Sender
+pub fn next_sender<R: Abort>(rt: &R, queue: &Queue, place: u64, senders: &mut Vec<Sender>) -> Sender
     requires { fresh_from queue.now place senders.old.items }
     ensures first { IsOf queue.now result }
     ensures rest { fresh_from queue.now (place + 1) senders.new.items }
@@ -35,7 +35,7 @@ fn next_sender<R: Abort>(rt: &R, queue: &Queue, place: u64, senders: &mut Vec<Se
 }
 
 /// Takes the first receiver out of the list.
-fn next_receiver<R: Abort>(
+pub fn next_receiver<R: Abort>(
     rt: &R,
     queue: &Queue,
     place: u64,

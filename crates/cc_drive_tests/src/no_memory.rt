@@ -1,0 +1,168 @@
+//! Begins and turns after an opening, which take no memory.
+ghost use Rattle.std.specs.Prelude.{◌≡◌, ◌+◌};
+ghost use Rattle.cc_steps.specs.Walk.{IsOf, fresh_from};
+
+use crate::waiting::{next_receiver, next_sender};
+use cc_model::{Body, CloseAnswer, Config, Item, SendAnswer, TakeAnswer};
+use cc_queue::{
+    CloseTurn, OpenFault, Opened, PendingSend, Queue, Receiver, SendTurn, Sender, TakeTurn,
+    begin_close, begin_send, begin_take, meet, turn_close, turn_send, turn_take,
+};
+use std::process::Abort;
+
+/// One send of each sender.
+const ONCE: Config = Config {
+    senders: 2,
+    receivers: 1,
+    capacity: 2,
+    bound: 2,
+    life: 10,
+    per_sender: 1,
+    groups: 1,
+};
+
+/// Begins a send that the sender may begin.
+fn begins<R: Abort>(rt: &R, queue: &Queue, sender: Sender, body: u64) -> PendingSend
+    requires { IsOf queue.now sender }
+    ensures { IsOf queue.now result }
+{
+    match begin_send(queue, sender, Body::one(body)) {
+        Ok(pending) => pending,
+        Err(_) => panic!(rt; "the sender is worn"),
+    }
+}
+
+/// A turn of a send that waits.
+fn waits<R: Abort>(rt: &R, queue: &Queue, pending: PendingSend) -> PendingSend
+    requires { IsOf queue.now pending }
+    ensures { IsOf queue.now result }
+{
+    match turn_send(queue, pending) {
+        SendTurn::Waiting(pending) => pending,
+        SendTurn::Done { answer, .. } => panic!(rt; "the send is answered {answer:?}"),
+    }
+}
+
+/// A turn of a send that is accepted at this place, and serves this number of calls.
+fn is_sent<R: Abort>(rt: &R, queue: &Queue, pending: PendingSend, place: u64, serves: u32) -> Sender
+    requires { IsOf queue.now pending }
+    ensures { IsOf queue.now result }
+{
+    match turn_send(queue, pending) {
+        SendTurn::Waiting(pending) => {
+            pending.abandon();
+            panic!(rt; "the send waits")
+        }
+        SendTurn::Done {
+            sender,
+            answer,
+            served,
+        } => {
+            assert_eq!(rt; (answer, served), (SendAnswer::Accepted { place }, serves));
+            sender
+        }
+    }
+}
+
+/// A take that gets the first sender's item at its first turn.
+fn gets_the_first<R: Abort>(rt: &R, queue: &Queue, receiver: Receiver) -> Receiver
+    requires { IsOf queue.now receiver }
+{
+    let first = Item {
+        place: 0,
+        sender: 1,
+        number: 1,
+        body: Body::one(7),
+    };
+    let pending = begin_take(queue, receiver);
+    match turn_take(queue, pending) {
+        TakeTurn::Waiting(pending) => {
+            pending.abandon();
+            panic!(rt; "the take waits")
+        }
+        TakeTurn::Done {
+            receiver,
+            answer,
+            served,
+        } => {
+            assert_eq!(rt; (answer, served), (TakeAnswer::Got(first), 1));
+            receiver
+        }
+    }
+}
+
+/// The sender has begun as many sends as it may.
+fn is_worn_out<R: Abort>(rt: &R, queue: &Queue, sender: Sender) -> Sender
+    requires { IsOf queue.now sender }
+    ensures { IsOf queue.now result }
+{
+    assert!(rt; sender.is_worn());
+    match begin_send(queue, sender, Body::one(8)) {
+        Ok(pending) => {
+            pending.abandon();
+            panic!(rt; "a worn sender began")
+        }
+        Err(sender) => sender,
+    }
+}
+
+/// A close that is the first, behind two items.
+fn shuts<R: Abort>(rt: &R, queue: &Queue, sender: Sender) -> Sender
+    requires { IsOf queue.now sender }
+{
+    let pending = begin_close(queue, sender);
+    match turn_close(queue, pending) {
+        CloseTurn::Waiting(pending) => {
+            pending.abandon();
+            panic!(rt; "the close waits")
+        }
+        CloseTurn::Done {
+            sender,
+            answer,
+            served,
+        } => {
+            assert_eq!(rt; (answer, served), (CloseAnswer::Shut { total: 2 }, 1));
+            sender
+        }
+    }
+}
+
+/// One turn serves the sends of both senders; the first item is taken; and a sender that is worn out closes.
+fn rows<R: Abort>(rt: &R, queue: &Queue, one: Sender, two: Sender, receiver: Receiver)
+    requires one { IsOf queue.now one }
+    requires two { IsOf queue.now two }
+    requires receiver { IsOf queue.now receiver }
+{
+    let one = begins(rt, queue, one, 7);
+    let two = begins(rt, queue, two, 9);
+    let two = waits(rt, queue, two);
+    let mut one = is_sent(rt, queue, one, 0, 2);
+    is_sent(rt, queue, two, 1, 0);
+    let mut receiver = receiver;
+    meet(&mut one, &mut receiver);
+    gets_the_first(rt, queue, receiver);
+    let one = is_worn_out(rt, queue, one);
+    shuts(rt, queue, one);
+}
+
+/// The queue isn't opened for want of memory, or each call has its answer. No call but the opening has an allocator or says
+/// that memory was refused; `rt try --test --fail-alloc N` refuses the allocation of this number.
+#[test]
+fn no_memory(rt: HostRuntime) {
+    match Queue::open(rt.alloc(), &ONCE) {
+        Ok(
+            Opened {
+                queue,
+                mut senders,
+                mut receivers,
+            },
+        ) => {
+            let place = senders.len() as u64;
+            let one = next_sender(&rt, &queue, 0, &mut senders);
+            let two = next_sender(&rt, &queue, 1, &mut senders);
+            let receiver = next_receiver(&rt, &queue, place, &mut receivers);
+            rows(&rt, &queue, one, two, receiver);
+        }
+        Err(fault) => assert_eq!(rt; fault, OpenFault::NoMemory),
+    }
+}
