@@ -11,7 +11,8 @@ use Rattle.cc_runs.specs.State.{pass_at}
 use Rattle.cc_steps.specs.Walk.{Walk}
 use Rattle.cc_queue.specs.Headline.{StandsInOne, name, history}
 use Rattle.cc_queue.proofs.AnswerKinds.{all_last, last_is}
-use Rattle.cc_queue.proofs.OnItsSide.{its, kept, its_side, on_its_side}
+use Rattle.cc_model.specs.After.{side_of}
+use Rattle.cc_queue.proofs.OnItsSide.{its, kept, on_its_side, side_begins}
 use Rattle.cc_drive.specs.Back.{calls}
 pub use Rattle.cc_queue.proofs.OnItsSide.{Told}
 
