@@ -32,6 +32,8 @@ if ! cargo --version >/dev/null 2>&1; then
     skip 'the crate in Rust' 'cargo is not on this machine'
     end_steps
 fi
+# Without valgrind and the rest a fifth of the rounds of the long tests is made.
+[ -z "$quick" ] || export VAHEPITO_ROUNDS=20
 limit=600 step 'Rust: tests' cargo "${options[@]}" test
 step 'Rust: the thread pool' bash -c "prints '9592 primes below 100000' cargo ${options[*]} run --example thread_pool"
 step 'Rust: the pipeline' bash -c "prints '77031 takes 350 steps' cargo ${options[*]} run --example pipeline"
