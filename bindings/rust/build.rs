@@ -31,7 +31,7 @@ fn named(variable: &str) -> Option<PathBuf> {
     }
 }
 
-/// What lies in the package, or else at another path in the repository.
+/// The path of a file in the package, or if it isn't there, in the repository.
 fn packed(in_package: &Path, in_repository: &Path) -> PathBuf {
     let root = PathBuf::from(env::var_os("CARGO_MANIFEST_DIR").expect("cargo sets it"));
     let path = root.join(in_package);

@@ -58,7 +58,7 @@ fn each(time: Duration, mut call: impl FnMut()) -> f64 {
     start.elapsed().as_nanos() as f64 / f64::from(calls)
 }
 
-/// One thread sends an item of so many words and takes it.
+/// One thread sends an item of `WORDS` words and takes it.
 fn alone<C: Channel, const WORDS: usize>(time: Duration) -> f64 {
     let (sender, receiver) = C::open(CAPACITY);
     each(time, || {
@@ -67,7 +67,7 @@ fn alone<C: Channel, const WORDS: usize>(time: Duration) -> f64 {
     })
 }
 
-/// So many senders and as many receivers, each on a thread of its own: nanoseconds an item.
+/// Measures equal numbers of senders and receivers, each on a thread of its own, in nanoseconds an item.
 fn shared<C: Channel>(each_side: usize, time: Duration) -> f64 {
     let (sender, receiver) = C::open::<u64>(CAPACITY);
     let (stop, start) = (&AtomicBool::new(false), &Barrier::new(2 * each_side + 1));

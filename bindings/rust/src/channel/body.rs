@@ -11,7 +11,7 @@ use std::mem::{ManuallyDrop, MaybeUninit, forget, size_of};
 use std::ptr::NonNull;
 use std::sync::atomic::{AtomicUsize, Ordering};
 
-/// So many bytes an item has at most that is its body.
+/// The greatest number of bytes of an item that travels in a body itself.
 const INLINE: usize = size_of::<Words>();
 
 /// How many words the bodies of a channel have that are items of this type, or pointers.
@@ -108,8 +108,8 @@ impl<T> Parcel<T> {
         }
     }
 
-    /// Of an item that groups share, and that the caller alone has: so many groups are to get it, or its
-    /// one owner.
+    /// Sets the number of shares of a group item that the caller alone has: the groups that are to get it, or
+    /// 1 for its one owner.
     #[inline]
     pub fn is_for(&self, groups: usize) {
         if self.copies.is_some() {
@@ -165,7 +165,7 @@ impl<T> Parcel<T> {
     unsafe fn release(at: NonNull<Shared<T>>) -> Option<T> {
         // SAFETY: the box is there as long as there is a share of it, and this is one.
         let left = unsafe { &at.as_ref().left };
-        // What was done with the other shares comes before what is done with the item.
+        // All uses of the other shares happen before the item is used or dropped.
         if left.fetch_sub(1, Ordering::AcqRel) != 1 {
             return None;
         }
