@@ -31,7 +31,7 @@ pub fn all_returned(calls: &[Call]) -> bool
 }
 
 /// The item that the call at this place sent.
-fn sent(calls: &[Call], place: usize) -> Option<usize>
+pub fn sent(calls: &[Call], place: usize) -> Option<usize>
     ensures { IfSome result (λ item. Did calls.now place (Act.Send item)) }
 {
     match calls.get(place).copied()?.act {

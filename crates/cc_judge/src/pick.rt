@@ -1,8 +1,8 @@
 //! What may show that a log has no order. Each is confirmed in `faults`, so nothing is asked of it here but that it is safe
 //! and ends.
 
-use crate::faults::Index;
-use crate::search::{ByTime, NEVER, item_at, place_of, span};
+use crate::faults::{Index, sent};
+use crate::search::{ByTime, NEVER, place_of, span};
 use crate::{Act, Call, Stay};
 use std::alloc::{AllocError, Global};
 
@@ -35,7 +35,7 @@ struct Latest {
 /// The begin of the take of the item that was sent at a place. An item that was never taken counts only if all takes
 /// returned.
 fn leaves(calls: &[Call], index: &Index, send: usize) -> Option<u64> {
-    let item = item_at(calls, send)?;
+    let item = sent(calls, send)?;
     match place_of(&index.takes, item) {
         Some(take) => Some(span(calls, Some(take)).0),
         None if index.all_returned => Some(NEVER),
@@ -84,14 +84,14 @@ fn pair_of(
     later_send: usize,
 ) -> Option<Pair> {
     let (begin, send) = best?;
-    let later_take = place_of(&index.takes, item_at(calls, later_send)?)?;
+    let later_take = place_of(&index.takes, sent(calls, later_send)?)?;
     if begin <= span(calls, Some(later_take)).1 {
         return None;
     }
     Some(Pair {
         send,
         later_send,
-        take: place_of(&index.takes, item_at(calls, send)?),
+        take: place_of(&index.takes, sent(calls, send)?),
         later_take,
     })
 }
@@ -135,7 +135,7 @@ pub fn stays(
         let Some((begin, send)) = latest.best else {
             break;
         };
-        let Some(item) = item_at(calls, send) else {
+        let Some(item) = sent(calls, send) else {
             break;
         };
         if begin <= from {

@@ -7,7 +7,7 @@
 //! one that was taken before the take of that item began. So the queue is never longer than it must be. The lists are
 //! sorted, so it takes O(n log n).
 
-use crate::faults::Index;
+use crate::faults::{Index, sent};
 use crate::{Act, Call, Step};
 use std::alloc::{AllocError, Global};
 use std::collections::VecDeque;
@@ -47,14 +47,6 @@ fn send_due(calls: &[Call], index: &Index, item: usize) -> u64 {
 /// From when on the take of an item may be placed.
 fn take_from(calls: &[Call], index: &Index, item: usize) -> u64 {
     span(calls, place_of(&index.takes, item)).0
-}
-
-/// The item of a send.
-pub fn item_at(calls: &[Call], place: usize) -> Option<usize> {
-    match calls.get(place)?.act {
-        Act::Send(item) => Some(item),
-        _ => None,
-    }
 }
 
 /// A sorted list of calls that is read from its front.
@@ -233,7 +225,7 @@ fn send_next(
     due: usize,
     time: u64,
 ) -> usize {
-    let Some(item) = item_at(calls, due) else {
+    let Some(item) = sent(calls, due) else {
         return due;
     };
     match next(&mut lines.by_take, &state.placed) {
@@ -245,7 +237,7 @@ fn send_next(
 
 /// Places a send.
 fn place_send(state: &mut State, calls: &[Call], at: usize) -> Result<bool, AllocError> {
-    let Some(item) = item_at(calls, at) else {
+    let Some(item) = sent(calls, at) else {
         return Ok(false);
     };
     state.held.push_back(item)?;

@@ -60,17 +60,14 @@ fn act(known: &mut Known, said: Said) -> Result<Option<Act>, LogFault> {
     }
 }
 
-/// Notes the call of a thread, which has to begin after its last one ended.
+/// Notes the call of the thread with this name, and whether it began after the thread's last one had ended.
 fn goes_on(
     alloc: Global,
     known: &mut Known,
-    tree: &Value,
+    name: &str,
     begin: u64,
     end: Option<u64>,
 ) -> Result<bool, LogFault> {
-    let Some(name) = tree.get("thread").and_then(Value::as_str) else {
-        return Ok(false);
-    };
     let follows = match known.threads.get(name) {
         Some(Some(last)) => *last < begin,
         Some(None) => false,
@@ -117,13 +114,13 @@ fn add(
         line,
         fault,
     })?;
-    if tree.get("thread").and_then(Value::as_str).is_none() {
+    let Some(thread) = tree.get("thread").and_then(Value::as_str) else {
         return Err(LogFault::Line {
             line,
             fault: LineFault::Thread,
         });
-    }
-    if !goes_on(alloc, known, &tree, begin, end)? {
+    };
+    if !goes_on(alloc, known, thread, begin, end)? {
         return Err(LogFault::Line {
             line,
             fault: LineFault::Overlap,
