@@ -8,16 +8,15 @@ steps (`line` of Lines, which names SendLines, TakeLines and CountLines), and al
 A number is a BigInt, a list an array, a record an object, and a value of an enum an object with its variant's name in `is`
 and what the variant holds by the names of its fields, or by 0, 1 and so on.
 """
-import difflib
 import re
 import sys
 
 sys.dont_write_bytecode = True
 from sources import TOP, Unreadable, read_files
 from statements import Reach
+from written import Part
 
-PAGE = TOP / "crates/cc_show/page/page.html"
-BEGIN, END = "// <steps>\n", "// </steps>\n"
+PAGE = Part(TOP / "crates/cc_show/page/page.html", "// <steps>\n", "// </steps>\n")
 HEAD = """\
 // The machine, by tools/page_steps.py: the table of steps of crates/cc_runs/specs, and the definitions that it names.
 const minus = (a, b) => a > b ? a - b : 0n;
@@ -306,33 +305,8 @@ def machine():
         if place not in functions:
             functions[place], named = function(names, place)
             left += named
-    return BEGIN + HEAD + "".join(text for _, text in sorted(functions.items())) + END
-
-
-def main(words):
-    if words not in ([], ["--write"]):
-        print("usage: tools/page_steps.py [--write]", file=sys.stderr)
-        return 64
-    page = PAGE.read_text()
-    if page.count(BEGIN) != 1 or page.count(END) != 1:
-        print(f"page_steps: {PAGE.relative_to(TOP)} has not the two marks between which the machine stands", file=sys.stderr)
-        return 1
-    front, rest = page.split(BEGIN)
-    inside, behind = rest.split(END)
-    try:
-        wanted = machine()
-    except Unreadable as why:
-        print(f"page_steps: {why}", file=sys.stderr)
-        return 1
-    if words:
-        PAGE.write_text(front + wanted + behind)
-    elif BEGIN + inside + END != wanted:
-        lines = (BEGIN + inside + END).splitlines(), wanted.splitlines()
-        print("\n".join(difflib.unified_diff(*lines, "the page", "the definitions", lineterm="", n=1)))
-        print("page_steps: the page has another machine than the definitions (tools/page_steps.py --write)")
-        return 1
-    return 0
+    return HEAD + "".join(text for _, text in sorted(functions.items()))
 
 
 if __name__ == "__main__":
-    sys.exit(main(sys.argv[1:]))
+    sys.exit(PAGE.main(machine))

@@ -15,7 +15,7 @@ Five checks, in about a second:
 - Pictures: those that bench/pictures.py draws are of the tables that docs/BENCH.md has.
 
 Blocks of code, words between backquotes, headings and comments hold no patterns, and neither does the table of steps in
-docs/ALGORITHM.md, which tools/steps_table.sh writes. The exit status is 0 if all checks pass.
+docs/ALGORITHM.md, which tools/steps_table.py writes. The exit status is 0 if all checks pass.
 """
 import glob
 import os
