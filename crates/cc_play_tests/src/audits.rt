@@ -51,7 +51,7 @@ fn is_found<R: Abort>(
     assert!(rt; found == verdict);
 }
 
-const COUNT: u32 = 100_000;
+const COUNT: u32 = 20_000;
 
 /// So many sends, as they may be told by turns.
 fn mixed_sends<R: Abort>(rt: &R, alloc: Global) -> Vec<SendReceipt> {

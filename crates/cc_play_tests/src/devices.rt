@@ -132,12 +132,21 @@ fn reads_fail<R: Abort>(rt: &R, alloc: Global, case: Case<'_>) {
     }
 }
 
+/// A read fails before, at and after the edge of each block of a thousand bytes.
+fn reads_fail_by_blocks<R: Abort>(rt: &R, alloc: Global, case: Case<'_>) {
+    for blocks in 1..case.input.len() / 1000 {
+        for gives in blocks * 1000 - 1..blocks * 1000 + 2 {
+            read_fails(rt, alloc, case, gives);
+        }
+    }
+}
+
 #[test]
 fn reads_fail_at_every_byte(rt: HostRuntime) {
     let alloc = rt.alloc();
     let plan = long_plan(&rt, alloc);
     reads_fail(&rt, alloc, ONE_ITEM);
-    reads_fail(&rt, alloc, played(&plan, ""));
+    reads_fail_by_blocks(&rt, alloc, played(&plan, ""));
     reads_fail(&rt, alloc, STRANGER);
 }
 
@@ -179,10 +188,10 @@ fn writes_fail_at_every_byte(rt: HostRuntime) {
 /// How often a send stands in the long plan.
 const SENDS: u32 = 8_500;
 
-/// A plan that is read in two blocks, of which the first thousand sends are played.
+/// A plan that is read in two blocks, of which the first 750 sends are played.
 fn long_plan<R: Abort>(rt: &R, alloc: Global) -> String {
     let front =
-        "{\"capacity\":1,\"bound\":2,\"life\":10,\"receivers\":[1],\"schedule\":[[\"s1\",20008]],\"senders\":[[7";
+        "{\"capacity\":1,\"bound\":2,\"life\":10,\"receivers\":[1],\"schedule\":[[\"s1\",15008]],\"senders\":[[7";
     let mut plan = String::from_str(alloc, front).expect(rt, "memory");
     for _ in 1..SENDS {
         plan.push_str(",7").expect(rt, "memory");
@@ -201,7 +210,7 @@ fn add_full<R: Abort>(rt: &R, alloc: Global, report: &mut String, number: u32) {
 fn long_report<R: Abort>(rt: &R, alloc: Global) -> String {
     let front = "E 0 s1 send 7 -> accepted 0\n";
     let mut report = String::from_str(alloc, front).expect(rt, "memory");
-    for number in 1..1000 {
+    for number in 1..750 {
         add_full(rt, alloc, &mut report, number);
     }
     report.push_str("audit clean\n").expect(rt, "memory");
@@ -241,10 +250,10 @@ fn writes_fail_at_every_block(rt: HostRuntime) {
 
 /// An input of nothing but spaces is read by the block.
 fn is_read_by_blocks<R: Abort>(rt: &R, alloc: Global) {
-    let spaces = vec![in alloc; b' '; 16_777_216].expect(rt, "memory");
+    let spaces = vec![in alloc; b' '; 1_048_576].expect(rt, "memory");
     let read = run_by(alloc, Task::Play, &spaces, READS_ALL, WRITES_ALL);
     assert!(rt; read.outcome.is_err());
-    assert!(rt; read.reads <= 16_777_216 / 4096);
+    assert!(rt; read.reads <= 1_048_576 / 4096);
 }
 
 /// In how many writes a text goes out.

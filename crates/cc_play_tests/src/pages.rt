@@ -103,14 +103,14 @@ fn write_fails<R: Abort>(rt: &R, alloc: Global, page: &str, takes: usize) {
     holds(rt, takes, sink.has_failed_once());
 }
 
-/// A write fails behind every hundredth byte of a page, within its front, its run, its report and its script.
+/// A write fails behind every thousandth byte of a page, within its front, its run, its report and its script.
 #[test]
 fn writes_of_a_page_fail(rt: HostRuntime) {
     let whole = shown(rt.alloc(), FIRST);
     let page = page_of(&whole);
     assert!(rt; page.len() > 30_000);
-    for hundreds in 0..page.len() / 100 {
-        write_fails(&rt, rt.alloc(), page, hundreds * 100);
+    for thousands in 0..page.len() / 1000 {
+        write_fails(&rt, rt.alloc(), page, thousands * 1000);
     }
 }
 
