@@ -10,18 +10,8 @@ use Rattle.cc_runs.proofs.Chains.View.{view, pass_on, post_at, post_of, cell_of,
 use Rattle.cc_runs.proofs.Chains.Frame.{put_here, cell_apart, hold_here, hold_apart, pass_apart, request_same, answer_same, answer_first, answer_later, exchanged_post, serves_post, after_answer_post}
 use Rattle.cc_runs.proofs.Combining.Chain.{Post}
 use Rattle.cc_runs.proofs.Combining.Stay.{Stays}
-use Rattle.cc_runs.proofs.Combining.Reset.{Resets}
-use Rattle.cc_runs.proofs.Combining.Exchange.{Exchanges}
-use Rattle.cc_runs.proofs.Combining.Link.{Links}
-use Rattle.cc_runs.proofs.Combining.Collect.{Collects}
-use Rattle.cc_runs.proofs.Combining.Start.{Starts}
-use Rattle.cc_runs.proofs.Combining.Stop.{Stops}
-use Rattle.cc_runs.proofs.Combining.Pick.{Picks}
-use Rattle.cc_runs.proofs.Combining.Decide.{Decides}
-use Rattle.cc_runs.proofs.Combining.WriteAnswer.{Tells}
-use Rattle.cc_runs.proofs.Combining.Mark.{Marks}
-use Rattle.cc_runs.proofs.Combining.HandOver.{Hands}
-use Rattle.cc_runs.proofs.Combining.End.{Ends}
+use Rattle.cc_runs.proofs.Combining.CallSteps.{Resets, Exchanges, Links, Collects, Starts, Ends}
+use Rattle.cc_runs.proofs.Combining.CombinerSteps.{Stops, Picks, Decides, Tells, Marks, Hands}
 
 module _ (c : Setting) (x : Chain) (s : State) (p begun own : ℕ) where
   abbrev pub standing : Place → Stand
@@ -159,9 +149,11 @@ module _ (c : Setting) (x : Chain) (s : State) (p begun own : ℕ) where
       let cells : (i : ℕ) → i ≢ job.round.at → cell_of x (words_at (Place.WriteAnswer job told) i) ≡ cell_of x (before_at i) = λ i ne. cell_apart s.mem x job.round.at i NodeField.Ret (ret_of c.served told) ne in
       grind (arith, others (Place.WriteAnswer job told), told_in told)
 
-  full : (job : Job) → job.round.served + 1 ≡ c.config.bound → s.stand (pass_on c x p) ≡ standing (Place.MarkDone job) → post_at x ((after (Place.MarkDone job)).stand (pass_on c x p)) ≡ resting own job.next 0 3 →
+  -- the round is full, and the combiner is about to hand over; or it goes on
+  marks : (job : Job) (served stage : ℕ) → (job.round.served + 1 ≡ c.config.bound → stage ≡ 3) → (job.round.served + 1 ≢ c.config.bound → (stage ≡ 0) × (served ≡ job.round.served + 1)) →
+      s.stand (pass_on c x p) ≡ standing (Place.MarkDone job) → post_at x ((after (Place.MarkDone job)).stand (pass_on c x p)) ≡ resting own job.next served stage →
       (w : ℕ) → w ≤ all_told → Marks c.config.bound w (view c x s) (view c x (after (Place.MarkDone job))) p
-  full job bound e is w few =
+  marks job served stage full again e is w few =
       let was = was_at (Place.MarkDone job) e in
       let cell : (after (Place.MarkDone job)).mem (Word.Node x job.round.at NodeField.State) ≡ 2 = put_here s.mem (Word.Node x job.round.at NodeField.State) 2 in
       let words : (j : ℕ) → request_words x (words_at (Place.MarkDone job) job.round.at) j ≡ request_words x (before_at job.round.at) j = λ j. request_same x _ _ j refl (λ i. refl) in
@@ -169,21 +161,14 @@ module _ (c : Setting) (x : Chain) (s : State) (p begun own : ℕ) where
       let cells : (i : ℕ) → i ≢ job.round.at → cell_of x (words_at (Place.MarkDone job) i) ≡ cell_of x (before_at i) = λ i ne. cell_apart s.mem x job.round.at i NodeField.State 2 ne in
       grind (arith, others (Place.MarkDone job))
 
-  again : (job : Job) → job.round.served + 1 ≢ c.config.bound → s.stand (pass_on c x p) ≡ standing (Place.MarkDone job) → post_at x ((after (Place.MarkDone job)).stand (pass_on c x p)) ≡ resting own job.next (job.round.served + 1) 0 →
-      (w : ℕ) → w ≤ all_told → Marks c.config.bound w (view c x s) (view c x (after (Place.MarkDone job))) p
-  again job bound e is w few =
-      let was = was_at (Place.MarkDone job) e in
-      let cell : (after (Place.MarkDone job)).mem (Word.Node x job.round.at NodeField.State) ≡ 2 = put_here s.mem (Word.Node x job.round.at NodeField.State) 2 in
-      let words : (j : ℕ) → request_words x (words_at (Place.MarkDone job) job.round.at) j ≡ request_words x (before_at job.round.at) j = λ j. request_same x _ _ j refl (λ i. refl) in
-      let told : (j : ℕ) → answer_words x (words_at (Place.MarkDone job) job.round.at) j ≡ answer_words x (before_at job.round.at) j = λ j. answer_same x _ _ j refl refl (λ i. refl) in
-      let cells : (i : ℕ) → i ≢ job.round.at → cell_of x (words_at (Place.MarkDone job) i) ≡ cell_of x (before_at i) = λ i ne. cell_apart s.mem x job.round.at i NodeField.State 2 ne in
-      grind (arith, others (Place.MarkDone job))
+  -- where it stands then
+  led : (job : Job) (b : Bool) → (job.round.served + 1 == c.config.bound) ≡ b → post_at x ((after (Place.MarkDone job)).stand (pass_on c x p)) ≡ post_of x own (cond b (Place.HandOver job.next) (Place.ReadNext record { at = job.next; served = job.round.served + 1 }))
+  led job b is = is_at (Place.MarkDone job) ∙ ap (λ (b : Bool). post_of x own (cond b (Place.HandOver job.next) (Place.ReadNext record { at = job.next; served = job.round.served + 1 }))) is
 
-  mark_by : (job : Job) (b : Bool) → (job.round.served + 1 == c.config.bound) ≡ b → s.stand (pass_on c x p) ≡ standing (Place.MarkDone job) → (w : ℕ) → w ≤ all_told → Marks c.config.bound w (view c x s) (view c x (after (Place.MarkDone job))) p
-  mark_by job true is e w few =
-      full job (eqb-true (job.round.served + 1) c.config.bound is) e (is_at (Place.MarkDone job) ∙ ap (λ (b : Bool). post_of x own (cond b (Place.HandOver job.next) (Place.ReadNext record { at = job.next; served = job.round.served + 1 }))) is) w few
-  mark_by job false is e w few =
-      again job (eqb-false (job.round.served + 1) c.config.bound is) e (is_at (Place.MarkDone job) ∙ ap (λ (b : Bool). post_of x own (cond b (Place.HandOver job.next) (Place.ReadNext record { at = job.next; served = job.round.served + 1 }))) is) w few
+  mark_by : (job : Job) (b : Bool) → (job.round.served + 1 == c.config.bound) ≡ b → s.stand (pass_on c x p) ≡ standing (Place.MarkDone job) →
+      (w : ℕ) → w ≤ all_told → Marks c.config.bound w (view c x s) (view c x (after (Place.MarkDone job))) p
+  mark_by job true is e w few = marks job 0 3 (λ full. refl) (λ ne. absurd (ne (eqb-true (job.round.served + 1) c.config.bound is))) e (led job true is) w few
+  mark_by job false is e w few = marks job (job.round.served + 1) 0 (λ full. absurd (eqb-false (job.round.served + 1) c.config.bound is full)) (λ ne. (refl, refl)) e (led job false is) w few
 
   pub mark : (job : Job) → s.stand (pass_on c x p) ≡ standing (Place.MarkDone job) → (w : ℕ) → w ≤ all_told → Marks c.config.bound w (view c x s) (view c x (after (Place.MarkDone job))) p
   mark job e w few = mark_by job (job.round.served + 1 == c.config.bound) refl e w few

@@ -5,8 +5,8 @@ use Rattle.std.proofs.lemmas.List.{length_push, get_or_push, get_or_append_left}
 use Rattle.cc_runs.specs.Names.{Entry, Answer, Setting, Served, Chain, Stand}
 use Rattle.cc_runs.specs.Run.{IsFinished}
 use Rattle.cc_runs.proofs.Combining.Chain.{Ghost}
-use Rattle.cc_runs.proofs.Combining.Exchange.{Extends}
-use Rattle.cc_runs.proofs.Combining.Decide.{Answers}
+use Rattle.cc_runs.proofs.Combining.CallSteps.{Extends}
+use Rattle.cc_runs.proofs.Combining.CombinerSteps.{Answers}
 use Rattle.cc_runs.proofs.Chains.View.{members, post_at, asked_words, answer_long, request_long}
 use Rattle.cc_runs.proofs.Chains.Registers.{call_at, answer_at, no_call, no_answer, IsCall, HasCall, IsAnswer, HasService, coded_words, HasRead}
 use Rattle.cc_runs.proofs.Chains.Ties.{Ties, upd, upd-same, upd-other, service_call, reader_answer}

@@ -6,8 +6,7 @@ use Rattle.cc_runs.specs.State.{State}
 use Rattle.cc_runs.specs.Lines.{goes, node_after, enters, decides, after_ret}
 use Rattle.cc_runs.specs.Run.{IsFinished}
 use Rattle.cc_runs.proofs.Combining.Stay as by_stay
-use Rattle.cc_runs.proofs.Combining.WriteRequest as by_writerequest
-use Rattle.cc_runs.proofs.Combining.End as by_end
+use Rattle.cc_runs.proofs.Combining.CallSteps as by_call
 use Rattle.cc_runs.proofs.Bodies.{few_further}
 use Rattle.cc_runs.proofs.ReadWords.{next_word, one_item, behind_word}
 use Rattle.cc_runs.proofs.Chains.View.{view, members, pass_on, post_of, post_at, request_long, asked_words, answer_words, answer_long}
@@ -38,7 +37,7 @@ module _ (c : Setting) (some : 0 < c.config.bound) (s : State) (p begun own : �
   write_tag_send : (put : ℕ) (request : Request) → At c Chain.Send tt some s p begun own inside w (Place.WriteTag put request) → Holds c Chain.Send (then c Chain.Send tt some s p begun own inside w (Place.WriteTag put request))
   write_tag_send put request e =
       goes_on c Chain.Send tt some s p begun own inside w (Place.WriteTag put request) (Place.WriteBody put request 0) w.ghost.marked w.ghost.server refl refl refl
-      (by_writerequest.keeps (members c Chain.Send) c.config.bound (view c Chain.Send s) (view c Chain.Send (then c Chain.Send tt some s p begun own inside w (Place.WriteTag put request))) w.ghost p inside w.inv
+      (by_call.writes (members c Chain.Send) c.config.bound (view c Chain.Send s) (view c Chain.Send (then c Chain.Send tt some s p begun own inside w (Place.WriteTag put request))) w.ghost p inside w.inv
       (sides.write_tag c s p begun own (w.ghost.asks_long (w.ghost.at p)) put request e))
       record { onward = omega arith; call = (tt, omega arith); read = tt; ended = λ f. absurd f; serves = λ a. tt; keep = λ q ne a. (a, refl) }
 
@@ -48,7 +47,7 @@ module _ (c : Setting) (some : 0 < c.config.bound) (s : State) (p begun own : �
       let has : OnSend Chain.Send × (i ≤ further_words request.tag) = subst (λ (z : Stand). HasCall c Chain.Send p z.place) e (w.ties.begun p inside) in
       let many : further_words request.tag ≡ further_words (request_in its_call).tag = asks_is (Place.WriteBody put request i) 5 e refl (omega (arith, has.1, few_further request.tag)) in
       goes_on c Chain.Send tt some s p begun own inside w (Place.WriteBody put request i) _ w.ghost.marked w.ghost.server refl refl refl
-      (by_writerequest.keeps (members c Chain.Send) c.config.bound (view c Chain.Send s) (view c Chain.Send (then c Chain.Send tt some s p begun own inside w (Place.WriteBody put request i))) w.ghost p inside w.inv
+      (by_call.writes (members c Chain.Send) c.config.bound (view c Chain.Send s) (view c Chain.Send (then c Chain.Send tt some s p begun own inside w (Place.WriteBody put request i))) w.ghost p inside w.inv
       (sides.write_body c s p begun own (w.ghost.asks_long (w.ghost.at p)) put request i (long_is (Place.WriteBody put request i) e refl ∙ ap (λ (z : ℕ). z + 2) (sym many)) has.1 e))
       (behind_word (λ (z : Place). Moves c Chain.Send s w.ghost p w.ghost.marked w.ghost.server z) (further_words request.tag) i _ _
       (λ more. record { onward = omega arith; call = (tt, omega (arith, more)); read = tt; ended = λ f. absurd f; serves = λ a. tt; keep = λ q ne a. (a, refl) })
@@ -99,7 +98,7 @@ module _ (c : Setting) (x : Chain) (ok : IsChain c x) (some : 0 < c.config.bound
   reads_end at there e six next_out go enter none keeps_node tail words call read =
       let rank : (post_at x (s.stand (pass_on c x p))).rank ≡ 6 = ap (λ z. z.rank) (seen c x ok some s p begun own inside w at e ∙ six) in
       goes_on c x ok some s p begun own inside w at there w.ghost.marked w.ghost.server go enter none
-      (by_end.keeps (members c x) c.config.bound (view c x s) (view c x (then c x ok some s p begun own inside w at)) w.ghost p inside w.inv
+      (by_call.ends (members c x) c.config.bound (view c x s) (view c x (then c x ok some s p begun own inside w at)) w.ghost p inside w.inv
       (bridge.end c x s p begun own at e six (ap (λ (z : ℕ). post_of x z (goes c x own at (finds c x ok some s p begun own inside w at))) keeps_node ∙ ap (λ (z : Place). post_of x own z) go ∙ next_out) tail words))
       record {
         onward = omega arith;

@@ -6,12 +6,9 @@ use Rattle.cc_runs.specs.Codes.{ret_of}
 use Rattle.cc_runs.specs.State.{State, noted}
 use Rattle.cc_runs.specs.Lines.{goes, node_after, enters, decides, after_answer, after_done}
 use Rattle.cc_runs.specs.Step.{advanced}
-use Rattle.cc_runs.proofs.Combining.WriteAnswer.{Tells}
+use Rattle.cc_runs.proofs.Combining.CombinerSteps.{Tells}
 use Rattle.cc_runs.proofs.Combining.Stay as by_stay
-use Rattle.cc_runs.proofs.Combining.Decide as by_decide
-use Rattle.cc_runs.proofs.Combining.WriteAnswer as by_writeanswer
-use Rattle.cc_runs.proofs.Combining.Mark as by_mark
-use Rattle.cc_runs.proofs.Combining.HandOver as by_handover
+use Rattle.cc_runs.proofs.Combining.CombinerSteps as by_combiner
 use Rattle.cc_runs.proofs.Chains.View.{view, members, pass_on, post_of, post_at, serving, request_words, request_long, asked_words, answer_long, all_told}
 use Rattle.cc_runs.proofs.Chains.Frame.{after_answer_post}
 use Rattle.cc_runs.proofs.Chains.Bridge as bridge
@@ -85,8 +82,8 @@ module _ (c : Setting) (x : Chain) (ok : IsChain c x) (some : 0 < c.config.bound
       let history : (then at).history ≡ noted x s.history None (Some a) = λ i. noted x s.history (enter i) (tells i) in
       record {
         ghost = grown.answered c.served x w.ghost a;
-        inv = by_decide.keeps (members c x) c.config.bound (view c x s) (view c x (then at)) w.ghost (grown.answered c.served x w.ghost a) p inside w.inv
-            (bridge.decide c x s p begun own at job e first (ap (λ (z : ℕ). post_of x z (goes c x own at (finds at))) keeps_node ∙ second) tail words) (coded_words c.served x a)
+        inv = by_combiner.decides (members c x) c.config.bound (view c x s) (view c x (then at)) w.ghost p inside w.inv (grown.answered c.served x w.ghost a) (coded_words c.served x a)
+            (bridge.decide c x s p begun own at job e first (ap (λ (z : ℕ). post_of x z (goes c x own at (finds at))) keeps_node ∙ second) tail words)
             (grown.answers_more c x (calls_on x s.history) (answers_on x s.history) (stands_on c x s) (stands_on c x (then at)) w.ghost p inside w.ties a);
         ties = subst (λ (r : Record). Ties c x (calls_on x r) (answers_on x r) (stands_on c x (then at)) (grown.answered c.served x w.ghost a)) (sym history)
             (subst (λ (cs : List Entry). Ties c x cs (answers_on x (noted x s.history None (Some a))) (stands_on c x (then at)) (grown.answered c.served x w.ghost a)) (sym (ap (λ (z : Side). z.calls) (side_same x s.history _ w.side_in)))
@@ -117,7 +114,7 @@ module _ (c : Setting) (x : Chain) (ok : IsChain c x) (some : 0 < c.config.bound
       let told_now : (post_at x (s.stand (pass_on c x p))).told ≡ told = ap (λ z. z.told) (seen at e) ∙ count in
       let word_now : word ≡ w.ghost.told w.ghost.marked (post_at x (s.stand (pass_on c x p))).told = word_is ∙ sym (k.2 told) ∙ ap (λ (z : ℕ). w.ghost.told w.ghost.marked z) (sym told_now) in
       goes_on c x ok some s p begun own inside w at there w.ghost.marked w.ghost.server go enter none
-      (by_writeanswer.keeps (members c x) c.config.bound (view c x s) (view c x (then at)) w.ghost p inside w.inv
+      (by_combiner.tells (members c x) c.config.bound (view c x s) (view c x (then at)) w.ghost p inside w.inv
       (subst (λ (z : ℕ). Tells z (view c x s) (view c x (then at)) p (w.ghost.told w.ghost.marked (post_at x (s.stand (pass_on c x p))).told)) (long_is ∙ sym k.1)
       (subst (λ (z : ℕ). Tells long (view c x s) (view c x (then at)) p z) word_now t)))
       (stays_in c x ok some s p begun own inside w there (free_at c x p own there next_five) (λ a. serve))
@@ -138,9 +135,8 @@ module _ (c : Setting) (x : Chain) (ok : IsChain c x) (some : 0 < c.config.bound
       let free : IsFree c x p (after_done c.config.bound job) = free_at c x p own (after_done c.config.bound job) rank in
       let mine_is : w.ghost.server ≡ p + 1 = me (Place.MarkDone job) e refl in
       goes_on c x ok some s p begun own inside w (Place.MarkDone job) (after_done c.config.bound job) (w.ghost.marked + 1) w.ghost.server refl refl refl
-      (by_mark.keeps (members c x) c.config.bound (view c x s) (view c x (then (Place.MarkDone job))) w.ghost (record w.ghost { marked = w.ghost.marked + 1 }) p inside w.inv
-      (bridge.mark c x s p begun own job e (w.ghost.told_long w.ghost.marked) few)
-      record { calls = refl; answers = refl; marked = refl; server = refl; told = λ k j. refl; pass_of = λ k. refl; asked = λ k j. refl; asks_long = λ k. refl; told_long = λ k. refl; chain = λ k. refl; at = λ q. refl })
+      (by_combiner.marks (members c x) c.config.bound (view c x s) (view c x (then (Place.MarkDone job))) w.ghost p inside w.inv
+      (bridge.mark c x s p begun own job e (w.ghost.told_long w.ghost.marked) few))
       record {
         onward = omega arith;
         call = free.call;
@@ -153,6 +149,5 @@ module _ (c : Setting) (x : Chain) (ok : IsChain c x) (some : 0 < c.config.bound
   pub hand_over : (at : ℕ) → At (Place.HandOver at) → Holds c x (then (Place.HandOver at))
   hand_over at e =
       goes_on c x ok some s p begun own inside w (Place.HandOver at) Place.ReadAnswer w.ghost.marked 0 refl refl refl
-      (by_handover.keeps (members c x) c.config.bound (view c x s) (view c x (then (Place.HandOver at))) w.ghost (record w.ghost { server = 0 }) p inside w.inv (bridge.hand_over c x s p begun own at e)
-      record { calls = refl; answers = refl; marked = refl; server_now = refl; pass_of = λ k. refl; asked = λ k j. refl; asks_long = λ k. refl; told_long = λ k. refl; told = λ k j. refl; chain = λ k. refl; at = λ q. refl })
+      (by_combiner.hands (members c x) c.config.bound (view c x s) (view c x (then (Place.HandOver at))) w.ghost p inside w.inv (bridge.hand_over c x s p begun own at e))
       record { onward = omega arith; call = tt; read = tt; ended = λ f. absurd f; serves = λ a. absurd (omega arith); keep = λ q ne a. absurd (omega arith) }

@@ -8,8 +8,8 @@ use Rattle.cc_runs.proofs.ReadWords.{behind_word}
 use Rattle.cc_runs.proofs.Chains.View.{asks_in, view, pass_on, post_at, post_of, cell_of, words_of, request_words, answer_words, told_words, all_wrote, all_told, no_word, entering, serving}
 use Rattle.cc_runs.proofs.Chains.Frame.{put_here, word_apart, cell_apart}
 use Rattle.cc_runs.proofs.Chains.Bridge.{standing, after, is_at, was_at, others, before_at, words_at}
-use Rattle.cc_runs.proofs.Combining.WriteRequest.{Writes}
-use Rattle.cc_runs.proofs.Combining.WriteAnswer.{Tells}
+use Rattle.cc_runs.proofs.Combining.CallSteps.{Writes}
+use Rattle.cc_runs.proofs.Combining.CombinerSteps.{Tells}
 
 -- words from the second on don't ask for the first, nor the others for one word of the body
 pub words_later : (a b : ℕ) (body : ℕ → ℕ) (j : ℕ) → j ≢ 0 → words_of a body j ≡ words_of b body j

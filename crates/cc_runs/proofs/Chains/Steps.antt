@@ -10,13 +10,8 @@ use Rattle.cc_runs.specs.Run.{IsFinished}
 use Rattle.cc_runs.proofs.Combining.Chain.{Ghost}
 use Rattle.cc_runs.proofs.Combining.Invariant.{Inv}
 use Rattle.cc_runs.proofs.Combining.Stay as by_stay
-use Rattle.cc_runs.proofs.Combining.Reset as by_reset
-use Rattle.cc_runs.proofs.Combining.Exchange as by_exchange
-use Rattle.cc_runs.proofs.Combining.Link as by_link
-use Rattle.cc_runs.proofs.Combining.Collect as by_collect
-use Rattle.cc_runs.proofs.Combining.Start as by_start
-use Rattle.cc_runs.proofs.Combining.Stop as by_stop
-use Rattle.cc_runs.proofs.Combining.Pick as by_pick
+use Rattle.cc_runs.proofs.Combining.CallSteps as by_call
+use Rattle.cc_runs.proofs.Combining.CombinerSteps as by_combiner
 use Rattle.cc_runs.proofs.Chains.View.{view, members, pass_on, post_of, post_at}
 use Rattle.cc_runs.proofs.Chains.Frame.{hold_here, hold_apart, pass_apart, serves_post}
 use Rattle.cc_runs.proofs.Chains.Bridge as bridge
@@ -86,7 +81,7 @@ module _ (c : Setting) (x : Chain) (ok : IsChain c x) (some : 0 < c.config.bound
   pub reset_next : (call : Entry) → Here (Place.ResetNext call) → Holds c x (next (Place.ResetNext call))
   reset_next call e =
       goes_on (Place.ResetNext call) (Place.ResetState call) w.ghost.marked w.ghost.server refl refl refl
-      (by_reset.keeps (members c x) c.config.bound (view c x s) (view c x (next (Place.ResetNext call))) w.ghost p inside w.inv (bridge.reset_next c x s p begun own call e))
+      (by_call.resets (members c x) c.config.bound (view c x s) (view c x (next (Place.ResetNext call))) w.ghost p inside w.inv (bridge.reset_next c x s p begun own call e))
       record { onward = omega arith; call = subst (λ (z : Stand). HasCall c x p z.place) e (w.ties.begun p inside); read = tt; ended = λ f. absurd f; serves = λ a. tt; keep = λ q ne a. (a, refl) }
 
   pub reset_state : (call : Entry) → Here (Place.ResetState call) → Holds c x (next (Place.ResetState call))
@@ -94,7 +89,7 @@ module _ (c : Setting) (x : Chain) (ok : IsChain c x) (some : 0 < c.config.bound
       let was : post_at x (s.stand (pass_on c x p)) ≡ post_of x own (Place.ResetState call) = ap (λ (z : Stand). post_at x z) e in
       let clear : s.mem (Word.Node x own NodeField.Next) ≡ 0 = grind (arith, w.inv.links.ready_next p) in
       goes_on (Place.ResetState call) (Place.Exchange call) w.ghost.marked w.ghost.server refl refl refl
-      (by_reset.keeps (members c x) c.config.bound (view c x s) (view c x (next (Place.ResetState call))) w.ghost p inside w.inv (bridge.reset_state c x s p begun own call e clear))
+      (by_call.resets (members c x) c.config.bound (view c x s) (view c x (next (Place.ResetState call))) w.ghost p inside w.inv (bridge.reset_state c x s p begun own call e clear))
       record { onward = omega arith; call = subst (λ (z : Stand). HasCall c x p z.place) e (w.ties.begun p inside); read = tt; ended = λ f. absurd f; serves = λ a. tt; keep = λ q ne a. (a, refl) }
 
   pub link : (put : ℕ) → Here (Place.Link put) → Holds c x (next (Place.Link put))
@@ -102,7 +97,7 @@ module _ (c : Setting) (x : Chain) (ok : IsChain c x) (some : 0 < c.config.bound
       let rank : (post_at x (s.stand (pass_on c x p))).rank ≡ 3 = ap (λ (z : Stand). (post_at x z).rank) e in
       let called : w.ghost.at p < w.ghost.calls = w.inv.passes.at_in p inside (omega (arith, rank)) in
       goes_on (Place.Link put) Place.ReadState w.ghost.marked w.ghost.server refl refl refl
-      (by_link.keeps (members c x) c.config.bound (view c x s) (view c x (next (Place.Link put))) w.ghost p inside w.inv
+      (by_call.links (members c x) c.config.bound (view c x s) (view c x (next (Place.Link put))) w.ghost p inside w.inv
       (bridge.link c x s p begun own (w.ghost.asks_long (w.ghost.at p)) put (omega (arith, w.ties.asks_long (w.ghost.at p) called, few_asked x (call_at (calls_on x s.history) (w.ghost.at p)))) e))
       record { onward = omega arith; call = tt; read = tt; ended = λ f. absurd f; serves = λ a. tt; keep = λ q ne a. (a, refl) }
 
@@ -116,14 +111,13 @@ module _ (c : Setting) (x : Chain) (ok : IsChain c x) (some : 0 < c.config.bound
   collect : (k : ℕ) → Here Place.ReadState → s.mem (Word.Node x own NodeField.State) ≡ suc (suc k) → Holds c x (next Place.ReadState)
   collect k e saw =
       goes_on Place.ReadState Place.ReadAnswer w.ghost.marked w.ghost.server (ap (λ (z : ℕ). after_state own z) saw) refl refl
-      (by_collect.keeps (members c x) c.config.bound (view c x s) (view c x (next Place.ReadState)) w.ghost p inside w.inv (bridge.collect c x s p begun own k e saw))
+      (by_call.collects (members c x) c.config.bound (view c x s) (view c x (next Place.ReadState)) w.ghost p inside w.inv (bridge.collect c x s p begun own k e saw))
       record { onward = omega arith; call = tt; read = tt; ended = λ f. absurd f; serves = λ a. tt; keep = λ q ne a. (a, refl) }
 
   start : Here Place.ReadState → s.mem (Word.Node x own NodeField.State) ≡ 0 → Holds c x (next Place.ReadState)
   start e saw =
       goes_on Place.ReadState (Place.ReadNext record { at = own; served = 0 }) w.ghost.marked (p + 1) (ap (λ (z : ℕ). after_state own z) saw) refl refl
-      (by_start.keeps (members c x) c.config.bound (view c x s) (view c x (next Place.ReadState)) w.ghost (record w.ghost { server = p + 1 }) p inside w.inv (bridge.start c x s p begun own e saw) some
-      record { calls = refl; answers = refl; marked = refl; server_now = refl; pass_of = λ k. refl; asked = λ k j. refl; asks_long = λ k. refl; told_long = λ k. refl; told = λ k j. refl; chain = λ k. refl; at = λ q. refl })
+      (by_call.starts (members c x) c.config.bound (view c x s) (view c x (next Place.ReadState)) w.ghost p inside w.inv some (bridge.start c x s p begun own e saw))
       record { onward = omega arith; call = tt; read = tt; ended = λ f. absurd f; serves = λ a. tt; keep = λ q ne a. absurd (ne (omega arith)) }
 
   read_state_by : (k : ℕ) → Here Place.ReadState → s.mem (Word.Node x own NodeField.State) ≡ k → Holds c x (next Place.ReadState)
@@ -137,13 +131,13 @@ module _ (c : Setting) (x : Chain) (ok : IsChain c x) (some : 0 < c.config.bound
   stop : (round : Round) → Here (Place.ReadNext round) → s.mem (Word.Node x round.at NodeField.Next) ≡ 0 → Holds c x (next (Place.ReadNext round))
   stop round e saw =
       goes_on (Place.ReadNext round) (Place.HandOver round.at) w.ghost.marked w.ghost.server (ap (λ (z : ℕ). after_next c.served x round z) saw) refl refl
-      (by_stop.keeps (members c x) c.config.bound (view c x s) (view c x (next (Place.ReadNext round))) w.ghost p inside w.inv (bridge.stop c x s p begun own round e saw))
+      (by_combiner.stops (members c x) c.config.bound (view c x s) (view c x (next (Place.ReadNext round))) w.ghost p inside w.inv (bridge.stop c x s p begun own round e saw))
       record { onward = omega arith; call = tt; read = tt; ended = λ f. absurd f; serves = λ a. tt; keep = λ q ne a. (a, refl) }
 
   pick : (round : Round) (k : ℕ) → Here (Place.ReadNext round) → s.mem (Word.Node x round.at NodeField.Next) ≡ suc k → Holds c x (next (Place.ReadNext round))
   pick round k e saw =
       goes_on (Place.ReadNext round) (serves c.served x record { round = round; next = k }) w.ghost.marked w.ghost.server (ap (λ (z : ℕ). after_next c.served x round z) saw) refl refl
-      (by_pick.keeps (members c x) c.config.bound (view c x s) (view c x (next (Place.ReadNext round))) w.ghost p inside w.inv (bridge.pick c x s p begun own round k e saw))
+      (by_combiner.picks (members c x) c.config.bound (view c x s) (view c x (next (Place.ReadNext round))) w.ghost p inside w.inv (bridge.pick c x s p begun own round k e saw))
       (stays_in (serves c.served x record { round = round; next = k }) (free_at c x p own _ (ap (λ z. z.rank) (serves_post c.served x own record { round = round; next = k })))
       (λ a. serves_it c.served (groups c.config) x (call_at (calls_on x s.history) w.ghost.marked) (answer_at (answers_on x s.history) w.ghost.marked) record { round = round; next = k } ok))
 
@@ -164,10 +158,10 @@ module _ (c : Setting) (x : Chain) (ok : IsChain c x) (some : 0 < c.config.bound
       let same : answers_on x (next (Place.Exchange call)).history ≡ answers_on x s.history = ap (λ (z : Side). z.answers) (entered x s.history call w.side_in) in
       record {
         ghost = grown.extended x w.ghost p call own;
-        inv = by_exchange.keeps (members c x) c.config.bound (view c x s) (view c x (next (Place.Exchange call))) w.ghost
-            (grown.extended x w.ghost p call own) p inside w.inv
+        inv = by_call.exchanges (members c x) c.config.bound (view c x s) (view c x (next (Place.Exchange call))) w.ghost p inside w.inv
+            (grown.extended x w.ghost p call own)
             (bridge.exchange c x s p begun own call e tailed)
-            (subst (λ (z : ℕ). by_exchange.Extends w.ghost (grown.extended x w.ghost p call own) p z
+            (subst (λ (z : ℕ). by_call.Extends w.ghost (grown.extended x w.ghost p call own) p z
             (post_at x ((next (Place.Exchange call)).stand (pass_on c x p))).asks) (sym (ap (λ z. z.node) was))
             (grown.extends c x (calls_on x s.history) (answers_on x s.history) (stands_on c x s) (stands_on c x (next (Place.Exchange call))) w.ghost p inside w.ties call own _ (bridge.asks c x s p begun own call)));
         ties = subst (λ (cs : List Entry). Ties c x cs (answers_on x (next (Place.Exchange call)).history) (stands_on c x (next (Place.Exchange call))) (grown.extended x w.ghost p call own)) (sym more)

@@ -9,12 +9,6 @@ pub record Stays (n : ℕ) (v v' : Chain) : Type 0 where
   pub posts : (q : ℕ) → q < n → v'.post q ≡ v.post q
 
 module _ (n h : ℕ) (v v' : Chain) (g : Ghost) (i : Inv n h v g) (t : Stays n v v') where
-  cell : (q : ℕ) → v'.node (v.post q).node ≡ v.node (v.post q).node
-  cell q = t.nodes (v.post q).node
-
-  chain_cell : (k : ℕ) → v'.node (g.chain k) ≡ v.node (g.chain k)
-  chain_cell k = t.nodes (g.chain k)
-
   open_post : (k : ℕ) → g.marked ≤ k → k < g.calls → v'.post (g.pass_of k) ≡ v.post (g.pass_of k)
   open_post k a b = t.posts (g.pass_of k) (i.calls.open_pass k a b)
 
@@ -22,13 +16,4 @@ module _ (n h : ℕ) (v v' : Chain) (g : Ghost) (i : Inv n h v g) (t : Stays n v
   server_post q a = t.posts q (i.server.server_in q a)
 
   pub keeps : Inv n h v' g
-  keeps = record {
-    nodes = grind (arith, cell, chain_cell, open_post, server_post);
-    calls = grind (arith, cell, chain_cell, open_post, server_post);
-    passes = grind (arith, cell, chain_cell, open_post, server_post);
-    links = grind (arith, cell, chain_cell, open_post, server_post);
-    words = grind (arith, cell, chain_cell, open_post, server_post);
-    states = grind (arith, cell, chain_cell, open_post, server_post);
-    server = grind (arith, cell, chain_cell, open_post, server_post);
-    serving = grind (arith, cell, chain_cell, open_post, server_post);
-  }
+  keeps = grind (arith, t.nodes, open_post, server_post)
