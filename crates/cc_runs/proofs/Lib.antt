@@ -1,3 +1,4 @@
+pub mod Changed
 pub mod ReadWords
 pub mod Words
 pub mod Opening

@@ -4,12 +4,13 @@ use Rattle.std.proofs.lemmas.Bool.{cases_eq}
 use Rattle.std.proofs.lemmas.List.{length_push, get_or_push, get_or_append_left}
 use Rattle.cc_runs.specs.Names.{Entry, Answer, Setting, Served, Chain, Stand}
 use Rattle.cc_runs.specs.Run.{IsFinished}
+use Rattle.cc_runs.proofs.Changed.{changed, changed_here, changed_away}
 use Rattle.cc_runs.proofs.Combining.Chain.{Ghost}
 use Rattle.cc_runs.proofs.Combining.CallSteps.{Extends}
 use Rattle.cc_runs.proofs.Combining.CombinerSteps.{Answers}
 use Rattle.cc_runs.proofs.Chains.View.{members, post_at, asked_words, answer_long, request_long}
 use Rattle.cc_runs.proofs.Chains.Registers.{call_at, answer_at, no_call, no_answer, IsCall, HasCall, IsAnswer, HasService, coded_words, HasRead}
-use Rattle.cc_runs.proofs.Chains.Ties.{Ties, upd, upd-same, upd-other, service_call, reader_answer}
+use Rattle.cc_runs.proofs.Chains.Ties.{Ties, service_call, reader_answer}
 
 call_new : (calls : List Entry) (e : Entry) (n : ℕ) → length calls ≡ n → call_at (calls ++ e ∷ []) n ≡ e
 call_new calls e n long = get_or_push calls e no_call n long
@@ -30,18 +31,18 @@ extended x g p e own = record {
   answers = g.answers;
   marked = g.marked;
   server = g.server;
-  pass_of = upd g.pass_of g.calls p;
-  asked = upd g.asked g.calls (asked_words x e);
+  pass_of = changed g.pass_of g.calls p;
+  asked = changed g.asked g.calls (asked_words x e);
   told = g.told;
-  asks_long = upd g.asks_long g.calls (request_long x e);
+  asks_long = changed g.asks_long g.calls (request_long x e);
   told_long = g.told_long;
-  chain = upd g.chain (g.calls + 1) own;
-  at = upd g.at p g.calls;
+  chain = changed g.chain (g.calls + 1) own;
+  at = changed g.at p g.calls;
 }
 
 -- a service decides an answer
 abbrev pub answered : Served → Chain → Ghost → Answer → Ghost
-answered served x g a = record g { answers = g.answers + 1; told = upd g.told g.answers (coded_words served x a); told_long = upd g.told_long g.answers (answer_long a) }
+answered served x g a = record g { answers = g.answers + 1; told = changed g.told g.answers (coded_words served x a); told_long = changed g.told_long g.answers (answer_long a) }
 
 module _ (c : Setting) (x : Chain) (calls : List Entry) (answers : List Answer) (stand stand' : ℕ → Stand) (g : Ghost) (p : ℕ) (inside : p < members c x) (ties : Ties c x calls answers stand g) where
   pub extends : (e : Entry) (own : ℕ) (asks : ℕ → ℕ) → ((j : ℕ) → asked_words x e j ≡ asks j) → Extends g (extended x g p e own) p own asks
@@ -50,17 +51,17 @@ module _ (c : Setting) (x : Chain) (calls : List Entry) (answers : List Answer) 
     answers = refl;
     marked = refl;
     server = refl;
-    pass_now = upd-same _ _ _;
-    pass_before = λ k l. upd-other _ _ _ _ (omega arith);
-    asked_now = λ j. ap (λ (f : ℕ → ℕ). f j) (upd-same g.asked g.calls (asked_words x e)) ∙ same j;
-    asked_before = λ k j l. ap (λ (f : ℕ → ℕ). f j) (upd-other g.asked g.calls (asked_words x e) k (omega arith));
+    pass_now = changed_here _ _ _ _ refl;
+    pass_before = λ k l. changed_away _ _ _ _ (omega arith);
+    asked_now = λ j. ap (λ (f : ℕ → ℕ). f j) (changed_here g.asked g.calls (asked_words x e) g.calls refl) ∙ same j;
+    asked_before = λ k j l. ap (λ (f : ℕ → ℕ). f j) (changed_away g.asked g.calls (asked_words x e) k (omega arith));
     told = λ k j. refl;
-    asks_long = λ k l. upd-other _ _ _ _ (omega arith);
+    asks_long = λ k l. changed_away _ _ _ _ (omega arith);
     told_long = λ k. refl;
-    chain_now = upd-same _ _ _;
-    chain_before = λ k l. upd-other _ _ _ _ (omega arith);
-    at_now = upd-same _ _ _;
-    at_before = λ q ne. upd-other _ _ _ _ ne;
+    chain_now = changed_here _ _ _ _ refl;
+    chain_before = λ k l. changed_away _ _ _ _ (omega arith);
+    at_now = changed_here _ _ _ _ refl;
+    at_before = λ q ne. changed_away _ _ _ _ ne;
   }
 
   abbrev more_calls : Entry → List Entry
@@ -69,31 +70,28 @@ module _ (c : Setting) (x : Chain) (calls : List Entry) (answers : List Answer) 
   entered_now : (e : Entry) (own : ℕ) → IsCall c x p e → (k : ℕ) → k < g.calls + 1 → IsCall c x ((extended x g p e own).pass_of k) (call_at (more_calls e) k)
   entered_now e own is k l = elim (cases_eq k g.calls) [
     | inl same ↦
-        subst (λ (z : ℕ). IsCall c x ((extended x g p e own).pass_of z) (call_at (more_calls e) z)) (sym same)
-        (subst (λ (z : ℕ). IsCall c x z (call_at (more_calls e) g.calls)) (sym (upd-same g.pass_of g.calls p))
-        (subst (λ (z : Entry). IsCall c x p z) (sym (call_new calls e g.calls ties.calls_are)) is))
+        subst (λ (z : ℕ). IsCall c x z (call_at (more_calls e) k)) (sym (changed_here g.pass_of g.calls p k same))
+        (subst (λ (z : Entry). IsCall c x p z) (sym (call_new calls e k (ties.calls_are ∙ sym same))) is)
     | inr ne ↦
-        subst (λ (z : ℕ). IsCall c x z (call_at (more_calls e) k)) (sym (upd-other g.pass_of g.calls p k ne))
+        subst (λ (z : ℕ). IsCall c x z (call_at (more_calls e) k)) (sym (changed_away g.pass_of g.calls p k ne))
         (subst (λ (z : Entry). IsCall c x (g.pass_of k) z) (sym (call_old calls e g.calls k ties.calls_are (omega arith))) (ties.entered k (omega arith)))
   ]
 
   asked_now : (e : Entry) (own k j : ℕ) → k < g.calls + 1 → (extended x g p e own).asked k j ≡ asked_words x (call_at (more_calls e) k) j
   asked_now e own k j l = elim (cases_eq k g.calls) [
     | inl same ↦
-        ap (λ (z : ℕ). upd g.asked g.calls (asked_words x e) z j) same ∙ ap (λ (f : ℕ → ℕ). f j) (upd-same g.asked g.calls (asked_words x e))
-        ∙ ap (λ (z : Entry). asked_words x z j) (sym (call_new calls e g.calls ties.calls_are)) ∙ ap (λ (z : ℕ). asked_words x (call_at (more_calls e) z) j) (sym same)
+        ap (λ (f : ℕ → ℕ). f j) (changed_here g.asked g.calls (asked_words x e) k same) ∙ ap (λ (z : Entry). asked_words x z j) (sym (call_new calls e k (ties.calls_are ∙ sym same)))
     | inr ne ↦
-        ap (λ (f : ℕ → ℕ). f j) (upd-other g.asked g.calls (asked_words x e) k ne) ∙ ties.asked k j (omega arith)
+        ap (λ (f : ℕ → ℕ). f j) (changed_away g.asked g.calls (asked_words x e) k ne) ∙ ties.asked k j (omega arith)
         ∙ ap (λ (z : Entry). asked_words x z j) (sym (call_old calls e g.calls k ties.calls_are (omega arith)))
   ]
 
   long_now : (e : Entry) (own k : ℕ) → k < g.calls + 1 → (extended x g p e own).asks_long k ≡ request_long x (call_at (more_calls e) k)
   long_now e own k l = elim (cases_eq k g.calls) [
     | inl same ↦
-        ap (λ (z : ℕ). upd g.asks_long g.calls (request_long x e) z) same ∙ upd-same g.asks_long g.calls (request_long x e)
-        ∙ ap (λ (z : Entry). request_long x z) (sym (call_new calls e g.calls ties.calls_are)) ∙ ap (λ (z : ℕ). request_long x (call_at (more_calls e) z)) (sym same)
+        changed_here g.asks_long g.calls (request_long x e) k same ∙ ap (λ (z : Entry). request_long x z) (sym (call_new calls e k (ties.calls_are ∙ sym same)))
     | inr ne ↦
-        upd-other g.asks_long g.calls (request_long x e) k ne ∙ ties.asks_long k (omega arith)
+        changed_away g.asks_long g.calls (request_long x e) k ne ∙ ties.asks_long k (omega arith)
         ∙ ap (λ (z : Entry). request_long x z) (sym (call_old calls e g.calls k ties.calls_are (omega arith)))
   ]
 
@@ -106,8 +104,8 @@ module _ (c : Setting) (x : Chain) (calls : List Entry) (answers : List Answer) 
     calls_are = length_push calls e ∙ ap (λ (z : ℕ). z + 1) ties.calls_are;
     answers_are = ties.answers_are;
     pass_in = λ k l. elim (cases_eq k g.calls) [
-      | inl same ↦ omega (arith, ap (λ (z : ℕ). upd g.pass_of g.calls p z) same, upd-same g.pass_of g.calls p)
-      | inr ne ↦ omega (arith, upd-other g.pass_of g.calls p k ne, ties.pass_in k)
+      | inl same ↦ omega (arith, changed_here g.pass_of g.calls p k same)
+      | inr ne ↦ omega (arith, changed_away g.pass_of g.calls p k ne, ties.pass_in k)
     ];
     entered = entered_now e own is;
     asked = asked_now e own;
@@ -130,15 +128,15 @@ module _ (c : Setting) (x : Chain) (calls : List Entry) (answers : List Answer) 
       | inl same ↦ subst (λ (z : Stand). HasRead c.served x (answer_at answers ((extended x g p e own).at q)) z.place) (sym here ∙ ap stand' (sym same)) (reads (answer_at answers ((extended x g p e own).at q)))
       | inr ne ↦
           subst (λ (z : Stand). HasRead c.served x (answer_at answers ((extended x g p e own).at q)) z.place) (sym (others q ne))
-          (subst (λ (z : ℕ). HasRead c.served x (answer_at answers z) (stand q).place) (sym (upd-other g.at p g.calls q ne)) (ties.read q qn))
+          (subst (λ (z : ℕ). HasRead c.served x (answer_at answers z) (stand q).place) (sym (changed_away g.at p g.calls q ne)) (ties.read q qn))
     ];
     ended = λ q qn f. elim (cases_eq q p) [
       | inl same ↦ absurd (none (subst (λ (z : Stand). IsFinished z.place) (ap stand' same ∙ here) f))
       | inr ne ↦
           let was : IsFinished (stand q).place = subst (λ (z : Stand). IsFinished z.place) (others q ne) f in
           let old : (g.at q < g.marked) × (g.pass_of (g.at q) ≡ q) = ties.ended q qn was in
-          let same_at : upd g.at p g.calls q ≡ g.at q = upd-other g.at p g.calls q ne in
-          (omega (arith, same_at, old.0), ap (λ (z : ℕ). upd g.pass_of g.calls p z) same_at ∙ upd-other g.pass_of g.calls p (g.at q) (λ last. omega (arith, last, old.0)) ∙ old.1)
+          let same_at : changed g.at p g.calls q ≡ g.at q = changed_away g.at p g.calls q ne in
+          (omega (arith, same_at, old.0), ap (λ (z : ℕ). changed g.pass_of g.calls p z) same_at ∙ changed_away g.pass_of g.calls p (g.at q) (λ last. omega (arith, last, old.0)) ∙ old.1)
     ];
   }
 
@@ -148,12 +146,12 @@ module _ (c : Setting) (x : Chain) (calls : List Entry) (answers : List Answer) 
     answers = refl;
     marked = refl;
     server = refl;
-    told_now = λ j. ap (λ (f : ℕ → ℕ). f j) (upd-same g.told g.answers (coded_words c.served x a));
-    told_before = λ k j ne. ap (λ (f : ℕ → ℕ). f j) (upd-other g.told g.answers (coded_words c.served x a) k ne);
+    told_now = λ j. ap (λ (f : ℕ → ℕ). f j) (changed_here g.told g.answers (coded_words c.served x a) g.answers refl);
+    told_before = λ k j ne. ap (λ (f : ℕ → ℕ). f j) (changed_away g.told g.answers (coded_words c.served x a) k ne);
     pass_of = λ k. refl;
     asked = λ k j. refl;
     asks_long = λ k. refl;
-    told_long = λ k ne. upd-other g.told_long g.answers (answer_long a) k ne;
+    told_long = λ k ne. changed_away g.told_long g.answers (answer_long a) k ne;
     chain = λ k. refl;
     at = λ q. refl;
   }
@@ -173,22 +171,20 @@ module _ (c : Setting) (x : Chain) (calls : List Entry) (answers : List Answer) 
     asked = ties.asked;
     asks_long = ties.asks_long;
     answered = λ k l. elim (cases_eq k g.answers) [
-      | inl same ↦ subst (λ (z : Answer). IsAnswer c.served x z) (sym (ap (λ (z : ℕ). answer_at (more_answers a) z) same ∙ answer_new answers a g.answers ties.answers_are)) is
+      | inl same ↦ subst (λ (z : Answer). IsAnswer c.served x z) (sym (answer_new answers a k (ties.answers_are ∙ sym same))) is
       | inr ne ↦ subst (λ (z : Answer). IsAnswer c.served x z) (sym (answer_old answers a g.answers k ties.answers_are (omega arith))) (ties.answered k (omega arith))
     ];
     told = λ k j l. elim (cases_eq k g.answers) [
       | inl same ↦
-          ap (λ (z : ℕ). upd g.told g.answers (coded_words c.served x a) z j) same ∙ ap (λ (f : ℕ → ℕ). f j) (upd-same g.told g.answers (coded_words c.served x a))
-          ∙ ap (λ (z : Answer). coded_words c.served x z j) (sym (answer_new answers a g.answers ties.answers_are)) ∙ ap (λ (z : ℕ). coded_words c.served x (answer_at (more_answers a) z) j) (sym same)
+          ap (λ (f : ℕ → ℕ). f j) (changed_here g.told g.answers (coded_words c.served x a) k same) ∙ ap (λ (z : Answer). coded_words c.served x z j) (sym (answer_new answers a k (ties.answers_are ∙ sym same)))
       | inr ne ↦
-          ap (λ (f : ℕ → ℕ). f j) (upd-other g.told g.answers (coded_words c.served x a) k ne) ∙ ties.told k j (omega arith)
+          ap (λ (f : ℕ → ℕ). f j) (changed_away g.told g.answers (coded_words c.served x a) k ne) ∙ ties.told k j (omega arith)
           ∙ ap (λ (z : Answer). coded_words c.served x z j) (sym (answer_old answers a g.answers k ties.answers_are (omega arith)))
     ];
     told_long = λ k l. elim (cases_eq k g.answers) [
       | inl same ↦
-          ap (λ (z : ℕ). upd g.told_long g.answers (answer_long a) z) same ∙ upd-same g.told_long g.answers (answer_long a)
-          ∙ ap answer_long (sym (answer_new answers a g.answers ties.answers_are)) ∙ ap (λ (z : ℕ). answer_long (answer_at (more_answers a) z)) (sym same)
-      | inr ne ↦ upd-other g.told_long g.answers (answer_long a) k ne ∙ ties.told_long k (omega arith) ∙ ap answer_long (sym (answer_old answers a g.answers k ties.answers_are (omega arith)))
+          changed_here g.told_long g.answers (answer_long a) k same ∙ ap answer_long (sym (answer_new answers a k (ties.answers_are ∙ sym same)))
+      | inr ne ↦ changed_away g.told_long g.answers (answer_long a) k ne ∙ ties.told_long k (omega arith) ∙ ap answer_long (sym (answer_old answers a g.answers k ties.answers_are (omega arith)))
     ];
     begun = λ q qn. elim (cases_eq q p) [
       | inl same ↦ subst (λ (z : Stand). HasCall c x q z.place) (sym here ∙ ap stand' (sym same)) (subst (λ (z : ℕ). HasCall c x z there.place) (sym same) call)

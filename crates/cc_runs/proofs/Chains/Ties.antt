@@ -1,6 +1,6 @@
 -- What ties a chain to the history, and what of it a step keeps.
-use Rattle.std.proofs.Common.{◌≡◌, ◌≢◌, ℕ, ◌+◌, ◌<◌, ◌≤◌, cond, eqb, List, length, refl, ap, sym, ◌∙◌, subst, arith, inl, inr}
-use Rattle.std.proofs.lemmas.Bool.{cases_eq, eq-eqb, ne_eqb, cond-true, cond-false}
+use Rattle.std.proofs.Common.{◌≡◌, ◌≢◌, ℕ, ◌+◌, ◌<◌, ◌≤◌, List, length, refl, ap, sym, ◌∙◌, subst, arith, inl, inr}
+use Rattle.std.proofs.lemmas.Bool.{cases_eq}
 use Rattle.cc_runs.specs.Names.{Entry, Answer, Setting, Served, Chain, Stand, Sending, Place}
 use Rattle.cc_runs.specs.State.{State}
 use Rattle.cc_runs.specs.Run.{IsFinished}
@@ -8,18 +8,6 @@ use Rattle.cc_runs.proofs.Combining.Chain.{Ghost}
 use Rattle.cc_runs.proofs.Combining.Invariant.{Inv}
 use Rattle.cc_runs.proofs.Chains.View.{view, members, pass_on, post_of, request_long, asked_words, answer_long, send_stage}
 use Rattle.cc_runs.proofs.Chains.Registers.{HasSide, calls_on, answers_on, call_at, answer_at, IsCall, HasCall, IsAnswer, Sends, HasSend, HasService, coded_words, HasRead}
-
--- a function with one value changed
-pub upd : {A : Type 0} → (ℕ → A) → ℕ → A → ℕ → A
-upd f k a j = cond (eqb j k) a (f j)
-
-pub upd-same : {A : Type 0} (f : ℕ → A) (k : ℕ) (a : A) → upd f k a k ≡ a
-unfolding upd
-upd-same f k a = cond-true _ _ _ (eq-eqb k k refl)
-
-pub upd-other : {A : Type 0} (f : ℕ → A) (k : ℕ) (a : A) (j : ℕ) → j ≢ k → upd f k a j ≡ f j
-unfolding upd
-upd-other f k a j ne = cond-false _ _ _ (ne_eqb j k ne)
 
 pub record Ties (c : Setting) (x : Chain) (calls : List Entry) (answers : List Answer) (stand : ℕ → Stand) (g : Ghost) : Type 0 where
   -- the calls and answers of the history are those of the chain

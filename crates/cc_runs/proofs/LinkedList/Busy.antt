@@ -1,6 +1,7 @@
 -- How many nodes are busy, and why the list never holds more than its capacity.
 use Rattle.std.proofs.Common.{◌≡◌, ℕ, ◌+◌, ◌-◌, ◌<◌, ◌≤◌, ◌≢◌, arith, refl, inl, inr}
 use Rattle.std.proofs.lemmas.Bool.{cases_eq, cases_lt}
+use Rattle.cc_runs.proofs.Changed.{changed, changed_here, changed_away}
 use Rattle.cc_runs.proofs.LinkedList.Queue.{Queue, Ghosts}
 use Rattle.cc_runs.proofs.LinkedList.Invariant.{LInv}
 use Rattle.cc_runs.proofs.LinkedList.Count.{total, covered, below, below_yes, below_no, below_most, ones}
@@ -63,18 +64,18 @@ module _ (c life n : ℕ) (v : Queue) (g : Ghosts) (i : LInv c life n v g) where
   -- in preparation: one more
   module _ (preparing : 7 ≤ v.enq.stage) (preparing2 : v.enq.stage ≤ 10) where
     node' : ℕ → ℕ
-    node' j = elim (cases_eq j (g.accepted + 1 - g.least)) [ inl _ ↦ v.enq.found | inr _ ↦ g.node (g.least + j) ]
+    node' = changed (λ (j : ℕ). g.node (g.least + j)) (g.accepted + 1 - g.least) v.enq.found
 
     at' : ℕ → ℕ
     at' x = elim (cases_eq (g.role x) 1) [ inl _ ↦ g.accepted + 1 - g.least | inr _ ↦ g.pos x - g.least ]
 
     node_last : (j : ℕ) → j ≡ g.accepted + 1 - g.least → node' j ≡ v.enq.found
     unfolding node'
-    node_last j same = elim (cases_eq j (g.accepted + 1 - g.least)) as (λ d. elim d as (λ _. ℕ) [ inl _ ↦ v.enq.found | inr _ ↦ g.node (g.least + j) ] ≡ v.enq.found) [ inl _ ↦ refl | inr ne ↦ absurd (ne same) ]
+    node_last = changed_here _ _ _
 
     node_early : (j : ℕ) → j ≢ g.accepted + 1 - g.least → node' j ≡ g.node (g.least + j)
     unfolding node'
-    node_early j other = elim (cases_eq j (g.accepted + 1 - g.least)) as (λ d. elim d as (λ _. ℕ) [ inl _ ↦ v.enq.found | inr _ ↦ g.node (g.least + j) ] ≡ g.node (g.least + j)) [ inl same ↦ absurd (other same) | inr _ ↦ refl ]
+    node_early = changed_away _ _ _
 
     at_last : (x : ℕ) → g.role x ≡ 1 → at' x ≡ g.accepted + 1 - g.least
     unfolding at'

@@ -123,15 +123,3 @@ ones n (suc m) f node at o =
       at_is = λ k l. o.at_is k (omega arith);
     } in
     omega (arith, ones n m (without f (node m)) node at rest, total_bump n (without f (node m)) f (node m) last (omega (arith, o.one m (omega arith), without_here f (node m) (node m) refl)) (λ j ne. sym (without_others f (node m) j ne)))
-
--- a function with one new value
-pub upd : (ℕ → ℕ) → ℕ → ℕ → ℕ → ℕ
-upd f k a x = elim (cases_eq x k) [ inl _ ↦ a | inr _ ↦ f x ]
-
-pub upd_here : (f : ℕ → ℕ) (k a : ℕ) → upd f k a k ≡ a
-unfolding upd
-upd_here f k a = elim (cases_eq k k) as (λ d. elim d as (λ _. ℕ) [ inl _ ↦ a | inr _ ↦ f k ] ≡ a) [ inl _ ↦ refl | inr ne ↦ absurd (ne refl) ]
-
-pub upd_others : (f : ℕ → ℕ) (k a x : ℕ) → x ≢ k → upd f k a x ≡ f x
-unfolding upd
-upd_others f k a x ne = elim (cases_eq x k) as (λ d. elim d as (λ _. ℕ) [ inl _ ↦ a | inr _ ↦ f x ] ≡ f x) [ inl same ↦ absurd (ne same) | inr _ ↦ refl ]

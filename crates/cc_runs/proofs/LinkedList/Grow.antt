@@ -1,9 +1,9 @@
 -- The ghosts after each step that moves them: what each of these steps changes of them, and that they can be so.
-use Rattle.std.proofs.Common.{◌≡◌, ℕ, ◌+◌, ◌<◌, ◌≤◌, ◌≢◌, arith, refl, inl, inr}
+use Rattle.std.proofs.Common.{◌≡◌, ℕ, ◌+◌, ◌<◌, ◌≤◌, ◌≢◌, arith, refl, sym, ap, ◌∙◌}
 use Rattle.std.proofs.lemmas.Bool.{cases_eq}
 use Rattle.cc_runs.proofs.LinkedList.Queue.{Queue, Ghosts, SameLog, SameHands, SameRoles}
 use Rattle.cc_runs.proofs.LinkedList.Invariant.{LInv}
-use Rattle.cc_runs.proofs.LinkedList.Count.{upd, upd_here, upd_others}
+use Rattle.cc_runs.proofs.Changed.{changed, changed_here, changed_away}
 use Rattle.cc_runs.proofs.LinkedList.Sides.{smallest, smallest_least, smallest_is, above, above_all, above_some, above_none, above_now, above_others}
 use Rattle.cc_runs.proofs.LinkedList.Open.{opening, zeros}
 
@@ -57,25 +57,14 @@ pub record Gives (n : ℕ) (g g' : Ghosts) (s : ℕ) : Type 0 where
   pub by_all : (k : ℕ) → k < g'.least → g'.by k ≡ n
   pub by_some : (k : ℕ) → g'.least ≤ k → g'.by k < n
 
-upd2 : (ℕ → ℕ → ℕ) → ℕ → (ℕ → ℕ) → ℕ → ℕ → ℕ
-upd2 f k a x = elim (cases_eq x k) [ inl _ ↦ a | inr _ ↦ f x ]
-
-upd2_here : (f : ℕ → ℕ → ℕ) (k : ℕ) (a : ℕ → ℕ) (j : ℕ) → upd2 f k a k j ≡ a j
-unfolding upd2
-upd2_here f k a j = elim (cases_eq k k) as (λ d. elim d as (λ _. ℕ → ℕ) [ inl _ ↦ a | inr _ ↦ f k ] j ≡ a j) [ inl _ ↦ refl | inr ne ↦ absurd (ne refl) ]
-
-upd2_others : (f : ℕ → ℕ → ℕ) (k : ℕ) (a : ℕ → ℕ) (x j : ℕ) → x ≢ k → upd2 f k a x j ≡ f x j
-unfolding upd2
-upd2_others f k a x j ne = elim (cases_eq x k) as (λ d. elim d as (λ _. ℕ → ℕ) [ inl _ ↦ a | inr _ ↦ f x ] j ≡ f x j) [ inl same ↦ absurd (ne same) | inr _ ↦ refl ]
-
 pub accepting : Queue → Ghosts → Ghosts
 accepting v g = record g {
   accepted = g.accepted + 1;
-  items = upd2 g.items g.accepted v.enq.asks;
-  long = upd g.long g.accepted v.enq.asks_long;
-  node = upd g.node (g.accepted + 1) v.enq.found;
-  role = upd g.role v.enq.found 2;
-  pos = upd g.pos v.enq.found (g.accepted + 1);
+  items = changed g.items g.accepted v.enq.asks;
+  long = changed g.long g.accepted v.enq.asks_long;
+  node = changed g.node (g.accepted + 1) v.enq.found;
+  role = changed g.role v.enq.found 2;
+  pos = changed g.pos v.enq.found (g.accepted + 1);
 }
 
 pub accepts : (v : Queue) (g : Ghosts) → Accepts v g (accepting v g)
@@ -84,17 +73,17 @@ accepts v g = record {
   hands = record { handed = λ s. refl; least = refl; by = λ k. refl };
   shut = refl;
   accepted = refl;
-  items_now = upd2_here g.items g.accepted v.enq.asks;
-  items = λ k j ne. upd2_others g.items g.accepted v.enq.asks k j ne;
-  long_now = upd_here g.long g.accepted v.enq.asks_long;
-  long = λ k ne. upd_others g.long g.accepted v.enq.asks_long k ne;
+  items_now = λ j. ap (λ (f : ℕ → ℕ). f j) (changed_here g.items g.accepted v.enq.asks g.accepted refl);
+  items = λ k j ne. ap (λ (f : ℕ → ℕ). f j) (changed_away g.items g.accepted v.enq.asks k ne);
+  long_now = changed_here _ _ _ _ refl;
+  long = changed_away _ _ _;
   tells = λ a. refl;
-  node_now = upd_here g.node (g.accepted + 1) v.enq.found;
-  node = λ k ne. upd_others g.node (g.accepted + 1) v.enq.found k ne;
-  role_now = upd_here g.role v.enq.found 2;
-  role = λ x ne. upd_others g.role v.enq.found 2 x ne;
-  pos_now = upd_here g.pos v.enq.found (g.accepted + 1);
-  pos = λ x ne. upd_others g.pos v.enq.found (g.accepted + 1) x ne;
+  node_now = changed_here _ _ _ _ refl;
+  node = changed_away _ _ _;
+  role_now = changed_here _ _ _ _ refl;
+  role = changed_away _ _ _;
+  pos_now = changed_here _ _ _ _ refl;
+  pos = changed_away _ _ _;
 }
 
 pub shutting : Ghosts → Ghosts
@@ -114,15 +103,15 @@ shuts g = record {
 }
 
 pub preparing : Queue → Ghosts → Ghosts
-preparing v g = record g { role = upd g.role v.enq.found 1 }
+preparing v g = record g { role = changed g.role v.enq.found 1 }
 
 pub prepares : (v : Queue) (g : Ghosts) → Prepares v g (preparing v g)
 unfolding preparing
 prepares v g = record {
   log = record { accepted = refl; shut = refl; items = λ k j. refl; long = λ k. refl; tells = λ a. refl; node = λ k. refl };
   hands = record { handed = λ s. refl; least = refl; by = λ k. refl };
-  role_now = upd_here g.role v.enq.found 1;
-  role = λ x ne. upd_others g.role v.enq.found 1 x ne;
+  role_now = changed_here _ _ _ _ refl;
+  role = changed_away _ _ _;
   pos = λ x. refl;
 }
 
@@ -138,9 +127,9 @@ pub record ListHolds (c life m : ℕ) (v : Queue) (g : Ghosts) : Type 0 where
 
 pub giving : ℕ → Ghosts → ℕ → Ghosts
 giving m g s = record g {
-  handed = upd g.handed s (g.handed s + 1);
-  least = smallest m (upd g.handed s (g.handed s + 1));
-  by = above (m + 1) (upd g.handed s (g.handed s + 1));
+  handed = changed g.handed s (g.handed s + 1);
+  least = smallest m (changed g.handed s (g.handed s + 1));
+  by = above (m + 1) (changed g.handed s (g.handed s + 1));
 }
 
 smallest_up : (m : ℕ) (h h' : ℕ → ℕ) → ((s : ℕ) → h s ≤ h' s) → smallest m h ≤ smallest m h'
@@ -148,15 +137,15 @@ smallest_up m h h' up = let r : (s : ℕ) × (s ≤ m) × (h' s ≡ smallest m h
 
 module _ (m : ℕ) (g : Ghosts) (s : ℕ) (inside : s < m + 1) (counted : Counted m g) where
   after : ℕ → ℕ
-  after = upd g.handed s (g.handed s + 1)
+  after = changed g.handed s (g.handed s + 1)
 
   now : after s ≡ g.handed s + 1
   unfolding after
-  now = upd_here g.handed s (g.handed s + 1)
+  now = changed_here _ _ _ _ refl
 
   others : (q : ℕ) → q ≢ s → after q ≡ g.handed q
   unfolding after
-  others q ne = upd_others g.handed s (g.handed s + 1) q ne
+  others = changed_away _ _ _
 
   up : (q : ℕ) → g.handed q ≤ after q
   up q = grind (arith, cases_eq q s, now, others q)
@@ -180,17 +169,12 @@ module _ (m : ℕ) (g : Ghosts) (s : ℕ) (inside : s < m + 1) (counted : Counte
     by_some = λ k l. above_some m (m + 1) after k refl l;
   }
 
-pub preparing_counted : (m : ℕ) (v : Queue) (g : Ghosts) → Counted m g → Counted m (preparing v g)
-unfolding preparing
-preparing_counted m v g k = record { least = k.least; by = k.by }
-
-pub accepting_counted : (m : ℕ) (v : Queue) (g : Ghosts) → Counted m g → Counted m (accepting v g)
-unfolding accepting
-accepting_counted m v g k = record { least = k.least; by = k.by }
-
-pub shutting_counted : (m : ℕ) (g : Ghosts) → Counted m g → Counted m (shutting g)
-unfolding shutting
-shutting_counted m g k = record { least = k.least; by = k.by }
+-- where the numbers handed out stay
+pub counted_same : (m : ℕ) (g g' : Ghosts) → SameHands g g' → Counted m g → Counted m g'
+counted_same m g g' same k = record {
+  least = same.least ∙ k.least ∙ ap (λ (h : ℕ → ℕ). smallest m h) (λ i s. sym (same.handed s) i);
+  by = λ n. same.by n ∙ k.by n ∙ ap (λ (h : ℕ → ℕ). above (m + 1) h n) (λ i s. sym (same.handed s) i);
+}
 
 pub opening_counted : (m : ℕ) (tells : ℕ → ℕ) → Counted m (opening tells)
 opening_counted m tells =
@@ -199,21 +183,3 @@ opening_counted m tells =
       least = grind (arith, r, zeros tells);
       by = λ k. grind (arith, zeros tells, above_none (m + 1) (opening tells).handed k (λ s l. grind (arith, zeros tells)));
     }
-
--- how many words an item has is told once and for all
-
-pub accepting_tells : (v : Queue) (g : Ghosts) → (accepting v g).tells ≡ g.tells
-unfolding accepting
-accepting_tells v g = refl
-
-pub preparing_tells : (v : Queue) (g : Ghosts) → (preparing v g).tells ≡ g.tells
-unfolding preparing
-preparing_tells v g = refl
-
-pub shutting_tells : (g : Ghosts) → (shutting g).tells ≡ g.tells
-unfolding shutting
-shutting_tells g = refl
-
-pub giving_tells : (m : ℕ) (g : Ghosts) (s : ℕ) → (giving m g s).tells ≡ g.tells
-unfolding giving
-giving_tells m g s = refl

@@ -1,6 +1,7 @@
 -- The list at the opening: node 0 is the first dummy, all others are free.
-use Rattle.std.proofs.Common.{◌≡◌, ℕ, ◌+◌, ◌<◌, ◌≤◌, ◌≢◌, arith, refl, inl, inr}
+use Rattle.std.proofs.Common.{◌≡◌, ℕ, ◌+◌, ◌<◌, ◌≤◌, ◌≢◌, arith, refl}
 use Rattle.std.proofs.lemmas.Bool.{cases_eq}
+use Rattle.cc_runs.proofs.Changed.{changed, changed_here, changed_away}
 use Rattle.cc_runs.proofs.LinkedList.Queue.{Queue, Ghosts}
 use Rattle.cc_runs.proofs.LinkedList.Invariant.{LInv}
 
@@ -28,7 +29,7 @@ opening tells = record {
   items = λ k j. 0;
   long = λ k. 0;
   node = λ k. 0;
-  role = λ x. elim (cases_eq x 0) [ inl _ ↦ 2 | inr _ ↦ 0 ];
+  role = changed (λ x. 0) 0 2;
   pos = λ x. 0;
   least = 0;
   by = λ k. 0;
@@ -36,11 +37,11 @@ opening tells = record {
 
 role_first : (tells : ℕ → ℕ) (x : ℕ) → x ≡ 0 → (opening tells).role x ≡ 2
 unfolding opening
-role_first tells x same = elim (cases_eq x 0) as (λ d. elim d as (λ _. ℕ) [ inl _ ↦ 2 | inr _ ↦ 0 ] ≡ 2) [ inl _ ↦ refl | inr ne ↦ absurd (ne same) ]
+role_first tells = changed_here _ _ _
 
 role_others : (tells : ℕ → ℕ) (x : ℕ) → x ≢ 0 → (opening tells).role x ≡ 0
 unfolding opening
-role_others tells x ne = elim (cases_eq x 0) as (λ d. elim d as (λ _. ℕ) [ inl _ ↦ 2 | inr _ ↦ 0 ] ≡ 0) [ inl same ↦ absurd (ne same) | inr _ ↦ refl ]
+role_others tells = changed_away _ _ _
 
 pub record Zero (g : Ghosts) : Type 0 where
   pub accepted : g.accepted ≡ 0
@@ -58,20 +59,7 @@ zeros tells = record { accepted = refl; handed = λ s. refl; shut = refl; node =
 pub opens : (c life n : ℕ) (v : Queue) (tells : ℕ → ℕ) → Opens c n v → LInv c life n v (opening tells)
 opens c life n v tells o =
     let z : Zero (opening tells) = zeros tells in
-    record {
-      hands = grind (arith, z, o);
-      live = grind (arith, z, o, role_first tells);
-      nodes = grind (arith, cases_eq, z, o, role_first tells, role_others tells);
-      links = grind (arith, z, o);
-      words = grind (arith, z, o);
-      branch = grind (arith, z, o);
-      request = grind (arith, z, o);
-      found = grind (arith, z, o);
-      prepared = grind (arith, z, o);
-      scan = grind (arith, z, o);
-      heads = grind (arith, z, o);
-      takes = grind (arith, z, o);
-    }
+    grind (arith, cases_eq, z, o, role_first tells, role_others tells)
 
 pub opening_tells : (tells : ℕ → ℕ) → (opening tells).tells ≡ tells
 unfolding opening

@@ -9,11 +9,12 @@ use Rattle.cc_runs.proofs.Bodies.{few_further}
 use Rattle.cc_runs.proofs.ReadWords.{next_word}
 use Rattle.cc_runs.proofs.Chains.Registers.{HasAsked, HasRequest}
 use Rattle.cc_runs.specs.Run.{IsIdle, passes}
+use Rattle.cc_runs.proofs.Chains.Frame.{hold_here}
 use Rattle.cc_runs.proofs.LinkedList.Queue.{Queue}
 use Rattle.cc_runs.proofs.LinkedList.Invariant.{LInv}
 use Rattle.cc_runs.proofs.LinkedList.Grow.{ListHolds}
 use Rattle.cc_runs.proofs.ListRuns.SendKeeps as keeps
-use Rattle.cc_runs.proofs.ListRuns.View.{Duty, Regs, enq_in, enq_at, regs_at, regs_of, queue_from, queue_of, hold_here, hold_same, hold_all}
+use Rattle.cc_runs.proofs.ListRuns.View.{Duty, Regs, enq_in, enq_at, regs_at, regs_of, queue_from, queue_of, hold_same, hold_all}
 use Rattle.cc_runs.proofs.ListRuns.Ties.{further, ReadsAt, IsBegun, IsServing, IsTaking, IsNextSend, IsNextTake}
 use Rattle.cc_runs.proofs.ListRuns.SendTurn.{Caller}
 use Rattle.cc_runs.proofs.ListRuns.Facts.{lists, IsSending, ChainFacts}

@@ -7,11 +7,13 @@ use Rattle.cc_runs.specs.State.{State, chain_of, hold}
 use Rattle.cc_runs.specs.Words.{groups}
 use Rattle.cc_runs.specs.Lines.{group_of}
 use Rattle.cc_runs.specs.Run.{IsIdle, passes}
+use Rattle.cc_runs.proofs.Changed.{changed, changed_here, changed_away, changed_all}
+use Rattle.cc_runs.proofs.Chains.Frame.{hold_here}
 use Rattle.cc_runs.proofs.LinkedList.Queue.{Enq, Queue}
 use Rattle.cc_runs.proofs.LinkedList.Invariant.{LInv}
 use Rattle.cc_runs.proofs.LinkedList.Grow.{ListHolds}
 use Rattle.cc_runs.proofs.ListRuns.TakeKeeps as keeps
-use Rattle.cc_runs.proofs.ListRuns.View.{Duty, with_group, group_here, group_away, group_all, enq_at, regs_at, regs_of, queue_from, queue_of, hold_here, hold_other, hold_same, hold_all}
+use Rattle.cc_runs.proofs.ListRuns.View.{Duty, enq_at, regs_at, regs_of, queue_from, queue_of, hold_other, hold_same, hold_all}
 use Rattle.cc_runs.proofs.ListRuns.Ties.{further, ReadsAt, IsServing, IsUndecidedAt, IsTaking, IsNextSend, IsNextTake}
 use Rattle.cc_runs.proofs.ListRuns.Facts.{lists, ChainFacts}
 use Rattle.cc_runs.proofs.ListRuns.Invariant.{Parts, Onward}
@@ -53,7 +55,7 @@ module _ (c : Config) (s : State) (p begun own y : ℕ) (chain : chain_of c p �
     read = facts.read_head p job y within chain here
 
     abbrev to : Duty
-    to = record { e_pass = d.e_pass; e_call = d.e_call; from = d.from; d_pass = with_group d.d_pass y p; d_call = with_group d.d_call y read.0 }
+    to = record { e_pass = d.e_pass; e_call = d.e_call; from = d.from; d_pass = changed d.d_pass y p; d_call = changed d.d_call y read.0 }
 
     -- no other pass of the group takes
     alone : (q : ℕ) → chain_of c q ≡ Chain.Take y → p ≢ q → IsTaking (s.stand q).place → ⊥
@@ -77,24 +79,24 @@ module _ (c : Config) (s : State) (p begun own y : ℕ) (chain : chain_of c p �
     abbrev after : Queue
     after = queue_from s.mem to enq (regs_of t.stand to)
 
-    mine : with_group d.d_pass y p y ≡ p
-    mine = group_here d.d_pass y p
+    mine : changed d.d_pass y p y ≡ p
+    mine = changed_here d.d_pass y p y refl
 
     apart : (q : ℕ) → q ≢ y → p ≢ d.d_pass q
     apart q ne same = ne (ap group_of (sym (k.serving.d_mine q) ∙ ap (λ (z : ℕ). chain_of c z) (sym same) ∙ chain))
 
-    stand_away : (q : ℕ) → q ≢ y → t.stand (with_group d.d_pass y p q) ≡ s.stand (d.d_pass q)
-    stand_away q ne = ap t.stand (group_away d.d_pass y p q ne) ∙ hold_other s.stand p (d.d_pass q) now (apart q ne)
+    stand_away : (q : ℕ) → q ≢ y → t.stand (changed d.d_pass y p q) ≡ s.stand (d.d_pass q)
+    stand_away q ne = ap t.stand (changed_away d.d_pass y p q ne) ∙ hold_other s.stand p (d.d_pass q) now (apart q ne)
 
-    stand_mine : (t.stand (with_group d.d_pass y p y)).place ≡ there
+    stand_mine : (t.stand (changed d.d_pass y p y)).place ≡ there
     stand_mine = ap (λ (z : ℕ). (t.stand z).place) mine ∙ here
 
-    call_is : with_group d.d_call y read.0 y ≡ read.0
-    call_is = group_here d.d_call y read.0
+    call_is : changed d.d_call y read.0 y ≡ read.0
+    call_is = changed_here d.d_call y read.0 y refl
 
     enters : LInv c.capacity c.life (further c + 1) after k.told
-    enters = keeps.enters s.mem d to enq (regs_of s.stand d) (regs_of t.stand to) c (further c + 1) k.told y (λ q ne. (ap (λ (z : Stand). regs_at z.place) (stand_away q ne), group_away d.d_call y read.0 q ne))
-        (take_regs_none (s.stand (d.d_pass y)).place rests) (ap regs_at stand_mine) (let same : (with_group d.d_call y read.0 y).known ≡ read.0.known = ap (λ (z : Entry). z.known) call_is in omega (arith, same, callers read.0 read.1, k.ties.accepted_is, k.ties.shut_is)) k.list.inv
+    enters = keeps.enters s.mem d to enq (regs_of s.stand d) (regs_of t.stand to) c (further c + 1) k.told y (λ q ne. (ap (λ (z : Stand). regs_at z.place) (stand_away q ne), changed_away d.d_call y read.0 q ne))
+        (take_regs_none (s.stand (d.d_pass y)).place rests) (ap regs_at stand_mine) (let same : (changed d.d_call y read.0 y).known ≡ read.0.known = ap (λ (z : Entry). z.known) call_is in omega (arith, same, callers read.0 read.1, k.ties.accepted_is, k.ties.shut_is)) k.list.inv
 
     same_enq : enq_at d.e_call d.from (t.stand d.e_pass).place ≡ enq
     same_enq = hold_same (λ (z : Stand). enq_at d.e_call d.from z.place) s.stand p now (ap (λ (z : Place). enq_at d.e_call d.from z) (sym stands)) d.e_pass
@@ -102,18 +104,18 @@ module _ (c : Config) (s : State) (p begun own y : ℕ) (chain : chain_of c p �
     same_queue : queue_of t to ≡ after
     same_queue = ap (λ (e : Enq). queue_from t.mem to e (regs_of t.stand to)) same_enq
 
-    next_at : (x : ℕ) → IsTaking (t.stand (with_group d.d_pass y p x)).place → IsNextTake s.history x (with_group d.d_call y read.0 x)
+    next_at : (x : ℕ) → IsTaking (t.stand (changed d.d_pass y p x)).place → IsNextTake s.history x (changed d.d_call y read.0 x)
     next_at x = elim (cases_eq x y) [
-      | inl same ↦ λ u. subst (λ (z : ℕ). IsNextTake s.history z (with_group d.d_call y read.0 z)) (sym same) (subst (λ (e : Entry). IsNextTake s.history y e) (sym call_is) read.1)
-      | inr ne ↦ λ u. subst (λ (e : Entry). IsNextTake s.history x e) (sym (group_away d.d_call y read.0 x ne)) (k.serving.next_take x (subst (λ (z : Stand). IsTaking z.place) (stand_away x ne) u))
+      | inl same ↦ λ u. subst (λ (z : ℕ). IsNextTake s.history z (changed d.d_call y read.0 z)) (sym same) (subst (λ (e : Entry). IsNextTake s.history y e) (sym call_is) read.1)
+      | inr ne ↦ λ u. subst (λ (e : Entry). IsNextTake s.history x e) (sym (changed_away d.d_call y read.0 x ne)) (k.serving.next_take x (subst (λ (z : Stand). IsTaking z.place) (stand_away x ne) u))
     ]
 
-    only : (x q : ℕ) → chain_of c q ≡ Chain.Take x → q ≢ with_group d.d_pass y p x → IsTaking (t.stand q).place → ⊥
-    only x = hold_all (λ (q : ℕ) (z : Stand). chain_of c q ≡ Chain.Take x → q ≢ with_group d.d_pass y p x → IsTaking z.place → ⊥) s.stand p now
-        (λ e ne u. ne (sym mine ∙ ap (with_group d.d_pass y p) (ap group_of (sym chain ∙ e))))
+    only : (x q : ℕ) → chain_of c q ≡ Chain.Take x → q ≢ changed d.d_pass y p x → IsTaking (t.stand q).place → ⊥
+    only x = hold_all (λ (q : ℕ) (z : Stand). chain_of c q ≡ Chain.Take x → q ≢ changed d.d_pass y p x → IsTaking z.place → ⊥) s.stand p now
+        (λ e ne u. ne (sym mine ∙ ap (changed d.d_pass y p) (ap group_of (sym chain ∙ e))))
         (λ q off e. elim (cases_eq x y) [
           | inl same ↦ λ ne u. alone q (e ∙ ap Chain.Take same) off u
-          | inr other ↦ λ ne u. k.serving.d_only x q e (λ z. ne (z ∙ sym (group_away d.d_pass y p x other))) u
+          | inr other ↦ λ ne u. k.serving.d_only x q e (λ z. ne (z ∙ sym (changed_away d.d_pass y p x other))) u
         ])
 
     pub take_enters : Onward c s k t
@@ -124,7 +126,7 @@ module _ (c : Config) (s : State) (p begun own y : ℕ) (chain : chain_of c p �
         list = subst (λ (v : Queue). ListHolds c.capacity c.life (further c) v k.told) (sym same_queue) (record { inv = enters; counted = k.list.counted });
         serving = record {
           e_only = hold_all (λ (q : ℕ) (z : Stand). q ≢ d.e_pass → IsServing z.place → ⊥) s.stand p now (λ ne u. u) (λ q ne n u. k.serving.e_only q n u);
-          d_mine = group_all (λ (x : ℕ) (q : ℕ). chain_of c q ≡ Chain.Take x) d.d_pass y p chain (λ x ne. k.serving.d_mine x);
+          d_mine = changed_all (λ (x : ℕ) (q : ℕ). chain_of c q ≡ Chain.Take x) d.d_pass y p chain (λ x ne. k.serving.d_mine x);
           d_only = only;
           caller = k.serving.caller;
           reads = hold_all (λ (q : ℕ) (z : Stand). q ≡ d.e_pass → ReadsAt c d.e_call d.from z.place) s.stand p now (λ e. tt)

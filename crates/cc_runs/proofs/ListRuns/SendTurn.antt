@@ -247,12 +247,12 @@ module _ (c : Config) (mem : Word → ℕ) (d : Duty) (r : ℕ → Regs) (h : Re
       record {
         from = d.from;
         told = told;
-        list = record { inv = keeps.reset_passed mem d r c (further c + 1) g told parcel at u has.inv; counted = grow.preparing_counted (further c) v g has.counted };
+        list = record { inv = keeps.reset_passed mem d r c (further c + 1) g told parcel at u has.inv; counted = grow.counted_same (further c) g told u.hands has.counted };
         least_up = omega (arith, u.hands.least);
         entries_up = omega (arith, u.log.accepted, u.log.shut);
         reads = asked;
         next_call = λ u. next;
-        ties = ties_told told u.log.accepted u.hands.handed u.log.shut (grow.preparing_tells v g) u.log.items;
+        ties = ties_told told u.log.accepted u.hands.handed u.log.shut (λ i a. u.log.tells a i) u.log.items;
         linked = (u.log.accepted, λ j l. u.log.node j);
       }
 
@@ -305,7 +305,7 @@ module _ (c : Config) (mem : Word → ℕ) (d : Duty) (r : ℕ → Regs) (h : Re
     link_item = record {
       from = d.from;
       told = told;
-      list = record { inv = keeps.link_item mem d r c (further c + 1) g told count at last u has.inv; counted = grow.accepting_counted (further c) before g has.counted };
+      list = record { inv = keeps.link_item mem d r c (further c + 1) g told count at last u has.inv; counted = grow.counted_same (further c) g told u.hands has.counted };
       least_up = omega (arith, u.hands.least);
       entries_up = omega (arith, u.accepted, u.shut);
       reads = tt;
@@ -316,7 +316,7 @@ module _ (c : Config) (mem : Word → ℕ) (d : Duty) (r : ℕ → Regs) (h : Re
         accepted_is = omega (arith, u.accepted, ties.accepted_is, ap length now, length-append (accepted h) (it ∷ []));
         handed_is = λ y. u.hands.handed y ∙ ties.handed_is y;
         shut_is = u.shut ∙ ties.shut_is ∙ ap shut_number (sym (e_shut c h ties.lawful d.e_call a next ∙ or_false (is_shut h)));
-        tells_is = grow.accepting_tells before g ∙ ties.tells_is;
+        tells_is = (λ i a. u.tells a i) ∙ ties.tells_is;
         items_are = λ k l. elim (cases_eq k g.accepted) [ inl same ↦ new_item k same | inr ne ↦ old_item k (omega (arith, l, ne, u.accepted)) ne ];
         lawful = e_decided c h ties.lawful d.e_call a next fits;
       };
@@ -351,7 +351,7 @@ module _ (c : Config) (mem : Word → ℕ) (d : Duty) (r : ℕ → Regs) (h : Re
     link_mark = record {
       from = d.from;
       told = told_mark;
-      list = record { inv = keeps.link_mark mem d r c (further c + 1) g told_mark total last shuts_it has.inv; counted = grow.shutting_counted (further c) g has.counted };
+      list = record { inv = keeps.link_mark mem d r c (further c + 1) g told_mark total last shuts_it has.inv; counted = grow.counted_same (further c) g told_mark shuts_it.hands has.counted };
       least_up = omega (arith, shuts_it.hands.least);
       entries_up = omega (arith, shuts_it.accepted, shuts_it.shut, known_mark.1);
       reads = tt;
@@ -362,7 +362,7 @@ module _ (c : Config) (mem : Word → ℕ) (d : Duty) (r : ℕ → Regs) (h : Re
         accepted_is = shuts_it.accepted ∙ ties.accepted_is ∙ ap length (sym now_mark);
         handed_is = λ y. shuts_it.hands.handed y ∙ ties.handed_is y;
         shut_is = shuts_it.shut ∙ ap shut_number (sym (e_shut c h ties.lawful d.e_call shut_told next ∙ or_true (is_shut h)));
-        tells_is = grow.shutting_tells g ∙ ties.tells_is;
+        tells_is = (λ i a. shuts_it.tells a i) ∙ ties.tells_is;
         items_are = λ k l. rw now_mark (ties.items_are k (omega (arith, l, shuts_it.accepted)) ∙ sym (ap Some (item_same k (told_mark.items k) (g.items k) (shuts_it.items k))));
         lawful = e_decided c h ties.lawful d.e_call shut_told next fits_mark;
       };

@@ -6,9 +6,10 @@ use Rattle.cc_runs.specs.State.{State, chain_of, word_of, stored, noted}
 use Rattle.cc_runs.specs.SendLines as send_side
 use Rattle.cc_runs.specs.Step.{stepped_from}
 use Rattle.cc_runs.specs.MachineLaws.{links}
+use Rattle.cc_runs.proofs.Chains.Frame.{hold_here}
 use Rattle.cc_runs.proofs.LinkedList.Queue.{Queue}
 use Rattle.cc_runs.proofs.LinkedList.Grow.{ListHolds}
-use Rattle.cc_runs.proofs.ListRuns.View.{Duty, Regs, enq_at, regs_at, regs_of, queue_from, queue_of, hold_here, hold_same, hold_all}
+use Rattle.cc_runs.proofs.ListRuns.View.{Duty, Regs, enq_at, regs_at, regs_of, queue_from, queue_of, hold_same, hold_all}
 use Rattle.cc_runs.proofs.ListRuns.Ties.{further, ReadsAt, IsBegun, IsServing, IsUndecidedAt, IsTaking, IsNextSend, IsNextTake}
 use Rattle.cc_runs.proofs.ListRuns.SendTurn as send_turn
 use Rattle.cc_runs.proofs.ListRuns.Facts.{lists}

@@ -9,9 +9,10 @@ use Rattle.cc_runs.specs.Words.{groups}
 use Rattle.cc_runs.specs.Lines.{group_of}
 use Rattle.cc_runs.specs.TakeLines as take_side
 use Rattle.cc_runs.specs.Step.{stepped_from}
+use Rattle.cc_runs.proofs.Chains.Frame.{hold_here}
 use Rattle.cc_runs.proofs.LinkedList.Queue.{Enq, Queue}
 use Rattle.cc_runs.proofs.LinkedList.Grow.{ListHolds}
-use Rattle.cc_runs.proofs.ListRuns.View.{Duty, enq_at, regs_at, regs_of, queue_from, hold_here, hold_other, hold_same, hold_all}
+use Rattle.cc_runs.proofs.ListRuns.View.{Duty, enq_at, regs_at, regs_of, queue_from, hold_other, hold_same, hold_all}
 use Rattle.cc_runs.proofs.ListRuns.Ties.{further, ReadsAt, IsServing, IsUndecidedAt, IsTaking, IsNextSend, IsNextTake}
 use Rattle.cc_runs.proofs.ListRuns.Decided.{group_other}
 use Rattle.cc_runs.proofs.ListRuns.TakeTurn as take_turn

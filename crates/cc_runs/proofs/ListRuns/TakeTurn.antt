@@ -180,7 +180,7 @@ module _ (c : Config) (mem : Word → ℕ) (d : Duty) (e : Enq) (h : Record) (g 
         accepted_is = u.log.accepted ∙ ties.accepted_is;
         handed_is = all_handed;
         shut_is = u.log.shut ∙ ties.shut_is;
-        tells_is = grow.giving_tells (further c) g y ∙ ties.tells_is;
+        tells_is = (λ i a. u.log.tells a i) ∙ ties.tells_is;
         items_are = λ k l. ties.items_are k (omega (arith, l, u.log.accepted)) ∙ sym (ap Some (item_same k (told.items k) (g.items k) (u.log.items k)));
         lawful = d_decided c h ties.lawful y side_in (d.d_call y) a next (item_is, place_is ∙ ties.handed_is y);
       };

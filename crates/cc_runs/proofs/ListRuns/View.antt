@@ -18,10 +18,6 @@ pub record Duty : Type 0 where
   pub d_pass : ℕ → ℕ
   pub d_call : ℕ → Entry
 
--- another value for one group
-abbrev pub with_group : {X : Type 0} → (ℕ → X) → ℕ → X → ℕ → X
-with_group f y now x = cond (x == y) now (f x)
-
 -- how many words an item or a request has whose tag this is, the tag among them
 abbrev pub long_of : ℕ → ℕ
 long_of tag = further_words tag + 2
@@ -124,60 +120,31 @@ regs_of stands d y = regs_at (stands (d.d_pass y)).place
 abbrev pub queue_of : State → Duty → Queue
 queue_of s d = queue_from s.mem d (enq_at d.e_call d.from (s.stand d.e_pass).place) (regs_of s.stand d)
 
--- ---- one group's value
-
-pub group_here : {X : Type 0} (f : ℕ → X) (y : ℕ) (now : X) → with_group f y now y ≡ now
-group_here f y now = ap (λ (b : Bool). cond b now (f y)) (eq-eqb y y refl)
-
-pub group_away : {X : Type 0} (f : ℕ → X) (y : ℕ) (now : X) (x : ℕ) → x ≢ y → with_group f y now x ≡ f x
-group_away f y now x ne = ap (λ (b : Bool). cond b now (f x)) (ne_eqb x y ne)
-
--- what holds of that group's value and of the others' holds of all
-pub group_all : {X : Type 0} (P : ℕ → X → Type 0) (f : ℕ → X) (y : ℕ) (now : X) → P y now → ((x : ℕ) → x ≢ y → P x (f x)) → (x : ℕ) → P x (with_group f y now x)
-group_all {X} P f y now here others x = by_case (x == y) refl
-  where
-    by_case : (b : Bool) → (x == y) ≡ b → P x (cond b now (f x))
-    by_case true same = subst (λ (k : ℕ). P k now) (sym (eqb-true x y same)) here
-    by_case false other = others x (eqb-false x y other)
-
 -- ---- a store to a word of the object
 
-same_number : (x : ℕ) → (x == x) ≡ true
-same_number x = eq-eqb x x refl
-
-other_number : (x y : ℕ) → x ≢ y → (x == y) ≡ false
-other_number x y ne = by_case (x == y) refl
-  where
-    by_case : (b : Bool) → (x == y) ≡ b → b ≡ false
-    by_case true e = absurd (ne (eqb-true x y e))
-    by_case false e = refl
-
 pub object_here : (mem : Word → ℕ) (o : Obj) (value : ℕ) → put mem (Word.Object o) value (Word.Object o) ≡ value
-object_here mem o value = ap (λ (b : Bool). cond b value (mem (Word.Object o))) (same_number (object_number o))
+object_here mem o value = ap (λ (b : Bool). cond b value (mem (Word.Object o))) (eq-eqb _ _ refl)
 
 pub object_other : (mem : Word → ℕ) (o q : Obj) (value : ℕ) → object_number o ≢ object_number q → put mem (Word.Object o) value (Word.Object q) ≡ mem (Word.Object q)
-object_other mem o q value ne = ap (λ (b : Bool). cond b value (mem (Word.Object q))) (other_number (object_number o) (object_number q) ne)
+object_other mem o q value ne = ap (λ (b : Bool). cond b value (mem (Word.Object q))) (ne_eqb _ _ ne)
 
 -- ---- a store to a word of an item's body
 
 pub part_here : (mem : Word → ℕ) (x i value : ℕ) → item_word (put mem (Word.Item x (ItemField.Body i)) value) x (suc i) ≡ value
-part_here mem x i value = (λ k. cond (same_number i k && (x == x)) value (mem (Word.Item x (ItemField.Body i)))) ∙ ap (λ (b : Bool). cond b value (mem (Word.Item x (ItemField.Body i)))) (same_number x)
+part_here mem x i value = (λ k. cond (eq-eqb i i refl k && (x == x)) value (mem (Word.Item x (ItemField.Body i)))) ∙ ap (λ (b : Bool). cond b value (mem (Word.Item x (ItemField.Body i)))) (eq-eqb x x refl)
 
 pub part_other : (mem : Word → ℕ) (x i value y j : ℕ) → (x ≡ y → j ≢ suc i) → item_word (put mem (Word.Item x (ItemField.Body i)) value) y j ≡ item_word mem y j
 part_other mem x i value y zero ne = refl
 part_other mem x i value y (suc j) ne = by_node (x == y) refl
   where
     by_node : (b : Bool) → (x == y) ≡ b → put mem (Word.Item x (ItemField.Body i)) value (Word.Item y (ItemField.Body j)) ≡ mem (Word.Item y (ItemField.Body j))
-    by_node true same = ap (λ (b : Bool). cond (b && (x == y)) value (mem (Word.Item y (ItemField.Body j)))) (other_number i j (λ e. ne (eqb-true x y same) (ap suc (sym e))))
+    by_node true same = ap (λ (b : Bool). cond (b && (x == y)) value (mem (Word.Item y (ItemField.Body j)))) (ne_eqb i j (λ e. ne (eqb-true x y same) (ap suc (sym e))))
     by_node false other = ap (λ (b : Bool). cond ((i == j) && b) value (mem (Word.Item y (ItemField.Body j)))) other ∙ ap (λ (b : Bool). cond b value (mem (Word.Item y (ItemField.Body j)))) (and-false (i == j))
 
 -- ---- a pass that goes on
 
-pub hold_here : (stands : ℕ → Stand) (p : ℕ) (now : Stand) → hold stands p now p ≡ now
-hold_here stands p now = ap (λ (b : Bool). cond b now (stands p)) (same_number p)
-
 pub hold_other : (stands : ℕ → Stand) (p q : ℕ) (now : Stand) → p ≢ q → hold stands p now q ≡ stands q
-hold_other stands p q now ne = ap (λ (b : Bool). cond b now (stands q)) (other_number p q ne)
+hold_other stands p q now ne = ap (λ (b : Bool). cond b now (stands q)) (ne_eqb p q ne)
 
 -- what a pass doesn't change of itself it changes of nobody
 pub hold_same : {X : Type 0} (look : Stand → X) (stands : ℕ → Stand) (p : ℕ) (now : Stand) → look now ≡ look (stands p) → (q : ℕ) → look (hold stands p now q) ≡ look (stands q)
