@@ -1,19 +1,15 @@
 -- The history has of each pass just those of its calls that have exchanged.
-use Rattle.std.proofs.Common.{◌≡◌, ◌≢◌, ◌⊎◌, ℕ, zero, suc, ◌+◌, ◌<◌, Bool, true, false, ◌==◌, nat_lt, cond, refl, ap, sym, ◌∙◌, subst, inl, inr, Option, Some, None, List, [], ◌∷◌, ◌++◌, map}
+use Rattle.std.proofs.Common.{◌≡◌, ◌≢◌, ◌⊎◌, ℕ, ◌+◌, ◌<◌, Bool, true, false, ◌==◌, cond, refl, ap, sym, ◌∙◌, subst, inl, inr, Option, Some, None, List, [], ◌∷◌, ◌++◌, map}
 use Rattle.std.specs.List.{filter}
 use Rattle.std.proofs.lemmas.Bool.{cases_eq, eq-eqb, ne_eqb, lt-ltb}
 use Rattle.std.proofs.lemmas.List.{append-nil}
 use Rattle.std.proofs.lemmas.List.Elements.{filter-append}
 use Rattle.cc_model.specs.Record.{Side, Record}
 use Rattle.cc_model.specs.Items.{is_pass, calls_of}
-use Rattle.cc_runs.specs.Names.{Pass, Call, Entry, Answer, TakeAnswer, Setting, Served, Chain, Round, Job, Stand, Counting, Sending, Taking, Place, Move}
+use Rattle.cc_runs.specs.Names.{Pass, Call, Entry, Answer, Setting, Chain, Stand, Place, Move}
 use Rattle.cc_runs.specs.Words.{groups}
-use Rattle.cc_runs.specs.Codes.{code_of, value_of, tag_of, further_words, item_in, with_read}
 use Rattle.cc_runs.specs.State.{State, chain_of, pass_at, first_node, hold, noted, appended, word_of}
-use Rattle.cc_runs.specs.CountLines as count_side
-use Rattle.cc_runs.specs.SendLines as send_side
-use Rattle.cc_runs.specs.TakeLines as take_side
-use Rattle.cc_runs.specs.Lines.{operation, goes, enters, decides, after_exchange, after_state, after_next, after_answer, after_ret, serves}
+use Rattle.cc_runs.specs.Lines.{operation, goes, enters, decides}
 use Rattle.cc_runs.specs.Step.{stepped, advanced}
 use Rattle.cc_runs.specs.Run.{IsRun, IsIdle, IsFinished, begins, rests, number_of, moved, opening, nowhere, reached, passes}
 use Rattle.cc_runs.specs.OnChain.{calls_on, answers_on}
@@ -29,58 +25,18 @@ use Rattle.cc_runs.proofs.Chains.Serving.{Chains, chains_hold, chain_is, on_chai
 use Rattle.cc_runs.proofs.Chains.Last.{chosen}
 use Rattle.cc_runs.proofs.Chains.ReadAnswers.{named, name_is, other_name, NotOther, calls_one}
 use Rattle.cc_runs.specs.CallsMade.{made, to_exchange, CallsOfRuns}
-use Rattle.cc_runs.proofs.Leads.{leads}
+use Rattle.cc_runs.proofs.Leads.{IsAfter, LeadsAfter, goes_after}
 
 -- ---- no step but a begin gives a pass a call to exchange
 
-none_state : (own found : ℕ) → to_exchange (after_state own found) ≡ []
-none_state own zero = refl
-none_state own (suc zero) = refl
-none_state own (suc (suc found)) = refl
+none_after : (at : Place) → IsAfter (Unit {0}) at → to_exchange at ≡ []
+none_after (Place.ResetNext call) never = absurd never
+none_after (Place.ResetState call) never = absurd never
+none_after (Place.Exchange call) never = absurd never
+none_after _ u = refl
 
-none_serves : (what : Served) (x : Chain) (job : Job) → to_exchange (serves what x job) ≡ []
-none_serves Served.Counter x job = refl
-none_serves Served.List Chain.Send job = refl
-none_serves Served.List (Chain.Take g) job = refl
-
-none_next : (what : Served) (x : Chain) (round : Round) (found : ℕ) → to_exchange (after_next what x round found) ≡ []
-none_next what x round zero = refl
-none_next what x round (suc found) = none_serves what x record { round = round; next = found }
-
-none_exchanged : (x : Chain) (own : ℕ) (call : Entry) → to_exchange (after_exchange x own call) ≡ []
-none_exchanged Chain.Send own call = refl
-none_exchanged (Chain.Take g) own call = refl
-
-none_answer : (job : Job) (told : Answer) → to_exchange (after_answer job told) ≡ []
-none_answer job (Answer.Take (TakeAnswer.Got item)) = refl
-none_answer job (Answer.Take TakeAnswer.Empty) = refl
-none_answer job (Answer.Take (TakeAnswer.Ended total)) = refl
-none_answer job (Answer.Send told) = refl
-none_answer job (Answer.Close told) = refl
-
--- either way there is none
-either : (b : Bool) (first second : Place) → to_exchange first ≡ [] → to_exchange second ≡ [] → to_exchange (cond b first second) ≡ []
-either true first second a z = a
-either false first second a z = z
-
-none_ret : (what : Served) (x : Chain) (ret : ℕ) → to_exchange (after_ret what x ret) ≡ []
-none_ret what Chain.Send ret = refl
-none_ret what (Chain.Take g) ret =
-    either (code_of ret == 1) (Place.ReadAnswerTag (value_of ret)) (cond (code_of ret == 2) (Place.Finished (Answer.Take TakeAnswer.Empty)) (Place.Finished (Answer.Take (TakeAnswer.Ended (value_of ret))))) refl
-    (either (code_of ret == 2) (Place.Finished (Answer.Take TakeAnswer.Empty)) (Place.Finished (Answer.Take (TakeAnswer.Ended (value_of ret)))) refl refl)
-
--- where a service leads there is none
-abbrev None' : Place → Type 0
-None' at = to_exchange at ≡ []
-
-none_count : (job : Job) (service : Counting) (found : ℕ) → to_exchange (count_side.goes job service found) ≡ []
-none_count job service found = leads None' count_side.in_service job (λ s. refl) (λ told. refl) (count_side.line 0 service found).next
-
-none_send : (c : Setting) (job : Job) (service : Sending) (found : ℕ) → to_exchange (send_side.goes c.config job service found) ≡ []
-none_send c job service found = leads None' send_side.in_service job (λ s. refl) (λ told. refl) (send_side.line c.config 0 service found).next
-
-none_take : (job : Job) (service : Taking) (found : ℕ) → to_exchange (take_side.goes job service found) ≡ []
-none_take job service found = leads None' take_side.in_service job (λ s. refl) (λ told. refl) (take_side.line 0 service found).next
+none_left : (c : Setting) (x : Chain) (own : ℕ) (at : Place) (found : ℕ) → LeadsAfter (Unit {0}) at → to_exchange (goes c x own at found) ≡ []
+none_left = goes_after (Unit {0}) (λ (at : Place). to_exchange at ≡ []) none_after
 
 -- ---- one step
 
@@ -90,20 +46,10 @@ pub own_step : (c : Setting) (x : Chain) (own found : ℕ) (f : Entry → Bool) 
 own_step c x own found f calls began (Place.Exchange call) e its =
     let one : filter f (call ∷ []) ≡ call ∷ [] = ap (λ (b : Bool). cond b (call ∷ []) []) (its call refl) in
     let more : filter f (calls ++ call ∷ []) ≡ filter f calls ++ call ∷ [] = filter-append f calls (call ∷ []) ∙ ap (λ (l : List Entry). filter f calls ++ l) one in
-    e ∙ sym more ∙ sym (append-nil (filter f (calls ++ call ∷ []))) ∙ ap (λ (l : List Entry). filter f (calls ++ call ∷ []) ++ l) (sym (none_exchanged x own call))
-own_step c x own found f calls began (Place.WriteBody put request i) e its = e ∙ ap (λ (l : List Entry). filter f calls ++ l) (sym (either (nat_lt i (further_words request.tag)) (Place.WriteBody put request (i + 1)) (Place.Link put) refl refl))
-own_step c x own found f calls began Place.ReadState e its = e ∙ ap (λ (l : List Entry). filter f calls ++ l) (sym (none_state own found))
-own_step c x own found f calls began (Place.ReadNext round) e its = e ∙ ap (λ (l : List Entry). filter f calls ++ l) (sym (none_next c.served x round found))
-own_step c x own found f calls began (Place.Counting job service) e its = e ∙ ap (λ (l : List Entry). filter f calls ++ l) (sym (none_count job service found))
-own_step c x own found f calls began (Place.Sending job service) e its = e ∙ ap (λ (l : List Entry). filter f calls ++ l) (sym (none_send c job service found))
-own_step c x own found f calls began (Place.Taking job service) e its = e ∙ ap (λ (l : List Entry). filter f calls ++ l) (sym (none_take job service found))
-own_step c x own found f calls began (Place.WriteAnswer job told) e its = e ∙ ap (λ (l : List Entry). filter f calls ++ l) (sym (none_answer job told))
-own_step c x own found f calls began (Place.WriteAnswerBody job item i) e its = e ∙ ap (λ (l : List Entry). filter f calls ++ l) (sym (either (nat_lt i (further_words (tag_of item))) (Place.WriteAnswerBody job item (i + 1)) (Place.MarkDone job) refl refl))
-own_step c x own found f calls began (Place.MarkDone job) e its =
-    e ∙ ap (λ (l : List Entry). filter f calls ++ l) (sym (either (job.round.served + 1 == c.config.bound) (Place.HandOver job.next) (Place.ReadNext record { at = job.next; served = job.round.served + 1 }) refl refl))
-own_step c x own found f calls began Place.ReadAnswer e its = e ∙ ap (λ (l : List Entry). filter f calls ++ l) (sym (none_ret c.served x found))
-own_step c x own found f calls began (Place.ReadAnswerBody at i) e its = e ∙ ap (λ (l : List Entry). filter f calls ++ l) (sym (either (nat_lt i (further_words at.tag)) (Place.ReadAnswerBody (with_read at i found) (i + 1)) (Place.Finished (Answer.Take (TakeAnswer.Got (item_in (with_read at i found))))) refl refl))
-own_step c x own found f calls began _ e its = e
+    e ∙ sym more ∙ sym (append-nil (filter f (calls ++ call ∷ []))) ∙ ap (λ (l : List Entry). filter f (calls ++ call ∷ []) ++ l) (sym (none_left c x own (Place.Exchange call) found tt))
+own_step c x own found f calls began (Place.ResetNext call) e its = e
+own_step c x own found f calls began (Place.ResetState call) e its = e
+own_step c x own found f calls began at e its = e ∙ ap (λ (l : List Entry). filter f calls ++ l) (sym (none_left c x own at found tt))
 
 -- a step of another pass
 other_step : (f : Entry → Bool) (calls : List Entry) (at : Place) → ((call : Entry) → at ≡ Place.Exchange call → f call ≡ false) → filter f (appended calls (enters at)) ≡ filter f calls

@@ -1,14 +1,15 @@
 -- The counter over every run: its word, the answers, and how many there can be.
-use Rattle.std.proofs.Common.{◌≡◌, ◌≢◌, ℕ, zero, suc, ◌+◌, ◌*◌, ◌-◌, ◌^◌, ◌<◌, ◌≤◌, Bool, true, false, ◌==◌, cond, refl, ap, sym, ◌∙◌, subst, arith, inl, inr, Option, None, List, [], ◌∷◌, ◌++◌, length}
+use Rattle.std.proofs.Common.{◌≡◌, ◌≢◌, ℕ, zero, suc, ◌+◌, ◌*◌, ◌-◌, ◌^◌, ◌<◌, ◌≤◌, refl, ap, sym, ◌∙◌, subst, arith, inl, inr, Option, None, List, [], ◌∷◌, ◌++◌, length}
 use Rattle.std.proofs.lemmas.Bool.{cases_eq}
 use Rattle.std.proofs.lemmas.List.{length_push, get_or_push, get_or_append_left}
-use Rattle.cc_runs.specs.Names.{Config, Entry, Answer, SendAnswer, TakeAnswer, Setting, Served, Chain, Object, Word, Event, Job, Round, Stand, Counting, Place}
-use Rattle.cc_runs.specs.Codes.{tag_of, further_words}
+use Rattle.cc_runs.specs.Names.{Config, Entry, Answer, SendAnswer, Setting, Served, Chain, Object, Word, Event, Job, Round, Stand, Counting, Place}
+use Rattle.cc_runs.specs.Codes.{further_words}
 use Rattle.cc_runs.specs.State.{State, hold, appended, word_of}
-use Rattle.cc_runs.specs.Lines.{operation, goes, event_at, enters, decides, after_state, after_next, after_answer}
+use Rattle.cc_runs.specs.Lines.{operation, goes, event_at, enters, decides, after_next}
 use Rattle.cc_runs.specs.Step.{stepped_from, advanced}
 use Rattle.cc_runs.specs.Run.{passes, passes_of}
 use Rattle.cc_runs.specs.CallsMade.{before_exchange}
+use Rattle.cc_runs.proofs.Leads.{IsAfter, goes_after}
 use Rattle.cc_runs.proofs.ReadWords.{behind_word}
 use Rattle.cc_runs.proofs.Chains.Frame.{hold_here, hold_apart}
 use Rattle.cc_runs.proofs.Chains.View.{post_of, post_at}
@@ -26,26 +27,19 @@ pub record IsCalm (there : Place) : Type 0 where
   pub waits_not : before_exchange there ≡ 0
   pub counts_not : (n : ℕ) → HasCount n there
 
-calm_state : (own found : ℕ) → IsCalm (after_state own found)
-calm_state own zero = record { waits_not = refl; counts_not = λ n. tt }
-calm_state own (suc zero) = record { waits_not = refl; counts_not = λ n. tt }
-calm_state own (suc (suc found)) = record { waits_not = refl; counts_not = λ n. tt }
+calm_after : (at : Place) → IsAfter ⊥ at → IsCalm at
+calm_after (Place.ResetNext call) never = absurd never
+calm_after (Place.ResetState call) never = absurd never
+calm_after (Place.Exchange call) never = absurd never
+calm_after (Place.Counting job service) never = absurd never
+calm_after (Place.Sending job service) never = absurd never
+calm_after (Place.Taking job service) never = absurd never
+calm_after _ u = record { waits_not = refl; counts_not = λ n. tt }
 
 calm_next : (s : Served) → s ≡ Served.Counter → (round : Round) (found : ℕ) → IsCalm (after_next s Chain.Send round found)
 calm_next s e round zero = record { waits_not = refl; counts_not = λ n. tt }
 calm_next Served.Counter e round (suc found) = record { waits_not = refl; counts_not = λ n. tt }
 calm_next Served.List e round (suc found) = absurd (cc)
-
-calm_answer : (job : Job) (told : Answer) → IsCalm (after_answer job told)
-calm_answer job (Answer.Take (TakeAnswer.Got item)) = record { waits_not = refl; counts_not = λ n. tt }
-calm_answer job (Answer.Take TakeAnswer.Empty) = record { waits_not = refl; counts_not = λ n. tt }
-calm_answer job (Answer.Take (TakeAnswer.Ended total)) = record { waits_not = refl; counts_not = λ n. tt }
-calm_answer job (Answer.Send told) = record { waits_not = refl; counts_not = λ n. tt }
-calm_answer job (Answer.Close told) = record { waits_not = refl; counts_not = λ n. tt }
-
-calm_done : (job : Job) (b : Bool) → IsCalm (cond b (Place.HandOver job.next) (Place.ReadNext record { at = job.next; served = job.round.served + 1 }))
-calm_done job true = record { waits_not = refl; counts_not = λ n. tt }
-calm_done job false = record { waits_not = refl; counts_not = λ n. tt }
 
 -- the calls of a pass that have exchanged, and those of the first n passes
 abbrev pub gone : Stand → ℕ
@@ -216,21 +210,10 @@ module _ (c : Setting) (counter : c.served ≡ Served.Counter) (s : State) (k : 
   counts_step (Place.ResetNext call) e busy = quiet (Place.ResetNext call) (Place.ResetState call) e refl refl tt refl refl refl
   counts_step (Place.ResetState call) e busy = quiet (Place.ResetState call) (Place.Exchange call) e refl refl tt refl refl refl
   counts_step (Place.Exchange call) e busy = exchange call e
-  counts_step (Place.WriteTag put request) e busy = quiet (Place.WriteTag put request) (Place.WriteBody put request 0) e refl refl tt refl refl refl
-  counts_step (Place.WriteBody put request i) e busy = calm (Place.WriteBody put request i) _ e refl refl (behind_word IsCalm (further_words request.tag) i _ _ (λ more. record { waits_not = refl; counts_not = λ n. tt }) (λ last. record { waits_not = refl; counts_not = λ n. tt })) refl refl refl
-  counts_step (Place.Link put) e busy = quiet (Place.Link put) Place.ReadState e refl refl tt refl refl refl
-  counts_step Place.ReadState e busy = calm Place.ReadState _ e refl refl (calm_state own (found Place.ReadState)) refl refl refl
   counts_step (Place.ReadNext round) e busy = calm (Place.ReadNext round) _ e refl refl (calm_next c.served counter round (found (Place.ReadNext round))) refl refl refl
   counts_step (Place.Counting job service) e busy = counting_step job service e
   counts_step (Place.Sending job service) e busy =
       let no : c.served ≡ Served.List = (sends_where c.served Chain.Send _ (serves_at (Place.Sending job service) e refl)).0 in absurd (not_both (sym counter ∙ no))
   counts_step (Place.Taking job service) e busy = let no : c.served ≡ Served.List = (takes_where c.served Chain.Send (serves_at (Place.Taking job service) e refl)).0 in absurd (not_both (sym counter ∙ no))
-  counts_step (Place.WriteAnswer job told) e busy = calm (Place.WriteAnswer job told) _ e refl refl (calm_answer job told) refl refl refl
-  counts_step (Place.WriteAnswerTag job item) e busy = quiet (Place.WriteAnswerTag job item) (Place.WriteAnswerBody job item 0) e refl refl tt refl refl refl
-  counts_step (Place.WriteAnswerBody job item i) e busy = calm (Place.WriteAnswerBody job item i) _ e refl refl (behind_word IsCalm (further_words (tag_of item)) i _ _ (λ more. record { waits_not = refl; counts_not = λ n. tt }) (λ last. record { waits_not = refl; counts_not = λ n. tt })) refl refl refl
-  counts_step (Place.MarkDone job) e busy = calm (Place.MarkDone job) _ e refl refl (calm_done job (job.round.served + 1 == c.config.bound)) refl refl refl
-  counts_step (Place.HandOver at) e busy = quiet (Place.HandOver at) Place.ReadAnswer e refl refl tt refl refl refl
-  counts_step Place.ReadAnswer e busy = quiet Place.ReadAnswer _ e refl refl tt refl refl refl
-  counts_step (Place.ReadAnswerTag at) e busy = quiet (Place.ReadAnswerTag at) _ e refl refl tt refl refl refl
-  counts_step (Place.ReadAnswerBody at i) e busy = calm (Place.ReadAnswerBody at i) _ e refl refl (behind_word IsCalm (further_words at.tag) i _ _ (λ more. record { waits_not = refl; counts_not = λ n. tt }) (λ last. record { waits_not = refl; counts_not = λ n. tt })) refl refl refl
   counts_step (Place.Finished told) e busy = absurd (busy refl)
+  counts_step at e busy = calm at _ e refl refl (goes_after ⊥ IsCalm calm_after c Chain.Send own at (found at) tt) refl refl refl
