@@ -1,9 +1,9 @@
 -- What is counted of a history stays counted as the history goes on, and goes on by further answers.
-use Rattle.std.proofs.Common.{◌≡◌, ◌≢◌, ℕ, ◌+◌, ◌<◌, ◌≤◌, List, [], ◌∷◌, ◌++◌, length, take, Bool, true, false, ◌||◌, if◌then◌else◌, Option, Some, None, refl, sym, ap, subst, ◌∙◌, arith, length-append, inl, inr, zero, suc, ◌-◌, map, get_or, slice_index_or, replicate, min}
+use Rattle.std.proofs.Common.{◌≡◌, ◌≢◌, ℕ, ◌+◌, ◌<◌, ◌≤◌, List, [], ◌∷◌, ◌++◌, length, take, Bool, true, false, ◌||◌, if◌then◌else◌, Option, Some, None, refl, sym, ap, subst, ◌∙◌, arith, length-append, inl, inr, zero, suc, ◌-◌, get_or, slice_index_or, replicate, min}
 use Rattle.std.specs.List.{slice_get, list_any}
-use Rattle.std.proofs.lemmas.List.{length_push, length-map, length-take-le, take-append-le, take_more}
+use Rattle.std.proofs.lemmas.List.{length_push, length-take-le, take-append-le, take_more}
 use Rattle.cc_model.specs.Record.{Side, Record, empty, of_group}
-use Rattle.cc_model.specs.Items.{accepted_by, accepted_item, sent_item, shuts, handed, handed_by, handed_item, handed_to_all, least}
+use Rattle.cc_model.specs.Items.{accepted_by, accepted_item, sent_item, shuts, handed, handed_by, handed_item, handed_to_all}
 use Rattle.cc_machine.specs.Names.{Pass, Call, Item, Entry, Answer, SendAnswer, CloseAnswer, TakeAnswer, Known, Chain}
 use Rattle.cc_model.proofs.Grows.{any-append, accepted_more, handed_by-append}
 use Rattle.cc_runs.specs.State.{side, appended, noted}
@@ -12,7 +12,7 @@ use Rattle.std.proofs.lemmas.Option.{slice_get-get_or}
 use Rattle.cc_runs.proofs.Chains.Registers.{HasSide}
 use Rattle.cc_runs.proofs.Chains.Opening.{no_calls}
 use Rattle.cc_runs.proofs.ListRuns.Decided.{group_mine, group_other}
-use Rattle.cc_runs.proofs.ListRuns.Least.{least_smallest, counts_get}
+use Rattle.cc_runs.proofs.ListRuns.Least.{least_of_groups}
 use Rattle.cc_runs.proofs.LinkedList.Sides.{smallest, smallest_one, smallest_min}
 use Rattle.cc_runs.specs.Ready.{HasOpenCall}
 use Rattle.cc_machine.specs.Known.{adds_entry, adds_handed, entries_by, IsKnown, least_of}
@@ -24,25 +24,9 @@ smallest_of : (m : ℕ) (f : ℕ → ℕ) → least_of m f ≡ smallest m f
 smallest_of zero f = sym (smallest_one f)
 smallest_of (suc m) f = ap (λ (n : ℕ). min n (f (suc m))) (smallest_of m f) ∙ sym (smallest_min m f)
 
--- the least over the groups, of counts one by one and of the list of the groups' counts
-least_more : (x : ℕ) (xs : List ℕ) (f : ℕ → ℕ) → ((k : ℕ) → k ≤ length xs → f k ≡ get_or (x ∷ xs) k 0) → least_of (length xs) f ≡ least (x ∷ xs)
-least_more x xs f same =
-    smallest_of (length xs) f ∙ least_smallest x xs f same
-
 -- what every group was handed is the least of what each was
 pub least_is : (h : Record) → 1 ≤ length h.takes → least_of (length h.takes - 1) (λ g. length (handed h g)) ≡ handed_to_all h
-least_is h some = by_list h.takes refl
-  where
-    count : Side → ℕ
-    count = λ side. length (handed_by side.answers)
-
-    by_list : (sides : List Side) → h.takes ≡ sides → least_of (length h.takes - 1) (λ g. length (handed h g)) ≡ least (map count h.takes)
-    by_list [] e = absurd (omega (arith, some, ap length e))
-    by_list (s ∷ sides) e =
-        let long : length (map count sides) ≡ length h.takes - 1 = omega (arith, length-map sides count, ap length e) in
-        ap (λ (m : ℕ). least_of m (λ g. length (handed h g))) (sym long)
-        ∙ least_more (count s) (map count sides) (λ g. length (handed h g)) (λ j l. sym (counts_get h.takes j) ∙ ap (λ (z : List Side). get_or (map count z) j 0) e)
-        ∙ ap (λ (z : List Side). least (map count z)) (sym e)
+least_is h some = smallest_of (length h.takes - 1) (λ g. length (handed h g)) ∙ least_of_groups h (length h.takes - 1) (λ g. length (handed h g)) (omega (arith, some)) (λ y. refl)
 
 -- ---- a side that goes on
 

@@ -1,10 +1,10 @@
 -- A board that a run led to, with room for the calls to come, stays one by each move.
-use Rattle.std.proofs.Common.{◌≡◌, ◌≢◌, ◌⊎◌, inl, inr, zero, suc, map, get_or, List, ℕ, Bool, true, false, nat_lt, if◌then◌else◌, ◌+◌, ◌<◌, ◌≤◌, arith, refl, ap, sym, subst, ◌∙◌, length, [], ◌∷◌, Ok, Option, Some, None, IfSome, IfNone}
+use Rattle.std.proofs.Common.{◌≡◌, ◌≢◌, ◌⊎◌, inl, inr, ℕ, Bool, true, false, nat_lt, if◌then◌else◌, ◌+◌, ◌<◌, ◌≤◌, arith, refl, ap, sym, subst, ◌∙◌, length, [], ◌∷◌, Ok, Option, Some, None, IfSome, IfNone}
 use Rattle.std.proofs.lemmas.Bool.{cases_eq, eq-eqb, ne_eqb}
 use Rattle.std.proofs.lemmas.List.{length-map}
 use Rattle.cc_model.specs.Config.{config_fault}
-use Rattle.cc_model.specs.HistoryRoom.{HistoryRoom, SideRoom, lists}
-use Rattle.cc_model.specs.Record.{Side, Record, silent}
+use Rattle.cc_model.specs.HistoryRoom.{HistoryRoom, lists}
+use Rattle.cc_model.specs.Record.{Side, Record}
 use Rattle.cc_machine.specs.Names.{Call, Answer, Setting, Chain, Stand, Place, Sending, Board, Served, Config, Event, Move}
 use Rattle.cc_runs.specs.Words.{groups, IsSmall, layout_of, size}
 use Rattle.cc_runs.specs.OnChain.{IsThere}
@@ -24,6 +24,7 @@ use Rattle.cc_machine.specs.BoardSteps.{side_room, view_of, state_of, IsLaid, Ke
 use Rattle.cc_machine.specs.Machine.{IsReached, told_at}
 use Rattle.cc_machine.specs.Lawful.{to_come, coming, HasRoomToCome, IsLawful}
 use Rattle.cc_runs.specs.CallsMade.{before_exchange}
+use Rattle.cc_machine.proofs.SideRooms.{room_is}
 use Rattle.cc_machine.proofs.RoomToCome.{one_on_side, coming_hold, coming_some, coming_none, gained}
 
 -- the history of the state that is seen is the one that is seen
@@ -37,12 +38,7 @@ history_shown b = history_in (view_of b)
 -- what is kept of a side is that side
 pub room_lists : (x : Chain) (h : HistoryRoom) → side x (lists h) ≡ (side_room x h).lists
 room_lists Chain.Send h = refl
-room_lists (Chain.Take g) h = at h.takes g
-  where
-    at : (sides : List SideRoom) (g : ℕ) → get_or (map (λ s. s.lists) sides) g silent ≡ (get_or sides g record { lists = silent; room = 0 }).lists
-    at [] g = refl
-    at (s ∷ sides) zero = refl
-    at (s ∷ sides) (suc g) = at sides g
+room_lists (Chain.Take g) h = sym (room_is h g)
 
 pub laid_kept : (old new : Board) → Keeps old new → IsLaid old → IsLaid new
 laid_kept old new k l = record {

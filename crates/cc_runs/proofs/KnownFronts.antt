@@ -1,9 +1,9 @@
 -- As a history goes on, there is no less to be known of it: a front of a run gives a pass no more to know than the run.
-use Rattle.std.proofs.Common.{◌≡◌, ℕ, ◌+◌, ◌≤◌, Bool, true, false, ◌||◌, List, [], ◌∷◌, ◌++◌, length, map, get_or, zero, suc, sym, refl, ap, ◌∙◌, arith, length-append, if◌then◌else◌}
+use Rattle.std.proofs.Common.{◌≡◌, ℕ, ◌+◌, ◌≤◌, Bool, true, false, ◌||◌, List, [], ◌∷◌, ◌++◌, length, map, get_or, suc, sym, ap, ◌∙◌, arith, length-append, if◌then◌else◌}
 use Rattle.std.specs.List.{list_any}
 use Rattle.std.proofs.lemmas.List.{length-map}
 use Rattle.cc_runs.specs.Names.{Chain, Pass, Item, Entry, Answer}
-use Rattle.cc_model.specs.Record.{Side, Record, silent, of_group}
+use Rattle.cc_model.specs.Record.{Side, Record, of_group}
 use Rattle.cc_model.specs.Items.{SideBegins, Begins, accepted_by, accepted_item, shuts, handed_by, least, known_at}
 use Rattle.cc_model.proofs.Grows.{any-append, handed_by-append}
 use Rattle.cc_runs.specs.State.{pass_at}
@@ -11,6 +11,7 @@ use Rattle.cc_runs.specs.Run.{history_of}
 use Rattle.cc_runs.specs.Passes.{FrontsKnowNoMore}
 use Rattle.cc_runs.proofs.RunFronts.{fronts_begin}
 use Rattle.cc_runs.proofs.ChainLaws.{chain_laws}
+use Rattle.cc_runs.proofs.ListRuns.Least.{counts_get}
 
 accepted_grow : (calls more : List Entry) (answers later : List Answer) → length answers ≤ length calls → length (accepted_by calls answers) ≤ length (accepted_by (calls ++ more) (answers ++ later))
 accepted_grow [] more [] later order = omega arith
@@ -33,11 +34,6 @@ least_grows _ _ same up = absurd (omega (arith, same))
 
 abbrev count : Side → ℕ
 count side = length (handed_by side.answers)
-
-counts_get : (sides : List Side) (k : ℕ) → get_or (map count sides) k 0 ≡ count (get_or sides k silent)
-counts_get [] k = refl
-counts_get (s ∷ sides) zero = refl
-counts_get (s ∷ sides) (suc k) = counts_get sides k
 
 side_grows : (s later : Side) → SideBegins s later → count s ≤ count later
 side_grows s later b =

@@ -24,7 +24,7 @@ least_one x (y ∷ ys) =
     ]
 
 -- so it is the smallest of its numbers
-pub least_smallest : (x : ℕ) (xs : List ℕ) (h : ℕ → ℕ) → ((k : ℕ) → k ≤ length xs → h k ≡ get_or (x ∷ xs) k 0) → smallest (length xs) h ≡ least (x ∷ xs)
+least_smallest : (x : ℕ) (xs : List ℕ) (h : ℕ → ℕ) → ((k : ℕ) → k ≤ length xs → h k ≡ get_or (x ∷ xs) k 0) → smallest (length xs) h ≡ least (x ∷ xs)
 least_smallest x xs h same =
     let a : (k : ℕ) × (k ≤ length xs) × (get_or (x ∷ xs) k 0 ≡ least (x ∷ xs)) = least_one x xs in
     let b : (k : ℕ) × (k ≤ length xs) × (h k ≡ smallest (length xs) h) = smallest_is (length xs) h in
@@ -35,16 +35,19 @@ counts_get [] k = refl
 counts_get (s ∷ sides) zero = refl
 counts_get (s ∷ sides) (suc k) = counts_get sides k
 
--- of a history with so many groups
-pub least_is : (g : Ghosts) (h : Record) (m : ℕ) → Counted m g → length h.takes ≡ m + 1 → ((y : ℕ) → g.handed y ≡ length (handed h y)) → g.least ≡ handed_to_all h
-least_is g h m counted many same = by_list h.takes refl
+-- of a history with so many groups, what all were handed is the smallest of what each was
+pub least_of_groups : (h : Record) (m : ℕ) (each : ℕ → ℕ) → length h.takes ≡ m + 1 → ((y : ℕ) → each y ≡ length (handed h y)) → smallest m each ≡ handed_to_all h
+least_of_groups h m each many same = by_list h.takes refl
   where
     count : Side → ℕ
     count = λ side. length (handed_by side.answers)
 
-    by_list : (sides : List Side) → h.takes ≡ sides → g.least ≡ handed_to_all h
+    by_list : (sides : List Side) → h.takes ≡ sides → smallest m each ≡ handed_to_all h
     by_list [] e = absurd (omega (arith, many, ap length e))
     by_list (s ∷ sides) e =
         let long : length (map count sides) ≡ m = omega (arith, length-map sides count, many, ap length e) in
-        let at : (k : ℕ) → g.handed k ≡ get_or (map count (s ∷ sides)) k 0 = λ k. same k ∙ sym (counts_get h.takes k) ∙ ap (λ (l : List Side). get_or (map count l) k 0) e in
-        counted.least ∙ ap (λ (n : ℕ). smallest n g.handed) (sym long) ∙ least_smallest (count s) (map count sides) g.handed (λ k l. at k) ∙ ap (λ (l : List Side). least (map count l)) (sym e)
+        let at : (k : ℕ) → each k ≡ get_or (map count (s ∷ sides)) k 0 = λ k. same k ∙ sym (counts_get h.takes k) ∙ ap (λ (l : List Side). get_or (map count l) k 0) e in
+        ap (λ (n : ℕ). smallest n each) (sym long) ∙ least_smallest (count s) (map count sides) each (λ k l. at k) ∙ ap (λ (l : List Side). least (map count l)) (sym e)
+
+pub least_is : (g : Ghosts) (h : Record) (m : ℕ) → Counted m g → length h.takes ≡ m + 1 → ((y : ℕ) → g.handed y ≡ length (handed h y)) → g.least ≡ handed_to_all h
+least_is g h m counted many same = counted.least ∙ least_of_groups h m g.handed many same
