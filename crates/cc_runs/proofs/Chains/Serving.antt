@@ -11,7 +11,7 @@ use Rattle.cc_runs.specs.Run.{IsRun, reached, passes, passes_of}
 use Rattle.cc_runs.proofs.Chains.View.{pass_on, post_of, post_at, serving, asked_words, request_words, request_long}
 use Rattle.cc_runs.proofs.Chains.Registers.{IsChainOf, IsChain, calls_on, answers_on, call_at, answer_at, no_call, HasSend, HasService}
 use Rattle.cc_runs.proofs.Chains.Ties.{Holds}
-use Rattle.cc_runs.proofs.Chains.Own.{counts_where, sends_where, takes_where}
+use Rattle.cc_runs.proofs.Chains.Own.{counts_where, sends_where}
 use Rattle.cc_runs.proofs.Chains.Others.{IsOther, IsOn, IsOff, which, sender_chain, receiver_chain}
 use Rattle.cc_runs.proofs.Chains.Serve as serve
 use Rattle.cc_runs.proofs.Chains.Runs.{chain_holds}
@@ -98,18 +98,6 @@ module _ (c : Setting) (s : State) (k : Chains c s) where
       counts_where c.served (chain_of c.config p)
       (subst (λ (z : Place). HasService c.served (chain_of c.config p) (call_at (calls_on (chain_of c.config p) s.history) (the_holds p less).ghost.marked) (answer_at (answers_on (chain_of c.config p) s.history) (the_holds p less).ghost.marked) z) e
       (serves_what p less (ap (λ (z : Place). (post_of Chain.Send (s.stand p).node z).rank) e))).0
-
-  pub taking_where : (p : ℕ) (job : Job) (service : Taking) → p < passes c → (s.stand p).place ≡ Place.Taking job service → (c.served ≡ Served.List) × (c.config.senders ≤ p)
-  taking_where p job service less e =
-      let where_it_is = takes_where c.served (chain_of c.config p)
-      (subst (λ (z : Place). HasService c.served (chain_of c.config p) (call_at (calls_on (chain_of c.config p) s.history) (the_holds p less).ghost.marked) (answer_at (answers_on (chain_of c.config p) s.history) (the_holds p less).ghost.marked) z) e
-      (serves_what p less (ap (λ (z : Place). (post_of Chain.Send (s.stand p).node z).rank) e))) in (
-        where_it_is.0,
-        elim (cases_lt p c.config.senders) [
-          | inl near ↦ let no : Chain.Send ≡ Chain.Take _ = sym (sender_chain c.config p near) ∙ where_it_is.1 in absurd (cc)
-          | inr far ↦ far
-        ],
-      )
 
   -- one service of a side at most
   pub one_sending : (p q : ℕ) (job job2 : Job) (service service2 : Sending) → p < passes c → q < passes c → (s.stand p).place ≡ Place.Sending job service → (s.stand q).place ≡ Place.Sending job2 service2 → p ≡ q

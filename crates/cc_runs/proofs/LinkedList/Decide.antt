@@ -29,17 +29,11 @@ module _ (c life n : ℕ) (v : Queue) (g : Ghosts) (i : LInv c life n v g) where
 
   -- Empty (next of the dummy is null)
   module _ (s : ℕ) (inside : s < n) (from : (v.side s).stage ≡ 3) (null : v.next (v.side s).dummy ≡ 0) where
-    in_order : g.handed s ≤ g.accepted
-    in_order = i.hands.order s inside
-
-    live : g.least ≤ g.handed s
-    live = i.hands.least_is s inside
-
     dummy : (v.side s).dummy ≡ g.node (g.handed s)
     dummy = grind (arith, i.heads.dummy_is s)
 
     no_more : g.handed s ≡ g.accepted
-    no_more = grind (arith, cases_lt (g.handed s) g.accepted, dummy, live, in_order, i.links.links (g.handed s))
+    no_more = grind (arith, cases_lt (g.handed s) g.accepted, dummy, i.hands.least_is s, i.hands.order s, i.links.links (g.handed s))
 
     unshut : g.shut ≡ 0
     unshut = grind (arith, cases_eq g.shut 0, cases_eq g.shut 1, dummy, no_more, i.links.end_shut, i.branch.shut_most)
@@ -49,17 +43,11 @@ module _ (c life n : ℕ) (v : Queue) (g : Ghosts) (i : LInv c life n v g) where
 
   -- Ended (the first word of the node after is 0)
   module _ (s : ℕ) (inside : s < n) (from : (v.side s).stage ≡ 4) (zero_is : (x : ℕ) → x + 1 ≡ (v.side s).after → v.word x 0 ≡ 0) where
-    in_order2 : g.handed s ≤ g.accepted
-    in_order2 = i.hands.order s inside
-
-    live2 : g.least ≤ g.handed s
-    live2 = i.hands.least_is s inside
-
     not_item : g.handed s < g.accepted → ⊥
-    not_item more = grind (arith, more, live2, i.takes.after_is s, zero_is (g.node (g.handed s + 1)), i.links.items (g.handed s) 0, i.links.longs (g.handed s), i.links.tags (g.handed s))
+    not_item more = grind (arith, more, i.hands.least_is s, i.takes.after_is s, zero_is (g.node (g.handed s + 1)), i.links.items (g.handed s) 0, i.links.longs (g.handed s), i.links.tags (g.handed s))
 
     pub ended_all : g.handed s ≡ g.accepted
-    ended_all = grind (arith, cases_lt (g.handed s) g.accepted, in_order2, not_item)
+    ended_all = grind (arith, cases_lt (g.handed s) g.accepted, i.hands.order s, not_item)
 
     pub ended : ((v.side s).seen ≡ g.accepted) × (g.handed s ≡ g.accepted) × (g.shut ≡ 1)
     ended = (grind (arith, ended_all, i.heads.seen_is s), ended_all, grind (arith, ended_all, i.takes.after_shut s))
