@@ -91,7 +91,7 @@ impl Board {
     }
 
     /// Puts a call of this chain into the history.
-    #[tactic(auto, unfolding(crate::specs::View::state_in))]
+    #[tactic(auto, using(crate::proofs::SideRooms::set_lists, crate::proofs::SideRooms::get_lists), unfolding(crate::specs::View::state_in))]
     pub fn enter(&mut self, chain: Chain, call: Entry)
         requires { HasCallRoom self.old.history chain }
         ensures state { state_of self.new ≡ record (state_of self.old) { history = noted chain (state_of self.old).history (Some call) None } }
@@ -104,7 +104,7 @@ impl Board {
     }
 
     /// Puts the answer of the first call of this chain that has none into the history.
-    #[tactic(auto, unfolding(crate::specs::View::state_in))]
+    #[tactic(auto, using(crate::proofs::SideRooms::set_lists, crate::proofs::SideRooms::get_lists), unfolding(crate::specs::View::state_in))]
     pub fn decide(&mut self, chain: Chain, answer: Answer)
         requires { HasAnswerRoom self.old.history chain }
         ensures state { state_of self.new ≡ record (state_of self.old) { history = noted chain (state_of self.old).history None (Some answer) } }

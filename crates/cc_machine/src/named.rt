@@ -125,7 +125,7 @@ impl Board {
 
     /// Makes room in the history of this side, where it is missing, for the calls to come and one more, and for the answers
     /// of all calls.
-    #[tactic(auto, unfolding(crate::specs::View::state_in))]
+    #[tactic(auto, using(crate::proofs::SideRooms::same_lists), unfolding(crate::specs::View::state_in))]
     fn reserve(&mut self, chain: Chain) -> Result<(), AllocError>
         requires laid { IsLaid self.old }
         requires there { IsThere self.old.setting.config chain }
