@@ -1,7 +1,6 @@
 -- Runs that go on: others' moves leave a pass where it stands, and what one step adds to a run.
 use Rattle.std.proofs.Common.{◌≡◌, ◌≢◌, ℕ, ◌<◌, ◌≤◌, Bool, List, [], ◌∷◌, ◌++◌, IsTrue, Option, Some, None, Ok, refl, sym, ap, ◌∙◌, subst, eq-eqb, append_assoc, if◌then◌else◌}
 use Rattle.cc_model.specs.Config.{config_fault}
-use Rattle.cc_model.specs.Items.{Begins}
 use Rattle.cc_steps.specs.Names.{Call, Move, Setting, Word, Stand, Place, Event}
 use Rattle.cc_runs.specs.Words.{layout_of, exists}
 use Rattle.cc_runs.specs.State.{chain_of, pass_at, word_of, stored}
@@ -160,9 +159,6 @@ added_own c p seen log call = taken_own p log (Move.Step p ∷ begun c p seen ca
 pub run_seen : (c : Setting) (more seen : List Move) → IsRun c (more ++ seen) → IsRun c seen
 run_seen c more seen r = (fronts_begin c more seen r).0
 
-pub history_more : (c : Setting) (more seen : List Move) → IsRun c (more ++ seen) → Begins (history_of c seen) (history_of c (more ++ seen))
-history_more c more seen r = (fronts_begin c more seen r).1
-
 taken_run : (c : Setting) (p : ℕ) (log : List Move) (at : Place) → p < passes c → ((reached c log).stand p).place ≡ at → IsRun c log → IsRun c (taken p at log)
 taken_run c p log (Place.Finished told) less is r = (r, (less, subst (λ (x : Place). IsFinished x) (sym is) tt))
 taken_run c p log _ less is r = r
@@ -205,6 +201,3 @@ of_added c p seen log call r = (of_taken c p (Move.Step p ∷ begun c p seen cal
 
 pub later_on : (xs ys zs : List Move) → GoesOn ys zs → GoesOn xs ys → GoesOn xs zs
 later_on xs ys zs b a = record { more = b.more ++ a.more; is = b.is ∙ ap (λ (l : List Move). b.more ++ l) a.is ∙ sym (append_assoc b.more a.more xs) }
-
-pub goes_self : (xs : List Move) → GoesOn xs xs
-goes_self xs = record { more = []; is = refl }
