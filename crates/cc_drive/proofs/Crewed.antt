@@ -3,7 +3,7 @@ use Rattle.std.proofs.Common.{◌≡◌, ℕ, zero, suc, ◌+◌, ◌<◌, ◌�
 use Rattle.std.specs.Prelude.{⊤}
 use Rattle.std.specs.List.{All, AllByRecursion}
 use Rattle.std.proofs.lemmas.List.{length-map}
-use Rattle.cc_drive.specs.Names.{CloseAnswer, Config, ConfigFault, SendReceipt, TakeReceipt, DriveConfig, Worked, DriveFault, Refused, Room}
+use Rattle.cc_drive.specs.Names.{CloseAnswer, Config, ConfigFault, SendReceipt, TakeReceipt, DriveConfig, Worked, DriveFault, Refused}
 use Rattle.cc_steps.specs.Topic.{Topic}
 use Rattle.cc_steps.specs.Walk.{Walk, IsOf, fresh}
 use Rattle.cc_queue.specs.Met.{HasMet}
@@ -11,7 +11,7 @@ use Rattle.cc_queue.specs.Receipts.{receipts_in, receipts_by, sent, got}
 use Rattle.cc_queue.proofs.OnItsSide.{Told}
 use Rattle.cc_drive.specs.Back.{IsBack, SenderIsBack, ReceiverIsBack, SenderGave, ReceiverGave, IsNotClosed, calls}
 use Rattle.cc_drive.specs.Config.{queue_of, IsDue}
-use Rattle.cc_drive.specs.Crew.{IsRoomFor, present, least_missing, in_turn}
+use Rattle.cc_drive.specs.Crew.{present, least_missing, in_turn}
 use Rattle.cc_drive.specs.Ran.{ClosedAfter, IsTold, due}
 use Rattle.cc_drive.specs.Row.{InRow, Pairs}
 use Rattle.cc_drive.specs.Start.{IsStarted, AreStarted}
@@ -123,13 +123,3 @@ pub both_started : (senders receivers sending taking : ℕ) (first second : Opti
 both_started senders receivers sending taking None None all all' = (all', all)
 both_started senders receivers sending taking None (Some e) all at = inr (at.0 ∙ omega arith, at.1, all)
 both_started senders receivers sending taking (Some e) second at none = subst (AreStarted senders receivers sending taking) (sym none.1) (inl (at.0, at.1, none.0))
-
--- no more threads than there are workers
-pub no_more_started : (before : Option Refused) (first count started : ℕ) (refused : Option Refused) → IsStarted before first count started refused → started ≤ count
-no_more_started (Some e) first count started refused none = let n = none.0 in omega (arith, n)
-no_more_started None first count started None all = omega (arith, all)
-no_more_started None first count started (Some e) at = let less = at.1 in omega (arith, less)
-
--- room for so many is room for fewer
-pub room_still_for : {P X : Type 0} (fewer count : ℕ) (room : Room P X) → fewer ≤ count → IsRoomFor count room → IsRoomFor fewer room
-room_still_for fewer count room few is = record { none_done = is.none_done; no_passes = is.no_passes; done = (let e = is.done in omega (arith, e, few)); passes = (let e = is.passes in omega (arith, e, few)) }

@@ -27,12 +27,6 @@ split Are (v ∷ xs) (w ∷ ys) x y p = let rest = split Are xs ys x y p.1 in ((
 pub pairs_split : {A : Type 0} (Are : A → A → Type 0) (xs ys all after : List A) (x y : A) → all ≡ xs ++ x ∷ [] → after ≡ ys ++ y ∷ [] → Pairs Are all after → Pairs Are xs ys × Are x y
 pairs_split Are xs ys all after x y a b p = split Are xs ys x y (subst (λ (z : List _ × List _). Pairs Are z.0 z.1) (λ i. (a i, b i)) p)
 
-pub pairs_end : {A : Type 0} (Are : A → A → Type 0) (xs ys : List A) (x y : A) → Pairs Are xs ys → Are x y → Pairs Are (xs ++ x ∷ []) (ys ++ y ∷ [])
-pairs_end Are [] [] x y p is = (is, tt)
-pairs_end Are [] (w ∷ ys) x y p is = absurd p
-pairs_end Are (v ∷ xs) [] x y p is = absurd p
-pairs_end Are (v ∷ xs) (w ∷ ys) x y p is = (p.0, pairs_end Are xs ys x y p.1 is)
-
 -- what holds of each element
 front_all : {A : Type 0} (P : A → Type 0) (xs : List A) (x : A) → All P (xs ++ x ∷ []) → All P xs
 front_all P [] x all k d less = absurd (omega (arith, less))

@@ -43,9 +43,6 @@ loop-worker-preserved g c =
 pub returns-clause-few : goal.returns-clause-few
 returns-clause-few g c = no_more_than (vec_len c.loop-worker.passes) (into_iter_len c.loop-worker.worker-iterator) (vec_len c.args.workers) c.loop-worker.invariant.6
 
-pub returns-clause-room : goal.returns-clause-room
-returns-clause-room g c = c.loop-worker.invariant.7
-
 pub returns-clause-gathered : goal.returns-clause-gathered
 returns-clause-gathered g c =
     let end = nil_from_length _ (sym c.loop-worker.worker-iterator.rest.ok.0 ∙ c.in-None.ensures.steps.0) in record {

@@ -1,16 +1,10 @@
-use Rattle.std.proofs.Common.{rules, ℕ, ◌≡◌, ◌+◌, ◌≤◌, None, ap, subst, vec_len}
+use Rattle.std.proofs.Common.{ℕ, ◌+◌, None, ap, subst, vec_len}
 use Rattle.cc_drive.specs.Names.{Brief, Setting}
-use Rattle.cc_steps.specs.Walk.{Walk, fresh}
-use Rattle.cc_drive.specs.Ran.{HasClosed, HasEnded}
+use Rattle.cc_steps.specs.Walk.{Walk}
+use Rattle.cc_drive.specs.Ran.{HasClosed}
 use Rattle.cc_drive.specs.Start.{IsStarted}
-use Rattle.cc_drive.proofs.Crewed.{are_of, both_started, no_more_started, room_still_for}
+use Rattle.cc_drive.proofs.Crewed.{are_of, both_started}
 use Rattle.cc_drive.proofs.driver.run_in.Goals as goal
-
-pub start_all-taking-requires-clause-ready : goal.start_all-taking-requires-clause-ready
-start_all-taking-requires-clause-ready g c κs within = c.requires.ready.receivers
-
-pub start_all-sending-requires-clause-ready : goal.start_all-sending-requires-clause-ready
-start_all-sending-requires-clause-ready g c κs within = c.requires.ready.senders
 
 pub close_behind-sent-requires-clause-senders : goal.close_behind-sent-requires-clause-senders
 close_behind-sent-requires-clause-senders g c =
