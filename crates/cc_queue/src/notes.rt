@@ -71,6 +71,7 @@ pub fn again(queue: &Queue, note: &mut Note) -> Note
 
 /// Takes, and waits for the answer, once the receiver has heeded the note. Empty says that the group was handed, before that
 /// answer, all items that had been accepted when the note was made; and it is no answer where the queue was closed then.
+#[tactic(auto, using(crate::proofs::Heeded::completed_after))]
 pub fn take_after<R: Wait>(
     queue: &Queue,
     rt: &R,
@@ -113,12 +114,14 @@ pub fn send_after<R: Wait>(
 }
 
 /// What a pass has heeded it has seen still, whatever it did since.
+#[tactic(auto, using(crate::proofs::Heeded::heeded_stays))]
 pub fn heeded_stays()
     ensures { HeededStays }
 {}
 
 /// Each call that a pass completes after it heeded a note comes after all that was noted, and its answer says so: a `heed` before
 /// the call is enough, in whatever form it is made, as `close`, `take_until` or `send_until` too.
+#[tactic(auto, using(crate::proofs::Heeded::heeded_fresh, crate::proofs::Heeded::takes_fresh, crate::proofs::Heeded::sends_fresh))]
 pub fn heeded_is_fresh()
     ensures calls { HeededIsFresh }
     ensures takes { TakesAreFresh }
