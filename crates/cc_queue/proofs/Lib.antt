@@ -10,6 +10,5 @@ pub mod Held
 pub mod Rounds
 pub mod WordByWord
 pub mod Service
-pub mod Requests
 pub mod Waiting
 pub mod Lasts

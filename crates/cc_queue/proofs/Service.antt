@@ -1,5 +1,5 @@
 -- A step within a call, as its seat sees it, behind what its pass did before.
-use Rattle.std.proofs.Common.{◌≡◌, ◌≢◌, ℕ, ◌+◌, ◌≤◌, ◌==◌, Bool, cond, List, ◌∷◌, None, refl, sym, ap, ◌∙◌, subst, arith}
+use Rattle.std.proofs.Common.{◌≡◌, ◌≢◌, ℕ, ◌+◌, ◌-◌, ◌≤◌, ◌==◌, Bool, cond, List, ◌∷◌, None, refl, sym, ap, ◌∙◌, subst, arith}
 use Rattle.std.proofs.lemmas.Bool.{eq-eqb, ne_eqb}
 use Rattle.cc_queue.specs.Names.{Answer, Chain, Config, Event, Job, Kind, Parcel, Place, SendAnswer, Sending, Setting, Stand}
 use Rattle.cc_runs.specs.Lines.{event_at, operation}
@@ -11,7 +11,7 @@ use Rattle.cc_runs.specs.Step.{advanced}
 use Rattle.cc_steps.specs.Seen.{Onward, settled}
 use Rattle.cc_steps.specs.Topic.{Topic}
 use Rattle.cc_steps.specs.Walk.{IsOf, Steps, Walk, walked_to}
-use Rattle.cc_queue.specs.Work.{IsListWith, IsServing, Serves, worked_to, tally, reads, marks, hands, scans}
+use Rattle.cc_queue.specs.Work.{IsListWith, Serves, worked_to, tally, reads, marks, hands, scans}
 
 -- a step that reads no state, marks nothing and hands nothing over
 abbrev pub IsWithin : Kind → Type 0
@@ -49,24 +49,24 @@ abbrev looks_to : Config → Job → Parcel → (at nodes passed : ℕ) → Plac
 looks_to c job parcel at nodes passed = place_of Place.Sending job (by_passed c parcel at nodes passed)
 
 -- to its use, where it is free
-pub looks_free : (c : Config) (job : Job) (parcel : Parcel) (at nodes passed : ℕ) → passed ≡ c.groups → looks_to c job parcel at nodes passed ≡ Place.Sending job (Sending.ResetPassed parcel at)
+looks_free : (c : Config) (job : Job) (parcel : Parcel) (at nodes passed : ℕ) → passed ≡ c.groups → looks_to c job parcel at nodes passed ≡ Place.Sending job (Sending.ResetPassed parcel at)
 looks_free c job parcel at nodes passed free =
     ap (λ (b : Bool). place_of Place.Sending job (cond b (On (Sending.ResetPassed parcel at)) (cond (nodes == c.capacity + 1) (Decides (Answer.Send SendAnswer.Full)) (On (Sending.ReadPassed parcel (after c at) (nodes + 1)))))) (eq-eqb passed c.groups free)
 
 -- to the next one, where it isn't free and isn't the last one
-pub looks_on : (c : Config) (job : Job) (parcel : Parcel) (at nodes passed : ℕ) → passed ≢ c.groups → nodes ≢ c.capacity + 1 → looks_to c job parcel at nodes passed ≡ Place.Sending job (Sending.ReadPassed parcel (after c at) (nodes + 1))
+looks_on : (c : Config) (job : Job) (parcel : Parcel) (at nodes passed : ℕ) → passed ≢ c.groups → nodes ≢ c.capacity + 1 → looks_to c job parcel at nodes passed ≡ Place.Sending job (Sending.ReadPassed parcel (after c at) (nodes + 1))
 looks_on c job parcel at nodes passed used more =
     ap (λ (b : Bool). place_of Place.Sending job (cond b (On (Sending.ResetPassed parcel at)) (cond (nodes == c.capacity + 1) (Decides (Answer.Send SendAnswer.Full)) (On (Sending.ReadPassed parcel (after c at) (nodes + 1)))))) (ne_eqb passed c.groups used)
     ∙ ap (λ (b : Bool). place_of Place.Sending job (cond b (Decides (Answer.Send SendAnswer.Full)) (On (Sending.ReadPassed parcel (after c at) (nodes + 1))))) (ne_eqb nodes (c.capacity + 1) more)
 
 -- to the answer, where it is the last one and isn't free
-pub looks_full : (c : Config) (job : Job) (parcel : Parcel) (at nodes passed : ℕ) → passed ≢ c.groups → nodes ≡ c.capacity + 1 → looks_to c job parcel at nodes passed ≡ Place.WriteAnswer job (Answer.Send SendAnswer.Full)
+looks_full : (c : Config) (job : Job) (parcel : Parcel) (at nodes passed : ℕ) → passed ≢ c.groups → nodes ≡ c.capacity + 1 → looks_to c job parcel at nodes passed ≡ Place.WriteAnswer job (Answer.Send SendAnswer.Full)
 looks_full c job parcel at nodes passed used last =
     ap (λ (b : Bool). place_of Place.Sending job (cond b (On (Sending.ResetPassed parcel at)) (cond (nodes == c.capacity + 1) (Decides (Answer.Send SendAnswer.Full)) (On (Sending.ReadPassed parcel (after c at) (nodes + 1)))))) (ne_eqb passed c.groups used)
     ∙ ap (λ (b : Bool). place_of Place.Sending job (cond b (Decides (Answer.Send SendAnswer.Full)) (On (Sending.ReadPassed parcel (after c at) (nodes + 1))))) (eq-eqb nodes (c.capacity + 1) last)
 
 -- such a look, of a pass of a list
-pub one_look : (v s r : Walk) (c : Config) (job : Job) (parcel : Parcel) (at nodes passed most : ℕ) (on : Place) → IsListWith v c → Serves v (Place.Sending job (Sending.ReadPassed parcel at nodes)) most s → r ≡ walked_to s None passed r.seen → Onward s.seen r.seen
+one_look : (v s r : Walk) (c : Config) (job : Job) (parcel : Parcel) (at nodes passed most : ℕ) (on : Place) → IsListWith v c → Serves v (Place.Sending job (Sending.ReadPassed parcel at nodes)) most s → r ≡ walked_to s None passed r.seen → Onward s.seen r.seen
     → looks_to c job parcel at nodes passed ≡ on → ((z : Stand) → settled (record z { place = on }) ≡ record z { place = on }) → Serves v on (1 + most) r
 one_look v s r c job parcel at nodes passed most on list before step later leads stays =
     one_step v s r Kind.ReadPassed (Place.Sending job (Sending.ReadPassed parcel at nodes)) on most passed before step later refl (refl, refl, refl)
@@ -80,24 +80,20 @@ at_start v here at = record { worked = ap (λ (p : Place). record v { stand = re
 pub at_most : (v r : Walk) (on : Place) (few most : ℕ) → few ≤ most → Serves v on few r → Serves v on most r
 at_most v r on few most le at = record { worked = at.worked; reads = at.reads; marks = at.marks; hands = at.hands; scans = omega (arith, at.scans, le); later = at.later }
 
--- one part of a call behind another
-pub then_serves : (v s r : Walk) (here on : Place) (few more : ℕ) → Serves v here few s → Serves s on more r → Serves v on (more + few) r
-then_serves v s r here on few more first second = record {
-  worked = second.worked ∙ ap (λ (z : Walk). worked_to z on r) first.worked;
-  reads = omega (arith, first.reads, second.reads);
-  marks = omega (arith, first.marks, second.marks);
-  hands = omega (arith, first.hands, second.hands);
-  scans = omega (arith, first.scans, second.scans);
-  later = λ seen before. second.later seen (first.later seen before);
-}
+-- such a look, as the scan's number `nodes`
+module _ (v s r : Walk) (c : Config) (job : Job) (parcel : Parcel) (at nodes passed most : ℕ) (list : IsListWith v c) (before : Serves v (Place.Sending job (Sending.ReadPassed parcel at nodes)) (nodes - 1) s) (step : r ≡ walked_to s None passed r.seen)
+    (later : Onward s.seen r.seen) (some : 1 ≤ nodes) (few : nodes ≤ most) where
+  look : (on : Place) → looks_to c job parcel at nodes passed ≡ on → ((z : Stand) → settled (record z { place = on }) ≡ record z { place = on }) → Serves v on most r
+  look on leads stays = at_most v r on (1 + (nodes - 1)) most (omega (arith, some, few)) (one_look v s r c job parcel at nodes passed (nodes - 1) on list before step later leads stays)
 
--- where its pass stands then
-pub stands_at : (v s : Walk) (here : Place) (most : ℕ) → Serves v here most s → s.stand.place ≡ here
-stands_at v s here most at = ap (λ (z : Walk). z.stand.place) at.worked
+  pub finds_free : passed ≡ c.groups → Serves v (Place.Sending job (Sending.ResetPassed parcel at)) most r
+  finds_free free = look (Place.Sending job (Sending.ResetPassed parcel at)) (looks_free c job parcel at nodes passed free) (λ z. refl)
 
--- and whose its seat still is
-pub serving_on : (t : Topic) (c : Config) (x : Chain) (v s : Walk) (here : Place) (most : ℕ) → IsServing t c x v → Serves v here most s → IsServing t c x s
-serving_on t c x v s here most is at = subst (IsServing t c x) (sym at.worked) record { here = is.here; list = is.list; chain = is.chain }
+  pub finds_none : passed ≢ c.groups → nodes ≡ c.capacity + 1 → Serves v (Place.WriteAnswer job (Answer.Send SendAnswer.Full)) most r
+  finds_none used last = look (Place.WriteAnswer job (Answer.Send SendAnswer.Full)) (looks_full c job parcel at nodes passed used last) (λ z. refl)
+
+  pub looks_further : (next : ℕ) → passed ≢ c.groups → nodes ≢ c.capacity + 1 → next ≡ after c at → Serves v (Place.Sending job (Sending.ReadPassed parcel next (nodes + 1))) most r
+  looks_further next used more is = look (Place.Sending job (Sending.ReadPassed parcel next (nodes + 1))) (looks_on c job parcel at nodes passed used more ∙ ap (λ (n : ℕ). Place.Sending job (Sending.ReadPassed parcel n (nodes + 1))) (sym is)) (λ z. refl)
 
 -- it can do the step at which it stands
 pub can_step : (v s : Walk) (here : Place) (k : Kind) (op : Operation) → s ≡ worked_to v here s → event_at here ≡ Event.Did k → operation v.setting (chain_of v.setting.config v.number) v.stand.node here ≡ op → Steps s k op

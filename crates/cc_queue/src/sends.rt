@@ -7,12 +7,12 @@ ghost use Rattle.cc_queue.specs.Work.{IsOnList, IsServing, Serves};
 use crate::bodies;
 use crate::tell::tell;
 use cc_model::{Answer, CloseAnswer, Config, SendAnswer};
-use cc_runs::{Chain, ItemField, Job, NodeField, Object, Parcel, node_after};
+use cc_runs::{Chain, ItemField, Job, NodeField, Object, Parcel, Request, node_after};
 use cc_steps::seats::PassSeat;
 use cc_steps::steps;
 use cc_steps::words::Words;
 
-/// Serves one request up to its mark: reads it, and closes the list, or looks for a free node, or tells why not.
+/// Serves one request up to its mark: reads it, and tells why not where the queue is closed.
 pub fn serve_request(words: &Words, seat: &mut PassSeat, config: &Config, job: Job)
     requires here { IsServing words.now config.now Chain.Send seat.old }
     requires at { seat.old.stand.place ≡ Place.Sending job Sending.ReadTag }
@@ -25,8 +25,20 @@ pub fn serve_request(words: &Words, seat: &mut PassSeat, config: &Config, job: J
         refuse_after_close(words, seat, job, tag);
         return;
     }
+    let request = Request { tag, body };
+    serve_open(words, seat, config, job, request);
+}
+
+/// Serves a request of a queue that isn't closed: closes the list, or looks for a free node, or tells that `life` items were
+/// accepted.
+#[inline(always)]
+fn serve_open(words: &Words, seat: &mut PassSeat, config: &Config, job: Job, request: Request)
+    requires here { IsServing words.now config.now Chain.Send seat.old }
+    requires at { seat.old.stand.place ≡ Place.Sending job (Sending.ReadCount request) }
+    ensures { Serves seat.old (Place.MarkDone job) (config.now.capacity + 1) seat.new }
+{
     let count = steps::read_object(words, seat, Object::Count);
-    if tag == 0 {
+    if request.tag == 0 {
         link_mark(words, seat, config, job, count);
     } else if count == config.life {
         tell(
@@ -39,8 +51,8 @@ pub fn serve_request(words: &Words, seat: &mut PassSeat, config: &Config, job: J
     } else {
         let parcel = Parcel {
             place: count,
-            tag,
-            body,
+            tag: request.tag,
+            body: request.body,
         };
         scan(words, seat, config, job, parcel);
     }
