@@ -65,3 +65,28 @@ behind_in {S = S} in_service further i next on z = either (nat_lt i further)
     either : (b : Bool) → ◌≡◌ {A = Stand} (record z { place = in_service (cond b next on) }) (record z { place = cond b (in_service next) (in_service on) })
     either true = refl
     either false = refl
+
+-- A pass writes the words of a body, each in one step: where it stands before each word, and where behind the last one.
+pub record GoesOver (v : Walk) (k : Kind) (here : ℕ → Place) (on : Place) (further : ℕ) : Type 0 where
+  pub event : (i : ℕ) → event_at (here i) ≡ Event.Did k
+  pub uncounted : IsUncounted k
+  pub goes : (i : ℕ) (z : Stand) → advanced v.setting (chain_of v.setting.config v.number) (record z { place = here i }) 0 ≡ record z { place = behind further i (here (i + 1)) on }
+  pub stays : (i : ℕ) → Settles (here i) (here i)
+  pub ends : Settles on on
+
+module _ (v : Walk) (k : Kind) (here : ℕ → Place) (on : Place) (further : ℕ) (g : GoesOver v k here on further) where
+  pub can_first : (op : Operation) → v.stand.place ≡ here 0 → operation v.setting (chain_of v.setting.config v.number) v.stand.node (here 0) ≡ op → Steps v k op
+  can_first op at does = first_step v (here 0) k op at (g.event 0) does
+
+  pub did_first : (r : Walk) → v.stand.place ≡ here 0 → r ≡ walked_to v None 0 r.seen → Onward v.seen r.seen → Serves v (behind further 0 (here 1) on) 0 r
+  did_first r at step later = first_word v r k (here 0) (here 1) on on further 0 at step later (g.event 0) g.uncounted (g.goes 0) (g.stays 1) g.ends
+
+  module _ (s : Walk) (i : ℕ) (so : Serves v (behind further i (here (i + 1)) on) 0 s) where
+    pub can_next : (t : Topic) (op : Operation) → IsOf t v → i < further → operation v.setting (chain_of v.setting.config v.number) v.stand.node (here (i + 1)) ≡ op → IsOf t s × Steps s k op
+    can_next t op is less does = word_step t v s (here (i + 1)) on k op further i is so less (g.event (i + 1)) does
+
+    pub did_next : (r : Walk) → i < further → r ≡ walked_to s None 0 r.seen → Onward s.seen r.seen → Serves v (behind further (i + 1) (here (i + 1 + 1)) on) 0 r
+    did_next r less step later = next_word v s r k (here (i + 1)) on (here (i + 1 + 1)) on on further i 0 so less step later (g.event (i + 1)) g.uncounted (g.goes (i + 1)) (g.stays (i + 1 + 1)) g.ends
+
+    pub did_all : further ≤ i → Serves v on 0 s
+    did_all none = past_words v s (here (i + 1)) on further i so none
