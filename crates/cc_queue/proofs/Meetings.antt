@@ -1,16 +1,17 @@
 -- A pass that meets others in turn.
 use Rattle.std.proofs.Common.{◌≡◌, ◌≢◌, ℕ, zero, suc, ◌+◌, ◌<◌, ◌≤◌, List, [], ◌∷◌, ◌++◌, length, get_or, set, refl, sym, ap, ◌∙◌, subst, arith, append-nil, get_or-set_same, get_or-set_other, Bool, true, false, nat_lt, length-append, if◌then◌else◌}
 use Rattle.std.proofs.lemmas.Bool.{ltb-true}
+use Rattle.std.proofs.lemmas.List.{get_or_default}
 use Rattle.std.specs.List.{All}
 use native.Mathlib.Decide.{ℕ_discrete}
 use Rattle.cc_runs.specs.CallsMade.{to_exchange}
-use Rattle.cc_queue.specs.Names.{Move, Served, Stand, Place}
+use Rattle.cc_queue.specs.Names.{Move, Served, Stand, Place, SenderSeat, ReceiverSeat}
 use Rattle.cc_steps.specs.Seen.{Later, Onward}
 use Rattle.cc_steps.specs.Shown.{longer}
 use Rattle.cc_steps.specs.Topic.{Topic}
-use Rattle.cc_steps.specs.Walk.{Walk, IsOf, IsSound}
-use Rattle.cc_queue.specs.Passes.{IsStill, HasStopped}
-use Rattle.cc_queue.specs.Met.{IsOfOne, Sees, HasMet, EachHasMet, Swept, Gathered}
+use Rattle.cc_steps.specs.Walk.{Walk, HasLooked, IsOf, IsSound}
+use Rattle.cc_queue.specs.Passes.{IsStill, HasStopped, KeepsSender, KeepsReceiver}
+use Rattle.cc_queue.specs.Met.{IsOfOne, MayMeet, Sees, HasMet, EachHasMet, Swept, Gathered}
 use Rattle.cc_queue.proofs.Headline.{stands_in_one, stands_more, still_out}
 
 -- a pass that stands still, whose seat has seen more
@@ -22,12 +23,14 @@ met_stopped u v w is stop s = subst (λ (x : Walk). HasMet x w) is (record {
 })
 
 -- an idle pass stands still
-pub idle_stopped : (v : Walk) (begun node : ℕ) → v.setting.served ≡ Served.List → v.stand ≡ record { begun = begun; node = node; place = Place.Idle } → HasStopped v
-idle_stopped v begun node list stand = record { list = list; still = subst (λ (x : Stand). IsStill x.place) (sym stand) tt }
+idle_stopped : (v : Walk) → v.setting.served ≡ Served.List → v.stand.place ≡ Place.Idle → HasStopped v
+idle_stopped v list at = record { list = list; still = subst IsStill (sym at) tt }
 
--- so it has met
-pub met_so : (u v w : Walk) (begun node : ℕ) → v ≡ u → v.setting.served ≡ Served.List → v.stand ≡ record { begun = begun; node = node; place = Place.Idle } → Sees v w → HasMet u w
-met_so u v w begun node is list stand s = met_stopped u v w is (idle_stopped v begun node list stand) s
+pub idle_sender : (s : SenderSeat) → KeepsSender s Place.Idle → HasStopped s.seat
+idle_sender s k = idle_stopped s.seat k.list (ap (λ (z : Stand). z.place) k.stand)
+
+pub idle_receiver : (r : ReceiverSeat) → KeepsReceiver r Place.Idle → HasStopped r.seat
+idle_receiver r k = idle_stopped r.seat k.list (ap (λ (z : Stand). z.place) k.stand)
 
 -- the pass of a seat, which stands still
 pub met_on : (v w : Walk) → HasStopped v → Sees v w → HasMet v w
@@ -39,31 +42,33 @@ still_stopped v w stop same = record {
   still = subst (λ (x : Walk). IsStill x.stand.place) (sym same) stop.still;
 }
 
+-- a pass that took in what was seen elsewhere has seen more
+pub sees_noted : (v w : Walk) (other : List Move) → HasLooked v other w → IsSound w → Sees v w
+sees_noted v w other l sound = record { same = l.same ∙ (λ i. record v { seen = (sym l.same i).seen }); onward = l.later; sound = sound }
+
 -- one that has seen no more has met itself
 pub met_still : (v : Walk) → HasStopped v → IsSound v → HasMet v v
 met_still v stop s = met_stopped v v v refl stop (record { same = refl; onward = λ first k. k; sound = s })
 
 pub met_self : (u v : Walk) (begun node : ℕ) → v ≡ u → v.setting.served ≡ Served.List → v.stand ≡ record { begun = begun; node = node; place = Place.Idle } → IsSound v → HasMet u u
-met_self u v begun node is list stand s = subst (λ (x : Walk). HasMet x x) is (met_still v (idle_stopped v begun node list stand) s)
+met_self u v begun node is list stand s = subst (λ (x : Walk). HasMet x x) is (met_still v (idle_stopped v list (ap (λ (z : Stand). z.place) stand)) s)
 
 pub met_more : (a b c : Walk) → HasMet a b → HasMet b c → HasMet a c
 met_more a b c f g = record { stands = stands_more a b c [] [] f.stands g.stands; same = g.same ∙ (λ i. record (f.same i) { seen = c.seen }) }
 
--- it is of the same queue still, and stands still, and is of one with the others
-pub of_met : (t : Topic) (v w : Walk) → IsOf t v → HasMet v w → IsOf t w
-of_met t v w is met = subst (IsOf t) (sym met.same) is
-
-pub stopped_met : (v w : Walk) → HasStopped v → HasMet v w → HasStopped w
-stopped_met v w stop met = still_stopped v w stop met.same
-
-pub one_met : (v w : Walk) (xs : List Walk) → All (λ o. IsOfOne v o) xs → HasMet v w → All (λ o. IsOfOne w o) xs
-one_met v w xs all met = subst (λ (x : Walk). All (λ o. IsOfOne x o) xs) (sym met.same) all
-
--- and so are others that have met
-pub others_met : (v : Walk) (xs ys : List Walk) → length ys ≡ length xs → All (λ o. IsOfOne v o) xs → EachHasMet xs ys → All (λ o. IsOfOne v o) ys
+-- others that have met are of one queue with the pass still
+others_met : (v : Walk) (xs ys : List Walk) → length ys ≡ length xs → All (λ o. IsOfOne v o) xs → EachHasMet xs ys → All (λ o. IsOfOne v o) ys
 others_met v xs ys same all met = λ k d less.
     let within : k < length xs = omega (arith, same, less) in
     subst (IsOfOne v) (sym (met k d within).same) (all k d within)
+
+-- a pass that has met others may meet more of them
+pub may_still : (z : Topic) (v w : Walk) (xs : List Walk) → MayMeet z v xs → HasMet v w → MayMeet z w xs
+may_still z v w xs may met = subst (λ (x : Walk). MayMeet z x xs) (sym met.same) (record { here = may.here; still = still_stopped v _ may.still refl; others = may.others })
+
+-- and the same again
+pub may_again : (z : Topic) (v : Walk) (xs ys : List Walk) → MayMeet z v xs → length ys ≡ length xs → EachHasMet xs ys → MayMeet z v ys
+may_again z v xs ys may same met = record { here = may.here; still = may.still; others = others_met v xs ys same may.others met }
 
 later_more : (xs ys zs : List Move) → Later xs ys → Onward ys zs → Later xs zs
 later_more xs ys zs l on = let g = on xs (record { more = l.0; is = l.1 }) in (g.more, g.is)
@@ -116,6 +121,13 @@ sweeps was first first' old now i x x' h lt len at one other seen longest =
           );
     }
 
+-- one more of them, which was x: both stand still, and each sees the other
+pub sweeps_on : (was first first' : Walk) (old now : List Walk) (i : ℕ) (d x x' : Walk) → HasStopped was → Sweeping was first old now i → i < length old → length now ≡ length old → x ≡ get_or now i d → HasStopped x
+    → Sees first first' → Sees x x' → x'.seen ≡ first'.seen → first'.seen ≡ longer first.seen x.seen → Sweeping was first' old (set now i x') (i + 1)
+sweeps_on was first first' old now i d x x' stop so less len is still one other seen longest =
+    sweeps was first first' old now i (get_or now i d) x' so less len (λ e. get_or_default now i e d (omega (arith, less, len)))
+    (met_on first first' (still_stopped was first stop so.met.same) one) (met_stopped (get_or now i d) x x' is still other) seen (longest ∙ ap (λ (y : Walk). longer first.seen y.seen) is)
+
 -- before the first of them
 pub sweeps_none : (was : Walk) (old : List Walk) → HasMet was was → Sweeping was was old old 0
 sweeps_none was old met = record {
@@ -158,22 +170,16 @@ gathered v0 v1 v2 v3 v4 v5 v6 a0 a1 a2 b0 b1 b2 c0 c1 c2 la lb lc one two three 
       given_up_one = sixth.1;
     }
 
--- the first of a list of passes of one queue, and the others
-pub first_of : (q : Topic) (all rest : List Walk) (x : Walk) → All (IsOf q) all → all ≡ x ∷ rest → IsOf q x
-first_of q all rest x are is = subst (All (IsOf q)) is are 0 x (omega arith)
-
-pub of_rest : (q : Topic) (all rest : List Walk) (x : Walk) → All (IsOf q) all → all ≡ x ∷ rest → All (λ w. IsOfOne x w) rest
-of_rest q all rest x are is = λ k d less.
+-- the first of a list of passes of one queue may meet those of another list, and the others of its own; its seat is v, and its
+-- words are z
+pub may_others : (q z : Topic) (all rest others : List Walk) (x v : Walk) → z ≡ q → v ≡ x → HasStopped v → All (IsOf q) all → All (IsOf q) others → all ≡ x ∷ rest → MayMeet z v others
+may_others q z all rest others x v words seat still are others_are is =
     let here : IsOf q x = subst (All (IsOf q)) is are 0 x (omega arith) in
-    let there : IsOf q (get_or rest k d) = subst (All (IsOf q)) is are (suc k) d (omega (arith, less)) in
-    (there.0 ∙ sym here.0, there.1 ∙ sym here.1)
+    subst (λ (y : Topic × Walk). HasStopped y.1 → MayMeet y.0 y.1 others) (λ i. (sym words i, sym seat i))
+    (λ stop. record { here = here; still = stop; others = λ k d less. let there : IsOf q (get_or others k d) = others_are k d less in (there.0 ∙ sym here.0, there.1 ∙ sym here.1) }) still
 
--- and of another list
-pub of_others : (q : Topic) (all rest others : List Walk) (x : Walk) → All (IsOf q) all → All (IsOf q) others → all ≡ x ∷ rest → All (λ w. IsOfOne x w) others
-of_others q all rest others x are others_are is = λ k d less.
-    let here : IsOf q x = subst (All (IsOf q)) is are 0 x (omega arith) in
-    let there : IsOf q (get_or others k d) = others_are k d less in
-    (there.0 ∙ sym here.0, there.1 ∙ sym here.1)
+pub may_rest : (q z : Topic) (all rest : List Walk) (x v : Walk) → z ≡ q → v ≡ x → HasStopped v → All (IsOf q) all → all ≡ x ∷ rest → MayMeet z v rest
+may_rest q z all rest x v words seat still are is = may_others q z all rest rest x v words seat still are (λ k d less. subst (All (IsOf q)) is are (suc k) d (omega (arith, less))) is
 
 -- all have seen what the first one has
 pub with_first : (w : Walk) (others : List Walk) → All (λ o. o.seen ≡ w.seen) others → All (λ o. o.seen ≡ w.seen) (w ∷ others)

@@ -6,6 +6,7 @@ use Rattle.cc_steps.specs.Topic.{Topic}
 use Rattle.cc_steps.specs.Seen.{Onward, Later}
 use Rattle.cc_steps.specs.Walk.{Walk, IsOf, IsSound}
 use Rattle.cc_queue.specs.Headline.{StandsInOne}
+use Rattle.cc_queue.specs.Passes.{HasStopped}
 
 -- two passes are of one queue
 abbrev pub IsOfOne : Walk → Walk → Type 0
@@ -31,6 +32,12 @@ pub record HasMet (v w : Walk) : Type 0 where
 -- each pass of a list did
 abbrev pub EachHasMet : List Walk → List Walk → Type 0
 EachHasMet old new = (k : ℕ) (d : Walk) → k < length old → HasMet (slice_index_or old k d) (slice_index_or new k d)
+
+-- a pass of this queue may meet each of the others in turn: it stands still, and all are of one queue
+pub record MayMeet (z : Topic) (v : Walk) (passes : List Walk) : Type 0 where
+  pub here : IsOf z v
+  pub still : HasStopped v
+  pub others : All (λ w. IsOfOne v w) passes
 
 -- a pass that met each of the others in turn: it has seen all that any of them has; and where it had seen that before,
 -- it has seen no more now, and all have seen the same

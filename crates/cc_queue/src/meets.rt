@@ -1,10 +1,8 @@
 //! Passes that see what each other has seen.
 ghost use Rattle.std.specs.Prelude.{◌≡◌, [], length};
-ghost use Rattle.std.specs.List.{All};
 ghost use Rattle.cc_steps.specs.Shown.{longer};
 ghost use Rattle.cc_steps.specs.Walk.{IsOf, IsSound};
-ghost use Rattle.cc_queue.specs.Passes.{HasStopped};
-ghost use Rattle.cc_queue.specs.Met.{HasMet, EachHasMet, AreOf, IsOfOne, Sees, Swept, Gathered, HaveSeenOne};
+ghost use Rattle.cc_queue.specs.Met.{HasMet, EachHasMet, AreOf, IsOfOne, MayMeet, Sees, Swept, Gathered, HaveSeenOne};
 
 use crate::given_up::GivenUp;
 use crate::passes::{Receiver, Sender};
@@ -62,9 +60,7 @@ pub fn meet_receivers(one: &mut Receiver, other: &mut Receiver)
 
 /// The pass of this seat meets each of the senders in turn.
 fn sweep_senders(words: &Words, first: &mut PassSeat, others: &mut [Sender])
-    requires here { IsOf words.now first.old }
-    requires still { HasStopped first.old }
-    requires others { All (λ w. IsOfOne first.old w) others.old }
+    requires { MayMeet words.now first.old others.old }
     ensures { Swept first.old first.new others.old others.new }
 {
     first.is_sound();
@@ -75,9 +71,7 @@ fn sweep_senders(words: &Words, first: &mut PassSeat, others: &mut [Sender])
 
 /// It meets each of the receivers in turn.
 fn sweep_receivers(words: &Words, first: &mut PassSeat, others: &mut [Receiver])
-    requires here { IsOf words.now first.old }
-    requires still { HasStopped first.old }
-    requires others { All (λ w. IsOfOne first.old w) others.old }
+    requires { MayMeet words.now first.old others.old }
     ensures { Swept first.old first.new others.old others.new }
 {
     first.is_sound();
@@ -88,9 +82,7 @@ fn sweep_receivers(words: &Words, first: &mut PassSeat, others: &mut [Receiver])
 
 /// It meets each of the passes that were given up.
 fn sweep_given_up(words: &Words, first: &mut PassSeat, others: &mut [GivenUp])
-    requires here { IsOf words.now first.old }
-    requires still { HasStopped first.old }
-    requires others { All (λ w. IsOfOne first.old w) others.old }
+    requires { MayMeet words.now first.old others.old }
     ensures { Swept first.old first.new others.old others.new }
 {
     first.is_sound();
@@ -108,11 +100,9 @@ fn gather(
     receivers: &mut [Receiver],
     given_up: &mut [GivenUp],
 )
-    requires here { IsOf words.now first.old }
-    requires still { HasStopped first.old }
-    requires senders { All (λ w. IsOfOne first.old w) senders.old }
-    requires receivers { All (λ w. IsOfOne first.old w) receivers.old }
-    requires given_up { All (λ w. IsOfOne first.old w) given_up.old }
+    requires senders { MayMeet words.now first.old senders.old }
+    requires receivers { MayMeet words.now first.old receivers.old }
+    requires given_up { MayMeet words.now first.old given_up.old }
     ensures { Gathered first.old first.new senders.old senders.new receivers.old receivers.new given_up.old given_up.new }
 {
     sweep_senders(words, first, senders);

@@ -1,8 +1,4 @@
-use Rattle.std.proofs.Common.{◌∙◌, ap, arith, get_or}
-use Rattle.std.proofs.lemmas.List.{get_or_default}
-use Rattle.cc_steps.specs.Shown.{longer}
-use Rattle.cc_steps.specs.Walk.{Walk}
-use Rattle.cc_queue.proofs.Meetings.{still_stopped, met_on, met_so, met_still, sweeps, sweeps_none, swept}
+use Rattle.cc_queue.proofs.Meetings.{idle_receiver, met_still, sweeps_none, sweeps_on, swept}
 use Rattle.cc_queue.proofs.meets.sweep_receivers.Goals as goal
 
 pub loop-other-init : goal.loop-other-init
@@ -11,18 +7,7 @@ loop-other-init c = sweeps_none c.args.first.now c.args.others.now (met_still c.
 pub loop-other-preserved : goal.loop-other-preserved
 loop-other-preserved c =
     let m = c.meet_seats.ensures in
-    let before = c.loop-other.invariant in
-    let first = c.loop-other.first in
-    let i = c.loop-other.other-index in
-    let now = c.loop-other.others in
-    let len = c.loop-other.auto.others in
-    let less = c.loop-other-test.true in
-    sweeps c.args.first.now first c.meet_seats.new.one c.args.others.now now i (get_or now i c.other-item.result) c.meet_seats.new.other before less len
-    (λ d. get_or_default now i d c.other-item.result (omega (arith, less, len)))
-    (met_on first c.meet_seats.new.one (still_stopped c.args.first.now first c.requires.still before.met.same) m.one)
-    (met_so _ c.other.inside.at.seat c.meet_seats.new.other 0 c.other.inside.at.node c.other.view_is c.other.invariant.list c.other.invariant.stand m.other)
-    m.seen
-    (m.longest ∙ ap (λ (x : Walk). longer first.seen x.seen) c.other.view_is)
+    sweeps_on _ _ _ _ _ _ c.other-item.result _ _ c.requires.still c.loop-other.invariant c.loop-other-test.true c.loop-other.auto.others c.other.view_is (idle_receiver _ c.other.invariant) m.one m.other m.seen m.longest
 
 pub returns : goal.returns
-returns c = swept c.args.first.now c.loop-other.first c.args.others.now c.loop-other.others c.loop-other.other-index c.loop-other.invariant c.loop-other-test.false c.loop-other.auto.others
+returns c = swept _ _ _ _ _ c.loop-other.invariant c.loop-other-test.false c.loop-other.auto.others

@@ -1,14 +1,11 @@
-use Rattle.std.proofs.Common.{sym, ap, ◌∙◌}
+use Rattle.std.proofs.Common.{ap, ◌∙◌}
 use Rattle.cc_steps.specs.Walk.{Walk}
 use Rattle.cc_queue.proofs.Heeded.{heeded_so}
-use Rattle.cc_queue.proofs.Meetings.{met_so}
+use Rattle.cc_queue.proofs.Meetings.{idle_receiver, met_stopped, sees_noted}
 use Rattle.cc_queue.proofs.passes.Receiver.heed.Goals as goal
 
 pub returns-clause-met : goal.returns-clause-met
-returns-clause-met c =
-    let v : Walk = c.self.inside.at.seat in
-    let l = c.heed.ensures.looked in
-    met_so _ v c.heed.new.to 0 c.self.inside.at.node c.self.view_is c.self.invariant.list c.self.invariant.stand (record { same = l.same ∙ (λ i. record v { seen = (sym l.same i).seen }); onward = l.later; sound = c.is_sound.ensures })
+returns-clause-met c = met_stopped _ _ _ c.self.view_is (idle_receiver _ c.self.invariant) (sees_noted _ _ _ c.heed.ensures.looked c.is_sound.ensures)
 
 pub returns-clause-heeded : goal.returns-clause-heeded
 returns-clause-heeded c =
