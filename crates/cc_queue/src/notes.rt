@@ -94,6 +94,7 @@ pub fn take_after<R: Wait>(
 /// # Errors
 ///
 /// The sender has begun as many sends as one sender may. It comes back, having heeded the note.
+#[tactic(auto, using(crate::proofs::Heeded::completed_after))]
 pub fn send_after<R: Wait>(
     queue: &Queue,
     rt: &R,
