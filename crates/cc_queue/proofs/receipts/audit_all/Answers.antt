@@ -1,8 +1,7 @@
-use Rattle.std.proofs.Common.{◌≡◌, ◌∙◌, List, [], ◌++◌, append-nil, ap, subst}
+use Rattle.std.proofs.Common.{◌≡◌, ◌∙◌, List, ◌++◌, append-nil, ap, subst}
 use Rattle.std.proofs.lemmas.Result.{IfOk-weaker}
 use Rattle.cc_audit.specs.Verdict.{IsVerdict}
 use Rattle.cc_queue.specs.Names.{SendReceipt, TakeReceipt, Verdict}
-use Rattle.cc_queue.specs.Receipts.{in_group, receipts_left, sent, got}
 use Rattle.cc_audit.proofs.One.{same}
 use Rattle.cc_queue.proofs.Held.{has_just, are_clean}
 use Rattle.cc_queue.proofs.receipts.audit_all.Goals as goal
