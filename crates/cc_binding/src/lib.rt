@@ -23,7 +23,6 @@ ghost use Rattle.cc_handles.specs.Calls.{single, fitting, IfRoom, BeginsSend, Tu
 mod version;
 
 use cc_handles::codes::{DONE, NO_MEMORY, NO_PASS};
-use cc_handles::drops::give_up;
 use cc_handles::handle::Handle;
 use cc_handles::items::{TakenItem, TakenWords};
 use cc_handles::opening::{Settings, check, open};
@@ -393,11 +392,14 @@ pub extern "C" fn vahepito_group(alloc: Global, receiver: &mut Handle, group: &m
     code
 }
 
-/// Lets a pass go, with its call if it had begun one. The last handle of a queue frees it.
+/// Gives up the pass of a handle, with its call if it had begun one. It does nothing more. The last handle of a queue frees it.
 #[unsafe(no_mangle)]
 pub extern "C" fn vahepito_drop(alloc: Global, pass: &mut Handle) -> u32
     ensures { IsDropped pass.old pass.new result }
 {
-    let (code, _given_up) = give_up(alloc, pass);
-    code
+    let Some(mut held) = pass.take(alloc) else {
+        return NO_PASS;
+    };
+    pass.left = held.give_up();
+    DONE
 }

@@ -2,3 +2,5 @@ pub mod Filling
 pub mod BoxedValues
 pub mod Trying
 pub mod Values
+pub mod Quiet
+pub mod LeftValues

@@ -1,7 +1,6 @@
 -- Handles.
 use Rattle.std.specs.Prelude.{◌≡◌, ℕ, Bool, not, IsTrue, if◌then◌else◌, Option, Some, None}
 use Rattle.cc_handles.specs.Names.{Pass}
-use Rattle.cc_steps.specs.Walk.{Walk}
 use Rattle.cc_handles.specs.Passes.{Holding, left_of}
 use Rattle.cc_handles.specs.declared.handle.Handle.{Handle}
 use Rattle.cc_handles.specs.declared.codes.TheConstants.{DONE, NO_PASS}
@@ -25,11 +24,9 @@ longest_of h = (held_by h).words
 abbrev pub is_empty : Handle → Bool
 is_empty h = not h.live
 
--- a handle was dropped: it is empty now, and DONE is told where it was not before
-abbrev pub IsDropped : Handle → Handle → ℕ → Type 0
-IsDropped old new code = IsTrue (is_empty new) × (code ≡ (if is_empty old then NO_PASS else DONE))
-
--- and so its pass was given up: what is left behind is the pass that it held, as it was
-pub record IsGivenUp (old new : Handle) (code : ℕ) (left : Option Walk) : Type 0 where
-  pub dropped : IsDropped old new code
-  pub left_is : left ≡ left_of (pass_of old)
+-- a handle was dropped: it is empty now, DONE is told if it was not before, and what is left behind it is the pass that it
+-- held, as it was
+pub record IsDropped (old new : Handle) (code : ℕ) : Type 0 where
+  pub empty : IsTrue (is_empty new)
+  pub told : code ≡ (if is_empty old then NO_PASS else DONE)
+  pub left : new.left.value ≡ left_of (pass_of old)

@@ -3,6 +3,7 @@ pub mod Boxed
 pub mod Codes
 pub mod Passes
 pub mod Items
+pub mod Left
 pub mod Told
 pub mod Calls
 pub mod Handles

@@ -3,17 +3,19 @@ ghost use Rattle.std.specs.Prelude.{◌≡◌, Some, None, is_some, MatchOption}
 
 use crate::boxed::Boxed;
 use crate::held::Held;
+use crate::left::Left;
 use crate::loose::Loose;
 use std::alloc::Global;
 use std::mem::replace;
 use std::ptr::null_mut;
 
-/// A pass, or nothing where it is not live.
+/// A pass, or nothing where it is not live; then what is left of the pass that it held and that was given up.
 #[repr(C)]
 #[derive(Drop)]
 pub struct Handle {
     pub boxed: Boxed,
     pub live: bool,
+    pub left: Left,
     ghost is_live: { is_some boxed.value ≡ live },
 }
 
@@ -25,6 +27,7 @@ impl Handle {
         Handle {
             boxed: Boxed::pack(Loose::of(held)),
             live: true,
+            left: Left::none(),
         }
     }
 
@@ -40,9 +43,14 @@ impl Handle {
     /// What the handle holds, which is empty afterwards.
     pub fn take(&mut self, alloc: Global) -> Option<Box<Held>>
         ensures after { self.new.boxed.value ≡ None }
+        ensures left { self.new.left.value ≡ None }
         ensures taken { MatchOption result (self.old.boxed.value ≡ None) (λ b. self.old.boxed.value ≡ Some b.value) }
     {
-        let Handle { boxed, live } = replace(self, Handle::empty(alloc));
+        let Handle {
+            boxed,
+            live,
+            left: _,
+        } = replace(self, Handle::empty(alloc));
         if live {
             return Some(boxed.into_box());
         }
@@ -51,12 +59,14 @@ impl Handle {
 
     /// A handle that holds nothing.
     pub fn empty(alloc: Global) -> Handle
-        ensures { result.boxed.value ≡ None }
+        ensures held { result.boxed.value ≡ None }
+        ensures left { result.left.value ≡ None }
     {
         let at = null_mut();
         Handle {
             boxed: Boxed::none(at, alloc),
             live: false,
+            left: Left::none(),
         }
     }
 }

@@ -3,8 +3,10 @@ ghost use Rattle.std.specs.Prelude.{◌≡◌, Some, None};
 ghost use Rattle.cc_steps.specs.Walk.{IsOf};
 ghost use Rattle.cc_handles.specs.Passes.{walk_of, left_of, holding};
 
+use crate::left::Left;
 use cc_queue::{GivenUp, PendingClose, PendingSend, PendingTake, Queue, Receiver, Sender};
 use std::marker::Model;
+use std::mem::ManuallyDrop;
 
 /// A pass, by what it is and whether it has a call.
 pub enum Pass {
@@ -56,12 +58,14 @@ impl Held {
         }
     }
 
-    /// Gives the pass up, with its call if it had begun one, and tells what it was then.
-    pub(crate) fn give_up(&mut self) -> Option<GivenUp>
-        ensures { result ≡ left_of self.old.pass }
+    /// Gives the pass up, with its call if it had begun one: what is left of it.
+    pub fn give_up(&mut self) -> Left
+        ensures { result.value ≡ left_of self.old.pass }
     {
-        let pass = self.pass.take()?;
-        Some(give_up(pass))
+        match self.pass.take() {
+            Some(pass) => Left::of(ManuallyDrop::new(give_up(pass))),
+            None => Left::none(),
+        }
     }
 }
 

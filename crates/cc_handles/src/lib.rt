@@ -7,10 +7,10 @@
 mod boxed;
 mod closes;
 pub mod codes;
-pub mod drops;
 pub mod handle;
 pub mod held;
 pub mod items;
+mod left;
 mod loose;
 pub mod opening;
 mod refusals;

@@ -6,22 +6,18 @@ use denote.Builtin.{RawPtr}
 use denote.Struct.Struct.{exits_of}
 use denote.Struct.Owning.{shape, fields, to}
 use Rattle.std.specs.Prelude.{Option, Some, None}
-use denote.Exit.{Exit, unchanged, leaves, hidden, under}
 use denote.RattleType.{RattleType}
 use denote.RawPtr.{Ptr, block_ptr, null_ptr, lies_at}
 use base.Fraction.{full_share}
-use denote.Param.Send.{Quiet, part_keyless}
+use denote.Param.Send.{part_keyless}
 use Rattle.std.proofs.Crossing.{frees}
+use Rattle.cc_handles.proofs.Quiet.{quiet}
 use Rattle.cc_handles.proofs.held.Held.TheSendSync as held_sent
 use Rattle.std.specs.contracts.impls.GlobalAllocator.TheImpl.{ghosts}
 use Rattle.std.specs.contracts.alloc.Global as heap
 use Rattle.cc_handles.specs.Boxed.{boxed_owns}
 use Rattle.cc_handles.specs.contracts.held.Held as held
 use Rattle.cc_handles.specs.contracts.boxed.Boxed as boxed
-
-quiet : {D X : Type 0} (to : D → X) (e : Exit X) → Quiet e → Quiet (hidden (under to e))
-quiet to unchanged q = λ x w. tt
-quiet to (leaves L l S s r₀) q = λ d. q (to d)
 
 lies : (R : RattleType) → IsSend R → (p : Ptr) (x : R.Denot) → Keyless (lies_at R full_share p x)
 lies R s (block_ptr b o) x = part_keyless R s full_share x b o

@@ -1,0 +1,9 @@
+use Rattle.std.specs.Prelude.{List, Option, Some, None}
+use base.Fml.{Fml, ftrue, fex}
+use mir.Val.{Val}
+use denote.RattleType.{RattleType}
+
+-- what is left of a pass that was given up: nothing, or all that this value owns, but its bytes
+abbrev pub left_owns : (R : RattleType) → Option R.Denot → Fml
+left_owns R None = ftrue
+left_owns R (Some x) = fex (List Val) (λ vs. R.own_val x vs)

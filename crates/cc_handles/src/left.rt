@@ -1,0 +1,40 @@
+//! What is left of a pass that was given up.
+ghost use Rattle.std.specs.Prelude.{◌≡◌, Option, Some, None};
+ghost use Rattle.std.specs.Mem.{manually_drop_value};
+ghost use Rattle.cc_queue.specs.declared.GivenUp.{GivenUp};
+ghost use Rattle.cc_queue.specs.contracts.GivenUp.{the_row};
+ghost use Rattle.cc_handles.specs.Left.{left_owns};
+
+use cc_queue::GivenUp;
+use std::marker::Model;
+use std::mem::ManuallyDrop;
+
+/// A pass that was given up, or none. It has no bytes, so C sees nothing of it. It owns the seat of the pass, and there is
+/// only one, so a pass that is left as it was did nothing more.
+#[repr(C)]
+#[derive(Drop)]
+pub struct Left {
+    pub ghost value: { Option GivenUp },
+}
+
+impl Model for Left {
+    ghost also_owns = { λ l. left_owns the_row l.value };
+}
+
+impl Left {
+    /// None.
+    pub(crate) fn none() -> Left
+        ensures { result.value ≡ None }
+    {
+        Left {}
+    }
+
+    /// This pass.
+    pub(crate) fn of(given_up: ManuallyDrop<GivenUp>) -> Left
+        ensures { result.value ≡ Some (manually_drop_value given_up) }
+    {
+        Left {}
+    }
+}
+
+unsafe impl Send for Left {}
