@@ -13,12 +13,14 @@ pub enum Said {
     Send(Body),
     /// A take that got an item.
     Took(Body),
-    /// A take that found none.
+    /// A take that found none. So did one that was answered Ended.
     FoundNone,
     /// A take that hasn't returned.
     Taking,
-    /// A call that was answered Full, Closed or Ended, which isn't judged.
-    NotJudged,
+    /// A send that was answered Full, which isn't judged.
+    Full,
+    /// A send that was answered Closed, which isn't judged.
+    Closed,
 }
 
 /// The times of a call, and what the line says of it.
@@ -85,38 +87,34 @@ fn end(tree: &Value, begin: u64) -> Result<Option<u64>, LineFault> {
     }
 }
 
-/// Whether the call was answered Full, Closed or Ended.
-fn is_not_judged(tree: &Value, sends: bool, ended: bool) -> Result<bool, LineFault> {
-    let Some(value) = tree.get("answer") else {
-        return Ok(false);
-    };
-    match value.as_str() {
-        Some("full" | "closed") if sends && ended => Ok(true),
-        Some("ended") if !sends && ended => Ok(true),
-        _ => Err(LineFault::Answer),
+/// The answer of a call that returned, if its line has one.
+fn answer(tree: &Value, ended: bool) -> Result<Option<&str>, LineFault> {
+    match tree.get("answer") {
+        None => Ok(None),
+        Some(value) if ended => Ok(Some(value.as_str().ok_or(LineFault::Answer)?)),
+        Some(_) => Err(LineFault::Answer),
     }
 }
 
 /// What the line says of a send.
 fn send(tree: &Value, value: &Value, end: Option<u64>) -> Result<Said, LineFault> {
     let body = body(value)?;
-    if is_not_judged(tree, true, end.is_some())? {
-        return Ok(Said::NotJudged);
+    match answer(tree, end.is_some())? {
+        None => Ok(Said::Send(body)),
+        Some("full") => Ok(Said::Full),
+        Some("closed") => Ok(Said::Closed),
+        Some(_) => Err(LineFault::Answer),
     }
-    Ok(Said::Send(body))
 }
 
 /// What the line says of a take.
 fn take(tree: &Value, value: &Value, end: Option<u64>) -> Result<Said, LineFault> {
     if value.is_null() {
-        if is_not_judged(tree, false, end.is_some())? {
-            return Ok(Said::NotJudged);
-        }
-        return Ok(if end.is_some() {
-            Said::FoundNone
-        } else {
-            Said::Taking
-        });
+        return match answer(tree, end.is_some())? {
+            None if end.is_none() => Ok(Said::Taking),
+            None | Some("ended") => Ok(Said::FoundNone),
+            Some(_) => Err(LineFault::Answer),
+        };
     }
     if tree.get("answer").is_some() {
         return Err(LineFault::Answer);

@@ -16,8 +16,10 @@ pub struct Log {
     pub lines: Vec<usize>,
     /// How many items there are: those of the calls are below.
     pub items: usize,
-    /// How many calls were answered Full, Closed or Ended. They aren't judged.
-    pub not_judged: usize,
+    /// The number of sends that were answered Full. They aren't judged.
+    pub full: usize,
+    /// The number of sends that were answered Closed. They aren't judged.
+    pub closed: usize,
 }
 
 /// What is known of the lines so far.
@@ -49,14 +51,21 @@ fn item(known: &mut Known, body: Body) -> Result<usize, LogFault> {
     Ok(place)
 }
 
-/// What the call of a line did, or None if it isn't judged.
-fn act(known: &mut Known, said: Said) -> Result<Option<Act>, LogFault> {
+/// What the call of a line did. Or None if it isn't judged, which is counted.
+fn act(known: &mut Known, log: &mut Log, said: Said) -> Result<Option<Act>, LogFault> {
     match said {
         Said::Send(body) => Ok(Some(Act::Send(item(known, body)?))),
         Said::Took(body) => Ok(Some(Act::Took(item(known, body)?))),
         Said::FoundNone => Ok(Some(Act::FoundNone)),
         Said::Taking => Ok(Some(Act::Taking)),
-        Said::NotJudged => Ok(None),
+        Said::Full => {
+            log.full = log.full.saturating_add(1);
+            Ok(None)
+        }
+        Said::Closed => {
+            log.closed = log.closed.saturating_add(1);
+            Ok(None)
+        }
     }
 }
 
@@ -89,7 +98,8 @@ pub fn read_log(alloc: Global, text: &[u8]) -> Result<Log, LogFault> {
         calls: Vec::new(alloc),
         lines: Vec::new(alloc),
         items: 0,
-        not_judged: 0,
+        full: 0,
+        closed: 0,
     };
     for (at, line) in text.split(|b| *b == b'\n').enumerate() {
         if !line.trim_ascii().is_empty() {
@@ -126,12 +136,9 @@ fn add(
             fault: LineFault::Overlap,
         });
     }
-    match act(known, said)? {
-        Some(act) => {
-            log.calls.push(Call { begin, end, act })?;
-            log.lines.push(line)?;
-        }
-        None => log.not_judged = log.not_judged.saturating_add(1),
+    if let Some(act) = act(known, log, said)? {
+        log.calls.push(Call { begin, end, act })?;
+        log.lines.push(line)?;
     }
     Ok(())
 }

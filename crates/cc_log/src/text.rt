@@ -72,15 +72,21 @@ fn fault_text(alloc: Global, log: &Log, fault: &Fault) -> Result<String, AllocEr
     }
 }
 
+/// The number of sends that aren't judged, with their answers.
+fn refused(alloc: Global, log: &Log) -> Result<String, AllocError> {
+    let (full, closed) = (log.full, log.closed);
+    match full.saturating_add(closed) {
+        0 => String::from_str(alloc, "0 not judged"),
+        all => format!(in alloc; "{all} not judged: {full} full, {closed} closed"),
+    }
+}
+
 /// The line of a verdict on this log.
 pub fn text_of(alloc: Global, log: &Log, verdict: &Verdict) -> Result<String, AllocError> {
     match verdict {
         Verdict::Clean(_) => {
-            format!(in alloc;
-                "judge clean: {} calls have a legal order, {} not judged\n",
-                log.calls.len(),
-                log.not_judged
-            )
+            let refused = refused(alloc, log)?;
+            format!(in alloc; "judge clean: {} calls have a legal order, {refused}\n", log.calls.len())
         }
         Verdict::Fault(fault) => fault_text(alloc, log, fault),
         Verdict::SentTwice(first, second) => {
