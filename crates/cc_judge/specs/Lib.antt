@@ -1,6 +1,6 @@
 pub mod Names
 pub mod Order
-pub mod Checks
 pub mod Faults
+pub mod Checks
 pub mod Table
 pub mod Verdict

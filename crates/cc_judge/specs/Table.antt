@@ -1,5 +1,5 @@
 -- Where each item of a log was sent, and where it was taken.
-use Rattle.std.specs.Prelude.{◌≡◌, ◌≢◌, ℕ, List, Option, Some, None, IsTrue, slice_get, slice_set}
+use Rattle.std.specs.Prelude.{◌≡◌, ◌≢◌, ℕ, List, Option, Some, None, slice_get, slice_set}
 use Rattle.cc_judge.specs.Names.{Act, Call, Kind, Found, Entry, Index}
 use Rattle.cc_judge.specs.Faults.{Did}
 
@@ -32,8 +32,7 @@ IsFound calls kind (Found.Each table) = IsTable calls kind table.items
 IsFound calls kind (Found.Twice first second) = Twice calls kind first second
 IsFound calls kind (Found.Stray place) = (item : ℕ) × Did calls place (act_of kind item)
 
--- the index has each send and each take; and if it says so, all takes returned
+-- the index has each send and each take
 pub record IsIndex (calls : List Call) (index : Index) : Type 0 where
   pub sends : IsTable calls Kind.Send index.sends.items
   pub takes : IsTable calls Kind.Take index.takes.items
-  pub all_returned : IsTrue index.all_returned → (place : ℕ) → Did calls place Act.Taking → ⊥

@@ -10,7 +10,7 @@ abbrev pub Stands : List Call → Fault → Type 0
 Stands calls (Fault.NeverSent take) = NeverSent calls take
 Stands calls (Fault.TakenBeforeSent send take) = TakenBeforeSent calls send take
 Stands calls (Fault.TakenTwice first second) = TakenTwice calls first second
-Stands calls (Fault.Overtaken send later_send take later_take) = Overtaken calls send later_send take later_take
+Stands calls (Fault.Overtaken stay later_send later_take) = Overtaken calls stay later_send later_take
 Stands calls (Fault.NotEmpty call stays) = NotEmpty calls call stays.items
 
 -- the verdict is right: a clean log has this legal order; one with a fault has the fault, and no legal order

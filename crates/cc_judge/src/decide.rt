@@ -1,17 +1,17 @@
 //! The verdict on a log.
-ghost use Rattle.std.specs.Prelude.{IfOk, IfSome, IsTrue};
+ghost use Rattle.std.specs.Prelude.{IfOk, IfSome};
 ghost use Rattle.cc_judge.specs.Names.{Verdict, Fault};
 ghost use Rattle.cc_judge.specs.Table.{IsIndex};
 ghost use Rattle.cc_judge.specs.Faults.{Differ};
 ghost use Rattle.cc_judge.specs.Verdict.{IsVerdict, Stands, Indexes, FaultsHaveNoOrder};
 
 use crate::faults::{
-    Index, all_returned, is_never_sent, is_not_empty, is_overtaken, is_taken_before_sent,
-    is_taken_twice,
+    Index, is_never_sent, is_not_empty, is_overtaken, is_taken_before_sent, is_taken_twice,
 };
 use crate::order::is_order;
 use crate::pick::{Pair, overtaken, stays};
 use crate::search::{Sought, place_of, seek};
+use crate::share::{Shares, share};
 use crate::table::{Found, Kind, find};
 use crate::{Act, Call, Stay, Step};
 use std::alloc::{AllocError, Global};
@@ -35,9 +35,8 @@ pub enum Fault {
     },
     /// Two items were sent one after the other; the later one was taken, and the earlier one after that, or never.
     Overtaken {
-        send: usize,
+        stay: Stay,
         later_send: usize,
-        take: Option<usize>,
         later_take: usize,
     },
     /// A take found none, and at all of its times some of these items were in the queue.
@@ -97,11 +96,7 @@ fn index_of(alloc: Global, calls: &[Call], items: usize) -> Result<Indexed, Allo
         Found::Twice(first, second) => return Ok(Indexed::Due(twice(calls, first, second))),
         Found::Stray(place) => return Ok(Indexed::Due(Verdict::Stray(place))),
     };
-    Ok(Indexed::Index(Index {
-        sends,
-        takes,
-        all_returned: all_returned(calls),
-    }))
+    Ok(Indexed::Index(Index { sends, takes }))
 }
 
 /// The law: a fault leaves a log of items that differ without a legal order.
@@ -130,26 +125,29 @@ fn take_fault(calls: &[Call], index: &Index) -> Option<Fault>
 }
 
 /// Two items of which the later one overtook the earlier one.
-fn pair_fault(alloc: Global, calls: &[Call], index: &Index) -> Result<Option<Fault>, AllocError>
+fn pair_fault(
+    alloc: Global,
+    calls: &[Call],
+    index: &Index,
+    shares: &Shares,
+) -> Result<Option<Fault>, AllocError>
     requires { IsIndex calls.now index.now }
     ensures { IfOk result (λ found. IfSome found (Stands calls.now)) }
 {
-    let Some(pair) = overtaken(alloc, calls, index)? else {
+    let Some(pair) = overtaken(alloc, calls, index, shares)? else {
         return Ok(None);
     };
     let Pair {
-        send,
+        stay,
         later_send,
-        take,
         later_take,
     } = pair;
-    if !is_overtaken(calls, index, send, later_send, take, later_take) {
+    if !is_overtaken(calls, index, &stay, later_send, later_take) {
         return Ok(None);
     }
     Ok(Some(Fault::Overtaken {
-        send,
+        stay,
         later_send,
-        take,
         later_take,
     }))
 }
@@ -159,12 +157,13 @@ fn none_fault(
     alloc: Global,
     calls: &[Call],
     index: &Index,
+    shares: &Shares,
     call: usize,
 ) -> Result<Option<Fault>, AllocError>
     requires { IsIndex calls.now index.now }
     ensures { IfOk result (λ found. IfSome found (Stands calls.now)) }
 {
-    let stays = stays(alloc, calls, index, call)?;
+    let stays = stays(alloc, calls, index, shares, call)?;
     if !is_not_empty(calls, index, call, stays.as_slice()) {
         return Ok(None);
     }
@@ -176,14 +175,15 @@ fn fault_at(
     alloc: Global,
     calls: &[Call],
     index: &Index,
+    shares: &Shares,
     stuck: usize,
 ) -> Result<Option<Fault>, AllocError>
     requires { IsIndex calls.now index.now }
     ensures { IfOk result (λ found. IfSome found (Stands calls.now)) }
 {
-    match pair_fault(alloc, calls, index)? {
+    match pair_fault(alloc, calls, index, shares)? {
         Some(fault) => Ok(Some(fault)),
-        None => none_fault(alloc, calls, index, stuck),
+        None => none_fault(alloc, calls, index, shares, stuck),
     }
 }
 
@@ -199,10 +199,11 @@ fn verdict_of(calls: &[Call], index: &Index, found: Option<Fault>) -> Verdict
     }
 }
 
-/// The verdict on a log whose items are below `items`. It takes memory in proportion to the log, and O(n log n).
+/// The verdict on a log whose items are below `items`. It takes O(n log n), and memory in proportion to the log; if a
+/// take found none though items were left, both grow with the square of the takes that haven't returned too.
 ///
-/// A log without takes that haven't returned has an order exactly if it has none of the faults, so then the verdict is
-/// one of the two (Henzinger, Sezgin and Vafeiadis, CONCUR 2013); that isn't proved. With such takes it may be undecided.
+/// A log has an order exactly if it has none of the faults, so the verdict is one of the two (after Henzinger, Sezgin and
+/// Vafeiadis, CONCUR 2013, for calls that all returned); that isn't proved, so the verdict may be undecided.
 pub fn judge(alloc: Global, calls: &[Call], items: usize) -> Result<Verdict, AllocError>
     ensures { IfOk result (IsVerdict calls.now) }
 {
@@ -213,10 +214,11 @@ pub fn judge(alloc: Global, calls: &[Call], items: usize) -> Result<Verdict, All
     if let Some(fault) = take_fault(calls, &index) {
         return Ok(verdict_of(calls, &index, Some(fault)));
     }
-    let Sought { order, stuck } = seek(alloc, calls, &index)?;
+    let shares = share(alloc, calls, &index)?;
+    let Sought { order, stuck } = seek(alloc, calls, &index, &shares)?;
     match stuck {
         Some(stuck) => {
-            let found = fault_at(alloc, calls, &index, stuck)?;
+            let found = fault_at(alloc, calls, &index, &shares, stuck)?;
             Ok(verdict_of(calls, &index, found))
         }
         None => {

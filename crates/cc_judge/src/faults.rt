@@ -1,33 +1,20 @@
 //! Whether a fault stands in a log: each is confirmed by the calls that it names.
 ghost use Rattle.std.specs.Prelude.{◌≡◌, ℕ, IsTrue, IfSome, slice_get, Some, None};
-ghost use Rattle.cc_judge.specs.Names.{Call, Act, Kind, Stay};
+ghost use Rattle.cc_judge.specs.Names.{Call, Act, Kind, Stay, Leave};
 ghost use Rattle.cc_judge.specs.Order.{EndsBefore};
-ghost use Rattle.cc_judge.specs.Faults.{Did, Returned, Differ, NeverTaken, NeverSent, TakenBeforeSent, TakenTwice, LeavesBy, Overtaken, Covers, NotEmpty};
+ghost use Rattle.cc_judge.specs.Faults.{Did, Returned, Differ, NeverSent, TakenBeforeSent, TakenTwice, SentBefore, IsLeft, IsRising, Fewer, Stays, Passed, Overtaken, Covers, NotEmpty};
+ghost use Rattle.cc_judge.specs.Checks.{BeginsFrom, Until};
 ghost use Rattle.cc_judge.specs.Table.{IsTable, IsIndex};
 
 use crate::{Act, Call, Stay};
 
-/// Where each item of a log was sent and taken, and whether all takes returned.
+/// Where each item of a log was sent and taken.
 #[derive(Debug, Drop)]
 pub struct Index {
     /// Of each item the place of its send, if there is one.
     pub sends: Vec<Option<usize>>,
     /// Of each item the place of its take, if there is one.
     pub takes: Vec<Option<usize>>,
-    /// No take is left that hasn't returned.
-    pub all_returned: bool,
-}
-
-/// Whether all takes of the log returned.
-pub fn all_returned(calls: &[Call]) -> bool
-    ensures { IsTrue result → (place : ℕ) → Did calls.now place Act.Taking → ⊥ }
-{
-    for call in calls {
-        if matches!(call.act, Act::Taking) {
-            return false;
-        }
-    }
-    true
 }
 
 /// The item that the call at this place sent.
@@ -81,14 +68,6 @@ fn is_absent(table: &Vec<Option<usize>>, item: usize) -> bool
     matches!(table.get(item), Some(None))
 }
 
-/// Whether no call took the item, and none may have.
-fn never_taken(calls: &[Call], index: &Index, item: usize) -> bool
-    requires { IsIndex calls.now index.now }
-    ensures { IsTrue result → NeverTaken calls.now item }
-{
-    index.all_returned && is_absent(&index.takes, item)
-}
-
 /// Whether the call at this place took an item that no call sent.
 pub fn is_never_sent(calls: &[Call], index: &Index, take: usize) -> bool
     requires { IsIndex calls.now index.now }
@@ -100,14 +79,21 @@ pub fn is_never_sent(calls: &[Call], index: &Index, take: usize) -> bool
     }
 }
 
+/// Whether the call at one place took the item that the call at the other sent.
+fn passed(calls: &[Call], send: usize, take: usize) -> bool
+    ensures { IsTrue result → Passed calls.now send take }
+{
+    match (sent(calls, send), taken(calls, take)) {
+        (Some(item), Some(same)) => item == same,
+        _ => false,
+    }
+}
+
 /// Whether the take at this place ended before the send of its item, at the other place, began.
 pub fn is_taken_before_sent(calls: &[Call], send: usize, take: usize) -> bool
     ensures { IsTrue result → TakenBeforeSent calls.now send take }
 {
-    match (sent(calls, send), taken(calls, take)) {
-        (Some(item), Some(same)) => item == same && ends_before(calls, take, send),
-        _ => false,
-    }
+    passed(calls, send, take) && ends_before(calls, take, send)
 }
 
 /// Whether the calls at these two places took one item.
@@ -120,20 +106,131 @@ pub fn is_taken_twice(calls: &[Call], first: usize, second: usize) -> bool
     }
 }
 
-/// Whether the item left the queue only after the call at this place, or never.
-fn leaves_after(
-    calls: &[Call],
-    index: &Index,
-    item: usize,
-    take: Option<usize>,
-    place: usize,
-) -> bool
-    requires { IsIndex calls.now index.now }
-    ensures { IsTrue result → LeavesBy calls.now item take (λ t. EndsBefore calls.now place t) }
+/// The item that the call at one place sent, if that had ended before the call `from` began.
+fn sent_before(calls: &[Call], send: usize, from: usize) -> Option<usize>
+    ensures { IfSome result (SentBefore calls.now send from) }
 {
-    match take {
-        None => never_taken(calls, index, item),
-        Some(take) => taken(calls, take) == Some(item) && ends_before(calls, place, take),
+    if !ends_before(calls, send, from) {
+        return None;
+    }
+    sent(calls, send)
+}
+
+/// Whether the call at one place sent an item that no call took, and had ended before the call `from` began.
+fn is_left(calls: &[Call], index: &Index, send: usize, from: usize) -> bool
+    requires { IsIndex calls.now index.now }
+    ensures { IsTrue result → IsLeft calls.now from send }
+{
+    match sent_before(calls, send, from) {
+        Some(item) => is_absent(&index.takes, item),
+        None => false,
+    }
+}
+
+/// Whether each of these calls sent an item that no call took, and had ended before the call `from` began.
+fn are_left(calls: &[Call], index: &Index, sends: &[usize], from: usize) -> bool
+    requires { IsIndex calls.now index.now }
+    ensures { IsTrue result → (k send : ℕ) → slice_get sends.now k ≡ Some send → IsLeft calls.now from send }
+{
+    for send in sends {
+        if !is_left(calls, index, *send, from) {
+            return false;
+        }
+    }
+    true
+}
+
+/// Whether each place is past those before it.
+fn is_rising(places: &[usize]) -> bool
+    ensures { IsTrue result → IsRising places.now }
+{
+    let mut least = 0;
+    for place in places {
+        if *place < least {
+            return false;
+        }
+        match place.checked_add(1) {
+            Some(next) => least = next,
+            None => return false,
+        }
+    }
+    true
+}
+
+/// Whether the call at one place began no earlier than the call at another, if there is one.
+fn begins_from(calls: &[Call], next: Option<usize>, place: usize) -> bool
+    ensures { IsTrue result → BeginsFrom calls.now next place }
+{
+    let Some(next) = next else {
+        return false;
+    };
+    match (calls.get(next).copied(), calls.get(place).copied()) {
+        (Some(one), Some(other)) => one.begin <= other.begin,
+        _ => false,
+    }
+}
+
+/// Whether the call at a place is no take that hasn't returned, or began no earlier than the call `next`.
+fn is_other(calls: &[Call], next: Option<usize>, place: usize) -> bool
+    ensures { IsTrue result → Did calls.now place Act.Taking → BeginsFrom calls.now next place }
+{
+    match calls.get(place).copied() {
+        Some(call) => !matches!(call.act, Act::Taking) || begins_from(calls, next, place),
+        None => true,
+    }
+}
+
+/// Whether fewer takes than this number haven't returned and began before the call `next`.
+fn are_fewer(calls: &[Call], next: Option<usize>, number: usize) -> bool
+    ensures { IsTrue result → Fewer calls.now number (BeginsFrom calls.now next) }
+{
+    let mut spare = number;
+    for place in 0..calls.len() {
+        if !is_other(calls, next, place) {
+            if spare == 0 {
+                return false;
+            }
+            spare -= 1;
+        }
+    }
+    spare > 0
+}
+
+/// When an item left the queue.
+#[derive(Clone, Copy, Debug, PartialEq, Eq, Drop)]
+pub enum Leave {
+    /// Never.
+    Never,
+    /// By the call at this place, or one that began later and hasn't returned.
+    By(usize),
+}
+
+/// When the item of a stay left the queue, if it was sent before the call `from` began.
+fn leave_of(calls: &[Call], index: &Index, stay: &Stay, from: usize) -> Option<Leave>
+    requires { IsIndex calls.now index.now }
+    ensures { IfSome result (λ l. Stays calls.now stay.now from (Until calls.now l)) }
+{
+    match stay {
+        Stay::Taken { send, take } => {
+            let item = sent_before(calls, *send, from)?;
+            if taken(calls, *take) != Some(item) {
+                return None;
+            }
+            Some(Leave::By(*take))
+        }
+        Stay::Left { sends, next } => {
+            let sends = sends.as_slice();
+            if !is_rising(sends)
+                || !are_left(calls, index, sends, from)
+                || !are_fewer(calls, *next, sends.len())
+            {
+                return None;
+            }
+            match *next {
+                Some(next) => Some(Leave::By(next)),
+                None => Some(Leave::Never),
+            }
+        }
     }
 }
 
@@ -142,32 +239,21 @@ fn leaves_after(
 pub fn is_overtaken(
     calls: &[Call],
     index: &Index,
-    send: usize,
+    stay: &Stay,
     later_send: usize,
-    take: Option<usize>,
     later_take: usize,
 ) -> bool
     requires { IsIndex calls.now index.now }
-    ensures { IsTrue result → Overtaken calls.now send later_send take later_take }
+    ensures { IsTrue result → Overtaken calls.now stay.now later_send later_take }
 {
-    let Some(item) = sent(calls, send) else {
+    if !passed(calls, later_send, later_take) {
         return false;
-    };
-    let Some(later) = sent(calls, later_send) else {
-        return false;
-    };
-    item != later
-        && ends_before(calls, send, later_send)
-        && taken(calls, later_take) == Some(later)
-        && leaves_after(calls, index, item, take, later_take)
-}
-
-/// Whether the item of this stay was sent before the call `from` began.
-fn was_there(calls: &[Call], stay: &Stay, from: usize) -> bool
-    ensures sent { IsTrue result → Did calls.now stay.now.send (Act.Send stay.now.item) }
-    ensures before { IsTrue result → EndsBefore calls.now stay.now.send from }
-{
-    sent(calls, stay.send) == Some(stay.item) && ends_before(calls, stay.send, from)
+    }
+    match leave_of(calls, index, stay, later_send) {
+        Some(Leave::By(take)) => take != later_take && ends_before(calls, later_take, take),
+        Some(Leave::Never) => true,
+        None => false,
+    }
 }
 
 /// Whether at all times of the call at this place some of these items were in the queue.
@@ -177,16 +263,11 @@ fn covers(calls: &[Call], index: &Index, call: usize, stays: &[Stay]) -> bool
 {
     let mut from = call;
     for stay in stays {
-        if !was_there(calls, stay, from) {
-            return false;
+        match leave_of(calls, index, stay, from) {
+            Some(Leave::By(take)) => from = take,
+            Some(Leave::Never) => return true,
+            None => return false,
         }
-        let Some(take) = stay.take else {
-            return never_taken(calls, index, stay.item);
-        };
-        if taken(calls, take) != Some(stay.item) {
-            return false;
-        }
-        from = take;
     }
     ends_before(calls, call, from)
 }

@@ -11,6 +11,7 @@ mod log;
 mod order;
 mod pick;
 mod search;
+mod share;
 mod table;
 
 pub use decide::{Fault, Verdict, faults_have_no_order, judge};

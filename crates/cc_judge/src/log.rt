@@ -24,15 +24,24 @@ pub struct Call {
     pub act: Act,
 }
 
-/// The stay of an item in the queue: from its send to its take.
-#[derive(Clone, Copy, Debug, PartialEq, Eq, Drop)]
-pub struct Stay {
-    /// The item.
-    pub item: usize,
-    /// The place in the log of the call that sent it.
-    pub send: usize,
-    /// The place of the call that took it, if one did.
-    pub take: Option<usize>,
+/// The stay of an item in the queue, from its send to its take; or of several, of which the last to leave counts.
+#[derive(Debug, Drop)]
+pub enum Stay {
+    /// The calls at these places sent the item and took it.
+    Taken {
+        /// The place of the send.
+        send: usize,
+        /// The place of the take.
+        take: usize,
+    },
+    /// No call is known to have taken these items, which are more than the takes that haven't returned and began before
+    /// `next`: so one is left until `next`, or for ever.
+    Left {
+        /// The places of the sends, in order.
+        sends: Vec<usize>,
+        /// The place of the first of the other takes that haven't returned, if there is one.
+        next: Option<usize>,
+    },
 }
 
 /// One entry of an order of the calls.

@@ -3,6 +3,7 @@
 
 use crate::faults::{Index, sent};
 use crate::search::{ByTime, NEVER, place_of, span};
+use crate::share::{Shares, stay_of};
 use crate::{Act, Call, Stay};
 use std::alloc::{AllocError, Global};
 
@@ -32,25 +33,20 @@ struct Latest {
     best: Option<(u64, usize)>,
 }
 
-/// The begin of the take of the item that was sent at a place. An item that was never taken counts only if all takes
-/// returned.
-fn leaves(calls: &[Call], index: &Index, send: usize) -> Option<u64> {
+/// The begin of the take of the item that was sent at a place.
+fn leaves(calls: &[Call], shares: &Shares, send: usize) -> Option<u64> {
     let item = sent(calls, send)?;
-    match place_of(&index.takes, item) {
-        Some(take) => Some(span(calls, Some(take)).0),
-        None if index.all_returned => Some(NEVER),
-        None => None,
-    }
+    Some(span(calls, place_of(&shares.takes, item)).0)
 }
 
 /// Goes on to all sends that ended before a time.
-fn advance(latest: &mut Latest, calls: &[Call], index: &Index, time: u64) {
+fn advance(latest: &mut Latest, calls: &[Call], shares: &Shares, time: u64) {
     while latest.at < latest.sends.len() {
         let (end, _, send) = latest.sends[latest.at];
         if time <= end {
             return;
         }
-        if let Some(begin) = leaves(calls, index, send) {
+        if let Some(begin) = leaves(calls, shares, send) {
             let later = match latest.best {
                 Some((best, _)) => best < begin,
                 None => true,
@@ -63,63 +59,68 @@ fn advance(latest: &mut Latest, calls: &[Call], index: &Index, time: u64) {
     }
 }
 
-/// Two items of which the later one may have overtaken the earlier one, by their sends.
-#[derive(Clone, Copy, Drop)]
+/// Two items of which the later one may have overtaken the earlier one.
+#[derive(Drop)]
 pub struct Pair {
-    /// The send of the earlier item.
-    pub send: usize,
+    /// The stay of the earlier item.
+    pub stay: Stay,
     /// The send of the later one.
     pub later_send: usize,
-    /// The take of the earlier one, if it was taken.
-    pub take: Option<usize>,
     /// The take of the later one.
     pub later_take: usize,
 }
 
-/// The item that was sent at one place and left after the take of the later one, if the best of the earlier ones did.
+/// The send of the best of the earlier items, and the take of the later one, if the earlier one left after that.
 fn pair_of(
     calls: &[Call],
     index: &Index,
     best: Option<(u64, usize)>,
     later_send: usize,
-) -> Option<Pair> {
+) -> Option<(usize, usize)> {
     let (begin, send) = best?;
     let later_take = place_of(&index.takes, sent(calls, later_send)?)?;
     if begin <= span(calls, Some(later_take)).1 {
         return None;
     }
-    Some(Pair {
-        send,
-        later_send,
-        take: place_of(&index.takes, sent(calls, send)?),
-        later_take,
-    })
+    Some((send, later_take))
 }
 
 /// Two items of which the later one may have overtaken the earlier one. It takes memory in proportion to the log, and
 /// O(n log n).
-pub fn overtaken(alloc: Global, calls: &[Call], index: &Index) -> Result<Option<Pair>, AllocError> {
+pub fn overtaken(
+    alloc: Global,
+    calls: &[Call],
+    index: &Index,
+    shares: &Shares,
+) -> Result<Option<Pair>, AllocError> {
     let mut latest = Latest {
         sends: sends_by(alloc, calls, true)?,
         at: 0,
         best: None,
     };
     let begun = sends_by(alloc, calls, false)?;
-    for (begin, _, send) in &begun {
-        advance(&mut latest, calls, index, *begin);
-        if let Some(pair) = pair_of(calls, index, latest.best, *send) {
-            return Ok(Some(pair));
+    for (begin, _, later_send) in &begun {
+        advance(&mut latest, calls, shares, *begin);
+        if let Some((send, later_take)) = pair_of(calls, index, latest.best, *later_send) {
+            let Some(item) = sent(calls, send) else {
+                break;
+            };
+            return Ok(Some(Pair {
+                stay: stay_of(alloc, index, shares, send, item)?,
+                later_send: *later_send,
+                later_take,
+            }));
         }
     }
     Ok(None)
 }
 
-/// Items that may have been in the queue at all times of a call, one after another. It takes memory in proportion to the
-/// log, and O(n log n).
+/// Items that may have been in the queue at all times of a call, one after another.
 pub fn stays(
     alloc: Global,
     calls: &[Call],
     index: &Index,
+    shares: &Shares,
     call: usize,
 ) -> Result<Vec<Stay>, AllocError> {
     let mut found = Vec::new(alloc);
@@ -131,7 +132,7 @@ pub fn stays(
     let (begin, end) = span(calls, Some(call));
     let mut from = begin;
     for _ in 0..calls.len() {
-        advance(&mut latest, calls, index, from);
+        advance(&mut latest, calls, shares, from);
         let Some((begin, send)) = latest.best else {
             break;
         };
@@ -141,11 +142,7 @@ pub fn stays(
         if begin <= from {
             break;
         }
-        found.push(Stay {
-            item,
-            send,
-            take: place_of(&index.takes, item),
-        })?;
+        found.push(stay_of(alloc, index, shares, send, item)?)?;
         from = begin;
         if end < from {
             break;

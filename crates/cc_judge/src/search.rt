@@ -8,6 +8,7 @@
 //! sorted, so it takes O(n log n).
 
 use crate::faults::{Index, sent};
+use crate::share::Shares;
 use crate::{Act, Call, Step};
 use std::alloc::{AllocError, Global};
 use std::collections::VecDeque;
@@ -38,15 +39,15 @@ pub fn span(calls: &[Call], place: Option<usize>) -> (u64, u64) {
 }
 
 /// When the send of an item has to be placed: by its own end, and by that of its take.
-fn send_due(calls: &[Call], index: &Index, item: usize) -> u64 {
+fn send_due(calls: &[Call], index: &Index, shares: &Shares, item: usize) -> u64 {
     let send = span(calls, place_of(&index.sends, item));
-    let take = span(calls, place_of(&index.takes, item));
+    let take = span(calls, place_of(&shares.takes, item));
     send.1.min(take.1)
 }
 
 /// From when on the take of an item may be placed.
-fn take_from(calls: &[Call], index: &Index, item: usize) -> u64 {
-    span(calls, place_of(&index.takes, item)).0
+fn take_from(calls: &[Call], shares: &Shares, item: usize) -> u64 {
+    span(calls, place_of(&shares.takes, item)).0
 }
 
 /// A sorted list of calls that is read from its front.
@@ -84,15 +85,13 @@ struct Lines {
     nones: Line,
     /// The sends, by the ends of the takes of their items.
     by_take: Line,
-    /// The takes that haven't returned, by their begins.
-    taking: Line,
 }
 
 /// By when a call has to be placed, if it has to be, with its rank: of one time sends come first.
-fn deadline(calls: &[Call], index: &Index, call: &Call) -> Option<(u64, u8)> {
+fn deadline(calls: &[Call], index: &Index, shares: &Shares, call: &Call) -> Option<(u64, u8)> {
     match (call.act, call.end) {
         (Act::Send(item), end) => {
-            let due = send_due(calls, index, item);
+            let due = send_due(calls, index, shares, item);
             if due == NEVER && end.is_none() {
                 None
             } else {
@@ -106,21 +105,21 @@ fn deadline(calls: &[Call], index: &Index, call: &Call) -> Option<(u64, u8)> {
 }
 
 /// The calls that have to be placed, by their deadlines.
-fn due(alloc: Global, calls: &[Call], index: &Index) -> Result<Line, AllocError> {
+fn due(alloc: Global, calls: &[Call], index: &Index, shares: &Shares) -> Result<Line, AllocError> {
     let mut list = Vec::new(alloc);
     for (place, call) in calls.iter().enumerate() {
-        if let Some((time, rank)) = deadline(calls, index, call) {
+        if let Some((time, rank)) = deadline(calls, index, shares, call) {
             list.push((time, rank, place))?;
         }
     }
     line_of(list)
 }
 
-/// The calls that did just this, by their begins.
-fn by_begin(alloc: Global, calls: &[Call], act: Act) -> Result<Line, AllocError> {
+/// The calls that found none, by their begins.
+fn nones(alloc: Global, calls: &[Call]) -> Result<Line, AllocError> {
     let mut list = Vec::new(alloc);
     for (place, call) in calls.iter().enumerate() {
-        if call.act == act {
+        if matches!(call.act, Act::FoundNone) {
             list.push((call.begin, 0, place))?;
         }
     }
@@ -128,11 +127,11 @@ fn by_begin(alloc: Global, calls: &[Call], act: Act) -> Result<Line, AllocError>
 }
 
 /// The sends, by the ends of the takes of their items.
-fn by_take(alloc: Global, calls: &[Call], index: &Index) -> Result<Line, AllocError> {
+fn by_take(alloc: Global, calls: &[Call], shares: &Shares) -> Result<Line, AllocError> {
     let mut list = Vec::new(alloc);
     for (place, call) in calls.iter().enumerate() {
         if let Act::Send(item) = call.act {
-            list.push((span(calls, place_of(&index.takes, item)).1, 0, place))?;
+            list.push((span(calls, place_of(&shares.takes, item)).1, 0, place))?;
         }
     }
     line_of(list)
@@ -175,13 +174,13 @@ fn place_none(state: &mut State, lines: &mut Lines, time: u64) -> Result<bool, A
 fn place_take(
     state: &mut State,
     calls: &[Call],
-    index: &Index,
+    shares: &Shares,
     time: u64,
 ) -> Result<bool, AllocError> {
     let Some(item) = state.held.front().copied() else {
         return Ok(false);
     };
-    let Some(take) = place_of(&index.takes, item) else {
+    let Some(take) = place_of(&shares.takes, item) else {
         return Ok(false);
     };
     if time < span(calls, Some(take)).0 {
@@ -192,36 +191,13 @@ fn place_take(
     Ok(true)
 }
 
-/// Lets a take that hasn't returned have the item at the front, if no other take has it and one began by the deadline.
-fn place_taking(
-    state: &mut State,
-    lines: &mut Lines,
-    index: &Index,
-    time: u64,
-) -> Result<bool, AllocError> {
-    let Some(item) = state.held.front().copied() else {
-        return Ok(false);
-    };
-    if place_of(&index.takes, item).is_some() {
-        return Ok(false);
-    }
-    match next(&mut lines.taking, &state.placed) {
-        Some((begin, at)) if begin <= time => {
-            let _front = state.held.pop_front();
-            place(state, at, Act::Took(item))?;
-            Ok(true)
-        }
-        _ => Ok(false),
-    }
-}
-
 /// Which send goes next when the send at a place is due: that, or one whose item was taken before the take of its item
 /// began.
 fn send_next(
     state: &State,
     lines: &mut Lines,
     calls: &[Call],
-    index: &Index,
+    shares: &Shares,
     due: usize,
     time: u64,
 ) -> usize {
@@ -230,7 +206,8 @@ fn send_next(
     };
     match next(&mut lines.by_take, &state.placed) {
         Some((taken, first))
-            if taken < take_from(calls, index, item) && span(calls, Some(first)).0 <= time => first,
+            if taken < take_from(calls, shares, item) && span(calls, Some(first)).0 <= time =>
+            first,
         _ => due,
     }
 }
@@ -250,18 +227,15 @@ fn turn(
     state: &mut State,
     lines: &mut Lines,
     calls: &[Call],
-    index: &Index,
+    shares: &Shares,
     due: usize,
     time: u64,
 ) -> Result<bool, AllocError> {
-    if place_none(state, lines, time)? || place_take(state, calls, index, time)? {
+    if place_none(state, lines, time)? || place_take(state, calls, shares, time)? {
         return Ok(true);
     }
-    let first = send_next(state, lines, calls, index, due, time);
-    if place_send(state, calls, first)? {
-        return Ok(true);
-    }
-    place_taking(state, lines, index, time)
+    let first = send_next(state, lines, calls, shares, due, time);
+    place_send(state, calls, first)
 }
 
 /// What was found: the order so far, and the call at whose deadline it went no further.
@@ -274,12 +248,16 @@ pub struct Sought {
 }
 
 /// Seeks an order. It takes memory in proportion to the log.
-pub fn seek(alloc: Global, calls: &[Call], index: &Index) -> Result<Sought, AllocError> {
+pub fn seek(
+    alloc: Global,
+    calls: &[Call],
+    index: &Index,
+    shares: &Shares,
+) -> Result<Sought, AllocError> {
     let mut lines = Lines {
-        due: due(alloc, calls, index)?,
-        nones: by_begin(alloc, calls, Act::FoundNone)?,
-        by_take: by_take(alloc, calls, index)?,
-        taking: by_begin(alloc, calls, Act::Taking)?,
+        due: due(alloc, calls, index, shares)?,
+        nones: nones(alloc, calls)?,
+        by_take: by_take(alloc, calls, shares)?,
     };
     let mut state = State {
         order: Vec::with_capacity(alloc, calls.len())?,
@@ -290,7 +268,7 @@ pub fn seek(alloc: Global, calls: &[Call], index: &Index) -> Result<Sought, Allo
         let Some((time, at)) = next(&mut lines.due, &state.placed) else {
             break;
         };
-        if !turn(&mut state, &mut lines, calls, index, at, time)? {
+        if !turn(&mut state, &mut lines, calls, shares, at, time)? {
             break;
         }
     }

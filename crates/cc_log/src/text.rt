@@ -9,11 +9,47 @@ fn line_at(log: &Log, place: usize) -> usize {
     log.lines.get(place).copied().unwrap_or(0)
 }
 
-/// Where an item left the queue: the line of its take, or that no take has it.
-fn taken(alloc: Global, log: &Log, take: Option<usize>) -> Result<String, AllocError> {
-    match take {
-        Some(take) => format!(in alloc; "taken by line {}", line_at(log, take)),
-        None => String::from_str(alloc, "never taken"),
+/// The numbers of the lines of the calls at these places.
+fn lines_at(alloc: Global, log: &Log, places: &[usize]) -> Result<String, AllocError> {
+    let mut text = String::from_str(alloc, if places.len() == 1 { "line" } else { "lines" })?;
+    for (at, place) in places.iter().enumerate() {
+        text.push_str(if at == 0 { " " } else { ", " })?;
+        let line = format!(in alloc; "{}", line_at(log, *place))?;
+        text.push_str(line.as_str())?;
+    }
+    Ok(text)
+}
+
+/// The lines of the sends of a stay.
+fn sends(alloc: Global, log: &Log, stay: &Stay) -> Result<String, AllocError> {
+    match stay {
+        Stay::Taken { send, take: _ } => format!(in alloc; "line {}", line_at(log, *send)),
+        Stay::Left { sends, next: _ } => lines_at(alloc, log, sends.as_slice()),
+    }
+}
+
+/// When the item of a stay left the queue.
+fn leaves(alloc: Global, log: &Log, stay: &Stay) -> Result<String, AllocError> {
+    match stay {
+        Stay::Taken { send: _, take } => {
+            format!(in alloc; "taken by line {}", line_at(log, *take))
+        }
+        Stay::Left {
+            sends: _,
+            next: Some(next),
+        } => format!(in alloc; "not taken before line {} began", line_at(log, *next)),
+        Stay::Left {
+            sends: _,
+            next: None,
+        } => String::from_str(alloc, "never taken"),
+    }
+}
+
+/// The noun for the item of a stay, or for the one of several that left last.
+fn item(stay: &Stay) -> &'static str {
+    match stay {
+        Stay::Left { sends, next: _ } if sends.len() > 1 => "one of the items",
+        _ => "the item",
     }
 }
 
@@ -21,8 +57,8 @@ fn taken(alloc: Global, log: &Log, take: Option<usize>) -> Result<String, AllocE
 fn items(alloc: Global, log: &Log, stays: &[Stay]) -> Result<String, AllocError> {
     let mut text = String::new(alloc);
     for stay in stays {
-        let taken = taken(alloc, log, stay.take)?;
-        let one = format!(in alloc; "; the item of line {}, {}", line_at(log, stay.send), taken)?;
+        let (sends, leaves) = (sends(alloc, log, stay)?, leaves(alloc, log, stay)?);
+        let one = format!(in alloc; "; {} of {sends}, {leaves}", item(stay))?;
         text.push_str(one.as_str())?;
     }
     Ok(text)
@@ -50,16 +86,15 @@ fn fault_text(alloc: Global, log: &Log, fault: &Fault) -> Result<String, AllocEr
             )
         }
         Fault::Overtaken {
-            send,
+            stay,
             later_send,
-            take,
             later_take,
         } => {
-            let (first, second) = (line_at(log, *send), line_at(log, *later_send));
-            let taken = taken(alloc, log, *take)?;
-            let later = line_at(log, *later_take);
+            let (sends, leaves) = (sends(alloc, log, stay)?, leaves(alloc, log, stay)?);
+            let (second, later) = (line_at(log, *later_send), line_at(log, *later_take));
             format!(in alloc;
-                "judge fault: overtaken: line {first} had ended before line {second} began; its item is {taken}, after line {later} took the other\n"
+                "judge fault: overtaken: {sends} had ended before line {second} began; {} of {sends} is {leaves}, after line {later} took the other\n",
+                item(stay)
             )
         }
         Fault::NotEmpty { call, stays } => {
