@@ -2,6 +2,7 @@
 #![deny(missing_docs, unsafe_code)]
 
 mod channel;
+pub mod record;
 pub mod words;
 
 pub use channel::{

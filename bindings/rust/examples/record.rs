@@ -1,0 +1,131 @@
+//! Records the calls of four threads on a queue, as a log to be judged.
+//!
+//!     cargo run --release --example record QUEUE [CALLS] > LOG
+//!
+//! The queue is `channel`, this crate's; `mpsc`, std's; or `fault`, one that gives each thousandth item
+//! to two threads. Each thread does this number of calls (10,000): two send, and two take.
+use std::collections::VecDeque;
+use std::io::{self, BufWriter, Write};
+use std::sync::atomic::{AtomicU64, Ordering};
+use std::sync::{Barrier, Mutex, mpsc};
+use std::thread;
+use std::time::Instant;
+use vahepito::record::{Recorder, write};
+pub use vahepito::record::{Sent, Taken};
+use vahepito::{TryRecvError, TrySendError};
+
+/// A queue of numbers that many threads share.
+pub trait Queue: Sync {
+    fn send(&self, item: u64) -> Sent;
+    fn take(&self) -> Taken;
+}
+
+/// This crate's channel.
+impl Queue for (vahepito::Sender<u64>, vahepito::Receiver<u64>) {
+    fn send(&self, item: u64) -> Sent {
+        match self.0.try_send(item) {
+            Ok(()) => Sent::Accepted,
+            Err(TrySendError::Full(_)) => Sent::Full,
+            Err(TrySendError::Disconnected(_)) => Sent::Closed,
+        }
+    }
+
+    fn take(&self) -> Taken {
+        match self.1.try_recv() {
+            Ok(item) => Taken::Item(item),
+            Err(TryRecvError::Empty) => Taken::None,
+            Err(TryRecvError::Disconnected) => Taken::Ended,
+        }
+    }
+}
+
+/// Std's channel, whose receiver is shared under a lock.
+impl Queue for (mpsc::Sender<u64>, Mutex<mpsc::Receiver<u64>>) {
+    fn send(&self, item: u64) -> Sent {
+        self.0.send(item).map_or(Sent::Closed, |()| Sent::Accepted)
+    }
+
+    fn take(&self) -> Taken {
+        match self.1.lock().expect("no call unwinds").try_recv() {
+            Ok(item) => Taken::Item(item),
+            Err(mpsc::TryRecvError::Empty) => Taken::None,
+            Err(mpsc::TryRecvError::Disconnected) => Taken::Ended,
+        }
+    }
+}
+
+/// A queue under a lock that leaves each thousandth item that is taken in its place.
+#[derive(Default)]
+struct Fault(Mutex<VecDeque<u64>>, AtomicU64);
+
+impl Queue for Fault {
+    fn send(&self, item: u64) -> Sent {
+        self.0.lock().expect("no call unwinds").push_back(item);
+        Sent::Accepted
+    }
+
+    fn take(&self) -> Taken {
+        let mut items = self.0.lock().expect("no call unwinds");
+        let Some(item) = items.pop_front() else {
+            return Taken::None;
+        };
+        if self.1.fetch_add(1, Ordering::Relaxed) % 1000 == 999 {
+            items.push_front(item);
+        }
+        Taken::Item(item)
+    }
+}
+
+/// The calls of two threads that send and two that take.
+fn record(queue: &dyn Queue, calls: u64) -> Vec<Recorder> {
+    let (start, all_there) = (Instant::now(), Barrier::new(4));
+    let sends = |thread| {
+        let mut recorder = Recorder::new(start);
+        all_there.wait();
+        for call in 0..calls {
+            let item = 2 * call + thread;
+            recorder.send(item, || queue.send(item));
+        }
+        recorder
+    };
+    let takes = || {
+        let mut recorder = Recorder::new(start);
+        all_there.wait();
+        for _ in 0..calls {
+            recorder.take(|| queue.take());
+        }
+        recorder
+    };
+    thread::scope(|scope| {
+        let threads = [
+            scope.spawn(|| sends(0)),
+            scope.spawn(|| sends(1)),
+            scope.spawn(takes),
+            scope.spawn(takes),
+        ];
+        threads.map(|thread| thread.join().expect("no thread unwinds"))
+    })
+    .into()
+}
+
+/// Records the queue, and writes the log to the standard output. The second word says how many calls.
+pub fn write_record(queue: &dyn Queue) -> io::Result<()> {
+    let calls = std::env::args()
+        .nth(2)
+        .map_or(10_000, |word| word.parse().expect("a number"));
+    let mut log = BufWriter::new(io::stdout().lock());
+    write(&record(queue, calls), &mut log)?;
+    log.flush()
+}
+
+pub fn main() -> io::Result<()> {
+    match std::env::args().nth(1).as_deref() {
+        Some("channel") => write_record(&vahepito::channel::<u64>(64).expect("64 is in range")),
+        Some("mpsc") => {
+            let (sender, receiver) = mpsc::channel();
+            write_record(&(sender, Mutex::new(receiver)))
+        }
+        Some("fault") => write_record(&Fault::default()),
+        _ => Err(io::Error::other("the queue is channel, mpsc, or fault")),
+    }
+}
