@@ -1,23 +1,29 @@
 #!/usr/bin/env python3
-"""Compares the verdicts of ccq_judge on small random logs with a search over all orders of their calls.
+"""Compares the verdicts of ccq_judge on small random logs with a search over all orders of their calls, and sees what it says
+of recorded queues.
 
 Usage: tests/judge.py [LOGS [FIRST]]
 
-Half of the logs are those of a real queue, half are altered; one in three has calls that haven't returned. The log with
-the number N is always the same. Without words it makes 1,500 logs, from number 0 on. The search knows nothing of the
-program's: it tries every call that began before each call that is left had ended. `judge undecided` is a failure, unless
-the log has no order and a take that hasn't returned.
+Half of the logs are those of a real queue, half are altered; in one of two some calls haven't returned, and some sends are
+refused. The log with the number N is always the same. Without words it makes 1,500 logs, from number 0 on. The search knows
+nothing of the program's: it tries every call that began before each call that is left had ended. `judge undecided` is a
+failure. Without words it also records 80,000 calls each of this crate's channel, of std's, of crossbeam's and flume's where
+Debian's packages of them are, and of a queue with a fault, which has to be found.
 """
 
 import json
 import os
 import random
+import shutil
 import subprocess
 import sys
+import tempfile
 from concurrent.futures import ThreadPoolExecutor
 from pathlib import Path
 
-PROGRAM = Path(__file__).resolve().parent.parent / "crates/ccq_judge/out/ccq_judge"
+TOP = Path(__file__).resolve().parent.parent
+PROGRAM = TOP / "crates/ccq_judge/out/ccq_judge"
+REGISTRY = Path("/usr/share/cargo/registry")
 NEVER = 1 << 62
 
 
@@ -53,13 +59,28 @@ def alter(rng, calls):
 
 
 def leave_open(rng, calls):
-    """Lets the last calls of some threads not return."""
+    """Lets the last calls of some threads not return, and adds up to three takes that don't."""
     last = {call["thread"]: call for call in calls}
     for call in last.values():
-        if rng.random() < 0.3:
+        if rng.random() < 0.5:
             del call["end"]
             if "take" in call:
                 call["take"] = None
+    for number in range(rng.randint(0, 3)):
+        begin = max(0, rng.choice(calls)["begin"] + rng.randint(-4, 4))
+        calls.append({"thread": f"open {number}", "begin": begin, "take": None})
+
+
+def refuse(rng, calls):
+    """Adds up to three sends that are refused, and lets some takes that found none be answered Ended."""
+    for number in range(rng.randint(0, 3)):
+        begin = rng.choice(calls)["begin"]
+        answer = rng.choice(["full", "closed"])
+        item = rng.choice([[1], [7, 7]])
+        calls.append({"thread": f"refused {number}", "begin": begin, "end": begin, "send": item, "answer": answer})
+    for call in calls:
+        if "end" in call and call.get("take", True) is None and rng.random() < 0.3:
+            call["answer"] = "ended"
 
 
 def log(number):
@@ -67,8 +88,9 @@ def log(number):
     calls = play(rng)
     if rng.random() < 0.5:
         alter(rng, calls)
-    if rng.random() < 0.33:
+    if rng.random() < 0.5:
         leave_open(rng, calls)
+        refuse(rng, calls)
     return calls
 
 
@@ -105,30 +127,71 @@ def has_order(calls):
 
 
 def judged(number):
-    """The number, whether the log has an order, which statuses are right, and what the program says of it."""
+    """The number, whether the log has an order, whether the program says the same, and what it says."""
     calls = log(number)
     text = "".join(json.dumps(call) + "\n" for call in calls)
     run = subprocess.run([PROGRAM], input=text, capture_output=True, text=True, check=False)
-    right = has_order(calls)
-    open_take = any("take" in call and "end" not in call for call in calls)
-    due = {0} if right else {1, 5} if open_take else {1}
-    return number, right, due, run.returncode, run.stdout + run.stderr
+    refused = [call["answer"] for call in calls if "send" in call and "answer" in call]
+    told = [call for call in calls if "take" in call or "answer" not in call]
+    right = has_order(told)
+    clean = f"judge clean: {len(told)} calls have a legal order, {len(refused)} not judged"
+    if refused:
+        clean += f": {refused.count('full')} full, {refused.count('closed')} closed"
+    same = run.stdout == clean + "\n" if right else run.stdout.startswith("judge fault: ")
+    said = f"{run.returncode}, {run.stdout or run.stderr}"
+    return number, right, same and run.returncode == (0 if right else 1), said
 
 
-def main(count=1500, first=0):
+def build(folder):
+    """Builds tests/recorded with those of the peers that are on this machine: the program, and their names."""
+    peers = [peer for peer in ("crossbeam-channel", "flume") if any(REGISTRY.glob(f"{peer}-[0-9]*"))]
+    needs = "".join(f'{peer} = {{ version = "*", optional = true }}\n' for peer in peers)
+    (folder / "Cargo.toml").write_text(
+        '[package]\nname = "recorded"\nversion = "0.1.0"\nedition = "2024"\n\n[workspace]\n\n'
+        f'[[bin]]\nname = "recorded"\npath = "{TOP}/tests/recorded/main.rs"\n\n'
+        f'[dependencies]\nvahepito = {{ path = "{TOP}/bindings/rust" }}\n{needs}'
+    )
+    debian = ["--config", 'source.crates-io.replace-with = "debian"', "--config", f'source.debian.directory = "{REGISTRY}"']
+    command = ["cargo", *(debian if peers else []), "--quiet", "--offline", "build", "--release", "--features", ",".join(peers)]
+    built = subprocess.run(
+        command, cwd=folder, env=os.environ | {"CARGO_TARGET_DIR": str(folder)}, capture_output=True, text=True, check=False
+    )
+    if built.returncode:
+        print(built.stderr, end="")
+    return folder / "release/recorded", peers
+
+
+def judge_recorded():
+    """Whether the program finds each queue clean, and the fault of the one with a fault, in what is recorded of them."""
+    if shutil.which("cargo") is None:
+        print("judge: nothing is recorded: cargo is not on this machine")
+        return True
+    right = True
+    with tempfile.TemporaryDirectory() as name:
+        recorder, peers = build(Path(name))
+        for queue in ["channel", "mpsc", *peers, "fault"]:
+            log = subprocess.run([recorder, queue, "20000"], capture_output=True, check=True).stdout
+            said = subprocess.run([PROGRAM], input=log, capture_output=True, check=False).stdout.decode()
+            print(f"judge: {queue}: {said}", end="")
+            right &= said.startswith("judge fault: taken twice: " if queue == "fault" else "judge clean: ")
+    return right
+
+
+def main(count=None, first=0):
     if not os.access(PROGRAM, os.X_OK):
         print("judge: there is no crates/ccq_judge/out/ccq_judge: run `rt ci` first, or `rt run` in crates/ccq_judge")
         return 1
-    clean = wrong = undecided = 0
+    recorded = count is not None or judge_recorded()
+    count = count or 1500
+    clean = wrong = 0
     with ThreadPoolExecutor(os.cpu_count()) as pool:
-        for number, right, due, status, said in pool.map(judged, range(first, first + count)):
+        for number, right, same, said in pool.map(judged, range(first, first + count)):
             clean += right
-            undecided += status == 5
-            if status not in due:
+            if not same:
                 wrong += 1
-                print(f"judge: log {number} has {'an' if right else 'no'} order, and the program says {status}: {said}", end="")
-    print(f"judge: {count - wrong} of {count} verdicts are those of a search over all orders; {clean} logs have an order, {undecided} are undecided")
-    return 1 if wrong or not 0 < clean < count else 0
+                print(f"judge: log {number} has {'an' if right else 'no'} order, and the program says {said}", end="")
+    print(f"judge: {count - wrong} of {count} verdicts are those of a search over all orders; {clean} logs have an order")
+    return 1 if wrong or not recorded or not 0 < clean < count else 0
 
 
 if __name__ == "__main__":
