@@ -199,11 +199,12 @@ fn verdict_of(calls: &[Call], index: &Index, found: Option<Fault>) -> Verdict
     }
 }
 
-/// The verdict on a log whose items are below `items`. It takes O(n log n), and memory in proportion to the log; if a
-/// take found none though items were left, both grow with the square of the takes that haven't returned too.
+/// The verdict on a log whose items are below `items`. It takes memory in proportion to the log, and O(n log n), or O(n) for
+/// each take that hasn't returned if one of the others found none though items were left.
 ///
-/// A log has an order exactly if it has none of the faults, so the verdict is one of the two (after Henzinger, Sezgin and
-/// Vafeiadis, CONCUR 2013, for calls that all returned); that isn't proved, so the verdict may be undecided.
+/// A log has an order exactly if it has none of the faults (after Henzinger, Sezgin and Vafeiadis, CONCUR 2013, for calls that
+/// all returned), and no log is known whose verdict is neither, unless more than a thousand takes haven't returned: then what
+/// shows the fault may be too long (`pick`). That isn't proved, so the verdict may be undecided.
 pub fn judge(alloc: Global, calls: &[Call], items: usize) -> Result<Verdict, AllocError>
     ensures { IfOk result (IsVerdict calls.now) }
 {

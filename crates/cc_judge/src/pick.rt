@@ -115,7 +115,19 @@ pub fn overtaken(
     Ok(None)
 }
 
-/// Items that may have been in the queue at all times of a call, one after another.
+/// The number of items that the stays of a fault may name in any log.
+const MOST: usize = 1 << 20;
+
+/// The number of items that a stay names.
+fn size(stay: &Stay) -> usize {
+    match stay {
+        Stay::Taken { .. } => 1,
+        Stay::Left { sends, .. } => sends.len(),
+    }
+}
+
+/// Items that may have been in the queue at all times of a call, one after another. They end where they name more items than
+/// the log has calls, and more than 2^20, so that they take memory in proportion to the log.
 pub fn stays(
     alloc: Global,
     calls: &[Call],
@@ -130,7 +142,7 @@ pub fn stays(
         best: None,
     };
     let (begin, end) = span(calls, Some(call));
-    let mut from = begin;
+    let (mut from, mut named) = (begin, 0usize);
     for _ in 0..calls.len() {
         advance(&mut latest, calls, shares, from);
         let Some((begin, send)) = latest.best else {
@@ -142,9 +154,11 @@ pub fn stays(
         if begin <= from {
             break;
         }
-        found.push(stay_of(alloc, index, shares, send, item)?)?;
+        let stay = stay_of(alloc, index, shares, send, item)?;
+        named = named.saturating_add(size(&stay));
+        found.push(stay)?;
         from = begin;
-        if end < from {
+        if end < from || MOST.max(calls.len()) < named {
             break;
         }
     }
