@@ -8,7 +8,7 @@ Half of the logs are those of a real queue, half are altered; in one of two some
 refused. The log with the number N is always the same. Without words it makes 1,500 logs, from number 0 on. The search knows
 nothing of the program's: it tries every call that began before each call that is left had ended. `judge undecided` is a
 failure. Without words it also records 80,000 calls each of this crate's channel, of std's, of crossbeam's and flume's where
-Debian's packages of them are, and of a queue with a fault, which has to be found.
+Debian's packages of them are, and of a queue with a fault, which has to be found, and is drawn.
 """
 
 import json
@@ -157,7 +157,7 @@ def build(folder):
         command, cwd=folder, env=os.environ | {"CARGO_TARGET_DIR": str(folder)}, capture_output=True, text=True, check=False
     )
     if built.returncode:
-        print(built.stderr, end="")
+        sys.exit(f"judge: tests/recorded isn't built: {built.stderr}")
     return folder / "release/recorded", peers
 
 
@@ -170,10 +170,15 @@ def judge_recorded():
     with tempfile.TemporaryDirectory() as name:
         recorder, peers = build(Path(name))
         for queue in ["channel", "mpsc", *peers, "fault"]:
-            log = subprocess.run([recorder, queue, "20000"], capture_output=True, check=True).stdout
-            said = subprocess.run([PROGRAM], input=log, capture_output=True, check=False).stdout.decode()
-            print(f"judge: {queue}: {said}", end="")
-            right &= said.startswith("judge fault: taken twice: " if queue == "fault" else "judge clean: ")
+            log = Path(name, queue)
+            log.write_bytes(subprocess.run([recorder, queue, "20000"], capture_output=True, check=True).stdout)
+            said = subprocess.run([PROGRAM], input=log.read_text(), capture_output=True, text=True, check=False).stdout
+            picture = subprocess.run(
+                [TOP / "tools/fault_picture.py", log], input=said, capture_output=True, text=True, check=False
+            ).stdout
+            print(f"judge: {queue}: {picture}", end="")
+            fault, calls = queue == "fault", len(picture.splitlines()) - 1
+            right &= said.startswith("judge fault: taken twice: " if fault else "judge clean: ") and calls == 2 * fault
     return right
 
 
