@@ -1,5 +1,5 @@
 #!/usr/bin/env python3
-"""Compares the verdicts of ccq_judge on small random logs with a search over all orders of their calls, and sees what it says
+"""Compares the verdicts of `ccq judge` on small random logs with a search over all orders of their calls, and sees what it says
 of recorded queues.
 
 Usage: tests/judge.py [LOGS [FIRST]]
@@ -22,7 +22,7 @@ from concurrent.futures import ThreadPoolExecutor
 from pathlib import Path
 
 TOP = Path(__file__).resolve().parent.parent
-PROGRAM = TOP / "crates/ccq_judge/out/ccq_judge"
+PROGRAM = TOP / "crates/ccq/out/ccq"
 REGISTRY = Path("/usr/share/cargo/registry")
 NEVER = 1 << 62
 
@@ -130,7 +130,7 @@ def judged(number):
     """The number, whether the log has an order, whether the program says the same, and what it says."""
     calls = log(number)
     text = "".join(json.dumps(call) + "\n" for call in calls)
-    run = subprocess.run([PROGRAM], input=text, capture_output=True, text=True, check=False)
+    run = subprocess.run([PROGRAM, "judge"], input=text, capture_output=True, text=True, check=False)
     refused = [call["answer"] for call in calls if "send" in call and "answer" in call]
     told = [call for call in calls if "take" in call or "answer" not in call]
     right = has_order(told)
@@ -184,7 +184,7 @@ def judge_recorded():
 
 def main(count=None, first=0):
     if not os.access(PROGRAM, os.X_OK):
-        print("judge: there is no crates/ccq_judge/out/ccq_judge: run `rt ci` first, or `rt run` in crates/ccq_judge")
+        print("judge: there is no crates/ccq/out/ccq: run `rt ci` first, or `rt run` in crates/ccq")
         return 1
     recorded = count is not None or judge_recorded()
     count = count or 1500

@@ -1,7 +1,7 @@
 #!/usr/bin/env python3
 """Draws the calls of a fault on a line of time, one a line: those that the verdict names.
 
-    ccq_judge < LOG | tools/fault_picture.py LOG
+    ccq judge < LOG | tools/fault_picture.py LOG
 
 The verdict is read on standard input, and written first. A call goes from its begin to its end, or on if it hasn't returned.
 Of the times only their order is shown: columns are equal where times are. A verdict without a fault has no calls. Exit status

@@ -98,7 +98,9 @@ def inputs():
     corpus = [TOP / f"tests/corpus/{name}.in" for name in ("close_in_every_place", "gap_at_the_front", "greatest_configuration")]
     for path in [*sorted((TOP / "examples").glob("*.json")), *corpus]:
         yield (["audit"] if path.name.startswith(("receipts", "gap_")) else ["play"]), path
+    yield ["judge"], TOP / "examples/calls.jsonl"
     yield ["--help"], os.devnull
+    yield ["help", "play"], os.devnull
     yield ["plaz"], os.devnull
 
 

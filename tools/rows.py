@@ -2,13 +2,14 @@
 """Gives `ccq`, as the gate left it by each compiler, every input of tests/corpus and every line of tests/command_lines.
 
     tools/rows.py           the programs in crates/ccq/out
+    tools/rows.py --manual  writes docs/ccq.1 of the texts of help
     tools/rows.py --try     the program that `rt try` compiles, on one row of 24: statuses and standard outputs alone, as
                             a case there costs half a second
 
 NAME.expect in tests/corpus has the task and the status in its first line, what must stand on standard error in its second,
 and then the standard output. The head of tests/command_lines says how its rows are written.
 
-Behind the rows: every front of two plans; inputs of 16 MiB, at the limit and one byte past it; lists of a plan at their
+Behind the rows: docs/ccq.1 beside the texts of help; every front of two plans; inputs of 16 MiB, at the limit and one byte past it; lists of a plan at their
 limit and one item past it; a large input in little memory; a word that is no text; outputs without room; and the width of
 each text of help. Before them, the script shows that it finds a wrong status, a wrong text, one on the other output, a word
 too many, and an input that was read. Exit status 0 if all did so. It proves and builds nothing: `rt ci` does.
@@ -26,6 +27,8 @@ TOP = pathlib.Path(__file__).resolve().parent.parent
 LIMIT = 16777216
 UNREAD = b"untouched"
 CLEAN = b"E 0 s1 send 7 -> accepted 0\naudit clean\n"
+MANUAL = TOP / "docs/ccq.1"
+HELPS = ["ccq", "ccq play", "ccq audit", "ccq judge", "ccq drive"]
 
 
 @dataclasses.dataclass(frozen=True)
@@ -56,13 +59,13 @@ def command_lines(text):
     for number, block in enumerate(blocks):
         lines = [it for it in block.split("\n") if not it.startswith("#")]
         words = ["" if it == "''" else it for it in lines[0].split()[2:]]
-        given = [it[2:].encode() for it in lines if it.startswith("< ")]
+        given = b"\n".join(it[2:].encode() for it in lines if it.startswith("< "))
         status, output = next(it.split() for it in lines if re.match(r"\d", it))
         due = "".join(it[2:] + "\n" for it in lines if it == "|" or it.startswith("| ")).encode()
         more = "..." in lines
         due = due[:-1] if more else due
         out, err = (due, b"") if output == "output" else (b"", due)
-        yield f"line_{number}", Row(words, int(status), out, err, given[0] if given else UNREAD, bool(given), more)
+        yield f"line_{number}", Row(words, int(status), out, err, given or UNREAD, bool(given), more)
 
 
 def run(program, row, seconds=120, memory=None):
@@ -71,7 +74,7 @@ def run(program, row, seconds=120, memory=None):
     with tempfile.TemporaryFile() as given:
         given.write(row.input)
         given.seek(0)
-        ran = subprocess.run([program, *row.words], stdin=given, capture_output=True, timeout=seconds, preexec_fn=bounds)
+        ran = subprocess.run([program, *row.words], stdin=given, capture_output=True, timeout=seconds, preexec_fn=bounds, cwd=TOP)
         at = os.lseek(given.fileno(), 0, os.SEEK_CUR)
     is_read = True if at == len(row.input) else False if at == 0 else None
     return dataclasses.replace(row, status=ran.returncode, out=ran.stdout, err=ran.stderr, is_read=is_read)
@@ -133,21 +136,45 @@ def without_room(program):
         yield is_told(program, ["drive", "--items", "5"], 4, b"", stdout=full, stderr=full)
 
 
+def helps(program):
+    """The texts of help, by their lines."""
+    for line in HELPS:
+        yield line, subprocess.run([program, *line.split()[1:], "--help"], capture_output=True, text=True, check=True).stdout
+
+
 def is_narrow(program):
-    """Whether no line of the texts of help has more than 100 columns."""
-    for task in ([], ["play"], ["audit"], ["drive"]):
-        said = subprocess.run([program, *task, "--help"], capture_output=True, text=True, check=True).stdout
-        if any(len(line) > 100 for line in said.split("\n")):
-            print(f"{program} {task} --help: a line of more than 100 columns")
-            return False
-    return True
+    """Whether no line of the texts of help has more than 100 columns, and docs/ccq.1 is of these texts."""
+    texts = dict(helps(program))
+    wide = [line for line, said in texts.items() if any(len(it) > 100 for it in said.split("\n"))]
+    for line in wide:
+        print(f"{program} {line} --help: a line of more than 100 columns")
+    current = MANUAL.read_text() == manual(texts)
+    if not current:
+        print("rows: docs/ccq.1 isn't of the texts of help: run tools/rows.py --manual")
+    return current and not wide
+
+
+def manual(texts):
+    """The page for man: the text of help of the program and of each task, as they are."""
+    about = texts["ccq"].split("\n")[0]
+    head = f'.TH CCQ 1\n.SH NAME\nccq \\- {about[0].lower()}{about[1:]}\n'
+    raw = (re.sub(r"^([.'])", r"\\&\1", text.replace("\\", "\\e").replace("-", "\\-"), flags=re.M) for text in texts.values())
+    return head + "".join(f'.SH "{line.upper()}"\n.nf\n{text}.fi\n' for line, text in zip(texts, raw))
+
+
+def programs():
+    """What the gate left of the program, by each compiler."""
+    built = [it for it in (TOP / "crates/ccq/out/ccq", TOP / "crates/ccq/out/ccq.by-rattle") if os.access(it, os.X_OK)]
+    if not built:
+        print("rows: there is no crates/ccq/out/ccq: run `rt ci` first, or `rt run` in crates/ccq")
+    return built
 
 
 def finds_what_is_wrong(program):
     """Whether each of these wrong rows, and none of the right ones, is one that the program doesn't do."""
     item = dict(corpus())["words_for_two_groups"]
     plan = Row(["play"], 2, err=b"ccq: plan refused: P1\n", input=b"{")
-    line = Row(["play", "x"], 64, err=b"error:", is_read=False, more=True)
+    line = Row(["play", "x", "y"], 64, err=b"error:", is_read=False, more=True)
     wrong = [
         dataclasses.replace(item, status=1),
         dataclasses.replace(item, err=b"ccq: reading failed\n"),
@@ -171,11 +198,8 @@ def finds_what_is_wrong(program):
 
 
 def on_programs():
-    programs = [it for it in (TOP / "crates/ccq/out/ccq", TOP / "crates/ccq/out/ccq.by-rattle") if os.access(it, os.X_OK)]
-    if not programs:
-        print("rows: there is no crates/ccq/out/ccq: run `rt ci` first, or `rt run` in crates/ccq")
-        return False
-    for program in programs:
+    built = programs()
+    for program in built:
         rows = [it for _, it in corpus()], [it for _, it in command_lines((TOP / "tests/command_lines").read_text())], list(others())
         well = finds_what_is_wrong(program)
         for row in (it for part in rows for it in part):
@@ -185,12 +209,19 @@ def on_programs():
             return False
         corpus_rows, lines, large = map(len, rows)
         print(f"{program}: {corpus_rows} inputs of tests/corpus, {lines} command lines, and {large + 8} fronts of plans, large inputs and full outputs")
-    return True
+    return bool(built)
+
+
+def write_manual():
+    for program in programs()[:1]:
+        MANUAL.write_text(manual(dict(helps(program))))
 
 
 def on_tried():
     """The rows as the cases of one `rt try`, whose lines tell each one's status, and whether its output is the expected one."""
-    rows = dict([*corpus(), *command_lines((TOP / "tests/command_lines").read_text())][::24])
+    rows = [*corpus(), *command_lines((TOP / "tests/command_lines").read_text())]
+    # `rt try` runs the program in a folder of its own
+    rows = dict([it for it in rows if not any((TOP / word).exists() for word in it[1].words)][::24])
     with tempfile.TemporaryDirectory() as folder:
         for name, row in rows.items():
             case = pathlib.Path(folder, name)
@@ -214,7 +245,8 @@ def on_tried():
 
 
 if __name__ == "__main__":
-    if sys.argv[1:] not in ([], ["--try"]):
+    does_it = {"": on_programs, "--try": on_tried, "--manual": write_manual}.get(" ".join(sys.argv[1:]))
+    if does_it is None:
         print(__doc__)
         sys.exit(0 if sys.argv[1:] in (["-h"], ["--help"]) else 64)
-    sys.exit(not (on_tried() if sys.argv[1:] else on_programs()))
+    sys.exit(does_it() is False)

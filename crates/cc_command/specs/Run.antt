@@ -1,5 +1,5 @@
 -- What a command line answers, and what it says on standard error.
-use Rattle.std.specs.Prelude.{ℕ, ◌≡◌, ◌⊎◌, ◌+◌, if◌then◌else◌, Bool, List, [], ◌∷◌, Option, Some, None, Result, Err}
+use Rattle.std.specs.Prelude.{ℕ, ◌≡◌, ◌⊎◌, ◌+◌, ◌++◌, codes, if◌then◌else◌, Bool, List, [], ◌∷◌, Option, Some, None, Result, Err, ⊤}
 use Rattle.std.specs.Io.KnownBytes.{Keeps}
 use Rattle.clap.specs.Words.{IsAmong, Kinds}
 use Rattle.clap.specs.declared.error.kind.ErrorKind.{ErrorKind}
@@ -8,13 +8,17 @@ use Rattle.cc_command.specs.Names.{Verdict, PlayFault, Task}
 use Rattle.cc_play.specs.Outcome.{Told, line_of, no_memory_line, status_of}
 use Rattle.cc_play.specs.Play.{Plays, Audits, failed_reads, failed_writes}
 
+-- the line if the file of this name can't be read
+abbrev pub unread_line : List ℕ → List ℕ
+unread_line name = codes "ccq: reading failed: " ++ name ++ codes "\n"
+
 -- What a line that asks for no task leaves on both outputs, each with its number of failed writes, and the status.
 module _ (old new : Option (List ℕ)) (fails fails_after : ℕ) (errors_old errors_new : Option (List ℕ)) (before after status : ℕ) where
   -- there was no memory to read the line or to answer it
   abbrev pub RunsOut : Type 0
   RunsOut = (status ≡ 3) × Keeps old new × (fails_after ≡ fails) × Told errors_old errors_new before after no_memory_line
 
-  -- a text of help was written; or a front of it was, and a write failed
+  -- a text of help, or the version, was written; or a front of it was, and a write failed
   abbrev pub Helps : Type 0
   Helps = (text : List ℕ) × ((failed : Bool) × Writes failed old new fails fails_after text × (status ≡ (if failed then 4 else 0)) × Told errors_old errors_new before after (if failed then line_of (Err PlayFault.Write) else []))
 
@@ -25,11 +29,12 @@ module _ (old new : Option (List ℕ)) (fails fails_after : ℕ) (errors_old err
   -- how the line is answered, by what was found in it
   abbrev pub Declines : ErrorKind → Type 0
   Declines ErrorKind.DisplayHelp = Helps ⊎ RunsOut
+  Declines ErrorKind.DisplayVersion = Helps ⊎ RunsOut
   Declines ErrorKind.OutOfMemory = RunsOut
   Declines _ = Complains ⊎ RunsOut
 
--- What a whole line leaves, on its input too, with the number of failed reads. Where it asks for a task, that is done as far as
--- it goes and its outcome told. Where it asks for none, nothing is read, and it is declined for a fault that the parser of
+-- What a whole line leaves, on its input too, with the number of failed reads. Where it asks for a play or an audit, that is done as
+-- far as it goes and its outcome told; of what the judging of a log leaves nothing is said. Where it asks for none, nothing is read, and it is declined for a fault that the parser of
 -- command lines finds in it, or for want of memory.
 module _ (left_old left_new : Option (List ℕ)) (reads reads_after : ℕ) (old new : Option (List ℕ)) (fails fails_after : ℕ) (errors_old errors_new : Option (List ℕ)) (before after status : ℕ) where
   abbrev pub Does : (Option (List ℕ) → Option (List ℕ) → Result Verdict PlayFault → Option (List ℕ) → Option (List ℕ) → Type 0) → Type 0
@@ -39,5 +44,6 @@ module _ (left_old left_new : Option (List ℕ)) (reads reads_after : ℕ) (old 
   abbrev pub Runs : Option Task → Kinds → Type 0
   Runs (Some Task.Play) faults = Does Plays
   Runs (Some Task.Audit) faults = Does Audits
+  Runs (Some Task.Judge) faults = ⊤
   Runs None faults = Keeps left_old left_new × (reads_after ≡ reads)
       × ((found : ErrorKind) × IsAmong found (ErrorKind.OutOfMemory ∷ faults) × Declines old new fails fails_after errors_old errors_new before after status found)

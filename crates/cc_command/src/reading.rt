@@ -1,21 +1,24 @@
-//! Doing what a command line asks for that reads standard input, or asks for nothing.
-ghost use Rattle.std.specs.Prelude.{◌<◌, ◌-◌, ◌^◌, map, string_bytes};
+//! Doing what a command line asks for that reads an input, or asks for nothing.
+ghost use Rattle.std.specs.Prelude.{◌≡◌, ◌<◌, ◌-◌, ◌^◌, map, string_bytes};
 ghost use Rattle.clap.specs.Words.{fault_of, kind_of};
 ghost use Rattle.cc_command.specs.CommandLine.{commands, task_of};
-ghost use Rattle.cc_command.specs.Run.{Declines, Helps, Runs};
+ghost use Rattle.cc_command.specs.Run.{Declines, Helps, Runs, unread_line};
+ghost use Rattle.cc_play.specs.Outcome.{Told};
 
 use crate::command_line::{Task, asked};
-use cc_device::{Sink, Source, write_bytes};
+use cc_device::{Pen, Sink, Source, write_bytes};
+use cc_log::judge_input;
 use cc_play::play::play;
 use cc_play::{PlayFault, audit_bytes, out_of_memory, tell, told};
 use clap::Error;
 use clap::error::ErrorKind;
 use std::alloc::Global;
 
-/// One command line, without the program's name: plays the plan of the source, or audits its receipts, and answers the exit
-/// status. It is 0 where that was done and the verdict is clean, or help was asked for and went to the sink; 1 where the
-/// audit found a fault, 2 where the input is refused, 3 where memory is, 4 where a device fails, and 64 where the line is
-/// refused. What went wrong is told on `errors`, whose own failures change nothing.
+/// One command line, without the program's name and the file of its input: plays the plan of the source, audits its
+/// receipts or judges its log, and answers the exit status. It is 0 where that was done and the verdict is clean, or help
+/// or the version was asked for and went to the sink; 1 where a fault was found, 2 where the input is refused, 3 where
+/// memory is, 4 where a device fails, 5 where the judge is undecided, and 64 where the line is refused. What went wrong is
+/// told on `errors`, whose own failures change nothing.
 pub fn run<R: Source, W: Sink, E: Sink>(
     alloc: Global,
     words: &[String],
@@ -44,12 +47,13 @@ pub fn run<R: Source, W: Sink, E: Sink>(
             let outcome = audit_bytes(alloc, source, sink);
             tell(errors, outcome)
         }
+        Ok(Task::Judge) => judge_input(alloc, source, sink, errors),
         Err(error) => decline(alloc, &error, sink, errors),
     }
 }
 
-/// Answers a command line that asks for no task: writes the help that it asks for, or tells what is wrong with it, and
-/// answers the status.
+/// Answers a command line that asks for no task: writes the help or the version that it asks for, or tells what is wrong
+/// with it, and answers the status.
 pub fn decline<W: Sink, E: Sink>(alloc: Global, error: &Error, sink: &mut W, errors: &mut E) -> u8
     requires writes { W.write_failures sink.old < 2 ^ 64 - 1 }
     requires errors { E.write_failures errors.old < 2 ^ 64 - 1 }
@@ -61,12 +65,14 @@ pub fn decline<W: Sink, E: Sink>(alloc: Global, error: &Error, sink: &mut W, err
     let kind = error.kind();
     match (kind, format!(in alloc; "{error}")) {
         (ErrorKind::OutOfMemory, _) | (_, Err(_)) => out_of_memory(errors),
-        (ErrorKind::DisplayHelp, Ok(text)) => help(sink, errors, text.as_bytes()),
+        (ErrorKind::DisplayHelp | ErrorKind::DisplayVersion, Ok(text)) => {
+            help(sink, errors, text.as_bytes())
+        }
         (_, Ok(text)) => told(errors, text.as_bytes(), 64),
     }
 }
 
-/// Writes a text of help, and answers the status.
+/// Writes a text of help, or the version, and answers the status.
 fn help<W: Sink, E: Sink>(sink: &mut W, errors: &mut E, text: &[u8]) -> u8
     requires writes { W.write_failures sink.old < 2 ^ 64 - 1 }
     requires errors { E.write_failures errors.old < 2 ^ 64 - 1 }
@@ -79,4 +85,19 @@ fn help<W: Sink, E: Sink>(sink: &mut W, errors: &mut E, text: &[u8]) -> u8
         Ok(()) => told(errors, b"", 0),
         Err(_) => tell(errors, Err(PlayFault::Write)),
     }
+}
+
+/// Tells that the file of this name can't be read, and answers the status.
+pub fn tell_unread<E: Sink>(errors: &mut E, name: &[u8]) -> u8
+    requires { E.write_failures errors.old < 2 ^ 64 - 1 }
+    ensures status { result ≡ 4 }
+    ensures told { Told (E.bytes_written errors.old) (E.bytes_written errors.new)
+        (E.write_failures errors.old) (E.write_failures errors.new) (unread_line name.now) }
+{
+    let mut pen = Pen::new();
+    pen.text(errors, b"ccq: reading failed: ");
+    pen.text(errors, name);
+    pen.text(errors, b"\n");
+    let _outcome = pen.finish(errors);
+    4
 }

@@ -1,22 +1,28 @@
-//! Plays plans, audits receipts, and drives queues by threads.
+//! Plays plans, audits receipts, judges logs of calls, and drives queues by threads.
 #![tactic(auto)]
 
+ghost use Rattle.std.specs.Prelude.{◌<◌, ◌-◌, ◌^◌};
+
 use cc_command::not_text;
-use cc_command::reading::decline;
+use cc_command::reading::{decline, tell_unread};
 use cc_command::run::run;
-use cc_device::Device;
+use cc_command::words::{spelled, without_file};
+use cc_device::{Device, Sink, Source};
 use clap::Error;
-use std::alloc::AllocError;
+use std::alloc::{AllocError, Global};
 use std::env;
+use std::fs::{File, Files};
 use std::io::ErrorKind;
 use std::process::ExitCode;
+use std::sync::Wait;
+use std::thread::Threads;
 
 fn main(rt: HostRuntime) -> ExitCode {
     let mut source = Device::new(rt.stdin());
     let mut sink = Device::new(rt.stdout());
     let mut errors = Device::new(rt.stderr());
     let status = match words(&rt) {
-        Ok(words) => run(
+        Ok(words) => answer(
             &rt,
             rt.alloc(),
             words.as_slice(),
@@ -33,8 +39,34 @@ fn main(rt: HostRuntime) -> ExitCode {
 /// was refused.
 fn words(rt: &HostRuntime) -> Result<Vec<String>, Error> {
     match env::args(rt) {
-        Ok(args) => Ok(args.skip(1).collect(rt.alloc())?),
+        Ok(args) => Ok(spelled(rt.alloc(), args.skip(1).collect(rt.alloc())?)?),
         Err(e) if e.kind() == ErrorKind::OutOfMemory => Err(Error::from(AllocError)),
         Err(_) => Err(not_text(rt.alloc())?),
+    }
+}
+
+/// Does a line over the file that it names, or over standard input if it names none, and answers the exit status.
+fn answer<R: Threads + Wait + Sync + Files, S: Source, W: Sink, E: Sink>(
+    rt: &R,
+    alloc: Global,
+    words: &[String],
+    standard: &mut S,
+    sink: &mut W,
+    errors: &mut E,
+) -> u8
+    requires reads { S.read_failures standard.old < 2 ^ 64 - 1 }
+    requires writes { W.write_failures sink.old < 2 ^ 64 - 1 }
+    requires errors { E.write_failures errors.old < 2 ^ 64 - 1 }
+{
+    let line = without_file(words);
+    let Some(name) = line.file else {
+        return run(rt, alloc, line.words, standard, sink, errors);
+    };
+    match File::open(rt, name) {
+        Ok(file) => {
+            let mut source = Device::new(file);
+            run(rt, alloc, line.words, &mut source, sink, errors)
+        }
+        Err(_) => tell_unread(errors, name.as_bytes()),
     }
 }

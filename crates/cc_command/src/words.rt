@@ -1,0 +1,77 @@
+//! The words of a line that its parser doesn't see: help by its word, and the file of a task's input.
+ghost use Rattle.std.specs.Prelude.{◌≡◌, IfOk, map, option_map, string_bytes};
+ghost use Rattle.cc_command.specs.Words.{file_named, file_of, is_option, line_without_file, reads_input, spelled};
+
+use std::alloc::{AllocError, Global};
+
+/// The words with `help` in its other form: a line whose first word it is goes on with the rest of the words, and ends with
+/// `--help`.
+pub fn spelled(alloc: Global, words: Vec<String>) -> Result<Vec<String>, AllocError>
+    ensures { IfOk result (λ all. map string_bytes all.items ≡ spelled (map string_bytes words.items)) }
+{
+    let mut words = words;
+    let asks = match words.first() {
+        Some(word) => word.as_str() == "help",
+        None => false,
+    };
+    if !asks {
+        return Ok(words);
+    }
+    let _help = words.remove(0);
+    words.push(String::from_str(alloc, "--help")?)?;
+    Ok(words)
+}
+
+/// Whether the word is a task that reads an input.
+fn reads_input(word: &str) -> bool
+    ensures { result ≡ reads_input word.now }
+{
+    matches!(word, "play" | "audit" | "judge")
+}
+
+/// Whether the word begins with `-` and goes on.
+fn is_option(word: &[u8]) -> bool
+    ensures { result ≡ is_option word.now }
+{
+    match word {
+        [] => false,
+        [_] => false,
+        [first, _, ..] => *first == b'-',
+    }
+}
+
+/// The file of this name; `-` is standard input.
+fn file_named(name: &str) -> Option<&str>
+    ensures { option_map (λ file. file.now) result ≡ file_named name.now }
+{
+    if name == "-" { None } else { Some(name) }
+}
+
+/// A line without the file that it names.
+#[derive(Clone, Copy)]
+pub struct WithoutFile<'a> {
+    /// Its words, but the file.
+    pub words: &'a [String],
+    /// The name of the file of its input; none where that is standard input, or the line asks for no task that reads one.
+    pub file: Option<&'a str>,
+}
+
+/// The line, and the file that it names: the one word behind a task that reads an input, which doesn't begin with `-` or
+/// stands behind `--`. A `-` alone is standard input.
+pub fn without_file(words: &[String]) -> WithoutFile<'_>
+    ensures words { map string_bytes result.words.now ≡ line_without_file (map string_bytes words.now) }
+    ensures file { option_map (λ name. name.now) result.file ≡ file_of (map string_bytes words.now) }
+{
+    let parted = match words {
+        [task, name] => reads_input(task.as_str()) && !is_option(name.as_bytes()),
+        [task, mark, _] => reads_input(task.as_str()) && mark.as_str() == "--",
+        _ => false,
+    };
+    match words {
+        [task, .., name] if parted => WithoutFile {
+            words: &words[..1],
+            file: file_named(name.as_str()),
+        },
+        _ => WithoutFile { words, file: None },
+    }
+}
