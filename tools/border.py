@@ -92,20 +92,25 @@ def of_the_header():
     return codes, int(defined["VERSION"]), exports, {name: structs[name] for name, _, _ in STRUCTS}
 
 
+def number_of(pattern, path):
+    """The version whose three numbers the pattern finds in a file, as the library counts it."""
+    digits = re.search(pattern, (TOP / path).read_text(), re.M)
+    return int(digits[1]) * 1_000_000 + int(digits[2]) * 1_000 + int(digits[3])
+
+
 def of_the_crate():
     """The same of the Rust crate, which names what it uses: some of the codes and exports."""
     texts = [path.read_text() for path in sorted((TOP / "bindings/rust/src").rglob("*.rs"))]
     text = re.sub(r" *//[^\n]*", "", "\n".join(texts))
     module = re.search(r"\bmod code \{(.*?)\n\}", text, re.S)[1]
     codes = {name: int(number) for name, number in re.findall(r"pub const (\w+): u32 = (\d+);", module)}
-    digits = re.search(r'^version = "(\d+)\.(\d+)\.(\d+)"', (TOP / "bindings/rust/Cargo.toml").read_text(), re.M)
+    version = number_of(r'^version = "(\d+)\.(\d+)\.(\d+)"', "bindings/rust/Cargo.toml")
     exports = {
         name: [IN_C.get(result, "void")] + counted(from_rust(listed(" ".join(parameters.split()))))
         for name, parameters, result in re.findall(r"fn (vahepito_\w+)\(([^)]*)\)(?: -> (\w+))?;", text)
     }
     fields = dict(re.findall(r"#\[repr\(C\)\]\n(?:pub )?struct (\w+) {(.*?)\n}", text, re.S))
     structs = {name: from_rust(listed(" ".join(fields[crate].split()))) for name, _, crate in STRUCTS if crate in fields}
-    version = int(digits[1]) * 1_000_000 + int(digits[2]) * 1_000 + int(digits[3])
     return codes, version, exports, structs
 
 
@@ -134,8 +139,9 @@ def differences():
                 yield f"{kind} {name}: the library has {in_library}, the header {in_header}"
             if name in crate[at] and not is_same(kind, crate[at][name], in_library):
                 yield f"{kind} {name}: the library has {in_library}, the crate {crate[at][name]}"
-    if not library[1] == header[1] == crate[1]:
-        yield f"the version is {library[1]} of the library, {header[1]} of the header, {crate[1]} of the crate"
+    program = number_of(r'^const VERSION: &str = "(\d+)\.(\d+)\.(\d+)";', "crates/cc_command/src/command_line.rt")
+    if not library[1] == header[1] == crate[1] == program:
+        yield f"the version is {library[1]} of the library, {header[1]} of the header, {crate[1]} of the crate, {program} of ccq"
 
 
 def main():
