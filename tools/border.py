@@ -19,16 +19,15 @@ STRUCTS = [
     ("vahepito_config", "Settings", "Config"),
     ("vahepito_item", "TakenItem", "Item"),
     # The crate has it as an array of words, and compares its size with the library's when it opens a queue.
-    ("vahepito_words_item", "TakenWords", "WordsItem"),
+    ("vahepito_words_item", "TakenWords", "Taken"),
 ]
-# Types as C has them. The crate lends a pass as a Pass or as a Handle, which has nothing beside it.
-IN_C = {"u32": "uint32_t", "u64": "uint64_t", "usize": "size_t", "Handle": "vahepito_pass", "Pass": "vahepito_pass"}
+# Types as C has them. The crate lends a pass as a Pass or as a Handle, which has nothing beside it, and its words may be unwritten.
+IN_C = {"u32": "uint32_t", "u64": "uint64_t", "usize": "size_t", "Word": "uint64_t", "Handle": "vahepito_pass", "Pass": "vahepito_pass"}
 IN_C.update({name: in_c for in_c, *names in STRUCTS for name in names})
 
 
 def in_c(name, kind):
-    """A parameter or a field as C writes it, from Rust: a slice is a pointer and a count. A MaybeUninit lies as what it is of."""
-    kind = re.sub(r"\bMaybeUninit<(\w+)>", r"\1", kind)
+    """A parameter or a field as C writes it, from Rust: a slice is a pointer and a count."""
     if kind == "Global":
         return []
     found = re.fullmatch(r"(&|\*const |&mut |\*mut )(\[?)(\w+)\]?", kind)

@@ -1,8 +1,7 @@
 //! Every answer that a call tells, on one thread.
 use std::error::Error;
 use vahepito::words::{
-    Closed, Config, Item, OpenError, Receiver, RecvError, SendError, Sender, TryRecvError,
-    TrySendError, Turn, Worn, open,
+    Closed, Config, Item, OpenError, Receiver, RecvError, SendError, Sender, Turn, open,
 };
 
 const SMALL: Config = Config::new(2, 2, 2);
@@ -148,16 +147,16 @@ fn the_ends_of_each_range_are_opened() {
 #[test]
 fn items_come_in_the_order_of_their_places() {
     let ([mut one, mut two], [mut first, mut second]) = two_and_two(SMALL);
-    assert_eq!(first.try_recv(), Err(TryRecvError::Empty));
+    assert_eq!(first.try_recv(), Err(RecvError::Empty));
     assert_eq!(two.try_send(70), Ok(0));
     assert_eq!(one.try_send(80), Ok(1));
-    assert_eq!(two.try_send(71), Err(TrySendError::Full));
+    assert_eq!(two.try_send(71), Err(SendError::Full));
     assert_eq!(first.try_recv(), Ok(item(0, 2, 1, 70)));
     // The send that was answered Full has the number 2.
     assert_eq!(two.send(72), Ok(2));
     assert_eq!(second.recv(), Ok(item(1, 1, 1, 80)));
     assert_eq!(second.recv(), Ok(item(2, 2, 3, 72)));
-    assert_eq!(second.try_recv(), Err(TryRecvError::Empty));
+    assert_eq!(second.try_recv(), Err(RecvError::Empty));
 }
 
 #[test]
@@ -173,15 +172,27 @@ fn all_bodies_pass() {
 fn a_close_is_told_and_ends() {
     let ([mut one, mut two], [mut first, mut second]) = two_and_two(SMALL);
     one.try_send(5).unwrap();
-    assert_eq!(one.close(), Closed::Shut { total: 1 });
-    assert_eq!(two.close(), Closed::Already { total: 1 });
-    assert_eq!(one.close().total(), 1);
-    assert_eq!(one.try_send(6), Err(TrySendError::Closed));
+    assert_eq!(
+        one.close(),
+        Closed {
+            total: 1,
+            was_open: true
+        }
+    );
+    assert_eq!(
+        two.close(),
+        Closed {
+            total: 1,
+            was_open: false
+        }
+    );
+    assert_eq!(one.close().total, 1);
+    assert_eq!(one.try_send(6), Err(SendError::Closed));
     assert_eq!(two.send(6), Err(SendError::Closed));
     assert_eq!(first.recv(), Ok(item(0, 1, 1, 5)));
-    assert_eq!(first.try_recv(), Err(TryRecvError::Ended { total: 1 }));
-    assert_eq!(second.recv(), Err(RecvError { total: 1 }));
-    assert_eq!(second.try_recv(), Err(TryRecvError::Ended { total: 1 }));
+    assert_eq!(first.try_recv(), Err(RecvError::Ended { total: 1 }));
+    assert_eq!(second.recv(), Err(RecvError::Ended { total: 1 }));
+    assert_eq!(second.try_recv(), Err(RecvError::Ended { total: 1 }));
 }
 
 #[test]
@@ -191,17 +202,23 @@ fn a_life_is_spent() {
         one.send(body).unwrap();
         receiver.recv().unwrap();
     }
-    assert_eq!(one.try_send(3), Err(TrySendError::Spent));
+    assert_eq!(one.try_send(3), Err(SendError::Spent));
     assert_eq!(two.send(3), Err(SendError::Spent));
-    assert_eq!(receiver.try_recv(), Err(TryRecvError::Empty));
-    assert_eq!(two.close(), Closed::Shut { total: 3 });
-    assert_eq!(two.try_send(3), Err(TrySendError::Closed));
+    assert_eq!(receiver.try_recv(), Err(RecvError::Empty));
+    assert_eq!(
+        two.close(),
+        Closed {
+            total: 3,
+            was_open: true
+        }
+    );
+    assert_eq!(two.try_send(3), Err(SendError::Closed));
     // Where the queue is full too, that its life is spent is told.
     let ([mut one, _], [mut receiver, _]) = two_and_two(Config { life: 2, ..SMALL });
     assert_eq!((one.send(5), one.send(6)), (Ok(0), Ok(1)));
-    assert_eq!(one.try_send(7), Err(TrySendError::Spent));
+    assert_eq!(one.try_send(7), Err(SendError::Spent));
     assert_eq!(receiver.recv(), Ok(item(0, 1, 1, 5)));
-    assert_eq!(one.try_send(7), Err(TrySendError::Spent));
+    assert_eq!(one.try_send(7), Err(SendError::Spent));
 }
 
 #[test]
@@ -213,15 +230,21 @@ fn a_sender_is_worn_by_sends_that_were_refused_too() {
     assert!(!one.is_worn());
     assert_eq!(one.try_send(0), Ok(0));
     assert_eq!(one.try_send(1), Ok(1));
-    assert_eq!(one.try_send(2), Err(TrySendError::Full));
+    assert_eq!(one.try_send(2), Err(SendError::Full));
     assert!(one.is_worn());
     assert!(!two.is_worn());
     receiver.recv().unwrap();
-    assert_eq!(one.try_send(3), Err(TrySendError::Worn));
+    assert_eq!(one.try_send(3), Err(SendError::Worn));
     assert_eq!(one.send(3), Err(SendError::Worn));
-    assert_eq!(one.begin(3).unwrap_err(), Worn);
+    assert_eq!(one.begin(3).unwrap_err(), SendError::Worn);
     assert_eq!(two.try_send(4), Ok(2));
-    assert_eq!(one.close(), Closed::Shut { total: 3 });
+    assert_eq!(
+        one.close(),
+        Closed {
+            total: 3,
+            was_open: true
+        }
+    );
 }
 
 #[test]
@@ -234,9 +257,15 @@ fn a_send_into_a_full_queue_without_receivers_ends() {
     drop(first);
     assert_eq!(one.send(2), Ok(1));
     assert_eq!(two.send(3), Ok(2));
-    assert_eq!(two.try_send(4), Err(TrySendError::Full));
+    assert_eq!(two.try_send(4), Err(SendError::Full));
     assert_eq!(two.send(4), Err(SendError::Disconnected));
-    assert_eq!(one.close(), Closed::Shut { total: 3 });
+    assert_eq!(
+        one.close(),
+        Closed {
+            total: 3,
+            was_open: true
+        }
+    );
     assert_eq!(two.send(4), Err(SendError::Closed));
 }
 
@@ -246,9 +275,9 @@ fn the_last_sender_closes() {
     drop(two);
     one.send(7).unwrap();
     assert_eq!(receiver.recv(), Ok(item(0, 1, 1, 7)));
-    assert_eq!(receiver.try_recv(), Err(TryRecvError::Empty));
+    assert_eq!(receiver.try_recv(), Err(RecvError::Empty));
     drop(one);
-    assert_eq!(receiver.recv(), Err(RecvError { total: 1 }));
+    assert_eq!(receiver.recv(), Err(RecvError::Ended { total: 1 }));
 }
 
 /// The guard of a turn that told to wait.
@@ -283,19 +312,34 @@ fn one_turn_serves_all_that_wait() {
     let (sends, closes) = (one.begin(8).unwrap(), two.begin_close());
     let closes = waits(closes.turn());
     assert_eq!(sends.wait(), Ok(2));
-    assert_eq!(done(closes.turn()), (Closed::Shut { total: 3 }, 0));
+    assert_eq!(
+        done(closes.turn()),
+        (
+            Closed {
+                total: 3,
+                was_open: true
+            },
+            0
+        )
+    );
     assert_eq!(
         done(one.begin_close().turn()),
-        (Closed::Already { total: 3 }, 1)
+        (
+            Closed {
+                total: 3,
+                was_open: false
+            },
+            1
+        )
     );
     assert_eq!(
         done(two.begin(8).unwrap().turn()),
-        (Err(TrySendError::Closed), 1)
+        (Err(SendError::Closed), 1)
     );
     assert_eq!(done(first.begin().turn()), (Ok(item(2, 1, 2, 8)), 1));
     assert_eq!(
         done(first.begin().turn()),
-        (Err(TryRecvError::Ended { total: 3 }), 1)
+        (Err(RecvError::Ended { total: 3 }), 1)
     );
 }
 
@@ -305,8 +349,17 @@ fn a_close_before_a_send() {
     let ([mut one, mut two], _receivers) = two_and_two(SMALL);
     let (closes, sends) = (one.begin_close(), two.begin(9).unwrap());
     let sends = waits(sends.turn());
-    assert_eq!(done(closes.turn()), (Closed::Shut { total: 0 }, 2));
-    assert_eq!(done(sends.turn()), (Err(TrySendError::Closed), 0));
+    assert_eq!(
+        done(closes.turn()),
+        (
+            Closed {
+                total: 0,
+                was_open: true
+            },
+            2
+        )
+    );
+    assert_eq!(done(sends.turn()), (Err(SendError::Closed), 0));
 }
 
 #[test]
@@ -325,20 +378,20 @@ fn iterators_end_where_they_say() {
     });
     let bodies = |items: Vec<Item>| items.iter().map(|item| item.body).collect::<Vec<_>>();
     (1..=6).for_each(|body| assert_eq!(sender.send(body), Ok(body - 1)));
-    assert_eq!(bodies(first.iter().take(2).collect()), [1, 2]);
+    assert_eq!(bodies(first.by_ref().take(2).collect()), [1, 2]);
     assert_eq!(bodies(second.try_iter().collect()), [3, 4, 5, 6]);
-    assert_eq!(second.try_recv(), Err(TryRecvError::Empty));
+    assert_eq!(second.try_recv(), Err(RecvError::Empty));
     (7..=9).for_each(|body| assert_eq!(sender.send(body), Ok(body - 1)));
     drop((sender, other));
-    assert_eq!(second.iter().next().map(|item| item.body), Some(7));
-    assert_eq!(bodies(second.into_iter().collect()), [8, 9]);
-    assert_eq!(first.iter().next(), None);
+    assert_eq!(second.next().map(|item| item.body), Some(7));
+    assert_eq!(bodies(second.collect()), [8, 9]);
+    assert_eq!(first.next(), None);
     assert_eq!(first.try_iter().next(), None);
 }
 
 #[test]
 fn errors_say_what_is_wrong() {
-    let errors: [(&str, Box<dyn Error + Send + Sync>); 21] = [
+    let errors: [(&str, Box<dyn Error + Send + Sync>); 15] = [
         (
             "the number of senders isn't from 1 to 64",
             OpenError::Senders.into(),
@@ -365,16 +418,7 @@ fn errors_say_what_is_wrong() {
             "there is no memory for the queue",
             OpenError::NoMemory.into(),
         ),
-        ("the queue is full", TrySendError::Full.into()),
-        ("the queue is closed", TrySendError::Closed.into()),
-        (
-            "the queue has accepted all the items of its life",
-            TrySendError::Spent.into(),
-        ),
-        (
-            "the sender has begun all the sends that it may",
-            TrySendError::from(Worn).into(),
-        ),
+        ("the queue is full", SendError::Full.into()),
         ("the queue is closed", SendError::Closed.into()),
         (
             "the queue has accepted all the items of its life",
@@ -382,28 +426,16 @@ fn errors_say_what_is_wrong() {
         ),
         (
             "the sender has begun all the sends that it may",
-            SendError::from(Worn).into(),
+            SendError::Worn.into(),
         ),
         (
             "the queue is full and a group of receivers is gone",
             SendError::Disconnected.into(),
         ),
-        ("the queue is empty", TryRecvError::Empty.into()),
+        ("the queue is empty", RecvError::Empty.into()),
         (
             "the queue is closed and all its items were taken",
-            TryRecvError::Ended { total: 3 }.into(),
-        ),
-        (
-            "the queue is closed and all its items were taken",
-            TryRecvError::from(RecvError { total: 3 }).into(),
-        ),
-        (
-            "the queue is closed and all its items were taken",
-            RecvError { total: 3 }.into(),
-        ),
-        (
-            "the sender has begun all the sends that it may",
-            Worn.into(),
+            RecvError::Ended { total: 3 }.into(),
         ),
     ];
     for (text, error) in errors {
@@ -417,6 +449,6 @@ fn passes_go_to_other_threads() {
     goes::<Sender>();
     goes::<Receiver>();
     let (senders, receivers) = open(SMALL).unwrap();
-    assert_eq!(format!("{:?}", senders[1]), "Sender { number: 2, .. }");
-    assert_eq!(format!("{:?}", receivers[0]), "Receiver { number: 1, .. }");
+    assert_eq!(format!("{:?}", senders[1]), "Sender { .. }");
+    assert_eq!(format!("{:?}", receivers[0]), "Receiver { .. }");
 }

@@ -1,7 +1,7 @@
 //! Passes and guards that are let go, in every state.
 use std::mem::forget;
 use std::thread;
-use vahepito::words::{Closed, Config, Receiver, Sender, TryRecvError, Turn, open};
+use vahepito::words::{Closed, Config, Receiver, RecvError, Sender, Turn, open};
 
 fn two_and_two() -> ([Sender; 2], [Receiver; 2]) {
     let (senders, receivers) = open(Config::new(2, 2, 4)).unwrap();
@@ -29,8 +29,17 @@ fn a_close_is_made_though_its_guard_is_dropped() {
     let Turn::Done { answer, served } = two.begin_close().turn() else {
         panic!("the close wasn't made when its guard was dropped")
     };
-    assert_eq!((answer, served), (Closed::Already { total: 0 }, 1));
-    assert_eq!(receiver.try_recv(), Err(TryRecvError::Ended { total: 0 }));
+    assert_eq!(
+        (answer, served),
+        (
+            Closed {
+                total: 0,
+                was_open: false
+            },
+            1
+        )
+    );
+    assert_eq!(receiver.try_recv(), Err(RecvError::Ended { total: 0 }));
 }
 
 #[test]
@@ -56,7 +65,7 @@ fn an_item_is_kept_though_its_guard_is_dropped() {
     drop(first.begin());
     assert_eq!(first.begin().wait().unwrap().body, 3);
     drop(first.begin());
-    assert_eq!(first.try_recv(), Err(TryRecvError::Empty));
+    assert_eq!(first.try_recv(), Err(RecvError::Empty));
 }
 
 /// A guard that was forgotten holds up one that is turned a few times, until its pass is used again or
@@ -74,7 +83,13 @@ fn a_forgotten_guard_goes_on_with_the_next_call() {
     forget(one.begin(10));
     assert!(!one.is_worn());
     forget(two.begin_close());
-    assert_eq!(two.close(), Closed::Already { total: 4 });
+    assert_eq!(
+        two.close(),
+        Closed {
+            total: 4,
+            was_open: false
+        }
+    );
 
     forget(first.begin());
     let waits = second.begin();
@@ -89,19 +104,19 @@ fn a_forgotten_guard_goes_on_with_the_next_call() {
     assert_eq!(first.recv().unwrap().body, 10);
     forget(first.begin());
     drop(first);
-    assert_eq!(second.try_recv(), Err(TryRecvError::Ended { total: 4 }));
+    assert_eq!(second.try_recv(), Err(RecvError::Ended { total: 4 }));
 }
 
 #[test]
 fn a_pass_may_be_dropped_where_its_guard_was_forgotten() {
-    let ([mut one, mut two], [mut first, second]) = two_and_two();
+    let ([mut one, mut two], [first, second]) = two_and_two();
     drop(second);
     forget(one.begin(7));
     drop(one);
     assert_eq!(two.try_send(8), Ok(1));
     forget(two.begin_close());
     drop(two);
-    assert!(first.iter().map(|item| item.body).eq([7, 8]));
+    assert!(first.map(|item| item.body).eq([7, 8]));
 }
 
 enum Pass {

@@ -1,8 +1,7 @@
 //! Several groups of receivers, on one thread.
 use std::mem::forget;
 use vahepito::words::{
-    Closed, Config, OpenError, Receiver, RecvError, SendError, Sender, TryRecvError, TrySendError,
-    Turn, open, open_groups,
+    Closed, Config, OpenError, Receiver, RecvError, SendError, Sender, Turn, open, open_groups,
 };
 
 const SMALL: Config = Config::new(1, 2, 2);
@@ -44,7 +43,7 @@ fn one_to_eight_groups_are_opened() {
         assert_eq!(senders[63].send(5), Ok(0));
         for last in receivers.chunks_mut(in_each as usize) {
             assert_eq!(last[in_each as usize - 1].recv().unwrap().body, 5);
-            assert_eq!(last[0].try_recv(), Err(TryRecvError::Empty));
+            assert_eq!(last[0].try_recv(), Err(RecvError::Empty));
         }
     }
 }
@@ -102,21 +101,27 @@ fn each_group_gets_every_item_once() {
     assert_eq!(sender.send(80), Ok(1));
     assert_eq!(one[0].try_recv().unwrap().body, 70);
     assert_eq!(one[1].try_recv().unwrap().body, 80);
-    assert_eq!(one[0].try_recv(), Err(TryRecvError::Empty));
+    assert_eq!(one[0].try_recv(), Err(RecvError::Empty));
     // The other group has taken nothing, so there is no room yet.
-    assert_eq!(sender.try_send(90), Err(TrySendError::Full));
+    assert_eq!(sender.try_send(90), Err(SendError::Full));
     let item = two[1].try_recv().unwrap();
     assert_eq!(
         (item.place, item.sender, item.number, item.body),
         (0, 1, 1, 70)
     );
     assert_eq!(sender.try_send(91), Ok(2));
-    assert_eq!(sender.try_send(92), Err(TrySendError::Full));
+    assert_eq!(sender.try_send(92), Err(SendError::Full));
     assert_eq!(one[1].recv().unwrap().body, 91);
-    assert_eq!(sender.close(), Closed::Shut { total: 3 });
-    assert_eq!(one[0].recv(), Err(RecvError { total: 3 }));
+    assert_eq!(
+        sender.close(),
+        Closed {
+            total: 3,
+            was_open: true
+        }
+    );
+    assert_eq!(one[0].recv(), Err(RecvError::Ended { total: 3 }));
     assert!(two[1].try_iter().map(|item| item.body).eq([80, 91]));
-    assert_eq!(two[0].recv(), Err(RecvError { total: 3 }));
+    assert_eq!(two[0].recv(), Err(RecvError::Ended { total: 3 }));
 }
 
 #[test]
@@ -147,7 +152,7 @@ fn a_forgotten_guard_stops_its_group_alone() {
         panic!("the forgotten take doesn't stop its group")
     };
     assert_eq!(one.try_recv().unwrap().body, 7);
-    assert_eq!(waits.wait(), Err(TryRecvError::Empty));
+    assert_eq!(waits.wait(), Err(RecvError::Empty));
 }
 
 #[test]
@@ -166,9 +171,15 @@ fn a_send_into_a_full_queue_that_lost_a_group_ends() {
     assert_eq!(sender.send(3), Ok(2));
     // The other group takes all, and that makes none.
     assert!(one[1].try_iter().map(|item| item.body).eq([2, 3]));
-    assert_eq!(sender.try_send(4), Err(TrySendError::Full));
+    assert_eq!(sender.try_send(4), Err(SendError::Full));
     assert_eq!(sender.send(4), Err(SendError::Disconnected));
-    assert_eq!(sender.close(), Closed::Shut { total: 3 });
+    assert_eq!(
+        sender.close(),
+        Closed {
+            total: 3,
+            was_open: true
+        }
+    );
     assert_eq!(sender.send(4), Err(SendError::Closed));
 }
 

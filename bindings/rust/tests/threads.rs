@@ -6,7 +6,7 @@ use rounds::rounds;
 use std::collections::BTreeMap;
 use std::sync::Barrier;
 use std::thread::{self, ScopedJoinHandle};
-use vahepito::words::{Config, Item, SendError, TryRecvError, TrySendError, open, open_groups};
+use vahepito::words::{Config, Item, RecvError, SendError, open, open_groups};
 
 /// What each sender was told of its accepted sends, as (place, body), and each receiver of its
 /// takes.
@@ -157,7 +157,7 @@ fn a_close_while_senders_wait() {
             let sending: Vec<_> = sending.collect();
             full.wait();
             thread::yield_now();
-            let total = closer.close().total();
+            let total = closer.close().total;
             let sent = joined(sending);
             (
                 total,
@@ -203,7 +203,7 @@ fn a_close_while_senders_send() {
                 .map(|receiver| scope.spawn(|| receiver.into_iter().collect()))
                 .collect();
             (0..round * 20).for_each(|_| std::hint::spin_loop());
-            let total = closer.close().total();
+            let total = closer.close().total;
             let sent = joined(sending);
             (total, (sent, joined(taking)))
         });
@@ -220,11 +220,11 @@ fn the_last_receiver_goes_while_senders_wait() {
             scope.spawn(move || {
                 let told = (0..).map(|body| sender.send(body)).find_map(Result::err);
                 assert_eq!(told, Some(SendError::Disconnected));
-                assert_eq!(sender.try_send(0), Err(TrySendError::Full));
+                assert_eq!(sender.try_send(0), Err(SendError::Full));
             });
         }
         for mut receiver in receivers {
-            scope.spawn(move || assert_eq!(receiver.iter().take(100).count(), 100));
+            scope.spawn(move || assert_eq!(receiver.by_ref().take(100).count(), 100));
         }
     });
 }
@@ -242,7 +242,7 @@ fn a_group_goes_while_senders_wait() {
             });
         }
         for mut receiver in goes {
-            scope.spawn(move || assert_eq!(receiver.iter().take(100).count(), 100));
+            scope.spawn(move || assert_eq!(receiver.by_ref().take(100).count(), 100));
         }
         let taking = stays
             .into_iter()
@@ -276,7 +276,7 @@ fn a_panic_of_the_senders_ends_the_queue() {
         let got: usize = joined(taking).into_iter().sum();
         (got as u64, last.try_recv())
     });
-    let (got, Err(TryRecvError::Ended { total })) = ended else {
+    let (got, Err(RecvError::Ended { total })) = ended else {
         panic!("{ended:?}")
     };
     assert_eq!(got, total);

@@ -6,7 +6,7 @@ use std::thread;
 use std::time::Duration;
 use vahepito::words::{
     Closed, Config, PendingClose, PendingRecv, PendingSend, Receiver, RecvError, SendError, Sender,
-    TryRecvError, TrySendError, Turn, open,
+    Turn, open,
 };
 
 fn two_and_two() -> ([Sender; 2], [Receiver; 2]) {
@@ -87,7 +87,7 @@ fn two_guards_and_a_panic() {
             std::panic::resume_unwind(Box::new("on purpose"));
         }));
         assert!(panicked.is_err());
-        assert_eq!(two.try_send(2), Err(TrySendError::Closed));
+        assert_eq!(two.try_send(2), Err(SendError::Closed));
         bodies(&mut receiver)
     });
     assert_eq!(sent, [1]);
@@ -142,10 +142,16 @@ fn a_guard_is_held_while_another_calls() {
         assert_eq!(second.recv().unwrap().body, 3);
         assert_eq!(held.wait().unwrap().body, 1);
         let held = one.begin(4).unwrap();
-        assert_eq!(two.close(), Closed::Shut { total: 4 });
+        assert_eq!(
+            two.close(),
+            Closed {
+                total: 4,
+                was_open: true
+            }
+        );
         drop(held);
         let _held = first.begin();
-        assert_eq!(second.recv(), Err(RecvError { total: 4 }));
+        assert_eq!(second.recv(), Err(RecvError::Ended { total: 4 }));
     });
 }
 
@@ -241,7 +247,7 @@ fn a_call_whose_pass_is_gone_stops_nobody() {
         drop(receivers); // the first one has its item, and the second too: both are lost
         assert_eq!(bodies(&mut last), [3]);
         drop(three);
-        assert_eq!(last.recv(), Err(RecvError { total: 3 }));
+        assert_eq!(last.recv(), Err(RecvError::Ended { total: 3 }));
     });
 }
 
@@ -251,7 +257,7 @@ fn all_receivers_are_gone() {
         let ([mut sender, _other], receivers) = two_and_two();
         drop(receivers);
         (0..4).for_each(|place| assert_eq!(sender.try_send(7), Ok(place)));
-        assert_eq!(sender.try_send(7), Err(TrySendError::Full));
+        assert_eq!(sender.try_send(7), Err(SendError::Full));
         assert_eq!(sender.send(7), Err(SendError::Disconnected));
     });
 }
@@ -327,10 +333,10 @@ fn a_sender_is_forgotten_with_its_call() {
         drop(two.begin(2));
         drop(two);
         assert_eq!(bodies(&mut receiver), [1, 2]);
-        assert_eq!(receiver.try_recv(), Err(TryRecvError::Empty));
+        assert_eq!(receiver.try_recv(), Err(RecvError::Empty));
         // Were it never dropped, its memory would be lost, and nobody would close the queue.
         drop(ManuallyDrop::into_inner(one));
-        assert_eq!(receiver.recv(), Err(RecvError { total: 2 }));
+        assert_eq!(receiver.recv(), Err(RecvError::Ended { total: 2 }));
     });
 }
 
@@ -349,7 +355,7 @@ fn a_sender_in_a_thread_local() {
         let body = receivers[0].recv().map(|item| item.body);
         (body, receivers[0].recv())
     });
-    assert_eq!(told, (Ok(4), Err(RecvError { total: 1 })));
+    assert_eq!(told, (Ok(4), Err(RecvError::Ended { total: 1 })));
 }
 
 /// A receiver that has taken the one item goes: the queue isn't full, whatever a send finds first.
@@ -363,7 +369,7 @@ fn room_that_a_receiver_left_behind() {
             let takes = thread::spawn(move || receiver.recv().map(|item| item.body));
             assert_eq!(senders[0].send(2), Ok(1));
             assert_eq!(takes.join().unwrap(), Ok(1));
-            assert_eq!(senders[0].try_send(3), Err(TrySendError::Full));
+            assert_eq!(senders[0].try_send(3), Err(SendError::Full));
         }
     });
 }
@@ -372,7 +378,7 @@ fn room_that_a_receiver_left_behind() {
 fn passes_and_guards_go_where_they_may() {
     fn unwinds<T: std::panic::UnwindSafe + std::panic::RefUnwindSafe + Unpin>() {}
     fn goes<T: Send>() {}
-    unwinds::<TrySendError>();
+    unwinds::<SendError>();
     goes::<PendingSend<'static>>();
     goes::<PendingRecv<'static>>();
     goes::<PendingClose<'static>>();

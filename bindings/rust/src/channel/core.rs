@@ -8,76 +8,71 @@
 //! **Order of locks**: the state, all seats, a line. A holder of a seat makes one call of the queue, and
 //! takes no other lock. Code of others (an item's drop or copy, a waker) runs while none is held.
 use super::body::{Copies, Parcel, words_of};
-use super::event::{Event, Panic, keep_first, let_be, lock, panic_of};
+use super::event::{Again, Event, Panic, keep_first, let_be, lock, panic_of};
 use super::pool::{Pass, Pool};
-use super::renew::open_queue;
-use crate::words::backoff::Backoff;
-use crate::words::handle::{code, hands_over, has_taken};
+use crate::words::backoff::turn_until;
+use crate::words::handle::{self, Handle, code, hands_over, has_taken, unexpected};
 use crate::words::{Config, OpenError};
+use std::iter;
 use std::marker::PhantomData;
 use std::panic::resume_unwind;
 use std::sync::Mutex;
 use std::sync::atomic::{AtomicBool, AtomicUsize, Ordering};
 
-/// Why a send wasn't made.
-#[derive(Debug, PartialEq, Eq)]
-pub enum Refusal {
-    /// There is no room. A take or a loss of receivers rings for room.
-    Full,
-    /// There is no memory for a further queue. Nobody rings when there is.
-    NoMemory,
-    Closed,
-}
+/// What a try gives, or when it is to be made again.
+pub type Try<R> = Result<R, Again>;
 
-/// Why a take wasn't made.
-#[derive(Debug, PartialEq, Eq)]
-pub enum NoItem {
-    Empty,
-    Ended,
-}
-
-pub struct Group {
-    /// Where its receivers wait for items.
-    pub items: Event,
+/// A side of the channel: its senders, or a group of receivers.
+pub struct Side {
+    /// Where its calls wait: for room, or for items.
+    pub line: Event,
     pub seats: Pool,
-    /// Whether it has lost its last receiver, and whether the channel goes on without it.
+    /// Whether it has lost its last handle, and whether what comes of that is done.
     lost: AtomicBool,
     gone: AtomicBool,
+}
+
+impl Side {
+    fn new(handles: Vec<Handle>) -> Side {
+        Side {
+            line: Event::new(),
+            seats: Pool::new(handles),
+            lost: AtomicBool::new(false),
+            gone: AtomicBool::new(false),
+        }
+    }
+
+    pub fn is_lost(&self) -> bool {
+        self.lost.load(Ordering::SeqCst)
+    }
 }
 
 /// What changes with the queue.
 pub struct State {
     /// The number of the queue, from 0.
     pub queue: u64,
-    /// How many groups have receivers.
-    alive: usize,
     /// The groups that the queue has, in its order.
     pub groups: Vec<usize>,
 }
 
 pub struct Core<T> {
     pub config: Config,
-    copies: Option<Copies<T>>,
-    pub senders: Pool,
-    pub groups: Box<[Group]>,
-    /// Where senders wait for room.
-    pub room: Event,
+    pub copies: Option<Copies<T>>,
+    pub senders: Side,
+    groups: Box<[Side]>,
     closed: AtomicBool,
     /// How many groups the queue has. It changes while all seats are taken.
     pub shares: AtomicUsize,
-    /// Whether there was no memory for a queue without a group that is lost.
-    is_stale: AtomicBool,
     state: Mutex<State>,
     /// Items go through it: it is `Send` and `Sync` if they are `Send`.
     items: PhantomData<Mutex<T>>,
 }
 
 /// Drops each of these, and gives the first panic.
-fn drop_all<D>(all: Vec<D>) -> Option<Panic> {
+fn drop_all<D>(all: impl IntoIterator<Item = D>) -> Option<Panic> {
     let mut panic = None;
-    for each in all {
-        keep_first(&mut panic, panic_of(|| drop(each)));
-    }
+    all.into_iter()
+        .for_each(|it| keep_first(&mut panic, panic_of(|| drop(it))));
     panic
 }
 
@@ -91,48 +86,31 @@ fn go_on(panic: Option<Panic>) {
 
 impl<T> Core<T> {
     /// Opens a channel. Its groups share items if there is a function that copies them.
-    pub fn open(
-        config: Config,
-        groups: u32,
-        copies: Option<Copies<T>>,
-    ) -> Result<Core<T>, OpenError> {
-        let words = words_of::<T>(copies.is_some());
-        let pools = open_queue(&config, groups, words as u32)?;
-        let mut pools = pools.into_iter().map(Pool::new);
-        let senders = pools.next().expect("a queue has senders");
-        let group = |seats| Group {
-            items: Event::new(),
-            seats,
-            lost: AtomicBool::new(false),
-            gone: AtomicBool::new(false),
-        };
-        let groups: Box<[Group]> = pools.map(group).collect();
+    pub fn open(config: Config, groups: u32, copies: Option<Copies<T>>) -> Result<Self, OpenError> {
+        let mut sides = handle::open(&config, groups, words_of(copies))?.into_iter();
+        let senders = sides.next().map(Side::new).expect("a queue has senders");
+        let groups: Box<[Side]> = sides.map(Side::new).collect();
         Ok(Core {
             config,
             copies,
             senders,
-            room: Event::new(),
             closed: AtomicBool::new(false),
             shares: AtomicUsize::new(groups.len()),
-            is_stale: AtomicBool::new(false),
             state: Mutex::new(State {
                 queue: 0,
-                alive: groups.len(),
-                groups: (0..groups.len()).collect(),
+                groups: (1..=groups.len()).collect(),
             }),
             groups,
             items: PhantomData,
         })
     }
 
-    pub fn copies(&self) -> Option<Copies<T>> {
-        self.copies
-    }
-
-    /// How many words the bodies have.
-    #[inline]
-    pub fn words(&self) -> usize {
-        words_of::<T>(self.copies.is_some())
+    /// The side of the senders, which is 0, or of this group, from 1.
+    pub fn side(&self, at: usize) -> &Side {
+        match at {
+            0 => &self.senders,
+            group => &self.groups[group - 1],
+        }
     }
 
     pub fn capacity(&self) -> usize {
@@ -143,97 +121,106 @@ impl<T> Core<T> {
         self.closed.load(Ordering::SeqCst)
     }
 
-    /// How many items this group hasn't taken.
+    /// How many groups have receivers.
+    fn alive(&self) -> usize {
+        self.groups.iter().filter(|it| !it.is_lost()).count()
+    }
+
+    /// Waits until all is done that comes of the loss of this side's last handle: another thread is at it.
+    pub fn wait_until_gone(&self, side: usize) {
+        turn_until(|| self.side(side).gone.load(Ordering::SeqCst).then_some(()));
+    }
+
+    /// How many items this group hasn't taken; for the senders, some group that has receivers.
     #[inline]
-    pub fn len_of(&self, group: usize) -> usize {
-        let taken = self.groups[group].seats.count();
-        let len = self.senders.count().saturating_sub(taken) as usize;
+    pub fn len(&self, side: usize) -> usize {
+        let sent = self.senders.seats.count();
+        let len = |group: &Side| sent.saturating_sub(group.seats.count()) as usize;
+        let len = match side {
+            0 => {
+                let alive = self
+                    .groups
+                    .iter()
+                    .filter(|it| !it.lost.load(Ordering::SeqCst));
+                alive.map(len).max().unwrap_or(0)
+            }
+            group => len(self.side(group)),
+        };
         len.min(self.capacity())
     }
 
-    /// How many items some group that has receivers hasn't taken.
+    /// Tries to send what is in this parcel, which is the queue's then. Returns whether it is sent; if not,
+    /// the channel is closed. If there is no room, a take or a loss of receivers rings; if there is no memory
+    /// for a further queue, nobody rings when there is.
     #[inline]
-    pub fn len(&self) -> usize {
-        if let [_] = *self.groups {
-            return self.len_of(0);
-        }
-        let groups = (0..self.groups.len()).filter(|&it| !self.is_lost(it));
-        groups.map(|it| self.len_of(it)).max().unwrap_or(0)
-    }
-
-    /// Sends what is in this parcel, which is the queue's then.
-    #[inline]
-    pub fn try_send(&self, parcel: &Parcel<T>) -> Result<(), Refusal> {
-        let mut seat = self.senders.take();
+    pub fn try_send(&self, parcel: &Parcel<T>) -> Try<bool> {
+        let mut seat = self.senders.seats.take();
         parcel.is_for(self.shares.load(Ordering::Relaxed));
         hands_over(self);
-        match seat.pass().handle.send(parcel.words(), self.words()) {
-            Ok(()) => seat.count_one(),
-            Err(code) => {
-                let queue = seat.pass().queue;
-                drop(seat);
-                return self.go_on_sending(parcel, code, queue);
-            }
+        let pass = seat.pass();
+        let code = pass.handle.send(&parcel.words, words_of(self.copies));
+        if code != code::ACCEPTED {
+            let queue = pass.queue;
+            drop(seat);
+            return self.go_on_sending(parcel, code, queue);
         }
+        seat.count_one();
         drop(seat);
-        self.ring_for_item();
-        Ok(())
-    }
-
-    #[inline]
-    fn ring_for_item(&self) {
-        self.groups.iter().for_each(|group| group.items.ring());
+        self.groups.iter().for_each(|group| group.line.ring());
+        Ok(true)
     }
 
     /// Goes on when this queue didn't accept an item.
     #[cold]
-    fn go_on_sending(&self, parcel: &Parcel<T>, code: u32, queue: u64) -> Result<(), Refusal> {
+    fn go_on_sending(&self, parcel: &Parcel<T>, code: u32, queue: u64) -> Try<bool> {
         parcel.is_for(1);
+        // Whether a lost group is in the queue, and holds up the others.
+        let is_stale = self.shares.load(Ordering::SeqCst) != self.alive();
         match code {
             code::CLOSED => self.closed.store(true, Ordering::SeqCst),
-            code::FULL if !self.is_stale.load(Ordering::SeqCst) => return Err(Refusal::Full),
-            _ => {}
+            code::FULL if !is_stale => return Err(Again::AtARing),
+            code::FULL | code::SPENT | code::WORN => {}
+            code => unexpected(code),
         }
         let mut state = lock(&self.state);
         if self.is_closed() {
-            return Err(Refusal::Closed);
+            return Ok(false);
         }
         let mut let_go = vec![];
         if state.queue == queue {
-            let_go = self.renew(&mut state).ok_or(Refusal::NoMemory)?;
-            self.is_stale.store(false, Ordering::SeqCst);
+            let_go = self.renew(&mut state).ok_or(Again::Soon)?;
         }
         drop(state);
         // The item isn't sent yet, but this call may go on for others: it doesn't panic.
         let_be(drop_all(let_go));
-        let_be(self.room.ring_for_all());
+        let_be(self.senders.line.ring_for_all());
         self.try_send(parcel)
     }
 
-    /// Takes an item for a group.
+    /// Tries to take an item for a group. Gives None at the end of the channel.
     #[inline]
-    pub fn try_recv(&self, group: usize) -> Result<Parcel<T>, NoItem> {
-        let mut seat = self.groups[group].seats.take();
+    pub fn try_recv(&self, group: usize) -> Try<Option<Parcel<T>>> {
+        let mut seat = self.side(group).seats.take();
         match self.take_by(seat.pass()) {
             Ok(parcel) => {
                 seat.count_one();
                 drop(seat);
                 has_taken(self);
-                self.room.ring();
-                Ok(parcel)
+                self.senders.line.ring();
+                Ok(Some(parcel))
             }
-            Err(code::EMPTY) => Err(NoItem::Empty),
-            Err(_) => {
+            Err(code::EMPTY) => Err(Again::AtARing),
+            Err(code::ENDED) => {
                 self.closed.store(true, Ordering::SeqCst);
-                Err(NoItem::Ended)
+                Ok(None)
             }
+            Err(code) => unexpected(code),
         }
     }
 
-    #[inline]
     #[allow(unsafe_code)]
     pub fn take_by(&self, pass: &mut Pass) -> Result<Parcel<T>, u32> {
-        let words = pass.handle.take(self.words())?;
+        let words = pass.handle.take(words_of(self.copies))?;
         // SAFETY: what is in the queue was sent as the words of parcels, with these `copies`; each was
         // for as many groups as the queue has; and a group takes each item of the queue once.
         Ok(unsafe { Parcel::taken(words, self.copies) })
@@ -242,14 +229,14 @@ impl<T> Core<T> {
     /// Closes the channel. Returns whether it was open.
     pub fn close(&self) -> bool {
         let closed = self.close_queue();
-        if closed && let Some(panic) = self.ring_all() {
-            resume_unwind(panic);
+        if closed {
+            go_on(self.ring_all());
         }
         closed
     }
 
     fn close_queue(&self) -> bool {
-        let mut seat = self.senders.take();
+        let mut seat = self.senders.seats.take();
         let closed = seat.pass().handle.close();
         // While the seat is taken, so that whoever has all seats knows it.
         self.closed.store(true, Ordering::SeqCst);
@@ -258,75 +245,33 @@ impl<T> Core<T> {
 
     /// Wakes all that wait, and returns the first panic of their wakers.
     fn ring_all(&self) -> Option<Panic> {
-        let mut panic = self.room.ring_for_all();
-        for group in &self.groups {
-            keep_first(&mut panic, group.items.ring_for_all());
-        }
+        let mut panic = self.senders.line.ring_for_all();
+        let groups = self.groups.iter();
+        groups.for_each(|it| keep_first(&mut panic, it.line.ring_for_all()));
         panic
     }
 
-    /// The last sender is gone.
-    pub fn lose_senders(&self) {
-        let panic = match self.close_queue() {
-            true => self.ring_all(),
-            false => None,
-        };
-        go_on(panic);
-    }
-
-    /// The last receiver of a group is gone. The queue is closed if it was the last one of all, and goes
-    /// on without the group if not. What the group hasn't taken is let go.
-    pub fn lose_group(&self, group: usize) {
+    /// The last handle of this side is gone: the channel is closed, or goes on without this group. What the
+    /// group hasn't taken is let go.
+    pub fn lose(&self, side: usize) {
         let mut state = lock(&self.state);
-        self.groups[group].lost.store(true, Ordering::SeqCst);
-        state.alive -= 1;
-        let (mut closed, mut let_go) = (false, Some(vec![]));
-        match state.alive {
-            0 => closed = self.close_queue(),
-            _ => let_go = self.renew(&mut state),
-        }
-        if let_go.is_none() {
-            self.is_stale.store(true, Ordering::SeqCst);
-        }
-        self.groups[group].gone.store(true, Ordering::SeqCst);
-        drop(state);
-        let mut panic = match closed {
-            true => self.ring_all(),
-            false => self.room.ring_for_all(),
+        self.side(side).lost.store(true, Ordering::SeqCst);
+        let left = if side == 0 || self.alive() == 0 {
+            self.close_queue();
+            None
+        } else {
+            self.renew(&mut state) // or there is no memory: a send tries again, once it finds no room
         };
-        keep_first(&mut panic, drop_all(let_go.unwrap_or_default()));
-        if self.is_closed() {
-            keep_first(&mut panic, self.let_go());
+        self.side(side).gone.store(true, Ordering::SeqCst);
+        drop(state);
+        let mut panic = self.ring_all();
+        keep_first(&mut panic, drop_all(left.into_iter().flatten()));
+        if side != 0 && self.is_closed() {
+            let in_queue = lock(&self.state).groups.clone(); // it stays so
+            let lost = in_queue.into_iter().filter(|&it| self.side(it).is_lost());
+            let left = lost.flat_map(|group| iter::from_fn(move || self.try_recv(group).ok()?));
+            keep_first(&mut panic, drop_all(left));
         }
         go_on(panic);
-    }
-
-    /// Waits until this is so, which it is as soon as another thread goes on.
-    pub fn until(&self, is_so: impl Fn(&Self) -> bool) {
-        let mut backoff = Backoff::new();
-        while !is_so(self) {
-            backoff.between_turns();
-        }
-    }
-
-    /// Whether the channel goes on without this group, or is closed.
-    pub fn is_gone(&self, group: usize) -> bool {
-        self.groups[group].gone.load(Ordering::SeqCst)
-    }
-
-    /// Takes all items of the groups that have no receivers, once the channel is closed, and drops each.
-    fn let_go(&self) -> Option<Panic> {
-        let in_queue = lock(&self.state).groups.clone();
-        let mut panic = None;
-        for group in in_queue.into_iter().filter(|&it| self.is_lost(it)) {
-            while let Ok(parcel) = self.try_recv(group) {
-                keep_first(&mut panic, panic_of(|| drop(parcel)));
-            }
-        }
-        panic
-    }
-
-    pub fn is_lost(&self, group: usize) -> bool {
-        self.groups[group].lost.load(Ordering::SeqCst)
     }
 }

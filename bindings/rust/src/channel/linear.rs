@@ -303,9 +303,10 @@ type Run = (Clock, Vec<Own>, Vec<Call>);
 
 impl Runs {
     fn open(&self, capacity: usize) -> Run {
+        // Beside those that are moved over from the queue before.
         let config = Config {
-            life: self.life,
-            per_sender: self.per_sender,
+            life: (self.life + capacity as u64).min(1 << 48),
+            per_sender: self.per_sender.saturating_add(capacity as u32),
             ..config(capacity)
         };
         let copies = (self.groups > 1).then_some(u32::clone as Copies<u32>);

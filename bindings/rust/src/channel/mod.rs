@@ -12,20 +12,31 @@ mod renew;
 #[cfg(test)]
 mod rounds;
 mod sender;
+mod side;
 #[cfg(test)]
 mod tests;
 
 pub use error::{
     RecvError, RecvTimeoutError, SendError, SendTimeoutError, TryRecvError, TrySendError,
 };
-pub use future::{RecvFuture, SendFuture};
+pub use future::{CallFuture, RecvFuture, SendFuture};
 pub use receiver::{IntoIter, Iter, Receiver, TryIter, WeakReceiver};
 pub use sender::{Sender, WeakSender};
+pub use side::{Handle, WeakHandle};
 
 use self::body::Copies;
 use self::core::Core;
 use crate::words::{Config, OpenError};
 use std::sync::Arc;
+
+shows! {
+    Debug [T] Sender<T>, "Sender { .. }";
+    Debug [T] Receiver<T>, "Receiver { .. }";
+    Debug [T] WeakSender<T>, "WeakSender { .. }";
+    Debug [T] WeakReceiver<T>, "WeakReceiver { .. }";
+    Debug [T] SendFuture<'_, T>, "SendFuture { .. }";
+    Debug [T] RecvFuture<'_, T>, "RecvFuture { .. }";
+}
 
 /// The configuration of the queues of a channel.
 fn config(capacity: usize) -> Config {
@@ -105,9 +116,9 @@ fn open<T>(
     copies: Option<Copies<T>>,
 ) -> Result<(Sender<T>, Vec<Receiver<T>>), OpenError> {
     let core = Arc::new(Core::open(config, groups, copies)?);
-    let receiver = |group| Receiver::new(core.clone(), group);
-    let receivers = (0..groups as usize).map(receiver).collect();
-    Ok((Sender::new(core), receivers))
+    let receiver = |group| Handle::new(core.clone(), group);
+    let receivers = (1..=groups as usize).map(receiver).collect();
+    Ok((Handle::new(core, 0), receivers))
 }
 
 /// What doesn't compile: a handle doesn't go to another thread if its items can't, and no group clones items

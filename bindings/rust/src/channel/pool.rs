@@ -6,7 +6,7 @@
 #![allow(unsafe_code)]
 
 use super::event::{Again, Event, wait};
-use crate::words::backoff::Backoff;
+use crate::words::backoff::turn_until;
 use crate::words::handle::Handle;
 use std::cell::{Cell, UnsafeCell};
 use std::sync::OnceLock;
@@ -44,12 +44,7 @@ struct Seat {
 // whoever sets `taken` from false to true, until it is set back. Threads so have the pass one after
 // another, each with what the one before it did, by an acquire and a release; which is to send it from
 // one to the next, and `Pass` is `Send`.
-unsafe impl Sync for Seat {}
-
-const _: fn() = || {
-    fn sends<T: Send>() {}
-    sends::<Pass>();
-};
+unsafe impl Sync for Seat where Pass: Send {}
 
 pub struct Pool {
     /// A power of two.
@@ -88,18 +83,12 @@ impl Drop for Held<'_> {
     }
 }
 
+/// Where the next thread begins.
+static NEXT: AtomicUsize = AtomicUsize::new(0);
+
 thread_local! {
     /// Which seat this thread tries first, of each pool.
-    static HINT: Cell<usize> = const { Cell::new(usize::MAX) };
-}
-
-/// The hint of a thread that has none: threads begin at different seats.
-#[cold]
-fn first_hint() -> usize {
-    static NEXT: AtomicUsize = AtomicUsize::new(0);
-    let hint = NEXT.fetch_add(1, Ordering::Relaxed) % MOST;
-    HINT.set(hint);
-    hint
+    static HINT: Cell<usize> = Cell::new(NEXT.fetch_add(1, Ordering::Relaxed));
 }
 
 impl Pool {
@@ -136,20 +125,12 @@ impl Pool {
     #[inline]
     pub fn take(&self) -> Held<'_> {
         let hint = HINT.get();
-        if hint != usize::MAX
-            && let Some(held) = self.try_take(hint)
-        {
-            return held;
-        }
-        self.take_another()
+        self.try_take(hint)
+            .unwrap_or_else(|| self.take_another(hint))
     }
 
     #[cold]
-    fn take_another(&self) -> Held<'_> {
-        let hint = match HINT.get() {
-            usize::MAX => first_hint(),
-            hint => hint,
-        };
+    fn take_another(&self, hint: usize) -> Held<'_> {
         let first_free = || {
             let mut places = hint..hint + self.seats.len();
             let found = places.find_map(|at| Some((at, self.try_take(at)?)));
@@ -163,15 +144,7 @@ impl Pool {
 
     /// Takes all seats, each once it is free.
     pub fn take_all(&self) -> Vec<Held<'_>> {
-        let take = |at| {
-            let mut backoff = Backoff::new();
-            loop {
-                match self.try_take(at) {
-                    Some(held) => return held,
-                    None => backoff.between_tries(),
-                }
-            }
-        };
+        let take = |at| turn_until(|| self.try_take(at));
         (0..self.seats.len()).map(take).collect()
     }
 }

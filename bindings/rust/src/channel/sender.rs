@@ -1,55 +1,26 @@
 //! The senders of a channel.
 use super::body::Parcel;
-use super::core::{Core, Refusal};
-use super::event::{Again, wait};
-use super::future::{Handle, SendFuture};
+use super::event::wait;
+use super::future::SendFuture;
+use super::side::{Handle, WeakHandle};
 use super::{SendError, SendTimeoutError, TrySendError};
-use std::fmt;
-use std::panic::{RefUnwindSafe, UnwindSafe};
-use std::sync::{Arc, Weak};
+use crate::words::Senders;
+use std::borrow::Cow;
 use std::time::{Duration, Instant};
-
-/// What all senders of a channel share. It goes with the last of them.
-pub struct Senders<T> {
-    core: Arc<Core<T>>,
-}
-
-impl<T> Drop for Senders<T> {
-    fn drop(&mut self) {
-        self.core.lose_senders();
-    }
-}
 
 /// A sender of a channel: see [`channel`](crate::channel()).
 ///
-/// Its calls take it by `&self`, and threads may share it. There may be any number of clones. The drop
-/// of the last sender closes the channel.
-pub struct Sender<T> {
-    side: Arc<Senders<T>>,
-}
+/// The drop of the last sender closes the channel.
+pub type Sender<T> = Handle<T, Senders>;
 
-/// A sender that doesn't keep the channel open: see [`Sender::downgrade`].
-pub struct WeakSender<T> {
-    side: Weak<Senders<T>>,
-    core: Arc<Core<T>>,
-}
+/// A sender that doesn't keep the channel open: see [`Handle::downgrade`].
+pub type WeakSender<T> = WeakHandle<T, Senders>;
 
-impl<T> UnwindSafe for Sender<T> {}
-impl<T> RefUnwindSafe for Sender<T> {}
+type Sent<T> = Result<(), SendTimeoutError<T>>;
 
 impl<T> Sender<T> {
-    pub(super) fn new(core: Arc<Core<T>>) -> Sender<T> {
-        let side = Arc::new(Senders { core });
-        Sender { side }
-    }
-
-    #[inline]
-    pub(super) fn core(&self) -> &Core<T> {
-        &self.side.core
-    }
-
     pub(super) fn pack(&self, item: T) -> Parcel<T> {
-        Parcel::pack(item, self.core().copies())
+        Parcel::pack(item, self.core().copies)
     }
 
     /// Sends, if there is room. It doesn't wait for room; but if another thread serves the calls of
@@ -73,40 +44,25 @@ impl<T> Sender<T> {
     pub fn try_send(&self, item: T) -> Result<(), TrySendError<T>> {
         let parcel = self.pack(item);
         match self.core().try_send(&parcel) {
-            Ok(()) => parcel.sent(),
-            Err(Refusal::Closed) => Err(TrySendError::Disconnected(parcel.unpack())),
+            Ok(true) => parcel.sent(),
+            Ok(false) => Err(TrySendError::Disconnected(parcel.unpack())),
             Err(_) => Err(TrySendError::Full(parcel.unpack())),
-        }
-    }
-
-    /// Tries to send. Returns whether the item is sent; if not, the channel is closed.
-    #[inline]
-    pub(super) fn attempt(&self, parcel: &Parcel<T>) -> Result<bool, Again> {
-        match self.core().try_send(parcel) {
-            Ok(()) => Ok(true),
-            Err(Refusal::Closed) => Ok(false),
-            Err(Refusal::Full) => Err(Again::AtARing),
-            Err(Refusal::NoMemory) => Err(Again::Soon),
         }
     }
 
     /// Sends, and waits for room until this moment.
     #[inline]
-    fn send_until(&self, item: T, until: Option<Instant>) -> Result<(), SendTimeoutError<T>> {
+    fn send_until(&self, item: T, until: Option<Instant>) -> Sent<T> {
         let parcel = self.pack(item);
         match self.core().try_send(&parcel) {
-            Ok(()) => parcel.sent(),
-            Err(_) => self.wait_for_room(parcel, until),
+            Ok(true) => parcel.sent(),
+            _ => self.wait_for_room(parcel, until),
         }
     }
 
     #[inline(never)]
-    fn wait_for_room(
-        &self,
-        parcel: Parcel<T>,
-        until: Option<Instant>,
-    ) -> Result<(), SendTimeoutError<T>> {
-        match wait(&self.core().room, until, || self.attempt(&parcel)) {
+    fn wait_for_room(&self, parcel: Parcel<T>, until: Option<Instant>) -> Sent<T> {
+        match wait(self.line(), until, || self.core().try_send(&parcel)) {
             Some(true) => parcel.sent(),
             Some(false) => Err(SendTimeoutError::Disconnected(parcel.unpack())),
             None => Err(SendTimeoutError::Timeout(parcel.unpack())),
@@ -185,128 +141,17 @@ impl<T> Sender<T> {
     /// }
     /// ```
     pub fn send_async(&self, item: T) -> SendFuture<'_, T> {
-        SendFuture::new(Handle::Borrowed(self), item)
+        SendFuture::new(Cow::Borrowed(self), Some(self.pack(item)))
     }
 
     /// The same, as a future that has the sender.
     pub fn into_send_async(self, item: T) -> SendFuture<'static, T> {
-        SendFuture::new(Handle::Owned(self), item)
-    }
-
-    /// A sender that doesn't keep the channel open.
-    ///
-    /// ```
-    /// let (sender, receiver) = vahepito::channel(1)?;
-    /// let weak = sender.downgrade();
-    /// weak.upgrade().expect("the channel is open").send('a').unwrap();
-    /// drop(sender);
-    /// assert!(weak.upgrade().is_none());
-    /// assert!(receiver.iter().eq(['a']));
-    /// # Ok::<(), vahepito::OpenError>(())
-    /// ```
-    pub fn downgrade(&self) -> WeakSender<T> {
-        let side = Arc::downgrade(&self.side);
-        let core = self.side.core.clone();
-        WeakSender { side, core }
+        let parcel = self.pack(item);
+        SendFuture::new(Cow::Owned(self), Some(parcel))
     }
 
     /// How many senders the channel has.
     pub fn sender_count(&self) -> usize {
-        Arc::strong_count(&self.side)
-    }
-
-    /// Closes the channel: nothing is sent after it, and the receivers see the end once they have what
-    /// was sent before. Tells whether it was open.
-    ///
-    /// ```
-    /// let (sender, receiver) = vahepito::channel(4)?;
-    /// sender.send(1).unwrap();
-    /// assert!(sender.close());
-    /// assert!(sender.is_closed() && !sender.close());
-    /// assert!(sender.send(2).is_err());
-    /// assert!(receiver.iter().eq([1]));
-    /// # Ok::<(), vahepito::OpenError>(())
-    /// ```
-    pub fn close(&self) -> bool {
-        self.core().close()
-    }
-
-    /// Whether the channel is closed: by a call, or since all senders or all receivers are gone.
-    pub fn is_closed(&self) -> bool {
-        self.core().is_closed()
-    }
-
-    /// How many items the channel holds: those that some group hasn't taken. While others send and take
-    /// it is near the number.
-    ///
-    /// ```
-    /// let (sender, receiver) = vahepito::channel(2)?;
-    /// assert!(sender.is_empty());
-    /// sender.send('a').unwrap();
-    /// assert_eq!((sender.len(), receiver.len(), sender.capacity()), (1, 1, Some(2)));
-    /// sender.send('b').unwrap();
-    /// assert!(sender.is_full());
-    /// # Ok::<(), vahepito::OpenError>(())
-    /// ```
-    pub fn len(&self) -> usize {
-        self.core().len()
-    }
-
-    /// Whether the channel holds no item.
-    pub fn is_empty(&self) -> bool {
-        self.len() == 0
-    }
-
-    /// Whether the channel holds as many items as it may.
-    pub fn is_full(&self) -> bool {
-        self.len() == self.core().capacity()
-    }
-
-    /// How many items the channel may hold. Every channel has a bound.
-    pub fn capacity(&self) -> Option<usize> {
-        Some(self.core().capacity())
-    }
-
-    /// Whether both are senders of one channel.
-    pub fn same_channel(&self, other: &Sender<T>) -> bool {
-        Arc::ptr_eq(&self.side, &other.side)
-    }
-}
-
-impl<T> Clone for Sender<T> {
-    fn clone(&self) -> Sender<T> {
-        let side = self.side.clone();
-        Sender { side }
-    }
-}
-
-impl<T> WeakSender<T> {
-    /// A sender, if there is one still.
-    pub fn upgrade(&self) -> Option<Sender<T>> {
-        let Some(side) = self.side.upgrade() else {
-            // The last one may be on its way.
-            self.core.until(Core::is_closed);
-            return None;
-        };
-        Some(Sender { side })
-    }
-}
-
-impl<T> Clone for WeakSender<T> {
-    fn clone(&self) -> WeakSender<T> {
-        let (side, core) = (self.side.clone(), self.core.clone());
-        WeakSender { side, core }
-    }
-}
-
-impl<T> fmt::Debug for Sender<T> {
-    fn fmt(&self, f: &mut fmt::Formatter<'_>) -> fmt::Result {
-        f.pad("Sender { .. }")
-    }
-}
-
-impl<T> fmt::Debug for WeakSender<T> {
-    fn fmt(&self, f: &mut fmt::Formatter<'_>) -> fmt::Result {
-        f.pad("WeakSender { .. }")
+        self.count()
     }
 }

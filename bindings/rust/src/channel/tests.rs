@@ -6,13 +6,18 @@ use std::sync::Mutex;
 use std::thread;
 use std::time::Duration;
 
+/// So many items and sends, beside those that are moved over from the queue before.
+fn short_config(capacity: u32, life: u64, per_sender: u32) -> Config {
+    Config {
+        life: life + u64::from(capacity),
+        per_sender: per_sender + capacity,
+        ..config(capacity as usize)
+    }
+}
+
 /// A channel whose queues accept so many items, and whose senders begin so many sends.
-fn short<T: Send>(capacity: usize, life: u64, per_sender: u32) -> (Sender<T>, Receiver<T>) {
-    let config = Config {
-        life,
-        per_sender,
-        ..config(capacity)
-    };
+fn short<T: Send>(capacity: u32, life: u64, per_sender: u32) -> (Sender<T>, Receiver<T>) {
+    let config = short_config(capacity, life, per_sender);
     let (sender, mut receivers) = open(config, 1, None).unwrap();
     (sender, receivers.remove(0))
 }
@@ -29,16 +34,16 @@ fn one_thread_meets_no_end() {
             for number in 0..20.max(rounds(200)) {
                 while let Err(told) = sender.try_send(number) {
                     assert!(told.is_full());
-                    assert_eq!(sender.len(), capacity, "it is full and has room");
+                    assert_eq!(sender.len(), capacity as usize, "it is full and has room");
                     let receiver = [&receiver, &other][number as usize % 2];
                     assert_eq!(receiver.recv().ok(), taken.next());
                 }
-                assert!(sender.len() <= capacity);
+                assert!(sender.len() <= capacity as usize);
             }
             sender.close();
             assert!(sender.try_send(0).unwrap_err().is_disconnected());
             let rest: Vec<u64> = receiver.iter().collect();
-            assert!(rest.into_iter().eq(taken.take(capacity)));
+            assert!(rest.into_iter().eq(taken.take(capacity as usize)));
             assert_eq!(other.recv(), Err(RecvError));
         }
     }
@@ -60,7 +65,7 @@ fn tries_that_find_no_room_meet_no_end() {
 }
 
 /// Each sender's items come in its order, and no more than the capacity are there at any time.
-fn threads(capacity: usize, life: u64, per_sender: u32, senders: u64, receivers: usize) {
+fn threads(capacity: u32, life: u64, per_sender: u32, senders: u64, receivers: usize) {
     let count = 10.max(rounds(60));
     let (sender, receiver) = short(capacity, life, per_sender);
     let taken: Mutex<Vec<Vec<(u64, u64)>>> = Mutex::default();
@@ -75,7 +80,7 @@ fn threads(capacity: usize, life: u64, per_sender: u32, senders: u64, receivers:
             scope.spawn(move || {
                 let mut items = vec![];
                 while let Ok(item) = receiver.recv() {
-                    assert!(receiver.len() <= capacity);
+                    assert!(receiver.len() <= capacity as usize);
                     items.push(item);
                 }
                 taken.lock().unwrap().push(items);
@@ -108,11 +113,7 @@ fn threads_meet_no_end() {
 
 #[test]
 fn groups_meet_no_end() {
-    let config = Config {
-        life: 3,
-        per_sender: 2,
-        ..config(2)
-    };
+    let config = short_config(2, 3, 2);
     let (sender, receivers) = open::<String>(config, 2, Some(String::clone)).unwrap();
     let taken: Vec<Vec<String>> = thread::scope(|scope| {
         let taking = receivers

@@ -1,42 +1,32 @@
 //! The passes of a queue, and the calls that were begun by guards, also of passes that are gone.
-use crate::words::Item;
-use crate::words::backoff::{takes_long, turn_shortly, turn_until};
-use crate::words::handle::{Answer, Handle, Kind, Told, code, unexpected};
-use std::fmt;
+use crate::words::backoff::turn_until;
+use crate::words::handle::{Answer, Call, Handle, code, unexpected};
+use crate::words::{Receiver, SendError, Sender};
+use std::marker::PhantomData;
 use std::mem::replace;
 use std::sync::atomic::{AtomicUsize, Ordering};
-use std::sync::{Arc, Mutex, MutexGuard, PoisonError};
+use std::sync::{Arc, Mutex, PoisonError};
 
-/// A pass whose call was begun.
-struct Call {
+/// So many turns of a guard leave the calls of others alone.
+const TURNS: u32 = 4096;
+
+/// A pass whose call was begun by a guard.
+struct Begun {
     handle: Handle,
-    kind: Kind,
+    call: Call,
     answer: Option<Answer>,
-    /// Whether nobody comes for the answer.
-    gone: bool,
-}
-
-impl Call {
-    /// One turn, unless it is answered. Returns whether it is.
-    fn turn(&mut self) -> bool {
-        if self.answer.is_none() {
-            self.answer = self.handle.turn(self.kind);
-        }
-        self.answer.is_some()
-    }
 }
 
 /// One side of a queue (the senders, or the receivers of a group): how many passes it has, and their calls
 /// that were begun by a guard, in a place for each pass. Its pass turns it there; and so does each caller
-/// of that side that waits long, so that none of them stops the side for good: whether its guard is held,
-/// dropped or forgotten, or the pass is.
+/// of that side that waits, so that none of them stops the side for good: whether its guard is held or
+/// forgotten, or the pass is.
 pub struct Side {
     /// How many passes are left.
     passes: AtomicUsize,
-    /// How many calls there are, and how many of them are of passes that are gone.
+    /// How many calls there are.
     count: AtomicUsize,
-    gone: AtomicUsize,
-    places: Box<[Mutex<Option<Call>>]>,
+    places: Box<[Mutex<Option<Begun>>]>,
 }
 
 impl Side {
@@ -44,120 +34,117 @@ impl Side {
         Side {
             passes: AtomicUsize::new(passes),
             count: AtomicUsize::new(0),
-            gone: AtomicUsize::new(0),
             places: (0..passes).map(|_| Mutex::new(None)).collect(),
         }
     }
 
-    fn lock(&self, place: usize) -> MutexGuard<'_, Option<Call>> {
-        let place = &self.places[place];
-        place.lock().unwrap_or_else(PoisonError::into_inner)
-    }
-
-    /// One turn of this call. If it is answered it stands here no more, and its handle goes into this
-    /// empty one. It never waits: if another turns it at this moment, it isn't answered yet.
-    fn turn(&self, place: usize, handle: &mut Handle) -> Option<Answer> {
-        let mut call = self.places[place].try_lock().ok()?;
-        if !call.as_mut()?.turn() {
-            return None;
+    /// One turn of this call, unless it is answered: then it serves none. If there is an empty handle for it,
+    /// it stands here no more. It never waits: if another turns it at this moment, it isn't answered yet.
+    fn turn(&self, place: usize, handle: Option<&mut Handle>) -> Option<Answer> {
+        let mut place = self.places[place].try_lock().ok()?;
+        let begun = place.as_mut()?;
+        let answer = match begun.answer {
+            Some(answer) => Answer {
+                served: 0,
+                ..answer
+            },
+            None => begun.handle.turn(begun.call)?,
+        };
+        begun.answer = Some(answer);
+        if let Some(handle) = handle {
+            *handle = place.take()?.handle;
+            self.count.fetch_sub(1, Ordering::SeqCst);
         }
-        let answered = call.take()?;
-        *handle = answered.handle;
-        self.count.fetch_sub(1, Ordering::SeqCst);
-        answered.answer
+        Some(answer)
     }
 
-    /// One turn of each call whose pass is gone; and of all others too, if this is said. It never waits:
-    /// a call that is locked is left to the one that has it.
-    #[inline]
-    fn turn_others(&self, all: bool) {
-        let count = if all { &self.count } else { &self.gone };
-        if count.load(Ordering::SeqCst) != 0 {
-            self.turn_each(all);
-        }
-    }
-
-    #[cold]
-    fn turn_each(&self, all: bool) {
-        for place in &self.places {
-            let Ok(mut call) = place.try_lock() else {
-                continue;
-            };
-            let Some(it) = call.as_mut().filter(|it| all || it.gone) else {
-                continue;
-            };
-            if it.turn() && it.gone {
-                *call = None;
-                self.gone.fetch_sub(1, Ordering::SeqCst);
-                self.count.fetch_sub(1, Ordering::SeqCst);
+    /// One turn of each call, while another one waits: so it gives none.
+    fn turn_all(&self) -> Option<Answer> {
+        if self.count.load(Ordering::SeqCst) != 0 {
+            for place in 0..self.places.len() {
+                self.turn(place, None);
             }
         }
+        None
     }
 }
 
 /// The sides of a queue: the senders', and that of each group.
 pub type Sides = Arc<[Side]>;
 
-/// A sender or a receiver.
-pub struct Pass {
+/// A [`Sender`](crate::words::Sender) or a [`Receiver`](crate::words::Receiver) of a queue, as the type `S`
+/// says.
+///
+/// It goes to another thread, and is used by one thread at a time: its calls take it by `&mut`, so
+/// there is nothing to share by `&`. It isn't cloned: a queue has as many as it was opened with.
+///
+/// Its drop first goes on to the end of a call whose guard was forgotten. The drop of the last sender also
+/// closes the queue, so that the receivers see its end.
+pub struct Pass<S> {
     /// Empty while a call of a guard has it.
-    pub handle: Handle,
+    pub(super) handle: Handle,
     sides: Sides,
     /// Its side, 0 for a sender and else its group, and its place there.
-    side: usize,
+    pub(super) side: usize,
     place: usize,
     /// Whether it has a call that was begun by a guard. The handle is there then.
-    pub stands: bool,
-    /// What a take got whose guard was dropped or forgotten. No call is begun while there is one.
-    pub kept: Option<Item>,
+    stands: bool,
+    of: PhantomData<S>,
 }
 
-impl Pass {
-    pub fn new(handle: Handle, sides: &Sides, side: usize, place: usize) -> Pass {
-        Pass {
+impl<S> Pass<S> {
+    /// The passes of this side, by their handles.
+    pub(super) fn all(handles: Vec<Handle>, sides: &Sides, side: usize) -> Vec<Pass<S>> {
+        let pass = |(place, handle)| Pass {
             handle,
             sides: sides.clone(),
             side,
             place,
             stands: false,
-            kept: None,
-        }
-    }
-
-    /// The number of its side, and its place there, both from 0.
-    pub fn at(&self) -> (usize, usize) {
-        (self.side, self.place)
+            of: PhantomData,
+        };
+        (0..).zip(handles).map(pass).collect()
     }
 
     fn side(&self) -> &Side {
         &self.sides[self.side]
     }
 
-    /// Whether no receiver is left of some group.
-    pub fn has_lost_a_group(&self) -> bool {
-        let gone = |side: &Side| side.passes.load(Ordering::Acquire) == 0;
-        self.sides[1..].iter().any(gone)
+    /// Its number among the senders, or the receivers of all groups, from 1.
+    /// [`Item::sender`](crate::words::Item::sender) is that of a sender.
+    pub fn number(&self) -> u32 {
+        let groups_before = self.side.saturating_sub(1);
+        (groups_before * self.side().places.len() + self.place + 1) as u32
     }
 
-    /// Begins a call, and leaves it to a guard that gives what this reads of the answer.
-    pub fn begin<A>(&mut self, kind: Kind, code: u32, read: fn(&Answer) -> A) -> Pending<'_, A> {
-        if code != code::BEGUN {
-            unexpected(code);
+    /// Whether no receiver is left of some group.
+    pub(super) fn has_lost_a_group(&self) -> bool {
+        let is_lost = |side: &Side| side.passes.load(Ordering::Acquire) == 0;
+        self.sides[1..].iter().any(is_lost)
+    }
+
+    /// Begins a call, for a guard. Returns an error if the sender is worn.
+    pub(super) fn begin_call(&mut self, call: Call) -> Result<(), SendError> {
+        self.settle(true);
+        match self.handle.begin(call) {
+            code::BEGUN => {}
+            code::WORN => return Err(SendError::Worn),
+            code => unexpected(code),
         }
-        let handle = replace(&mut self.handle, Handle::empty());
-        let call = Call {
-            handle,
-            kind,
+        let begun = Begun {
+            handle: replace(&mut self.handle, Handle::empty()),
+            call,
             answer: None,
-            gone: false,
         };
-        *self.side().lock(self.place) = Some(call);
+        let place = &self.side().places[self.place];
+        *place.lock().unwrap_or_else(PoisonError::into_inner) = Some(begun);
         self.side().count.fetch_add(1, Ordering::SeqCst);
         self.stands = true;
-        self.pending(read)
+        Ok(())
     }
 
-    pub fn pending<A>(&mut self, read: fn(&Answer) -> A) -> Pending<'_, A> {
+    /// A guard of the call that was begun for one.
+    pub(super) fn guard<A>(&mut self, read: fn(&Answer) -> A) -> Pending<'_, S, A> {
         Pending {
             pass: self,
             read,
@@ -165,79 +152,39 @@ impl Pass {
         }
     }
 
-    /// One turn of a call that no guard has; if that waits, also of those that are gone, and of all that
-    /// were begun if it takes long.
-    fn turn_own(&mut self, kind: Kind, long: bool) -> Option<Answer> {
-        let answer = self.handle.turn(kind);
-        if answer.is_none() {
-            self.side().turn_others(long);
+    /// Waits for the answer of a call that no guard has, and was turned once: with this answer.
+    pub(super) fn answered(&mut self, call: Call, first: Answer) -> Answer {
+        if first.code != code::WAITING {
+            return first;
         }
+        turn_until(|| self.handle.turn(call).or_else(|| self.side().turn_all()))
+    }
+
+    /// One turn of the call that was begun by a guard. If it is answered, it stays where it is, or ends.
+    fn turn(&mut self, ends: bool) -> Option<Answer> {
+        let handle = ends.then_some(&mut self.handle);
+        let answer = self.sides[self.side].turn(self.place, handle);
+        self.stands = !(ends && answer.is_some());
         answer
     }
 
-    /// Waits for the answer of a call that no guard has.
-    pub fn wait(&mut self, kind: Kind) -> Answer {
-        turn_until(|long| self.turn_own(kind, long))
-    }
-
-    /// The same of the call that was begun by a guard.
-    fn turn_begun(&mut self, long: bool) -> Option<Answer> {
-        let side = &self.sides[self.side];
-        let answer = side.turn(self.place, &mut self.handle);
-        match answer {
-            Some(_) => self.stands = false,
-            None => side.turn_others(long),
+    /// Waits for the answer of such a call, if there is one. It stays where it is, or ends.
+    pub(super) fn settle(&mut self, ends: bool) -> Option<Answer> {
+        if !self.stands {
+            return None;
         }
-        answer
+        let turn = || self.turn(ends).or_else(|| self.side().turn_all());
+        Some(turn_until(turn))
     }
+}
 
-    /// One turn of a guard, which gives first what was kept.
-    fn turn_guard(&mut self, long: bool) -> Option<Answer> {
-        let Some(item) = self.kept.take() else {
-            return self.turn_begun(long);
-        };
-        let told = Told {
-            code: code::GOT,
-            number: 0,
-            served: 0,
-        };
-        Some(Answer { told, item })
-    }
-
-    /// One turn of a call whose guard was dropped or forgotten: keeps what it got.
-    fn turn_to_keep(&mut self, long: bool) -> Option<()> {
-        let answer = self.turn_begun(long)?;
-        self.kept = (answer.told.code == code::GOT).then_some(answer.item);
-        Some(())
-    }
-
-    /// Goes on to the end of such a call, if there is one.
-    pub fn settle(&mut self) {
-        if self.stands {
-            turn_until(|long| self.turn_to_keep(long));
+impl<S> Drop for Pass<S> {
+    fn drop(&mut self) {
+        self.settle(true);
+        let is_last = self.side().passes.fetch_sub(1, Ordering::AcqRel) == 1;
+        if is_last && self.side == 0 {
+            self.handle.close();
         }
-    }
-
-    /// The same for some rounds.
-    fn settle_shortly(&mut self) {
-        if self.stands {
-            turn_shortly(|long| self.turn_to_keep(long));
-        }
-    }
-
-    /// Counts this pass out at its drop. Returns whether it is the last one of its side.
-    pub fn leave(&mut self) -> bool {
-        self.settle_shortly();
-        let side = &self.sides[self.side];
-        let is_last = side.passes.fetch_sub(1, Ordering::AcqRel) == 1;
-        // The last sender closes, and so turns all that it waits for.
-        if !(is_last && self.side == 0)
-            && let Some(call) = &mut *side.lock(self.place)
-        {
-            call.gone = true;
-            side.gone.fetch_add(1, Ordering::SeqCst);
-        }
-        is_last
     }
 }
 
@@ -246,8 +193,8 @@ impl Pass {
 /// What a take gets isn't lost if the guard is dropped: the receiver keeps the item, and its next call
 /// gives it.
 #[must_use = "a call that was begun is to be turned until it is done"]
-pub struct Pending<'a, A> {
-    pass: &'a mut Pass,
+pub struct Pending<'a, S, A> {
+    pass: &'a mut Pass<S>,
     read: fn(&Answer) -> A,
     /// How many of its turns returned that it waits.
     waited: u32,
@@ -269,14 +216,20 @@ pub enum Turn<P, A> {
     },
 }
 
-impl<A> Pending<'_, A> {
+impl<S, A> Pending<'_, S, A> {
     /// One turn: looks once whether the answer is there, and serves the calls of its side's other passes
     /// with its own if it is this call's part to do so. It never waits.
     pub fn turn(mut self) -> Turn<Self, A> {
-        match self.pass.turn_guard(takes_long(&mut self.waited)) {
-            None => Turn::Waiting(self),
+        self.waited = self.waited.saturating_add(1);
+        match self.pass.turn(true) {
+            None => {
+                if self.waited > TURNS {
+                    self.pass.side().turn_all();
+                }
+                Turn::Waiting(self)
+            }
             Some(answer) => Turn::Done {
-                served: answer.told.served,
+                served: answer.served,
                 answer: (self.read)(&answer),
             },
         }
@@ -285,18 +238,19 @@ impl<A> Pending<'_, A> {
     /// Turns until the answer, and spins or yields in between. The answer is that of the call without a
     /// guard; but a send that was begun is never `Worn`.
     pub fn wait(self) -> A {
-        (self.read)(&turn_until(|long| self.pass.turn_guard(long)))
+        let answer = self.pass.settle(true);
+        (self.read)(&answer.expect("a guard has a call"))
     }
 }
 
-impl<A> Drop for Pending<'_, A> {
+impl<S, A> Drop for Pending<'_, S, A> {
     fn drop(&mut self) {
-        self.pass.settle_shortly();
+        self.pass.settle(false);
     }
 }
 
-impl<A> fmt::Debug for Pending<'_, A> {
-    fn fmt(&self, f: &mut fmt::Formatter<'_>) -> fmt::Result {
-        f.pad("Pending { .. }")
-    }
+shows! {
+    Debug [] Sender, "Sender { .. }";
+    Debug [] Receiver, "Receiver { .. }";
+    Debug [S, A] Pending<'_, S, A>, "Pending { .. }";
 }

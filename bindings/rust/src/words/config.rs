@@ -109,16 +109,11 @@ pub fn open(config: Config) -> Result<(Vec<Sender>, Vec<Receiver>), OpenError> {
 /// As of [`open`]: another library; the first field of the configuration that is out of its range;
 /// then the number of groups, where it isn't from 1 to 8; else want of memory.
 pub fn open_groups(config: Config, groups: u32) -> Result<Opened, OpenError> {
-    let (senders, receivers) = handle::open(&config, groups, 1)?;
-    let in_each = config.receivers as usize;
-    let counts = (0..=groups).map(|side| if side == 0 { senders.len() } else { in_each });
-    let sides: Sides = counts.map(Side::new).collect();
-    let senders = (0..).zip(senders);
-    let senders = senders.map(|(place, handle)| Sender::new(Pass::new(handle, &sides, 0, place)));
-    let mut receivers = (0..).zip(receivers).map(|(number, handle)| {
-        let (group, place) = (1 + number / in_each, number % in_each);
-        Receiver::new(Pass::new(handle, &sides, group, place), number)
-    });
-    let groups = (0..groups).map(|_| receivers.by_ref().take(in_each).collect());
-    Ok((senders.collect(), groups.collect()))
+    let mut opened = handle::open(&config, groups, 1)?;
+    let sides: Sides = opened.iter().map(|it| Side::new(it.len())).collect();
+    let senders = Pass::all(opened.remove(0), &sides, 0);
+    let receivers = (1..)
+        .zip(opened)
+        .map(|(side, it)| Pass::all(it, &sides, side));
+    Ok((senders, receivers.collect()))
 }

@@ -5,41 +5,29 @@
 use crate::words::backoff::turn_until;
 use crate::words::{Config, Item, OpenError};
 use std::ffi::c_void;
-use std::mem::{MaybeUninit, offset_of, size_of};
+use std::iter;
+use std::mem::{MaybeUninit, size_of};
 use std::ptr::{null_mut, read_volatile};
 
 /// What a call tells, by the header's names.
 pub mod code {
-    pub const DONE: u32 = 0;
-    pub const BAD_SENDERS: u32 = 1;
-    pub const BAD_RECEIVERS: u32 = 2;
-    pub const BAD_CAPACITY: u32 = 3;
-    pub const BAD_BOUND: u32 = 4;
-    pub const BAD_LIFE: u32 = 5;
-    pub const BAD_PER_SENDER: u32 = 6;
-    pub const NO_MEMORY: u32 = 7;
     pub const WORN: u32 = 13;
     pub const BEGUN: u32 = 14;
     pub const WAITING: u32 = 15;
-    pub const FRESH: u32 = 16;
     pub const ACCEPTED: u32 = 17;
     pub const FULL: u32 = 18;
     pub const CLOSED: u32 = 19;
     pub const SPENT: u32 = 20;
     pub const SHUT: u32 = 21;
-    pub const ALREADY: u32 = 22;
     pub const GOT: u32 = 23;
     pub const EMPTY: u32 = 24;
     pub const ENDED: u32 = 25;
-    pub const BAD_GROUPS: u32 = 26;
 }
 
 /// A code that the call doesn't tell.
 #[cold]
 pub fn unexpected(code: u32) -> ! {
-    panic!(
-        "the linked library told {code} where it can't: it isn't the one that this crate was written for"
-    )
+    panic!("the linked library isn't the one of this crate: it told {code} where it can't")
 }
 
 #[repr(C)]
@@ -47,18 +35,6 @@ struct Pass {
     at: *mut c_void,
     live: bool,
 }
-
-// The layouts that the header's types have; a program in C asserts the same of those.
-const _: () = {
-    assert!(size_of::<Pass>() == 16 && offset_of!(Pass, live) == 8);
-    assert!(size_of::<Config>() == 32);
-    assert!(offset_of!(Config, senders) == 0 && offset_of!(Config, receivers) == 4);
-    assert!(offset_of!(Config, capacity) == 8 && offset_of!(Config, bound) == 12);
-    assert!(offset_of!(Config, life) == 16 && offset_of!(Config, per_sender) == 24);
-    assert!(size_of::<Item>() == 24);
-    assert!(offset_of!(Item, place) == 0 && offset_of!(Item, sender) == 8);
-    assert!(offset_of!(Item, number) == 12 && offset_of!(Item, body) == 16);
-};
 
 /// The version that this crate is for, as the library tells its own: this crate's own version.
 const VERSION: u32 = number(env!("CARGO_PKG_VERSION_MAJOR")) * 1_000_000
@@ -73,6 +49,19 @@ const fn number(digits: &str) -> u32 {
     }
 }
 
+/// One word of a body. It may have bytes that nobody wrote.
+type Word = MaybeUninit<u64>;
+
+/// The words of a body, of which some may not be used.
+pub type Words = [Word; 4];
+
+/// An item with all words of its body, by words: place, sender and number, count, and the words. It has room
+/// for an item of one word, too, whose body is the third.
+type Taken = [Word; 7];
+
+// SAFETY, of the calls that are called safe: a pass is empty, or was filled by `vahepito_open_words`, since its
+// type and the field of a handle are private; a handle isn't copied, so that a call has it alone, by `&mut`;
+// and each other reference is that of a variable of its own.
 unsafe extern "C" {
     safe fn vahepito_version() -> u32;
     safe fn vahepito_sizes(
@@ -90,75 +79,38 @@ unsafe extern "C" {
         receivers: *mut Handle,
         receiver_count: usize,
     ) -> u32;
-    fn vahepito_begin_send(sender: &mut Pass, body: u64) -> u32;
-    fn vahepito_turn_send(sender: &mut Pass, place: &mut u64, served: &mut u32) -> u32;
-    fn vahepito_try_send(
-        sender: &mut Pass,
-        body: MaybeUninit<u64>,
-        place: &mut u64,
-        served: &mut u32,
-    ) -> u32;
+    safe fn vahepito_drop(pass: &mut Pass) -> u32;
+    safe fn vahepito_is_worn(sender: &mut Pass) -> u32;
+    safe fn vahepito_begin_send(sender: &mut Pass, body: u64) -> u32;
+    safe fn vahepito_begin_close(sender: &mut Pass) -> u32;
+    safe fn vahepito_begin_take(receiver: &mut Pass) -> u32;
+    safe fn vahepito_try_send(_: &mut Pass, body: Word, place: &mut u64, served: &mut u32) -> u32;
     fn vahepito_try_send_words(
         sender: &mut Pass,
-        words: *const MaybeUninit<u64>,
+        words: *const Word,
         count: usize,
         place: &mut u64,
         served: &mut u32,
     ) -> u32;
-    fn vahepito_is_worn(sender: &mut Pass) -> u32;
-    fn vahepito_begin_close(sender: &mut Pass) -> u32;
-    fn vahepito_turn_close(sender: &mut Pass, total: &mut u64, served: &mut u32) -> u32;
-    fn vahepito_begin_take(receiver: &mut Pass) -> u32;
-    fn vahepito_drop(pass: &mut Pass) -> u32;
+    safe fn vahepito_turn_send(_: &mut Pass, place: &mut u64, served: &mut u32) -> u32;
+    safe fn vahepito_turn_close(_: &mut Pass, total: &mut u64, served: &mut u32) -> u32;
+    // These write the item, the total of items at the end, and how many calls were served.
+    safe fn vahepito_turn_take(_: &mut Pass, _: &mut Taken, _: &mut u64, _: &mut u32) -> u32;
+    safe fn vahepito_turn_take_words(_: &mut Pass, _: &mut Taken, _: &mut u64, _: &mut u32) -> u32;
+    safe fn vahepito_try_take(_: &mut Pass, _: &mut Taken, _: &mut u64, _: &mut u32) -> u32;
+    safe fn vahepito_try_take_words(_: &mut Pass, _: &mut Taken, _: &mut u64, _: &mut u32) -> u32;
 }
 
-/// One of the four calls of a take that write an item of one word, or one with all its words.
-type Take = unsafe extern "C" fn(&mut Pass, &mut WordsItem, &mut u64, &mut u32) -> u32;
+/// A take that writes an item: one of the last four.
+type Take = extern "C" fn(&mut Pass, &mut Taken, &mut u64, &mut u32) -> u32;
 
-unsafe extern "C" {
-    fn vahepito_turn_take(_: &mut Pass, _: &mut WordsItem, _: &mut u64, _: &mut u32) -> u32;
-    fn vahepito_try_take(_: &mut Pass, _: &mut WordsItem, _: &mut u64, _: &mut u32) -> u32;
-    fn vahepito_turn_take_words(_: &mut Pass, _: &mut WordsItem, _: &mut u64, _: &mut u32) -> u32;
-    fn vahepito_try_take_words(_: &mut Pass, _: &mut WordsItem, _: &mut u64, _: &mut u32) -> u32;
-}
-
-/// What a call returns: its code, the place or the total if the code has one, and how many calls were
-/// served.
-#[derive(Clone, Copy)]
-pub struct Told {
-    pub code: u32,
-    pub number: u64,
-    pub served: u32,
-}
-
-impl Told {
-    /// By a call that writes the number and how many were served.
-    #[inline]
-    fn by(call: impl FnOnce(&mut u64, &mut u32) -> u32) -> Told {
-        let (mut number, mut served) = (0, 0);
-        let code = call(&mut number, &mut served);
-        Told {
-            code,
-            number,
-            served,
-        }
-    }
-}
-
-/// The words of a body, of which some may not be used. Those of an item may have bytes that nobody wrote.
-pub type Words = [MaybeUninit<u64>; 4];
-
-/// An item with all words of its body, by words: place, sender and number, count, and the words. It has room
-/// for an item of one word, too, whose body is the third.
-type WordsItem = [MaybeUninit<u64>; 7];
-
-const NO_ITEM: WordsItem = [MaybeUninit::new(0); 7];
+const NO_ITEM: Taken = [Word::new(0); 7];
 
 /// The words of the body of an item that the library has just written, one by one: what reads two fields
 /// at once waits until both are written.
 #[inline]
-fn words_of(item: &WordsItem, count: usize) -> Words {
-    let mut words = [MaybeUninit::uninit(); 4];
+fn words_of(item: &Taken, count: usize) -> Words {
+    let mut words = [Word::uninit(); 4];
     let first = if count == 1 { 2 } else { 3 };
     for (word, field) in words.iter_mut().zip(&item[first..]).take(count) {
         // SAFETY: it is read from a reference.
@@ -169,7 +121,7 @@ fn words_of(item: &WordsItem, count: usize) -> Words {
 
 /// An item of one word, which the library has just written there, field by field as above.
 #[inline]
-fn item_of(item: &WordsItem) -> Item {
+fn item_of(item: &Taken) -> Item {
     let at = item.as_ptr().cast::<Item>();
     // SAFETY: the room is as large as an item, and aligned as it; and each field was written, by `NO_ITEM`
     // at first.
@@ -183,19 +135,37 @@ fn item_of(item: &WordsItem) -> Item {
     }
 }
 
-/// What is begun.
+/// A call that is begun, and turned until it is answered.
 #[derive(Clone, Copy, PartialEq, Eq)]
-pub enum Kind {
-    Send,
+pub enum Call {
+    Send(u64),
     Close,
     Take,
 }
 
-/// What a call returned; of a take with its item if it got one, else with no item.
+/// What a call returned: its code, the place or the total if the code has one, how many calls were served,
+/// and the item that a take got, else none.
 #[derive(Clone, Copy)]
 pub struct Answer {
-    pub told: Told,
+    pub code: u32,
+    pub number: u64,
+    pub served: u32,
     pub item: Item,
+}
+
+impl Answer {
+    /// By a call that writes the number and how many were served, and an item if it is a take.
+    #[inline]
+    fn by(call: impl FnOnce(&mut Taken, &mut u64, &mut u32) -> u32) -> Answer {
+        let (mut item, mut number, mut served) = (NO_ITEM, 0, 0);
+        let code = call(&mut item, &mut number, &mut served);
+        Answer {
+            code,
+            number,
+            served,
+            item: item_of(&item),
+        }
+    }
 }
 
 /// One pass of a queue. It is empty, or `open` filled it; it isn't copied, and its drop lets the
@@ -208,9 +178,6 @@ pub struct Handle(Pass);
 // orders what was done on either.
 unsafe impl Send for Handle {}
 
-// SAFETY, of all the calls below: the handle is empty or was filled by `vahepito_open_words`, since
-// the field is private; it is the only one of its pass, and this call's alone, by `&mut`; each other
-// pointer is that of a variable of its own, or of an array with as many elements as are said.
 impl Handle {
     pub const fn empty() -> Handle {
         Handle(Pass {
@@ -219,144 +186,99 @@ impl Handle {
         })
     }
 
-    pub fn begin_send(&mut self, body: u64) -> u32 {
-        unsafe { vahepito_begin_send(&mut self.0, body) }
+    pub fn is_worn(&mut self) -> bool {
+        vahepito_is_worn(&mut self.0) == code::WORN
     }
 
-    pub fn begin_close(&mut self) -> u32 {
-        unsafe { vahepito_begin_close(&mut self.0) }
+    pub fn begin(&mut self, call: Call) -> u32 {
+        match call {
+            Call::Send(body) => vahepito_begin_send(&mut self.0, body),
+            Call::Close => vahepito_begin_close(&mut self.0),
+            Call::Take => vahepito_begin_take(&mut self.0),
+        }
     }
 
-    pub fn begin_take(&mut self) -> u32 {
-        unsafe { vahepito_begin_take(&mut self.0) }
+    /// One turn of a call that was begun. Gives the answer if it is there.
+    pub fn turn(&mut self, call: Call) -> Option<Answer> {
+        let pass = &mut self.0;
+        let answer = Answer::by(|item, number, served| match call {
+            Call::Send(_) => vahepito_turn_send(pass, number, served),
+            Call::Close => vahepito_turn_close(pass, number, served),
+            Call::Take => vahepito_turn_take(pass, item, number, served),
+        });
+        (answer.code != code::WAITING).then_some(answer)
     }
 
-    pub fn is_worn(&mut self) -> u32 {
-        unsafe { vahepito_is_worn(&mut self.0) }
-    }
-
-    /// Begins a send of these words, of which there are so many, and turns it once.
+    /// Begins a send of one word, and turns it once.
     #[inline]
-    pub fn try_send(&mut self, words: &Words, count: usize) -> Told {
-        Told::by(|place, served| match count {
-            1 => unsafe { vahepito_try_send(&mut self.0, words[0], place, served) },
-            _ => unsafe {
-                vahepito_try_send_words(&mut self.0, words.as_ptr(), count, place, served)
-            },
-        })
-    }
-
-    #[inline]
-    fn take_by(&mut self, take: Take, item: &mut WordsItem) -> Told {
-        Told::by(|total, served| unsafe { take(&mut self.0, item, total, served) })
+    pub fn try_send(&mut self, body: u64) -> Answer {
+        let (pass, body) = (&mut self.0, Word::new(body));
+        Answer::by(|_, place, served| vahepito_try_send(pass, body, place, served))
     }
 
     /// Begins a take of an item of one word, and turns it once.
     #[inline]
     pub fn try_take(&mut self) -> Answer {
-        let mut item = NO_ITEM;
-        let told = self.take_by(vahepito_try_take, &mut item);
-        let item = item_of(&item);
-        Answer { told, item }
+        let pass = &mut self.0;
+        Answer::by(|item, total, served| vahepito_try_take(pass, item, total, served))
     }
 
-    /// One turn of a call of this kind. Gives the answer if it is there.
-    pub fn turn(&mut self, kind: Kind) -> Option<Answer> {
-        let mut item = NO_ITEM;
-        let told = match kind {
-            Kind::Send => {
-                Told::by(|it, served| unsafe { vahepito_turn_send(&mut self.0, it, served) })
-            }
-            Kind::Close => {
-                Told::by(|it, served| unsafe { vahepito_turn_close(&mut self.0, it, served) })
-            }
-            Kind::Take => self.take_by(vahepito_turn_take, &mut item),
-        };
-        let item = item_of(&item);
-        (told.code != code::WAITING).then_some(Answer { told, item })
-    }
-
-    /// Waits for the answer of a call of this kind if this first code says that it isn't there yet.
-    fn code_of(&mut self, first: u32, kind: Kind) -> u32 {
-        match first {
-            code::WAITING => turn_until(|_| self.turn(kind)).told.code,
-            code => code,
-        }
-    }
-
-    /// Sends these words, of which there are so many, and waits for the answer. If they aren't accepted,
-    /// it gives the code: FULL, CLOSED, SPENT or WORN.
+    /// Sends these words, of which there are so many, and waits for the answer: the code of a send.
     #[inline]
-    pub fn send(&mut self, words: &Words, count: usize) -> Result<(), u32> {
-        match self.try_send(words, count).code {
-            code::ACCEPTED => Ok(()),
-            code => self.go_on_sending(code),
-        }
-    }
-
-    #[inline(never)]
-    fn go_on_sending(&mut self, first: u32) -> Result<(), u32> {
-        match self.code_of(first, Kind::Send) {
-            code::ACCEPTED => Ok(()),
-            told @ (code::FULL | code::CLOSED | code::SPENT | code::WORN) => Err(told),
-            told => unexpected(told),
-        }
+    pub fn send(&mut self, words: &Words, count: usize) -> u32 {
+        let (pass, at) = (&mut self.0, words.as_ptr());
+        let first = match count {
+            1 => vahepito_try_send(pass, words[0], &mut 0, &mut 0),
+            // SAFETY: there are four words, and the library refuses to read more.
+            _ => unsafe { vahepito_try_send_words(pass, at, count, &mut 0, &mut 0) },
+        };
+        answered(first, || vahepito_turn_send(&mut self.0, &mut 0, &mut 0))
     }
 
     /// Takes the words of an item, of which there are so many, and waits for the answer. If there is no
-    /// item, it gives the code: EMPTY or ENDED.
+    /// item, it gives the code of the take.
     #[inline]
     pub fn take(&mut self, count: usize) -> Result<Words, u32> {
+        let (take, turn): (Take, Take) = match count {
+            1 => (vahepito_try_take, vahepito_turn_take),
+            _ => (vahepito_try_take_words, vahepito_turn_take_words),
+        };
         let mut item = NO_ITEM;
-        let take = if count == 1 {
-            vahepito_try_take
-        } else {
-            vahepito_try_take_words
-        };
-        match self.take_by(take, &mut item).code {
-            code::GOT => {}
-            code => self.go_on_taking(code, count, &mut item)?,
-        }
-        Ok(words_of(&item, count))
-    }
-
-    #[inline(never)]
-    fn go_on_taking(&mut self, first: u32, count: usize, item: &mut WordsItem) -> Result<(), u32> {
-        let take = if count == 1 {
-            vahepito_turn_take
-        } else {
-            vahepito_turn_take_words
-        };
-        let mut turn = || Some(self.take_by(take, item).code).filter(|&it| it != code::WAITING);
-        let told = match first {
-            code::WAITING => turn_until(|_| turn()),
-            code => code,
-        };
-        match told {
-            code::GOT => Ok(()),
-            code::EMPTY | code::ENDED => Err(told),
-            told => unexpected(told),
+        let first = take(&mut self.0, &mut item, &mut 0, &mut 0);
+        let turn = || turn(&mut self.0, &mut item, &mut 0, &mut 0);
+        match answered(first, turn) {
+            code::GOT => Ok(words_of(&item, count)),
+            code => Err(code),
         }
     }
 
     /// Closes the queue. Returns whether it was open.
     pub fn close(&mut self) -> bool {
-        let first = match self.begin_close() {
-            code::BEGUN => code::WAITING,
+        match self.begin(Call::Close) {
+            code::BEGUN => turn_until(|| self.turn(Call::Close)).code == code::SHUT,
             code => unexpected(code),
-        };
-        match self.code_of(first, Kind::Close) {
-            code::SHUT => true,
-            code::ALREADY => false,
-            told => unexpected(told),
         }
     }
+}
+
+/// The code of a call that was turned once, and gave this one: if it isn't answered yet it is turned on.
+#[inline]
+fn answered(first: u32, turn: impl FnMut() -> u32) -> u32 {
+    match first {
+        code::WAITING => turned(turn),
+        code => code,
+    }
+}
+
+#[inline(never)]
+fn turned(mut turn: impl FnMut() -> u32) -> u32 {
+    turn_until(|| Some(turn()).filter(|&code| code != code::WAITING))
 }
 
 impl Drop for Handle {
     fn drop(&mut self) {
         // An empty handle is answered so, and nothing is done.
-        unsafe { vahepito_drop(&mut self.0) };
+        vahepito_drop(&mut self.0);
     }
 }
 
@@ -368,58 +290,44 @@ pub fn check_library() -> Result<(), OpenError> {
     if linked == VERSION {
         vahepito_sizes(&mut config, &mut pass, &mut item, &mut words_item);
     }
-    let here = (size_of::<Config>(), size_of::<Pass>());
-    let items_here = (size_of::<Item>(), size_of::<WordsItem>());
-    if (config, pass) == here && (item, words_item) == items_here {
+    let here = [size_of::<Config>(), size_of::<Pass>(), size_of::<Item>()];
+    if [config, pass, item] == here && words_item == size_of::<Taken>() {
         return Ok(());
     }
-    Err(OpenError::OtherLibrary {
-        linked,
-        wanted: VERSION,
-    })
+    let wanted = VERSION;
+    Err(OpenError::OtherLibrary { linked, wanted })
 }
 
-/// Handles for so many groups of so many passes.
-fn empty_handles(groups: u32, in_each: u32) -> Vec<Handle> {
-    // Numbers that the library refuses take no memory.
-    let count = if groups <= 8 && in_each <= 64 {
-        groups * in_each
-    } else {
-        0
-    };
-    (0..count).map(|_| Handle::empty()).collect()
-}
-
+/// What an opening tells by this code of the header.
 fn told(code: u32) -> Result<(), OpenError> {
+    use OpenError::*;
+    /// From the code 1 on.
+    const REFUSALS: [OpenError; 7] = [
+        Senders, Receivers, Capacity, Bound, Life, PerSender, NoMemory,
+    ];
     match code {
-        code::DONE => Ok(()),
-        code::BAD_SENDERS => Err(OpenError::Senders),
-        code::BAD_RECEIVERS => Err(OpenError::Receivers),
-        code::BAD_CAPACITY => Err(OpenError::Capacity),
-        code::BAD_BOUND => Err(OpenError::Bound),
-        code::BAD_LIFE => Err(OpenError::Life),
-        code::BAD_PER_SENDER => Err(OpenError::PerSender),
-        code::BAD_GROUPS => Err(OpenError::Groups),
-        code::NO_MEMORY => Err(OpenError::NoMemory),
-        code => unexpected(code),
+        0 => Ok(()),
+        26 => Err(Groups),
+        code => Err(*REFUSALS
+            .get(code as usize - 1)
+            .unwrap_or_else(|| unexpected(code))),
     }
 }
 
-/// Opens a queue, and gives the handles of its senders, and those of its receivers group by group.
-pub fn open(
-    config: &Config,
-    groups: u32,
-    words: u32,
-) -> Result<(Vec<Handle>, Vec<Handle>), OpenError> {
+/// Opens a queue, and gives the handles of its sides: those of the senders, and then those of each group.
+pub fn open(config: &Config, groups: u32, words: usize) -> Result<Vec<Vec<Handle>>, OpenError> {
     check_library()?;
-    let mut senders = empty_handles(1, config.senders);
-    let mut receivers = empty_handles(groups, config.receivers);
+    // Of numbers that are too large the library refuses even these.
+    let empty = |count: u32| (0..count.min(8 * 64)).map(|_| Handle::empty());
+    let mut senders: Vec<_> = empty(config.senders).collect();
+    let receivers = groups.saturating_mul(config.receivers);
+    let mut receivers: Vec<_> = empty(receivers).collect();
     // SAFETY: the pointers and counts are those of two lists, and the handles of both are empty.
     let code = unsafe {
         vahepito_open_words(
             config,
             groups,
-            words,
+            words as u32,
             senders.as_mut_ptr(),
             senders.len(),
             receivers.as_mut_ptr(),
@@ -427,43 +335,35 @@ pub fn open(
         )
     };
     told(code)?;
-    Ok((senders, receivers))
+    let mut receivers = receivers.into_iter();
+    let group = |_| receivers.by_ref().take(config.receivers as usize).collect();
+    Ok(iter::once(senders).chain((0..groups).map(group)).collect())
 }
 
-/// What the thread sanitizer is told, as the library isn't built for it: what is done before a send on
-/// this channel comes before what is done after a take.
+// SAFETY: the address is a name, and nothing is read there.
 #[cfg(vahepito_tsan)]
-mod sanitizer {
-    use std::ffi::c_void;
-
-    unsafe extern "C" {
-        fn __tsan_release(at: *mut c_void);
-        fn __tsan_acquire(at: *mut c_void);
-    }
-
-    pub fn hands_over<C>(channel: &C) {
-        // SAFETY: the address is a name, and nothing is read there.
-        unsafe { __tsan_release((channel as *const C).cast_mut().cast()) }
-    }
-
-    pub fn has_taken<C>(channel: &C) {
-        // SAFETY: as above.
-        unsafe { __tsan_acquire((channel as *const C).cast_mut().cast()) }
-    }
+unsafe extern "C" {
+    safe fn __tsan_release(at: *const c_void);
+    safe fn __tsan_acquire(at: *const c_void);
 }
 
-#[cfg(not(vahepito_tsan))]
-mod sanitizer {
-    pub fn hands_over<C>(_: &C) {}
-    pub fn has_taken<C>(_: &C) {}
+/// Announces to the thread sanitizer, as the library isn't built for it, that what is done before a send on
+/// this channel comes before what is done after a take.
+pub fn hands_over<C>(_channel: &C) {
+    #[cfg(vahepito_tsan)]
+    __tsan_release((&raw const *_channel).cast());
 }
 
-pub use sanitizer::{hands_over, has_taken};
+/// The same after a take.
+pub fn has_taken<C>(_channel: &C) {
+    #[cfg(vahepito_tsan)]
+    __tsan_acquire((&raw const *_channel).cast());
+}
 
 #[cfg(test)]
 mod tests {
     use super::code::*;
-    use super::{VERSION, check_library};
+    use super::{OpenError, VERSION, check_library, told};
     use std::collections::BTreeMap;
 
     const HEADER: &str = include_str!(env!("VAHEPITO_HEADER"));
@@ -490,34 +390,38 @@ mod tests {
             "NOT_BEGUN",
             "BAD_VERSION",
             "BAD_WORDS",
+            "ALREADY",
+            "FRESH",
             "LONG",
             "WIDE",
         ] {
             assert!(header.remove(never).is_some(), "{never}");
         }
+        for (name, refusal) in [
+            ("BAD_SENDERS", OpenError::Senders),
+            ("BAD_RECEIVERS", OpenError::Receivers),
+            ("BAD_CAPACITY", OpenError::Capacity),
+            ("BAD_BOUND", OpenError::Bound),
+            ("BAD_LIFE", OpenError::Life),
+            ("BAD_PER_SENDER", OpenError::PerSender),
+            ("NO_MEMORY", OpenError::NoMemory),
+            ("BAD_GROUPS", OpenError::Groups),
+        ] {
+            assert_eq!(told(header.remove(name).unwrap()), Err(refusal));
+        }
+        assert_eq!(told(header.remove("DONE").unwrap()), Ok(()));
         let here = [
-            ("DONE", DONE),
-            ("BAD_SENDERS", BAD_SENDERS),
-            ("BAD_RECEIVERS", BAD_RECEIVERS),
-            ("BAD_CAPACITY", BAD_CAPACITY),
-            ("BAD_BOUND", BAD_BOUND),
-            ("BAD_LIFE", BAD_LIFE),
-            ("BAD_PER_SENDER", BAD_PER_SENDER),
-            ("NO_MEMORY", NO_MEMORY),
             ("WORN", WORN),
             ("BEGUN", BEGUN),
             ("WAITING", WAITING),
-            ("FRESH", FRESH),
             ("ACCEPTED", ACCEPTED),
             ("FULL", FULL),
             ("CLOSED", CLOSED),
             ("SPENT", SPENT),
             ("SHUT", SHUT),
-            ("ALREADY", ALREADY),
             ("GOT", GOT),
             ("EMPTY", EMPTY),
             ("ENDED", ENDED),
-            ("BAD_GROUPS", BAD_GROUPS),
         ];
         assert_eq!(header, BTreeMap::from(here));
     }
@@ -527,13 +431,6 @@ mod tests {
         let mut lines = HEADER.lines();
         let version = lines.find_map(|line| line.strip_prefix("#define VAHEPITO_VERSION "));
         assert_eq!(version, Some(VERSION.to_string().as_str()));
-    }
-
-    /// The other codes of an opening are shown by `tests/answers.rs` and `groups.rs`, this one's
-    /// cause by `bindings/c/memory.c`.
-    #[test]
-    fn want_of_memory_is_told() {
-        assert_eq!(super::told(NO_MEMORY), Err(super::OpenError::NoMemory));
     }
 
     #[test]

@@ -7,16 +7,14 @@ mod begun;
 mod config;
 mod error;
 pub(crate) mod handle;
-mod item;
 mod receiver;
 mod sender;
 
-pub use begun::{Pending, Turn};
+pub use begun::{Pass, Pending, Turn};
 pub use config::{Config, open, open_groups};
-pub use error::{OpenError, RecvError, SendError, TryRecvError, TrySendError, Worn};
-pub use item::Item;
-pub use receiver::{IntoIter, PendingRecv, Receiver};
-pub use sender::{Closed, PendingClose, PendingSend, Sender};
+pub use error::{OpenError, RecvError, SendError};
+pub use receiver::{Item, PendingRecv, Receiver, Receivers};
+pub use sender::{Closed, PendingClose, PendingSend, Sender, Senders};
 
 /// What doesn't compile: a pass is neither shared nor cloned, and a guard holds its pass.
 ///

@@ -1,50 +1,47 @@
 //! Receivers.
+use crate::words::RecvError;
 use crate::words::backoff::Backoff;
 use crate::words::begun::{Pass, Pending};
-use crate::words::handle::{Answer, Kind, code, unexpected};
-use crate::words::{Item, RecvError, TryRecvError};
-use std::fmt;
+use crate::words::handle::{Answer, Call, code, unexpected};
 use std::iter::{self, FusedIterator};
 
-/// One receiver of a queue.
-///
-/// It goes to another thread, and is used by one thread at a time: its calls take it by `&mut`, so
-/// there is nothing to share by `&`. It isn't cloned: a queue has as many as it was opened with.
-///
-/// Its drop turns a call that was begun for some rounds, and then leaves it to those that wait in
-/// its group; an item that this call got is lost.
-pub struct Receiver {
-    pass: Pass,
-    number: u32,
+/// An item that was taken.
+#[derive(Clone, Copy, Debug, PartialEq, Eq, Hash)]
+#[repr(C)]
+pub struct Item {
+    /// Which of the items it is that the queue accepted, from 0.
+    pub place: u64,
+    /// The number of its sender, from 1.
+    pub sender: u32,
+    /// Which of its sender's sends it is, from 1. Sends that weren't accepted count too.
+    pub number: u32,
+    /// What was sent.
+    pub body: u64,
 }
 
-/// A take that was begun: see [Guards](crate::words#guards).
-pub type PendingRecv<'a> = Pending<'a, Result<Item, TryRecvError>>;
+/// The side of the receivers of a group.
+pub enum Receivers {}
 
-fn taken(answer: &Answer) -> Result<Item, TryRecvError> {
-    let total = answer.told.number;
-    match answer.told.code {
+/// One receiver of a queue. An item that it got is lost if it is dropped before it gave it.
+pub type Receiver = Pass<Receivers>;
+
+/// A take that was begun: see [Guards](crate::words#guards).
+pub type PendingRecv<'a> = Pending<'a, Receivers, Result<Item, RecvError>>;
+
+fn taken(answer: &Answer) -> Result<Item, RecvError> {
+    let total = answer.number;
+    match answer.code {
         code::GOT => Ok(answer.item),
-        code::EMPTY => Err(TryRecvError::Empty),
-        code::ENDED => Err(TryRecvError::Ended { total }),
+        code::EMPTY => Err(RecvError::Empty),
+        code::ENDED => Err(RecvError::Ended { total }),
         code => unexpected(code),
     }
 }
 
 impl Receiver {
-    pub(crate) fn new(pass: Pass, number: usize) -> Receiver {
-        let number = number as u32 + 1;
-        Receiver { pass, number }
-    }
-
-    /// Its number among the receivers of all groups, from 1.
-    pub fn number(&self) -> u32 {
-        self.number
-    }
-
     /// Its group, from 1. A queue of [`open`](crate::words::open) has one.
     pub fn group(&self) -> u32 {
-        self.pass.at().0 as u32
+        self.side as u32
     }
 
     /// Takes an item, if there is one for its group.
@@ -55,13 +52,13 @@ impl Receiver {
     ///
     /// # Errors
     ///
-    /// See [`TryRecvError`].
+    /// See [`RecvError`].
     ///
     /// ```
-    /// use vahepito::words::{Config, TryRecvError, open};
+    /// use vahepito::words::{Config, RecvError, open};
     ///
     /// let (mut senders, mut receivers) = open(Config::new(2, 1, 4))?;
-    /// assert_eq!(receivers[0].try_recv(), Err(TryRecvError::Empty));
+    /// assert_eq!(receivers[0].try_recv(), Err(RecvError::Empty));
     /// senders[1].send(7).unwrap();
     /// let item = receivers[0].try_recv().unwrap();
     /// // The first that was accepted, the second sender's first.
@@ -69,19 +66,14 @@ impl Receiver {
     /// # Ok::<(), vahepito::OpenError>(())
     /// ```
     #[inline]
-    pub fn try_recv(&mut self) -> Result<Item, TryRecvError> {
-        loop {
-            if let Some(item) = self.pass.kept.take() {
-                return Ok(item);
-            }
-            let answer = self.pass.handle.try_take();
-            match answer.told.code {
-                code::GOT => return Ok(answer.item),
-                code::WAITING => return taken(&self.pass.wait(Kind::Take)),
-                _ if self.pass.stands => self.pass.settle(),
-                _ => return taken(&answer),
-            }
+    pub fn try_recv(&mut self) -> Result<Item, RecvError> {
+        if let Some(begun) = self.settle(true)
+            && begun.code == code::GOT
+        {
+            return Ok(begun.item);
         }
+        let first = self.handle.try_take();
+        taken(&self.answered(Call::Take, first))
     }
 
     /// Takes an item, and tries again as long as there is none for its group and the queue is open.
@@ -95,16 +87,10 @@ impl Receiver {
         let mut backoff = Backoff::new();
         loop {
             match self.try_recv() {
-                Ok(item) => return Ok(item),
-                Err(TryRecvError::Ended { total }) => return Err(RecvError { total }),
-                Err(TryRecvError::Empty) => backoff.between_tries(),
+                Err(RecvError::Empty) => backoff.between_tries(),
+                taken => return taken,
             }
         }
-    }
-
-    /// Takes items until the end, by [`recv`](Receiver::recv).
-    pub fn iter(&mut self) -> impl FusedIterator<Item = Item> {
-        iter::from_fn(|| self.recv().ok()).fuse()
     }
 
     /// Takes items as long as there are some, by [`try_recv`](Receiver::try_recv).
@@ -128,48 +114,21 @@ impl Receiver {
     /// # Ok::<(), vahepito::OpenError>(())
     /// ```
     pub fn begin(&mut self) -> PendingRecv<'_> {
-        self.pass.settle();
-        if self.pass.kept.is_some() {
-            return self.pass.pending(taken);
-        }
-        let code = self.pass.handle.begin_take();
-        self.pass.begin(Kind::Take, code, taken)
+        let begun = self.settle(false);
+        if begun.is_none_or(|it| it.code != code::GOT) {
+            self.begin_call(Call::Take).expect("a receiver isn't worn");
+        } // else its item is this guard's
+        self.guard(taken)
     }
 }
 
-impl Drop for Receiver {
-    fn drop(&mut self) {
-        self.pass.leave();
-    }
-}
-
-impl fmt::Debug for Receiver {
-    fn fmt(&self, f: &mut fmt::Formatter<'_>) -> fmt::Result {
-        f.debug_struct("Receiver")
-            .field("number", &self.number)
-            .finish_non_exhaustive()
-    }
-}
-
-/// Takes items until the end, and has the receiver.
-#[derive(Debug)]
-pub struct IntoIter(Receiver);
-
-impl Iterator for IntoIter {
+/// Takes items until the end, by [`recv`](Receiver::recv).
+impl Iterator for Receiver {
     type Item = Item;
 
     fn next(&mut self) -> Option<Item> {
-        self.0.recv().ok()
+        self.recv().ok()
     }
 }
 
-impl FusedIterator for IntoIter {}
-
-impl IntoIterator for Receiver {
-    type Item = Item;
-    type IntoIter = IntoIter;
-
-    fn into_iter(self) -> IntoIter {
-        IntoIter(self)
-    }
-}
+impl FusedIterator for Receiver {}
