@@ -135,7 +135,6 @@ impl<T> Parcel<T> {
     /// # Safety
     ///
     /// The parcel isn't used after this.
-    #[inline]
     unsafe fn open(&self) -> Option<T> {
         let Some(at) = self.pointer() else {
             // SAFETY: the words are the item, by `pack`.

@@ -132,7 +132,6 @@ impl<T> Core<T> {
     }
 
     /// How many items this group hasn't taken; for the senders, some group that has receivers.
-    #[inline]
     pub fn len(&self, side: usize) -> usize {
         let sent = self.senders.seats.count();
         let len = |group: &Side| sent.saturating_sub(group.seats.count()) as usize;

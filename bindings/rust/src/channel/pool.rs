@@ -35,6 +35,8 @@ pub struct Pass {
 #[repr(align(128))]
 struct Seat {
     taken: AtomicBool,
+    /// Its number among the seats, from 1.
+    number: usize,
     /// How many items went through it. The holder alone writes it.
     count: AtomicU64,
     pass: UnsafeCell<Pass>,
@@ -49,6 +51,8 @@ unsafe impl Sync for Seat where Pass: Send {}
 pub struct Pool {
     /// A power of two.
     seats: Box<[Seat]>,
+    /// How many seats there are up to the last one that an item went through.
+    used: AtomicUsize,
     /// Where callers wait for a free seat.
     free: Event,
 }
@@ -71,6 +75,9 @@ impl Held<'_> {
     #[inline]
     pub fn count_one(&mut self) {
         let count = self.seat.count.load(Ordering::Relaxed);
+        if count == 0 {
+            self.pool.used.fetch_max(self.seat.number, Ordering::AcqRel);
+        }
         self.seat.count.store(count + 1, Ordering::Release);
     }
 }
@@ -95,13 +102,15 @@ impl Pool {
     /// With a seat for each of these handles, whose number is a power of two.
     pub fn new(handles: Vec<Handle>) -> Pool {
         debug_assert!(handles.len().is_power_of_two());
-        let seat = |handle| Seat {
+        let seat = |(number, handle)| Seat {
             taken: AtomicBool::new(false),
+            number,
             count: AtomicU64::new(0),
             pass: UnsafeCell::new(Pass { handle, queue: 0 }),
         };
         Pool {
-            seats: handles.into_iter().map(seat).collect(),
+            seats: (1..).zip(handles).map(seat).collect(),
+            used: AtomicUsize::new(0),
             free: Event::new(),
         }
     }
@@ -109,8 +118,8 @@ impl Pool {
     /// How many items went through all seats.
     #[inline]
     pub fn count(&self) -> u64 {
-        let counts = self.seats.iter().map(|it| it.count.load(Ordering::Acquire));
-        counts.sum()
+        let used = &self.seats[..self.used.load(Ordering::Acquire)];
+        used.iter().map(|it| it.count.load(Ordering::Acquire)).sum()
     }
 
     /// Takes the seat at this place, if it is free.

@@ -43,7 +43,6 @@ impl<T> Receiver<T> {
     /// assert_eq!(receiver.try_recv(), Err(TryRecvError::Disconnected));
     /// # Ok::<(), vahepito::OpenError>(())
     /// ```
-    #[inline]
     pub fn try_recv(&self) -> Result<T, TryRecvError> {
         match self.try_take() {
             Ok(Some(parcel)) => Ok(parcel.unpack()),

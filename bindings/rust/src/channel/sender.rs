@@ -40,7 +40,6 @@ impl<T> Sender<T> {
     /// assert_eq!(sender.try_send('b'), Err(TrySendError::Disconnected('b')));
     /// # Ok::<(), vahepito::OpenError>(())
     /// ```
-    #[inline]
     pub fn try_send(&self, item: T) -> Result<(), TrySendError<T>> {
         let parcel = self.pack(item);
         match self.core().try_send(&parcel) {

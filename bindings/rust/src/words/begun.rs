@@ -1,4 +1,4 @@
-//! The passes of a queue, and the calls that were begun by guards, also of passes that are gone.
+//! The passes of a queue, and the calls that guards have begun.
 use crate::words::backoff::turn_until;
 use crate::words::handle::{Answer, Call, Handle, code, unexpected};
 use crate::words::{Receiver, SendError, Sender};

@@ -67,9 +67,8 @@ impl Receiver {
     /// ```
     #[inline]
     pub fn try_recv(&mut self) -> Result<Item, RecvError> {
-        if let Some(begun) = self.settle(true)
-            && begun.code == code::GOT
-        {
+        let begun = self.settle(true).filter(|it| it.code == code::GOT);
+        if let Some(begun) = begun {
             return Ok(begun.item);
         }
         let first = self.handle.try_take();
