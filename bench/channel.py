@@ -14,6 +14,7 @@ of each round's quotient to the crate of the commit, or to crossbeam where that 
 import argparse
 import os
 import random
+import re
 import shutil
 import statistics
 import subprocess
@@ -25,6 +26,8 @@ TOP = os.path.dirname(HERE)
 OUT = os.path.join(HERE, "channel", "out")
 REGISTRY = "/usr/share/cargo/registry"
 ARCHIVE = os.environ.get("VAHEPITO_LIB", os.path.join(TOP, "crates", "cc_binding", "out", "libcc_binding.a"))
+
+VERSION = r'(?m)(?<=^version = ")\d+\.\d+\.\d+(?="$)'
 
 # What a burst is, its mode and number, its milliseconds, and what it is compared with: "old" or "crossbeam".
 BURSTS = [
@@ -61,13 +64,36 @@ def build(name, crate, peers):
     return os.path.join(room, "target", "release", "channel")
 
 
+def read(path):
+    with open(path) as file:
+        return file.read()
+
+
+def change(path, pattern, text):
+    """Puts this text in the place of the one that the pattern finds."""
+    changed, count = re.subn(pattern, text, read(path))
+    assert count == 1, path
+    with open(path, "w") as file:
+        file.write(changed)
+
+
 def crate_at(commit):
+    """The crate of this commit, which takes the library for one of its own version."""
     room = os.path.join(OUT, "tree")
     shutil.rmtree(room, ignore_errors=True)
     os.makedirs(room)
     archive = subprocess.run(["git", "archive", commit, "bindings"], cwd=TOP, check=True, capture_output=True)
     subprocess.run(["tar", "x", "-C", room], input=archive.stdout, check=True)
-    return os.path.join(room, "bindings", "rust")
+    crate = os.path.join(room, "bindings", "rust")
+    version = re.search(VERSION, read(os.path.join(TOP, "bindings", "rust", "Cargo.toml")))[0]
+    for name in "Cargo.toml", "Cargo.lock":
+        change(os.path.join(crate, name), VERSION, version)
+    # It compares three sizes, where the library tells four.
+    handle = os.path.join(crate, "src", "words", "handle.rs")
+    if "words_item: &mut usize" not in read(handle):
+        change(handle, r"(?<=fn vahepito_sizes\(config: &mut usize, pass: &mut usize, item: &mut usize)(?=\);)", ", _: &mut usize")
+        change(handle, r"(?<=vahepito_sizes\(&mut config, &mut pass, &mut item)(?=\);)", ", &mut 0")
+    return crate
 
 
 def run(program, queue, burst):
