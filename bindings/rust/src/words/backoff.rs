@@ -40,7 +40,6 @@ impl Backoff {
 }
 
 /// Does turns until one of them is answered.
-#[inline]
 pub fn turn_until<T>(mut turn: impl FnMut() -> Option<T>) -> T {
     let mut backoff = Backoff::new();
     loop {

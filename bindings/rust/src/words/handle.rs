@@ -155,7 +155,6 @@ pub struct Answer {
 
 impl Answer {
     /// By a call that writes the number and how many were served, and an item if it is a take.
-    #[inline]
     fn by(call: impl FnOnce(&mut Taken, &mut u64, &mut u32) -> u32) -> Answer {
         let (mut item, mut number, mut served) = (NO_ITEM, 0, 0);
         let code = call(&mut item, &mut number, &mut served);
@@ -262,7 +261,6 @@ impl Handle {
 }
 
 /// The code of a call that was turned once, and gave this one: if it isn't answered yet it is turned on.
-#[inline]
 fn answered(first: u32, turn: impl FnMut() -> u32) -> u32 {
     match first {
         code::WAITING => turned(turn),
