@@ -39,8 +39,8 @@ impl<'a, T, S> CallFuture<'a, T, S> {
         }
     }
 
-    /// One poll: tries, and stays in line; or stands in line, and tries once more. If it doesn't stand
-    /// there and would seem to find nothing, it doesn't try before.
+    /// One poll: tries, unless it would seem to find nothing, and stays in line; or stands in line, and
+    /// tries once more. One that is still in line needs no try: the ring that takes it out is to come.
     fn poll_call<R>(
         &mut self,
         context: &mut Context<'_>,
@@ -48,7 +48,7 @@ impl<'a, T, S> CallFuture<'a, T, S> {
         attempt: impl Fn(&Handle<T, S>) -> Try<R>,
     ) -> Poll<R> {
         let (handle, waker) = (&*self.handle, context.waker());
-        let mut tried = match self.place.is_none() && finds_nothing(handle) {
+        let mut tried = match finds_nothing(handle) {
             true => Err(Again::AtARing),
             false => attempt(handle),
         };
