@@ -26,6 +26,10 @@ enum Fault {
     NoTryAtTheEnd,
     /// A waiter in two lines keeps the ring of the one from which it took nothing.
     SelectKeepsOther,
+    /// One that only waits until there is an item keeps the ring that told it.
+    ReadyKeepsRing,
+    /// One that gives its item back rings for nobody.
+    GivesBackSilently,
 }
 
 #[derive(Clone, Copy, PartialEq, Eq, Hash, Debug)]
@@ -36,6 +40,10 @@ enum Kind {
     HasTime,
     /// A task that waits for one item, and may be dropped between two polls.
     Task,
+    /// Waits until there is an item, and takes none.
+    Ready,
+    /// Waits for one item (as one that selects a send does for room), and gives it back.
+    GivesBack,
     /// Makes items, and rings for each.
     Makes,
     /// Takes an item if there is one, and never waits.
@@ -77,6 +85,8 @@ struct Process {
     ends: bool,
     /// Whether a ring took it out of the line of each channel.
     rung: [bool; 2],
+    /// From which channel it has an item.
+    has: Option<usize>,
 }
 
 impl Process {
@@ -114,6 +124,7 @@ impl State {
                 saw: false,
                 ends: false,
                 rung: [false; 2],
+                has: None,
             };
             process.at = match kind {
                 Kind::Makes if fault == Fault::LookBeforeMaking => {
@@ -140,10 +151,29 @@ impl State {
         at.map(|at| line.remove(at)).is_some()
     }
 
-    fn take(&mut self, channel: usize) -> bool {
+    /// A try of this process. Returns whether it succeeds.
+    fn take(&mut self, who: usize, channel: usize) -> bool {
         let some = self.items[channel] > 0;
-        self.items[channel] -= u8::from(some);
+        if some && self.processes[who].kind != Kind::Ready {
+            self.items[channel] -= 1;
+            self.processes[who].has = Some(channel);
+        }
         some
+    }
+
+    /// At its end a process gives back what it is to give back, and then rings for it.
+    fn gives_back(&mut self, who: usize, fault: Fault) {
+        let process = &mut self.processes[who];
+        let (Kind::GivesBack, At::Done, Some(channel)) = (process.kind, process.at, process.has)
+        else {
+            return;
+        };
+        if fault == Fault::GivesBackSilently {
+            self.items[channel] += 1;
+            return;
+        }
+        process.kind = Kind::Makes;
+        (process.channels, process.makes, process.at) = (1 << channel, 1, At::Make);
     }
 
     /// After a ring in this line.
@@ -177,7 +207,7 @@ impl State {
                 };
                 process.next(channel + 1, At::Stand, looks)
             }
-            At::TryInLine(channel) if next.take(channel) => {
+            At::TryInLine(channel) if next.take(who, channel) => {
                 next.processes[who].ends = true;
                 process.next(0, At::Leave, At::Done)
             }
@@ -204,6 +234,7 @@ impl State {
                 next.processes[who].rung[channel] = !next.remove(who, channel);
                 let keeps = match process.kind {
                     Kind::Task if fault == Fault::DroppedKeepsRing => true,
+                    Kind::Ready if fault == Fault::ReadyKeepsRing => true,
                     _ => fault == Fault::TakerKeepsRing,
                 };
                 let then = match process.ends {
@@ -214,10 +245,12 @@ impl State {
                 };
                 process.next(channel + 1, At::Leave, then)
             }
-            At::TryAgain(channel) if next.take(channel) => {
-                next.processes[who].rung[channel] = false;
+            At::TryAgain(channel) if next.take(who, channel) => {
+                let is_ready = process.kind == Kind::Ready;
+                next.processes[who].rung[channel] &= is_ready;
                 match fault {
                     Fault::SelectKeepsOther => At::Done,
+                    Fault::ReadyKeepsRing if is_ready => At::Done,
                     _ => process.next(0, At::PassOn, At::Done),
                 }
             }
@@ -253,12 +286,13 @@ impl State {
                 next.rings(who, channel, fault)
             }
             At::Steal => {
-                process.channel(0).map(|channel| next.take(channel));
+                process.channel(0).map(|channel| next.take(who, channel));
                 At::Done
             }
             At::Done => return others,
         };
         next.processes[who].at = at;
+        next.gives_back(who, fault);
         others.push(next);
         others
     }
@@ -292,7 +326,7 @@ const ONE: u8 = 1;
 const OTHER: u8 = 2;
 const BOTH: u8 = 3;
 
-const MODELS: [Model; 13] = {
+const MODELS: [Model; 19] = {
     use Kind::*;
     [
         &[(Waits, ONE, 0), (Makes, ONE, 1)],
@@ -359,6 +393,22 @@ const MODELS: [Model; 13] = {
             (Makes, OTHER, 1),
             (Steals, OTHER, 0),
         ],
+        &[(Ready, BOTH, 0), (Waits, ONE, 0), (Makes, ONE, 1)],
+        &[
+            (Ready, BOTH, 0),
+            (Ready, ONE, 0),
+            (Waits, BOTH, 0),
+            (Makes, ONE, 1),
+        ],
+        &[(GivesBack, ONE, 0), (Waits, ONE, 0), (Makes, ONE, 1)],
+        &[(GivesBack, BOTH, 0), (Waits, BOTH, 0), (Makes, OTHER, 1)],
+        &[
+            (GivesBack, BOTH, 0),
+            (Ready, OTHER, 0),
+            (Waits, ONE, 0),
+            (Makes, ONE, 1),
+        ],
+        &[(HasTime, BOTH, 0), (GivesBack, OTHER, 0), (Makes, OTHER, 1)],
     ]
 };
 
@@ -380,6 +430,8 @@ fn the_search_finds_each_fault() {
         Fault::DroppedKeepsRing,
         Fault::NoTryAtTheEnd,
         Fault::SelectKeepsOther,
+        Fault::ReadyKeepsRing,
+        Fault::GivesBackSilently,
     ] {
         let found = MODELS.iter().any(|kinds| search(kinds, fault).is_err());
         assert!(found, "{fault:?}");

@@ -14,7 +14,7 @@
 //!
 //! *Stand*, *take out* and *leave* each hold the line's lock; *check* doesn't. `waiting` is written
 //! under the lock, so that *check* reads the length of the line at some moment. A task that is polled
-//! again while it stands in line keeps its place: its poll is a further *look*.
+//! again while it stands in line keeps its place, and may look once more.
 //!
 //! **What is used of the queue.** A try that begins after *make* was answered finds what it made,
 //! unless another try took it first: all steps of the queue are sequentially consistent, and each step
@@ -50,7 +50,8 @@
 //! over tries once more after it left the line, and so needs no ring. The ring that is passed on ends
 //! at a waiter that tries, or at an empty line. **A waiter in two lines** (of two channels, say) that
 //! takes something from one has given up its tries in the other: it passes on the ring of either line
-//! that took it out.
+//! that took it out. **A waiter that only waits until there is something** leaves it there, and passes on
+//! every ring, that of its own line too. **A waiter that gives back what it took** has made it, and rings.
 //!
 //! **A waker that panics** has woken nobody: the ring is the next waiter's.
 //!
@@ -71,7 +72,7 @@ use std::thread::{self, Thread};
 use std::time::{Duration, Instant};
 
 /// Tries before parking, with spins and yields between: a park costs some microseconds, so few.
-const TRIES: u32 = 12;
+pub const TRIES: u32 = 12;
 /// A line that empties gives memory back above this number of nodes.
 const KEPT: usize = 64;
 
@@ -246,14 +247,14 @@ impl Event {
         })
     }
 
-    /// Leaves the line. A try has to follow, since a ring may have taken this one out.
-    pub fn leave_and_try(&self, ticket: Ticket) {
-        drop(self.with_line(|line| line.remove(ticket)));
+    /// Leaves the line. Returns whether a ring had taken this one out.
+    fn leave(&self, ticket: Ticket) -> bool {
+        self.with_line(|line| line.remove(ticket)).is_none()
     }
 
     /// Leaves the line without a further try: a ring that took this one out is passed on.
     pub fn pass_on(&self, ticket: Ticket) {
-        if self.with_line(|line| line.remove(ticket)).is_none() {
+        if self.leave(ticket) {
             self.ring();
         }
     }
@@ -288,17 +289,51 @@ impl Event {
     }
 }
 
-/// A thread's place in line. Its drop passes on the ring that took it out.
-struct Place<'a>(&'a Event, Ticket);
+/// A thread's place in line. Its drop passes on the ring that took it out, if no try came after it.
+pub struct Place<'a> {
+    event: &'a Event,
+    /// Until it leaves the line.
+    ticket: Option<Ticket>,
+    /// Whether a ring took it out, after which no try was made.
+    rung: bool,
+}
+
+impl<'a> Place<'a> {
+    /// Stands in line. The thread has to try after this, before it parks.
+    pub fn stand(event: &'a Event, parker: &Arc<Parker>) -> Place<'a> {
+        let ticket = Some(event.stand(parker.clone().into()));
+        let rung = false;
+        Place {
+            event,
+            ticket,
+            rung,
+        }
+    }
+
+    /// Leaves the line. A try has to follow, since a ring may have taken this one out.
+    pub fn leave(&mut self) {
+        if let Some(ticket) = self.ticket.take() {
+            self.rung = self.event.leave(ticket);
+        }
+    }
+
+    /// A try was made after it left.
+    pub fn has_tried(&mut self) {
+        self.rung = false;
+    }
+}
 
 impl Drop for Place<'_> {
     fn drop(&mut self) {
-        self.0.pass_on(self.1);
+        self.leave();
+        if self.rung {
+            self.event.ring();
+        }
     }
 }
 
 /// A thread that parks until it is woken.
-struct Parker {
+pub struct Parker {
     thread: Thread,
     woken: AtomicBool,
 }
@@ -321,7 +356,7 @@ thread_local! {
 }
 
 impl Parker {
-    fn get() -> Arc<Parker> {
+    pub fn get() -> Arc<Parker> {
         let parker = PARKERS.try_with(|idle| idle.borrow_mut().pop());
         parker.ok().flatten().unwrap_or_else(|| {
             let (thread, woken) = (thread::current(), AtomicBool::new(false));
@@ -329,13 +364,13 @@ impl Parker {
         })
     }
 
-    fn give_back(self: Arc<Self>) {
+    pub fn give_back(self: Arc<Self>) {
         // If the thread locals are gone already, it goes too.
         let _ = PARKERS.try_with(|idle| idle.borrow_mut().push(self));
     }
 
     /// Until it is woken, or this moment. It may be woken by a ring of an earlier wait.
-    fn park(&self, until: Option<Instant>) {
+    pub fn park(&self, until: Option<Instant>) {
         while !self.woken.swap(false, Ordering::SeqCst) {
             match until.map(|until| until.saturating_duration_since(Instant::now())) {
                 None => thread::park(),
@@ -352,6 +387,16 @@ pub enum Again {
     AtARing,
     /// Or after a millisecond.
     Soon,
+}
+
+impl Again {
+    /// The moment at which it is made without a ring.
+    pub fn moment(self) -> Option<Instant> {
+        match self {
+            Again::AtARing => None,
+            Again::Soon => Some(Instant::now() + Duration::from_millis(1)),
+        }
+    }
 }
 
 /// Tries until it is done, or until this moment: then None. Between the tries it waits for rings.
@@ -384,16 +429,16 @@ fn park_until<R>(
         if until.is_some_and(|until| until <= Instant::now()) {
             return attempt().ok();
         }
-        let place = Place(event, event.stand(parker.clone().into()));
-        let look_again = match attempt() {
+        let mut place = Place::stand(event, parker);
+        let again = match attempt() {
             Ok(done) => return Some(done),
-            Err(Again::AtARing) => None,
-            Err(Again::Soon) => Some(Instant::now() + Duration::from_millis(1)),
+            Err(again) => again.moment(),
         };
-        parker.park(until.into_iter().chain(look_again).min());
-        event.leave_and_try(place.1);
-        forget(place);
-        if let Ok(done) = attempt() {
+        parker.park(until.into_iter().chain(again).min());
+        place.leave();
+        let tried = attempt();
+        place.has_tried();
+        if let Ok(done) = tried {
             return Some(done);
         }
     }
