@@ -17,8 +17,9 @@ pub mod record;
 pub mod words;
 
 pub use channel::{
-    CallFuture, Handle, IntoIter, Iter, Receiver, RecvError, RecvFuture, RecvTimeoutError,
-    SendError, SendFuture, SendTimeoutError, Sender, TryIter, TryRecvError, TrySendError,
-    WeakHandle, WeakReceiver, WeakSender, channel, groups,
+    CallFuture, Handle, IntoIter, Iter, ReadyTimeoutError, Receiver, RecvError, RecvFuture,
+    RecvTimeoutError, Select, SelectTimeoutError, SelectedOperation, SendError, SendFuture,
+    SendTimeoutError, Sender, TryIter, TryReadyError, TryRecvError, TrySelectError, TrySendError,
+    WeakHandle, WeakReceiver, WeakSender, after, at, channel, groups, never, tick,
 };
 pub use words::OpenError;

@@ -53,6 +53,7 @@ fn openings_are_refused_out_of_their_range() {
         assert_eq!(told, OpenError::Groups, "{number}");
     }
     assert!(channel::<[u64; 100]>(4096).is_ok());
+    assert_eq!(groups::<u8>(0, 1).unwrap_err(), OpenError::Capacity);
     assert_eq!(groups::<u8>(1, 8).unwrap().1.len(), 8);
 }
 

@@ -9,12 +9,13 @@
 //! takes no other lock. Code of others (an item's drop or copy, a waker) runs while none is held.
 use super::body::{Copies, Parcel, words_of};
 use super::event::{Again, Event, Panic, keep_first, let_be, lock, panic_of};
-use super::pool::{Pass, Pool};
+use super::pool::{Held, Pass, Pool};
+use super::select::Kept;
+use super::timer::Timer;
 use crate::words::backoff::turn_until;
 use crate::words::handle::{self, Handle, code, hands_over, has_taken, unexpected};
 use crate::words::{Config, OpenError};
 use std::iter;
-use std::marker::PhantomData;
 use std::panic::resume_unwind;
 use std::sync::Mutex;
 use std::sync::atomic::{AtomicBool, AtomicUsize, Ordering};
@@ -47,6 +48,12 @@ impl Side {
     }
 }
 
+/// What a channel has in the place of a queue.
+pub enum Special<T> {
+    /// It is a receiver of moments.
+    Timer(Timer<T>),
+}
+
 /// What changes with the queue.
 pub struct State {
     /// The number of the queue, from 0.
@@ -58,14 +65,17 @@ pub struct State {
 pub struct Core<T> {
     pub config: Config,
     pub copies: Option<Copies<T>>,
+    pub special: Option<Special<T>>,
     pub senders: Side,
-    groups: Box<[Side]>,
+    pub groups: Box<[Side]>,
     closed: AtomicBool,
     /// How many groups the queue has. It changes while all seats are taken.
     pub shares: AtomicUsize,
-    state: Mutex<State>,
-    /// Items go through it: it is `Send` and `Sync` if they are `Send`.
-    items: PhantomData<Mutex<T>>,
+    pub state: Mutex<State>,
+    /// How much room is reserved for selected sends. It grows while all senders' seats are taken.
+    pub reserved: AtomicUsize,
+    /// The items of selected takes. By it this is `Send` and `Sync` if items are `Send`.
+    pub kept: Mutex<Kept<T>>,
 }
 
 /// Drops each of these, and gives the first panic.
@@ -87,12 +97,28 @@ fn go_on(panic: Option<Panic>) {
 impl<T> Core<T> {
     /// Opens a channel. Its groups share items if there is a function that copies them.
     pub fn open(config: Config, groups: u32, copies: Option<Copies<T>>) -> Result<Self, OpenError> {
-        let mut sides = handle::open(&config, groups, words_of(copies))?.into_iter();
-        let senders = sides.next().map(Side::new).expect("a queue has senders");
-        let groups: Box<[Side]> = sides.map(Side::new).collect();
-        Ok(Core {
+        let sides = handle::open(&config, groups, words_of(copies))?;
+        Ok(Core::new(config, copies, sides, None))
+    }
+
+    /// A channel without a queue.
+    pub fn special(config: Config, special: Special<T>) -> Core<T> {
+        Core::new(config, None, [vec![], vec![]], Some(special))
+    }
+
+    fn new(
+        config: Config,
+        copies: Option<Copies<T>>,
+        sides: impl IntoIterator<Item = Vec<Handle>>,
+        special: Option<Special<T>>,
+    ) -> Core<T> {
+        let mut sides = sides.into_iter().map(Side::new);
+        let senders = sides.next().expect("a channel has senders");
+        let groups: Box<[Side]> = sides.collect();
+        Core {
             config,
             copies,
+            special,
             senders,
             closed: AtomicBool::new(false),
             shares: AtomicUsize::new(groups.len()),
@@ -101,8 +127,14 @@ impl<T> Core<T> {
                 groups: (1..=groups.len()).collect(),
             }),
             groups,
-            items: PhantomData,
-        })
+            reserved: AtomicUsize::new(0),
+            kept: Mutex::default(),
+        }
+    }
+
+    pub fn timer(&self) -> Option<&Timer<T>> {
+        let Special::Timer(timer) = self.special.as_ref()?;
+        Some(timer)
     }
 
     /// The side of the senders, which is 0, or of this group, from 1.
@@ -133,6 +165,9 @@ impl<T> Core<T> {
 
     /// How many items this group hasn't taken; for the senders, some group that has receivers.
     pub fn len(&self, side: usize) -> usize {
+        if let Some(timer) = self.timer() {
+            return timer.len();
+        }
         let sent = self.senders.seats.count();
         let len = |group: &Side| sent.saturating_sub(group.seats.count()) as usize;
         let len = match side {
@@ -154,24 +189,49 @@ impl<T> Core<T> {
     #[inline]
     pub fn try_send(&self, parcel: &Parcel<T>) -> Try<bool> {
         let mut seat = self.senders.seats.take();
+        if self.reserved.load(Ordering::Relaxed) != 0 {
+            drop(seat);
+            return self.send_beside_reserved(parcel);
+        }
+        let sent = self.send_by(&mut seat, parcel);
+        drop(seat);
+        match sent {
+            Ok(()) => self.ring_for_item(),
+            Err(refusal) => return self.go_on_sending(parcel, refusal),
+        }
+        Ok(true)
+    }
+
+    /// Sends by this seat. If it isn't sent, gives the code, and the number of the queue.
+    #[inline]
+    pub fn send_by(&self, seat: &mut Held, parcel: &Parcel<T>) -> Result<(), (u32, u64)> {
         parcel.is_for(self.shares.load(Ordering::Relaxed));
         hands_over(self);
         let pass = seat.pass();
         let code = pass.handle.send(&parcel.words, words_of(self.copies));
         if code != code::ACCEPTED {
-            let queue = pass.queue;
-            drop(seat);
-            return self.go_on_sending(parcel, code, queue);
+            return Err((code, pass.queue));
         }
         seat.count_one();
-        drop(seat);
-        self.groups.iter().for_each(|group| group.line.ring());
-        Ok(true)
+        Ok(())
     }
 
-    /// Goes on when this queue didn't accept an item.
+    #[inline]
+    pub fn ring_for_item(&self) {
+        self.groups.iter().for_each(|group| group.line.ring());
+    }
+
     #[cold]
-    fn go_on_sending(&self, parcel: &Parcel<T>, code: u32, queue: u64) -> Try<bool> {
+    pub fn go_on_sending(&self, parcel: &Parcel<T>, refusal: (u32, u64)) -> Try<bool> {
+        match self.goes_on(parcel, refusal)? {
+            true => self.try_send(parcel),
+            false => Ok(false),
+        }
+    }
+
+    /// Goes on when this queue didn't accept an item. Returns whether a further try is to be made; if not,
+    /// the channel is closed.
+    pub fn goes_on(&self, parcel: &Parcel<T>, (code, queue): (u32, u64)) -> Try<bool> {
         parcel.is_for(1);
         // Whether a lost group is in the queue, and holds up the others.
         let is_stale = self.shares.load(Ordering::SeqCst) != self.alive();
@@ -193,12 +253,15 @@ impl<T> Core<T> {
         // The item isn't sent yet, but this call may go on for others: it doesn't panic.
         let_be(drop_all(let_go));
         let_be(self.senders.line.ring_for_all());
-        self.try_send(parcel)
+        Ok(true)
     }
 
     /// Tries to take an item for a group. Gives None at the end of the channel.
     #[inline]
     pub fn try_recv(&self, group: usize) -> Try<Option<Parcel<T>>> {
+        if let Some(special) = &self.special {
+            return self.try_recv_special(special);
+        }
         let mut seat = self.side(group).seats.take();
         match self.take_by(seat.pass()) {
             Ok(parcel) => {
@@ -215,6 +278,15 @@ impl<T> Core<T> {
             }
             Err(code) => unexpected(code),
         }
+    }
+
+    #[cold]
+    fn try_recv_special(&self, special: &Special<T>) -> Try<Option<Parcel<T>>> {
+        let item = match special {
+            _ if self.is_closed() => None,
+            Special::Timer(timer) => Some(timer.try_take()?),
+        };
+        Ok(item.map(|item| Parcel::pack(item, None)))
     }
 
     #[allow(unsafe_code)]
@@ -235,6 +307,10 @@ impl<T> Core<T> {
     }
 
     fn close_queue(&self) -> bool {
+        match &self.special {
+            None => {}
+            Some(Special::Timer(_)) => return !self.closed.swap(true, Ordering::SeqCst),
+        }
         let mut seat = self.senders.seats.take();
         let closed = seat.pass().handle.close();
         // While the seat is taken, so that whoever has all seats knows it.

@@ -115,6 +115,8 @@ struct Line {
     length: usize,
     /// The number of the last ticket: each has one of its own.
     last: u64,
+    /// How many rings there were while somebody was in line.
+    rings: u64,
 }
 
 /// A place in the line of an event, until a ring takes it out.
@@ -122,6 +124,8 @@ struct Line {
 pub struct Ticket {
     at: usize,
     number: u64,
+    /// The rings before it.
+    rings: u64,
 }
 
 impl Line {
@@ -157,7 +161,8 @@ impl Line {
         self.nodes[before].after = at;
         self.nodes[0].before = at;
         self.length += 1;
-        Ticket { at, number }
+        let rings = self.rings;
+        Ticket { at, number, rings }
     }
 
     /// The waker of this ticket, if it is still in line.
@@ -189,6 +194,7 @@ impl Line {
     }
 
     fn pop(&mut self) -> Option<Waker> {
+        self.rings += 1;
         match self.nodes.first()?.after {
             0 => None,
             first => self.take(first),
@@ -210,6 +216,7 @@ impl Event {
                 free: 0,
                 length: 0,
                 last: 0,
+                rings: 0,
             }),
         }
     }
@@ -247,14 +254,16 @@ impl Event {
         })
     }
 
-    /// Leaves the line. Returns whether a ring had taken this one out.
-    fn leave(&self, ticket: Ticket) -> bool {
-        self.with_line(|line| line.remove(ticket)).is_none()
+    /// Leaves the line. Returns whether a ring had taken this one out, and whether there was a ring at all.
+    fn leave(&self, ticket: Ticket) -> (bool, bool) {
+        let leave = |line: &mut Line| (line.remove(ticket), line.rings != ticket.rings);
+        let (waker, was_rung) = self.with_line(leave);
+        (waker.is_none(), was_rung)
     }
 
     /// Leaves the line without a further try: a ring that took this one out is passed on.
     pub fn pass_on(&self, ticket: Ticket) {
-        if self.leave(ticket) {
+        if self.leave(ticket).0 {
             self.ring();
         }
     }
@@ -310,11 +319,20 @@ impl<'a> Place<'a> {
         }
     }
 
-    /// Leaves the line. A try has to follow, since a ring may have taken this one out.
-    pub fn leave(&mut self) {
-        if let Some(ticket) = self.ticket.take() {
-            self.rung = self.event.leave(ticket);
-        }
+    /// Leaves the line. A try has to follow, since a ring may have taken this one out. Returns whether there
+    /// was a ring at all since it stood there.
+    pub fn leave(&mut self) -> bool {
+        let ticket = self.ticket.take();
+        ticket.is_some_and(|ticket| {
+            let (rung, was_rung) = self.event.leave(ticket);
+            self.rung = rung;
+            was_rung
+        })
+    }
+
+    /// Whether a ring took it out.
+    pub fn is_rung(&self) -> bool {
+        self.rung
     }
 
     /// A try was made after it left.
@@ -387,6 +405,8 @@ pub enum Again {
     AtARing,
     /// Or after a millisecond.
     Soon,
+    /// Or at this moment.
+    At(Instant),
 }
 
 impl Again {
@@ -395,6 +415,7 @@ impl Again {
         match self {
             Again::AtARing => None,
             Again::Soon => Some(Instant::now() + Duration::from_millis(1)),
+            Again::At(moment) => Some(moment),
         }
     }
 }

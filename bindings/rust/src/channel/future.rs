@@ -4,7 +4,7 @@ use super::body::Parcel;
 use super::core::Try;
 use super::event::{Again, Ticket};
 use super::side::Handle;
-use super::{RecvError, SendError, Sender};
+use super::{Receiver, RecvError, SendError, Sender};
 use crate::words::{Receivers, Senders};
 use std::borrow::Cow;
 use std::pin::Pin;
@@ -62,7 +62,7 @@ impl<'a, T, S> CallFuture<'a, T, S> {
                 self.leave();
                 return Poll::Ready(done);
             }
-            Err(Again::Soon) => waker.wake_by_ref(),
+            Err(Again::Soon | Again::At(_)) => waker.wake_by_ref(),
             Err(Again::AtARing) => {}
         }
         Poll::Pending
@@ -86,7 +86,9 @@ impl<T> Future for RecvFuture<'_, T> {
     type Output = Result<T, RecvError>;
 
     fn poll(mut self: Pin<&mut Self>, context: &mut Context<'_>) -> Poll<Self::Output> {
-        let taken = self.poll_call(context, Handle::is_empty, Handle::try_take);
+        // Nobody rings for a moment.
+        let seems_empty = |it: &Receiver<T>| it.is_empty() && it.core().timer().is_none();
+        let taken = self.poll_call(context, seems_empty, Handle::try_take);
         taken.map(|parcel| parcel.map(Parcel::unpack).ok_or(RecvError))
     }
 }

@@ -9,20 +9,28 @@ mod linear;
 mod pool;
 mod receiver;
 mod renew;
+mod reserve;
 #[cfg(test)]
 mod rounds;
+mod select;
+mod select_macro;
 mod sender;
 mod side;
 #[cfg(test)]
 mod tests;
+mod timer;
 
 pub use error::{
     RecvError, RecvTimeoutError, SendError, SendTimeoutError, TryRecvError, TrySendError,
 };
 pub use future::{CallFuture, RecvFuture, SendFuture};
 pub use receiver::{IntoIter, Iter, Receiver, TryIter, WeakReceiver};
+pub use select::{
+    ReadyTimeoutError, Select, SelectTimeoutError, SelectedOperation, TryReadyError, TrySelectError,
+};
 pub use sender::{Sender, WeakSender};
 pub use side::{Handle, WeakHandle};
+pub use timer::{after, at, never, tick};
 
 use self::body::Copies;
 use self::core::Core;
@@ -36,6 +44,8 @@ shows! {
     Debug [T] WeakReceiver<T>, "WeakReceiver { .. }";
     Debug [T] SendFuture<'_, T>, "SendFuture { .. }";
     Debug [T] RecvFuture<'_, T>, "RecvFuture { .. }";
+    Debug [] Select<'_>, "Select { .. }";
+    Debug [] SelectedOperation<'_>, "SelectedOperation { .. }";
 }
 
 /// The configuration of the queues of a channel.

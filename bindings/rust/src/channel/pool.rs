@@ -101,7 +101,7 @@ thread_local! {
 impl Pool {
     /// With a seat for each of these handles, whose number is a power of two.
     pub fn new(handles: Vec<Handle>) -> Pool {
-        debug_assert!(handles.len().is_power_of_two());
+        debug_assert!(handles.is_empty() || handles.len().is_power_of_two());
         let seat = |(number, handle)| Seat {
             taken: AtomicBool::new(false),
             number,
@@ -151,9 +151,14 @@ impl Pool {
         wait(&self.free, None, first_free).expect("it waits without end")
     }
 
+    /// Takes each seat once it is free.
+    pub fn take_each(&self) -> impl Iterator<Item = Held<'_>> {
+        let take = |at| turn_until(|| self.try_take(at));
+        (0..self.seats.len()).map(take)
+    }
+
     /// Takes all seats, each once it is free.
     pub fn take_all(&self) -> Vec<Held<'_>> {
-        let take = |at| turn_until(|| self.try_take(at));
-        (0..self.seats.len()).map(take).collect()
+        self.take_each().collect()
     }
 }

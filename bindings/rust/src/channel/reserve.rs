@@ -1,0 +1,120 @@
+//! Room that is reserved for selected sends, and the looks of a select: see [`select`](super::select).
+use super::body::Parcel;
+use super::core::{Core, Side, Try};
+use super::event::{Again, lock};
+use super::pool::Pool;
+use crate::words::backoff::Backoff;
+use std::sync::atomic::Ordering;
+
+/// Waits until whoever has a seat has counted what went through it.
+fn settle(seats: &Pool) {
+    seats.take_each().for_each(drop);
+}
+
+impl<T> Core<T> {
+    /// Whether there seems to be an item for this group, or none will come. If it says no, there was none at
+    /// some moment of this call.
+    pub fn seems_to_have_item(&self, group: usize) -> Try<()> {
+        // In this order, so that the number of items is never too small.
+        let has_item = || {
+            let taken = self.side(group).seats.count();
+            taken < self.senders.seats.count()
+        };
+        if !has_item() {
+            settle(&self.senders.seats);
+        }
+        match has_item() || self.is_closed() {
+            true => Ok(()),
+            false => Err(Again::AtARing),
+        }
+    }
+
+    /// Whether there seems to be room that isn't reserved, or none will come. If it says no, there was none at
+    /// some moment of this call.
+    pub fn seems_to_have_room(&self) -> Try<()> {
+        // In this order, so that the number of items is never too large.
+        let sent = self.senders.seats.count();
+        let reserved = self.reserved.load(Ordering::SeqCst);
+        let is_full = |seats: &Pool| {
+            let items = sent.saturating_sub(seats.count()) as usize;
+            items + reserved >= self.capacity()
+        };
+        let is_full =
+            self.groups
+                .iter()
+                .filter(|it| !it.is_lost())
+                .any(|Side { seats, .. }| {
+                    // The look without the seats is cheaper.
+                    is_full(seats) && {
+                        settle(seats);
+                        is_full(seats)
+                    }
+                });
+        match is_full && !self.is_closed() {
+            true => Err(Again::AtARing),
+            false => Ok(()),
+        }
+    }
+
+    /// Reserves room for one send. Returns whether it has; if not, the channel is closed.
+    pub fn reserve(&self) -> Try<bool> {
+        self.seems_to_have_room()?;
+        let _state = lock(&self.state);
+        let _seats = self.senders.seats.take_all();
+        if self.is_closed() {
+            return Ok(false);
+        }
+        self.seems_to_have_room()?;
+        self.reserved.fetch_add(1, Ordering::SeqCst);
+        Ok(true)
+    }
+
+    /// Gives back room that was reserved.
+    pub fn give_back_room(&self) {
+        self.reserved.fetch_sub(1, Ordering::SeqCst);
+        self.senders.line.ring();
+    }
+
+    /// Sends to room that was reserved. Returns whether it is sent; if not, the channel is closed.
+    pub fn send_to_room(&self, parcel: &Parcel<T>) -> bool {
+        let mut backoff = Backoff::new();
+        loop {
+            let mut seat = self.senders.seats.take();
+            let Err(refusal) = self.send_by(&mut seat, parcel) else {
+                // While the seat is taken, so that nobody counts both the item and its room.
+                self.reserved.fetch_sub(1, Ordering::SeqCst);
+                drop(seat);
+                self.ring_for_item();
+                return true;
+            };
+            drop(seat);
+            match self.goes_on(parcel, refusal) {
+                Ok(true) => {}
+                Ok(false) => {
+                    self.give_back_room();
+                    return false;
+                }
+                // Memory is wanting for a further queue.
+                Err(_) => backoff.between_tries(),
+            }
+        }
+    }
+
+    /// Tries to send while room is reserved for others. No other send is on its way then.
+    #[cold]
+    pub fn send_beside_reserved(&self, parcel: &Parcel<T>) -> Try<bool> {
+        let state = lock(&self.state);
+        let mut seats = self.senders.seats.take_all();
+        self.seems_to_have_room()?;
+        let sent = self.send_by(&mut seats[0], parcel);
+        drop(seats);
+        drop(state);
+        match sent {
+            Ok(()) => {
+                self.ring_for_item();
+                Ok(true)
+            }
+            Err(refusal) => self.go_on_sending(parcel, refusal),
+        }
+    }
+}

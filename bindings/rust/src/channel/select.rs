@@ -1,0 +1,553 @@
+//! One of several operations, over channels of any types: [`Select`] and [`select!`](crate::select!).
+//!
+//! A select tries each operation, in an order by chance. If none is ready, its thread stands in the line of
+//! each, and goes on as [`event`](super::event) says of a waiter in several lines: it looks, parks until one
+//! of the lines rings, leaves all, and tries again. It passes on the ring of each line from which it takes
+//! nothing. So no wake-up is lost, and while it is blocked it costs nothing.
+//!
+//! **None is ready**, it says after its time only if that was so at one moment: while it stood in all lines
+//! and looked, nobody rang in any of them.
+//!
+//! **A selected take has its item.** The try is the take itself, so there is one, and no other receiver gets
+//! the item. The channel keeps it until [`SelectedOperation::recv`] hands it over.
+//!
+//! **A selected send has its room**, since its item may come after the selection. `Core::reserve` counts a
+//! place as reserved, while it has all the senders' seats: no send is on its way then. Each other send sees
+//! by its seat that places are reserved; it then takes all seats too, and leaves those places free. So items
+//! and reserved places together are never more than the capacity, and [`SelectedOperation::send`] finds room
+//! without waiting. A send that gives its place back rings for room.
+//!
+//! **Room and items are counted here**, not asked of the queue: a send and a take each count by their seat,
+//! give it back, and then look whether somebody waits. A look takes each of those seats, and gives it back. A
+//! holder before that has counted; a holder after that sees the waiter in line. So a look that finds nothing
+//! is the look of [`event`](super::event)'s argument: at some moment of it there was nothing.
+use super::core::Try;
+use super::event::{Event, Parker, Place, TRIES, lock};
+use super::{Receiver, RecvError, SendError, Sender};
+use crate::words::backoff::Backoff;
+use std::cell::Cell;
+use std::ptr::addr_eq;
+use std::sync::Arc;
+use std::sync::atomic::{AtomicU64, Ordering};
+use std::time::{Duration, Instant};
+
+/// How a selected operation stands, until it is completed.
+pub enum Begun {
+    /// The channel keeps the item under this number.
+    Kept(u64),
+    /// A place is reserved.
+    Room,
+    /// The channel is closed.
+    Closed,
+    /// It was only looked at.
+    Nothing,
+}
+
+/// An operation of a select.
+pub trait Case {
+    /// Where one waits for it.
+    fn line(&self) -> &Event;
+    /// Begins it, if it is ready.
+    fn begin(&self) -> Try<Begun>;
+    /// Whether it is ready. It may say so though it isn't.
+    fn look(&self) -> Try<()>;
+    /// It isn't completed.
+    fn give_up(&self, begun: Begun);
+}
+
+/// The items of selected takes.
+pub struct Kept<T> {
+    last: u64,
+    items: Vec<(u64, T)>,
+}
+
+impl<T> Default for Kept<T> {
+    fn default() -> Kept<T> {
+        let items = vec![];
+        Kept { last: 0, items }
+    }
+}
+
+impl<T> Kept<T> {
+    pub fn put(&mut self, item: T) -> u64 {
+        self.last += 1;
+        self.items.push((self.last, item));
+        self.last
+    }
+
+    pub fn take(&mut self, number: u64) -> Option<T> {
+        let at = self.items.iter().position(|(other, _)| *other == number)?;
+        Some(self.items.swap_remove(at).1)
+    }
+}
+
+impl<T> Case for Receiver<T> {
+    fn line(&self) -> &Event {
+        Receiver::line(self)
+    }
+
+    fn begin(&self) -> Try<Begun> {
+        let taken = self.try_take()?;
+        Ok(taken.map_or(Begun::Closed, |parcel| {
+            let item = parcel.unpack();
+            Begun::Kept(lock(&self.core().kept).put(item))
+        }))
+    }
+
+    fn look(&self) -> Try<()> {
+        match self.core().timer() {
+            Some(timer) => timer.look(),
+            None => self.core().seems_to_have_item(self.side()),
+        }
+    }
+
+    fn give_up(&self, begun: Begun) {
+        drop(self.completed(begun));
+    }
+}
+
+impl<T> Receiver<T> {
+    /// The item of a selected take.
+    fn completed(&self, begun: Begun) -> Result<T, RecvError> {
+        let Begun::Kept(number) = begun else {
+            return Err(RecvError);
+        };
+        lock(&self.core().kept).take(number).ok_or(RecvError)
+    }
+}
+
+impl<T> Case for Sender<T> {
+    fn line(&self) -> &Event {
+        Sender::line(self)
+    }
+
+    fn begin(&self) -> Try<Begun> {
+        match self.core().reserve()? {
+            true => Ok(Begun::Room),
+            false => Ok(Begun::Closed),
+        }
+    }
+
+    fn look(&self) -> Try<()> {
+        self.core().seems_to_have_room()
+    }
+
+    fn give_up(&self, begun: Begun) {
+        if let Begun::Room = begun {
+            self.core().give_back_room();
+        }
+    }
+}
+
+impl<T> Sender<T> {
+    /// Sends by a selected send.
+    fn complete(&self, begun: Begun, item: T) -> Result<(), SendError<T>> {
+        let Begun::Room = begun else {
+            return Err(SendError(item));
+        };
+        let parcel = self.pack(item);
+        match self.core().send_to_room(&parcel) {
+            true => parcel.sent(),
+            false => Err(SendError(parcel.unpack())),
+        }
+    }
+}
+
+#[derive(Clone, Copy)]
+struct Entry<'a> {
+    index: usize,
+    case: &'a dyn Case,
+}
+
+/// Tries each of these once: begins it, or only looks. Gives the place of the first that is done; if none is,
+/// when to try again though nobody rings.
+fn try_each(entries: &[Entry], begins: bool) -> Result<(usize, Begun), Option<Instant>> {
+    let mut moment = None;
+    for (place, Entry { case, .. }) in entries.iter().enumerate() {
+        let tried = match begins {
+            true => case.begin(),
+            false => case.look().map(|()| Begun::Nothing),
+        };
+        match tried {
+            Ok(begun) => return Ok((place, begun)),
+            Err(again) => moment = again.moment().into_iter().chain(moment).min(),
+        }
+    }
+    Err(moment)
+}
+
+/// A number below this one, by chance.
+fn by_chance(limit: usize) -> usize {
+    thread_local! {
+        static LAST: Cell<u64> = const { Cell::new(0) };
+    }
+    static THREADS: AtomicU64 = AtomicU64::new(1);
+    let mut number = match LAST.get() {
+        0 => THREADS
+            .fetch_add(1, Ordering::Relaxed)
+            .wrapping_mul(0x9e37_79b9_7f4a_7c15),
+        last => last,
+    };
+    number ^= number << 13;
+    number ^= number >> 7;
+    number ^= number << 17;
+    LAST.set(number);
+    (number >> 11) as usize % limit
+}
+
+/// Waits until one of several operations is ready, and makes it, or says which it is.
+///
+/// Add operations by [`recv`](Select::recv) and [`send`](Select::send), which give their indices: 0, 1, and
+/// so on. Then [`select`](Select::select) begins one that is ready, and [`SelectedOperation`] completes it;
+/// [`ready`](Select::ready) only says that one is. The channels may have items of different types. An
+/// operation of a channel that is closed is ready: it gives the error. [`select!`](crate::select!) is a
+/// shorter form.
+///
+/// If several are ready, chance decides, unless the select [is biased](Select::new_biased). One with no
+/// operation waits until its time is over.
+///
+/// ```
+/// use vahepito::{Select, channel};
+///
+/// let (numbers, words) = (channel::<u32>(1)?, channel::<String>(1)?);
+/// words.0.send("hello".to_string()).unwrap();
+/// let mut select = Select::new();
+/// let number = select.recv(&numbers.1);
+/// let word = select.recv(&words.1);
+/// let operation = select.select();
+/// assert_eq!(operation.index(), word);
+/// assert_eq!(operation.recv(&words.1).unwrap(), "hello");
+/// assert!(select.try_select().is_err());
+/// let room = select.send(&numbers.0);
+/// let operation = select.select();
+/// assert_eq!(operation.index(), room);
+/// operation.send(&numbers.0, 7).unwrap();
+/// assert_eq!(select.ready(), number);
+/// assert_eq!(numbers.1.try_recv(), Ok(7));
+/// # Ok::<(), vahepito::OpenError>(())
+/// ```
+#[derive(Clone)]
+pub struct Select<'a> {
+    entries: Vec<Entry<'a>>,
+    next: usize,
+    is_biased: bool,
+}
+
+impl<'a> Select<'a> {
+    /// One without operations.
+    pub fn new() -> Select<'a> {
+        Select {
+            entries: vec![],
+            next: 0,
+            is_biased: false,
+        }
+    }
+
+    /// One that prefers the operation with the lowest index.
+    pub fn new_biased() -> Select<'a> {
+        Select {
+            is_biased: true,
+            ..Select::new()
+        }
+    }
+
+    fn add(&mut self, case: &'a dyn Case) -> usize {
+        let index = self.next;
+        self.next += 1;
+        self.entries.push(Entry { index, case });
+        index
+    }
+
+    /// Adds a send, and returns its index.
+    pub fn send<T>(&mut self, sender: &'a Sender<T>) -> usize {
+        self.add(sender)
+    }
+
+    /// Adds a take, and returns its index.
+    pub fn recv<T>(&mut self, receiver: &'a Receiver<T>) -> usize {
+        self.add(receiver)
+    }
+
+    /// Removes an operation. The others keep their indices.
+    ///
+    /// # Panics
+    ///
+    /// It has no operation with this index.
+    pub fn remove(&mut self, index: usize) {
+        let place = self.entries.iter().position(|it| it.index == index);
+        self.entries
+            .remove(place.expect("the select has an operation with this index"));
+    }
+
+    /// Tries each until one is done, or until this moment: begins it, or only looks.
+    fn wait(&mut self, until: Option<Instant>, begins: bool) -> Option<(Entry<'a>, Begun)> {
+        self.mix();
+        let is_over = || until.is_some_and(|until| until <= Instant::now());
+        let mut backoff = Backoff::new();
+        let mut done = try_each(&self.entries, begins).ok();
+        for _ in 1..TRIES {
+            if done.is_some() || is_over() {
+                break;
+            }
+            backoff.between_turns();
+            done = try_each(&self.entries, begins).ok();
+        }
+        if done.is_none() {
+            let parker = Parker::get();
+            done = loop {
+                match self.stand_and_park(until, begins, &parker) {
+                    Ok(done) => break Some(done),
+                    Err(was_quiet) if was_quiet && is_over() => break None,
+                    Err(_) => {}
+                }
+            };
+            parker.give_back();
+        }
+        done.map(|(place, begun)| (self.entries[place], begun))
+    }
+
+    /// Stands in all lines, looks, and parks; leaves all, and tries again. If none is done, returns whether
+    /// there was no ring: then at the end of the look none was ready. The ring of a line is passed on if its
+    /// operation wasn't tried after it, or was only looked at and is ready.
+    fn stand_and_park(
+        &self,
+        until: Option<Instant>,
+        begins: bool,
+        parker: &Arc<Parker>,
+    ) -> Result<(usize, Begun), bool> {
+        let is_over = until.is_some_and(|until| until <= Instant::now());
+        let stand = |it: &Entry<'a>| Place::stand(it.case.line(), parker);
+        let mut places: Vec<_> = self.entries.iter().map(stand).collect();
+        let moment = match try_each(&self.entries, begins) {
+            Ok(done) => return Ok(done),
+            Err(moment) => moment,
+        };
+        let until = until.into_iter().chain(moment).min();
+        if !is_over {
+            parker.park(until);
+        }
+        let mut is_quiet = true;
+        for place in &mut places {
+            is_quiet &= !place.leave();
+        }
+        if is_quiet && is_over {
+            return Err(true);
+        }
+        // The one that was rung for comes first.
+        let first = places.iter().position(Place::is_rung);
+        let rung = first.and_then(|at| {
+            let (_, begun) = try_each(&self.entries[at..=at], begins).ok()?;
+            Some((at, begun))
+        });
+        let done = rung.or_else(|| try_each(&self.entries, begins).ok());
+        let tried = match done {
+            Some((place, _)) if begins => place..place + 1,
+            Some(_) => 0..0,
+            None => 0..places.len(),
+        };
+        places[tried].iter_mut().for_each(Place::has_tried);
+        done.ok_or(is_quiet)
+    }
+
+    /// Puts the operations in an order by chance.
+    fn mix(&mut self) {
+        if self.is_biased {
+            return self.entries.sort_by_key(|it| it.index);
+        }
+        for last in (1..self.entries.len()).rev() {
+            self.entries.swap(last, by_chance(last + 1));
+        }
+    }
+
+    fn select_until(&mut self, until: Option<Instant>) -> Option<SelectedOperation<'a>> {
+        let (entry, begun) = self.wait(until, true)?;
+        Some(SelectedOperation::new(entry, begun))
+    }
+
+    /// Begins an operation, if one is ready.
+    ///
+    /// # Errors
+    ///
+    /// None is ready.
+    pub fn try_select(&mut self) -> Result<SelectedOperation<'a>, TrySelectError> {
+        let now = Some(Instant::now());
+        self.select_until(now).ok_or(TrySelectError)
+    }
+
+    /// Waits until an operation is ready, and begins it.
+    pub fn select(&mut self) -> SelectedOperation<'a> {
+        loop {
+            if let Some(operation) = self.select_until(None) {
+                return operation;
+            }
+        }
+    }
+
+    /// The same, but waits no longer than this.
+    ///
+    /// # Errors
+    ///
+    /// None was ready in that time.
+    pub fn select_timeout(
+        &mut self,
+        time: Duration,
+    ) -> Result<SelectedOperation<'a>, SelectTimeoutError> {
+        // A moment that the clock can't tell never comes.
+        let until = Instant::now().checked_add(time);
+        self.select_until(until).ok_or(SelectTimeoutError)
+    }
+
+    /// The same, but doesn't wait beyond this moment.
+    ///
+    /// # Errors
+    ///
+    /// None was ready in that time.
+    pub fn select_deadline(
+        &mut self,
+        until: Instant,
+    ) -> Result<SelectedOperation<'a>, SelectTimeoutError> {
+        self.select_until(Some(until)).ok_or(SelectTimeoutError)
+    }
+
+    fn ready_until(&mut self, until: Option<Instant>) -> Option<usize> {
+        Some(self.wait(until, false)?.0.index)
+    }
+
+    /// Returns the index of an operation that is ready, if there is one. Another thread may make it
+    /// first; so call `try_recv` or `try_send` then.
+    ///
+    /// # Errors
+    ///
+    /// None is ready.
+    pub fn try_ready(&mut self) -> Result<usize, TryReadyError> {
+        let now = Some(Instant::now());
+        self.ready_until(now).ok_or(TryReadyError)
+    }
+
+    /// Waits until an operation is ready, and returns its index, as [`try_ready`](Select::try_ready).
+    pub fn ready(&mut self) -> usize {
+        loop {
+            if let Some(index) = self.ready_until(None) {
+                return index;
+            }
+        }
+    }
+
+    /// The same, but waits no longer than this.
+    ///
+    /// # Errors
+    ///
+    /// None was ready in that time.
+    pub fn ready_timeout(&mut self, time: Duration) -> Result<usize, ReadyTimeoutError> {
+        let until = Instant::now().checked_add(time);
+        self.ready_until(until).ok_or(ReadyTimeoutError)
+    }
+
+    /// The same, but doesn't wait beyond this moment.
+    ///
+    /// # Errors
+    ///
+    /// None was ready in that time.
+    pub fn ready_deadline(&mut self, until: Instant) -> Result<usize, ReadyTimeoutError> {
+        self.ready_until(Some(until)).ok_or(ReadyTimeoutError)
+    }
+}
+
+impl Default for Select<'_> {
+    fn default() -> Self {
+        Select::new()
+    }
+}
+
+/// An operation that a [`Select`] has begun: a take that has its item, or a send that has its room.
+///
+/// Complete it by [`recv`](SelectedOperation::recv) or [`send`](SelectedOperation::send). If it is dropped
+/// instead, the item that was taken is dropped too, and the room is given back. If it is forgotten, both
+/// stay where they are as long as the channel is there.
+#[must_use = "complete it by `recv` or `send`"]
+pub struct SelectedOperation<'a> {
+    entry: Entry<'a>,
+    /// Until it is completed.
+    begun: Option<Begun>,
+}
+
+impl<'a> SelectedOperation<'a> {
+    fn new(entry: Entry<'a>, begun: Begun) -> SelectedOperation<'a> {
+        let begun = Some(begun);
+        SelectedOperation { entry, begun }
+    }
+
+    /// The index of the operation.
+    pub fn index(&self) -> usize {
+        self.entry.index
+    }
+
+    /// How it stands, if it is the operation of this handle.
+    fn begun_of<H>(&mut self, handle: &H) -> Begun {
+        assert!(
+            addr_eq(self.entry.case, handle),
+            "another handle was selected"
+        );
+        self.begun.take().unwrap_or(Begun::Closed)
+    }
+
+    /// Completes a take.
+    ///
+    /// # Errors
+    ///
+    /// The channel is closed, and its group has all its items.
+    ///
+    /// # Panics
+    ///
+    /// This isn't the receiver that was added: `&receiver` is to be the same reference.
+    pub fn recv<T>(mut self, receiver: &Receiver<T>) -> Result<T, RecvError> {
+        receiver.completed(self.begun_of(receiver))
+    }
+
+    /// Completes a send. It doesn't wait, unless memory is wanting for a further queue.
+    ///
+    /// # Errors
+    ///
+    /// The channel is closed: the item is handed back.
+    ///
+    /// # Panics
+    ///
+    /// This isn't the sender that was added: `&sender` is to be the same reference.
+    pub fn send<T>(mut self, sender: &Sender<T>, item: T) -> Result<(), SendError<T>> {
+        sender.complete(self.begun_of(sender), item)
+    }
+}
+
+impl Drop for SelectedOperation<'_> {
+    fn drop(&mut self) {
+        if let Some(begun) = self.begun.take() {
+            self.entry.case.give_up(begun);
+        }
+    }
+}
+
+/// Errors of a select without anything in them.
+macro_rules! errors {
+    ($($(#[$docs:meta])+ $name:ident: $text:literal;)+) => {$(
+        $(#[$docs])+
+        #[derive(Clone, Copy, Debug, PartialEq, Eq, Hash)]
+        pub struct $name;
+
+        shows! { Display [] $name, $text; }
+
+        impl std::error::Error for $name {}
+    )+};
+}
+
+errors! {
+    /// Why [`try_select`](Select::try_select) began nothing.
+    TrySelectError: "no operation of the select is ready";
+    /// Why [`select_timeout`](Select::select_timeout) or [`select_deadline`](Select::select_deadline)
+    /// began nothing.
+    SelectTimeoutError: "no operation of the select was ready in time";
+    /// Why [`try_ready`](Select::try_ready) has no index.
+    TryReadyError: "no operation of the select is ready";
+    /// Why [`ready_timeout`](Select::ready_timeout) or [`ready_deadline`](Select::ready_deadline) has no
+    /// index.
+    ReadyTimeoutError: "no operation of the select was ready in time";
+}

@@ -1,0 +1,180 @@
+//! The macros over [`Select`](crate::Select).
+
+/// Waits until one of several operations is ready, makes it, and evaluates its arm.
+///
+/// An arm is one of these:
+///
+/// - `recv(receiver) -> item => expression`, where `item` is a pattern for what [`recv`] returns;
+/// - `send(sender, item) -> sent => expression`, where `sent` is a pattern for what [`send`] returns, and
+///   `item` is evaluated if this operation is selected;
+/// - `default => expression`, once at most, if no operation is ready;
+/// - `default(time) => expression`, if none is ready in that time.
+///
+/// If several are ready, chance decides; [`select_biased!`](crate::select_biased!) takes the first of them.
+/// How it waits, and what it promises, is that of [`Select`](crate::Select). Without a default it waits until
+/// an operation is ready.
+///
+/// [`recv`]: crate::SelectedOperation::recv
+/// [`send`]: crate::SelectedOperation::send
+///
+/// ```
+/// use std::time::Duration;
+/// use vahepito::{channel, select};
+///
+/// let (numbers, words) = (channel(1)?, channel(1)?);
+/// words.0.send("hello").unwrap();
+/// let told = select! {
+///     recv(numbers.1) -> number => number.unwrap(),
+///     recv(words.1) -> word => word.unwrap().len(),
+/// };
+/// assert_eq!(told, 5);
+/// select! {
+///     recv(words.1) -> _ => unreachable!("there is none"),
+///     send(numbers.0, 7) -> sent => sent.unwrap(),
+/// }
+/// select! {
+///     send(numbers.0, 8) -> _ => unreachable!("there is no room"),
+///     default(Duration::from_millis(5)) => println!("no room in time"),
+/// }
+/// # Ok::<(), vahepito::OpenError>(())
+/// ```
+#[macro_export]
+macro_rules! select {
+    ($($arms:tt)*) => {
+        $crate::__select!(@read new [] [] $($arms)*)
+    };
+}
+
+/// As [`select!`](crate::select!), but if several operations are ready, it makes the first of them.
+///
+/// ```
+/// use vahepito::{channel, select_biased};
+///
+/// let (urgent, others) = (channel(1)?, channel(1)?);
+/// urgent.0.send(1).unwrap();
+/// others.0.send(2).unwrap();
+/// let first = select_biased! {
+///     recv(urgent.1) -> number => number,
+///     recv(others.1) -> number => number,
+/// };
+/// assert_eq!(first, Ok(1));
+/// # Ok::<(), vahepito::OpenError>(())
+/// ```
+#[macro_export]
+macro_rules! select_biased {
+    ($($arms:tt)*) => {
+        $crate::__select!(@read new_biased [] [] $($arms)*)
+    };
+}
+
+/// Reads the arms one by one: [the operations] [the default arm] and what isn't read yet. Then adds the
+/// operations, each with names of its own; selects; and makes the one that is selected.
+#[doc(hidden)]
+#[macro_export]
+macro_rules! __select {
+    (@read $new:ident [$($arms:tt)*] [$($default:tt)*]) => {{
+        let mut select = $crate::Select::$new();
+        $crate::__select!(@add select [] [$($default)*] $($arms)*)
+    }};
+    (@read $new:ident $arms:tt $default:tt default => $($rest:tt)*) => {
+        $crate::__select!(@read $new $arms $default default() => $($rest)*)
+    };
+    (@read $new:ident $arms:tt $default:tt
+        $kind:ident $of:tt $(-> $told:pat)? => $body:expr, $($rest:tt)*) => {
+        $crate::__select!(@sort $new $arms $default [$kind $of ($($told)?) $body] $($rest)*)
+    };
+    (@read $new:ident $arms:tt $default:tt
+        $kind:ident $of:tt $(-> $told:pat)? => $body:block $($rest:tt)*) => {
+        $crate::__select!(@sort $new $arms $default [$kind $of ($($told)?) $body] $($rest)*)
+    };
+    (@read $new:ident $arms:tt $default:tt
+        $kind:ident $of:tt $(-> $told:pat)? => $body:expr) => {
+        $crate::__select!(@sort $new $arms $default [$kind $of ($($told)?) $body])
+    };
+    (@read $new:ident $arms:tt $default:tt $($wrong:tt)+) => {
+        ::core::compile_error!(::core::concat!(
+            "expected `recv(receiver) -> item => expression,`, `send(sender, item) -> sent => expression,`, ",
+            "`default => expression,` or `default(time) => expression,`; found `",
+            ::core::stringify!($($wrong)+), "`"))
+    };
+
+    (@sort $new:ident [$($arms:tt)*] $default:tt
+        [recv ($of:expr $(,)?) ($told:pat) $body:expr] $($rest:tt)*) => {
+        $crate::__select!(@read $new [$($arms)* [recv ($of) ($told) $body]] $default $($rest)*)
+    };
+    (@sort $new:ident [$($arms:tt)*] $default:tt
+        [send ($of:expr, $item:expr $(,)?) ($told:pat) $body:expr] $($rest:tt)*) => {
+        $crate::__select!(@read $new [$($arms)* [send ($of, $item) ($told) $body]] $default $($rest)*)
+    };
+    (@sort $new:ident $arms:tt [] [default ($($time:expr $(,)?)?) () $body:expr] $($rest:tt)*) => {
+        $crate::__select!(@read $new $arms [($($time)?) $body] $($rest)*)
+    };
+    (@sort $new:ident $arms:tt [$($twice:tt)+] [default $($wrong:tt)*] $($rest:tt)*) => {
+        ::core::compile_error!("a select has one `default` arm at most")
+    };
+    (@sort $new:ident $arms:tt $default:tt [$kind:ident $of:tt $($wrong:tt)*] $($rest:tt)*) => {
+        ::core::compile_error!(::core::concat!(
+            "expected `recv(receiver) -> item`, `send(sender, item) -> sent`, `default` or ",
+            "`default(time)`; found `", ::core::stringify!($kind $of), "`"))
+    };
+
+    (@add $select:ident [$($made:tt)*] $default:tt
+        [recv ($of:expr) ($told:pat) $body:expr] $($arms:tt)*) => {
+        match $of {
+            ref receiver => {
+                let receiver: &$crate::Receiver<_> = receiver;
+                let index = $select.recv(receiver);
+                $crate::__select!(@add $select
+                    [$($made)* [index ($told) (recv(receiver)) $body]] $default $($arms)*)
+            }
+        }
+    };
+    (@add $select:ident [$($made:tt)*] $default:tt
+        [send ($of:expr, $item:expr) ($told:pat) $body:expr] $($arms:tt)*) => {
+        match $of {
+            ref sender => {
+                let sender: &$crate::Sender<_> = sender;
+                let index = $select.send(sender);
+                $crate::__select!(@add $select
+                    [$($made)* [index ($told) (send(sender, $item)) $body]] $default $($arms)*)
+            }
+        }
+    };
+    (@add $select:ident [$($made:tt)*] []) => {{
+        let operation = $select.select();
+        ::core::mem::drop($select);
+        $crate::__select!(@make operation $($made)*)
+    }};
+    (@add $select:ident [$($made:tt)*] [() $body:expr]) => {{
+        let operation = $select.try_select();
+        ::core::mem::drop($select);
+        match operation {
+            ::core::result::Result::Ok(operation) => $crate::__select!(@make operation $($made)*),
+            ::core::result::Result::Err(_) => $body,
+        }
+    }};
+    (@add $select:ident [$($made:tt)*] [($time:expr) $body:expr]) => {{
+        let operation = $select.select_timeout($time);
+        ::core::mem::drop($select);
+        match operation {
+            ::core::result::Result::Ok(operation) => $crate::__select!(@make operation $($made)*),
+            ::core::result::Result::Err(_) => $body,
+        }
+    }};
+
+    // No other operation is selected: nothing comes here.
+    (@make $operation:ident) => {
+        loop {
+            ::std::thread::park();
+        }
+    };
+    (@make $operation:ident
+        [$index:ident ($told:pat) ($call:ident($($with:tt)*)) $body:expr] $($others:tt)*) => {
+        if $operation.index() == $index {
+            let $told = $operation.$call($($with)*);
+            $body
+        } else {
+            $crate::__select!(@make $operation $($others)*)
+        }
+    };
+}

@@ -1,0 +1,141 @@
+//! Receivers of moments, and of nothing. None has a thread: who waits for it parks until the moment.
+use super::core::{Core, Special, Try};
+use super::event::{Again, lock};
+use super::side::Handle;
+use super::{Receiver, config};
+use std::sync::{Arc, Mutex};
+use std::time::{Duration, Instant};
+
+/// When there is an item, and what it is.
+pub struct Timer<T> {
+    /// None if there is none any more.
+    due: Mutex<Option<Instant>>,
+    every: Option<Duration>,
+    item: Option<fn(Instant) -> T>,
+}
+
+impl<T> Timer<T> {
+    /// Takes the item if its moment has come. The next one comes a period after it, or, if a whole period
+    /// has passed, after now.
+    pub fn try_take(&self) -> Try<T> {
+        let mut due = lock(&self.due);
+        let (Some(at), Some(item)) = (*due, self.item) else {
+            return Err(Again::AtARing);
+        };
+        let now = Instant::now();
+        if now < at {
+            return Err(Again::At(at));
+        }
+        let next = |every: Duration| match now - at < every {
+            true => at.checked_add(every),
+            false => now.checked_add(every),
+        };
+        *due = self.every.and_then(next);
+        Ok(item(at))
+    }
+
+    /// Whether there is an item.
+    pub fn look(&self) -> Try<()> {
+        match *lock(&self.due) {
+            None => Err(Again::AtARing),
+            Some(at) if Instant::now() < at => Err(Again::At(at)),
+            Some(_) => Ok(()),
+        }
+    }
+
+    pub fn len(&self) -> usize {
+        usize::from(self.look().is_ok())
+    }
+}
+
+fn timer<T>(
+    due: Option<Instant>,
+    every: Option<Duration>,
+    item: Option<fn(Instant) -> T>,
+) -> Receiver<T> {
+    let capacity = usize::from(item.is_some());
+    let due = Mutex::new(due);
+    let timer = Timer { due, every, item };
+    let core = Core::special(config(capacity), Special::Timer(timer));
+    Handle::new(Arc::new(core), 1)
+}
+
+/// A receiver with one item, which is there at this moment, and is the moment. Then it is empty for ever.
+///
+/// As a future it is polled again and again until then: use the runtime's timers there.
+///
+/// ```
+/// use std::time::{Duration, Instant};
+///
+/// let soon = Instant::now() + Duration::from_millis(5);
+/// let receiver = vahepito::at(soon);
+/// assert!(receiver.try_recv().is_err());
+/// assert_eq!(receiver.recv(), Ok(soon));
+/// assert!(Instant::now() >= soon);
+/// ```
+pub fn at(moment: Instant) -> Receiver<Instant> {
+    timer(Some(moment), None, Some(|moment| moment))
+}
+
+/// As [`at`], with the moment that comes after this time.
+///
+/// ```
+/// use std::time::Duration;
+/// use vahepito::{after, channel, select};
+///
+/// let (_sender, receiver) = channel::<u32>(1)?;
+/// let over = after(Duration::from_millis(5));
+/// let told = select! {
+///     recv(receiver) -> number => number.ok(),
+///     recv(over) -> _ => None,
+/// };
+/// assert_eq!(told, None);
+/// # Ok::<(), vahepito::OpenError>(())
+/// ```
+pub fn after(time: Duration) -> Receiver<Instant> {
+    // A moment that the clock can't tell never comes.
+    timer(
+        Instant::now().checked_add(time),
+        None,
+        Some(|moment| moment),
+    )
+}
+
+/// A receiver with an item, its moment, once in each such period, the first one a period from now. Those that
+/// aren't taken in time are left out: there is one at most.
+///
+/// As a future it is polled again and again: use the runtime's timers there.
+///
+/// ```
+/// use std::time::{Duration, Instant};
+///
+/// let (start, period) = (Instant::now(), Duration::from_millis(5));
+/// let ticks = vahepito::tick(period);
+/// assert!(ticks.recv().unwrap() >= start + period);
+/// assert!(ticks.recv().unwrap() >= start + 2 * period);
+/// ```
+pub fn tick(period: Duration) -> Receiver<Instant> {
+    let first = Instant::now().checked_add(period);
+    timer(first, Some(period), Some(|moment| moment))
+}
+
+/// A receiver that has no item, ever, and doesn't end: for an arm of a select that isn't wanted this time.
+///
+/// ```
+/// use std::time::Duration;
+/// use vahepito::{channel, never, select};
+///
+/// let (sender, receiver) = channel(1)?;
+/// sender.send(1).unwrap();
+/// for wanted in [true, false] {
+///     let none = never();
+///     select! {
+///         recv(if wanted { &receiver } else { &none }) -> number => assert_eq!(number, Ok(1)),
+///         default(Duration::from_millis(5)) => assert!(!wanted),
+///     }
+/// }
+/// # Ok::<(), vahepito::OpenError>(())
+/// ```
+pub fn never<T>() -> Receiver<T> {
+    timer(None, None, None)
+}
