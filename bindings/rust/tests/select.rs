@@ -1,15 +1,19 @@
-//! Selects over several channels, and timers.
+//! Selects over several channels, channels of capacity 0, and timers.
 #[path = "../src/channel/rounds.rs"]
 mod rounds;
 
 use rounds::rounds;
 use std::collections::HashSet;
+use std::pin::pin;
 use std::sync::Arc;
+use std::sync::atomic::{AtomicUsize, Ordering};
+use std::task::{Context, Poll, Wake, Waker};
 use std::thread;
 use std::time::{Duration, Instant};
 use vahepito::{
-    Receiver, RecvError, RecvTimeoutError, Select, SendError, Sender, TryRecvError, TrySelectError,
-    TrySendError, after, channel, groups, never, select, select_biased, tick,
+    Receiver, RecvError, RecvTimeoutError, Select, SelectTimeoutError, SendError, SendTimeoutError,
+    Sender, TryRecvError, TrySelectError, TrySendError, after, channel, groups, never, select,
+    select_biased, tick,
 };
 
 const SOON: Duration = Duration::from_millis(20);
@@ -25,6 +29,18 @@ fn waits<R: Send + 'static>(what: impl FnOnce() -> R + Send + 'static) -> thread
     thread::sleep(SOON);
     assert!(!thread.is_finished(), "it doesn't wait");
     thread
+}
+
+/// Tries this until it is done, which is so once another thread waits.
+fn soon<R>(attempt: impl Fn() -> Option<R>) -> R {
+    let start = Instant::now();
+    loop {
+        if let Some(done) = attempt() {
+            return done;
+        }
+        assert!(start.elapsed() < LONG);
+        thread::sleep(Duration::from_millis(1));
+    }
 }
 
 #[test]
@@ -320,17 +336,172 @@ fn everything_is_taken_once(capacities: [usize; 3], items: u64) {
 fn nothing_is_lost_or_taken_twice() {
     everything_is_taken_once([1, 1, 1], rounds(3000));
     everything_is_taken_once([1, 3, 64], rounds(3000));
+    everything_is_taken_once([0, 1, 0], rounds(3000));
+    everything_is_taken_once([0, 0, 0], rounds(3000));
+}
+
+#[test]
+fn a_rendezvous_ends_with_the_take() {
+    let (sender, receiver) = open::<u32>(0);
+    assert_eq!(
+        (sender.capacity(), sender.len(), sender.is_full()),
+        (Some(0), 0, true)
+    );
+    assert_eq!(sender.try_send(1), Err(TrySendError::Full(1)));
+    assert_eq!(receiver.try_recv(), Err(TryRecvError::Empty));
+    let told = sender.send_timeout(2, SOON);
+    assert_eq!(told, Err(SendTimeoutError::Timeout(2)));
+    let told = receiver.recv_timeout(SOON);
+    assert_eq!(told, Err(RecvTimeoutError::Timeout));
+    let sends = waits({
+        let sender = sender.clone();
+        move || sender.send(3)
+    });
+    assert_eq!(soon(|| receiver.try_recv().ok()), 3);
+    sends.join().unwrap().unwrap();
+    let takes = waits({
+        let receiver = receiver.clone();
+        move || receiver.recv()
+    });
+    soon(|| sender.try_send(4).ok());
+    assert_eq!(takes.join().unwrap(), Ok(4));
+}
+
+#[test]
+fn a_close_ends_a_rendezvous() {
+    let (sender, receiver) = open::<u32>(0);
+    let sends = waits({
+        let sender = sender.clone();
+        move || sender.send(1)
+    });
+    let selects = waits({
+        let sender = sender.clone();
+        move || select! { send(sender, 2) -> sent => sent }
+    });
+    assert!(receiver.close() && !sender.close());
+    assert_eq!(sends.join().unwrap(), Err(SendError(1)));
+    assert_eq!(selects.join().unwrap(), Err(SendError(2)));
+    assert_eq!(receiver.recv(), Err(RecvError));
+    let (sender, receiver) = open::<u32>(0);
+    let takes = waits(move || receiver.recv());
+    drop(sender);
+    assert_eq!(takes.join().unwrap(), Err(RecvError));
+}
+
+/// Two selects meet by one of their channels; one alone doesn't meet itself.
+#[test]
+fn selects_meet() {
+    for _ in 0..rounds(300) {
+        let (there, back) = (open::<u32>(0), open::<u32>(0));
+        let other = {
+            let (there, back) = (there.clone(), back.clone());
+            thread::spawn(move || {
+                select! { recv(there.1) -> told => told.unwrap(), send(back.0, 2) -> _ => 10 }
+            })
+        };
+        let told = select! { send(there.0, 1) -> _ => 20, recv(back.1) -> told => told.unwrap() };
+        let other = other.join().unwrap();
+        assert!(
+            (told, other) == (20, 1) || (told, other) == (2, 10),
+            "{told} {other}"
+        );
+    }
+    let (sender, receiver) = open::<u32>(0);
+    let mut select = Select::new();
+    select.send(&sender);
+    select.recv(&receiver);
+    assert_eq!(select.select_timeout(SOON).unwrap_err(), SelectTimeoutError);
+    assert!(select.try_select().is_err());
+}
+
+/// If a pair is given up, the other one waits for a further one.
+#[test]
+fn a_pair_that_is_given_up_is_met_again() {
+    let (sender, receiver) = open::<u32>(0);
+    let takes = waits({
+        let receiver = receiver.clone();
+        move || receiver.recv()
+    });
+    let mut select = Select::new();
+    select.send(&sender);
+    drop(select.select());
+    sender.send(1).unwrap();
+    assert_eq!(takes.join().unwrap(), Ok(1));
+    let sends = waits({
+        let sender = sender.clone();
+        move || select! { send(sender, 2) -> sent => sent.unwrap() }
+    });
+    let mut select = Select::new();
+    select.recv(&receiver);
+    let operation = select.select();
+    // It met a select, which waits for nobody now: its item is this operation's.
+    sends.join().unwrap();
+    assert_eq!(operation.recv(&receiver), Ok(2));
+}
+
+#[derive(Default)]
+struct Woken(AtomicUsize);
+
+impl Wake for Woken {
+    fn wake(self: Arc<Self>) {
+        self.0.fetch_add(1, Ordering::SeqCst);
+    }
+}
+
+fn poll<F: Future + Unpin>(future: &mut F, woken: &Arc<Woken>) -> Poll<F::Output> {
+    let waker = Waker::from(woken.clone());
+    pin!(future).poll(&mut Context::from_waker(&waker))
+}
+
+#[test]
+fn futures_meet() {
+    let (sender, receiver) = open::<u32>(0);
+    let (sends, takes) = (Arc::new(Woken::default()), Arc::new(Woken::default()));
+    let times = |woken: &Arc<Woken>| woken.0.load(Ordering::SeqCst);
+    let mut take = receiver.recv_async();
+    assert_eq!(poll(&mut take, &takes), Poll::Pending);
+    let mut send = sender.send_async(1);
+    assert_eq!(poll(&mut send, &sends), Poll::Pending);
+    assert_eq!((times(&takes), times(&sends)), (1, 0));
+    assert_eq!(poll(&mut take, &takes), Poll::Ready(Ok(1)));
+    assert_eq!(times(&sends), 1);
+    assert_eq!(poll(&mut send, &sends), Poll::Ready(Ok(())));
+    // One that is dropped takes its item with it.
+    let mut send = sender.send_async(2);
+    assert_eq!(poll(&mut send, &sends), Poll::Pending);
+    drop(send);
+    assert_eq!(receiver.try_recv(), Err(TryRecvError::Empty));
+    // A thread takes from a task, and gives to one.
+    let mut send = sender.send_async(3);
+    assert_eq!(poll(&mut send, &sends), Poll::Pending);
+    assert_eq!(receiver.recv(), Ok(3));
+    assert_eq!(poll(&mut send, &sends), Poll::Ready(Ok(())));
+    let mut take = receiver.recv_async();
+    assert_eq!(poll(&mut take, &takes), Poll::Pending);
+    let before = times(&takes);
+    let thread = waits({
+        let sender = sender.clone();
+        move || sender.send(4)
+    });
+    soon(|| (times(&takes) == before + 1).then_some(()));
+    assert_eq!(poll(&mut take, &takes), Poll::Ready(Ok(4)));
+    thread.join().unwrap().unwrap();
+    let mut send = sender.send_async(5);
+    assert_eq!(poll(&mut send, &sends), Poll::Pending);
+    let before = times(&sends);
+    receiver.close();
+    assert_eq!(times(&sends), before + 1);
+    assert_eq!(poll(&mut send, &sends), Poll::Ready(Err(SendError(5))));
 }
 
 #[test]
 fn timers_have_their_moments() {
     let start = Instant::now();
     let (once, ticks, none) = (after(SOON), tick(SOON), never::<u32>());
-    assert_eq!(
-        (once.len(), once.capacity(), none.capacity()),
-        (0, Some(1), Some(0))
-    );
-    assert_eq!(once.try_recv(), Err(TryRecvError::Empty));
+    let late = after(LONG);
+    assert_eq!(late.try_recv(), Err(TryRecvError::Empty));
+    let capacities = (once.capacity(), none.capacity());
+    assert_eq!((late.len(), capacities), (0, (Some(1), Some(0))));
     assert!(once.recv().unwrap() >= start + SOON);
     assert!(start.elapsed() >= SOON);
     let told = once.recv_timeout(SOON);
@@ -355,11 +526,12 @@ fn timers_have_their_moments() {
         recv(after(SOON)) -> moment => assert!(moment.unwrap() >= start + SOON),
     }
     let mut select = Select::new();
-    let (once, none) = (after(SOON), never::<u32>());
     select.recv(&none);
-    select.recv(&once);
+    select.recv(&late);
     assert!(select.try_ready().is_err());
-    assert_eq!(select.ready(), 1);
+    let once = after(SOON);
+    select.recv(&once);
+    assert_eq!(select.ready(), 2);
     assert!(once.try_recv().is_ok());
 }
 
@@ -373,7 +545,7 @@ fn a_select_that_waits_is_parked() {
         let ticks = fields.split_whitespace().skip(11).take(2);
         ticks.filter_map(|it| it.parse::<u64>().ok()).sum()
     }
-    let (channels, full) = ([open::<u32>(1), open(1)], open::<u32>(1));
+    let (channels, full) = ([open::<u32>(1), open(0)], open::<u32>(1));
     full.0.send(0).unwrap();
     let waits = thread::spawn({
         let (channels, full) = (channels.clone(), full.clone());

@@ -9,6 +9,7 @@
 //! takes no other lock. Code of others (an item's drop or copy, a waker) runs while none is held.
 use super::body::{Copies, Parcel, words_of};
 use super::event::{Again, Event, Panic, keep_first, let_be, lock, panic_of};
+use super::meeting::Meeting;
 use super::pool::{Held, Pass, Pool};
 use super::select::Kept;
 use super::timer::Timer;
@@ -50,6 +51,8 @@ impl Side {
 
 /// What a channel has in the place of a queue.
 pub enum Special<T> {
+    /// It has capacity 0.
+    Meeting(Meeting<T>),
     /// It is a receiver of moments.
     Timer(Timer<T>),
 }
@@ -132,9 +135,20 @@ impl<T> Core<T> {
         }
     }
 
+    /// What it has if it has capacity 0.
+    #[inline]
+    pub fn meeting(&self) -> Option<&Meeting<T>> {
+        match &self.special {
+            Some(Special::Meeting(meeting)) => Some(meeting),
+            _ => None,
+        }
+    }
+
     pub fn timer(&self) -> Option<&Timer<T>> {
-        let Special::Timer(timer) = self.special.as_ref()?;
-        Some(timer)
+        match &self.special {
+            Some(Special::Timer(timer)) => Some(timer),
+            _ => None,
+        }
     }
 
     /// The side of the senders, which is 0, or of this group, from 1.
@@ -284,6 +298,7 @@ impl<T> Core<T> {
     fn try_recv_special(&self, special: &Special<T>) -> Try<Option<Parcel<T>>> {
         let item = match special {
             _ if self.is_closed() => None,
+            Special::Meeting(meeting) => meeting.try_take()?,
             Special::Timer(timer) => Some(timer.try_take()?),
         };
         Ok(item.map(|item| Parcel::pack(item, None)))
@@ -309,6 +324,7 @@ impl<T> Core<T> {
     fn close_queue(&self) -> bool {
         match &self.special {
             None => {}
+            Some(Special::Meeting(meeting)) => return !meeting.close(&self.closed),
             Some(Special::Timer(_)) => return !self.closed.swap(true, Ordering::SeqCst),
         }
         let mut seat = self.senders.seats.take();
@@ -321,6 +337,7 @@ impl<T> Core<T> {
     /// Wakes all that wait, and returns the first panic of their wakers.
     fn ring_all(&self) -> Option<Panic> {
         let mut panic = self.senders.line.ring_for_all();
+        keep_first(&mut panic, self.meeting().and_then(Meeting::wake_all));
         let groups = self.groups.iter();
         groups.for_each(|it| keep_first(&mut panic, it.line.ring_for_all()));
         panic

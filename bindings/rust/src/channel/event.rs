@@ -387,6 +387,17 @@ impl Parker {
         let _ = PARKERS.try_with(|idle| idle.borrow_mut().push(self));
     }
 
+    /// Waits a little for a waker that is near.
+    pub fn spin(&self) {
+        let mut backoff = Backoff::new();
+        for _ in 0..TRIES {
+            if self.woken.load(Ordering::SeqCst) {
+                return;
+            }
+            backoff.between_turns();
+        }
+    }
+
     /// Until it is woken, or this moment. It may be woken by a ring of an earlier wait.
     pub fn park(&self, until: Option<Instant>) {
         while !self.woken.swap(false, Ordering::SeqCst) {

@@ -8,7 +8,7 @@ use super::{Receiver, RecvError, SendError, Sender};
 use crate::words::{Receivers, Senders};
 use std::borrow::Cow;
 use std::pin::Pin;
-use std::task::{Context, Poll};
+use std::task::{Context, Poll, Waker};
 
 /// A take: see [`recv_async`](crate::Receiver::recv_async). If it is polled after it was done, it takes a further item.
 pub type RecvFuture<'a, T> = CallFuture<'a, T, Receivers>;
@@ -23,8 +23,10 @@ pub struct CallFuture<'a, T, S> {
     handle: Cow<'a, Handle<T, S>>,
     /// Its place in the line of its side.
     place: Option<Ticket>,
-    /// None of a take, and of a send once the item is sent or handed back.
+    /// None of a take, and of a send once the item is sent, handed back, or posted.
     parcel: Option<Parcel<T>>,
+    /// The number of the item that is posted, on a channel of capacity 0.
+    posted: Option<u64>,
 }
 
 // No item is pinned.
@@ -36,6 +38,7 @@ impl<'a, T, S> CallFuture<'a, T, S> {
             handle,
             place: None,
             parcel,
+            posted: None,
         }
     }
 
@@ -79,6 +82,9 @@ impl<'a, T, S> CallFuture<'a, T, S> {
 impl<T, S> Drop for CallFuture<'_, T, S> {
     fn drop(&mut self) {
         self.leave();
+        if let (Some(number), Some(meeting)) = (self.posted, self.handle.core().meeting()) {
+            drop(meeting.withdraw(number));
+        }
     }
 }
 
@@ -93,6 +99,32 @@ impl<T> Future for RecvFuture<'_, T> {
     }
 }
 
+impl<T> SendFuture<'_, T> {
+    /// On a channel of capacity 0, posts the item, and then looks whether it was taken.
+    fn poll_posted(&mut self, waker: &Waker) -> Option<Poll<Result<(), SendError<T>>>> {
+        let core = self.handle.core();
+        let meeting = core.meeting()?;
+        let Some(number) = self.posted else {
+            let parcel = self.parcel.take().expect("the item isn't sent yet");
+            return Some(match meeting.post(parcel.unpack(), waker) {
+                Ok(None) => Poll::Ready(Ok(())),
+                Err(item) => Poll::Ready(Err(SendError(item))),
+                Ok(number) => {
+                    self.posted = number;
+                    core.ring_for_item();
+                    Poll::Pending
+                }
+            });
+        };
+        if !core.is_closed() && meeting.stays(number, waker) {
+            return Some(Poll::Pending);
+        }
+        self.posted = None;
+        let left = meeting.withdraw(number);
+        Some(Poll::Ready(left.map_or(Ok(()), |it| Err(SendError(it)))))
+    }
+}
+
 impl<T> Future for SendFuture<'_, T> {
     type Output = Result<(), SendError<T>>;
 
@@ -100,6 +132,9 @@ impl<T> Future for SendFuture<'_, T> {
     ///
     /// It is polled after it was done.
     fn poll(mut self: Pin<&mut Self>, context: &mut Context<'_>) -> Poll<Self::Output> {
+        if let Some(polled) = self.poll_posted(context.waker()) {
+            return polled;
+        }
         let parcel = self.parcel.take().expect("the item isn't sent yet");
         let attempt = |it: &Sender<T>| it.core().try_send(&parcel);
         match self.poll_call(context, Handle::is_full, attempt) {

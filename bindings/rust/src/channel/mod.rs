@@ -6,6 +6,7 @@ mod event;
 mod future;
 #[cfg(test)]
 mod linear;
+mod meeting;
 mod pool;
 mod receiver;
 mod renew;
@@ -33,7 +34,8 @@ pub use side::{Handle, WeakHandle};
 pub use timer::{after, at, never, tick};
 
 use self::body::Copies;
-use self::core::Core;
+use self::core::{Core, Special};
+use self::meeting::Meeting;
 use crate::words::{Config, OpenError};
 use std::sync::Arc;
 
@@ -61,6 +63,10 @@ fn config(capacity: usize) -> Config {
 /// most `capacity` items, 1 to 4,096: that is the range of the proved queue below. No take allocates, and
 /// a send only if an item has more than 32 bytes: it then lies in a box until it is taken.
 ///
+/// With capacity 0 a send is over when a receiver has taken the item. If its time is over before, nobody has
+/// it, and it is handed back. `try_send` succeeds if a thread waits in a take or a select, and `try_recv` if
+/// a send waits. Such a channel has no queue: it stands under locks, and rests on nothing that is proved.
+///
 /// The channel is closed by [`Sender::close`] or [`Receiver::close`], by the drop of the last sender,
 /// or by that of the last receiver, which also drops what is left in the channel.
 ///
@@ -82,8 +88,11 @@ fn config(capacity: usize) -> Config {
 /// The linked library is another one than this crate is for; a capacity out of its range; or want of
 /// memory for the queue.
 pub fn channel<T>(capacity: usize) -> Result<(Sender<T>, Receiver<T>), OpenError> {
-    let (sender, mut receivers) = open(config(capacity), 1, None)?;
-    Ok((sender, receivers.remove(0)))
+    let core = Arc::new(match capacity {
+        0 => Core::special(config(0), Special::Meeting(Meeting::new())),
+        _ => Core::open(config(capacity), 1, None)?,
+    });
+    Ok((Handle::new(core.clone(), 0), Handle::new(core, 1)))
 }
 
 /// Opens a channel each of whose groups gets every item, and gives its first sender, and the first

@@ -62,6 +62,9 @@ impl<T> Receiver<T> {
 
     #[inline(never)]
     fn wait_for_item(&self, until: Option<Instant>) -> Result<T, RecvTimeoutError> {
+        if self.core().meeting().is_some() {
+            return self.meet_until(until);
+        }
         match wait(self.line(), until, || self.try_take()) {
             Some(Some(parcel)) => Ok(parcel.unpack()),
             Some(None) => Err(RecvTimeoutError::Disconnected),

@@ -21,8 +21,9 @@
 //! give it back, and then look whether somebody waits. A look takes each of those seats, and gives it back. A
 //! holder before that has counted; a holder after that sees the waiter in line. So a look that finds nothing
 //! is the look of [`event`](super::event)'s argument: at some moment of it there was nothing.
-use super::core::Try;
+use super::core::{Special, Try};
 use super::event::{Event, Parker, Place, TRIES, lock};
+use super::meeting::{Meets, SENDS, TAKES, Waiter, meet_or_post, try_meet};
 use super::{Receiver, RecvError, SendError, Sender};
 use crate::words::backoff::Backoff;
 use std::cell::Cell;
@@ -37,6 +38,8 @@ pub enum Begun {
     Kept(u64),
     /// A place is reserved.
     Room,
+    /// It has met another, in this pair.
+    Met(u64),
     /// The channel is closed.
     Closed,
     /// It was only looked at.
@@ -47,6 +50,10 @@ pub enum Begun {
 pub trait Case {
     /// Where one waits for it.
     fn line(&self) -> &Event;
+    /// Where it is posted, and on which side, if the channel has capacity 0.
+    fn meeting(&self) -> Option<(&dyn Meets, usize)>;
+    /// It is posted: rings for those of the other side that aren't.
+    fn is_posted(&self);
     /// Begins it, if it is ready.
     fn begin(&self) -> Try<Begun>;
     /// Whether it is ready. It may say so though it isn't.
@@ -86,7 +93,18 @@ impl<T> Case for Receiver<T> {
         Receiver::line(self)
     }
 
+    fn meeting(&self) -> Option<(&dyn Meets, usize)> {
+        Some((self.core().meeting()?, TAKES))
+    }
+
+    fn is_posted(&self) {
+        self.core().senders.line.ring();
+    }
+
     fn begin(&self) -> Try<Begun> {
+        if let Some((meeting, side)) = self.meeting() {
+            return try_meet(meeting, side);
+        }
         let taken = self.try_take()?;
         Ok(taken.map_or(Begun::Closed, |parcel| {
             let item = parcel.unpack();
@@ -95,24 +113,32 @@ impl<T> Case for Receiver<T> {
     }
 
     fn look(&self) -> Try<()> {
-        match self.core().timer() {
-            Some(timer) => timer.look(),
+        match &self.core().special {
+            Some(Special::Meeting(meeting)) => meeting.look(TAKES),
+            Some(Special::Timer(timer)) => timer.look(),
             None => self.core().seems_to_have_item(self.side()),
         }
     }
 
     fn give_up(&self, begun: Begun) {
-        drop(self.completed(begun));
+        match (begun, self.core().meeting()) {
+            (Begun::Met(pair), Some(meeting)) => drop(meeting.give_up(pair)),
+            (begun, _) => drop(self.completed(begun)),
+        }
     }
 }
 
 impl<T> Receiver<T> {
-    /// The item of a selected take.
-    fn completed(&self, begun: Begun) -> Result<T, RecvError> {
-        let Begun::Kept(number) = begun else {
-            return Err(RecvError);
-        };
-        lock(&self.core().kept).take(number).ok_or(RecvError)
+    /// The item of a selected take. Gives None if the sender that it met gave it up.
+    pub(super) fn completed(&self, begun: Begun) -> Option<Result<T, RecvError>> {
+        match (begun, self.core().meeting()) {
+            (Begun::Met(pair), Some(meeting)) => meeting.take(pair).map(Ok),
+            (Begun::Kept(number), _) => {
+                let item = lock(&self.core().kept).take(number);
+                Some(item.ok_or(RecvError))
+            }
+            _ => Some(Err(RecvError)),
+        }
     }
 }
 
@@ -121,7 +147,18 @@ impl<T> Case for Sender<T> {
         Sender::line(self)
     }
 
+    fn meeting(&self) -> Option<(&dyn Meets, usize)> {
+        Some((self.core().meeting()?, SENDS))
+    }
+
+    fn is_posted(&self) {
+        self.core().ring_for_item();
+    }
+
     fn begin(&self) -> Try<Begun> {
+        if let Some((meeting, side)) = self.meeting() {
+            return try_meet(meeting, side);
+        }
         match self.core().reserve()? {
             true => Ok(Begun::Room),
             false => Ok(Begun::Closed),
@@ -129,12 +166,17 @@ impl<T> Case for Sender<T> {
     }
 
     fn look(&self) -> Try<()> {
-        self.core().seems_to_have_room()
+        match self.core().meeting() {
+            Some(meeting) => meeting.look(SENDS),
+            None => self.core().seems_to_have_room(),
+        }
     }
 
     fn give_up(&self, begun: Begun) {
-        if let Begun::Room = begun {
-            self.core().give_back_room();
+        match (begun, self.core().meeting()) {
+            (Begun::Met(pair), Some(meeting)) => drop(meeting.give_up(pair)),
+            (Begun::Room, _) => self.core().give_back_room(),
+            _ => {}
         }
     }
 }
@@ -142,13 +184,19 @@ impl<T> Case for Sender<T> {
 impl<T> Sender<T> {
     /// Sends by a selected send.
     fn complete(&self, begun: Begun, item: T) -> Result<(), SendError<T>> {
-        let Begun::Room = begun else {
-            return Err(SendError(item));
-        };
-        let parcel = self.pack(item);
-        match self.core().send_to_room(&parcel) {
-            true => parcel.sent(),
-            false => Err(SendError(parcel.unpack())),
+        match (begun, self.core().meeting()) {
+            (Begun::Met(pair), Some(meeting)) => {
+                // If the receiver that it met gave it up, it waits for another one.
+                meeting.send(pair, item).or_else(|item| self.send(item))
+            }
+            (Begun::Room, _) => {
+                let parcel = self.pack(item);
+                match self.core().send_to_room(&parcel) {
+                    true => parcel.sent(),
+                    false => Err(SendError(parcel.unpack())),
+                }
+            }
+            _ => Err(SendError(item)),
         }
     }
 }
@@ -283,9 +331,14 @@ impl<'a> Select<'a> {
     fn wait(&mut self, until: Option<Instant>, begins: bool) -> Option<(Entry<'a>, Begun)> {
         self.mix();
         let is_over = || until.is_some_and(|until| until <= Instant::now());
+        // Those that may meet another are posted at once, so that the other finds them.
+        let tries = match begins && self.entries.iter().any(|it| it.case.meeting().is_some()) {
+            true => 1,
+            false => TRIES,
+        };
         let mut backoff = Backoff::new();
         let mut done = try_each(&self.entries, begins).ok();
-        for _ in 1..TRIES {
+        for _ in 1..tries {
             if done.is_some() || is_over() {
                 break;
             }
@@ -316,25 +369,32 @@ impl<'a> Select<'a> {
         parker: &Arc<Parker>,
     ) -> Result<(usize, Begun), bool> {
         let is_over = until.is_some_and(|until| until <= Instant::now());
-        let stand = |it: &Entry<'a>| Place::stand(it.case.line(), parker);
+        let is_posted = |it: &Entry| begins && it.case.meeting().is_some();
+        let stand = |it: &Entry<'a>| (!is_posted(it)).then(|| Place::stand(it.case.line(), parker));
         let mut places: Vec<_> = self.entries.iter().map(stand).collect();
         let moment = match try_each(&self.entries, begins) {
             Ok(done) => return Ok(done),
             Err(moment) => moment,
         };
         let until = until.into_iter().chain(moment).min();
-        if !is_over {
+        let posts = self.entries.iter().any(is_posted);
+        if posts && !is_over {
+            if let Some(met) = self.meet(until, parker) {
+                return Ok(met);
+            }
+        } else if !is_over {
             parker.park(until);
         }
         let mut is_quiet = true;
-        for place in &mut places {
+        for place in places.iter_mut().flatten() {
             is_quiet &= !place.leave();
         }
         if is_quiet && is_over {
             return Err(true);
         }
         // The one that was rung for comes first.
-        let first = places.iter().position(Place::is_rung);
+        let is_rung = |it: &Option<Place>| it.as_ref().is_some_and(Place::is_rung);
+        let first = places.iter().position(is_rung);
         let rung = first.and_then(|at| {
             let (_, begun) = try_each(&self.entries[at..=at], begins).ok()?;
             Some((at, begun))
@@ -345,8 +405,37 @@ impl<'a> Select<'a> {
             Some(_) => 0..0,
             None => 0..places.len(),
         };
-        places[tried].iter_mut().for_each(Place::has_tried);
+        let tried = places[tried].iter_mut().flatten();
+        tried.for_each(Place::has_tried);
         done.ok_or(is_quiet)
+    }
+
+    /// Posts the operations of channels of capacity 0, parks, and takes them off. Gives the one that has met
+    /// another.
+    fn meet(&self, until: Option<Instant>, parker: &Arc<Parker>) -> Option<(usize, Begun)> {
+        let meeting = |(place, it): (usize, &Entry<'a>)| {
+            let (channel, side) = it.case.meeting()?;
+            Some((place, channel, side))
+        };
+        let cases: Vec<_> = self
+            .entries
+            .iter()
+            .enumerate()
+            .filter_map(meeting)
+            .collect();
+        let waiter = Waiter::new(parker);
+        let met = meet_or_post(&cases, &waiter);
+        if met.is_none() {
+            cases
+                .iter()
+                .for_each(|case| self.entries[case.0].case.is_posted());
+            parker.spin();
+            parker.park(until);
+        }
+        met.or_else(|| {
+            let (place, pair) = waiter.withdraw(&cases)?;
+            Some((place, Begun::Met(pair)))
+        })
     }
 
     /// Puts the operations in an order by chance.
@@ -362,6 +451,11 @@ impl<'a> Select<'a> {
     fn select_until(&mut self, until: Option<Instant>) -> Option<SelectedOperation<'a>> {
         let (entry, begun) = self.wait(until, true)?;
         Some(SelectedOperation::new(entry, begun))
+    }
+
+    /// Waits until one is ready, and begins it.
+    pub(super) fn begin_until(&mut self, until: Option<Instant>) -> Option<Begun> {
+        Some(self.wait(until, true)?.1)
     }
 
     /// Begins an operation, if one is ready.
@@ -463,7 +557,8 @@ impl Default for Select<'_> {
 ///
 /// Complete it by [`recv`](SelectedOperation::recv) or [`send`](SelectedOperation::send). If it is dropped
 /// instead, the item that was taken is dropped too, and the room is given back. If it is forgotten, both
-/// stay where they are as long as the channel is there.
+/// stay where they are as long as the channel is there. With capacity 0 it has met another operation, which
+/// waits until this one is completed; if either is dropped, the other one waits for a further one.
 #[must_use = "complete it by `recv` or `send`"]
 pub struct SelectedOperation<'a> {
     entry: Entry<'a>,
@@ -501,7 +596,9 @@ impl<'a> SelectedOperation<'a> {
     ///
     /// This isn't the receiver that was added: `&receiver` is to be the same reference.
     pub fn recv<T>(mut self, receiver: &Receiver<T>) -> Result<T, RecvError> {
-        receiver.completed(self.begun_of(receiver))
+        let told = receiver.completed(self.begun_of(receiver));
+        // If the sender that it met gave it up, it waits for another one.
+        told.unwrap_or_else(|| receiver.recv())
     }
 
     /// Completes a send. It doesn't wait, unless memory is wanting for a further queue.

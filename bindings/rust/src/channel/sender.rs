@@ -41,6 +41,9 @@ impl<T> Sender<T> {
     /// # Ok::<(), vahepito::OpenError>(())
     /// ```
     pub fn try_send(&self, item: T) -> Result<(), TrySendError<T>> {
+        if let Some(meeting) = self.core().meeting() {
+            return meeting.try_send(item);
+        }
         let parcel = self.pack(item);
         match self.core().try_send(&parcel) {
             Ok(true) => parcel.sent(),
@@ -52,6 +55,9 @@ impl<T> Sender<T> {
     /// Sends, and waits for room until this moment.
     #[inline]
     fn send_until(&self, item: T, until: Option<Instant>) -> Sent<T> {
+        if let Some(meeting) = self.core().meeting() {
+            return self.meet_until(meeting, item, until);
+        }
         let parcel = self.pack(item);
         match self.core().try_send(&parcel) {
             Ok(true) => parcel.sent(),
@@ -127,7 +133,7 @@ impl<T> Sender<T> {
     }
 
     /// Sends, as a future of any runtime. If it is dropped before it is done, the item wasn't sent,
-    /// and is dropped with it.
+    /// and is dropped with it; with capacity 0, unless a receiver has taken it since the last poll.
     ///
     /// ```
     /// use vahepito::{Receiver, SendError, Sender};
