@@ -2,7 +2,7 @@
 //! no other one asks for memory meanwhile. The README's table has these figures for four processors.
 use std::thread::available_parallelism;
 use std::time::Instant;
-use vahepito::{channel, groups};
+use vahepito::{channel, groups, never};
 
 /// What `mallinfo2` of the GNU C library tells.
 #[repr(C)]
@@ -59,6 +59,10 @@ fn a_channel_is_cheap_in_memory() {
     let sixteen = 16 * KB * seats.max(8) / 8;
     let small = bytes("channel::<u64>(1)", || channel::<u64>(1));
     assert!(small < sixteen, "{small}");
+    let meeting = bytes("channel::<u64>(0)", || channel::<u64>(0));
+    assert!(meeting < KB, "{meeting}");
+    let timer = bytes("never::<u64>()", never::<u64>);
+    assert!(timer < KB, "{timer}");
     let of_words = bytes("channel::<[u64; 4]>(1)", || channel::<[u64; 4]>(1));
     assert!(of_words < sixteen, "{of_words}");
     let large = bytes("channel::<[u8; 65536]>(1)", || channel::<[u8; 65536]>(1));

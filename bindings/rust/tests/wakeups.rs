@@ -1,5 +1,6 @@
 //! No wake-up is lost: a search over all interleavings of the waiting (`src/channel/event.rs` says
-//! what its steps are), and threads that stop for good where one is lost.
+//! what its steps are) and of the meetings (`src/channel/meeting.rs`), and threads that stop for good where one
+//! is lost.
 #[path = "../src/channel/rounds.rs"]
 mod rounds;
 
@@ -606,6 +607,225 @@ fn no_interleaving_leaves_a_caller_without_a_seat() {
 fn the_search_finds_the_ring_for_a_seat_that_is_missed() {
     let mut all = SEATS.iter();
     assert!(all.any(|(seats, calls)| seats::search(*seats, calls, false).is_err()));
+}
+
+/// Threads that meet in two channels of capacity 0: each looks for others and posts itself, parks, takes itself
+/// off, and looks whether somebody met it.
+mod meetings {
+    use std::collections::HashSet;
+
+    /// A channel, and whether it sends there.
+    pub type Operation = (usize, bool);
+
+    #[derive(Clone, Copy, PartialEq, Eq, Debug)]
+    pub enum Fault {
+        None,
+        /// It posts itself after its look, in a step of its own.
+        PostsLater,
+        /// It looks and posts in one channel after the other.
+        OneByOne,
+        /// It is met though somebody met it before.
+        MetTwice,
+        /// It doesn't look whether somebody met it before its time was over.
+        GoesOnUnmet,
+    }
+
+    #[derive(Clone, Copy, PartialEq, Eq, Hash, Debug)]
+    enum At {
+        Look(usize),
+        Post,
+        Park,
+        Withdraw(usize),
+        Done,
+    }
+
+    #[derive(Clone, PartialEq, Eq, Hash, Debug)]
+    struct Process {
+        at: At,
+        met: Option<usize>,
+        over: bool,
+    }
+
+    #[derive(Clone, PartialEq, Eq, Hash, Debug)]
+    pub struct State {
+        /// Those that are posted, by channel: the takes, and the sends.
+        posted: [[Vec<usize>; 2]; 2],
+        processes: Vec<Process>,
+    }
+
+    /// The operations of each process, and whether its time may be over.
+    pub type Model = [(&'static [Operation], bool)];
+
+    impl State {
+        /// Meets the first of the other side that nobody has met.
+        fn meet(&mut self, who: usize, (channel, sends): Operation, fault: Fault) -> bool {
+            while !self.posted[channel][usize::from(!sends)].is_empty() {
+                let other = self.posted[channel][usize::from(!sends)].remove(0);
+                let is_free = self.processes[other].met.is_none() || fault == Fault::MetTwice;
+                if other != who && is_free {
+                    self.processes[other].met = Some(who);
+                    self.processes[who].met = Some(other);
+                    return true;
+                }
+            }
+            false
+        }
+
+        /// The states after one step of this process.
+        fn after(&self, who: usize, model: &Model, fault: Fault) -> Vec<State> {
+            let (operations, has_time) = model[who];
+            let (mut next, mut others) = (self.clone(), vec![]);
+            let process = &self.processes[who];
+            let post = |state: &mut State, (channel, sends): Operation| {
+                state.posted[channel][usize::from(sends)].push(who);
+            };
+            next.processes[who].at = match process.at {
+                At::Look(at) if fault == Fault::OneByOne => match operations.get(at) {
+                    None => At::Park,
+                    Some(&it) if next.meet(who, it, fault) => At::Withdraw(0),
+                    Some(&it) => {
+                        post(&mut next, it);
+                        At::Look(at + 1)
+                    }
+                },
+                At::Look(_) if operations.iter().any(|&it| next.meet(who, it, fault)) => At::Done,
+                At::Look(_) if fault == Fault::PostsLater => At::Post,
+                At::Look(_) | At::Post => {
+                    operations.iter().for_each(|&it| post(&mut next, it));
+                    At::Park
+                }
+                At::Park => {
+                    if has_time {
+                        let mut other = self.clone();
+                        let process = &mut other.processes[who];
+                        (process.at, process.over) = (At::Withdraw(0), true);
+                        others.push(other);
+                    }
+                    match process.met {
+                        None => return others,
+                        Some(_) => At::Withdraw(0),
+                    }
+                }
+                At::Withdraw(at) => match operations.get(at) {
+                    Some(&(channel, sends)) => {
+                        let posted = &mut next.posted[channel][usize::from(sends)];
+                        posted.retain(|&other| other != who);
+                        At::Withdraw(at + 1)
+                    }
+                    None if process.over && fault == Fault::GoesOnUnmet => {
+                        next.processes[who].met = None;
+                        At::Done
+                    }
+                    None if process.met.is_some() || process.over => At::Done,
+                    None => At::Look(0),
+                },
+                At::Done => return others,
+            };
+            others.push(next);
+            others
+        }
+
+        /// Whether two of them wait that might meet, or one has met another that has not met it.
+        fn is_wrong(&self, model: &Model) -> bool {
+            let all = &self.processes;
+            let is_at = |who: usize, at| all[who].at == at;
+            let waits = |who: &usize| is_at(*who, At::Park) && all[*who].met.is_none();
+            let waiting: Vec<usize> = (0..all.len()).filter(waits).collect();
+            let might_meet = |&(channel, sends): &Operation, other: &usize| {
+                model[*other].0.contains(&(channel, !sends))
+            };
+            let is_missed = |who: &usize| {
+                let mut others = waiting.iter().filter(|other| *other != who);
+                others.any(|other| model[*who].0.iter().any(|it| might_meet(it, other)))
+            };
+            let rests = (0..all.len()).all(|who| is_at(who, At::Done) || waits(&who));
+            let is_mutual = |who: usize| all[who].met.is_none_or(|it| all[it].met == Some(who));
+            rests && (waiting.iter().any(is_missed) || !(0..all.len()).all(is_mutual))
+        }
+    }
+
+    /// Searches all states that these processes reach. Gives their number, or one that is wrong.
+    pub fn search(model: &Model, fault: Fault) -> Result<usize, State> {
+        let process = Process {
+            at: At::Look(0),
+            met: None,
+            over: false,
+        };
+        let start = State {
+            posted: Default::default(),
+            processes: vec![process; model.len()],
+        };
+        let (mut seen, mut left) = (HashSet::new(), vec![start]);
+        while let Some(state) = left.pop() {
+            if !seen.insert(state.clone()) {
+                continue;
+            }
+            if state.is_wrong(model) {
+                return Err(state);
+            }
+            left.extend((0..model.len()).flat_map(|who| state.after(who, model, fault)));
+        }
+        Ok(seen.len())
+    }
+}
+
+const SENDS: meetings::Operation = (0, true);
+const TAKES: meetings::Operation = (0, false);
+const OTHER_SENDS: meetings::Operation = (1, true);
+const OTHER_TAKES: meetings::Operation = (1, false);
+
+const MEETINGS: [&meetings::Model; 7] = [
+    &[(&[SENDS], false), (&[TAKES], false)],
+    &[(&[SENDS], true), (&[TAKES], true), (&[TAKES], false)],
+    &[
+        (&[SENDS, OTHER_TAKES], false),
+        (&[TAKES, OTHER_SENDS], false),
+    ],
+    &[
+        (&[SENDS, OTHER_TAKES], false),
+        (&[OTHER_SENDS, TAKES], true),
+        (&[TAKES], false),
+    ],
+    &[
+        (&[SENDS, OTHER_SENDS], false),
+        (&[TAKES], true),
+        (&[OTHER_TAKES], false),
+    ],
+    &[
+        (&[SENDS, TAKES], false),
+        (&[SENDS, TAKES], true),
+        (&[TAKES], false),
+    ],
+    &[
+        (&[SENDS, OTHER_TAKES], false),
+        (&[TAKES, OTHER_SENDS], false),
+        (&[SENDS, OTHER_SENDS], true),
+        (&[TAKES], false),
+    ],
+];
+
+#[test]
+fn no_interleaving_misses_a_meeting() {
+    for model in MEETINGS {
+        let states = meetings::search(model, meetings::Fault::None);
+        let states = states.unwrap_or_else(|state| panic!("{state:#?}"));
+        assert!(states >= 5, "{model:?}");
+    }
+}
+
+#[test]
+fn the_search_finds_each_fault_of_a_meeting() {
+    for fault in [
+        meetings::Fault::PostsLater,
+        meetings::Fault::OneByOne,
+        meetings::Fault::MetTwice,
+        meetings::Fault::GoesOnUnmet,
+    ] {
+        let found = MEETINGS
+            .iter()
+            .any(|it| meetings::search(it, fault).is_err());
+        assert!(found, "{fault:?}");
+    }
 }
 
 /// Does this on a thread of its own. It stops for good where one wake-up is lost, and has two minutes.

@@ -1,7 +1,9 @@
 //! Calls of four threads, each recorded with the moments of its begin and its end: whether some order of
 //! single steps, one for each call between its two moments, gives all that was returned. The calls are
-//! sends and takes, with and without a time, closes, clones, drops, and upgrades of weak handles.
+//! sends and takes, with and without a time, closes, clones, drops, upgrades of weak handles, and selects
+//! over two channels. With capacity 0 a send and its take are one step, between the moments of both.
 use super::rounds::rounds;
+use super::select::Begun;
 use super::*;
 use crate::words::backoff::Backoff;
 use std::collections::{HashSet, VecDeque};
@@ -29,12 +31,21 @@ enum Told {
     ReceiverCloned(usize),
     ReceiverUpgraded(usize, bool),
     ReceiverDropped(usize),
+    /// A selected send has its room. Then it is sent to it, the channel is closed, or the room is given back.
+    Reserved,
+    SentToRoom(u32),
+    RoomClosed,
+    GaveBack,
+    /// No operation of a select was ready: whether it had a take and a send of this channel, and of the other.
+    NoneReady(usize, [(bool, bool); 2]),
 }
 
 #[derive(Clone, Copy, Debug)]
 struct Call {
     begin: u64,
     end: u64,
+    /// Of the two.
+    channel: usize,
     told: Told,
 }
 
@@ -48,21 +59,25 @@ struct GroupModel {
 /// The channel as it is meant. A group that has lost its receivers is there no more.
 #[derive(Clone, PartialEq, Eq, Hash)]
 struct Model {
+    capacity: usize,
     groups: Vec<Option<GroupModel>>,
     senders: usize,
+    reserved: usize,
     closed: bool,
 }
 
 impl Model {
-    /// With so many senders, and so many receivers of each group.
-    fn start(senders: usize, receivers: &[usize]) -> Model {
+    /// With this capacity, so many senders, and so many receivers of each group.
+    fn start(capacity: usize, senders: usize, receivers: &[usize]) -> Model {
         let group = |&receivers: &usize| {
             let items = VecDeque::new();
             Some(GroupModel { items, receivers })
         };
         Model {
+            capacity,
             groups: receivers.iter().map(group).collect(),
             senders,
+            reserved: 0,
             closed: false,
         }
     }
@@ -77,16 +92,47 @@ impl Model {
         self.groups[group].as_mut().expect("its receiver is there")
     }
 
+    fn is_full(&self) -> bool {
+        self.len() + self.reserved == self.capacity
+    }
+
+    fn push(&mut self, item: u32) {
+        let groups = self.groups.iter_mut().flatten();
+        groups.for_each(|group| group.items.push_back(item));
+    }
+
     /// Whether a call returns this if it is made now. Then it is made.
-    fn makes(&mut self, told: Told, capacity: usize) -> bool {
+    fn makes(&mut self, told: Told) -> bool {
         match told {
             Told::Sent(item) => {
-                let may = !self.closed && self.len() < capacity;
-                let groups = self.groups.iter_mut().flatten();
-                groups.for_each(|group| group.items.push_back(item));
+                let may = !self.closed && !self.is_full();
+                self.push(item);
                 may
             }
-            Told::Full => !self.closed && self.len() == capacity,
+            Told::Reserved => {
+                let may = !self.closed && !self.is_full();
+                self.reserved += 1;
+                may
+            }
+            Told::SentToRoom(item) => {
+                self.reserved -= 1;
+                self.push(item);
+                !self.closed
+            }
+            Told::RoomClosed => {
+                self.reserved -= 1;
+                self.closed
+            }
+            Told::GaveBack => {
+                self.reserved -= 1;
+                true
+            }
+            Told::NoneReady(group, [(takes, sends), _]) => {
+                let is_empty = !takes || self.group(group).items.is_empty();
+                let is_full = !sends || self.is_full();
+                is_empty && is_full && !(takes || sends) | !self.closed
+            }
+            Told::Full => !self.closed && self.is_full(),
             Told::SendClosed => self.closed,
             Told::Got(group, item) => self.group(group).items.pop_front() == Some(item),
             Told::Empty(group) => !self.closed && self.group(group).items.is_empty(),
@@ -131,23 +177,61 @@ impl Model {
     }
 }
 
+/// The calls that this one is made with, at the same moment: with capacity 0 the take of what it sends.
+fn made_with(calls: &[Call], call: usize, models: &[Model; 2]) -> Option<Vec<usize>> {
+    let Call { channel, told, .. } = calls[call];
+    let mut all = vec![call];
+    if models[channel].capacity == 0 {
+        match told {
+            Told::Got(..) => return None,
+            Told::Sent(item) => {
+                let takes = |it: &Call| it.channel == channel && it.told == Told::Got(0, item);
+                all.push(calls.iter().position(takes)?);
+            }
+            _ => {}
+        }
+    }
+    Some(all)
+}
+
+/// Makes these calls, at the same moment. Returns whether they return what they did.
+fn make(calls: &[Call], all: &[usize], models: &mut [Model; 2]) -> bool {
+    let [first, ..] = all else { return false };
+    let Call { channel, told, .. } = calls[*first];
+    match told {
+        _ if all.len() == 2 => !models[channel].closed,
+        Told::NoneReady(group, [of_this, of_other]) => {
+            let other = Told::NoneReady(0, [of_other, of_this]);
+            models[channel].makes(Told::NoneReady(group, [of_this, of_other]))
+                && models[1 - channel].makes(other)
+        }
+        told => models[channel].makes(told),
+    }
+}
+
 /// Whether there is such an order.
-fn is_linear(calls: &[Call], start: Model, capacity: usize) -> bool {
+fn is_linear(calls: &[Call], start: [Model; 2]) -> bool {
     let (all, mut seen) = ((1_u64 << calls.len()) - 1, HashSet::new());
     let mut left = vec![(0, start)];
-    while let Some((made, model)) = left.pop() {
+    while let Some((made, models)) = left.pop() {
         if made == all {
             return true;
         }
-        if !seen.insert((made, model.clone())) {
+        if !seen.insert((made, models.clone())) {
             continue;
         }
         let rest = (0..calls.len()).filter(|call| made & 1 << call == 0);
         let first_end = rest.clone().map(|call| calls[call].end).min();
-        for call in rest.filter(|&call| Some(calls[call].begin) < first_end) {
-            let mut next = model.clone();
-            if next.makes(calls[call].told, capacity) {
-                left.push((made | 1 << call, next));
+        let has_begun = |call: usize| Some(calls[call].begin) < first_end;
+        for call in rest.filter(|&call| has_begun(call)) {
+            let Some(together) = made_with(calls, call, &models) else {
+                continue;
+            };
+            let is_left = |&call: &usize| made & 1 << call == 0 && has_begun(call);
+            let mut next = models.clone();
+            if together.iter().all(is_left) && make(calls, &together, &mut next) {
+                let made = together.iter().fold(made, |made, call| made | 1 << call);
+                left.push((made, next));
             }
         }
     }
@@ -171,11 +255,21 @@ struct Own {
     senders: Vec<Sender<u32>>,
     receivers: Vec<Receiver<u32>>,
     weak: (WeakSender<u32>, WeakReceiver<u32>),
+    /// Of the other channel, which stays open.
+    other: (Sender<u32>, Receiver<u32>),
 }
 
+/// The steps of a select: the moments of its begin and its end, the channel, and what it returned.
+type Parts = Vec<(u64, u64, usize, Told)>;
+
 impl Own {
-    fn new(sender: &Sender<u32>, receiver: &Receiver<u32>) -> Own {
+    fn new(
+        sender: &Sender<u32>,
+        receiver: &Receiver<u32>,
+        other: &(Sender<u32>, Receiver<u32>),
+    ) -> Own {
         Own {
+            other: other.clone(),
             group: receiver.group() - 1,
             weak: (sender.downgrade(), receiver.downgrade()),
             senders: vec![sender.clone()],
@@ -213,6 +307,83 @@ impl Own {
             Err(TryRecvError::Empty) => Told::Empty(self.group),
             Err(TryRecvError::Disconnected) => Told::Ended(self.group),
         })
+    }
+
+    /// A call of the other channel.
+    fn calls_other(&self, sends: bool, item: u32) -> Told {
+        match sends {
+            true => match self.other.0.try_send(item) {
+                Ok(()) => Told::Sent(item),
+                Err(_) => Told::Full,
+            },
+            false => match self.other.1.try_recv() {
+                Ok(item) => Told::Got(0, item),
+                Err(_) => Told::Empty(0),
+            },
+        }
+    }
+
+    /// A select of those operations, of the takes and sends of both channels, whose bits are set, if there are
+    /// handles for them; without a time, or with a short one.
+    fn selects(&self, bits: u64, gives_back: bool, item: u32, clock: &Clock) -> Parts {
+        let receivers = [self.receivers.last(), Some(&self.other.1)];
+        let senders = [self.senders.last(), Some(&self.other.0)];
+        let mut select = Select::new();
+        let mut operations = vec![];
+        let mut of_channels = [(false, false); 2];
+        for channel in 0..2 {
+            if let Some(receiver) = receivers[channel].filter(|_| bits >> channel & 1 == 1) {
+                select.recv(receiver);
+                of_channels[channel].0 = true;
+                operations.push((channel, false));
+            }
+            if let Some(sender) = senders[channel].filter(|_| bits >> (2 + channel) & 1 == 1) {
+                select.send(sender);
+                of_channels[channel].1 = true;
+                operations.push((channel, true));
+            }
+        }
+        let begin = clock.now();
+        let operation = match bits >> 4 & 1 {
+            0 => select.try_select().ok(),
+            _ => select.select_timeout(Duration::from_micros(20)).ok(),
+        };
+        let end = clock.now();
+        let Some(operation) = operation else {
+            let told = Told::NoneReady(self.group, of_channels);
+            return vec![(begin, end, 0, told)];
+        };
+        let (channel, sends) = operations[operation.index()];
+        let has_room = matches!(operation.begun, Some(Begun::Room));
+        let group = [self.group, 0][channel];
+        match (sends, receivers[channel], senders[channel]) {
+            (false, Some(receiver), _) => {
+                let taken = operation.recv(receiver);
+                let told = taken.map_or(Told::Ended(group), |item| Told::Got(group, item));
+                vec![(begin, clock.now(), channel, told)]
+            }
+            (_, _, Some(sender)) if has_room => {
+                let start = clock.now();
+                let told = match gives_back {
+                    true => {
+                        drop(operation);
+                        Told::GaveBack
+                    }
+                    false => match operation.send(sender, item) {
+                        Ok(()) => Told::SentToRoom(item),
+                        Err(_) => Told::RoomClosed,
+                    },
+                };
+                let reserved = (begin, end, channel, Told::Reserved);
+                vec![reserved, (start, clock.now(), channel, told)]
+            }
+            (_, _, Some(sender)) => {
+                let sent = operation.send(sender, item);
+                let told = sent.map_or(Told::SendClosed, |()| Told::Sent(item));
+                vec![(begin, clock.now(), channel, told)]
+            }
+            _ => vec![],
+        }
     }
 
     /// One call of this kind, if there is a handle for it.
@@ -275,20 +446,37 @@ impl Clock {
     }
 }
 
-/// One thread's calls, at random.
-fn calls(own: &mut Own, clock: &Clock, mut random: Random, first: u32) -> Vec<Call> {
+/// One thread's calls, at random, of so many kinds: those from 30 on are of selects.
+fn calls(own: &mut Own, clock: &Clock, mut random: Random, first: u32, kinds: u64) -> Vec<Call> {
     clock.start();
-    let call = |item| {
-        let kind = random.below(30);
+    let mut all = vec![];
+    for item in first..first + 4 {
+        let kind = random.below(kinds);
         let begin = clock.now();
-        let told = own.call(kind, item)?;
-        let end = clock.now();
+        let parts = match kind {
+            0..30 => {
+                let told = own.call(kind, item);
+                told.map(|told| (begin, clock.now(), 0, told))
+                    .into_iter()
+                    .collect()
+            }
+            30..34 => {
+                let told = own.calls_other(kind.is_multiple_of(2), item);
+                vec![(begin, clock.now(), 1, told)]
+            }
+            _ => own.selects(random.below(32), random.below(4) == 0, item, clock),
+        };
+        all.extend(parts.into_iter().map(|(begin, end, channel, told)| Call {
+            begin,
+            end,
+            channel,
+            told,
+        }));
         if random.below(4) == 0 {
             thread::yield_now();
         }
-        Some(Call { begin, end, told })
-    };
-    (first..first + 4).filter_map(call).collect()
+    }
+    all
 }
 
 /// So many channels of so many groups, and how the calls of four threads on each went.
@@ -296,6 +484,10 @@ struct Runs {
     groups: usize,
     life: u64,
     per_sender: u32,
+    /// The capacity of a run's channel.
+    capacity: fn(u64) -> usize,
+    /// If there are selects, the capacity of the other channel.
+    other: Option<usize>,
 }
 
 /// A channel, the threads' handles, and what was recorded.
@@ -303,6 +495,7 @@ type Run = (Clock, Vec<Own>, Vec<Call>);
 
 impl Runs {
     fn open(&self, capacity: usize) -> Run {
+        let other = channel(self.other.unwrap_or(1)).unwrap();
         // Beside those that are moved over from the queue before.
         let config = Config {
             life: (self.life + capacity as u64).min(1 << 48),
@@ -310,9 +503,15 @@ impl Runs {
             ..config(capacity)
         };
         let copies = (self.groups > 1).then_some(u32::clone as Copies<u32>);
-        let (sender, receivers) = open(config, self.groups as u32, copies).unwrap();
+        let (sender, receivers) = match capacity {
+            0 => {
+                let (sender, receiver) = channel(0).unwrap();
+                (sender, vec![receiver])
+            }
+            _ => open(config, self.groups as u32, copies).unwrap(),
+        };
         let receivers = receivers.iter().cycle().take(THREADS);
-        let handles = receivers.map(|receiver| Own::new(&sender, receiver));
+        let handles = receivers.map(|receiver| Own::new(&sender, receiver, &other));
         (Clock::default(), handles.collect(), vec![])
     }
 
@@ -324,13 +523,14 @@ impl Runs {
                 thread.push((clock, own));
             }
         }
+        let kinds = self.other.map_or(30, |_| 60);
         let told: Vec<Vec<Vec<Call>>> = thread::scope(|scope| {
             let threads = (0_u32..).zip(threads).map(|(number, channels)| {
                 scope.spawn(move || {
                     let calls = (seed..).zip(channels).map(|(seed, (clock, own))| {
                         let seed = seed * THREADS as u64 + u64::from(number) + 1;
                         let random = Random(seed.wrapping_mul(0x9e37_79b9_7f4a_7c15));
-                        calls(own, clock, random, number * 100)
+                        calls(own, clock, random, number * 100, kinds)
                     });
                     calls.collect()
                 })
@@ -347,34 +547,39 @@ impl Runs {
 
     /// Checks what was recorded, with what is left after it.
     fn check(&self, capacity: usize, (clock, handles, mut all): Run) {
-        let mut at_rest = |told| {
+        let mut at_rest = |channel, told| {
             let (begin, end) = (clock.now(), clock.now());
-            all.push(Call { begin, end, told });
+            all.push(Call {
+                begin,
+                end,
+                channel,
+                told,
+            });
         };
         let sender = handles.iter().find_map(|own| own.senders.last());
         sender
             .into_iter()
-            .for_each(|it| at_rest(Told::Len(it.len())));
+            .for_each(|it| at_rest(0, Told::Len(it.len())));
+        let left = handles[0].other.1.try_iter();
+        left.for_each(|item| at_rest(1, Told::Got(0, item)));
         for own in &handles {
             for receiver in &own.receivers {
                 let left = receiver.try_iter().map(|item| Told::Got(own.group, item));
-                left.for_each(&mut at_rest);
+                left.for_each(|told| at_rest(0, told));
             }
         }
         all.sort_by_key(|call| call.begin);
         let mut receivers = vec![0; self.groups];
         (0..THREADS).for_each(|thread| receivers[thread % self.groups] += 1);
-        let start = Model::start(THREADS, &receivers);
-        assert!(
-            is_linear(&all, start, capacity),
-            "capacity {capacity}: {all:#?}"
-        );
+        let other = Model::start(self.other.unwrap_or(1), THREADS, &[THREADS]);
+        let start = [Model::start(capacity, THREADS, &receivers), other];
+        assert!(is_linear(&all, start), "capacity {capacity}: {all:#?}");
     }
 
     fn make(self, count: u64) {
         const BATCH: u64 = 50;
         for batch in 0..rounds(count).div_ceil(BATCH) {
-            let capacity = |run: u64| 1 + (batch + run) as usize % 3;
+            let capacity = |run: u64| (self.capacity)(batch + run);
             let mut runs: Vec<Run> = (0..BATCH).map(|run| self.open(capacity(run))).collect();
             self.record(batch * BATCH, &mut runs);
             for (run, recorded) in (0..).zip(runs) {
@@ -390,8 +595,35 @@ fn runs(count: u64, groups: usize, life: u64, per_sender: u32) {
         groups,
         life,
         per_sender,
+        capacity: |run| 1 + run as usize % 3,
+        other: None,
     };
     runs.make(count);
+}
+
+/// Selects over such a channel, of so many groups, and another one of this capacity.
+fn select_runs(count: u64, groups: usize, capacity: fn(u64) -> usize, other: usize) {
+    let runs = Runs {
+        groups,
+        life: 1 << 48,
+        per_sender: u32::MAX,
+        capacity,
+        other: Some(other),
+    };
+    runs.make(count);
+}
+
+#[test]
+fn selects_have_an_order() {
+    select_runs(20_000, 1, |run| 1 + run as usize % 2, 1);
+    select_runs(5_000, 2, |run| 1 + run as usize % 2, 2);
+}
+
+#[test]
+fn meetings_have_an_order() {
+    select_runs(10_000, 1, |_| 0, 0);
+    select_runs(10_000, 1, |run| run as usize % 2, 1);
+    select_runs(5_000, 1, |_| 2, 0);
 }
 
 #[test]
@@ -416,8 +648,14 @@ fn calls_over_many_queues_have_an_order() {
 /// The check itself: what no order gives is refused.
 #[test]
 fn what_has_no_order_is_refused() {
-    let call = |begin, end, told| Call { begin, end, told };
-    let is_linear = |calls: &[Call]| is_linear(calls, Model::start(1, &[1]), 1);
+    let call = |begin, end, told| Call {
+        begin,
+        end,
+        channel: 0,
+        told,
+    };
+    let start = |capacity| [0, 1].map(|_| Model::start(capacity, 1, &[1]));
+    let is_linear = |calls: &[Call]| is_linear(calls, start(1));
     let sent = call(0, 1, Told::Sent(7));
     let refused = [
         vec![sent, call(2, 3, Told::Empty(0))],
@@ -455,6 +693,44 @@ fn what_has_no_order_is_refused() {
     for calls in refused {
         assert!(!is_linear(&calls), "{calls:?}");
     }
+    let none_ready = Told::NoneReady(0, [(true, false), (true, false)]);
+    let of_other = |call: Call| Call { channel: 1, ..call };
+    let refused = [
+        vec![call(0, 1, Told::Reserved), sent_at(2)],
+        vec![
+            call(0, 1, Told::Reserved),
+            call(2, 3, Told::Got(0, 7)),
+            call(4, 5, Told::SentToRoom(7)),
+        ],
+        vec![
+            call(0, 1, Told::Reserved),
+            call(2, 3, Told::GaveBack),
+            call(4, 5, Told::Full),
+        ],
+        vec![sent, call(2, 3, none_ready)],
+        // One of the two has an item all the time.
+        vec![
+            sent,
+            call(2, 9, none_ready),
+            of_other(call(3, 4, Told::Sent(8))),
+            call(5, 6, Told::Got(0, 7)),
+            of_other(call(10, 11, Told::Got(0, 8))),
+        ],
+    ];
+    for calls in refused {
+        assert!(!is_linear(&calls), "{calls:?}");
+    }
+    assert!(is_linear(&[
+        sent,
+        call(2, 9, none_ready),
+        call(3, 4, Told::Got(0, 7)),
+        of_other(call(5, 6, Told::Sent(8))),
+    ]));
+    let meets = |calls: &[Call]| super::linear::is_linear(calls, start(0));
+    let meeting = |begin| call(begin, begin + 2, Told::Sent(7));
+    assert!(meets(&[meeting(0), call(1, 3, Told::Got(0, 7))]));
+    assert!(!meets(&[meeting(0), call(3, 4, Told::Got(0, 7))]));
+    assert!(!meets(&[meeting(0)]));
     assert!(is_linear(&[sent, call(0, 3, Told::Empty(0))]));
     assert!(is_linear(&[
         call(0, 9, Told::Got(0, 7)),
@@ -471,5 +747,10 @@ fn what_has_no_order_is_refused() {
 fn sent_at(begin: u64) -> Call {
     let end = begin + 1;
     let told = Told::Sent(7);
-    Call { begin, end, told }
+    Call {
+        begin,
+        end,
+        channel: 0,
+        told,
+    }
 }

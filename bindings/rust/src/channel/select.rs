@@ -563,7 +563,7 @@ impl Default for Select<'_> {
 pub struct SelectedOperation<'a> {
     entry: Entry<'a>,
     /// Until it is completed.
-    begun: Option<Begun>,
+    pub(super) begun: Option<Begun>,
 }
 
 impl<'a> SelectedOperation<'a> {
