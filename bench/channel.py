@@ -40,14 +40,20 @@ BURSTS = [
     ("8 and 8", "shared", 8, 250, "old"),
     ("32 and 32", "shared", 32, 300, "old"),
     ("a receiver that waits, p50", "blocked", 1, 300, "crossbeam"),
+    ("a select that waits, p50", "select", 64, 300, "crossbeam"),
+    ("the same with capacity 0, p50", "select", 0, 300, "crossbeam"),
+    ("a round trip with capacity 0", "meet", 1, 150, "crossbeam"),
     ("a round trip of two tasks", "tasks", 1, 150, "old"),
     ("channel::<u64>(1)", "open", 1, 100, "old"),
     ("len", "len", 1, 50, "old"),
 ]
 
 
-def build(name, crate, peers):
-    """The program over this crate."""
+NEW = {"select", "meet"}  # the modes that the crate of an earlier commit may not have
+
+
+def build(name, crate, peers, selects):
+    """The program over this crate, with the modes NEW if it has selects."""
     room = os.path.join(OUT, name)
     os.makedirs(os.path.join(room, ".cargo"), exist_ok=True)
     wanted = 'crossbeam-channel = { version = "*", optional = true }\n' if peers else ""
@@ -55,10 +61,11 @@ def build(name, crate, peers):
     with open(os.path.join(room, "Cargo.toml"), "w") as file:
         file.write('[package]\nname = "channel"\nversion = "0.1.0"\nedition = "2024"\n\n[workspace]\n\n'
                    f'[[bin]]\nname = "channel"\npath = "{HERE}/channel/src/main.rs"\n\n'
-                   f'[dependencies]\nvahepito = {{ path = "{crate}" }}\n{wanted}\n[features]\ncrossbeam-channel = {feature}\n')
+                   f'[dependencies]\nvahepito = {{ path = "{crate}" }}\n{wanted}\n[features]\nselect = []\ncrossbeam-channel = {feature}\n')
     with open(os.path.join(room, ".cargo", "config.toml"), "w") as file:
         file.write(f'[source.crates-io]\nreplace-with = "debian"\n\n[source.debian]\ndirectory = "{REGISTRY}"\n' if peers else "")
-    words = ["cargo", "build", "-q", "--release", "--offline"] + (["--features", "crossbeam-channel"] if peers else [])
+    features = ["select"] * selects + ["crossbeam-channel"] * peers
+    words = ["cargo", "build", "-q", "--release", "--offline", "--features", ",".join(features)]
     environment = {**os.environ, "VAHEPITO_LIB": ARCHIVE, "CARGO_TARGET_DIR": os.path.join(room, "target")}
     subprocess.run(words, cwd=room, check=True, env=environment)
     return os.path.join(room, "target", "release", "channel")
@@ -119,8 +126,8 @@ def main():
     parser.add_argument("--only", help="bursts of this mode alone")
     words = parser.parse_args()
     peers = any(name.startswith("crossbeam-channel-") for name in os.listdir(REGISTRY)) if os.path.isdir(REGISTRY) else False
-    programs = {"new": (build("new", os.path.join(TOP, "bindings", "rust"), peers), "vahepito"),
-                "old": (build("old", crate_at(words.commit), False), "vahepito")}
+    programs = {"new": (build("new", os.path.join(TOP, "bindings", "rust"), peers, True), "vahepito"),
+                "old": (build("old", crate_at(words.commit), False, False), "vahepito")}
     if peers:
         programs["crossbeam"] = (programs["new"][0], "crossbeam")
     bursts = [burst for burst in BURSTS if words.only in (None, burst[1])]
@@ -129,7 +136,8 @@ def main():
     while time.time() - start < words.seconds or rounds < 2:
         busy = rounds % 2 == 1
         beside = others(busy)
-        cells = [(burst, name) for burst in bursts for name in programs if not (name == "crossbeam" and burst[1] == "tasks")]
+        misses = lambda name, mode: name == "crossbeam" and mode == "tasks" or name == "old" and mode in NEW
+        cells = [(burst, name) for burst in bursts for name in programs if not misses(name, burst[1])]
         random.shuffle(cells)
         for burst, name in cells:
             took.setdefault((burst[0], busy, name), []).append(run(*programs[name], burst))
@@ -142,10 +150,9 @@ def main():
         print("| " + ("beside a busy process on each processor" if busy else "alone") + " | now | " + words.commit
               + " | now to that | crossbeam | now to crossbeam |\n|---|---|---|---|---|---|")
         for burst in bursts:
-            new, old = (took[burst[0], busy, name] for name in ["new", "old"])
-            peer = took.get((burst[0], busy, "crossbeam"))
+            new, old, peer = (took.get((burst[0], busy, name)) for name in ["new", "old", "crossbeam"])
             quotient = lambda base: f"{statistics.median(a / b for a, b in zip(new, base)):.2f}" if base else ""
-            print(f"| {burst[0]} | {told(new)} | {told(old)} | {quotient(old)} | {told(peer) if peer else ''} | {quotient(peer)} |")
+            print(f"| {burst[0]} | {told(new)} | {told(old) if old else ''} | {quotient(old)} | {told(peer) if peer else ''} | {quotient(peer)} |")
         print()
 
 

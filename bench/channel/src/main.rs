@@ -19,6 +19,8 @@ trait Channel {
     fn send<T: Send + 'static>(sender: &Self::Sender<T>, item: T);
     fn recv<T: Send + 'static>(receiver: &Self::Receiver<T>) -> Option<T>;
     fn len<T: Send + 'static>(sender: &Self::Sender<T>) -> usize;
+    #[cfg(feature = "select")]
+    fn either<T: Send + 'static>(receivers: &[Self::Receiver<T>; 2]) -> Option<T>;
 }
 
 macro_rules! channel {
@@ -39,6 +41,13 @@ macro_rules! channel {
             }
             fn len<T: Send + 'static>(sender: &$of::Sender<T>) -> usize {
                 sender.len()
+            }
+            #[cfg(feature = "select")]
+            fn either<T: Send + 'static>([first, second]: &[$of::Receiver<T>; 2]) -> Option<T> {
+                $of::select! {
+                    recv(first) -> told => told.ok(),
+                    recv(second) -> told => told.ok(),
+                }
             }
         }
     };
@@ -124,6 +133,51 @@ fn blocked<C: Channel>(time: Duration) -> f64 {
     waits.join().unwrap()
 }
 
+/// The same, of a select over two channels of this capacity, to which the items go in turn.
+#[cfg(feature = "select")]
+fn select<C: Channel>(capacity: usize, time: Duration) -> f64 {
+    let (senders, receivers): (Vec<_>, Vec<_>) = (0..2).map(|_| C::open::<Instant>(capacity)).unzip();
+    let receivers: [_; 2] = receivers.try_into().ok().expect("there are two");
+    let waits = thread::spawn(move || {
+        let mut times = vec![];
+        while let Some(sent) = C::either(&receivers) {
+            times.push(sent.elapsed().as_nanos());
+        }
+        times.sort();
+        times[times.len() / 2] as f64
+    });
+    let begin = Instant::now();
+    for sender in senders.iter().cycle() {
+        if begin.elapsed() > time {
+            break;
+        }
+        thread::sleep(Duration::from_micros(500));
+        C::send(sender, Instant::now());
+    }
+    drop(senders);
+    waits.join().unwrap()
+}
+
+/// Two threads send an item there and back by channels of capacity 0: nanoseconds a round.
+#[cfg(feature = "select")]
+fn meet<C: Channel>(time: Duration) -> f64 {
+    let (there, here) = C::open::<u64>(0);
+    let (back, answers) = C::open::<u64>(0);
+    thread::scope(|scope| {
+        scope.spawn(move || {
+            while let Some(item) = C::recv(&here) {
+                C::send(&back, item);
+            }
+        });
+        let took = each(time, || {
+            C::send(&there, 7);
+            C::recv(&answers);
+        });
+        drop(there);
+        took
+    })
+}
+
 type Ready = Arc<Mutex<VecDeque<usize>>>;
 
 struct Task(usize, Ready);
@@ -195,6 +249,10 @@ fn burst<C: Channel>(mode: &str, number: usize, time: Duration) -> f64 {
         },
         "shared" => shared::<C>(number, time),
         "blocked" => blocked::<C>(time),
+        #[cfg(feature = "select")]
+        "select" => select::<C>(number, time),
+        #[cfg(feature = "select")]
+        "meet" => meet::<C>(time),
         "open" => each(time, || drop(C::open::<u64>(1))),
         "len" => {
             let (sender, _receiver) = C::open::<u64>(CAPACITY);
