@@ -172,7 +172,7 @@ def judge_recorded():
         for queue in ["channel", "mpsc", *peers, "fault"]:
             log = Path(name, queue)
             log.write_bytes(subprocess.run([recorder, queue, "20000"], capture_output=True, check=True).stdout)
-            said = subprocess.run([PROGRAM], input=log.read_text(), capture_output=True, text=True, check=False).stdout
+            said = subprocess.run([PROGRAM, "judge"], input=log.read_text(), capture_output=True, text=True, check=False).stdout
             picture = subprocess.run(
                 [TOP / "tools/fault_picture.py", log], input=said, capture_output=True, text=True, check=False
             ).stdout
