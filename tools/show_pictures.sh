@@ -15,10 +15,10 @@ folder=docs/pictures
 record=$folder/show.sums
 
 # The pictures: the name, the plan in examples/, the event, and how high the window is.
-pictures='combining bodies_of_words 75 840
-freed full 85 800
-close close_and_drain 44 800
-groups two_groups 101 1080'
+pictures='combining bodies_of_words 75 780
+freed full 85 708
+close close_and_drain 44 682
+groups two_groups 101 700'
 
 # What a picture was drawn from.
 sum_of() {
@@ -39,7 +39,7 @@ draw() {
     while read -r picture plan event height; do
         crates/ccq_show/out/ccq_show <"examples/$plan.json" >"$room/page.html" || return 1
         "$1" --headless --no-sandbox --disable-gpu --hide-scrollbars --force-device-scale-factor=1 \
-            --user-data-dir="$room/profile" --window-size="1180,$height" --virtual-time-budget=2000 \
+            --user-data-dir="$room/profile" --window-size="1366,$height" --virtual-time-budget=2000 \
             --screenshot="$PWD/$folder/show-$picture.png" "file://$room/page.html#event=$event" \
             >"$room/log" 2>&1 </dev/null || return 1
         echo "$folder/show-$picture.png: event $event of examples/$plan.json"
