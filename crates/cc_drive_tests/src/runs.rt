@@ -48,17 +48,18 @@ fn all_pass<R: Threads + Wait + Sync + Abort>(rt: &R, alloc: Global, config: &Dr
 }
 
 /// Shapes of runs: how many threads send and take, the items, the capacity and the bound.
-const SHAPES: [(u32, u32, u64, u32, u32); 6] = [
+const SHAPES: [(u32, u32, u64, u32, u32); 7] = [
     (1, 1, 1, 1, 1),
     (3, 2, 100, 4, 2),
+    (2, 2, 1000, 4, 2),
     (2, 3, 0, 64, 8),
     (4, 4, 50, 1, 1),
     (16, 16, 200, 64, 1),
     (63, 64, 10, 16, 1024),
 ];
 
-/// Each item that is sent is taken, in runs of several shapes: the least, the greatest in threads, no items at all, one
-/// place for many threads, and more threads than processors where each call hands over to the next.
+/// Each item that is sent is taken, in runs of several shapes: the least, the round of `shared_fifo`, no items at all, one
+/// place for many threads, more threads than processors where each call hands over to the next, and the most threads.
 #[test]
 fn all_items_pass(rt: HostRuntime) {
     for (senders, receivers, items, capacity, bound) in SHAPES {
