@@ -43,6 +43,7 @@ impl<T> Timer<T> {
         }
     }
 
+    #[cold]
     pub fn len(&self) -> usize {
         usize::from(self.look().is_ok())
     }
