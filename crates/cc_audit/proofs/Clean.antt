@@ -12,7 +12,8 @@ use Rattle.cc_audit.specs.Receipts.{send_receipt}
 use Rattle.cc_audit.specs.Verdict.{HasNoFault, double_accept, double_take, stranger, altered, gap, disorder, overrun, SendNames, TakeNames, Differs, DoubleAccept, DoubleTake, Stranger, Altered, Gap, Disorder, Overrun}
 use Rattle.cc_audit.proofs.Counts.{Two, two_of_count}
 
--- Items at their places, of which a front was taken, in the order of each sender's numbers; and a total of just these
+-- Items at their places, of which a prefix was taken, in the order of each sender's numbers; and a total of exactly
+-- these
 pub record Fair (sent : List Item) (takes : List TakeReceipt) (total : Option ℕ) : Type 0 where
   pub places : (i : ℕ) (x : Item) → slice_get sent i ≡ Some x → x.place ≡ i
   pub front : IsFront (map (λ t. t.item) takes) sent
@@ -61,7 +62,7 @@ module _ (sent : List Item) (takes : List TakeReceipt) (total : Option ℕ) (fai
       let d : TakeReceipt = record { receiver = 0; item = no_item } in
       omega (arith, two.order, two.below, taken_place two.first d (omega (arith, two.order, two.below)), taken_place two.second d two.below, eqb-true _ p (two.first_passes d), eqb-true _ p (two.second_passes d))
 
-  -- a receipt that names p stands at p
+  -- a receipt that names p is at p
   send_at : (p k : ℕ) (s : SendReceipt) → k < length sends → get_or sends k s ≡ s → s.place ≡ p → k ≡ p
   send_at p k s l is names = omega (arith, sent_place k s l, ap (λ (r : SendReceipt). r.place) is, names)
 

@@ -1,4 +1,5 @@
--- What a copy of a list in another order, or of one number of each element, shows of the list.
+-- The facts that a copy of a list in another order, or of one number of each element, shows of the
+-- list.
 use Rattle.std.proofs.Common.{◌≡◌, ℕ, ◌+◌, ◌<◌, ◌==◌, List, [], ◌∷◌, length, map, Bool, cond, get_or, count_by, sum_by, Any, Contains, IsPermutation, refl, sym, ap, ◌∙◌, subst, arith}
 use Rattle.std.proofs.lemmas.List.{length-map, get_or-map, get_or_default}
 use Rattle.std.proofs.lemmas.List.Sums.{sum_by-cons}

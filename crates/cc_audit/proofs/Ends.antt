@@ -1,4 +1,4 @@
--- No receipts are left where the calls or the answers have come to an end.
+-- No receipts are left if the calls or the answers have come to an end.
 use Rattle.std.proofs.Common.{◌≡◌, ◌⊎◌, inl, inr, List, [], ◌∷◌, ◌++◌, map, refl, sym, ap, ◌∙◌, append-nil}
 use Rattle.cc_model.specs.Items.{accepted_by}
 use Rattle.cc_audit.specs.Names.{Entry, Answer, SendReceipt, TakeReceipt}

@@ -42,7 +42,7 @@ module _ (sends : List SendReceipt) (takes : List TakeReceipt) (total : Option �
   abbrev pub Lesser : (kind p : ℕ) → Type 0
   Lesser kind p = (k : ℕ) × (k < kind) × Holds sends takes total k p
 
-  -- the least place of a kind, where nothing is asked of places at which a lesser one holds
+  -- the least place of a kind, if nothing is asked of places at which a lesser one holds
   abbrev pub Finds : ℕ → Option ℕ → Type 0
   Finds kind r = IsLeastUnless (Holds sends takes total kind) (Lesser kind) r
 
@@ -60,7 +60,7 @@ module _ (sends : List SendReceipt) (takes : List TakeReceipt) (total : Option �
   pub none_yet : UpTo 0 Verdict.Clean
   none_yet k q l h = absurd (omega (arith, (kind_bounds h).0))
 
-  -- no lesser kind holds where none of the first n does
+  -- no lesser kind holds if none of the first n does
   lesser_none : (n q : ℕ) → ((k : ℕ) → k ≤ n → Holds sends takes total k q → ⊥) → Lesser (n + 1) q → ⊥
   lesser_none n q none less = none less.0 (omega (arith, less.1)) less.2
 

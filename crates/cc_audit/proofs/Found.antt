@@ -1,4 +1,4 @@
--- What each search over copies of the receipts finds.
+-- The result of each search over copies of the receipts.
 use Rattle.std.proofs.Common.{◌≡◌, ℕ, ◌<◌, ◌≤◌, ◌==◌, ◌⊎◌, inl, inr, List, map, Option, Some, None, Contains, Any, IsSomeAnd, IsPermutation, refl, sym, subst, arith}
 use Rattle.cc_audit.specs.Names.{SendReceipt, TakeReceipt}
 use Rattle.cc_audit.specs.Least.{IsLeast, IsLeastUnless}

@@ -10,11 +10,11 @@ use Rattle.cc_audit.specs.Least.{IsLeast, sooner_of}
 use Rattle.cc_audit.proofs.Soonest.{least_either, least_same}
 use Rattle.cc_audit.proofs.Counts.{Two, count_of_two, two_of_count}
 
--- where a number stands
+-- the place of a number
 at : (xs : List ℕ) (p : ℕ) → Contains xs p → (k : ℕ) × (k < length xs) × (get_or xs k 0 ≡ p)
 at xs p h = (h.0, h.1, get_or_default xs h.0 0 p h.1 ∙ h.2)
 
--- ---- a number that stands twice
+-- ---- a number that occurs twice
 
 abbrev pub Rises : List ℕ → ℕ → Type 0
 Rises xs n = (a b : ℕ) → a < b → b < n → get_or xs a 0 < get_or xs b 0

@@ -1,4 +1,4 @@
--- Send receipts behind references: what the lists of the receipts themselves show.
+-- Send receipts by reference: what the lists of the receipts themselves show.
 use Rattle.std.proofs.Common.{◌≡◌, ℕ, ◌+◌, ◌-◌, ◌<◌, ◌≤◌, inl, inr, List, [], ◌∷◌, length, Option, Some, Ok, Err, get_or, sym, ap, ◌∙◌, subst, arith}
 use Rattle.std.specs.Borrow.{Bor}
 use Rattle.std.specs.Ordering.{nat_cmp}

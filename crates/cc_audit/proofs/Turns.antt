@@ -21,7 +21,7 @@ rise_along {n} {sender} {place} g (suc k) a b is l same =
     let mid : sender a ≡ sender c = omega (arith, g.senders a c (omega arith) (omega arith), g.senders c b (omega arith) l) in
     omega (arith, rise_along g k a c (omega arith) (omega arith) mid, g.places c b (omega arith) l (omega arith))
 
--- where a number doesn't rise from a to b, it doesn't between two neighbours on the way
+-- if a number doesn't rise from a to b, it doesn't between two neighbours on the way
 pub descent : {n : ℕ} {sender place : ℕ → ℕ} (number : ℕ → ℕ) (first : Option ℕ) → Grouped n sender place
     → ((i j : ℕ) → j ≡ i + 1 → j < n → sender i ≡ sender j → number j ≤ number i → AtMost first (place j))
     → (k a b : ℕ) → b ≡ a + 1 + k → b < n → sender a ≡ sender b → number b ≤ number a → AtMost first (place b)

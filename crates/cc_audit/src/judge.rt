@@ -24,8 +24,9 @@ fn places_taken(alloc: Global, takes: &[TakeReceipt]) -> Result<Vec<u64>, AllocE
     sorted(takes.iter().map(|t| t.item.place).collect(alloc)?)
 }
 
-/// The verdict on these receipts, whatever their order, with the total that a close gave. It takes memory in proportion
-/// to the receipts: first for the places alone, and when these are let go for a reference to each receipt of a send.
+/// The verdict on these receipts, whatever their order, with the total that a close returned. It takes memory in
+/// proportion to the receipts: first for the places alone, and after these are released for a reference to each receipt
+/// of a send.
 pub fn audit(
     alloc: Global,
     sends: &[SendReceipt],

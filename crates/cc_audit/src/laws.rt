@@ -2,7 +2,7 @@
 ghost use Rattle.cc_audit.specs.Receipts.{LegalGivesClean};
 ghost use Rattle.cc_audit.specs.Verdict.{AnyOrder, OneVerdict};
 
-/// The receipts of a lawful history have the verdict Clean: one for each send accepted, one for each take that got an
+/// The receipts of a legal history have the verdict Clean: one for each send accepted, one for each take that got an
 /// item, and the total of a close.
 pub fn legal_gives_clean()
     ensures { LegalGivesClean }

@@ -15,7 +15,7 @@ pub fn sooner(a: Option<u64>, b: Option<u64>) -> Option<u64>
     }
 }
 
-/// The verdict, or a fault of a further kind where that has a lesser place.
+/// The verdict, or a fault of a further kind if that has a lesser place.
 pub fn or_fault(verdict: Verdict, kind: u8, place: Option<u64>) -> Verdict
     ensures { result ≡ or_fault_of verdict kind place }
 {

@@ -1,4 +1,4 @@
-//! What senders and receivers hold as proof of their calls, and the audit of it.
+//! The receipts that senders and receivers hold of their calls, and the audit of them.
 #![tactic(auto)]
 
 mod judge;

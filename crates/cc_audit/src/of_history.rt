@@ -73,7 +73,7 @@ pub fn take_receipts(
     Ok(receipts)
 }
 
-/// The total that a close gave, if one was answered Shut.
+/// The total that a close returned, if one returned Shut.
 pub fn total(history: &History) -> Option<u64>
     ensures { result ≡ total_of (lists history.now) }
 {

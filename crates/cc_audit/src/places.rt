@@ -16,7 +16,7 @@ pub fn sorted(places: Vec<u64>) -> Result<Vec<u64>, AllocError>
     Ok(places)
 }
 
-/// The least place that stands twice.
+/// The least place that occurs twice.
 pub fn first_double(places: &[u64]) -> Option<u64>
     requires { IsNonDecreasing places.now }
     ensures { IsLeast (λ p. 2 ≤ count_by (λ x. x == p) places.now) result }
@@ -44,7 +44,7 @@ pub fn first_stranger(sent: &[u64], taken: &[u64]) -> Option<u64>
     None
 }
 
-/// The least place that was not taken, where a greater one was.
+/// The least place that was not taken, if a greater one was.
 pub fn first_gap(taken: &[u64]) -> Option<u64>
     requires { IsNonDecreasing taken.now }
     ensures { IsLeast (λ p. (Contains taken.now p → ⊥) × Any (λ x. p < x) taken.now) result }

@@ -1,7 +1,7 @@
 use cc_model::{Body, Item};
 
-/// What a sender keeps of a send that was accepted: its own number, the number of this send among its sends, from 1,
-/// the place of the item among all accepted items, from 0, and the body.
+/// The receipt of a send that was accepted: the sender's own number, the number of this send among its sends, from 1, the
+/// place of the item among all accepted items, from 0, and the body.
 #[derive(Clone, Copy, Debug, PartialEq, Eq)]
 pub struct SendReceipt {
     pub sender: u32,
@@ -10,14 +10,15 @@ pub struct SendReceipt {
     pub body: Body,
 }
 
-/// What a receiver keeps of a take: its own number, and the item that it got.
+/// The receipt of a take: the receiver's own number, and the item that it got.
 #[derive(Clone, Copy, Debug, PartialEq, Eq)]
 pub struct TakeReceipt {
     pub receiver: u32,
     pub item: Item,
 }
 
-/// What an audit finds: no fault at any place, or the least place at which there is one, and there the least kind, 1 to 7.
+/// The result of an audit: no fault at any place, or the least place at which there is one, and there the least kind, 1 to
+/// 7.
 #[derive(Clone, Copy, Debug, PartialEq, Eq)]
 pub enum Verdict {
     Clean,

@@ -21,7 +21,7 @@ pub fn by_place(alloc: Global, sends: &[SendReceipt]) -> Result<Vec<&SendReceipt
     Ok(placed)
 }
 
-/// The receipts of each sender together, in the order of their places, where they come in that order.
+/// The receipts of each sender together, in the order of their places if they come in that order.
 pub fn by_sender(sends: Vec<&SendReceipt>) -> Result<Vec<&SendReceipt>, AllocError>
     requires { IsSortedByKey (λ s. s.now.place) nat_cmp sends.items }
     ensures senders { IfOk result (λ v. IsNonDecreasingBy (λ s. s.sender) (referred v.items)) }

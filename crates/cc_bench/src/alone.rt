@@ -8,7 +8,8 @@ use cc_model::TakeAnswer;
 use cc_queue::{Opened, Queue, Receiver, Sender, send, take};
 use std::sync::Wait;
 
-/// Sends and takes so many items, one after another, with bodies of so many words; gives how many were got.
+/// Sends and takes this number of items, one after another, with bodies of this number of words; returns
+/// how many were got.
 fn each_in_turn<R: Wait, const WORDS: u64>(
     rt: &R,
     queue: &Queue,

@@ -1,4 +1,4 @@
-//! What a sender sends.
+//! The configuration and the work of a sender.
 use cc_model::Body;
 
 /// So many items, and how many words the body of each has: 1 to 4.
@@ -8,8 +8,8 @@ pub struct Load {
     pub words: u64,
 }
 
-/// The body of the item of this number, whose words count up from there: one word, where it isn't to have two to four. Their
-/// number is a parameter of the function, so that a loop over items doesn't ask for it at each.
+/// The body of the item of this number, whose words count up from there: two to four, or else one. Their number is a
+/// parameter of the function, so that a loop over items doesn't ask for it at each.
 #[inline(always)]
 pub fn body<const WORDS: u64>(number: u64) -> Body {
     let second = number.wrapping_add(1);

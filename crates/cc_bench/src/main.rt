@@ -1,6 +1,6 @@
-//! Passes items through the queue on threads, and tells how many went through: `cc_bench SENDERS RECEIVERS CAPACITY
-//! ITEMS WORDS`. With 0 senders one thread sends and takes in turn. Each item has a body of so many words, 1 to 4, or of one.
-//! `bench/run.py` times it beside other queues.
+//! Passes items through the queue on threads, and reports how many went through: `cc_bench SENDERS RECEIVERS CAPACITY ITEMS
+//! WORDS`. With 0 senders one thread sends and takes in turn. Each item has a body of WORDS words, 1 to 4, or else of one.
+//! `bench/run.py` compares it with other queues.
 #![tactic(auto)]
 
 mod alone;
@@ -34,7 +34,7 @@ struct Numbers {
     words: u64,
 }
 
-/// The number that the next word says: 0 where it says none, and this one where there is no word.
+/// The number in the next word: 0 if the word is no number, and this one if there is no word.
 fn next_number(words: &mut Args, default: u64) -> u64 {
     match words.next() {
         Some(word) => word.parse().unwrap_or(0),
@@ -42,7 +42,7 @@ fn next_number(words: &mut Args, default: u64) -> u64 {
     }
 }
 
-/// The numbers of the command line, behind the program's name; where there are none, some small ones.
+/// The numbers of the command line, after the program's name; if there are none, small ones.
 fn read_numbers(rt: &HostRuntime) -> io::Result<Numbers> {
     let mut words = env::args(rt)?;
     words.next();

@@ -18,8 +18,8 @@ pub enum Worker {
     Takes(Receiver),
 }
 
-/// Sends so many items with bodies of so many words, each again where the queue is full; the last sender that ends closes
-/// the queue.
+/// Sends this number of items with bodies of this number of words, each again if the queue is full; the last sender that ends
+/// closes the queue.
 fn send_all<R: Wait, const WORDS: u64>(
     rt: &R,
     queue: &Queue,
@@ -61,7 +61,7 @@ fn take_all<R: Wait>(rt: &R, queue: &Queue, receiver: Receiver) -> u64
     unreachable!()
 }
 
-/// What one thread does; gives how many items it got.
+/// The work of one thread; returns how many items it got.
 fn work<R: Wait>(rt: &R, queue: &Queue, worker: Worker, load: Load, left: &AtomicU64) -> u64
     requires { Belongs queue.now worker }
 {
@@ -76,7 +76,7 @@ fn work<R: Wait>(rt: &R, queue: &Queue, worker: Worker, load: Load, left: &Atomi
     }
 }
 
-/// A worker for each sender, beside those that are there.
+/// Adds a worker for each sender to those that are there.
 fn add_senders(
     queue: &Queue,
     workers: &mut Vec<Worker>,
@@ -95,7 +95,7 @@ fn add_senders(
     Ok(())
 }
 
-/// A worker for each receiver, beside those that are there.
+/// Adds a worker for each receiver to those that are there.
 fn add_receivers(
     queue: &Queue,
     workers: &mut Vec<Worker>,
@@ -131,7 +131,7 @@ fn workers_of(
     Ok(workers)
 }
 
-/// What each of these does, on a thread of its own; gives how many items each got.
+/// Does the work of each of these, on a thread of its own; returns how many items each got.
 fn work_all<R: Threads + Wait + Sync>(
     rt: &R,
     queue: &Queue,

@@ -1,10 +1,10 @@
 //! The queue for C and for what calls C: a static library over `cc_queue`. `bindings/c/vahepito.h` is its header.
 //!
-//! A handle holds one pass with its own share of the queue, or none. It is lent to each call: the call takes the pass
-//! out of it, makes the call of `cc_queue` with it, and puts it back. No export requires anything: what can be wrong is
-//! tested, and told by a code. No call but the openings takes memory.
+//! A handle holds one pass with its own share of the queue, or none. It is lent to each call: the call takes the pass out of
+//! it, makes the call of `cc_queue` with it, and puts it back. No export requires anything: each possible mistake is tested,
+//! and reported by a code. No call but the openings takes memory.
 //!
-//! What each call tells is said in `specs/Calls.antt` of `cc_handles`, and of the opening in `specs/Opened.antt` there.
+//! `specs/Calls.antt` of `cc_handles` says what each call returns, and `specs/Opened.antt` there what an opening does.
 #![tactic(auto)]
 
 ghost use Rattle.std.specs.Prelude.{◌≡◌, ◌≢◌, nat_le};
@@ -63,7 +63,7 @@ pub extern "C" fn vahepito_sizes(
 }
 
 /// Opens a queue of one group of receivers and of bodies of one word, and fills a handle for each sender and each receiver. It
-/// never tells BAD_GROUPS or BAD_WORDS, codes that its callers may not know.
+/// never returns BAD_GROUPS or BAD_WORDS, codes that its callers may not know.
 #[unsafe(no_mangle)]
 pub extern "C" fn vahepito_open(
     alloc: Global,
@@ -80,8 +80,8 @@ pub extern "C" fn vahepito_open(
     vahepito_open_groups(alloc, config, 1, senders, receivers)
 }
 
-/// Opens a queue of so many groups of receivers and of bodies of one word, and fills a handle for each sender and each
-/// receiver. The receivers of a group stand together, the first group first. It never tells BAD_WORDS.
+/// Opens a queue of this number of groups of receivers and of bodies of one word, and fills a handle for each sender and each
+/// receiver. The receivers of a group follow each other, the first group first. It never returns BAD_WORDS.
 #[unsafe(no_mangle)]
 pub extern "C" fn vahepito_open_groups(
     alloc: Global,
@@ -99,7 +99,8 @@ pub extern "C" fn vahepito_open_groups(
     vahepito_open_words(alloc, config, groups, 1, senders, receivers)
 }
 
-/// Opens a queue of so many groups of receivers and of bodies of so many words at most, and fills the handles so.
+/// Opens a queue of this number of groups of receivers and of bodies of at most this number of words, and fills the handles in
+/// the same way.
 #[unsafe(no_mangle)]
 pub extern "C" fn vahepito_open_words(
     alloc: Global,
@@ -138,7 +139,7 @@ pub extern "C" fn vahepito_begin_send(alloc: Global, sender: &mut Handle, body: 
     code
 }
 
-/// Begins a send of these words, where a body of the queue may have so many.
+/// Begins a send of these words, if a body of the queue may have that many.
 #[unsafe(no_mangle)]
 pub extern "C" fn vahepito_begin_send_words(
     alloc: Global,
@@ -181,7 +182,7 @@ pub extern "C" fn vahepito_turn_send(
     told.code
 }
 
-/// Begins a send of this body, and where it was begun turns it once.
+/// Begins a send of this body, and if it was begun turns it once.
 #[unsafe(no_mangle)]
 pub extern "C" fn vahepito_try_send(
     alloc: Global,
@@ -206,7 +207,7 @@ pub extern "C" fn vahepito_try_send(
     told.code
 }
 
-/// Begins a send of these words, where a body of the queue may have so many, and where it was begun turns it once.
+/// Begins a send of these words, if a body of the queue may have that many, and if it was begun turns it once.
 #[unsafe(no_mangle)]
 pub extern "C" fn vahepito_try_send_words(
     alloc: Global,
@@ -317,7 +318,7 @@ pub extern "C" fn vahepito_turn_take(
     told.code
 }
 
-/// Begins a take, and where it was begun turns it once.
+/// Begins a take, and if it was begun turns it once.
 #[unsafe(no_mangle)]
 pub extern "C" fn vahepito_try_take(
     alloc: Global,
@@ -355,7 +356,7 @@ pub extern "C" fn vahepito_turn_take_words(
     told.code
 }
 
-/// Begins a take, and where it was begun turns it once, of an item with all words of its body.
+/// Begins a take, and if it was begun turns it once, of an item with all words of its body.
 #[unsafe(no_mangle)]
 pub extern "C" fn vahepito_try_take_words(
     alloc: Global,

@@ -1,4 +1,4 @@
--- Whether the name at a place stands before it too.
+-- Whether the name at a place occurs before it too.
 use Rattle.std.proofs.Common.{◌≡◌, ℕ, ◌+◌, ◌<◌, ◌≤◌, inl, inr, Bool, true, false, List, length, slice_get, slice_index_or, bytes_eq, Some, unwrap_or, sym, ap, ◌∙◌, true≢false, arith}
 use Rattle.std.specs.Borrow.{Bor}
 use Rattle.std.proofs.lemmas.Bool.{cases_lt}
@@ -38,7 +38,7 @@ module _ (asked : List (Bor (List ℕ) × Config)) (before place : ℕ) (d : Bor
             true≢false (sym ((bytes_eq-Decides (slice_index_or asked before d).0.now (slice_index_or asked place d).0.now).1 (ap (λ r. unwrap_or r (slice_index_or asked before d).0.now) alike)) ∙ sym told ∙ fails)
       ]
 
--- where no place before it is a double, it is the first
+-- if no place before it is a double, it is the first
 pub first_at : (names : List (List ℕ)) (place : ℕ) → ((other : ℕ) → other < place → IsDouble names other → ⊥) → IsDouble names place → IsFirstDouble names place
 first_at names place none double = record { double = double; least = least }
   where

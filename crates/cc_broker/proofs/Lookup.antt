@@ -1,4 +1,4 @@
--- Names in a list of topics, and where a map finds them.
+-- Names in a list of topics, and the places at which a map finds them.
 use Rattle.std.proofs.Common.{◌≡◌, ℕ, zero, suc, ◌+◌, ◌<◌, Bool, true, false, cond, not, nat_lt, List, [], ◌∷◌, map, length, slice_get, slice_index_or, position, bytes_eq, Some, None, option_map, unwrap_or, refl, sym, ap, ◌∙◌, true≢false, lt-ltb, arith}
 use Rattle.std.specs.List.{IsDistinct, AllByRecursion, position_or_len}
 use Rattle.std.specs.Map.{keys_of, lookup}
@@ -26,13 +26,13 @@ module _ {K : Type 0} (bytes : K → List ℕ) where
       ∙ ap (option_map bytes) (slice_get-get_or (k ∷ ks) i k h.0)
       ∙ ap Some (sym ((bytes_eq-Decides name (bytes (slice_index_or (k ∷ ks) i k))).0 h.1))
 
-  -- where all keys differ from this one, none has its name
+  -- if all keys differ from this one, none has its name
   other_names : (x : K) (ks : List K) (i : ℕ) → AllByRecursion (λ y. same x y ≡ false) ks → slice_get (map bytes ks) i ≡ Some (bytes x) → ⊥
   other_names x [] i apart e = none-some _ e
   other_names x (k ∷ ks) zero apart e = true≢false (sym ((bytes_eq-Decides (bytes x) (bytes k)).1 (sym (same_some e))) ∙ apart.0)
   other_names x (k ∷ ks) (suc i) apart e = other_names x ks i apart.1 e
 
-  -- where keys differ, the name at a place stands at no earlier one
+  -- if keys differ, the name at a place is at no earlier one
   first_place : (name : List ℕ) (ks : List K) (i : ℕ) → IsDistinct same ks → slice_get (map bytes ks) i ≡ Some name → (position_or_len (named name) ks ≡ i) × (i < length ks)
   unfolding IsDistinct
   first_place name [] i distinct e = absurd (none-some _ e)

@@ -5,7 +5,7 @@ use Rattle.std.proofs.lemmas.Option.{none-some, same_Some}
 use Rattle.cc_steps.specs.Topic.{Topic}
 use Rattle.cc_broker.specs.Opened.{AreItsPasses, AreTheirPasses, Senders, Receivers}
 
--- where there is a queue with this number, it comes first
+-- if there is a queue with this number, it comes first
 from_here : (queues : List Topic) (n : ℕ) (passes : List (Senders × Receivers)) (z : Topic) → slice_get queues n ≡ Some z → AreTheirPasses (drop n queues) passes → AreTheirPasses (z ∷ drop (suc n) queues) passes
 from_here [] n passes z e so = absurd (none-some _ e)
 from_here (y ∷ ys) zero passes z e so = subst (λ x. AreTheirPasses (x ∷ ys) passes) (same_Some y z e) so
@@ -17,7 +17,7 @@ from_this queues n passes z e so = subst (λ m. AreTheirPasses (z ∷ drop m que
     next : suc n ≡ n + 1
     next = omega arith
 
--- where there is none, no passes are left
+-- if there is none, no passes are left
 pub none_left : (queues : List Topic) (n : ℕ) (passes : List (Senders × Receivers)) → slice_get queues n ≡ None → AreTheirPasses (drop n queues) passes → passes ≡ []
 none_left [] zero [] e so = refl
 none_left [] (suc n) [] e so = refl

@@ -35,7 +35,7 @@ pub struct OpenedBroker {
 /// Why a broker wasn't opened. Too many topics are answered before a double name, and that before any topic's fault.
 #[derive(Clone, Copy, Debug, PartialEq, Eq)]
 pub enum BrokerFault {
-    /// The least place whose name stands before it too.
+    /// The least place whose name occurs before it too.
     DoubleName(usize),
     /// More than 64 topics.
     TooMany,

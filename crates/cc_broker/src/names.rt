@@ -5,7 +5,7 @@ ghost use Rattle.cc_broker.specs.Topics.{asked_names};
 
 use cc_model::Config;
 
-/// Whether the name at this place stands before it too.
+/// Whether the name at this place occurs before it too.
 fn is_double(topics: &[(&str, Config)], place: usize) -> bool
     requires within { place < length topics.now }
     ensures { MatchBool result (IsDouble (asked_names topics.now) place) (IsDouble (asked_names topics.now) place → ⊥) }
@@ -18,7 +18,7 @@ fn is_double(topics: &[(&str, Config)], place: usize) -> bool
     false
 }
 
-/// The least place whose name stands before it too.
+/// The least place whose name occurs before it too.
 pub(crate) fn first_double(topics: &[(&str, Config)]) -> Option<usize>
     ensures { MatchOption result (AreDistinct (asked_names topics.now)) (λ place. IsFirstDouble (asked_names topics.now) place) }
 {

@@ -50,7 +50,7 @@ fn open_each(alloc: Global, topics: &[(&str, Config)]) -> Result<OpenedBroker, B
 }
 
 impl Broker {
-    /// Opens these topics in order, each with its name. Over 64 are too many; of the names each may stand but once.
+    /// Opens these topics in order, each with its name. Over 64 are too many; each name may occur only once.
     pub fn open(alloc: Global, topics: &[(&str, Config)]) -> Result<OpenedBroker, BrokerFault>
         ensures { MatchResult result (λ o. HasOpened topics.now o) (λ f. IsBrokerFault topics.now f) }
     {

@@ -18,7 +18,7 @@ pub struct OpenedTopic<'a> {
 
 impl Broker {
     /// The topic with this number, from 0, with its passes. They are taken out of these, which are those of the topics
-    /// from this one on, in order; `None` where there are no more.
+    /// from this one on, in order; `None` if there are no more.
     pub fn next_topic(
         &self,
         number: usize,

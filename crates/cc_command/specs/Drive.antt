@@ -1,4 +1,4 @@
--- What a run by threads answers, what it writes, and what is told of it.
+-- The answer of a run by threads, its texts, and its status.
 use Rattle.std.specs.Prelude.{ℕ, ◌≡◌, ◌⊎◌, ◌+◌, ◌++◌, List, [], codes, Option, Result, Ok, Err}
 use Rattle.std.specs.Io.KnownBytes.{Keeps, Appends}
 use Rattle.clap.specs.declared.error.kind.ErrorKind.{ErrorKind}
@@ -25,8 +25,8 @@ pub record IsWhole (e : DriveEnd) : Type 0 where
   pub clean : e.verdict ≡ Verdict.Clean
   pub all_taken : e.taken ≡ e.sent
 
--- What a run leaves on the sink, with its number of failed writes: the whole text of its end, a front of it where a write
--- failed, and nothing where it has no end.
+-- The bytes that a run leaves on the sink, with its number of failed writes: the whole text of its end, a prefix of it if a
+-- write failed, and nothing if it has no end.
 abbrev pub Leaves : Result DriveEnd RunFault → Option (List ℕ) → Option (List ℕ) → ℕ → ℕ → Type 0
 Leaves (Ok e) old new fails fails_after = IsWhole e × Appends old new (end_text e) × (fails_after ≡ fails)
 Leaves (Err RunFault.Write) old new fails fails_after = (e : DriveEnd) × (front : List ℕ) × IsWhole e × IsFront front (end_text e) × Appends old new front × (fails_after ≡ fails + 1)
@@ -40,7 +40,7 @@ status_of (Err (RunFault.Drive (DriveFault.Config f))) = 64
 status_of (Err (RunFault.Drive f)) = 3
 status_of (Err RunFault.Write) = 4
 
--- the line on standard error: none where all went well
+-- the line on standard error: none if all went well
 unfoldable pub line_of : Result Verdict RunFault → List ℕ
 line_of (Ok verdict) = []
 line_of (Err (RunFault.Drive DriveFault.NoMemory)) = no_memory_line
@@ -54,8 +54,8 @@ abbrev pub verdict_in : Result DriveEnd RunFault → Result Verdict RunFault
 verdict_in (Ok e) = Ok e.verdict
 verdict_in (Err f) = Err f
 
--- What a line that asks for a drive leaves on both outputs: it is done and its outcome told, or the line is declined for what
--- was found in it.
+-- The bytes that a line of a drive leaves on both outputs: it is done and its outcome reported, or the line is declined for
+-- its fault.
 module _ (old new : Option (List ℕ)) (fails fails_after : ℕ) (errors_old errors_new : Option (List ℕ)) (before after status : ℕ) where
   abbrev pub Done : Type 0
   Done = (outcome : Result DriveEnd RunFault) × Leaves outcome old new fails fails_after
@@ -64,7 +64,7 @@ module _ (old new : Option (List ℕ)) (fails fails_after : ℕ) (errors_old err
   abbrev pub Answers : Type 0
   Answers = Done ⊎ ((found : ErrorKind) × Declines old new fails fails_after errors_old errors_new before after status found)
 
--- Nothing is read beside that.
+-- Nothing else is read.
 module _ (left_old left_new : Option (List ℕ)) (reads reads_after : ℕ) (old new : Option (List ℕ)) (fails fails_after : ℕ) (errors_old errors_new : Option (List ℕ)) (before after status : ℕ) where
   abbrev pub Drives : Type 0
   Drives = Keeps left_old left_new × (reads_after ≡ reads) × Answers old new fails fails_after errors_old errors_new before after status

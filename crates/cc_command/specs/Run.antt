@@ -1,4 +1,4 @@
--- What a command line answers, and what it says on standard error.
+-- The answer of a command line, and its line on standard error.
 use Rattle.std.specs.Prelude.{ℕ, ◌≡◌, ◌⊎◌, ◌+◌, ◌++◌, codes, if◌then◌else◌, Bool, List, [], ◌∷◌, Option, Some, None, Result, Err, ⊤}
 use Rattle.std.specs.Io.KnownBytes.{Keeps}
 use Rattle.clap.specs.Words.{IsAmong, Kinds}
@@ -12,17 +12,17 @@ use Rattle.cc_play.specs.Play.{Plays, Audits, failed_reads, failed_writes}
 abbrev pub unread_line : List ℕ → List ℕ
 unread_line name = codes "ccq: reading failed: " ++ name ++ codes "\n"
 
--- What a line that asks for no task leaves on both outputs, each with its number of failed writes, and the status.
+-- The bytes that a line without a task leaves on both outputs, each with its number of failed writes, and the status.
 module _ (old new : Option (List ℕ)) (fails fails_after : ℕ) (errors_old errors_new : Option (List ℕ)) (before after status : ℕ) where
   -- there was no memory to read the line or to answer it
   abbrev pub RunsOut : Type 0
   RunsOut = (status ≡ 3) × Keeps old new × (fails_after ≡ fails) × Told errors_old errors_new before after no_memory_line
 
-  -- a text of help, or the version, was written; or a front of it was, and a write failed
+  -- a text of help, or the version, was written; or a prefix of it was, and a write failed
   abbrev pub Helps : Type 0
   Helps = (text : List ℕ) × ((failed : Bool) × Writes failed old new fails fails_after text × (status ≡ (if failed then 4 else 0)) × Told errors_old errors_new before after (if failed then line_of (Err PlayFault.Write) else []))
 
-  -- what is wrong with the line was told
+  -- the fault of the line was reported
   abbrev pub Complains : Type 0
   Complains = (status ≡ 64) × Keeps old new × (fails_after ≡ fails) × ((text : List ℕ) × Told errors_old errors_new before after text)
 
@@ -33,9 +33,9 @@ module _ (old new : Option (List ℕ)) (fails fails_after : ℕ) (errors_old err
   Declines ErrorKind.OutOfMemory = RunsOut
   Declines _ = Complains ⊎ RunsOut
 
--- What a whole line leaves, on its input too, with the number of failed reads. Where it asks for a play or an audit, that is done as
--- far as it goes and its outcome told; of what the judging of a log leaves nothing is said. Where it asks for none, nothing is read, and it is declined for a fault that the parser of
--- command lines finds in it, or for want of memory.
+-- The bytes that a whole line leaves, on its input too, with the number of failed reads. If it asks for a play or an audit,
+-- that is done as far as it goes and its outcome reported; nothing is said of what the judging of a log leaves. If it asks for
+-- none, nothing is read, and it is declined for a fault that the parser of command lines finds in it, or for lack of memory.
 module _ (left_old left_new : Option (List ℕ)) (reads reads_after : ℕ) (old new : Option (List ℕ)) (fails fails_after : ℕ) (errors_old errors_new : Option (List ℕ)) (before after status : ℕ) where
   abbrev pub Does : (Option (List ℕ) → Option (List ℕ) → Result Verdict PlayFault → Option (List ℕ) → Option (List ℕ) → Type 0) → Type 0
   Does Work = (outcome : Result Verdict PlayFault) × Work left_old left_new outcome old new × (reads_after ≡ reads + failed_reads outcome) × (fails_after ≡ fails + failed_writes outcome)

@@ -1,4 +1,4 @@
-//! What a line that asks for a drive says.
+//! The run that a line of a drive asks for.
 ghost use Rattle.std.specs.Prelude.{◌≡◌, ◌^◌, IfOk, map, string_bytes};
 ghost use Rattle.cc_command.specs.Line.{asks_to_drive};
 
@@ -21,9 +21,8 @@ pub fn asks_to_drive(words: &[String]) -> bool
     }
 }
 
-/// What a line says of the run that it asks for: the numbers that its options give, or else their defaults. Its first word
-/// is `drive`. Or why there is no run: help is asked for, a word is wrong, a number is out of its range, or memory was
-/// refused.
+/// The run that a line asks for: the numbers that its options give, or else their defaults. Its first word is `drive`. Or
+/// why there is no run: help is asked for, a word is wrong, a number is out of its range, or memory was refused.
 pub fn asked(alloc: Global, words: &[String]) -> Result<DriveConfig, Error>
     ensures limit { IfOk result (λ config. config.limit ≡ 2 ^ 48) }
 {

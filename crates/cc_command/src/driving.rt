@@ -1,4 +1,4 @@
-//! A run by threads, what it writes, and what is told of it.
+//! A run by threads, what it writes, and what it reports.
 ghost use Rattle.std.specs.Prelude.{◌≡◌, ◌<◌, ◌-◌, ◌^◌, Err, IfOk, is_err};
 ghost use Rattle.cc_device.specs.Written.{Writes};
 ghost use Rattle.cc_play.specs.Outcome.{Told};
@@ -16,13 +16,13 @@ use std::sync::Wait;
 use std::thread::Threads;
 use thiserror::Error;
 
-/// Why a run's end isn't told, or not whole.
+/// Why a run's end isn't written, or not whole.
 #[derive(Clone, Copy, Debug, PartialEq, Eq, Error)]
 pub enum RunFault {
-    /// The run has no end to tell. Nothing was written.
+    /// The run has no end. Nothing was written.
     #[error("{0}")]
     Drive(#[source] DriveFault),
-    /// A write failed. What went out is a beginning of the text.
+    /// A write failed. A prefix of the text was written.
     #[error("writing failed")]
     Write,
 }
@@ -96,9 +96,9 @@ fn write_counts<W: Sink>(sink: &mut W, sent: u64, taken: u64) -> Result<(), Writ
     pen.finish(sink)
 }
 
-/// Tells what went wrong in a run, and answers the status: 0 where the verdict is clean, 1 where the audit found a fault, 3
-/// where memory or a thread was refused or a worker reached its limit, 4 where a write failed, and 64 where a number is out
-/// of its range.
+/// Reports what went wrong in a run, and returns the status: 0 if the verdict is clean, 1 if the audit found a fault, 3 if
+/// memory or a thread was refused or a worker reached its limit, 4 if a write failed, and 64 if a number is out of its
+/// range.
 pub fn tell_end<E: Sink>(errors: &mut E, outcome: Result<Verdict, RunFault>) -> u8
     requires { E.write_failures errors.old < 2 ^ 64 - 1 }
     ensures status { result ≡ status_of outcome }
@@ -112,7 +112,7 @@ pub fn tell_end<E: Sink>(errors: &mut E, outcome: Result<Verdict, RunFault>) -> 
     }
 }
 
-/// Tells why a run's end isn't told, or not whole, and answers the status.
+/// Reports why a run's end isn't written, or not whole, and returns the status.
 fn tell_fault<E: Sink>(errors: &mut E, fault: RunFault) -> u8
     requires { E.write_failures errors.old < 2 ^ 64 - 1 }
     ensures status { result ≡ status_of (Err fault) }

@@ -1,5 +1,5 @@
-//! What a command line asks for, and doing it: a plan is played, receipts are audited, a log is judged, or a queue is driven
-//! by threads.
+//! The task that a command line asks for, and doing it: a plan is played, receipts are audited, a log is judged, or a queue
+//! is driven by threads.
 //!
 //! `words` has the file that a line names, and help by its word. `run` does any line without these. A line whose first word
 //! is `drive` is read by `drive_line` and done by `driving`; any other line is read by `command_line` and done by `reading`,

@@ -15,10 +15,10 @@ use clap::error::ErrorKind;
 use std::alloc::Global;
 
 /// One command line, without the program's name and the file of its input: plays the plan of the source, audits its
-/// receipts or judges its log, and answers the exit status. It is 0 where that was done and the verdict is clean, or help
-/// or the version was asked for and went to the sink; 1 where a fault was found, 2 where the input is refused, 3 where
-/// memory is, 4 where a device fails, 5 where the judge is undecided, and 64 where the line is refused. What went wrong is
-/// told on `errors`, whose own failures change nothing.
+/// receipts or judges its log, and returns the exit status. It is 0 if that was done and the verdict is clean, or help or
+/// the version was asked for and went to the sink; 1 if a fault was found, 2 if the input is refused, 3 if memory is, 4 if
+/// a device fails, 5 if the judge is undecided, and 64 if the line is refused. Faults are reported on `errors`, whose own
+/// failures change nothing.
 pub fn run<R: Source, W: Sink, E: Sink>(
     alloc: Global,
     words: &[String],
@@ -52,8 +52,8 @@ pub fn run<R: Source, W: Sink, E: Sink>(
     }
 }
 
-/// Answers a command line that asks for no task: writes the help or the version that it asks for, or tells what is wrong
-/// with it, and answers the status.
+/// Answers a command line that asks for no task: writes the help or the version that it asks for, or reports what is wrong
+/// with it, and returns the status.
 pub fn decline<W: Sink, E: Sink>(alloc: Global, error: &Error, sink: &mut W, errors: &mut E) -> u8
     requires writes { W.write_failures sink.old < 2 ^ 64 - 1 }
     requires errors { E.write_failures errors.old < 2 ^ 64 - 1 }

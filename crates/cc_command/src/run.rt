@@ -16,12 +16,11 @@ use std::alloc::Global;
 use std::sync::Wait;
 use std::thread::Threads;
 
-/// One command line, without the program's name and the file of its input. Where its first word is `drive`, a queue is
-/// driven by threads, and nothing is read; any other line is done as `reading` does it. It answers the exit status: 0 where
-/// that was done and the verdict is clean, or help or the version was asked for and went to the sink; 1 where a fault was
-/// found, 2 where the input is refused, 3 where memory or a thread is, or a worker reached its limit, 4 where a device
-/// fails, 5 where the judge is undecided, and 64 where the line is refused. What went wrong is told on `errors`, whose own
-/// failures change nothing.
+/// One command line, without the program's name and the file of its input. If its first word is `drive`, a queue is driven
+/// by threads, and nothing is read; any other line is done as `reading` does it. It returns the exit status: 0 if that was
+/// done and the verdict is clean, or help or the version was asked for and went to the sink; 1 if a fault was found, 2 if
+/// the input is refused, 3 if memory or a thread is, or a worker reached its limit, 4 if a device fails, 5 if the judge is
+/// undecided, and 64 if the line is refused. Faults are reported on `errors`, whose own failures change nothing.
 pub fn run<R: Threads + Wait + Sync, S: Source, W: Sink, E: Sink>(
     rt: &R,
     alloc: Global,

@@ -52,12 +52,12 @@ fn file_named(name: &str) -> Option<&str>
 pub struct WithoutFile<'a> {
     /// Its words, but the file.
     pub words: &'a [String],
-    /// The name of the file of its input; none where that is standard input, or the line asks for no task that reads one.
+    /// The name of the file of its input; none if that is standard input, or the line asks for no task that reads one.
     pub file: Option<&'a str>,
 }
 
-/// The line, and the file that it names: the one word behind a task that reads an input, which doesn't begin with `-` or
-/// stands behind `--`. A `-` alone is standard input.
+/// The line, and the file that it names: the one word after a task that reads an input, which doesn't begin with `-` or
+/// comes after `--`. A `-` alone is standard input.
 pub fn without_file(words: &[String]) -> WithoutFile<'_>
     ensures words { map string_bytes result.words.now ≡ line_without_file (map string_bytes words.now) }
     ensures file { option_map (λ name. name.now) result.file ≡ file_of (map string_bytes words.now) }

@@ -1,4 +1,4 @@
-//! Where bytes come from and go to, and the writing of texts piece by piece.
+//! The sources and sinks of bytes, and the writing of texts piece by piece.
 #![tactic(auto)]
 
 mod device;

@@ -37,7 +37,7 @@ missing_now pass limited now all n d ds rest front is was =
 pub none_left : {D A : Type 0} (of : List D → List A) (xs all : List A) (ds : List D) → of [] ≡ [] → ds ≡ [] → xs ++ of ds ≡ all → xs ≡ all
 none_left of xs all ds none end was = sym (append-nil xs) ∙ ap (λ l. xs ++ l) (sym none) ∙ ap (λ l. xs ++ of l) (sym end) ∙ was
 
--- nor is one missing behind the end
+-- nor is one missing after the end
 pub missing_end : {D P : Type 0} (pass : D → Option P) (limited all : Option ℕ) (n : ℕ) (ds : List D) → ds ≡ [] → sooner limited (least_missing n (map pass ds)) ≡ all → limited ≡ all
 missing_end pass limited all n ds end was = sym (sooner_none limited) ∙ ap (λ l. sooner limited (least_missing n (map pass l))) (sym end) ∙ was
   where
@@ -45,7 +45,7 @@ missing_end pass limited all n ds end was = sym (sooner_none limited) ∙ ap (λ
     sooner_none (Some x) = refl
     sooner_none None = refl
 
--- both of two, where both together
+-- both of two, if both together
 pub first_too : (a b : Bool) → (a && b) ≡ true → a ≡ true
 first_too true b is = refl
 first_too false b is = absurd (cc is)
@@ -63,7 +63,7 @@ pub err_weaker : {A E : Type 0} (x : Result A E) (P Q : E → Type 0) → ((e : 
 err_weaker (Ok a) P Q f is = tt
 err_weaker (Err e) P Q f is = f e is
 
--- what workers gave back, where each pass is back
+-- the results of workers, if each pass is back
 
 pub crew_passes : {D P : Type 0} (pass : D → Option P) (Is : ℕ → P → Type 0) (n m : ℕ) (ds : List D) → least_missing m (map pass ds) ≡ None → InRow (λ k d. IfSome (pass d) (Is k)) n ds → InRow Is n (present (map pass ds))
 crew_passes pass Is n m [] none row = tt

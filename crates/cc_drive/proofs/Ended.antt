@@ -93,7 +93,7 @@ receipts_end receipts (x ∷ ws) w = ap (λ l. receipts_in receipts (calls x) ++
 pub no_more_receipts : {X : Type 0} (receipts : Told → List X) (ws all : List Walk) (w : Walk) → all ≡ ws ++ w ∷ [] → receipts_in receipts (calls w) ≡ [] → receipts_by receipts all ≡ receipts_by receipts ws
 no_more_receipts receipts ws all w is none = ap (receipts_by receipts) is ∙ receipts_end receipts ws w ∙ ap (λ l. receipts_by receipts ws ++ l) none ∙ append-nil (receipts_by receipts ws)
 
--- so many items were sent in all
+-- this many items were sent in all
 pub all_items : (z : Topic) (items limit n : ℕ) (ws : List Walk) → limit < 2 ^ 32 - 1 → InRow (SenderIsBack z items limit) n ws → length (receipts_by sent ws) ≡ length ws * items
 all_items z items limit n [] few row = (let e : 0 ≡ 0 * items = omega arith in e)
 all_items z items limit n (w ∷ ws) few row =
@@ -125,7 +125,7 @@ closer_calls z n c w senders told is k =
 pub closer_sent_none : (z : Topic) (n : ℕ) (c w : Walk) (senders : List Walk) (told : CloseAnswer) → c ≡ fresh z n → ClosedAfter c senders told w → receipts_in sent (calls w) ≡ []
 closer_sent_none z n c w senders told is k = ap (receipts_in sent) (closer_calls z n c w senders told is k)
 
--- and was told so, when it has met the others too
+-- and the answer says so, when it has met the others too
 pub closer_told : (z : Topic) (n : ℕ) (c w x : Walk) (senders : List Walk) (told : CloseAnswer) → c ≡ fresh z n → ClosedAfter c senders told w → HasMet w x → IsLastAnswer (name x) (history x) (Answer.Close told)
 closer_told z n c w x senders told is k m = record {
   before = [];

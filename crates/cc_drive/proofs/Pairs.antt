@@ -40,11 +40,11 @@ end_is P (y ∷ xs) x all = end_is P xs x (λ j e l. all (suc j) e (omega (arith
 pub all_split : {A : Type 0} (P : A → Type 0) (xs all : List A) (x : A) → all ≡ xs ++ x ∷ [] → All P all → All P xs × P x
 all_split P xs all x is each = let e = subst (All P) is each in (front_all P xs x e, end_is P xs x e)
 
--- what was written back over the front of a longer list
+-- the bytes written back over the prefix of a longer list
 pub written_back : {A : Type 0} (n : ℕ) (xs ys : List A) → length xs ≡ n → take n (xs ++ ys) ≡ xs
 written_back n xs ys is = ap (λ (m : ℕ). take m (xs ++ ys)) (sym is) ∙ take-append_seam xs ys
 
--- the one that stands beside the last one
+-- the one that is with the last one
 pub pairs_last : {A : Type 0} (Are : A → A → Type 0) (xs ys : List A) (x : A) → Pairs Are (xs ++ x ∷ []) ys → (front : List A) × (y : A) × (ys ≡ front ++ y ∷ []) × Pairs Are xs front × Are x y
 pairs_last Are [] [] x p = absurd p
 pairs_last Are [] (y ∷ []) x p = ([], y, refl, tt, p.0)

@@ -28,12 +28,12 @@ row_none Is n xs none = subst (InRow Is n) (sym none) tt
 pub one_longer : {A : Type 0} (xs new : List A) (x : A) → new ≡ xs ++ x ∷ [] → length new ≡ length xs + 1
 one_longer xs new x end = ap length end ∙ length-append xs (x ∷ [])
 
--- one goes over from the front of a list to the end of another
+-- one goes over from the beginning of a list to the end of another
 pub dealt_over : {A B : Type 0} (of : A → B) (xs new : List A) (x : A) (ys rest all : List B) (y : B) → ys ≡ y ∷ rest → new ≡ xs ++ x ∷ [] → of x ≡ y → map of xs ++ ys ≡ all → map of new ++ rest ≡ all
 dealt_over of xs new x ys rest all y front end same was =
     ap (λ l. map of l ++ rest) end ∙ ap (λ l. l ++ rest) (map-append of xs (x ∷ [])) ∙ append_assoc (map of xs) (of x ∷ []) rest ∙ ap (λ z. map of xs ++ z ∷ rest) same ∙ ap (λ l. map of xs ++ l) (sym front) ∙ was
 
--- so many were taken from the front, and so many are left: none is taken at the start
+-- this many were taken from the beginning, and this many are left: none is taken at the start
 pub none_yet : (n left all room : ℕ) → n ≡ 0 → left ≡ all → all ≤ room → n + left ≤ room
 none_yet n left all room none same fits = omega arith
 
@@ -57,7 +57,7 @@ room_still n more left rest room wider next one was grown = omega arith
 pub no_more_than : (n left all : ℕ) → n + left ≤ all → n ≤ all
 no_more_than n left all was = omega arith
 
--- the next number, where one element more stands in the row
+-- the next number, if one element more is in the row
 pub one_counted : (number count more : ℕ) → number ≡ 1 + count → more ≡ count + 1 → number + 1 ≡ 1 + more
 one_counted number count more was next = omega arith
 

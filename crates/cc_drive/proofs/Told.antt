@@ -1,4 +1,4 @@
--- What a pass was told stays with its calls, as it makes more of them and as it meets others.
+-- The answers of a pass stay with its calls, as it makes more of them and as it meets others.
 use Rattle.std.proofs.Common.{◌≡◌, ℕ, suc, ◌+◌, Bool, true, false, List, [], ◌∷◌, ◌++◌, map, length, Some, None, refl, sym, ap, ◌∙◌, subst, arith, append-nil, length-append}
 use Rattle.std.specs.List.{AllByRecursion}
 use Rattle.cc_model.specs.Record.{Side, Record, of_group}
@@ -35,7 +35,7 @@ waits_not : (z : Told) → HasAnswer z → Waits z → ⊥
 waits_not (e, None) has waits = has
 waits_not (e, Some a) has waits = waits
 
--- where the last call has its answer, each has
+-- if the last call has its answer, each has
 all_have : (p : Pass) (calls : List Entry) (answers : List Answer) (before : List Told) (last : Told) → HasAnswer last → its p calls answers ≡ before ++ last ∷ [] → AllByRecursion HasAnswer (its p calls answers)
 all_have p [] answers before last has e = tt
 all_have p (c ∷ calls) [] before last has e = absurd (waits_not last has (all_last Waits before last (subst (AllByRecursion Waits) e (all_wait p (c ∷ calls)))))
@@ -46,7 +46,7 @@ all_have p (c ∷ calls) (a ∷ answers) before last has e = go (is_pass p c.pas
     go true (x ∷ before) e k = let rest : its p calls answers ≡ before ++ last ∷ [] = cc in (tt, k before rest)
     go false before e k = k before e
 
--- ---- they stay as calls and answers come behind
+-- ---- they stay as calls and answers come after them
 
 abbrev Front : List Told → List Told → Type 0
 Front xs ys = (rest : List Told) × (ys ≡ xs ++ rest)
@@ -120,7 +120,7 @@ pub nil_of : (zs : List Told) → map (λ (z : Told). z.0) zs ≡ [] → zs ≡ 
 nil_of [] e = refl
 nil_of (z ∷ zs) e = absurd (let n : length (map (λ (y : Told). y.0) (z ∷ zs)) ≡ 0 = ap length e in omega (arith, n))
 
--- so many calls as it made
+-- as many calls as it made
 count : (v w : Walk) (more : List Entry) → StandsInOne v [] v → StandsInOne v more w → length (calls w) ≡ length (calls v) + length more
 count v w more sv sw =
     sym (length_entries (calls w)) ∙ ap length (sw.calls_are ∙ sw.made) ∙ length-append v.made more ∙ ap (λ (n : ℕ). n + length more) (ap length (sym (sv.made ∙ append-nil v.made) ∙ sym sv.calls_are) ∙ length_entries (calls v))
@@ -145,7 +145,7 @@ calls_more v w e told sv all sw k =
     let same : k.entry ≡ e = last_is (map (λ (z : Told). z.0) k.before) v.made k.entry e (sym (last_entry k.before (k.entry, Some told)) ∙ ap (map (λ (z : Told). z.0)) (sym k.last) ∙ sw.calls_are ∙ sw.made) in
     next_told (calls v) (calls w) k.before (e, Some told) (front v w (e ∷ []) sv all sw) (k.last ∙ (λ i. k.before ++ (same i, Some told) ∷ [])) (count v w (e ∷ []) sv sw)
 
--- where its last call has its answer, each of its calls has
+-- if its last call has its answer, each of its calls has
 pub each_answered : (v w : Walk) (more : List Entry) (told : Answer) → StandsInOne v more w → IsLastAnswer (name w) (history w) told → AllByRecursion HasAnswer (calls w)
 each_answered v w more told s k =
     let on : calls w ≡ its (name w) (side_of w.setting.config (name w) (history w)).calls (side_of w.setting.config (name w) (history w)).answers = on_its_side w.setting.config (history w) (name w) s.legal in

@@ -1,4 +1,5 @@
--- What a lawful history says of the total that a close told, and of the end that a receiver was told.
+-- The facts in a legal history about the total that a close returned, and about the end that a
+-- receiver got.
 use Rattle.std.proofs.Common.{◌≡◌, ℕ, ◌+◌, ◌<◌, ◌≤◌, Bool, true, false, ◌||◌, List, [], ◌∷◌, ◌++◌, length, Option, Some, None, if◌then◌else◌, refl, sym, ap, ◌∙◌, subst, arith, length-append}
 use Rattle.std.proofs.lemmas.List.{length-map}
 use Rattle.std.proofs.Math.Logic.{◌⊎◌, inl, inr}
@@ -53,7 +54,7 @@ told_of None b = b
 same_answer : (c e : Entry) (a b : Answer) → ◌≡◌ {A = Told} (c, Some a) (e, Some b) → a ≡ b
 same_answer c e a b same = ap (λ (z : Told). told_of z.1 a) same
 
--- ---- each answer stands on its side
+-- ---- each answer is on its side
 
 no_end_of_sender : (cfg : Config) (count : ℕ) (shut : Bool) (calls : List Entry) (answers : List Answer) (e : Entry) (total : ℕ) → EAnswers cfg count shut calls answers → In (e, Some (Answer.Take (TakeAnswer.Ended total))) (answered calls answers) → ⊥
 no_end_of_sender cfg count shut [] answers e total k i = i
@@ -79,7 +80,7 @@ no_close_of_receiver items shut count (c ∷ calls) (a ∷ answers) e told k (in
 
 -- ---- the total of a close
 
--- behind the close nothing is accepted, and each further close tells the same
+-- after the close nothing is accepted, and each further close returns the same
 still_shut : (cfg : Config) (count : ℕ) (known : ℕ) (c : Entry) (a : Answer) → EAnswer cfg count true known c.call a → accepted_item c a ≡ []
 still_shut cfg count known c (Answer.Send SendAnswer.Closed) k = refl
 still_shut cfg count known c (Answer.Send SendAnswer.Full) k = refl
@@ -108,7 +109,7 @@ told_behind cfg count (c ∷ calls) (a ∷ answers) e told k (inr i) =
     let none : length (accepted_item c a) ≡ 0 = ap length (still_shut cfg count c.known c a k.0) in
     told_behind cfg (count + length (accepted_item c a)) calls answers e told k.1 i ∙ omega (arith, none)
 
--- the first close answered so is the one that tells
+-- the first close with this answer is the one that counts
 total_so : (cfg : Config) (count : ℕ) (calls : List Entry) (answers : List Answer) (e : Entry) (told : CloseAnswer) → EAnswers cfg count false calls answers → In (e, Some (Answer.Close told)) (answered calls answers) → Some (total_in told) ≡ total_by answers
 total_so cfg count [] answers e told k i = absurd i
 total_so cfg count (c ∷ calls) [] e told k (inl same) = absurd (no_answer c e (Answer.Close told) same)
@@ -179,7 +180,7 @@ receipts_of cfg g items shut count (c ∷ calls) (a ∷ answers) all k =
     own (Pass.Receiver r) x (Answer.Close b) is = refl
     own (Pass.Sender s) x a is = absurd is
 
--- where a receiver was told the end, its group took as many items as were sent
+-- if a receiver got the end, its group took as many items as were sent
 group_took_all : (cfg : Config) (h : Record) (r total : ℕ) → Legal cfg h → IsLastAnswer (Pass.Receiver r) h (Answer.Take (TakeAnswer.Ended total)) → length (takes_of h (group_of cfg r)) ≡ length (sends_of h)
 group_took_all cfg h r total l k =
     let g : ℕ = group_of cfg r in
@@ -188,7 +189,7 @@ group_took_all cfg h r total l k =
     let all : length (handed h g) ≡ length (accepted h) = omega (arith, more, its.within) in
     receipts_of cfg g (accepted h) (is_shut h) 0 (of_group h g).calls (of_group h g).answers its.receivers its.answers ∙ all ∙ sym (length-map (accepted h) send_receipt)
 
--- and so did the one group, where there is one
+-- and so did the one group, if there is one
 pub taken_is_sent : (cfg : Config) (h : Record) (who : Pass) (total : ℕ) → cfg.groups ≡ 1 → Legal cfg h → IsLastAnswer who h (Answer.Take (TakeAnswer.Ended total)) → length (takes_of h 0) ≡ length (sends_of h)
 taken_is_sent cfg h (Pass.Sender s) total one l k = absurd (no_end_of_sender cfg 0 false h.sends.calls h.sends.answers k.entry total l.answers (last_in cfg (Pass.Sender s) h (Answer.Take (TakeAnswer.Ended total)) l k))
 taken_is_sent cfg h (Pass.Receiver r) total one l k =

@@ -1,5 +1,5 @@
--- No send of a run is told that the queue is closed: the senders meet the closer before it closes, and there is no close in what
--- they have seen then.
+-- No send of a run returns Closed: the senders meet the closer before it closes, and there is no close in what they have seen
+-- then.
 use Rattle.std.proofs.Common.{◌≡◌, ℕ, zero, suc, ◌+◌, ◌<◌, ◌≤◌, inl, inr, Bool, true, false, List, [], ◌∷◌, length, Some, None, refl, sym, ap, ◌∙◌, subst, arith, eq-eqb, append-nil}
 use Rattle.std.specs.List.{All, AllByRecursion, filter}
 use Rattle.std.proofs.lemmas.Bool.{cases_lt}
@@ -26,7 +26,7 @@ sends_all : (n : ℕ) (zs : List Told) → SendsFrom n zs → AllByRecursion IsS
 sends_all n [] s = tt
 sends_all n (z ∷ zs) s = ((one_word n, s.0), sends_all (n + length (sent z)) zs s.1)
 
--- ---- where each sender made sends alone
+-- ---- if each sender made sends alone
 
 tail_all : (P : Told → Type 0) (b : Bool) (z : Told) (zs : List Told) → AllByRecursion P (kept b z zs) → AllByRecursion P zs
 tail_all P true z zs all = all.1
@@ -104,7 +104,7 @@ row_unclosed z items limit n (w ∷ ws) h few l row same none =
       row_unclosed z items limit (n + 1) ws h (omega (arith, few)) l row.1 (λ j d less. same (suc j) d (omega (arith, less))) none,
     )
 
--- where they have seen one run before the close
+-- if they have seen one run before the close
 pub unclosed : (z : Topic) (items limit : ℕ) (senders : List Walk) (met : Walk) → z.setting.config.senders ≡ length senders + 1 → InRow (SenderIsBack z items limit) 0 senders → HasMet (fresh z (length senders)) met → All (λ s. s.seen ≡ met.seen) senders
     → AllByRecursion (λ w. AllByRecursion IsNotClosed (calls w)) senders
 unclosed z items limit senders met count row m after =

@@ -101,7 +101,7 @@ working_still receipts z row who w x whole keeps c told b k none = working_more 
 pub taken_none : (z : Topic) (row n : ℕ) (w x : Walk) (whole : Bool) (keeps : List TakeReceipt) (told : Answer) → Working got z row (Pass.Receiver n) w whole keeps → Completed w Call.Take told x → got (entry_of w Call.Take, Some told) ≡ [] → Working got z row (Pass.Receiver n) x whole keeps
 taken_none z row n w x whole keeps told b k none = working_still got z row (Pass.Receiver n) w x whole keeps Call.Take told b k none
 
--- so many more items accepted
+-- this many more items accepted
 pub count_one : (z : Topic) (row n : ℕ) (w x : Walk) (body : Body) (place so_far : ℕ) → IsBack z row w → name w ≡ Pass.Sender n → Completed w (Call.Send body) (Answer.Send (SendAnswer.Accepted place)) x → so_far ≡ length (receipts_in sent (calls w)) → so_far + 1 ≡ length (receipts_in sent (calls x))
 count_one z row n w x body place so_far b named k are =
     ap (λ (m : ℕ). m + 1) are ∙ ap (λ l. length (receipts_in sent (calls w)) + length l) (sym (sent_one n w.stand.begun w body place named refl)) ∙ sym (count_more z row w x body (SendAnswer.Accepted place) b k)

@@ -14,8 +14,8 @@ use Rattle.cc_queue.specs.Receipts.{receipts_in, sent, got}
 abbrev pub calls : Walk → List (Entry × Option Answer)
 calls w = calls_of (name w) (history w)
 
--- The pass of this place in the row of all passes. All that it has seen stands in one history, in which each of its calls
--- has its answer.
+-- The pass of this place in the row of all passes. All that it has seen is one history, in which each of its calls has its
+-- answer.
 pub record IsBack (z : Topic) (row : ℕ) (w : Walk) : Type 0 where
   pub here : IsOf z w
   pub at : w.number ≡ row
@@ -26,7 +26,7 @@ pub record IsBack (z : Topic) (row : ℕ) (w : Walk) : Type 0 where
 abbrev pub one_word : ℕ → Body
 one_word n = body_of (n ∷ [])
 
--- these bodies have one word each: this number, and then the numbers behind it, in order
+-- these bodies have one word each: this number, and then the numbers after it, in order
 abbrev pub BodiesFrom : ℕ → List Body → Type 0
 BodiesFrom n [] = ⊤
 BodiesFrom n (b ∷ bs) = (b ≡ one_word n) × BodiesFrom (n + 1) bs
@@ -36,13 +36,13 @@ abbrev pub SendsFrom : ℕ → List (Entry × Option Answer) → Type 0
 SendsFrom n [] = ⊤
 SendsFrom n (z ∷ zs) = (z.0.call ≡ Call.Send (one_word n)) × SendsFrom (n + length (sent z)) zs
 
--- the call wasn't told that the queue is closed
+-- the call's answer isn't Closed
 abbrev pub IsNotClosed : Entry × Option Answer → Type 0
 IsNotClosed (e, Some (Answer.Send SendAnswer.Closed)) = ⊥
 IsNotClosed _ = ⊤
 
--- A sender whose calls are sends of the bodies 1, 2 and so on, as its receipts have them. Where it could make fewer turns than
--- a sender may begin sends, it wasn't worn, and so many were accepted as it had to send.
+-- A sender whose calls are sends of the bodies 1, 2 and so on, as its receipts have them. If it could make fewer turns than a
+-- sender may begin sends, it wasn't exhausted, and all items that it had to send were accepted.
 pub record SenderIsBack (z : Topic) (items limit row : ℕ) (w : Walk) : Type 0 where
   pub back : IsBack z row w
   pub sends : SendsFrom 1 (calls w)
@@ -55,8 +55,8 @@ pub record ReceiverIsBack (z : Topic) (row : ℕ) (w : Walk) : Type 0 where
   pub total : ℕ
   pub ended : IsLastAnswer (name w) (history w) (Answer.Take (TakeAnswer.Ended total))
 
--- What the thread of a sender gives back: the pass, with the receipts of its calls where there was memory for each of them; or
--- none, where it made as many turns as it may.
+-- The result of the thread of a sender: the pass, with the receipts of its calls if there was memory for each of them; or
+-- none, if it made as many turns as it may.
 abbrev pub SenderGave : Topic → (items limit row : ℕ) → Worked Walk SendReceipt → Type 0
 SenderGave z items limit row d =
     IfSome d.pass (SenderIsBack z items limit row) × IfSome d.pass (λ w. d.kept.is_whole ≡ true → d.kept.receipts.items ≡ receipts_in sent (calls w))

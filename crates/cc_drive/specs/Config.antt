@@ -20,8 +20,8 @@ queue_of c = record {
 abbrev pub drive_fault : DriveConfig → Result ⊤ ConfigFault
 drive_fault c = if not (within 1 63 c.senders) then Err ConfigFault.Senders else config_fault (queue_of c)
 
--- Why a run of so many workers has no end, whose configuration has this fault or none: for that fault where there is one, and
--- else never for one of the configuration. At a limit is one of the workers, from 0, or the closer, whose number is the next.
+-- Why a run of this number of workers has no end, if its configuration has this fault or none: that fault if there is one,
+-- and else never one of the configuration. At a limit is one of the workers, from 0, or the closer, whose number is the next.
 abbrev pub IsDue : Result ⊤ ConfigFault → (workers : ℕ) → DriveFault → Type 0
 IsDue (Err f) workers told = told ≡ DriveFault.Config f
 IsDue (Ok _) workers (DriveFault.Config f) = ⊥

@@ -1,4 +1,4 @@
--- What stands at the start of a worker's thread.
+-- The state at the start of a worker's thread.
 use Rattle.std.specs.Prelude.{ℕ, ◌≡◌, ◌+◌, ◌-◌, ◌^◌, ◌<◌, length, vec_len}
 use Rattle.cc_drive.specs.Names.{Pass, Served, DriveConfig}
 use Rattle.cc_runs.specs.State.{pass_at}
@@ -25,7 +25,7 @@ pub record IsQueueOf (c : DriveConfig) (z : Topic) : Type 0 where
   pub few : c.senders + c.receivers < 2 ^ 16
   pub some : 0 < c.receivers
 
--- Its passes, none of which has done anything: in the row of all passes the senders stand first, then the closer, then the
+-- Its passes, none of which has done anything: in the row of all passes the senders come first, then the closer, then the
 -- receivers.
 pub record ArePasses (z : Topic) (c : DriveConfig) (all : Passes) : Type 0 where
   pub queue : IsQueueOf c z

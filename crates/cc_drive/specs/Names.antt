@@ -1,4 +1,4 @@
--- The types that specs, proofs and contracts of this crate speak of. A variant stands behind its type, as `Answer.Send`.
+-- The types in specs, proofs and contracts of this crate. A variant comes after its type, as `Answer.Send`.
 pub use Rattle.cc_model.specs.declared.body.Body.{Body}
 pub use Rattle.cc_model.specs.declared.call.Pass.{Pass}
 pub use Rattle.cc_model.specs.declared.call.Call.{Call}

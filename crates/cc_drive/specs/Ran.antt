@@ -13,7 +13,7 @@ use Rattle.cc_drive.specs.Row.{InRow, Pairs}
 use Rattle.cc_drive.specs.Start.{AreStarted}
 use Rattle.cc_drive.specs.Work.{RanOut}
 
--- the total that a close tells
+-- the total that a close returns
 abbrev pub total_in : CloseAnswer → ℕ
 total_in (CloseAnswer.Shut total) = total
 total_in (CloseAnswer.Already total) = total
@@ -37,8 +37,8 @@ pub record ClosesStill (closer : Walk) (senders : List Walk) (most : ℕ) (w : W
   pub limit : turns.limit ≡ most
   pub waited : RanOut begun (record { made = 0; limit = most }) turns w
 
--- So many senders are back, and have met the closer then, which closed behind that: it has its answer, or its close waits still
--- and no turn is left.
+-- This number of senders are back, and have then met the closer, which closed after that: it has its answer, or its close still
+-- waits and no turn is left.
 pub record HasClosed (z : Topic) (b : Brief) (closer : Walk) (count : ℕ) (crew : Crew Walk SendReceipt) (closed : Option (Walk × CloseAnswer)) : Type 0 where
   pub back : List Walk
   pub senders : IsCrew (SenderGave z b.items b.limit) 0 0 count back crew
@@ -46,8 +46,8 @@ pub record HasClosed (z : Topic) (b : Brief) (closer : Walk) (count : ℕ) (crew
   pub after : IfSome closed (λ r. ClosedAfter closer crew.passes.items r.1 r.0)
   pub still : IfNone closed ((w : Walk) × ClosesStill closer crew.passes.items b.limit w)
 
--- All threads of a run that were started have ended, and its queue was closed between the senders' end and the receivers'.
--- They are all, or just those before the one that was refused.
+-- All threads of a run that were started have ended, and its queue was closed between the senders' end and the receivers'. They
+-- are all, or exactly those before the one that was refused.
 pub record HasEnded (z : Topic) (c : DriveConfig) (refused : Option Refused) (sent_by : Crew Walk SendReceipt) (closed : Option (Walk × CloseAnswer)) (got_by : Crew Walk TakeReceipt) : Type 0 where
   pub sending : ℕ
   pub taking : ℕ
@@ -55,8 +55,8 @@ pub record HasEnded (z : Topic) (c : DriveConfig) (refused : Option Refused) (se
   pub receivers : IsCrew (ReceiverGave z c.limit) (c.senders + 1) c.senders taking got_by.passes.items got_by
   pub started : AreStarted c.senders c.receivers sending taking refused
 
--- A run has come to its end. The senders are back, none of whose sends was told that the queue is closed, and then the closer
--- closed; the receivers are back, each of which was told the end. The receipts are those of their calls.
+-- A run has come to its end. The senders are back, none of whose sends returned Closed, and then the closer closed; the
+-- receivers are back, each of which got the end. The receipts are those of their calls.
 pub record HasRun (z : Topic) (c : DriveConfig) (r : Ran) : Type 0 where
   pub of : r.config ≡ c
   pub senders : InRow (SenderIsBack z c.items c.limit) 0 r.senders.items
@@ -87,8 +87,8 @@ due false workers None None false whole = Some (DriveFault.Limit workers)
 due false workers None None true false = Some DriveFault.NoMemory
 due false workers None None true true = None
 
--- All threads of a run that were started have ended, and this is due for what they gave back. They are all, or just those before
--- the one that was refused; where the close has no answer it waits still, and no turn is left.
+-- All threads of a run that were started have ended, and this is due for their results. They are all, or exactly those before
+-- the one that was refused; if the close has no answer it still waits, and no turn is left.
 pub record EndedWith (z : Topic) (c : DriveConfig) (told : DriveFault) : Type 0 where
   pub senders : List (Worked Walk SendReceipt)
   pub receivers : List (Worked Walk TakeReceipt)

@@ -1,4 +1,4 @@
--- Lists whose elements stand in the row of all passes.
+-- Lists whose elements are in the row of all passes.
 use Rattle.std.specs.Prelude.{ℕ, ◌+◌, List, [], ◌∷◌, ⊤}
 
 -- each element is such a one of its place, from this place on

@@ -1,4 +1,4 @@
--- What a worker does within its turns.
+-- The acts of a worker within its turns.
 use Rattle.std.specs.Prelude.{ℕ, zero, suc, ◌≡◌, ◌+◌, ◌-◌, ◌<◌, ◌≤◌, ◌⊎◌, Bool, true, false, List, [], Result, Ok, Err, ⊤}
 use Rattle.cc_drive.specs.Names.{Body, Answer, TakeAnswer, Call, Kind, Point, Go, Turns, Left, Sent}
 use Rattle.cc_runs.specs.ChainLaws.{IsLastAnswer}
@@ -18,7 +18,7 @@ pub record WentOn (old new : Turns) : Type 0 where
 abbrev pub EachRead : Turns → Turns → List Kind → List Kind → Type 0
 EachRead old new before after = new.made + tally reads before ≡ old.made + tally reads after
 
--- a gate was asked at this point, so many times, and told the worker each time to ask again
+-- a gate was asked at this point, this number of times, and answered each time to ask again
 abbrev pub IsHeldUp : {G : Type 0} → (G → Point → Go → G → Type 0) → Point → ℕ → G → G → Type 0
 IsHeldUp tells point zero g h = h ≡ g
 IsHeldUp {G} tells point (suc n) g h = (k : G) × IsHeldUp tells point n g k × tells k point Go.Again h
@@ -50,7 +50,7 @@ pub record RanOut (v : Walk) (old new : Turns) (w : Walk) : Type 0 where
   pub read : ReadOn v old new w
   pub limited : new.made ≡ new.limit
 
--- The gate was asked behind the begin and let the worker go on; then the call was answered, and the gate was asked behind the
+-- The gate was asked after the begin and let the worker go on; then the call was answered, and the gate was asked after the
 -- answer, which let the worker go on or not.
 pub record AnsweredBetween {G : Type 0} (tells : G → Point → Go → G → Type 0) (begun answered : Point) (goes_on : Bool) (v : Walk) (told : Answer) (old new : Turns) (w : Walk) (g h : G) : Type 0 where
   pub gate : G
@@ -66,26 +66,26 @@ pub record AnsweredBetween {G : Type 0} (tells : G → Point → Go → G → Ty
 abbrev pub CameBack : {G : Type 0} → (G → Point → Go → G → Type 0) → (begun answered : Point) → Walk → Answer → Turns → Turns → Walk → G → G → Type 0
 CameBack tells begun answered v told old new w g h = AnsweredBetween tells begun answered true v told old new w g h
 
--- The gate was asked behind the begin, let the worker go on, and each further turn was a read of the state until none was left.
+-- The gate was asked after the begin, let the worker go on, and each further turn was a read of the state until none was left.
 pub record RanOutBehind {G : Type 0} (tells : G → Point → Go → G → Type 0) (begun : Point) (v : Walk) (old new : Turns) (w : Walk) (g h : G) : Type 0 where
   pub entered : Turns
   pub first : WasAsked tells begun old entered true g h
   pub enters : WentOn old entered
   pub waited : RanOut v entered new w
 
--- Where a worker came to its limit in a call. The call waits still: the gate held the worker up behind the begin, or each further
--- turn was a read. Or it was answered, and the gate held the worker up behind that.
+-- The state of a worker that came to its limit in a call. The call still waits: the gate held the worker up after the begin, or
+-- each further turn was a read. Or it was answered, and the gate held the worker up after that.
 abbrev pub Stopped : {G P D : Type 0} → (G → Point → Go → G → Type 0) → (P → Walk) → (D → Walk) → (begun answered : Point) → Walk → Turns → Turns → G → G → Left P D → Type 0
 Stopped tells call pass begun answered v old new g h (Left.Waiting p) = (WasAsked tells begun old new false g h × (call p ≡ v)) ⊎ RanOutBehind tells begun v old new (call p) g h
 Stopped tells call pass begun answered v old new g h (Left.Answered d) = (told : Answer) × AnsweredBetween tells begun answered false v told old new (pass d) g h
 
--- a send that was answered was made by a sender that could begin one; a worn sender is as it was
+-- a send that was answered was made by a sender that could begin one; an exhausted sender is as it was
 abbrev pub IsSent : Walk → Body → Sent → Type 0
 IsSent v body (Sent.Answered w told) = Completed v (Call.Send body) (Answer.Send told) w × (w.stand.begun ≡ v.stand.begun + 1) × (v.stand.begun < v.setting.config.per_sender)
 IsSent v body (Sent.Worn w) = (w ≡ v) × (v.setting.config.per_sender ≤ v.stand.begun)
 IsSent v body (Sent.Limited left) = ⊤
 
--- What its gate was asked and how often its state was read: a worn sender asked nothing and made no turn.
+-- The questions to its gate and the number of reads of its state: an exhausted sender asked nothing and made no turn.
 abbrev pub IsAskedInSend : {G : Type 0} → (G → Point → Go → G → Type 0) → Walk → Body → Turns → Turns → G → G → Sent → Type 0
 IsAskedInSend tells v body old new g h (Sent.Answered w told) = (p : Walk) × Begun v (Call.Send body) p × CameBack tells Point.SendBegun Point.SendAnswered p (Answer.Send told) old new w g h
 IsAskedInSend tells v body old new g h (Sent.Worn w) = (new ≡ old) × (h ≡ g)

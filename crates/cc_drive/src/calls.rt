@@ -20,17 +20,17 @@ pub(crate) trait Pending: Sized {
 
     /// The pass, which comes back with the answer.
     type Pass: Drop;
-    /// What the call may be answered.
+    /// The possible answers of the call.
     type Told: Copy;
 
-    /// What clauses see of the call, of its pass, and of its answer.
+    /// The view that clauses have of the call, of its pass, and of its answer.
     ghost call: { Self → Walk };
 
     ghost pass: { Self.Pass → Walk };
 
     ghost told: { Self.Told → Answer };
 
-    /// Makes one turn: the pass with the answer, or the call where it waits still.
+    /// Makes one turn: the pass with the answer, or the call if it still waits.
     fn turn(self, queue: &Queue) -> Result<(Self::Pass, Self::Told), Self>
         requires { IsOf queue.now (call self) }
         ensures done { IfOk result (λ r. (served : ℕ) × Answered (call self) (told r.1) served (pass r.0)) }
@@ -127,7 +127,8 @@ impl Pending for PendingTake {
     }
 }
 
-/// Where a worker came to its limit in a call: the call, which waits still, or the pass, when the call was answered.
+/// The state of a worker that came to its limit in a call: the call, which still waits, or the pass, if the call was
+/// answered.
 pub(crate) enum Left<P, D> {
     Waiting(P),
     Answered(D),
@@ -168,7 +169,7 @@ pub(crate) fn await_answer<P: Pending>(
     Err(pending)
 }
 
-/// Asks the gate behind the begin of this call, waits for the answer, and asks the gate again, all within the limit.
+/// Asks the gate after the begin of this call, waits for the answer, and asks the gate again, all within the limit.
 pub(crate) fn answer_within<P: Pending, G: Gate>(
     queue: &Queue,
     pending: P,

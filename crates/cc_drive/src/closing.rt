@@ -41,7 +41,7 @@ pub fn close_after(
     await_answer(queue, pending, &mut turns)
 }
 
-/// The total that a close tells.
+/// The total that a close returns.
 pub fn total_of(closed: CloseAnswer) -> u64
     ensures { result ≡ total_in closed }
 {

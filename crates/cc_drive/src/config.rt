@@ -1,4 +1,4 @@
-//! What a run is driven with, how it ends, and why it has no end to tell.
+//! The configuration of a run, its end, and why it has no end.
 ghost use Rattle.std.specs.Prelude.{◌≡◌, IfOk, OnOk, IfErr, Ok, Err};
 ghost use Rattle.cc_model.specs.Config.{config_fault};
 ghost use Rattle.cc_drive.specs.Config.{drive_fault, queue_of};
@@ -34,11 +34,11 @@ pub struct DriveEnd {
     pub sent: u64,
     /// How many items were taken.
     pub taken: u64,
-    /// What the audit of all receipts says.
+    /// The verdict of the audit of all receipts.
     pub verdict: Verdict,
 }
 
-/// Why a run has no end to tell. Where several hold, it is the first of Thread, Limit and NoMemory.
+/// Why a run has no end. If several hold, it is the first of Thread, Limit and NoMemory.
 #[derive(Clone, Copy, Debug, PartialEq, Eq, Error)]
 pub enum DriveFault {
     /// A number is out of its range.
@@ -50,7 +50,7 @@ pub enum DriveFault {
     /// A thread was refused.
     #[error("a thread was refused")]
     Thread,
-    /// A worker reached its limit on turns: the least number of such a worker, senders first, from 0; where the closer alone
+    /// A worker reached its limit on turns: the least number of such a worker, senders first, from 0; if the closer alone
     /// did, the number of all workers.
     #[error("a worker reached its limit")]
     Limit(u32),

@@ -6,7 +6,7 @@ ghost use Rattle.cc_drive.specs.Crew.{AreGathered, sooner};
 use crate::kept::{Kept, Worked};
 use std::alloc::Global;
 
-/// What a row of workers gave back.
+/// The results of a row of workers.
 #[derive(Drop)]
 pub struct Crew<P: Drop, X: Drop> {
     /// The passes that are back, in order.
@@ -58,7 +58,7 @@ pub fn gather<P: Drop, X: Drop>(
     }
 }
 
-/// Adds a pass, where it is back: whether it is. There is room for it.
+/// Adds a pass, if it is back, and returns whether it is. There is room for it.
 fn add_pass<P: Drop>(passes: &mut Vec<P>, pass: Option<P>) -> bool
     requires { vec_len passes.old < vec_capacity passes.old }
     ensures items { passes.new.items ≡ passes.old.items ++ option_to_list pass }
@@ -77,7 +77,7 @@ fn add_pass<P: Drop>(passes: &mut Vec<P>, pass: Option<P>) -> bool
     }
 }
 
-/// The number that was told, else this one where its pass isn't back.
+/// The number that was found, else this one if its pass isn't back.
 fn earlier(limited: Option<u32>, is_back: bool, number: u32) -> Option<u32>
     ensures { result ≡ sooner limited (if is_back then None else Some number) }
 {

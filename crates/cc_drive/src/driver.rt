@@ -1,4 +1,4 @@
-//! A run: threads that send beside threads that take, the close, and the audit.
+//! A run: threads that send while threads take, the close, and the audit.
 ghost use Rattle.std.specs.Prelude.{◌≡◌, ◌+◌, ◌*◌, ◌-◌, ◌<◌, ◌^◌, IfOk, OnOk, IfErr, Ok, vec_len};
 ghost use Rattle.cc_drive.specs.Names.{Verdict, DriveFault};
 ghost use Rattle.cc_queue.specs.Opened.{HasOpened};
@@ -24,8 +24,8 @@ use std::thread::{Scope, Threads, scope, scope_env};
 /// the receipts are audited with the close's total. A worker asks its own gate after each begin and after each answer; there
 /// is one gate for each worker, the senders' first.
 ///
-/// A thread that is refused ends the starting of further ones, and the workers that run go on to their end. So do they
-/// where one of them reaches its limit on turns or finds no memory for a receipt.
+/// A thread that is refused ends the starting of further ones, and the workers that run go on to their end. So do they if
+/// one of them reaches its limit on turns or finds no memory for a receipt.
 pub fn drive<G: Gate + Send, R: Threads + Wait + Sync>(
     rt: &R,
     alloc: Global,

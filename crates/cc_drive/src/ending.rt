@@ -1,4 +1,4 @@
-//! The end of a run: its threads are joined, its queue is closed, and what came of it is told.
+//! The end of a run: its threads are joined, its queue is closed, and its result is made.
 ghost use Rattle.std.specs.Prelude.{ℕ, [], ◌≡◌, ◌+◌, ◌<◌, ◌≤◌, ◌^◌, ◌&&◌, IfOk, IfErr, is_some, vec_len, vec_capacity};
 ghost use Rattle.std.specs.List.{All};
 ghost use Rattle.cc_steps.specs.Topic.{Topic};
@@ -24,18 +24,18 @@ use cc_queue::{Queue, Receiver, Sender};
 use std::alloc::Global;
 use std::thread::Threads;
 
-/// What is left of a run when its threads have ended.
+/// The remains of a run when its threads have ended.
 #[derive(Drop)]
 pub struct Ran {
-    /// What it was driven with.
+    /// Its configuration.
     pub config: DriveConfig,
     /// The senders that sent.
     pub senders: Vec<Sender>,
     /// The sender that closed.
     pub closer: Sender,
-    /// What the close was answered.
+    /// The answer of the close.
     pub closed: CloseAnswer,
-    /// The receivers, each of which was told the end.
+    /// The receivers, each of which got the end.
     pub receivers: Vec<Receiver>,
     /// The receipts of the senders' calls.
     pub sends: Vec<SendReceipt>,
@@ -51,7 +51,7 @@ pub struct Room<P: Drop, X: Drop> {
     pub passes: Vec<P>,
 }
 
-/// Room for the handles of so many threads, and for what they give back.
+/// Room for the handles of this number of threads, and for their results.
 pub fn room_for<H: Drop, P: Drop, X: Drop>(
     alloc: Global,
     count: usize,
@@ -85,7 +85,7 @@ pub fn join_senders<G: Gate + Send, R: Threads>(
     gather(alloc, done, 0, passes)
 }
 
-/// Joins the receivers of a run of so many senders, and gathers what they gave back.
+/// Joins the receivers of a run of this number of senders, and gathers their results.
 pub fn join_receivers<G: Gate + Send, R: Threads>(
     rt: &R,
     alloc: Global,
@@ -102,7 +102,7 @@ pub fn join_receivers<G: Gate + Send, R: Threads>(
     gather(alloc, done, senders, passes)
 }
 
-/// Closes the queue behind the senders, which are joined.
+/// Closes the queue after the senders, which are joined.
 pub fn close_behind(
     alloc: Global,
     queue: &Queue,
@@ -125,7 +125,7 @@ pub fn close_behind(
     }
 }
 
-/// What is left of a run whose threads have ended, or why it has no end to tell: of each queue that it may have been a run of.
+/// The remains of a run whose threads have ended, or why it has no end: of each queue that it may have been a run of.
 pub fn ran_of(
     config: DriveConfig,
     refused: Option<Refused>,

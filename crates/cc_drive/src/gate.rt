@@ -1,6 +1,6 @@
-//! Where a worker asks whether to go on.
+//! The points at which a worker asks whether to go on.
 
-/// Where a worker is when it asks.
+/// The point at which a worker asks.
 #[derive(Clone, Copy, Debug, PartialEq, Eq)]
 pub enum Point {
     /// Just after a send was begun.
@@ -13,7 +13,7 @@ pub enum Point {
     TakeAnswered,
 }
 
-/// What it is told.
+/// The gate's answer.
 #[derive(Clone, Copy, Debug, PartialEq, Eq)]
 pub enum Go {
     /// To go on.
@@ -22,15 +22,16 @@ pub enum Go {
     Again,
 }
 
-/// Who is asked: a worker has a gate of its own, which may hold it up.
+/// The gate of a worker: each has one of its own, which may hold it up.
 pub trait Gate: Drop {
     ghost use Rattle.std.specs.Prelude.{⊤};
     ghost use Rattle.cc_drive.specs.Names.{Go, Point};
 
-    /// What it may tell its worker at a point, and what it is afterwards. A gate that doesn't say so may tell anything.
+    /// The answers that it may give at a point, and the gate afterwards. A gate without a clause of its own may give
+    /// any.
     ghost tells: { Self → Point → Go → Self → Type 0 } = { λ _ _ _ _. ⊤ };
 
-    /// What the worker is told at this point.
+    /// The answer at this point.
     fn at(&mut self, point: Point) -> Go
         ensures { tells self.old point result self.new };
 }

@@ -13,7 +13,7 @@ use cc_queue::{Queue, Receiver, Sender};
 use std::alloc::{AllocError, Global};
 use std::sync::Wait;
 
-/// A pass of a queue with its number, from 1, the gate of its worker, and where memory for its receipts comes from.
+/// A pass of a queue with its number, from 1, the gate of its worker, and the allocator of its receipts.
 #[derive(Drop)]
 pub struct Job<P: Drop, G: Gate> {
     pub alloc: Global,

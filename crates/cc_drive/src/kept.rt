@@ -1,4 +1,4 @@
-//! What a worker keeps of its calls, and what it gives back.
+//! The receipts that a worker keeps of its calls, and its result.
 ghost use Rattle.std.specs.Prelude.{◌≡◌, [], ◌∷◌, ◌++◌, true};
 
 use std::alloc::Global;
@@ -11,10 +11,10 @@ pub struct Kept<X: Drop> {
     pub is_whole: bool,
 }
 
-/// What a worker leaves: its place, its pass, but where it reached its limit, how many turns it made, and what it kept.
+/// The result of a worker: its place, its pass unless it reached its limit, how many turns it made, and its receipts.
 #[derive(Drop)]
 pub struct Worked<P: Drop, X: Drop> {
-    /// Where its pass stands in the row of all passes.
+    /// The place of its pass in the row of all passes.
     pub row: u32,
     pub pass: Option<P>,
     pub made: u64,

@@ -5,7 +5,8 @@ use std::sync::Wait;
 use std::thread::Parker;
 use std::time::Duration;
 
-/// In so many turns a call's wait spins and yields once. Where more were needed, more calls wait than processors serve.
+/// In this number of turns a call's wait spins and yields once. If more were needed, more calls wait than processors
+/// serve.
 const SPUN: u64 = 8;
 
 /// The first sleep of a row, and the longest, in microseconds.
@@ -36,9 +37,9 @@ impl Pace {
         }
     }
 
-    /// After an answer that passed an item, to a call that took so many turns. A call that waited for long stood in a line
-    /// of calls whose threads don't all run, and each hand-over waits for the next of them; so the worker sleeps before it
-    /// joins that line again, and for twice as long each time that it finds it so.
+    /// Called after an answer that passed an item, to a call that took this number of turns. A call that waited for long
+    /// was in a line of calls whose threads don't all run, and each hand-over waits for the next of them; so the worker
+    /// sleeps before it joins that line again, and for twice as long each time that it finds it so.
     pub fn go_on<R: Wait>(&mut self, rt: &R, turns: u64) {
         self.tries.reset();
         if turns > SPUN {

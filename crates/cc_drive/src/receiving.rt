@@ -19,8 +19,8 @@ use cc_model::TakeAnswer;
 use cc_queue::{PendingTake, Queue, Receiver, begin_take};
 use std::sync::Wait;
 
-/// Takes, and waits for the answer within the limit. The gate is asked after the begin and after the answer. Err says where
-/// the worker stood in this call when it reached its limit.
+/// Takes, and waits for the answer within the limit. The gate is asked after the begin and after the answer. Err has the
+/// state of the worker in this call when it reached its limit.
 fn take_one<G: Gate>(
     queue: &Queue,
     receiver: Receiver,
@@ -45,8 +45,8 @@ fn take_one<G: Gate>(
     )
 }
 
-/// Takes until the queue has ended, again after Empty, and keeps a receipt of each item. The pass is given back, but where
-/// the worker reached its limit.
+/// Takes until the queue has ended, again after Empty, and keeps a receipt of each item. The pass is returned unless the
+/// worker reached its limit.
 pub(crate) fn take_all<G: Gate, R: Wait>(
     rt: &R,
     queue: &Queue,

@@ -59,7 +59,7 @@ pub(crate) fn send_body<G: Gate>(
     }
 }
 
-/// The body of the send behind so many that were accepted: the next number, as one word.
+/// The body of the send after this number of accepted ones: the next number, as one word.
 fn body_behind(accepted: u64) -> Body
     requires { accepted < 2 ^ 64 - 1 }
     ensures { result ≡ one_word (accepted + 1) }
@@ -67,9 +67,9 @@ fn body_behind(accepted: u64) -> Body
     Body::one(accepted + 1)
 }
 
-/// Sends the numbers from 1 to `items` of the brief as bodies of one word, each again until it is accepted, and keeps a receipt of each. In
-/// a run the answer is Full until then: the queue is closed when all senders are joined, and its life is longer than any sends
-/// that they can begin. A worn sender stops. The pass is given back, but where the worker reached its limit.
+/// Sends the numbers from 1 to `items` of the brief as bodies of one word, each again until it is accepted, and keeps a receipt
+/// of each. In a run the answer is Full until then: the queue is closed when all senders are joined, and its life is longer
+/// than any sends that they can begin. An exhausted sender stops. The pass is returned unless the worker reached its limit.
 pub(crate) fn send_all<G: Gate, R: Wait>(
     rt: &R,
     queue: &Queue,

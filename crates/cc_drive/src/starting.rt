@@ -10,12 +10,12 @@ use std::thread::{PromisedHandle, Scope};
 /// A thread was refused. Only a start that was refused makes this value, since one of its fields is private here.
 #[derive(Clone, Copy, Debug, PartialEq, Eq)]
 pub struct Refused {
-    /// Where the worker stands in the row of all passes.
+    /// The place of the worker in the row of all passes.
     pub row: u32,
     by_start: PhantomData<()>,
 }
 
-/// Starts a thread for this worker, which stands at this place in the row of all passes.
+/// Starts a thread for this worker, which has this place in the row of all passes.
 pub(crate) fn start<'s, E, J: Worker + 's, R: Wait + Sync + 's>(
     scope: &Scope<'s, E>,
     rt: &'s R,

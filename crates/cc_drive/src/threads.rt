@@ -12,7 +12,7 @@ use std::snapshot::Snapshot;
 use std::sync::Wait;
 use std::thread::{Promise, PromisedHandle, Scope, Threads};
 
-/// What all workers of a run are told.
+/// The data that all workers of a run share.
 #[derive(Clone, Copy, Debug, PartialEq, Eq)]
 pub struct Brief {
     /// How many items each sender sends.
@@ -27,13 +27,13 @@ pub trait Worker: Send + Drop {
     ghost use Rattle.cc_steps.specs.Topic.{Topic};
     ghost use Rattle.cc_drive.specs.Names.{Brief};
 
-    /// What it gives back.
+    /// Its result.
     type Done: Send + Drop;
 
-    /// It stands at the start, at this place in the row of all passes of the queue.
+    /// It is at the start, at this place in the row of all passes of the queue.
     ghost is_ready: { Topic → ℕ → Self → Type 0 };
 
-    /// What a worker that stood at that place may give back.
+    /// The possible results of a worker that was at that place.
     ghost gives: { Topic → Brief → ℕ → Self.Done → Type 0 };
 
     fn run<R: Wait>(self, rt: &R, queue: &Queue, brief: Brief, row: u32) -> Self::Done
@@ -41,7 +41,7 @@ pub trait Worker: Send + Drop {
         ensures { gives queue.now brief row result };
 }
 
-/// What a worker's thread gives at its join.
+/// The result of a worker's thread at its join.
 #[derive(Drop)]
 pub struct WorkOf<J: Worker> {
     pub queue: Snapshot<Queue>,
@@ -54,7 +54,7 @@ impl<J: Worker> Promise<J::Done> for WorkOf<J> {
     ghost kept_by = { λ p d. J.gives p.queue.value p.brief p.row d };
 }
 
-/// What is promised of this worker's thread.
+/// The promise of this worker's thread.
 pub(crate) fn work_of<J: Worker>(queue: &Queue, brief: Brief, row: u32) -> WorkOf<J>
     ensures queue { result.queue.value ≡ queue.now }
     ensures brief { result.brief ≡ brief }
@@ -75,10 +75,10 @@ pub struct Started<J: Worker> {
     pub refused: Option<Refused>,
 }
 
-/// Workers that stand one behind another in the row of all passes, with room for the handles of their threads.
+/// Workers in the order of the row of all passes, with room for the handles of their threads.
 #[derive(Drop)]
 pub struct Row<J: Worker> {
-    /// Where the first of them stands.
+    /// The place of the first of them.
     pub first: u32,
     pub workers: Vec<J>,
     pub handles: Vec<PromisedHandle<J::Done, WorkOf<J>>>,
@@ -134,7 +134,7 @@ pub fn start_all<'s, E, J: Worker + 's, R: Wait + Sync + 's>(
     }
 }
 
-/// Waits for the end of each of these threads. Whatever queue they were promised for, and from which place on, each result is
+/// Waits for the end of each of these threads. For each queue and place that they may have been promised for, each result is
 /// that of its place.
 pub fn join_all<R: Threads, J: Worker>(
     rt: &R,

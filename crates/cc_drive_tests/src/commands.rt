@@ -1,4 +1,4 @@
-//! Lines that ask `cc_command` for a drive, outputs that fail, and ends of runs. What a line leaves of the program is in
+//! Lines that ask `cc_command` for a drive, outputs that fail, and ends of runs. The lines that reach the program are in
 //! tests/command_lines.
 use cc_audit::Verdict;
 use cc_command::drive_line::asked;
@@ -37,7 +37,7 @@ drive --capacity 4096 => DriveConfig { senders: 4, receivers: 4, items: 1000, ca
 drive --bound 1024 => DriveConfig { senders: 4, receivers: 4, items: 1000, capacity: 64, bound: 1024, limit: 281474976710656 }
 drive --bound 1 --capacity 1 --items 0 --receivers 1 --senders 1 => DriveConfig { senders: 1, receivers: 1, items: 0, capacity: 1, bound: 1, limit: 281474976710656 }";
 
-/// A line asks for the run that is told so.
+/// A line asks for the run that these numbers describe.
 fn asks_for<R: Abort>(rt: &R, alloc: Global, line: &str, told: &str) -> Result<(), Fail> {
     let words = words_of(alloc, line)?;
     let config = asked(alloc, &words)?;
@@ -45,7 +45,7 @@ fn asks_for<R: Abort>(rt: &R, alloc: Global, line: &str, told: &str) -> Result<(
     Ok(())
 }
 
-/// What an option doesn't give has its default, and the limit is the program's.
+/// Each option that isn't given has its default, and the limit is the program's.
 #[test]
 fn defaults(rt: HostRuntime) -> Result<(), Fail> {
     for row in ASKED.lines() {
@@ -110,7 +110,7 @@ const FRONTS: [&str; 4] = [
     "sent 20\ntaken 20\naudit clean",
 ];
 
-/// An output without room, ones that take a front alone, and one for six bytes of the help.
+/// An output without room, ones that take only a prefix, and one for six bytes of the help.
 #[test]
 fn outputs_that_fail(rt: HostRuntime) -> Result<(), Fail> {
     for text in FRONTS {
@@ -134,7 +134,7 @@ fn is_told<R: Abort>(
     is_text(rt, &errors, line);
 }
 
-/// A run that has no end to tell, for this fault.
+/// A run that has no end, for this fault.
 fn is_refused<R: Abort>(rt: &R, alloc: Global, fault: DriveFault, due: u8, line: &str) {
     is_told(rt, alloc, Err(RunFault::Drive(fault)), due, line);
 }

@@ -25,8 +25,8 @@ impl<'a> Gate for TestGate<'a> {
     }
 }
 
-/// Lets its worker go on at each point but one, where it first tells it so many times to ask again, and counts how often it was
-/// asked there.
+/// Lets its worker go on at each point but one, at which it first answers this number of times to ask again, and counts how
+/// often it was asked there.
 #[derive(Drop)]
 pub struct Counting<'a> {
     at: Point,
@@ -74,7 +74,7 @@ impl<'a> Meeting<'a> {
 /// How often a worker looks for the other one.
 const LOOKS: u64 = 10_000_000;
 
-/// Whether this flag is set within so many looks.
+/// Whether this flag is set within this number of looks.
 fn comes(flag: &AtomicBool) -> bool {
     let backoff = Backoff::new();
     for _ in 0..LOOKS {
@@ -86,7 +86,7 @@ fn comes(flag: &AtomicBool) -> bool {
     false
 }
 
-/// A gate for each of these, which says how many times it tells its worker to ask again. All of them count together.
+/// A gate for each of these numbers, which answers that many times to ask again. All of them count together.
 fn counting_gates<'a>(
     alloc: Global,
     at: Point,
@@ -103,7 +103,7 @@ fn counting_gates<'a>(
     Ok(gates)
 }
 
-/// How a run ends whose gates tell their workers so many times to ask again at this point.
+/// The end of a run whose gates answer this number of times to ask again at this point.
 fn drive_held<R: Threads + Wait + Sync>(
     rt: &R,
     alloc: Global,

@@ -106,7 +106,7 @@ fn is_worn_out<R: Abort>(rt: &R, queue: &Queue, sender: Sender) -> Sender
     }
 }
 
-/// A close that is the first, behind two items.
+/// A close that is the first, after two items.
 fn shuts<R: Abort>(rt: &R, queue: &Queue, sender: Sender) -> Sender
     requires { IsOf queue.now sender }
 {
@@ -127,7 +127,7 @@ fn shuts<R: Abort>(rt: &R, queue: &Queue, sender: Sender) -> Sender
     }
 }
 
-/// One turn serves the sends of both senders; the first item is taken; and a sender that is worn out closes.
+/// One turn serves the sends of both senders; the first item is taken; and an exhausted sender closes.
 fn rows<R: Abort>(rt: &R, queue: &Queue, one: Sender, two: Sender, receiver: Receiver)
     requires one { IsOf queue.now one }
     requires two { IsOf queue.now two }
@@ -145,7 +145,7 @@ fn rows<R: Abort>(rt: &R, queue: &Queue, one: Sender, two: Sender, receiver: Rec
     shuts(rt, queue, one);
 }
 
-/// The queue isn't opened for want of memory, or each call has its answer. No call but the opening has an allocator or says
+/// The queue isn't opened for lack of memory, or each call has its answer. No call but the opening has an allocator or says
 /// that memory was refused; `rt try --test --fail-alloc N` refuses the allocation of this number.
 #[test]
 fn no_memory(rt: HostRuntime) {

@@ -1,4 +1,4 @@
-//! A round on one queue: threads that send beside threads that take until the queue has ended. Each keeps its receipts.
+//! A round on one queue: threads send while threads take until the queue has ended. Each keeps its receipts.
 ghost use Rattle.std.specs.Prelude.{◌≡◌, IfOk};
 ghost use Rattle.std.specs.List.{All};
 ghost use Rattle.std.specs.Thread.{IsSync};
@@ -12,7 +12,7 @@ use std::process::Abort;
 use std::sync::{Mutex, Wait};
 use std::thread::{Threads, join, map_vec};
 
-/// What the threads of a round leave: each adds its receipts at its end, in the order of its calls.
+/// The results of the threads of a round: each adds its receipts at its end, in the order of its calls.
 #[derive(Drop)]
 pub struct Kept {
     pub sends: Vec<Vec<SendReceipt>>,
@@ -165,7 +165,7 @@ fn meet_everyone(
     Ok(())
 }
 
-/// Both sides beside each other; afterwards all passes meet. Gives the answer of the close.
+/// Both sides at once; afterwards all passes meet. Returns the answer of the close.
 fn both_sides<R: Threads + Wait + Sync>(
     rt: &R,
     alloc: Global,

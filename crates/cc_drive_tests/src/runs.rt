@@ -13,7 +13,7 @@ use std::thread::Threads;
 /// Enough for any run here that isn't held.
 const LIMIT: u64 = 100_000_000;
 
-/// How often a gate that never lets its worker go on tells it to ask again: more than any limit here.
+/// How often a gate that never lets its worker go on answers to ask again: more than any limit here.
 const ALWAYS: u64 = u64::MAX;
 
 /// The least run.
@@ -59,7 +59,7 @@ const SHAPES: [(u32, u32, u64, u32, u32); 7] = [
 ];
 
 /// Each item that is sent is taken, in runs of several shapes: the least, the round of `shared_fifo`, no items at all, one
-/// place for many threads, more threads than processors where each call hands over to the next, and the most threads.
+/// place for many threads, more threads than processors so that each call hands over to the next, and the most threads.
 #[test]
 fn all_items_pass(rt: HostRuntime) {
     for (senders, receivers, items, capacity, bound) in SHAPES {
@@ -75,7 +75,7 @@ fn all_items_pass(rt: HostRuntime) {
     }
 }
 
-/// Shapes out of their ranges, without the items, and what is told of them.
+/// Shapes out of their ranges, without the items, and the field that is reported.
 const OUT_OF_RANGE: [(u32, u32, u32, u32, ConfigFault); 6] = [
     (0, 0, 0, 0, ConfigFault::Senders),
     (64, 1, 1, 1, ConfigFault::Senders),
@@ -85,7 +85,7 @@ const OUT_OF_RANGE: [(u32, u32, u32, u32, ConfigFault); 6] = [
     (1, 64, 1, 1025, ConfigFault::Bound),
 ];
 
-/// The first field out of its range is told. The senders may be 63, since the queue has one more.
+/// The first field out of its range is reported. The senders may be 63, since the queue has one more.
 #[test]
 fn ranges(rt: HostRuntime) {
     for (senders, receivers, capacity, bound, fault) in OUT_OF_RANGE {
@@ -100,8 +100,8 @@ fn ranges(rt: HostRuntime) {
     }
 }
 
-/// A run whose workers are told so many times to ask again at this point ends at the limit of the worker of this number. How
-/// often its gates were asked there.
+/// A run whose workers are answered this number of times to ask again at this point ends at the limit of the worker of this
+/// number. Returns how often its gates were asked there.
 fn ends_at_limit<R: Threads + Wait + Sync + Abort>(
     rt: &R,
     alloc: Global,
@@ -125,7 +125,7 @@ const SHORT: DriveConfig = DriveConfig {
     ..LEAST
 };
 
-/// Where both are held, which of them is told, and how often it has asked.
+/// If both are held: which of them is reported, and how often it has asked.
 const HELD: [(Point, u32, u64); 4] = [
     (Point::SendBegun, 0, 1000),
     (Point::SendAnswered, 0, 999),
@@ -133,8 +133,8 @@ const HELD: [(Point, u32, u64); 4] = [
     (Point::TakeAnswered, 1, 999),
 ];
 
-/// A worker that its gate never lets go on reaches its limit: the least such worker is told, the senders first. Each question
-/// is a turn, and so was the read of the state that gave the answer: it makes as many turns as it may.
+/// A worker that its gate holds for good reaches its limit: the least such worker is reported, the senders first. Each
+/// question is a turn, and so was the read of the state that gave the answer: it makes as many turns as it may.
 #[test]
 fn held(rt: HostRuntime) {
     for (point, number, turns) in HELD {
@@ -143,8 +143,8 @@ fn held(rt: HostRuntime) {
     }
 }
 
-/// A sender that its gate lets go on within its limit doesn't reach it: behind 998 questions of 1000 turns one turn gets the
-/// answer, as no other sender calls. The receiver may reach its own limit meanwhile, but no sender is told.
+/// A sender that its gate holds for less than its limit doesn't reach it: after 998 questions of 1000 turns one turn gets the
+/// answer, as no other sender calls. The receiver may reach its own limit meanwhile, but no sender is reported.
 #[test]
 fn held_for_long(rt: HostRuntime) {
     let (end, asked) = drive_counted(&rt, rt.alloc(), &SHORT, Point::SendBegun, &[998, 0]);
@@ -162,7 +162,7 @@ const SIX: DriveConfig = DriveConfig {
     limit: LIMIT,
 };
 
-/// Where some of six are held, their limit, which of them are, and which is told.
+/// If some of six are held: their limit, which of them are, and which is reported.
 const SOME_HELD: [(Point, u64, [u64; 6], u32); 4] = [
     (
         Point::SendAnswered,
@@ -180,8 +180,8 @@ const SOME_HELD: [(Point, u64, [u64; 6], u32); 4] = [
     (Point::TakeAnswered, 1_000_000, [0, 0, 0, 0, 0, ALWAYS], 5),
 ];
 
-/// Of three senders and three receivers some are held behind an answer, and the others come to their ends: the least that is
-/// held is told, the senders first, from 0.
+/// Of three senders and three receivers some are held after an answer, and the others come to their ends: the least that is
+/// held is reported, the senders first, from 0.
 #[test]
 fn some_are_held(rt: HostRuntime) {
     for (point, limit, again, number) in SOME_HELD {
@@ -213,7 +213,7 @@ const TIMES: [(Point, u64, u64); 4] = [
     (Point::TakeAnswered, 6, LIMIT),
 ];
 
-/// A gate that lets its worker go on is asked once behind each begin and each answer.
+/// A gate that lets its worker go on is asked once after each begin and each answer.
 #[test]
 fn asked_at_each_point(rt: HostRuntime) {
     for (point, least, most) in TIMES {
@@ -232,7 +232,7 @@ const NO_TURNS: DriveConfig = DriveConfig {
     limit: 0,
 };
 
-/// With no turns at all each worker is at its limit, and the first sender is told; with no items to send, the first
+/// With no turns at all each worker is at its limit, and the first sender is reported; with no items to send, the first
 /// receiver.
 #[test]
 fn no_turns(rt: HostRuntime) {

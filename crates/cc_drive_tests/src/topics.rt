@@ -62,7 +62,7 @@ fn has_queue<R: Abort>(rt: &R, broker: &Broker, number: usize, is_there: bool) {
     assert_eq!(rt; broker.queue(number).is_some(), is_there);
 }
 
-/// A broker of these topics finds each of them by its place, and none by these names; and there are just as many queues.
+/// A broker of these topics finds each of them by its place, and none by these names; and it has exactly that number of queues.
 fn finds_each<R: Abort>(rt: &R, alloc: Global, topics: &[(&str, Config)], strangers: &[&str]) {
     let broker = opened(rt, alloc, topics).broker;
     for (place, (name, _)) in topics.iter().enumerate() {
@@ -113,8 +113,8 @@ fn is_refused<R: Abort>(rt: &R, alloc: Global, topics: &[(&str, Config)], fault:
     assert_eq!(rt; fault_of(rt, alloc, topics), fault);
 }
 
-/// Too many topics are told first, and then a name that stands twice, by the first place where one stands again, and before any
-/// configuration.
+/// Too many topics are reported first, and then a name that occurs twice, by the first place at which one occurs again, and
+/// before any configuration.
 #[test]
 fn double_names(rt: HostRuntime) {
     let (a, b) = (("a", SMALL), ("b", SMALL));

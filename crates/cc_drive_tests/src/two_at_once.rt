@@ -9,7 +9,7 @@ use std::sync::Wait;
 use std::sync::atomic::{AtomicBool, Ordering};
 use std::thread::Threads;
 
-/// What two workers show each other.
+/// The flags that two workers show each other.
 #[derive(Drop)]
 struct Flags {
     sender_is_here: AtomicBool,

@@ -63,8 +63,8 @@ fn accepted(place: u64) -> Option<SendAnswer> {
     Some(SendAnswer::Accepted { place })
 }
 
-/// A send, or one that is made until it isn't told that the queue is full. It is answered so, or its sender is worn; and its
-/// sender has begun so many.
+/// A send, or one that is made until the answer isn't Full. It returns this, or its sender is exhausted; and its sender has
+/// begun this number of sends.
 fn sends<R: Abort + Wait>(
     rt: &R,
     queue: &Queue,
@@ -121,7 +121,7 @@ fn closes<R: Abort + Wait>(rt: &R, queue: &Queue, sender: Sender, due: CloseAnsw
     sender
 }
 
-/// A sender fills a queue for one item, and wears out.
+/// A sender fills a queue for one item, and is exhausted.
 fn wear_out<R: Abort + Wait>(rt: &R, queue: &Queue, sender: Sender) -> Sender
     requires { IsOf queue.now sender }
     ensures { IsOf queue.now result }
@@ -132,7 +132,7 @@ fn wear_out<R: Abort + Wait>(rt: &R, queue: &Queue, sender: Sender) -> Sender
     sends(rt, queue, sender, 6, true, (None, 3))
 }
 
-/// The item of the worn sender is taken, and the next one's, and then there is the end.
+/// The item of the exhausted sender is taken, and the next one's, and then there is the end.
 fn end<R: Abort + Wait>(
     rt: &R,
     queue: &Queue,

@@ -1,4 +1,4 @@
--- What leaves a struct that owns more than its fields.
+-- A value moves out of a struct that owns more than its fields.
 use denote.Exit.{Exit, unchanged, leaves, hidden, under}
 use denote.Param.Send.{Quiet}
 

@@ -1,4 +1,4 @@
--- A begin, and where it was begun a turn; and a call that is made where there is room.
+-- A begin, and if it was begun a turn; and a call that is made if there is room.
 use Rattle.std.proofs.Common.{◌≡◌, ◌≢◌, ℕ, Bool, true, false, Option, subst}
 use Rattle.cc_handles.specs.Names.{Pass, Taken}
 use Rattle.cc_handles.specs.Items.{Form}

@@ -24,8 +24,8 @@ longest_of h = (held_by h).words
 abbrev pub is_empty : Handle → Bool
 is_empty h = not h.live
 
--- a handle was dropped: it is empty now, DONE is told if it was not before, and what is left behind it is the pass that it
--- held, as it was
+-- a handle was dropped: it is empty now, DONE is returned if it was not before, and its remains are the pass that it held,
+-- as it was
 pub record IsDropped (old new : Handle) (code : ℕ) : Type 0 where
   pub empty : IsTrue (is_empty new)
   pub told : code ≡ (if is_empty old then NO_PASS else DONE)

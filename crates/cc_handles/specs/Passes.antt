@@ -12,7 +12,7 @@ walk_of (Pass.Closing w) = w
 walk_of (Pass.Receiver w) = w
 walk_of (Pass.Taking w) = w
 
--- what is left behind of a pass that is given up, if there is one: the pass as it was
+-- the remains of a pass that is abandoned, if there is one: the pass as it was
 abbrev pub left_of : Option Pass → Option Walk
 left_of None = None
 left_of (Some p) = Some (walk_of p)

@@ -1,4 +1,4 @@
-//! The box of what is held behind a handle, as C holds it.
+//! The box of a handle, as C holds it.
 ghost use Rattle.std.specs.Prelude.{◌≡◌, Option, Some, None, IsTrue, is_some};
 ghost use Rattle.std.specs.contracts.impls.GlobalAllocator.TheImpl.{ghosts};
 ghost use Rattle.cc_handles.specs.declared.held.Held.{Held};
@@ -10,7 +10,7 @@ use crate::loose::Loose;
 use std::alloc::Global;
 use std::marker::Model;
 
-/// The box behind a handle, or nothing. It lets go of nothing by itself: the handle takes it out by `into_box`.
+/// The box of a handle, or nothing. It releases nothing by itself: the handle takes it out by `into_box`.
 #[repr(C)]
 #[derive(Drop)]
 pub struct Boxed {

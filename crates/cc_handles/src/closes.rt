@@ -1,4 +1,4 @@
-//! A close, by the pass behind a handle.
+//! A close, by the pass of a handle.
 ghost use Rattle.std.specs.Prelude.{◌≡◌, Some};
 ghost use Rattle.cc_steps.specs.Walk.{IsOf};
 ghost use Rattle.cc_handles.specs.Passes.{walk_of};

@@ -1,11 +1,11 @@
-//! What a call tells C, as `bindings/c/vahepito.h` names it.
+//! The codes that a call returns to C, as `bindings/c/vahepito.h` names them.
 ghost use Rattle.std.specs.Prelude.{IsTrue};
 ghost use Rattle.cc_handles.specs.Codes.{all_codes, are_apart};
 
 /// It was done.
 pub const DONE: u32 = 0;
 
-/// The first field of a configuration that is out of its range; its groups stand at the end.
+/// The first field of a configuration that is out of its range; its groups are the last.
 pub const BAD_SENDERS: u32 = 1;
 
 pub const BAD_RECEIVERS: u32 = 2;

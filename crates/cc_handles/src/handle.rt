@@ -9,7 +9,7 @@ use std::alloc::Global;
 use std::mem::replace;
 use std::ptr::null_mut;
 
-/// A pass, or nothing where it is not live; then what is left of the pass that it held and that was given up.
+/// A pass, or nothing if it is not live; then the remains of the pass that it held and that was abandoned.
 #[repr(C)]
 #[derive(Drop)]
 pub struct Handle {
@@ -31,7 +31,7 @@ impl Handle {
         }
     }
 
-    /// Holds this, where it held nothing.
+    /// Holds this in place of nothing.
     pub fn hold(&mut self, held: Box<Held>)
         requires { self.old.boxed.value ≡ None }
         ensures { self.new.boxed.value ≡ Some held.value }
@@ -40,7 +40,7 @@ impl Handle {
         self.live = true;
     }
 
-    /// What the handle holds, which is empty afterwards.
+    /// The content of the handle, which is empty afterwards.
     pub fn take(&mut self, alloc: Global) -> Option<Box<Held>>
         ensures after { self.new.boxed.value ≡ None }
         ensures left { self.new.left.value ≡ None }

@@ -1,4 +1,4 @@
-//! What stands behind a handle.
+//! The content of a handle's box.
 ghost use Rattle.std.specs.Prelude.{◌≡◌, Some, None};
 ghost use Rattle.cc_steps.specs.Walk.{IsOf};
 ghost use Rattle.cc_handles.specs.Passes.{walk_of, left_of, holding};
@@ -21,8 +21,8 @@ pub enum Pass {
 type Spare = [u64; 8];
 
 /// The pass of a handle with its own share of the queue. It has none only inside a call. Each call writes the pass and
-/// reads the share; with a spare line on either side of the pass no call writes to a line that another handle's calls
-/// read.
+/// reads the share; with an unused line on either side of the pass no call writes to a line that another handle's
+/// calls read.
 #[repr(C)]
 pub struct Held {
     pub(crate) queue: Queue,
@@ -44,7 +44,7 @@ impl Model for Held {
 }
 
 impl Held {
-    /// A pass and a share of its queue, whose bodies have so many words at most.
+    /// A pass and a share of its queue, whose bodies have at most this number of words.
     pub(crate) fn new(queue: Queue, longest: u32, pass: Pass) -> Held
         requires { IsOf queue (walk_of pass) }
         ensures { result ≡ holding longest pass }
@@ -97,7 +97,7 @@ impl Drop for Held {
     }
 }
 
-/// Puts a pass back, where it was taken from: nothing stands there, and so nothing is looked for.
+/// Puts a pass back, into the place from which it was taken: nothing is there, and so nothing is looked for.
 pub(crate) fn put(place: &mut Option<Pass>, pass: Pass)
     requires place { place.old ≡ None }
     ensures { place.new ≡ Some pass }

@@ -58,7 +58,7 @@ impl ItemForm for TakenItem {
     }
 }
 
-/// An item with all words of its body: so many, and 0 behind them.
+/// An item with all words of its body, and 0 after them.
 #[repr(C)]
 #[derive(Clone, Copy)]
 pub struct TakenWords {

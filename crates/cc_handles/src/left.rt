@@ -1,4 +1,4 @@
-//! What is left of a pass that was given up.
+//! The remains of an abandoned pass.
 ghost use Rattle.std.specs.Prelude.{◌≡◌, Option, Some, None};
 ghost use Rattle.std.specs.Mem.{manually_drop_value};
 ghost use Rattle.cc_queue.specs.declared.GivenUp.{GivenUp};

@@ -1,7 +1,7 @@
-//! What the exports of the static library stand on (`cc_binding`): handles as C holds them, each with a pass and a share
-//! of its queue, or with nothing; and the calls of the pass behind a handle, whose answers are codes and numbers.
+//! The code below the exports of the static library (`cc_binding`): handles as C holds them, each with a pass and a
+//! share of its queue, or with nothing; and the calls of the pass of a handle, whose answers are codes and numbers.
 //!
-//! What each call tells is said in `specs/Calls.antt`, and of the opening in `specs/Opened.antt`.
+//! `specs/Calls.antt` says what each call returns, and `specs/Opened.antt` what an opening does.
 #![tactic(auto)]
 
 mod boxed;

@@ -20,8 +20,8 @@ use cc_model::{CheckedConfig, Config, ConfigFault};
 use cc_queue::{Opened, Queue, Receiver, Sender};
 use std::alloc::{AllocError, Global};
 
-/// What a queue is opened with, as C gives it. How many groups of receivers it has is given beside it: the four bytes
-/// behind `per_sender` are padding, which C leaves undefined.
+/// The configuration of an opening, as C gives it. The number of groups of receivers is a further argument: the four bytes
+/// after `per_sender` are padding, which C leaves undefined.
 #[repr(C)]
 #[derive(Clone, Copy)]
 pub struct Settings {
@@ -34,7 +34,7 @@ pub struct Settings {
 }
 
 impl Settings {
-    /// The configuration that it is, of so many groups.
+    /// The configuration that it is, with this number of groups.
     pub fn config(&self, groups: u32) -> Config
         ensures { result ≡ config_of self.now groups }
     {
@@ -73,14 +73,14 @@ fn are_empty(handles: &[Handle]) -> bool
     handles.iter().all(|handle| !handle.live)
 }
 
-/// Whether there are so many handles, and each is empty.
+/// Whether there are this number of handles, and each is empty.
 fn are_free(handles: &[Handle], count: u32) -> bool
     ensures { result ≡ are_free count handles.now }
 {
     handles.len() == count as usize && are_empty(handles)
 }
 
-/// Whether a body may have so many words.
+/// Whether a body may have this number of words.
 fn are_few(words: u32) -> bool
     ensures { result ≡ are_few words }
 {
@@ -148,7 +148,7 @@ fn keep_senders(
     Ok(all)
 }
 
-/// The receivers so, which stand behind so many senders in the row of passes.
+/// The same for the receivers, which come after this number of senders in the row of passes.
 fn keep_receivers(
     alloc: Global,
     queue: &Queue,
@@ -169,7 +169,7 @@ fn keep_receivers(
     Ok(all)
 }
 
-/// Puts each of these behind the handle of its place.
+/// Puts each of these into the handle of its place.
 fn fill(handles: &mut [Handle], mut all: Vec<Box<Held>>)
     requires { length all.items ≡ length handles.old }
     ensures { map (λ h. h.boxed.value) handles.new ≡ map (λ b. Some b.value) all.items }
@@ -180,7 +180,7 @@ fn fill(handles: &mut [Handle], mut all: Vec<Box<Held>>)
     }
 }
 
-/// Puts the passes of a queue that was opened, whose bodies have so many words at most, behind the handles.
+/// Puts the passes of a queue that was opened, whose bodies have at most this number of words, into the handles.
 fn hand_out(
     alloc: Global,
     config: &Config,
@@ -207,7 +207,7 @@ fn hand_out(
     Ok(())
 }
 
-/// Opens a queue, whose bodies have so many words at most, over handles that are empty.
+/// Opens a queue, whose bodies have at most this number of words, over handles that are empty.
 pub fn open(
     alloc: Global,
     config: &CheckedConfig,

@@ -1,4 +1,4 @@
-//! A send, by the pass behind a handle.
+//! A send, by the pass of a handle.
 ghost use Rattle.std.specs.Prelude.{◌≡◌, Some};
 ghost use Rattle.cc_steps.specs.Walk.{IsOf};
 ghost use Rattle.cc_handles.specs.Passes.{walk_of};
@@ -11,7 +11,7 @@ use crate::told::Told;
 use cc_model::Body;
 use cc_queue::{Queue, SendTurn, begin_send, turn_send};
 
-/// The body of these words, where a body may have so many; or the code for which there is none.
+/// The body of these words, if a body may have that many; or the code for which there is none.
 fn fitting(words: &[u64], longest: u32) -> Result<Body, u32>
     ensures { result ≡ fitting longest words.now }
 {
@@ -71,7 +71,7 @@ fn turned(queue: &Queue, pass: Pass) -> (Pass, Told)
 }
 
 impl Held {
-    /// The body of these words, where a body of the queue may have so many; or the code for which there is none.
+    /// The body of these words, if a body of the queue may have that many; or the code for which there is none.
     pub fn fitting(&self, words: &[u64]) -> Result<Body, u32>
         ensures { result ≡ fitting self.now.words words.now }
     {
@@ -105,7 +105,7 @@ impl Held {
         told
     }
 
-    /// Begins a send of this body, if there is one, and where it was begun turns it once.
+    /// Begins a send of this body, if there is one, and if it was begun turns it once.
     #[inline(always)]
     pub fn try_send(&mut self, body: Result<Body, u32>) -> Told
         ensures tries { TriesSend body self.old.pass self.new.pass result }
@@ -124,7 +124,7 @@ impl Held {
         told
     }
 
-    /// Whether the sender is worn.
+    /// Whether the sender is exhausted.
     pub fn is_worn(&self) -> u32
         ensures { TellsWorn self.now.pass self.now.pass result }
     {

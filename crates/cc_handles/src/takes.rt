@@ -1,4 +1,4 @@
-//! A take, by the pass behind a handle.
+//! A take, by the pass of a handle.
 ghost use Rattle.std.specs.Prelude.{◌≡◌, nat_le, Some};
 ghost use Rattle.cc_steps.specs.Walk.{IsOf};
 ghost use Rattle.cc_handles.specs.Passes.{walk_of};
@@ -91,7 +91,7 @@ impl Held {
         told
     }
 
-    /// Begins a take, if its item has room for each body of the queue, and where it was begun turns it once.
+    /// Begins a take, if its item has room for each body of the queue, and if it was begun turns it once.
     pub fn try_take<I: ItemForm>(&mut self) -> Taken<I>
         ensures tries { IfRoom I.form (nat_le self.old.words I.form.room) (TriesTake I.form) self.old.pass self.new.pass result }
         ensures same { self.new.words ≡ self.old.words }
@@ -140,7 +140,7 @@ pub fn turn_take<I: ItemForm>(alloc: Global, receiver: &mut Handle) -> Taken<I>
     }
 }
 
-/// Begins a take, by a handle, and where it was begun turns it once.
+/// Begins a take, by a handle, and if it was begun turns it once.
 #[inline(always)]
 pub fn try_take<I: ItemForm>(alloc: Global, receiver: &mut Handle) -> Taken<I>
     ensures tries { IfRoom I.form (nat_le (longest_of receiver.old) I.form.room) (TriesTake I.form) (pass_of receiver.old) (pass_of receiver.new) result }

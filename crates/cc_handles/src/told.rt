@@ -1,4 +1,4 @@
-//! What a call tells, and the answers of a queue as that.
+//! The results of a call, and the answers of a queue as these.
 ghost use Rattle.std.specs.Prelude.{◌≡◌};
 ghost use Rattle.cc_handles.specs.Told.{only, none_taken, sent_as, closed_as, taken_as};
 
@@ -7,7 +7,7 @@ use crate::items::ItemForm;
 use cc_model::{CloseAnswer, SendAnswer, TakeAnswer};
 use cc_runs::words_in;
 
-/// What a call of a sender tells.
+/// The result of a call of a sender.
 #[derive(Clone, Copy)]
 pub struct Told {
     pub code: u32,
@@ -17,13 +17,13 @@ pub struct Told {
     pub served: u32,
 }
 
-/// What a take tells.
+/// The result of a take.
 #[derive(Drop)]
 pub struct Taken<I> {
     pub code: u32,
     /// The item that was got; else 0 in each field.
     pub item: I,
-    /// The total, where the queue has ended; else 0.
+    /// The total, if the queue has ended; else 0.
     pub total: u64,
     /// How many calls the turn served.
     pub served: u32,

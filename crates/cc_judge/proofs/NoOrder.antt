@@ -58,7 +58,7 @@ overtaken calls stay later_send later_take order differ f o =
       | inr first ↦ in_time calls order o late.by.step t.step first (subst (λ place. EndsBefore calls place late.by.step.place) (sym t.place_is) late.more.after)
     ]
 
--- an item that was sent before the call of a step, which stands before another that found none or is that, was taken before that
+-- an item that was sent before the call of a step, which is before another that found none or is that, was taken before that
 taken_before : (calls : List Call) (order : List Step) → IsOrder calls order → (e f : Step) → In f order → e.act ≡ Act.FoundNone → ((item : ℕ) → f.act ≢ Act.Send item) → ((s : Step) → Before s f order → Before s e order) → (send item : ℕ) → SentBefore calls send f.place item → TakenBy order (λ u. Before u e order) item
 taken_before calls order o e f within none no_send on send item before =
     let s = ended_step calls order o send f.place (Act.Send item) (λ is. cc) before.sent before.before in

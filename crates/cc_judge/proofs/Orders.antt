@@ -1,4 +1,4 @@
--- What a legal order of a log says of the calls of the log.
+-- The facts that a legal order of a log gives of the calls of the log.
 use Rattle.std.proofs.Common.{◌≡◌, ◌≢◌, ℕ, ◌<◌, ◌≤◌, ◌⊎◌, inl, inr, List, Option, Some, IsSome, refl, sym, ap, ◌∙◌, subst, arith}
 use Rattle.std.specs.List.{slice_get}
 use Rattle.std.proofs.lemmas.Bool.{cases_lt}
@@ -85,7 +85,7 @@ took_in_log calls order o s item within is =
 pub apart : (calls : List Call) (order : List Step) → IsOrder calls order → (s t : Step) → Before s t order → s.place ≢ t.place
 apart calls order o s t first = let at = at_before s t order first in o.once at.0 at.1 s t at.2 at.3 at.4
 
--- no step stands behind one whose call began after it had ended
+-- no step comes after one whose call began after it had ended
 pub in_time : (calls : List Call) (order : List Step) → IsOrder calls order → (s t : Step) → Before s t order → EndsBefore calls t.place s.place → ⊥
 in_time calls order o s t first ends = let at = at_before s t order first in o.timely at.0 at.1 s t at.2 at.3 at.4 ends
 
@@ -98,7 +98,7 @@ goes_before calls order o s t first second differ ends = elim (in_order s t orde
 same_place : (calls : List Call) (order : List Step) → IsOrder calls order → (t : Step) (j k : ℕ) → slice_get order j ≡ Some t → slice_get order k ≡ Some t → j ≤ k
 same_place calls order o t j k at_j at_k = elim (cases_lt k j) [ inl less ↦ absurd (o.once k j t t less at_k at_j refl) | inr not_less ↦ not_less ]
 
--- what stands before a step that stands before another stands before that
+-- a step before a step that is before another is before that
 pub on_before : (calls : List Call) (order : List Step) → IsOrder calls order → (s t u : Step) → Before s t order → Before t u order → Before s u order
 on_before calls order o s t u one two =
     let a = at_before s t order one in
@@ -107,7 +107,7 @@ on_before calls order o s t u one two =
     let less : a.0 < b.1 = omega (arith, same, a.2, b.2) in
     before_at s u order a.0 b.1 less a.3 b.4
 
--- of one item one send stands in an order
+-- of one item one send is in an order
 pub one_send : (calls : List Call) (order : List Step) → IsOrder calls order → Differ calls → (item : ℕ) (s t : Step) → Before s t order → s.act ≡ Act.Send item → t.act ≢ Act.Send item
 one_send calls order o differ item s t first sent again =
     apart calls order o s t first (differ item s.place t.place (sent_in_log calls order o s item (before_first s t order first) sent) (sent_in_log calls order o t item (before_second s t order first) again))

@@ -1,4 +1,4 @@
--- Elements of a list, and which of two stands before the other.
+-- Elements of a list, and which of two comes first.
 use Rattle.std.proofs.Common.{◌≡◌, ℕ, zero, suc, ◌<◌, ◌⊎◌, inl, inr, List, [], ◌∷◌, ◌++◌, Some, refl, sym, ap, ◌∙◌, arith}
 use Rattle.std.specs.List.{slice_get}
 
@@ -7,7 +7,7 @@ abbrev pub In : {X : Type 0} → X → List X → Type 0
 In s [] = ⊥
 In s (x ∷ xs) = (x ≡ s) ⊎ In s xs
 
--- the first element stands before the second
+-- the first element is before the second
 abbrev pub Before : {X : Type 0} → X → X → List X → Type 0
 Before s t [] = ⊥
 Before s t (x ∷ xs) = ((x ≡ s) × In t xs) ⊎ Before s t xs
@@ -22,7 +22,7 @@ before_second s t [] h = absurd h
 before_second s t (x ∷ xs) (inl here) = inr here.1
 before_second s t (x ∷ xs) (inr later) = inr (before_second s t xs later)
 
--- of two elements that are in the list one stands first, unless they are one
+-- of two elements that are in the list one is first, unless they are one
 pub in_order : {X : Type 0} (s t : X) (xs : List X) → In s xs → In t xs → (s ≡ t) ⊎ Before s t xs ⊎ Before t s xs
 in_order s t [] h k = absurd h
 in_order s t (x ∷ xs) (inl a) (inl b) = inl (sym a ∙ b)

@@ -1,11 +1,12 @@
--- What the run of one queue says of the order of its calls: an item is taken after it was sent, at most as often as it
--- was sent, after each that was sent before it; and none is found only behind the takes of all that were sent.
+-- The facts that the run of one queue gives of the order of its calls: an item is taken after it was sent, at most as
+-- often as it was sent, after each that was sent before it; and none is found only after the takes of all that were
+-- sent.
 use Rattle.std.proofs.Common.{◌≡◌, ◌≢◌, ℕ, ◌⊎◌, inl, inr, List, [], ◌∷◌, ◌++◌, refl, sym, ap, ◌∙◌, subst}
 use Rattle.cc_judge.specs.Names.{Act, Step}
 use Rattle.cc_judge.specs.Order.{Does, IsRun}
 use Rattle.cc_judge.proofs.Places.{In, Before, before_first, in_snoc, in_last, in_more}
 
--- a step that stands before t, and did this
+-- a step of this act before t
 pub record Earlier (steps : List Step) (t : Step) (act : Act) : Type 0 where
   pub step : Step
   pub before : Before step t steps
@@ -44,7 +45,7 @@ sent_before held (x ∷ steps) t item run (inr rest) is = elim (sent_before run.
   | inr e ↦ inr (later x t steps (Act.Send item) e)
 ]
 
--- ---- behind the send of an item none is found only if the item was taken between
+-- ---- after the send of an item none is found only if the item was taken between
 
 held_taken : (held : List ℕ) (steps : List Step) (t : Step) (item : ℕ) → IsRun held steps → In item held → In t steps → t.act ≡ Act.FoundNone → Earlier steps t (Act.Took item)
 held_taken held [] t item run has within is = absurd within
@@ -68,7 +69,7 @@ taken_before_none held (x ∷ steps) s t item run (inr rest) sent none = later x
 
 -- ---- of two items the one that was sent first is taken first
 
--- a is held, and no b stands before it
+-- a is held, and no b is before it
 abbrev Ahead : ℕ → ℕ → List ℕ → Type 0
 Ahead a b [] = ⊥
 Ahead a b (x ∷ xs) = (x ≡ a) ⊎ ((x ≢ b) × Ahead a b xs)

@@ -7,7 +7,7 @@ use Rattle.cc_judge.specs.Faults.{Did}
 use Rattle.cc_judge.specs.Table.{act_of, IsTable, Twice}
 use Rattle.cc_judge.proofs.Turns.{below_or_at, nat_cases, set_at, set_elsewhere}
 
--- the table has just the calls of this kind so far
+-- the table has exactly the calls of this kind so far
 pub record TabledTo (calls : List Call) (kind : Kind) (table : List (Option ℕ)) (upto : ℕ) : Type 0 where
   pub all : (place item : ℕ) → place < upto → Did calls place (act_of kind item) → slice_get table item ≡ Some (Some place)
   pub each : (place item : ℕ) → slice_get table item ≡ Some (Some place) → Did calls place (act_of kind item)

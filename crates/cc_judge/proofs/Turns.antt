@@ -27,7 +27,7 @@ below_or_at xs i k d x below is = elim (cases_lt k i) [
 abbrev pub Begun : List Call → List Step → (upto latest : ℕ) → Type 0
 Begun calls order upto latest = (k : ℕ) (s : Step) (c : Call) → k < upto → slice_get order k ≡ Some s → slice_get calls s.place ≡ Some c → c.begin ≤ latest
 
--- none of the steps so far stands behind one whose call began after its own had ended
+-- none of the steps so far comes after one whose call began after its own had ended
 abbrev pub TimelyTo : List Call → List Step → (upto : ℕ) → Type 0
 TimelyTo calls order upto = (j k : ℕ) (s t : Step) → j < k → k < upto → slice_get order j ≡ Some s → slice_get order k ≡ Some t → EndsBefore calls t.place s.place → ⊥
 

@@ -1,4 +1,4 @@
--- What one turn of a check found.
+-- The result of one turn of a check.
 use Rattle.std.specs.Prelude.{◌≡◌, ℕ, ◌≤◌, ◌⊎◌, List, Bool, true, false, Option, Some, None, slice_get, slice_set}
 use Rattle.cc_judge.specs.Names.{Call, Act, Leave}
 use Rattle.cc_judge.specs.Faults.{Did}

@@ -4,13 +4,13 @@ use Rattle.std.specs.Prelude.{◌≡◌, ◌≢◌, ℕ, ◌<◌, ◌⊎◌, Lis
 use Rattle.cc_judge.specs.Names.{Act, Call, Stay}
 use Rattle.cc_judge.specs.Order.{EndsBefore}
 
--- the call at this place did just this
+-- the call at this place has exactly this act
 pub record Did (calls : List Call) (place : ℕ) (act : Act) : Type 0 where
   pub call : Call
   pub call_is : slice_get calls place ≡ Some call
   pub act_is : call.act ≡ act
 
--- the call at this place did just this, and returned
+-- the call at this place has exactly this act, and returned
 pub record Returned (calls : List Call) (place : ℕ) (act : Act) : Type 0 where
   pub call : Call
   pub call_is : slice_get calls place ≡ Some call

@@ -1,4 +1,4 @@
--- The types that specs, proofs and contracts of this crate speak of. A variant stands behind its type, as `Act.Send`.
+-- The types in specs, proofs and contracts of this crate. A variant comes after its type, as `Act.Send`.
 pub use Rattle.cc_judge.specs.declared.log.Act.{Act}
 pub use Rattle.cc_judge.specs.declared.log.Call.{Call}
 pub use Rattle.cc_judge.specs.declared.log.Stay.{Stay}

@@ -55,7 +55,7 @@ IsOnce order = (j k : ℕ) (s t : Step) → j < k → slice_get order j ≡ Some
 abbrev pub IsWhole : List Call → List Step → Type 0
 IsWhole calls order = (place : ℕ) (c : Call) → slice_get calls place ≡ Some c → IsSome c.end → Has order place
 
--- no call stands behind one that began after it had ended
+-- no call comes after one that began after it had ended
 abbrev pub IsTimely : List Call → List Step → Type 0
 IsTimely calls order = (j k : ℕ) (s t : Step) → j < k → slice_get order j ≡ Some s → slice_get order k ≡ Some t → EndsBefore calls t.place s.place → ⊥
 

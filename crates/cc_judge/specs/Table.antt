@@ -1,4 +1,4 @@
--- Where each item of a log was sent, and where it was taken.
+-- The places at which each item of a log was sent and taken.
 use Rattle.std.specs.Prelude.{◌≡◌, ◌≢◌, ℕ, List, Option, Some, None, slice_get, slice_set}
 use Rattle.cc_judge.specs.Names.{Act, Call, Kind, Found, Entry, Index}
 use Rattle.cc_judge.specs.Faults.{Did}
@@ -14,7 +14,7 @@ Enters before item place after Entry.New = (slice_get before item ≡ Some None)
 Enters before item place after (Entry.Had had) = (slice_get before item ≡ Some (Some had)) × (after ≡ before)
 Enters before item place after Entry.Stray = slice_get before item ≡ None
 
--- the table has just the calls of this kind, by their items
+-- the table has exactly the calls of this kind, by their items
 pub record IsTable (calls : List Call) (kind : Kind) (table : List (Option ℕ)) : Type 0 where
   pub all : (place item : ℕ) → Did calls place (act_of kind item) → slice_get table item ≡ Some (Some place)
   pub each : (place item : ℕ) → slice_get table item ≡ Some (Some place) → Did calls place (act_of kind item)

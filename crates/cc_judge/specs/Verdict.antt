@@ -5,7 +5,7 @@ use Rattle.cc_judge.specs.Order.{IsOrder, IsLinearizable}
 use Rattle.cc_judge.specs.Faults.{Differ, NeverSent, TakenBeforeSent, TakenTwice, Overtaken, NotEmpty}
 use Rattle.cc_judge.specs.Table.{Twice, IsIndex}
 
--- the fault stands in the log: the calls that it names did so
+-- the log has the fault: the calls that it names did so
 abbrev pub Stands : List Call → Fault → Type 0
 Stands calls (Fault.NeverSent take) = NeverSent calls take
 Stands calls (Fault.TakenBeforeSent send take) = TakenBeforeSent calls send take

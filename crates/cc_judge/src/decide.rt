@@ -70,7 +70,7 @@ pub enum Indexed {
     Due(Verdict),
 }
 
-/// The verdict where two calls took one item.
+/// The verdict if two calls took one item.
 fn twice(calls: &[Call], first: usize, second: usize) -> Verdict
     requires { Differ calls.now }
     ensures { IsVerdict calls.now result }
@@ -82,7 +82,7 @@ fn twice(calls: &[Call], first: usize, second: usize) -> Verdict
     }
 }
 
-/// Finds where each item was sent and taken, or what is due without that.
+/// Finds the places at which each item was sent and taken, or the verdict that is due without that.
 fn index_of(alloc: Global, calls: &[Call], items: usize) -> Result<Indexed, AllocError>
     ensures { IfOk result (Indexes calls.now) }
 {

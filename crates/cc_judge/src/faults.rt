@@ -1,4 +1,4 @@
-//! Whether a fault stands in a log: each is confirmed by the calls that it names.
+//! Whether a log has a fault: each is confirmed by the calls that it names.
 ghost use Rattle.std.specs.Prelude.{◌≡◌, ℕ, IsTrue, IfSome, slice_get, Some, None};
 ghost use Rattle.cc_judge.specs.Names.{Call, Act, Kind, Stay, Leave};
 ghost use Rattle.cc_judge.specs.Order.{EndsBefore};
@@ -8,7 +8,7 @@ ghost use Rattle.cc_judge.specs.Table.{IsTable, IsIndex};
 
 use crate::{Act, Call, Stay};
 
-/// Where each item of a log was sent and taken.
+/// The places at which each item of a log was sent and taken.
 #[derive(Debug, Drop)]
 pub struct Index {
     /// Of each item the place of its send, if there is one.

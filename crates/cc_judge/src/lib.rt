@@ -2,7 +2,7 @@
 //!
 //! A log has the calls of several threads on one queue, each with the time at which it began and, if it returned, the
 //! time at which it ended. It is linearizable if its calls have a legal order: one that a queue of one thread would
-//! answer so, and in which no call stands behind one that began after it had ended (Herlihy and Wing, TOPLAS 1990).
+//! answer so, and in which no call comes after one that began after it had ended (Herlihy and Wing, TOPLAS 1990).
 #![tactic(auto)]
 
 mod decide;

@@ -1,6 +1,6 @@
 //! The calls of a log.
 
-/// What a call did. Items are numbered.
+/// The act of a call. Items are numbered.
 #[derive(Clone, Copy, Debug, PartialEq, Eq, Drop)]
 pub enum Act {
     /// It sent this item, and was accepted.
@@ -20,7 +20,7 @@ pub struct Call {
     pub begin: u64,
     /// The time at which it ended, if it returned.
     pub end: Option<u64>,
-    /// What it did.
+    /// Its act.
     pub act: Act,
 }
 
@@ -49,6 +49,6 @@ pub enum Stay {
 pub struct Step {
     /// The place of the call in the log.
     pub place: usize,
-    /// What it did: for a take that hasn't returned, what it would have.
+    /// Its act: for a take that hasn't returned, the one that it would have.
     pub act: Act,
 }

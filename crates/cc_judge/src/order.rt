@@ -83,7 +83,7 @@ fn goes_on(calls: &[Call], place: usize, time: u64) -> Option<u64>
     }
 }
 
-/// Whether no call stands behind one that began after it had ended.
+/// Whether no call comes after one that began after it had ended.
 fn is_timely(calls: &[Call], order: &[Step]) -> bool
     ensures { IsTrue result → IsTimely calls.now order.now }
 {

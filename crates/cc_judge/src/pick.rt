@@ -1,5 +1,5 @@
-//! What may show that a log has no order. Each is confirmed in `faults`, so nothing is asked of it here but that it is safe
-//! and ends.
+//! The signs that a log has no order. Each is confirmed in `faults`, so nothing is asked of it here but that it is safe and
+//! ends.
 
 use crate::faults::{Index, sent};
 use crate::search::{ByTime, NEVER, place_of, span};
@@ -126,7 +126,7 @@ fn size(stay: &Stay) -> usize {
     }
 }
 
-/// Items that may have been in the queue at all times of a call, one after another. They end where they name more items than
+/// Items that may have been in the queue at all times of a call, one after another. They end when they name more items than
 /// the log has calls, and more than 2^20, so that they take memory in proportion to the log.
 pub fn stays(
     alloc: Global,

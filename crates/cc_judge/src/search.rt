@@ -27,7 +27,7 @@ pub fn place_of(table: &Vec<Option<usize>>, item: usize) -> Option<usize> {
     }
 }
 
-/// The begin and the end of the call at a place, or NEVER where there is none.
+/// The begin and the end of the call at a place, or NEVER if there is none.
 pub fn span(calls: &[Call], place: Option<usize>) -> (u64, u64) {
     let Some(place) = place else {
         return (NEVER, NEVER);
@@ -238,7 +238,7 @@ fn turn(
     place_send(state, calls, first)
 }
 
-/// What was found: the order so far, and the call at whose deadline it went no further.
+/// The result: the order so far, and the call at whose deadline it went no further.
 #[derive(Drop)]
 pub struct Sought {
     /// The order.

@@ -1,4 +1,4 @@
-//! Where each item of a log was sent, and where it was taken.
+//! The places at which each item of a log was sent and taken.
 ghost use Rattle.std.specs.Prelude.{◌≡◌, ◌≢◌, ℕ, IfOk, IfSome, IfNone, IsTrue, slice_get, slice_set, Some, None};
 ghost use Rattle.cc_judge.specs.Names.{Call, Act, Kind, Found, Entry};
 ghost use Rattle.cc_judge.specs.Table.{act_of, IsFound, Enters};
@@ -15,7 +15,7 @@ pub enum Kind {
     Take,
 }
 
-/// What became of an entry in a table.
+/// The result of an entry in a table.
 #[derive(Clone, Copy, Debug, PartialEq, Eq, Drop)]
 pub enum Entry {
     /// It is entered.

@@ -3,7 +3,7 @@
 use std::alloc::{AllocError, AllocFailed};
 use thiserror::Error;
 
-/// What is wrong with a line.
+/// The fault of a line.
 #[derive(Clone, Copy, Debug, PartialEq, Eq, Error)]
 pub enum LineFault {
     /// The line is no JSON object.
@@ -24,7 +24,7 @@ pub enum LineFault {
     /// There isn't just one of `send` and `take`, or it has no body of one to four words.
     #[error("neither a `send` nor a `take` of one to four words")]
     Call,
-    /// `answer` is none of `full`, `closed` and `ended`, or stands at a call that can't have it.
+    /// `answer` is none of `full`, `closed` and `ended`, or belongs to a call that can't have it.
     #[error("an `answer` that this call can't have")]
     Answer,
     /// The call has an item and no end.
@@ -43,7 +43,7 @@ pub enum LogFault {
     Line {
         /// The number.
         line: usize,
-        /// What is wrong with it.
+        /// Its fault.
         fault: LineFault,
     },
     /// Memory was refused.

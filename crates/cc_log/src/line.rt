@@ -6,20 +6,20 @@ use serde_json::Value;
 /// The words of a body, and how many they are.
 pub type Body = (usize, u64, u64, u64, u64);
 
-/// What a line says of a call.
+/// The call that a line describes.
 #[derive(Clone, Copy, Debug, PartialEq, Eq)]
 pub enum Said {
     /// A send that was accepted, or hasn't returned.
     Send(Body),
     /// A take that got an item.
     Took(Body),
-    /// A take that found none. So did one that was answered Ended.
+    /// A take that found none. So did one with the answer Ended.
     FoundNone,
     /// A take that hasn't returned.
     Taking,
-    /// A send that was answered Full, which isn't judged.
+    /// A send with the answer Full, which isn't judged.
     Full,
-    /// A send that was answered Closed, which isn't judged.
+    /// A send with the answer Closed, which isn't judged.
     Closed,
 }
 
@@ -30,7 +30,7 @@ pub struct Line {
     pub begin: u64,
     /// When it ended.
     pub end: Option<u64>,
-    /// What it did.
+    /// Its act.
     pub said: Said,
 }
 
@@ -50,7 +50,7 @@ fn has_keys(tree: &Value) -> Result<(), LineFault> {
     Ok(())
 }
 
-/// The word at a place of a body, or 0 behind its end.
+/// The word at a place of a body, or 0 after its end.
 fn word(list: &[Value], at: usize) -> Result<u64, LineFault> {
     match list.get(at) {
         Some(value) => value.as_u64().ok_or(LineFault::Call),
@@ -96,7 +96,7 @@ fn answer(tree: &Value, ended: bool) -> Result<Option<&str>, LineFault> {
     }
 }
 
-/// What the line says of a send.
+/// The send that the line describes.
 fn send(tree: &Value, value: &Value, end: Option<u64>) -> Result<Said, LineFault> {
     let body = body(value)?;
     match answer(tree, end.is_some())? {
@@ -107,7 +107,7 @@ fn send(tree: &Value, value: &Value, end: Option<u64>) -> Result<Said, LineFault
     }
 }
 
-/// What the line says of a take.
+/// The take that the line describes.
 fn take(tree: &Value, value: &Value, end: Option<u64>) -> Result<Said, LineFault> {
     if value.is_null() {
         return match answer(tree, end.is_some())? {
@@ -126,7 +126,7 @@ fn take(tree: &Value, value: &Value, end: Option<u64>) -> Result<Said, LineFault
     Ok(Said::Took(body))
 }
 
-/// What a line says, whose tree this is.
+/// The call that the line of this tree describes.
 pub fn read_line(tree: &Value) -> Result<Line, LineFault> {
     has_keys(tree)?;
     let Some(begin) = tree.get("begin").and_then(Value::as_u64) else {

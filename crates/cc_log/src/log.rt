@@ -16,13 +16,13 @@ pub struct Log {
     pub lines: Vec<usize>,
     /// How many items there are: those of the calls are below.
     pub items: usize,
-    /// The number of sends that were answered Full. They aren't judged.
+    /// The number of sends with the answer Full. They aren't judged.
     pub full: usize,
-    /// The number of sends that were answered Closed. They aren't judged.
+    /// The number of sends with the answer Closed. They aren't judged.
     pub closed: usize,
 }
 
-/// What is known of the lines so far.
+/// The log of the lines so far.
 #[derive(Drop)]
 struct Known {
     /// The bodies, each of which is an item by its place.
@@ -51,7 +51,7 @@ fn item(known: &mut Known, body: Body) -> Result<usize, LogFault> {
     Ok(place)
 }
 
-/// What the call of a line did. Or None if it isn't judged, which is counted.
+/// The act of the call of a line. Or None if it isn't judged, which is counted.
 fn act(known: &mut Known, log: &mut Log, said: Said) -> Result<Option<Act>, LogFault> {
     match said {
         Said::Send(body) => Ok(Some(Act::Send(item(known, body)?))),

@@ -64,7 +64,7 @@ fn items(alloc: Global, log: &Log, stays: &[Stay]) -> Result<String, AllocError>
     Ok(text)
 }
 
-/// What a fault says.
+/// The text of a fault.
 fn fault_text(alloc: Global, log: &Log, fault: &Fault) -> Result<String, AllocError> {
     match fault {
         Fault::NeverSent { take } => {
@@ -121,7 +121,10 @@ pub fn text_of(alloc: Global, log: &Log, verdict: &Verdict) -> Result<String, Al
     match verdict {
         Verdict::Clean(_) => {
             let refused = refused(alloc, log)?;
-            format!(in alloc; "judge clean: {} calls have a legal order, {refused}\n", log.calls.len())
+            format!(in alloc;
+                "judge clean: {} calls have a legal order, {refused}\n",
+                log.calls.len()
+            )
         }
         Verdict::Fault(fault) => fault_text(alloc, log, fault),
         Verdict::SentTwice(first, second) => {

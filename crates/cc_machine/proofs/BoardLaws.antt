@@ -1,4 +1,4 @@
--- What every run gives a board.
+-- The facts that every run gives of a board.
 use Rattle.std.proofs.Common.{◌≡◌, ℕ, ◌<◌, List, Option, Some, None, IfSome, sym, subst, refl}
 use Rattle.cc_model.specs.HistoryRoom.{lists}
 use Rattle.cc_machine.specs.Names.{Answer, Pass, SendAnswer, Setting, Board, Place, Move}
@@ -42,7 +42,7 @@ told_row b l always who (Some p) at answer is =
     (subst (λ h. IsLastAnswer (pass_at b.setting.config p) h answer) (history_in (view_of b))
     (told_here b l always p (inside b.setting who p at) answer (finished ((state_of b).stand p).place answer is)))
 
--- what a pass is told is its last call's answer in the history
+-- the answer that a pass gets is its last call's in the history
 pub told_if : (b : Board) → IsLawful b → AlwaysTold b.setting → (who : Pass) (r : Option Answer) → r ≡ answer_of (view_of b) who → IfSome r (λ answer. IsLastAnswer who (lists b.history) answer)
 told_if b l always who None is = tt
 told_if b l always who (Some answer) is = told_row b l always who (index_of b.setting who) refl answer (sym is)
@@ -57,7 +57,7 @@ number_row b l always who (Some p) at told is =
     subst (λ (s : State). (s.stand p).place ≡ Place.Finished told → told ≡ Answer.Send (SendAnswer.Accepted (count_word told))) l.reached.leads (always l.reached.moves l.reached.run p (inside b.setting who p at) told)
     (finished ((state_of b).stand p).place told is)
 
--- what a pass is told is its last call's answer in the history, that its call was accepted in this place
+-- the answer that a pass gets is its last call's in the history: its call was accepted in this place
 pub number_if : (b : Board) → IsLawful b → AlwaysTold b.setting → AlwaysNumber b.setting → (who : Pass) (r : Option Answer) → r ≡ answer_of (view_of b) who →
     IfSome (option_map count_word r) (λ number. IsLastAnswer who (lists b.history) (Answer.Send (SendAnswer.Accepted number)))
 number_if b l always number who None is = tt

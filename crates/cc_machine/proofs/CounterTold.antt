@@ -1,4 +1,4 @@
--- What the calls of a counter are told.
+-- The answers of the calls of a counter.
 use Rattle.std.proofs.Common.{◌≡◌, ◌<◌, ℕ, Ok, ap, sym, ◌∙◌}
 use Rattle.cc_model.specs.Config.{config_fault}
 use Rattle.cc_machine.specs.Names.{Answer, Board, SendAnswer, Setting, Served}

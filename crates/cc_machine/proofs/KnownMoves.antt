@@ -1,4 +1,4 @@
--- What is counted of a history stays counted as the history goes on, and goes on by further answers.
+-- The counts of a history stay as the history goes on, and go on by further answers.
 use Rattle.std.proofs.Common.{◌≡◌, ◌≢◌, ℕ, ◌+◌, ◌<◌, ◌≤◌, List, [], ◌∷◌, ◌++◌, length, take, Bool, true, false, ◌||◌, if◌then◌else◌, Option, Some, None, refl, sym, ap, subst, ◌∙◌, arith, length-append, inl, inr, zero, suc, ◌-◌, get_or, slice_index_or, replicate, min}
 use Rattle.std.specs.List.{slice_get, list_any}
 use Rattle.std.proofs.lemmas.List.{length_push, length-take-le, take-append-le, take_more}
@@ -48,7 +48,7 @@ longer : {X : Type 0} (xs : List X) (x : Option X) → length xs ≤ length (app
 longer xs None = omega arith
 longer xs (Some x) = omega (arith, length_push xs x)
 
--- no answer stands before its call
+-- no answer is before its call
 abbrev InOrder : Side → Type 0
 InOrder s = length s.answers ≤ length s.calls
 

@@ -112,7 +112,7 @@ come_other Chain.Send (Chain.Take g) at o = refl
 come_other (Chain.Take g) Chain.Send at o = refl
 come_other (Chain.Take g) (Chain.Take h) at o = ap (λ (b : Bool). if b then before_exchange at else 0) (ne_eqb g h o)
 
--- a move of pass p, which then stands there
+-- a move of pass p, which is then there
 record Balance (c : Setting) (s t : State) (p : ℕ) (there : Stand) (x : Chain) : Type 0 where
   stands : t.stand ≡ hold s.stand p there
   calls : calls_on t.history x + to_come x (chain_of c.config p) there.place ≤ calls_on s.history x + to_come x (chain_of c.config p) (s.stand p).place

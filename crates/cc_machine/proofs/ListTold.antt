@@ -1,4 +1,4 @@
--- What the calls of a list are told, and that its history is lawful.
+-- The answers of the calls of a list, and that its history is legal.
 use Rattle.std.proofs.Common.{◌≡◌, Ok, subst}
 use Rattle.cc_model.specs.Config.{config_fault}
 use Rattle.cc_model.specs.HistoryRoom.{lists}
@@ -20,6 +20,6 @@ list_told c what checked moves run p near told is = list_answer c what checked m
 legal_in : (b : Board) → b.setting.served ≡ Served.List → IsLawful b → Legal b.setting.config (state_of b).history
 legal_in b what l = subst (λ (s : State). Legal b.setting.config s.history) l.reached.leads (history_is_legal b.setting l.reached.moves what l.checked l.reached.run)
 
--- the history of a machine is lawful
+-- the history of a machine is legal
 pub legal_here : (b : Board) → b.setting.served ≡ Served.List → IsLawful b → Legal b.setting.config (lists b.history)
 legal_here b what l = subst (λ (h : Record). Legal b.setting.config h) (history_in (view_of b)) (legal_in b what l)

@@ -74,7 +74,7 @@ machine_opened b c k is l same opened i =
 
 -- ---- a step
 
--- an answer is only decided where a call has none
+-- an answer is only decided if a call has none
 decided : (c : Setting) (at : Place) (found : ℕ) (P : Type 0) → WhileUndecided at P → decides c at found ≢ None → P
 decided c (Place.Counting job service) found P waits some = waits
 decided c (Place.Sending job (Sending.WriteLastMark total)) found P waits some = absurd (some refl)
@@ -100,7 +100,7 @@ some_groups b l = omega (arith, (in_range b.setting.config l.checked).groups, l.
 pub few_groups : (b : Board) → IsLawful b → length b.history.takes ≤ 8
 few_groups b l = omega (arith, l.laid.groups, l.laid.small.groups)
 
--- no answer of a sender stands before its call
+-- no answer of a sender is before its call
 pub sends_in_order : (b : Board) (k : Known) → IsMachine b k → length b.history.sends.lists.answers ≤ length b.history.sends.lists.calls
 sends_in_order b k m = m.order Chain.Send
 

@@ -1,4 +1,5 @@
--- How many calls have not exchanged yet, move by move. What a step adds to the calls of its chain, it takes from those.
+-- The number of calls that have not exchanged yet, move by move. A step takes from these as many as it adds to the
+-- calls of its chain.
 use Rattle.std.proofs.Common.{◌≡◌, ℕ, zero, suc, ◌+◌, ◌*◌, Bool, true, false, ◌==◌, if◌then◌else◌, ◌<◌, ◌≤◌, arith, ap, sym, refl, inl, inr, length, List}
 use Rattle.std.proofs.lemmas.Bool.{cases_eq}
 use Rattle.std.proofs.lemmas.Nat.{mul-le}
@@ -34,7 +35,7 @@ pub coming_max : (c : Setting) (x : Chain) (n : ℕ) (stands : ℕ → Stand) �
 coming_max c x zero stands = omega arith
 coming_max c x (suc n) stands = omega (arith, coming_max c x n stands, one_on_side x (chain_of c.config n) (stands n).place)
 
--- a pass past those that are counted may stand anywhere
+-- a pass past those that are counted may be anywhere
 coming_past : (c : Setting) (x : Chain) (n p : ℕ) (stands : ℕ → Stand) (there : Stand) → n ≤ p → coming c x n (hold stands p there) ≡ coming c x n stands
 coming_past c x zero p stands there far = refl
 coming_past c x (suc n) p stands there far =
@@ -42,7 +43,7 @@ coming_past c x (suc n) p stands there far =
     let same : to_come x (chain_of c.config n) (hold stands p there n).place ≡ to_come x (chain_of c.config n) (stands n).place = ap (λ (z : Stand). to_come x (chain_of c.config n) z.place) here in
     omega (arith, same, coming_past c x n p stands there (omega arith))
 
--- where one pass stands otherwise, its own part changes
+-- if the place of one pass differs, its own part changes
 pub coming_hold : (c : Setting) (x : Chain) (n p : ℕ) (stands : ℕ → Stand) (there : Stand) → p < n →
     coming c x n (hold stands p there) + to_come x (chain_of c.config p) (stands p).place ≡ coming c x n stands + to_come x (chain_of c.config p) there.place
 coming_hold c x zero p stands there near = absurd (omega arith)
@@ -71,7 +72,7 @@ coming_some c x (suc n) p stands near =
       | inr other ↦ omega (arith, coming_some c x n p stands (omega (arith, other, near)))
     ]
 
--- none where all are idle
+-- none if all are idle
 pub coming_none : (c : Setting) (x : Chain) (n : ℕ) (stands : ℕ → Stand) → ((p : ℕ) → to_come x (chain_of c.config p) (stands p).place ≡ 0) → coming c x n stands ≡ 0
 coming_none c x zero stands none = refl
 coming_none c x (suc n) stands none = omega (arith, none n, coming_none c x n stands none)

@@ -1,4 +1,4 @@
--- The place that is read of a row of passes is where the pass stands: each arm of a board's step asks it.
+-- The place that is read of a row of passes is that of the pass: each arm of a board's step asks for it.
 use Rattle.std.proofs.Common.{◌≡◌, ◌<◌, ℕ, ap, get_or, length}
 use Rattle.std.proofs.lemmas.List.{get_or_read}
 use Rattle.cc_machine.specs.Names.{Board, Stand}

@@ -20,7 +20,7 @@ found_one : (c : Setting) (s : State) (p : ℕ) (at : Place) → waits_at c s p 
 found_one c s p Place.ReadState e = (refl, eqb-true _ 1 e)
 found_one c s p _ e = absurd (cc)
 
--- what is held where it stands is held nowhere else
+-- a value that is held here is held nowhere else
 held : (stands : ℕ → Stand) (p : ℕ) (there : Stand) → there ≡ stands p → hold stands p there ≡ stands
 held stands p there is = λ i q. at q i
   where

@@ -8,7 +8,7 @@ ghost use Rattle.cc_machine.specs.BoardSteps.{state_of, stand_of, IsLaid, Keeps,
 use cc_model::{Answer, Entry, History};
 use cc_runs::{Chain, Place, Setting, Stand, Word, address};
 
-/// The words of one topic's table, where each pass stands, and the history.
+/// The words of one topic's table, the place of each pass, and the history.
 #[derive(Drop)]
 pub struct Board {
     pub setting: Setting,
@@ -27,7 +27,7 @@ pub struct Stepper {
 }
 
 impl Board {
-    /// Where a word lies.
+    /// The position of a word.
     #[inline(always)]
     fn address(&self, word: Word) -> usize
         requires laid { IsLaid self.now }
@@ -38,7 +38,7 @@ impl Board {
         address(&self.setting.config, word)
     }
 
-    /// What a word holds.
+    /// The value of a word.
     #[inline(always)]
     #[tactic(auto, unfolding(crate::specs::View::state_in))]
     pub fn load(&self, word: Word) -> u64
@@ -62,7 +62,7 @@ impl Board {
         self.words[address] = value;
     }
 
-    /// Lets a pass stand so.
+    /// Puts a pass into this state.
     #[inline(always)]
     #[tactic(auto, unfolding(crate::specs::View::state_in))]
     pub fn put(&mut self, pass: usize, stand: Stand)
@@ -73,7 +73,7 @@ impl Board {
         self.stands[pass] = stand;
     }
 
-    /// Lets a pass stand at another place.
+    /// Puts a pass at another place.
     #[inline(always)]
     pub fn go(&mut self, who: Stepper, place: Place)
         requires { who.pass < length self.old.stands.items }

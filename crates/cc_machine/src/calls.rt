@@ -10,7 +10,7 @@ use cc_runs::{
     tag_of,
 };
 
-/// Where a combiner begins: with its own node.
+/// The first place of a combiner: with its own node.
 fn first_round(node: u64) -> Place
     ensures { result ≡ Place.ReadNext record { at = node; served = 0 } }
 {
@@ -126,7 +126,7 @@ impl Board {
         Kind::ReadState
     }
 
-    /// Where the service of a request begins.
+    /// The first place of the service of a request.
     fn serves(&self, chain: Chain, job: Job) -> Place
         ensures { result ≡ serves self.now.setting.served chain job }
     {

@@ -62,8 +62,8 @@ impl CounterMachine {
             .begin_call(Pass::Sender(pass), Call::Send(Body::one(body)), 0)
     }
 
-    /// Does the next atomic step of a pass and tells its kind; `Idle`, and nothing is changed, where the pass has no
-    /// running call or doesn't exist.
+    /// Does the next atomic step of a pass and returns its kind; `Idle`, and nothing is changed, if the pass has no running
+    /// call or doesn't exist.
     pub fn event(&mut self, pass: u32) -> Event
         ensures event { result ≡ event_of self.old (Pass.Sender pass) }
         ensures state { HasStepped self.old (index_of self.old.setting (Pass.Sender pass)) result self.new }
@@ -72,8 +72,8 @@ impl CounterMachine {
         self.board.event_by(Pass::Sender(pass))
     }
 
-    /// Takes the number that the pass's call was given, once the call has read it. `None`, and nothing is changed, where
-    /// there is none.
+    /// Takes the number that the pass's call was given, once the call has read it. `None`, and nothing is changed, if there
+    /// is none.
     pub fn answer(&mut self, pass: u32) -> Option<u64>
         ensures answer { result ≡ option_map count_word (answer_of self.old (Pass.Sender pass)) }
         ensures state { HasTaken self.old (index_of self.old.setting (Pass.Sender pass)) (answer_of self.old (Pass.Sender pass)) self.new }

@@ -7,7 +7,7 @@ ghost use Rattle.cc_machine.specs.Machine.{waits_at};
 use crate::board::{Board, Stepper};
 use cc_runs::{Chain, Event, Kind, NodeField, Place, Stand, Word};
 
-/// A quotient, without a division where it is 0, as is the group of every receiver where there is one group.
+/// A quotient, without a division if it is 0, as is the group of every receiver if there is one group.
 fn quotient(number: usize, by: usize) -> usize
     requires { 0 < by }
     ensures { result ≡ number / by }
@@ -16,7 +16,7 @@ fn quotient(number: usize, by: usize) -> usize
 }
 
 impl Board {
-    /// Where a pass stands.
+    /// The state of a pass.
     #[tactic(auto, unfolding(crate::specs::View::state_in))]
     pub fn stand(&self, pass: usize) -> Stand
         requires { pass < length self.now.stands.items }
@@ -38,7 +38,7 @@ impl Board {
         }
     }
 
-    /// The pass at this place of the row, of this chain, as it stands.
+    /// The state of the pass at this place of the row, of this chain.
     #[tactic(auto, unfolding(crate::specs::View::state_in))]
     pub fn stepper(&self, pass: usize, chain: Chain) -> Stepper
         requires pass { pass < length self.now.stands.items }
@@ -66,7 +66,7 @@ impl Board {
         self.load(Word::Node(self.chain(pass), stand.node, NodeField::State)) == 1
     }
 
-    /// The step at the place where the pass stands. Each arm reads of that place only what its step needs.
+    /// The step at the place of the pass. Each arm reads of that place only what its step needs.
     #[tactic(auto, using(crate::proofs::Stands::stands_at))]
     fn step(&mut self, who: Stepper) -> Option<Kind>
         requires pass { who.pass < length self.old.stands.items }
@@ -107,7 +107,7 @@ impl Board {
         }
     }
 
-    /// The next atomic step of a pass, where it has one.
+    /// The next atomic step of a pass, if it has one.
     pub fn event(&mut self, who: Stepper) -> Event
         requires pass { who.pass < length self.old.stands.items }
         requires who { who ≡ stepper_at self.old who.pass }

@@ -1,5 +1,5 @@
-/// Why a call wasn't begun. Where several causes hold, the one that is answered is the first of no such pass, wrong side,
-/// busy, worn, no memory.
+/// Why a call wasn't begun. If several causes hold, it is the first of no such pass, wrong side, busy, exhausted, no
+/// memory.
 #[derive(Clone, Copy, Debug, PartialEq, Eq)]
 pub enum BeginFault {
     /// The pass has a call that runs, or one whose answer wasn't taken.

@@ -6,9 +6,9 @@ ghost use Rattle.cc_machine.specs.Known.{IsKnown};
 
 use cc_model::{Answer, Call, CloseAnswer, Entry, History, Pass, SendAnswer, TakeAnswer};
 
-/// What there is to be known of a history, as far as its answers were counted: the entries of its list, which are the items
-/// accepted and the closing mark, whether it is shut, and how many items each group was handed. A begin counts what was
-/// answered since the last one, so that it needn't go through the whole history, and an event needn't count.
+/// The counts of a history, as far as its answers were counted: the entries of its list, which are the items accepted and
+/// the closing mark, whether it is shut, and how many items each group was handed. A begin counts the answers since the
+/// last one, so that it needn't go through the whole history, and an event needn't count.
 #[derive(Clone, Copy)]
 pub struct Known {
     /// How many answers of senders are counted.
@@ -116,7 +116,7 @@ impl Known {
         least
     }
 
-    /// What a pass knows that begins a call at this history.
+    /// The knowledge of a pass that begins a call at this history.
     pub fn at(&mut self, history: &History, pass: Pass) -> u64
         requires some { 1 ≤ length history.now.takes }
         requires groups { length history.now.takes ≤ 8 }

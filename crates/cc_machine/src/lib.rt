@@ -1,5 +1,5 @@
-//! The machines of the broker, one atomic step at a time: one combining chain round a counter, and the queue, whose
-//! senders' and receivers' chains stand round one list.
+//! The machines of the broker, one atomic step at a time: one combining chain round a counter, and the queue, with the
+//! senders' and the receivers' chains round one list.
 //!
 //! A caller begins calls, chooses which pass does its next atomic step, and takes answers; so every order of the steps of
 //! all passes can be played. Each event is one step of a run, and what holds of every run is proved in `cc_runs`.

@@ -17,7 +17,7 @@ pub struct Machine {
     known: Known,
 }
 
-/// How many steps a pass did, and the last of them; `Idle` where there was none.
+/// The number of steps that a pass did, and the last of them; `Idle` if there was none.
 #[derive(Clone, Copy)]
 struct Steps {
     done: u32,
@@ -73,8 +73,8 @@ impl Machine {
         })
     }
 
-    /// The place of a pass in the row of all passes of a machine of this configuration, from 0: the senders first, then
-    /// the receivers. `None` where there is no such pass.
+    /// The place of a pass in the row of all passes of a machine of this configuration, from 0: the senders first, then the
+    /// receivers. `None` if there is no such pass.
     pub fn row(config: &Config, pass: Pass) -> Option<usize>
         ensures { result ≡ index_of (record { served = Served.List; config = config.now }) pass }
     {
@@ -93,8 +93,8 @@ impl Machine {
         self.board.begin_call(pass, call, known)
     }
 
-    /// Does the next atomic step of a pass and tells its kind; `Idle`, and nothing is changed, where the pass has no
-    /// running call or doesn't exist.
+    /// Does the next atomic step of a pass and returns its kind; `Idle`, and nothing is changed, if the pass has no running
+    /// call or doesn't exist.
     #[tactic(auto, using(crate::proofs::Rows::inside))]
     pub fn event(&mut self, pass: Pass) -> Event
         ensures event { result ≡ event_of self.old pass }
@@ -107,8 +107,8 @@ impl Machine {
         }
     }
 
-    /// Does up to so many further atomic steps of a pass, and tells how many it did. Where these are fewer, the pass has no
-    /// running call then, or doesn't exist, or waits.
+    /// Does up to this number of further atomic steps of a pass, and returns how many it did. If these are fewer, the pass
+    /// has no running call then, or doesn't exist, or waits.
     #[tactic(auto, using(crate::proofs::Rows::inside))]
     pub fn events(&mut self, pass: Pass, most: u32) -> u32
         ensures most { result ≤ most }
@@ -122,7 +122,7 @@ impl Machine {
         }
     }
 
-    /// Up to so many steps of the pass at this place of the row.
+    /// Up to this number of steps of the pass at this place of the row.
     #[inline(never)]
     #[tactic(auto, using(crate::proofs::Going::none_gone, crate::proofs::Going::one_more_gone))]
     fn steps(&mut self, index: usize, most: u32) -> Steps
@@ -177,7 +177,7 @@ impl Machine {
         }
     }
 
-    /// Takes the answer of the pass's call, once the call has read it. `None`, and nothing is changed, where there is none.
+    /// Takes the answer of the pass's call, once the call has read it. `None`, and nothing is changed, if there is none.
     #[tactic(auto, using(crate::proofs::BoardLaws::told_if, crate::proofs::ListTold::list_told))]
     pub fn answer(&mut self, pass: Pass) -> Option<Answer>
         ensures answer { result ≡ answer_of self.old pass }
@@ -187,9 +187,9 @@ impl Machine {
         self.board.answer_to(pass)
     }
 
-    /// The calls that have exchanged, in the order of their exchanges on each side, and the answers decided so far.
-    /// It is that of a run of a list's machine whose configuration was checked, so that every law of such runs can be used;
-    /// it is lawful, and items come out first in, first out.
+    /// The calls that have exchanged, in the order of their exchanges on each side, and the answers decided so far. It is
+    /// that of a run of a list's machine whose configuration was checked, so that every law of such runs can be used; it is
+    /// legal, and items come out first in, first out.
     pub fn history(&self) -> &History
         ensures history { lists result.now ≡ self.now.history }
         ensures run { IsReached self.now }

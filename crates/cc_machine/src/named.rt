@@ -76,7 +76,7 @@ impl Board {
         Ok(index)
     }
 
-    /// Whether a pass of this chain stands so that its call is yet to come: begun, and not exchanged.
+    /// Whether the call of a pass of this chain is yet to come: begun, and not exchanged.
     fn is_to_come(&self, chain: Chain, pass: usize) -> bool
         requires laid { IsLaid self.now }
         requires pass { pass < length self.now.stands.items }
@@ -123,8 +123,8 @@ impl Board {
         side.room().saturating_sub(side.calls().len()) > self.stands.len()
     }
 
-    /// Makes room in the history of this side, where it is missing, for the calls to come and one more, and for the answers
-    /// of all calls.
+    /// Makes room in the history of this side, if it is missing, for the calls to come and one more, and for the answers of
+    /// all calls.
     #[tactic(auto, using(crate::proofs::SideRooms::same_lists), unfolding(crate::specs::View::state_in))]
     fn reserve(&mut self, chain: Chain) -> Result<(), AllocError>
         requires laid { IsLaid self.old }
@@ -163,7 +163,7 @@ impl Board {
         Ok(())
     }
 
-    /// Does the next step of a pass as it stands, where it has one.
+    /// Does the next step of a pass in this state, if it has one.
     #[tactic(auto, using(crate::proofs::LawfulMoves::can_step))]
     pub fn event_of(&mut self, who: Stepper) -> Event
         requires lawful { IsLawful self.old }
@@ -177,7 +177,7 @@ impl Board {
         self.event(who)
     }
 
-    /// Does the next step of a pass, where it has one.
+    /// Does the next step of a pass, if it has one.
     pub fn event_by(&mut self, pass: Pass) -> Event
         requires lawful { IsLawful self.old }
         requires ready { (p : ℕ) → p < passes self.old.setting → IsReady self.old.setting (state_of self.old) p }

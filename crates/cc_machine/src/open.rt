@@ -18,7 +18,7 @@ fn first_stand(node: u64) -> Stand
     }
 }
 
-/// Where the passes stand at the opening.
+/// The places of the passes at the opening.
 fn first_stands(alloc: Global, setting: Setting) -> Result<Vec<Stand>, AllocError>
     requires small { IsSmall (layout_of setting.config) }
     ensures { IfOk result (λ s. StandFirst setting s.items) }

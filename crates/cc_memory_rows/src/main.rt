@@ -1,6 +1,6 @@
-//! Worked calls, each answer of which is told: three topics are opened, three machines play calls, and receipts are audited.
-//! Where memory is refused, the call that met it is told on standard error: an opening or an audit then ends the program, and
-//! a begin that was refused is made again, and all that follows is the same.
+//! Worked calls, each answer of which is printed: three topics are opened, three machines play calls, and receipts are audited.
+//! If memory is refused, the call that met it is named on standard error: an opening or an audit then ends the program, and a
+//! begin that was refused is made again, and all that follows is the same.
 #![tactic(auto)]
 
 ghost use Rattle.std.specs.Prelude.{◌≡◌, length};
@@ -42,8 +42,7 @@ const SENDER: Pass = Pass::Sender(1);
 
 const RECEIVER: Pass = Pass::Receiver(1);
 
-/// Begins a call, once more where there is no memory. The answer is how often there was none; None where the call can't
-/// be begun.
+/// Begins a call, once more if there is no memory. Returns how often there was none; None if the call can't be begun.
 fn begin(machine: &mut Machine, pass: Pass, call: Call) -> Option<u32> {
     match machine.begin(pass, call) {
         Ok(()) => Some(0),
@@ -55,8 +54,8 @@ fn begin(machine: &mut Machine, pass: Pass, call: Call) -> Option<u32> {
     }
 }
 
-/// Makes a call, from its begin to its answer. The answer is how often the begin was refused memory; None where the call
-/// can't be begun, or isn't answered.
+/// Makes a call, from its begin to its answer. Returns how often the begin was refused memory; None if the call can't be begun,
+/// or isn't answered.
 fn make(machine: &mut Machine, pass: Pass, call: Call) -> Option<u32> {
     let refused = begin(machine, pass, call)?;
     for _ in 0..MOST {
@@ -68,8 +67,8 @@ fn make(machine: &mut Machine, pass: Pass, call: Call) -> Option<u32> {
     Some(refused)
 }
 
-/// Plays calls one after another: an item is passed on, and the queue closed. The answer is how many begins were refused
-/// memory; None where a call can't be begun, or isn't answered.
+/// Plays calls one after another: an item is passed on, and the queue closed. Returns how many begins were refused memory; None
+/// if a call can't be begun, or isn't answered.
 fn play(machine: &mut Machine) -> Option<u32> {
     let calls = [
         (SENDER, Call::Send(Body::one(5))),
@@ -138,7 +137,7 @@ fn audit_gap(alloc: Global) -> Result<Verdict, AllocError> {
     audit(alloc, &sends, &takes, None)
 }
 
-/// Tells by which number a name is found, and whether a queue stands there.
+/// Prints by which number a name is found, and whether it has a queue.
 fn tell_topic(rt: &HostRuntime, broker: &Broker, name: &str) -> Result<(), io::Error> {
     let number = broker.topic(name);
     let is_there = match number {
@@ -165,7 +164,7 @@ fn tell_fault<F: Debug>(rt: &HostRuntime, call: &str, fault: &F) -> Result<u8, i
     Ok(3)
 }
 
-/// Tells how many begins were refused memory, where any were.
+/// Prints how many begins were refused memory, if any were.
 fn tell_again(rt: &HostRuntime, refused: u32) -> Result<(), io::Error> {
     if refused == 0 {
         return Ok(());
@@ -212,7 +211,7 @@ fn tell_history(rt: &HostRuntime, history: &History) -> Result<u8, io::Error> {
     tell_audits(rt, history)
 }
 
-/// Plays a machine of a list, and tells what it answered. The answer is the exit status.
+/// Plays a machine of a list, and prints its answers. Returns the exit status.
 fn play_list(rt: &HostRuntime, machine: &mut Machine) -> Result<u8, io::Error> {
     let Some(refused) = play(machine) else {
         return Ok(1);
@@ -221,7 +220,7 @@ fn play_list(rt: &HostRuntime, machine: &mut Machine) -> Result<u8, io::Error> {
     tell_history(rt, machine.history())
 }
 
-/// Counts by two passes of a machine, and tells the numbers. The answer is the exit status.
+/// Counts by two passes of a machine, and prints the numbers. Returns the exit status.
 fn play_counter(rt: &HostRuntime, machine: &mut CounterMachine) -> Result<u8, io::Error> {
     let (Some((first, once)), Some((second, twice))) = (count(machine, 1), count(machine, 2)) else {
         return Ok(1);
@@ -231,7 +230,7 @@ fn play_counter(rt: &HostRuntime, machine: &mut CounterMachine) -> Result<u8, io
     Ok(0)
 }
 
-/// Opens three topics, the second with two groups, and tells of them. The answer is the exit status.
+/// Opens three topics, the second with two groups, and prints them. Returns the exit status.
 fn open_topics(rt: &HostRuntime) -> Result<u8, io::Error> {
     match Broker::open(rt.alloc(), &[("a", SMALL), ("b", GROUPED), ("c", SMALL)]) {
         Ok(opened) => tell_topics(rt, &opened),

@@ -1,4 +1,4 @@
--- What a call's pass had seen is told in its answer.
+-- The answer of a call agrees with all that its pass had seen.
 use Rattle.std.proofs.Common.{◌≡◌, ℕ, zero, suc, ◌+◌, ◌≤◌, List, [], ◌∷◌, ◌++◌, length, Bool, true, false, ◌||◌, Some, refl, sym, ap, ◌∙◌, subst, arith, add-zero, length-append, if◌then◌else◌}
 use Rattle.std.specs.List.{slice_get, list_any, AllByRecursion}
 use Rattle.cc_model.specs.Record.{Record, of_group}
@@ -16,7 +16,7 @@ all_at P [] i x all is = cc
 all_at P (y ∷ xs) zero x all is = let same : y ≡ x = cc in subst P same all.0
 all_at P (y ∷ xs) (suc i) x all is = all_at P xs i x all.1 is
 
--- of two fronts of one list the shorter is a front of the longer
+-- of two prefixes of one list the shorter is a prefix of the longer
 pub shorter_front : {X : Type 0} (xs ys whole : List X) → IsFront xs whole → IsFront ys whole → length xs ≤ length ys → IsFront xs ys
 shorter_front [] ys whole a b less = (ys, refl)
 shorter_front (x ∷ xs) [] whole a b less = absurd (omega (arith, less))
@@ -34,7 +34,7 @@ d_front items shut n calls [] rest h = tt
 d_front items shut n [] (a ∷ before) rest h = absurd h
 d_front items shut n (c ∷ calls) (a ∷ before) rest h = (h.0, d_front items shut (n + length (handed_item a)) calls before rest h.1)
 
--- the answer of a take, behind others
+-- the answer of a take, after others
 pub d_at : (items : List Item) (shut : Bool) (n : ℕ) (calls : List Entry) (before behind : List Answer) (c : Entry) (a : Answer) → DAnswers items shut n calls (before ++ a ∷ behind) → slice_get calls (length before) ≡ Some c → DAnswer items shut (n + length (handed_by before)) c.known a
 d_at items shut n [] before behind c a h is = cc
 d_at items shut n (d ∷ calls) [] behind c a h is = let same : d ≡ c = cc in rw (sym same, add-zero) h.0
@@ -99,7 +99,7 @@ closed_none cfg n (c ∷ calls) [] h = refl
 closed_none cfg n (c ∷ calls) (a ∷ answers) h =
     omega (arith, length-append (accepted_item c a) (accepted_by calls answers), closed_adds cfg n c a h.0, closed_none cfg (n + length (accepted_item c a)) calls answers h.1)
 
--- the items accepted in a front of a history are a front of those of the whole
+-- the items accepted in a prefix of a history are a prefix of those of the whole
 pub accepted_front : (cfg : Config) (n : ℕ) (shut : Bool) (calls more : List Entry) (answers rest : List Answer) → EAnswers cfg n shut calls answers → IsFront (accepted_by calls answers) (accepted_by (calls ++ more) (answers ++ rest))
 accepted_front cfg n shut [] more [] rest h = (accepted_by more rest, refl)
 accepted_front cfg n shut [] more (a ∷ answers) rest h = absurd h
@@ -108,7 +108,7 @@ accepted_front cfg n shut (c ∷ calls) more (a ∷ answers) rest h =
     let front : IsFront (accepted_by calls answers) (accepted_by (calls ++ more) (answers ++ rest)) = accepted_front cfg (n + length (accepted_item c a)) (shut || shuts a) calls more answers rest h.1 in
     front_after (accepted_item c a) (accepted_by calls answers) (accepted_by (calls ++ more) (answers ++ rest)) (accepted_item c a ++ accepted_by (calls ++ more) (answers ++ rest)) refl front
 
--- and where the front was shut they are all
+-- and if the prefix was shut they are all
 accepted_shut : (cfg : Config) (n : ℕ) (shut : Bool) (calls more : List Entry) (answers rest : List Answer) → EAnswers cfg n shut calls answers → EAnswers cfg n shut (calls ++ more) (answers ++ rest)
     → shut || list_any shuts answers ≡ true → length (accepted_by (calls ++ more) (answers ++ rest)) ≡ length (accepted_by calls answers)
 accepted_shut cfg n shut calls more [] rest h k closed = closed_none cfg n (calls ++ more) rest (subst (λ (b : Bool). EAnswers cfg n b (calls ++ more) rest) (sym (or_false shut) ∙ closed) k) ∙ sym (none_of calls)

@@ -1,7 +1,7 @@
 ghost use Rattle.std.specs.Prelude.{◌≡◌, IfSome, IfNone, length, ◌<◌, ◌⊎◌, [], ◌∷◌};
 ghost use Rattle.cc_model.specs.Body.{words_of, body_of, IsBody};
 
-/// What a send carries: one to four words, with no memory of its own.
+/// The value that a send carries: one to four words, with no memory of its own.
 #[derive(Clone, Copy, Debug, PartialEq, Eq)]
 pub struct Body {
     words: Words,

@@ -1,4 +1,4 @@
--- What each element of a list gives, one element after another.
+-- The values of the elements of a list, one element after another.
 use Rattle.std.proofs.Common.{ℕ, ◌≡◌, ◌<◌, ◌≤◌, ◌+◌, ◌++◌, List, [], ◌∷◌, map, length, get_or, drop, Option, Some, None, option_map, option_and_then, refl, ap, sym, ◌∙◌, append_assoc, append-nil}
 use Rattle.std.proofs.lemmas.List.{drop_all}
 use Rattle.serde_json.specs.Data.{Data}
@@ -34,7 +34,7 @@ gives_more f vs i d done x all h at some so_far =
     ∙ ap (λ (o : Option _). option_map (λ (xs : List _). done ++ xs) (before o (each f (map view (drop (i + 1) vs))))) some
     ∙ ap (option_map (λ (xs : List _). done ++ xs)) (sym (each_from f vs i d h at)) ∙ so_far
 
--- an element that gives something, which was put behind the others
+-- an element that has a value, which was put after the others
 pub gives_some : {A : Type 0} (f : Data → Option A) (vs : List Value) (i : ℕ) (d : Value) (done now : List A) (x : A) (all : Option (List A)) → i < length vs → d ≡ get_or vs i d → Some x ≡ f (view d)
     → now ≡ done ++ x ∷ []
     → option_map (λ xs. done ++ xs) (each f (map view (drop i vs))) ≡ all

@@ -1,4 +1,4 @@
--- Every plan that an input describes is lawful.
+-- Every plan that an input describes is legal.
 use Rattle.std.proofs.Common.{ℕ, suc, nat_lt, codes, ◌≡◌, ◌≤◌, ◌<◌, ◌-◌, ◌*◌, ◌/◌, ◌%◌, ◌^◌, ◌==◌, ◌&&◌, ◌⊎◌, inl, Bool, true, false, not, cond, List, [], ◌∷◌, length, get_or, All, Option, Some, None, option_map, option_and_then, Result, Ok, Err, IfOk, refl, ap, sym, ◌∙◌, subst, arith}
 use Rattle.std.specs.List.{AllByRecursion, position, position_or_len}
 use Rattle.std.proofs.lemmas.List.Elements.{All-from_recursion}
@@ -295,7 +295,7 @@ shaped : {A : Type 0} (b : Bool) (r : Result A Refusal) (p : A) → cond b r (Er
 shaped true r p e = e
 shaped false r p e = cc e
 
--- the plan of an input is lawful
+-- the plan of an input is legal
 plan_lawful : (bytes : List ℕ) (p : PlanValue) → plan_of bytes ≡ Ok p → Lawful p
 unfolding plan_of values_of
 plan_lawful bytes p e =
@@ -303,7 +303,7 @@ plan_lawful bytes p e =
     let tree = ok_step (tree_of bytes) values_of_tree values.0 values.1 in
     with_passes values.0 p (given_lawful tree.0 values.0 (values_given tree.0 values.0 (shaped (has_plan_shape tree.0) _ values.0 tree.2))) values.2
 
--- what a reading function gave is lawful
+-- the result of a reading function is legal
 pub lawful_if_given : (r : Result Plan PlanFault) (bytes : List ℕ) → Gives plan_value r (plan_of bytes) → IfOk r (λ p. Lawful (plan_value p))
 lawful_if_given (Ok p) bytes given = plan_lawful bytes (plan_value p) given
 lawful_if_given (Err fault) bytes given = tt

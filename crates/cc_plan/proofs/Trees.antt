@@ -26,7 +26,7 @@ listed_all (d ∷ ds) = ap (λ (l : List Data). d ∷ l) (listed_all ds)
 
 -- ---- a list of values, element by element
 
--- what stands from a place on is the element there and the rest
+-- the elements from a place on are the element there and the rest
 pub from_place : (vs : List Value) (i : ℕ) (d : Value) → i < length vs → map view (drop i vs) ≡ view (get_or vs i d) ∷ map view (drop (i + 1) vs)
 from_place vs i d h = rw (add-one, drop-cons vs i d h) refl
 

@@ -5,8 +5,8 @@ ghost use Rattle.cc_plan.specs.Names.{PlanFault};
 use std::alloc::{AllocError, AllocFailed};
 use thiserror::Error;
 
-/// Why an input is no plan, or no receipts. Where several reasons hold, a too long input is told before all others, and
-/// then the first of this list; of two keys out of range, the one that stands first in the table of keys.
+/// Why an input is no plan, or no receipts. If several reasons hold, a too long input is reported before all others, and
+/// then the first of this list; of two keys out of range, the one that is first in the table of keys.
 #[derive(Clone, Copy, Debug, PartialEq, Eq, Error)]
 pub enum PlanFault {
     /// The input is no JSON text: not UTF-8, not JSON's grammar, nested deeper than 127, or with a number too large for a
@@ -16,14 +16,14 @@ pub enum PlanFault {
     /// The tree has another shape: a key is missing or unknown, a value is of another kind, or a pass name is malformed.
     #[error("of another shape than it should be")]
     P2,
-    /// The value at this key is out of its range; `input` stands for the length of the whole input.
+    /// The value at this key is out of its range; `input` is the length of the whole input.
     #[error("{0} is out of its range")]
     P3(&'static str),
     /// The schedule entry at this place, counted from 0, names a pass that isn't there.
     #[error("entry {0} names a pass that isn't there")]
     P4(usize),
-    /// Memory ran out. Where a growth was refused, this may stand in place of any other answer but that the input is too
-    /// long, which is told before any memory is taken.
+    /// Memory ran out. If a growth was refused, this may come in place of any other answer but that the input is too
+    /// long, which is reported before any memory is taken.
     #[error("out of memory")]
     P5,
 }

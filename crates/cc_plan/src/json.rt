@@ -80,7 +80,7 @@ pub fn pair(list: &[Value]) -> Option<(&Value, &Value)>
     }
 }
 
-/// What each element gives, if each gives something.
+/// The values of the elements, if each has one.
 pub fn each<T: Drop, F: Fn(&Value) -> Option<T>>(
     alloc: Global,
     list: &[Value],

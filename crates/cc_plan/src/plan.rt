@@ -14,12 +14,12 @@ use cc_model::{Call, Config, Pass, is_within};
 use serde_json::Value;
 use std::alloc::Global;
 
-/// What is to be played.
+/// The plan of a run.
 #[derive(Drop)]
 pub struct Plan {
     /// The version of its format, 1 or 2.
     pub version: u32,
-    /// A lawful configuration, with as many senders, and in all groups as many receivers, as the next two lists have
+    /// A legal configuration, with as many senders, and in all groups as many receivers, as the next two lists have
     /// elements; in version 1 of one group. Each sender may send up to 2^32 - 1 times.
     pub config: Config,
     /// The calls of each of the 1 to 64 senders, at most 65,536 sends and closes each, in their order. In version 1 each
@@ -27,7 +27,7 @@ pub struct Plan {
     pub senders: Vec<Vec<Call>>,
     /// How often each receiver takes, at most 65,536 times: group by group the 1 to 64 of each.
     pub receivers: Vec<u32>,
-    /// Who goes on next, by up to how many steps, from 1 to 100,000. At most 65,536 entries.
+    /// The pass that goes on next, and by up to how many steps, from 1 to 100,000. At most 65,536 entries.
     pub schedule: Vec<(Pass, u32)>,
 }
 
@@ -38,7 +38,7 @@ use shape::has_plan_shape;
 use values::values;
 
 /// The values of the plan that the bytes describe, whichever passes its schedule names; or why they describe none: a fault
-/// of the whole shape is told before one of a range, and a range in the order of the keys.
+/// of the whole shape is reported before one of a range, and a range in the order of the keys.
 #[tactic(auto, unfolding(crate::specs::PlanOf::values_of))]
 pub fn read_values(alloc: Global, bytes: &[u8]) -> Result<Plan, PlanFault>
     ensures values { Gives plan_value result (values_of bytes.now) }

@@ -13,14 +13,15 @@ use cc_audit::{SendReceipt, TakeReceipt};
 use serde_json::Value;
 use std::alloc::Global;
 
-/// What was told to the senders and receivers of one topic, in any order, and the total that its close told, if one did.
+/// The receipts of the senders and receivers of one topic, in any order, and the total that its close returned, if one
+/// did.
 #[derive(Drop)]
 pub struct Receipts {
-    /// A receipt for each accepted send that a sender was told of.
+    /// A receipt for each send that a sender knows to be accepted.
     pub accepted: Vec<SendReceipt>,
     /// A receipt for each take that got an item.
     pub taken: Vec<TakeReceipt>,
-    /// How many items were accepted, as a close was told.
+    /// The number of items accepted, as a close returned it.
     pub total: Option<u64>,
 }
 

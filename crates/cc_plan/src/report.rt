@@ -14,7 +14,7 @@ use cc_model::{
 /// A history, and the verdict on it.
 #[derive(Clone, Copy)]
 pub struct Report<'a> {
-    /// The version of the format, that of the plan. Version 2 tells the group of each call of a receiver; any other is of
+    /// The version of the format, that of the plan. Version 2 names the group of each call of a receiver; any other is of
     /// one group, and doesn't.
     pub version: u32,
     /// The whole history, calls without an answer too.
@@ -23,7 +23,7 @@ pub struct Report<'a> {
     pub verdict: Verdict,
 }
 
-/// Who calls, as a line tells it.
+/// The caller in a line.
 #[derive(Clone, Copy)]
 enum Caller {
     Sender,
@@ -85,7 +85,7 @@ fn write_groups<W: Sink>(sink: &mut W, pen: &mut Pen, version: u32, history: &Hi
     }
 }
 
-/// Who calls in the lines of a group, from 0.
+/// The callers in the lines of a group, from 0.
 fn caller_in(version: u32, group: usize) -> Caller
     requires { group < 2 ^ 64 - 1 }
     ensures { result ≡ caller_in version group }
@@ -226,7 +226,7 @@ fn write_item<W: Sink>(sink: &mut W, pen: &mut Pen, item: Item)
     write_body(sink, pen, item.body)
 }
 
-/// Writes the words of a body, each behind a space, as a call and an item in a report tell them.
+/// Writes the words of a body, each after a space, as a report has them in a call and in an item.
 #[tactic(auto, using(crate::proofs::Lines::none, crate::proofs::Lines::all))]
 pub fn write_body<W: Sink>(sink: &mut W, pen: &mut Pen, body: Body)
     requires { pen.old.failed ≡ false → W.write_failures sink.old < 2 ^ 64 - 1 }

@@ -6,7 +6,7 @@ ghost use Rattle.cc_plan.specs.Version.{version_of, table_of};
 use crate::json::number_in;
 use serde_json::Value;
 
-/// The version, 1 or 2, and 1 where none is named.
+/// The version, 1 or 2, and 1 if none is named.
 pub fn version(tree: &Value) -> Option<u32>
     ensures { result ≡ version_of (view tree.now) }
 {

@@ -1,4 +1,5 @@
--- What holds between turns, and why a pass without an answer to be taken can begin its next call.
+-- The invariant between turns, and why a pass without an answer to be taken can begin its next
+-- call.
 use Rattle.std.proofs.Common.{◌≡◌, ◌≢◌, ◌<◌, ◌≤◌, ℕ, zero, suc, nat_lt, ◌+◌, ◌-◌, ◌*◌, ◌++◌, List, [], length, get_or, set, take, drop, Bool, true, false, cond, ◌⊎◌, inl, inr, Option, Some, None, Result, Ok, refl, sym, ap, ◌∙◌, subst, arith}
 use Rattle.std.specs.Bool.{⊤}
 use Rattle.std.proofs.lemmas.Bool.{cases_eq}
@@ -159,7 +160,7 @@ module _ (plan : PlanValue) (who : Pass) (row : ℕ) (named : index_of (setting_
       → a ≡ answer_of m1 who → HasTaken m1 (index_of m1.setting who) a m2 → IsBetweenTurns plan m2 begun
   did_between m m1 m2 begun e a at did told took = taken_between m1 m2 begun a (stepped_within m m1 begun e (enters plan row m begun at) did) told took
 
-  -- one that had so many
+  -- one that had this number
   pub gone_between : (m m1 m2 : View) (begun : List ℕ) (n : ℕ) (a : Option Answer) → IsBetweenTurns plan m begun → HasGoneOn m (index_of m.setting who) n m1
       → a ≡ answer_of m1 who → HasTaken m1 (index_of m1.setting who) a m2 → IsBetweenTurns plan m2 begun
   gone_between m m1 m2 begun n a at did told took = taken_between m1 m2 begun a (gone_within m m1 begun n (enters plan row m begun at) did) told took

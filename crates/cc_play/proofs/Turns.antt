@@ -62,7 +62,7 @@ module _ (plan : PlanValue) (who : Pass) (row : ℕ) (named : index_of (setting_
   index : (m : View) (begun : List ℕ) (run : List Move) → IsAt plan m begun run → index_of m.setting who ≡ Some row
   index m begun run at = rw at.setting named
 
-  -- where the machine is after a move of the run
+  -- the state of the machine after a move of the run
   moves : (m m' : View) (begun : List ℕ) (run : List Move) (move : Move) → IsAt plan m begun run → IsAfter m move m' → state_in m' ≡ reached (setting_of plan) (move ∷ run)
   moves m m' begun run move at h = h.state ∙ ap (λ (c : Setting). moved c (state_in m) move) at.setting ∙ ap (λ (s : State). moved (setting_of plan) s move) at.state
 
@@ -240,7 +240,7 @@ module _ (plan : PlanValue) (who : Pass) (row : ℕ) (named : index_of (setting_
 
   -- ---- many steps in one go
 
-  -- so many steps of the pass
+  -- this number of steps of the pass
   abbrev stepping : ℕ → List Move → List Move
   stepping zero run = run
   stepping (suc n) run = Move.Step row ∷ stepping n run
@@ -279,7 +279,7 @@ module _ (plan : PlanValue) (who : Pass) (row : ℕ) (named : index_of (setting_
       each : HadEach n run
       each k less none = gone.each k less (ap (λ (s : State). event_at (s.stand row).place) (same k) ∙ none)
 
-  -- they are so many turns, but for the answer
+  -- they are as many turns, but for the answer
   turns_are : (n : ℕ) (run : List Move) → told_at (place_in plan run row) ≡ None → HadEach n run → turns plan who row n run ≡ takes plan row (stepping n run)
   turns_are zero run none each = sym (takes-told row (place_in plan run row) run ∙ ap (λ (told : Option Answer). taken row told run) none)
   turns_are (suc n) run none each =
@@ -288,7 +288,7 @@ module _ (plan : PlanValue) (who : Pass) (row : ℕ) (named : index_of (setting_
       ap (turn plan who row) (before ∙ takes-busy row (place_in plan (stepping n run) row) does.0 (stepping n run) does.1)
       ∙ did_turn (stepping n run) does.0 does.1 ∙ ap (λ (e : Event). takes plan row (steps_at row e (stepping n run))) does.1
 
-  -- so many steps, and the answer taken where there is one then
+  -- this number of steps, and the answer taken if there is one then
   pub gone_turned : (m m1 m2 : View) (begun : List ℕ) (n : ℕ) (a : Option Answer) → told_at ((state_in m).stand row).place ≡ None → HasGoneOn m (index_of m.setting who) n m1
       → a ≡ answer_of m1 who → HasTaken m1 (index_of m1.setting who) a m2 → (run : List Move) → IsAt plan m begun run → IsAt plan m2 begun (turns plan who row n run)
   gone_turned m m1 m2 begun n a untold gone told took run at =

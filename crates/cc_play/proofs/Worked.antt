@@ -1,4 +1,4 @@
--- What comes of an input, by what came of the parts of the work on it.
+-- The outcome of an input, by the outcomes of the parts of the work on it.
 use Rattle.std.proofs.Common.{ℕ, List, Option, Result, Ok, Err}
 use Rattle.cc_plan.specs.Refusal.{Refusal}
 use Rattle.cc_play.specs.Names.{Verdict, PlayFault}

@@ -1,4 +1,4 @@
-//! Playing plans and auditing receipts, from bytes to bytes, and what is told of the outcome.
+//! Playing plans and auditing receipts, from bytes to bytes, and the report of the outcome.
 #![tactic(auto)]
 
 mod audit;

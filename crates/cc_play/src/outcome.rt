@@ -1,4 +1,4 @@
-//! What came of an input, as it is told: the exit status, and the line on standard error.
+//! The report of an outcome: the exit status, and the line on standard error.
 ghost use Rattle.std.specs.Prelude.{◌≡◌, ◌<◌, ◌-◌, ◌^◌, ◌++◌, codes, Err};
 ghost use Rattle.cc_device.specs.Written.{word_text};
 ghost use Rattle.cc_play.specs.Names.{PlayFault};
@@ -9,8 +9,8 @@ use cc_audit::Verdict;
 use cc_device::{Pen, Sink, write_bytes};
 use cc_plan::PlanFault;
 
-/// Tells what went wrong, and answers the status: 0 where the verdict is clean, 1 where the audit found a fault, 2 where the
-/// input is refused, 3 where memory is, and 4 where a device fails.
+/// Reports what went wrong, and returns the status: 0 if the verdict is clean, 1 if the audit found a fault, 2 if the input
+/// is refused, 3 if memory is, and 4 if a device fails.
 pub fn tell<E: Sink>(errors: &mut E, outcome: Result<Verdict, PlayFault>) -> u8
     requires { E.write_failures errors.old < 2 ^ 64 - 1 }
     ensures status { result ≡ status_of outcome }

@@ -10,8 +10,8 @@ ghost use Rattle.cc_play.specs.Names.{PlanFault};
 use cc_plan::{Plan, PlanFault, read_values, stranger};
 use std::alloc::Global;
 
-/// The plan that the bytes describe, or why they describe none: a fault of the whole shape is told before one of a
-/// range, a range in the order of the keys, and an unknown pass last.
+/// The plan that the bytes describe, or why they describe none: a fault of the whole shape is reported before one
+/// of a range, a range in the order of the keys, and an unknown pass last.
 pub fn read_plan(alloc: Global, bytes: &[u8]) -> Result<Plan, PlanFault>
     ensures plan { Gives plan_value result (plan_of bytes.now) }
     ensures memory { IsErrOf result PlanFault.P5 → length bytes.now ≤ input_limit }

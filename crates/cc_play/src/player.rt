@@ -16,7 +16,7 @@ use cc_model::{Call, Config, Pass};
 use cc_plan::Plan;
 use std::alloc::{AllocError, Global};
 
-/// The call that a pass makes after so many calls, where the plan has one.
+/// The call that a pass makes after this number of calls, if the plan has one.
 fn next_call(plan: &Plan, pass: Pass, begun: usize) -> Option<Call>
     ensures call { result ≡ next_call (plan_value plan.now) pass begun }
     ensures countable { IfSome result (λ _. begun < 2 ^ 64 - 1) }
@@ -46,8 +46,8 @@ fn begin(machine: &mut Machine, pass: Pass, call: Call) -> Result<(), AllocError
     }
 }
 
-/// One event of a pass, before which it begins its next call where it is idle, and after which the answer of a finished
-/// call is taken. The answer is the event: the first step of a call where one began, and Idle where the pass had none.
+/// One event of a pass, before which it begins its next call if it is idle, and after which the answer of a finished call
+/// is taken. Returns the event: the first step of a call if one began, and Idle if the pass had none.
 pub fn turn(
     machine: &mut Machine,
     begun: &mut [usize],
@@ -72,7 +72,7 @@ pub fn turn(
     }
 }
 
-/// The event of a pass that has no step to do: the first of its next call, where the plan has one.
+/// The event of a pass that has no step to do: the first of its next call, if the plan has one.
 fn begin_turn(
     machine: &mut Machine,
     begun: &mut [usize],
@@ -99,8 +99,8 @@ fn begin_turn(
     Ok(Event::Did(Kind::ResetNext))
 }
 
-/// Some of so many events of a pass, of which there is one at least; tells how many are left. None are left where the pass
-/// waits, since it reads the same to the end of its entry, and none where it has no call to begin.
+/// Some of this number of events of a pass, of which there is one at least; returns how many are left. None are left if the
+/// pass waits, since it reads the same to the end of its entry, and none if it has no call to begin.
 fn go_on(
     machine: &mut Machine,
     begun: &mut [usize],
@@ -130,8 +130,8 @@ fn go_on(
     }
 }
 
-/// Up to so many events of a pass. Where it waits, or has no call to begin, those that are left needn't be done one by one:
-/// the machine stands where they lead.
+/// Up to this number of events of a pass. If it waits, or has no call to begin, those that are left needn't be done one by
+/// one: the machine is already in the state to which they lead.
 fn follow_entry(
     machine: &mut Machine,
     begun: &mut [usize],

@@ -23,7 +23,7 @@ fn item_at(place: u32) -> Item {
     }
 }
 
-/// What its sender was told.
+/// The receipt of its sender.
 fn sent(item: Item) -> SendReceipt {
     SendReceipt {
         sender: item.sender,
@@ -33,7 +33,7 @@ fn sent(item: Item) -> SendReceipt {
     }
 }
 
-/// What a receiver was told.
+/// The receipt of a receiver.
 fn taken(item: Item) -> TakeReceipt {
     TakeReceipt { receiver: 1, item }
 }
@@ -53,7 +53,7 @@ fn is_found<R: Abort>(
 
 const COUNT: u32 = 20_000;
 
-/// So many sends, as they may be told by turns.
+/// The sends, as their receipts may come in turns.
 fn mixed_sends<R: Abort>(rt: &R, alloc: Global) -> Vec<SendReceipt> {
     let mut sends = Vec::new(alloc);
     for i in 0..COUNT {
@@ -217,8 +217,8 @@ const CLOSED: Answer = Answer::Send(SendAnswer::Closed);
 
 const SHUT: Answer = Answer::Close(CloseAnswer::Shut { total: 3 });
 
-/// The calls of senders that nobody has an item by: a send that found the queue full, a close, a send behind it, and one without
-/// an answer.
+/// The calls of senders that leave no item: a send that found the queue full, a close, a send after it, and one without an
+/// answer.
 fn add_other_sends<R: Abort>(rt: &R, history: &mut History)
     ensures { length history.new.takes ≡ length history.old.takes }
 {
@@ -258,17 +258,17 @@ fn two_groups<R: Abort>(rt: &R, alloc: Global, first: &str, second: &str) -> His
     history
 }
 
-/// The send of the item at a place is told.
+/// The send of the item at a place has its receipt.
 fn is_sent<R: Abort>(rt: &R, receipt: &SendReceipt, place: u32) {
     assert!(rt; *receipt == sent(item_at(place)));
 }
 
-/// Its take is told.
+/// Its take has its receipt.
 fn is_taken<R: Abort>(rt: &R, receipt: &TakeReceipt, place: u32) {
     assert!(rt; *receipt == taken(item_at(place)));
 }
 
-/// The sends of the first three items are told, and no other.
+/// The sends of the first three items have their receipts, and no other.
 fn are_sent<R: Abort>(rt: &R, receipts: &[SendReceipt]) {
     let mut place: u32 = 0;
     for receipt in receipts {
@@ -278,7 +278,7 @@ fn are_sent<R: Abort>(rt: &R, receipts: &[SendReceipt]) {
     assert!(rt; place == 3);
 }
 
-/// Their takes are told, and no other.
+/// Their takes have their receipts, and no other.
 fn are_taken<R: Abort>(rt: &R, receipts: &[TakeReceipt]) {
     let mut place: u32 = 0;
     for receipt in receipts {
@@ -288,7 +288,7 @@ fn are_taken<R: Abort>(rt: &R, receipts: &[TakeReceipt]) {
     assert!(rt; place == 3);
 }
 
-/// The sends of a history that are told, with the total of the close.
+/// The receipts of a history's sends, with the total of the close.
 fn told_sends<R: Abort>(rt: &R, alloc: Global, history: &History) -> Vec<SendReceipt> {
     let sends = send_receipts(alloc, history).expect(rt, "memory");
     are_sent(rt, &sends);
@@ -296,7 +296,7 @@ fn told_sends<R: Abort>(rt: &R, alloc: Global, history: &History) -> Vec<SendRec
     sends
 }
 
-/// The first group's takes are told, and are clean.
+/// The first group's takes have receipts, and are clean.
 fn first_is_clean<R: Abort>(rt: &R, alloc: Global, history: &History, sends: &[SendReceipt])
     requires { 0 < length history.now.takes }
 {
@@ -305,7 +305,7 @@ fn first_is_clean<R: Abort>(rt: &R, alloc: Global, history: &History, sends: &[S
     is_found(rt, alloc, sends, &takes, Some(3), Verdict::Clean);
 }
 
-/// The second group's takes are so many, and have this verdict.
+/// The second group's takes are this many, and have this verdict.
 fn second_has<R: Abort>(
     rt: &R,
     alloc: Global,

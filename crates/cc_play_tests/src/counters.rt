@@ -35,12 +35,12 @@ fn does<R: Abort>(rt: &R, machine: &mut CounterMachine, pass: u32, event: Event)
     assert_eq!(rt; machine.event(pass), event);
 }
 
-/// What a pass is answered, if it is.
+/// The answer of a pass, if it has one.
 fn tells<R: Abort>(rt: &R, machine: &mut CounterMachine, pass: u32, answer: Option<u64>) {
     assert_eq!(rt; machine.answer(pass), answer);
 }
 
-/// Lets a pass do so many events, each of which is a step, and gives no answer before.
+/// Lets a pass do this number of events, each of which is a step, and gives no answer before.
 fn steps<R: Abort>(rt: &R, machine: &mut CounterMachine, pass: u32, events: u32) {
     for _ in 0..events {
         tells(rt, machine, pass, None);
@@ -55,7 +55,7 @@ fn reads_answer<R: Abort>(rt: &R, machine: &mut CounterMachine, pass: u32) {
     does(rt, machine, pass, Event::Idle);
 }
 
-/// The last event of a call. No further call is begun before its answer is told, once.
+/// The last event of a call. No further call is begun before its answer is taken, once.
 fn ends<R: Abort>(rt: &R, machine: &mut CounterMachine, pass: u32, number: u64) {
     reads_answer(rt, machine, pass);
     refuses(rt, machine, pass, BeginFault::Busy);
@@ -63,7 +63,7 @@ fn ends<R: Abort>(rt: &R, machine: &mut CounterMachine, pass: u32, number: u64) 
     tells(rt, machine, pass, None);
 }
 
-/// A lone call with this bound: it has so many events before its last one.
+/// A lone call with this bound: it has this number of events before its last one.
 fn counts_alone<R: Abort>(rt: &R, alloc: Global, bound: u32, events: u32) {
     let mut machine = opened(rt, alloc, &config(1, bound, 1));
     begins(rt, &mut machine, 1);
@@ -100,7 +100,7 @@ fn counter_without_a_bound(rt: HostRuntime) {
     assert_eq!(rt; narrow.err(), Some(OpenFault::Config(ConfigFault::Bound)));
 }
 
-/// A pass that isn't there begins no call, does nothing and is told nothing.
+/// A pass that isn't there begins no call, does nothing and gets nothing.
 fn is_not_there<R: Abort>(rt: &R, machine: &mut CounterMachine, pass: u32) {
     refuses(rt, machine, pass, BeginFault::NoSuchPass);
     does(rt, machine, pass, Event::Idle);
@@ -150,7 +150,7 @@ const ANSWERS: [(u32, u64); 14] = [
     (2, 14),
 ];
 
-/// An event of a pass, which begins a call where it is idle.
+/// An event of a pass, which begins a call if it is idle.
 fn goes_on(machine: &mut CounterMachine, pass: u32) -> Option<u64> {
     let _begun = machine.begin(pass, 1);
     let _event = machine.event(pass);

@@ -45,7 +45,7 @@ const RECEIPTS: &str = r#"{"accepted":[],"taken":[[1,0,1,1,5]]}"#;
 /// The line of their verdict.
 const VERDICT: &str = "audit fault 3 place 0\n";
 
-/// What is done with an input, and the text that comes of it.
+/// A task with its input, and the text that it writes.
 #[derive(Clone, Copy)]
 struct Case<'a> {
     task: Task,
@@ -71,17 +71,17 @@ const STRANGER: Case<'static> = Case {
     text: VERDICT,
 };
 
-/// What holds of an input.
+/// This holds of an input.
 fn holds<R: Abort>(rt: &R, is: bool, input: &str) {
     assert!(rt; is, "{input}");
 }
 
-/// What holds where a device fails behind so many bytes.
+/// This holds if a device fails after this number of bytes.
 fn holds_at<R: Abort>(rt: &R, is: bool, bytes: usize) {
     assert!(rt; is, "{bytes}");
 }
 
-/// The input by at most so many bytes a read, and its text by at most so many a write.
+/// The input by at most this number of bytes a read, and its text by at most as many a write.
 fn goes_through<R: Abort>(rt: &R, alloc: Global, case: Case<'_>, at_most: usize) -> Run {
     let reads = Reads {
         at_most,
@@ -116,7 +116,7 @@ fn one_byte_a_call(rt: HostRuntime) {
     goes_by_bytes(&rt, alloc, STRANGER);
 }
 
-/// Behind so many bytes a read fails: this is told, and nothing is written.
+/// After this number of bytes a read fails: this is reported, and nothing is written.
 fn read_fails<R: Abort>(rt: &R, alloc: Global, case: Case<'_>, gives: usize) {
     let reads = Reads { gives, ..READS_ALL };
     let run = run_by(alloc, case.task, case.input.as_bytes(), reads, WRITES_ALL);
@@ -125,7 +125,7 @@ fn read_fails<R: Abort>(rt: &R, alloc: Global, case: Case<'_>, gives: usize) {
     holds_at(rt, run.sink.calls == 0, gives);
 }
 
-/// A read fails behind each of the bytes.
+/// A read fails after each of the bytes.
 fn reads_fail<R: Abort>(rt: &R, alloc: Global, case: Case<'_>) {
     for gives in 0..case.input.len() + 1 {
         read_fails(rt, alloc, case, gives);
@@ -150,7 +150,7 @@ fn reads_fail_at_every_byte(rt: HostRuntime) {
     reads_fail(&rt, alloc, STRANGER);
 }
 
-/// By this device a write fails: this is told, just the bytes that it took stand, and nothing is written behind the failure.
+/// By this device a write fails: this is reported, exactly the bytes that it took are written, and nothing after the failure.
 fn write_fails_by<R: Abort>(rt: &R, alloc: Global, case: Case<'_>, writes: Writes) {
     let takes = writes.takes;
     let run = run_by(alloc, case.task, case.input.as_bytes(), READS_ALL, writes);
@@ -159,7 +159,7 @@ fn write_fails_by<R: Abort>(rt: &R, alloc: Global, case: Case<'_>, writes: Write
     holds_at(rt, run.sink.has_failed_once(), takes);
 }
 
-/// Behind so many bytes a write fails, in each way.
+/// After this number of bytes a write fails, in each way.
 fn write_fails<R: Abort>(rt: &R, alloc: Global, case: Case<'_>, takes: usize, at_most: usize) {
     let writes = Writes {
         takes,
@@ -171,7 +171,7 @@ fn write_fails<R: Abort>(rt: &R, alloc: Global, case: Case<'_>, takes: usize, at
     write_fails_by(rt, alloc, case, Writes { refusal, ..writes });
 }
 
-/// A write fails behind each of the bytes, which go out one by one.
+/// A write fails after each of the bytes, which go out one by one.
 fn writes_fail<R: Abort>(rt: &R, alloc: Global, case: Case<'_>) {
     for takes in 0..case.text.len() {
         write_fails(rt, alloc, case, takes, 1);
@@ -185,7 +185,7 @@ fn writes_fail_at_every_byte(rt: HostRuntime) {
     writes_fail(&rt, rt.alloc(), STRANGER);
 }
 
-/// How often a send stands in the long plan.
+/// The number of sends in the long plan.
 const SENDS: u32 = 8_500;
 
 /// A plan that is read in two blocks, of which the first 750 sends are played.
@@ -226,7 +226,7 @@ fn played<'a>(plan: &'a str, report: &'a str) -> Case<'a> {
     }
 }
 
-/// Writes fail before, at and behind the edge of a block, as far as there are bytes.
+/// Writes fail before, at and after the edge of a block, as far as there are bytes.
 fn writes_fail_around<R: Abort>(rt: &R, alloc: Global, case: Case<'_>, edge: usize) {
     for takes in edge.saturating_sub(1)..edge.saturating_add(2) {
         if takes < case.text.len() {
@@ -290,7 +290,7 @@ fn a_long_text_goes_out(rt: HostRuntime) {
     assert!(rt; output.as_slice() == text.as_bytes());
 }
 
-/// Four bytes are written, or there is no room for them; so many writes have failed by then.
+/// Four bytes are written, or there is no room for them; this number of writes have failed by then.
 fn writes_four<R: Abort, S: Sink>(rt: &R, sink: &mut S, is_ok: bool, failures: u64)
     requires { S.write_failures sink.old < 2 ^ 64 - 1 }
     ensures { S.write_failures sink.new ≡ failures }

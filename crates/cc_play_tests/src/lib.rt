@@ -1,6 +1,6 @@
-//! The tests of the machines, and of what stands on them: of the texts, of playing, of auditing and of pages, what the corpus
-//! of the program can't show: steps by their kinds, refused calls, devices that fail, histories that no queue leaves, values
-//! that no report tells, and what a page holds.
+//! The tests of the machines, and of the crates above them, of what the corpus of the program can't show: steps by their
+//! kinds, refused calls, devices that fail, histories that no queue leaves, values that no report shows, and the content of a
+//! page.
 #![tactic(auto)]
 
 #[cfg(test)]

@@ -108,7 +108,7 @@ fn got(item: Item) -> Answer {
     Answer::Take(TakeAnswer::Got(item))
 }
 
-/// A machine of one sender and one receiver, with room for so many items.
+/// A machine of one sender and one receiver, with room for this number of items.
 fn opened<R: Abort>(rt: &R, alloc: Global, capacity: u32) -> Machine {
     Machine::open(alloc, &config(1, 1, capacity, 2, 10)).expect(rt, "opens")
 }
@@ -128,12 +128,12 @@ fn does<R: Abort>(rt: &R, machine: &mut Machine, pass: Pass, event: Event) {
     assert_eq!(rt; machine.event(pass), event);
 }
 
-/// What a pass is answered, if it is.
+/// The answer of a pass, if it has one.
 fn tells<R: Abort>(rt: &R, machine: &mut Machine, pass: Pass, answer: Option<Answer>) {
     assert_eq!(rt; machine.answer(pass), answer);
 }
 
-/// A step of a call that isn't answered before, done so many times.
+/// A step of a call that isn't answered before, done this number of times.
 fn steps<R: Abort>(rt: &R, machine: &mut Machine, pass: Pass, kind: Kind, times: usize) {
     for _ in 0..times {
         tells(rt, machine, pass, None);
@@ -141,8 +141,8 @@ fn steps<R: Abort>(rt: &R, machine: &mut Machine, pass: Pass, kind: Kind, times:
     }
 }
 
-/// The events of a lone call of a body of so many words: of these kinds, and those at these places once for each word. How
-/// many there were, and at which of them the call was decided.
+/// The events of a lone call of a body of this number of words: of these kinds, and those at these places once for each
+/// word. Returns how many there were, and at which of them the call was decided.
 fn events_of<R: Abort>(
     rt: &R,
     machine: &mut Machine,
@@ -288,14 +288,14 @@ fn configurations_that_are_refused(rt: HostRuntime) {
     }
 }
 
-/// A pass that isn't there begins no call, does nothing and is told nothing.
+/// A pass that isn't there begins no call, does nothing and gets nothing.
 fn is_not_there<R: Abort>(rt: &R, machine: &mut Machine, pass: Pass) {
     refuses(rt, machine, pass, Call::Take, BeginFault::NoSuchPass);
     does(rt, machine, pass, Event::Idle);
     tells(rt, machine, pass, None);
 }
 
-/// A call that is begun. Its pass begins no other one before it is told its answer.
+/// A call that is begun. Its pass begins no other one before it has its answer.
 fn begins_one<R: Abort>(rt: &R, machine: &mut Machine, pass: Pass, call: Call) {
     begins(rt, machine, pass, call);
     refuses(rt, machine, pass, Call::Close, BeginFault::Busy);

@@ -7,7 +7,7 @@ use cc_show::{ShowFault, tell_shown};
 use std::alloc::Global;
 use std::process::Abort;
 
-/// What an input leaves.
+/// The outcome of an input.
 #[derive(Drop)]
 struct Outcome {
     status: u8,
@@ -28,7 +28,7 @@ fn shown(alloc: Global, input: &str) -> Outcome {
     }
 }
 
-/// What stands in a page behind this mark, up to the end of its element.
+/// The part of a page after this mark, up to the end of its element.
 fn part<'a>(page: &'a str, mark: &str) -> &'a str {
     match page.split_once(mark) {
         Some((_, behind)) => behind.split_once("</script>").map_or("", |parts| parts.0),
@@ -61,7 +61,7 @@ fn page_of(outcome: &Outcome) -> &str {
     str::from_utf8(&outcome.output).unwrap_or("")
 }
 
-/// What stands in a part of a page.
+/// The content of a part of a page.
 fn has_part<R: Abort>(rt: &R, page: &str, mark: &str, text: &str) {
     assert_eq!(rt; part(page, mark), text);
 }
@@ -87,13 +87,13 @@ fn a_page_names_the_groups(rt: HostRuntime) {
     has_part(&rt, page_of(&outcome), "id=\"report\">", OF_GROUPS);
 }
 
-/// What has to hold where a write fails behind so many bytes.
+/// This has to hold if a write fails after this number of bytes.
 fn holds<R: Abort>(rt: &R, takes: usize, is: bool) {
     assert!(rt; is, "{takes}");
 }
 
-/// Behind so many bytes of a page a write fails: this is told, just these bytes stand, and nothing is written behind the
-/// failure.
+/// After this number of bytes of a page a write fails: this is reported, exactly these bytes are written, and nothing
+/// after the failure.
 fn write_fails<R: Abort>(rt: &R, alloc: Global, page: &str, takes: usize) {
     let mut sink = CutWriter::new(alloc, takes, usize::MAX, Refusal::Error);
     let outcome = show(alloc, &mut Device::new(FIRST.as_bytes()), &mut sink);
@@ -103,7 +103,7 @@ fn write_fails<R: Abort>(rt: &R, alloc: Global, page: &str, takes: usize) {
     holds(rt, takes, sink.has_failed_once());
 }
 
-/// A write fails behind every thousandth byte of a page, within its front, its run, its report and its script.
+/// A write fails after every thousandth byte of a page, within its front, its run, its report and its script.
 #[test]
 fn writes_of_a_page_fail(rt: HostRuntime) {
     let whole = shown(rt.alloc(), FIRST);
@@ -114,7 +114,7 @@ fn writes_of_a_page_fail(rt: HostRuntime) {
     }
 }
 
-/// What an input shows, its status, what is told, and the input.
+/// The title of an input, its status, what is reported, and the input.
 const ROWS: [(&str, u8, &str, &str); 3] = [
     (
         "20000 events: three, and a pass that waits",
@@ -131,12 +131,12 @@ const ROWS: [(&str, u8, &str, &str); 3] = [
     ("no plan", 2, "ccq: plan refused: P1\n", ""),
 ];
 
-/// What has to hold of a row of the list.
+/// This has to hold of a row of the list.
 fn is_so<R: Abort>(rt: &R, is: bool, what: &str) {
     assert!(rt; is, "{what}");
 }
 
-/// A row of the list: a page where the status is 0, and else none.
+/// A row of the list: a page if the status is 0, and else none.
 fn is_shown<R: Abort>(rt: &R, alloc: Global, what: &str, status: u8, told: &str, input: &str) {
     let outcome = shown(alloc, input);
     is_so(rt, outcome.status == status, what);

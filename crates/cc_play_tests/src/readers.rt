@@ -1,4 +1,4 @@
-//! What is read of plans and receipts, where no report tells it.
+//! The values that are read of plans and receipts, if no report shows them.
 use cc_audit::{SendReceipt, TakeReceipt};
 use cc_model::{Body, Config, Item, Pass};
 use cc_plan::read_receipts;
@@ -6,12 +6,13 @@ use cc_play::read_plan;
 use std::alloc::Global;
 use std::process::Abort;
 
-/// What holds of an input.
+/// This holds of an input.
 fn holds<R: Abort>(rt: &R, is: bool, input: &str) {
     assert!(rt; is, "{input}");
 }
 
-/// A plan is read as one with this configuration, so many takes of each receiver, and a schedule that begins so.
+/// A plan is read as one with this configuration, this number of takes of each receiver, and a schedule that
+/// begins so.
 fn is_read<R: Abort>(
     rt: &R,
     alloc: Global,

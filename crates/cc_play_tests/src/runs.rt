@@ -7,7 +7,7 @@ use cc_play::play::play;
 use cc_play::{PlayFault, audit_bytes};
 use std::alloc::Global;
 
-/// A source that gives some bytes, at most so many a call, and then fails at each read.
+/// A source that gives some bytes, at most this number a call, and then fails at each read.
 #[derive(Drop)]
 struct CutReader<'a> {
     rest: &'a [u8],
@@ -51,7 +51,7 @@ pub enum Refusal {
     Nothing,
 }
 
-/// A sink that takes some bytes, at most so many a call, and then refuses each write.
+/// A sink that takes some bytes, at most this number a call, and then refuses each write.
 #[derive(Drop)]
 pub struct CutWriter {
     pub taken: Vec<u8>,
@@ -79,7 +79,7 @@ impl CutWriter {
         }
     }
 
-    /// Whether just the front of this length of a text was taken.
+    /// Whether exactly the prefix of this length of a text was taken.
     pub fn has_front(&self, text: &str, length: usize) -> bool {
         self.taken.len() == length && text.as_bytes().starts_with(self.taken.as_slice())
     }
@@ -126,7 +126,7 @@ impl Sink for CutWriter {
     }
 }
 
-/// What is done with an input.
+/// The task of an input.
 #[derive(Clone, Copy)]
 pub enum Task {
     Play,
@@ -161,7 +161,7 @@ pub const WRITES_ALL: Writes = Writes {
     refusal: Refusal::Error,
 };
 
-/// What came of an input, how often it was read and how often that failed, and the sink.
+/// The outcome of an input, how often it was read and how often that failed, and the sink.
 #[derive(Drop)]
 pub struct Run {
     pub outcome: Result<Verdict, PlayFault>,
@@ -182,7 +182,7 @@ impl Run {
     }
 }
 
-/// What comes of an input by these devices.
+/// The outcome of an input by these devices.
 pub fn run_by(alloc: Global, task: Task, input: &[u8], reads: Reads, writes: Writes) -> Run {
     let mut source = CutReader {
         rest: input,

@@ -1,4 +1,4 @@
-//! Outcomes as they are told, where standard error fails.
+//! Outcomes as they are reported, if standard error fails.
 use crate::runs::{CutWriter, Refusal};
 use cc_audit::Verdict;
 use cc_plan::PlanFault;
@@ -6,13 +6,13 @@ use cc_play::{PlayFault, tell};
 use std::alloc::Global;
 use std::process::Abort;
 
-/// What holds of a line, of which so many bytes are taken.
+/// This holds of a line, of which this number of bytes are taken.
 fn holds<R: Abort>(rt: &R, is: bool, line: &str, takes: usize) {
     assert!(rt; is, "{line}, {takes}");
 }
 
-/// Tells an outcome on standard error, which takes so many bytes and then refuses in this way: it has its status, and its line
-/// goes out as far as it is taken.
+/// Reports an outcome on standard error, which takes this number of bytes and then refuses in this way: it has its status, and
+/// its line goes out as far as it is taken.
 fn is_told<R: Abort>(
     rt: &R,
     alloc: Global,
@@ -32,7 +32,7 @@ fn is_told<R: Abort>(
 /// How much standard error takes: all, nothing, or five bytes.
 const TAKES: [usize; 3] = [usize::MAX, 0, 5];
 
-/// Tells an outcome on standard error, which takes all, or fails at once, behind five bytes, or by taking nothing: the status
+/// Reports an outcome on standard error, which takes all, or fails at once, after five bytes, or by taking nothing: the status
 /// is the same, and the line goes out as far as it is taken.
 fn has_status<R: Abort>(
     rt: &R,

@@ -1,4 +1,4 @@
--- In a lawful history each answer is one of its call's own kind.
+-- In a legal history each answer is one of its call's own kind.
 use Rattle.std.proofs.Common.{suc, get_or, inl, inr, ◌≡◌, ℕ, ◌+◌, Bool, true, false, ◌||◌, List, [], ◌∷◌, ◌++◌, map, length, Option, Some, None, if◌then◌else◌, refl, sym, ap, ◌∙◌, subst, arith, length-append}
 use Rattle.std.specs.List.{flat_map, AllByRecursion, filter}
 use Rattle.cc_model.specs.Record.{Side, Record, silent, of_group}
@@ -80,7 +80,7 @@ all_sides : (P : Entry × Option Answer → Type 0) (sides : List Side) → ((k 
 all_sides P [] each = tt
 all_sides P (s ∷ sides) each = all_both P (answered s.calls s.answers) (flat_map (λ side. answered side.calls side.answers) sides) (each 0) (all_sides P sides (λ k. each (suc k)))
 
--- a group's, where there is none the empty one
+-- a group's, if there is none the empty one
 side_suits : (cfg : Config) (h : Record) → Legal cfg h → (g : ℕ) → AllByRecursion SuitsIt (answered (of_group h g).calls (of_group h g).answers)
 side_suits cfg h l g = elim (cases_lt g cfg.groups) [
   | inl inside ↦ d_all cfg g (accepted h) (is_shut h) 0 (of_group h g).calls (of_group h g).answers (l.takes g inside).receivers (l.takes g inside).answers

@@ -1,4 +1,4 @@
--- What a pass has seen stands in one history.
+-- All that a pass has seen is one history.
 use Rattle.std.proofs.Common.{◌/◌, arith, ◌≡◌, ◌≢◌, ℕ, ◌+◌, ◌*◌, ◌≤◌, if◌then◌else◌, List, [], ◌∷◌, ◌++◌, map, refl, sym, ap, ◌∙◌, subst, append-nil, append_assoc, Bool, true, false, nat_lt, ◌-◌}
 use Rattle.cc_queue.specs.Names.{Config, Answer, Call, TakeAnswer, Entry, Move, Setting, Served, Stand, Place, Chain, Pass}
 use Rattle.std.specs.List.{AllByRecursion}
@@ -32,7 +32,7 @@ begins_on c seen log on run =
     let g = on seen (goes_self seen) in
     subst (λ (l : List Move). Begins (history_of c seen) (history_of c l)) (sym g.is) (fronts_begin c g.more seen (subst (IsRun c) g.is run)).1
 
--- the history has of the pass just the calls that it made
+-- the history has of the pass exactly the calls that it made
 pub calls_in : (w : Walk) → IsSound w → to_exchange w.stand.place ≡ [] → map (λ z. z.0) (calls_of (name w) (history w)) ≡ w.made
 unfolding stand_in made_in
 calls_in w s out =
@@ -58,7 +58,7 @@ seat_of v w at e = (ap (λ (x : Walk). x.table_id) e, ap (λ (x : Walk). x.setti
 made_of : (v w : Walk) (at : Place) → w ≡ worked_to v at w → w.made ≡ v.made ++ []
 made_of v w at e = ap (λ (x : Walk). x.made) e ∙ sym (append-nil v.made)
 
--- the same of a pass that stands idle or waits, whose topic is a list
+-- the same of a pass that is idle or waits, whose topic is a list
 pub stands_on : (v w : Walk) (calls : List Entry) (begun node : ℕ) (at : Place) → w.stand ≡ record { begun = begun; node = node; place = at } → to_exchange at ≡ [] → IsSound w → v.setting.served ≡ Served.List → IsSameSeat v w → Onward v.seen w.seen → w.made ≡ v.made ++ calls → StandsInOne v calls w
 stands_on v w calls begun node at stand out s list same on made_is = stands_in_one v w calls s (ap (λ (c : Setting). c.served) same.1 ∙ list) (ap (λ (x : Stand). to_exchange x.place) stand ∙ out) same on made_is
 
@@ -98,7 +98,7 @@ answered_so u v w c told n is list s e last few = subst (λ (x : Walk). Answered
   scans = subst (λ (x : Setting). tally scans w.did ≤ n * (x.config.capacity + 1) + tally scans v.did) (sym list) e.scans;
 })
 
--- a send that is told its answer is told one of a send
+-- the answer of a send is one of a send
 pub send_told : (v w : Walk) (told : Answer) → v.setting.served ≡ Served.List → IsSound w → w ≡ worked_to v Place.Idle w → IsLastAnswer (name w) (history w) told → MadeLast IsSend v.made → IsSendAnswer told
 send_told v w told list s worked last m =
     send_answered w.setting.config (history w) (name w) told w.made (history_is_legal w.setting w.seen (ap (λ (x : Walk). x.setting.served) worked ∙ list) s.checked s.run)
@@ -110,7 +110,7 @@ close_told v w told list s worked last m =
     close_answered w.setting.config (history w) (name w) told w.made (history_is_legal w.setting w.seen (ap (λ (x : Walk). x.setting.served) worked ∙ list) s.checked s.run)
     (calls_in w s (ap (λ (x : Walk). to_exchange x.stand.place) worked)) last (subst (MadeLast IsClose) (sym (ap (λ (x : Walk). x.made) worked)) m)
 
--- what stands in one history, and goes on in another
+-- the facts that are in one history, and go on in another
 pub stands_more : (a b c : Walk) (xs ys : List Entry) → StandsInOne a xs b → StandsInOne b ys c → StandsInOne a (xs ++ ys) c
 stands_more a b c xs ys f g = record {
   same = (g.same.0 ∙ f.same.0, g.same.1 ∙ f.same.1, g.same.2 ∙ f.same.2);
@@ -123,7 +123,7 @@ stands_more a b c xs ys f g = record {
   calls_are = g.calls_are;
 }
 
--- a call that waits is where it was, in more history
+-- a call that waits has not moved, in more history
 pub waits_on : (a b c : Walk) → StandsInOne a [] b → Waited b c → StandsInOne a [] c
 waits_on a b c f g = stands_more a b c [] [] f g.stands
 
@@ -135,7 +135,7 @@ ended_so a b c told n f g = record { stands = stands_more a b c [] [] f g.stands
 pub completed_so : (a b c : Walk) (call : Call) (told : Answer) → Begun a call b → Ended b told c → Completed a call told c
 completed_so a b c call told f g = record { stands = stands_more a b c (entry_of a call ∷ []) [] f.stands g.stands; last = g.last }
 
--- a pass with a pending call stands in the history that it has seen
+-- a pass with a pending call belongs to the history that it has seen
 pub pending_stands : (u v : Walk) (begun node : ℕ) → v ≡ u → v.setting.served ≡ Served.List → v.stand ≡ record { begun = begun; node = node; place = Place.ReadState } → IsSound v → StandsInOne u [] u
 pending_stands u v begun node is list stand s = subst (λ (x : Walk). StandsInOne x [] x) is (stands_on v v [] begun node Place.ReadState stand refl s list (refl, refl, refl) (λ first k. k) (sym (append-nil v.made)))
 
@@ -145,7 +145,7 @@ still_out Place.Idle is = refl
 still_out Place.ReadState is = refl
 still_out at is = absurd is
 
--- a pass that was given up, which a caller knows as u, stands in the history that it has seen
+-- an abandoned pass, which a caller knows as u, belongs to the history that it has seen
 pub stopped_stands : (u v : Walk) → v ≡ u → HasStopped v → IsSound v → StandsInOne u [] u
 stopped_stands u v is stop s = subst (λ (x : Walk). StandsInOne x [] x) is (stands_in_one v v [] s stop.list (still_out v.stand.place stop.still) (refl, refl, refl) (λ first k. k) (sym (append-nil v.made)))
 

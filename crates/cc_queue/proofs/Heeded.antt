@@ -32,9 +32,9 @@ told e a = (e, a)
 abbrev none : Option Answer
 none = None
 
--- ---- the last answered call of a pass stands behind the calls of which it had made fewer
+-- ---- the last answered call of a pass comes after the calls of which it had made fewer
 
--- this call is answered so on a side, behind at least so many others
+-- this call has this answer on a side, after at least this number of others
 pub record FoundAt (calls : List Entry) (answers : List Answer) (e : Entry) (a : Answer) (past : ℕ) : Type 0 where
   pub before : List Answer
   pub answered : IsAnswered (record { calls = calls; answers = answers }) before e a
@@ -64,7 +64,7 @@ its_length p [] answers = refl
 its_length p (c ∷ calls) [] = omega (arith, kept_length (is_pass p c.pass) (c, None) (its p calls []), its_length p calls [])
 its_length p (c ∷ calls) (a ∷ answers) = omega (arith, kept_length (is_pass p c.pass) (c, Some a) (its p calls answers), its_length p calls answers)
 
--- none is found where no call has an answer
+-- none is found if no call has an answer
 none_kept : (c e : Entry) (a : Answer) (rest : List Told) (b : Bool) (zs : List Told) → ((ys : List Told) → rest ≡ ys ++ (e, Some a) ∷ [] → ⊥) → kept b (c, None) rest ≡ zs ++ (e, Some a) ∷ [] → ⊥
 none_kept c e a rest false zs rec is = rec zs is
 none_kept c e a rest true [] rec is = let first : told c None ≡ told e (Some a) = cc in let second : none ≡ Some a = ap (λ (z : Told). z.1) first in cc
@@ -92,7 +92,7 @@ found_last p [] answers zs e a is = absurd (none_answered p [] zs e a is)
 found_last p (c ∷ calls) [] zs e a is = absurd (none_answered p (c ∷ calls) zs e a is)
 found_last p (c ∷ calls) (b ∷ answers) zs e a is = last_kept c e b a calls answers (its p calls answers) (is_pass p c.pass) zs (λ ys more. found_last p calls answers ys e a more) is
 
--- and where all but the last of them are among the first calls, it is behind those
+-- and if all but the last of them are among the first calls, it comes after those
 behind_kept : (c e : Entry) (b a : Answer) (calls : List Entry) (answers : List Answer) (rest : List Told) (past mine : ℕ) (k : Bool) (zs : List Told) → ((ys : List Told) → rest ≡ ys ++ (e, Some a) ∷ [] → mine ≡ length ys → FoundAt calls answers e a past)
     → kept k (c, Some b) rest ≡ zs ++ (e, Some a) ∷ [] → (if k then 1 else 0) + mine ≡ length zs → FoundAt (c ∷ calls) (b ∷ answers) e a (suc past)
 behind_kept c e b a calls answers rest past mine false zs rec is count = found_later c b calls answers e a past (rec zs is (omega (arith, count)))
@@ -140,7 +140,7 @@ comes_after c p noted mid log zs e told q f g run pass_is known_is last count =
 
 -- ---- passes
 
--- what stands in one history stands there as it is
+-- the facts that are in one history stay in it as they are
 pub stands_still : (v w : Walk) (calls : List Entry) → StandsInOne v calls w → StandsInOne w [] w
 stands_still v w calls s = record {
   same = (refl, refl, refl);
@@ -181,7 +181,7 @@ heeded_stays n v w calls h s =
       queue = subst IsListChecked (sym s.same.1) h.queue;
     }
 
--- of two lawful histories what was noted begins what the pass has seen
+-- of two legal histories the noted one begins the one that the pass has seen
 pub noted_goes_on : (n : Noted) (w : Walk) → HasHeeded n w → fresh.GoesOn w.setting.config (noted_history n) (history w)
 noted_goes_on n w h =
     let g = h.onward n.seen (goes_self n.seen) in

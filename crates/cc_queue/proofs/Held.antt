@@ -40,7 +40,7 @@ one_more {X} P xs i x inside is here before k d less = elim (cases_lt k i) [
 
 -- ---- calls that are dealt out to a row of passes
 
--- the receipts of the calls of pass n, then of pass n + 1, and so on, where mine m z says whether z is a call of pass m
+-- the receipts of the calls of pass n, then of pass n + 1, and so on, if mine m z says whether z is a call of pass m
 abbrev held : {X : Type 0} → (Told → List X) → (ℕ → Told → Bool) → List Told → ℕ → ℕ → List X
 held receipts mine zs n zero = []
 held receipts mine zs n (suc count) = receipts_in receipts (filter (mine n) zs) ++ held receipts mine zs (suc n) count
@@ -176,7 +176,7 @@ record IsRow (called : ℕ → Pass) (h : Record) (n : ℕ) (ws : List Walk) : T
   pub named : (k : ℕ) (d : Walk) → k < length ws → name (get_or ws k d) ≡ called (n + k)
   pub seen : All (λ w. history w ≡ h) ws
 
--- what they hold, where all calls of each of them are among these
+-- the receipts that they hold, if all calls of each of them are among these
 held_by : {X : Type 0} (receipts : Told → List X) (called : ℕ → Pass) (h : Record) (zs : List Told) (n : ℕ) (ws : List Walk) → IsRow called h n ws → ((m : ℕ) → n ≤ m → m < n + length ws → calls_of (called m) h ≡ filter (is_of called m) zs) → receipts_by receipts ws ≡ held receipts (is_of called) zs n (length ws)
 held_by receipts called h zs n [] row are = refl
 held_by receipts called h zs n (w ∷ ws) row are =
@@ -248,7 +248,7 @@ pub seen_is : (z : Topic) (ws : List Walk) (seen : List Move) → 0 < length ws 
 seen_is z [] seen some row one = absurd (omega (arith, some))
 seen_is z (w ∷ ws) seen some row one = seen_at z 0 z.setting.config.senders (w ∷ ws) seen row one 0 w (omega arith)
 
--- what the first of them has seen is lawful
+-- the history that the first of them has seen is legal
 lawful_seen : (z : Topic) (ws : List Walk) → 0 < length ws → AreInRow z 0 z.setting.config.senders ws → All (λ w. StandsInOne w [] w) ws → Legal z.setting.config (seen_by ws)
 lawful_seen z [] some row stand = absurd (omega (arith, some))
 lawful_seen z (w ∷ ws) some row stand = subst (λ (c : Setting). Legal c.config (history w)) (row.are 0 w (omega arith)).1 (stand 0 w (omega arith)).legal
@@ -336,14 +336,14 @@ takes_held z ws seen group some low high l row one =
     subst (λ (n : ℕ). IsPermutation (receipts_by got (slice_range ws first n)) (takes_of h g)) all
     (subst (λ (y : List TakeReceipt × List TakeReceipt). IsPermutation y.0 y.1) (λ i. (sym same i, in_got (of_group h g).calls (of_group h g).answers i)) (held_all got (is_of Pass.Receiver) (1 + first) cfg.receivers zs (takes_dealt cfg h g some (omega (arith, low, high)) l)))
 
--- where there is one group, all receivers are its
+-- if there is one group, all receivers are its
 pub only_group : (cfg : Config) (ws : List Walk) → length ws ≡ cfg.receivers → in_group cfg 1 ws ≡ ws
 only_group cfg ws all =
     let from : 0 * cfg.receivers ≡ 0 = omega arith in
     let to : 1 * cfg.receivers ≡ length ws = omega (arith, all) in
     (λ i. take (to i - from i) (drop (from i) ws)) ∙ ap (λ (n : ℕ). take n ws) (omega arith) ∙ take-length ws
 
--- the verdict stays Clean where no total is told
+-- the verdict stays Clean if no total is given
 without_total : {sends : List SendReceipt} {takes : List TakeReceipt} {kind p : ℕ} (total : Option ℕ) → Holds sends takes None kind p → Holds sends takes total kind p
 without_total total (double_accept is h) = double_accept is h
 without_total total (double_take is h) = double_take is h

@@ -52,7 +52,7 @@ off_walks P [] all k d less = absurd (omega (arith, less))
 off_walks P (p ∷ ps) all zero d less = all 0 (walk_at p) (omega arith)
 off_walks P (p ∷ ps) all (suc k) d less = off_walks P ps (λ j e l. all (suc j) e (omega (arith, l))) k d (omega (arith, less))
 
--- where all have seen this history
+-- if all have seen this history
 pub all_just : (h : Record) (live gone : List Walk) (ps : List Last) → All (λ w. history w ≡ h) (map walk_at ps) → All IsAtRest live → All HasEnded gone → All (IsOneOf live gone) ps → All (HasJustItsCalls h) ps
 all_just h live gone ps seen a b from k d less =
     let p : Last = get_or ps k d in
@@ -100,7 +100,7 @@ group_of_map f c g xs =
     let j : ℕ = g * c.receivers in
     ap (take (j - i)) (drop-map f i xs) ∙ take-map f (j - i) (drop i xs)
 
--- ---- where none was given up
+-- ---- if none was abandoned
 
 pub live_walks : (ws : List Walk) → map walk_at (map Live ws) ≡ ws
 live_walks [] = refl

@@ -14,7 +14,7 @@ use Rattle.cc_queue.specs.Passes.{IsStill, HasStopped, KeepsSender, KeepsReceive
 use Rattle.cc_queue.specs.Met.{IsOfOne, MayMeet, Sees, HasMet, EachHasMet, Swept, Gathered}
 use Rattle.cc_queue.proofs.Headline.{stands_in_one, stands_more, still_out}
 
--- a pass that stands still, whose seat has seen more
+-- a pass that doesn't move, whose seat has seen more
 pub met_stopped : (u v w : Walk) → v ≡ u → HasStopped v → Sees v w → HasMet u w
 met_stopped u v w is stop s = subst (λ (x : Walk). HasMet x w) is (record {
   stands = stands_in_one v w [] s.sound (ap (λ (x : Walk). x.setting.served) s.same ∙ stop.list) (ap (λ (x : Walk). to_exchange x.stand.place) s.same ∙ still_out v.stand.place stop.still)
@@ -22,7 +22,7 @@ met_stopped u v w is stop s = subst (λ (x : Walk). HasMet x w) is (record {
   same = s.same;
 })
 
--- an idle pass stands still
+-- an idle pass doesn't move
 idle_stopped : (v : Walk) → v.setting.served ≡ Served.List → v.stand.place ≡ Place.Idle → HasStopped v
 idle_stopped v list at = record { list = list; still = subst IsStill (sym at) tt }
 
@@ -32,7 +32,7 @@ idle_sender s k = idle_stopped s.seat k.list (ap (λ (z : Stand). z.place) k.sta
 pub idle_receiver : (r : ReceiverSeat) → KeepsReceiver r Place.Idle → HasStopped r.seat
 idle_receiver r k = idle_stopped r.seat k.list (ap (λ (z : Stand). z.place) k.stand)
 
--- the pass of a seat, which stands still
+-- the pass of a seat, which doesn't move
 pub met_on : (v w : Walk) → HasStopped v → Sees v w → HasMet v w
 met_on v w stop s = met_stopped v v w refl stop s
 
@@ -121,7 +121,7 @@ sweeps was first first' old now i x x' h lt len at one other seen longest =
           );
     }
 
--- one more of them, which was x: both stand still, and each sees the other
+-- one more of them, which was x: neither moves, and each sees the other
 pub sweeps_on : (was first first' : Walk) (old now : List Walk) (i : ℕ) (d x x' : Walk) → HasStopped was → Sweeping was first old now i → i < length old → length now ≡ length old → x ≡ get_or now i d → HasStopped x
     → Sees first first' → Sees x x' → x'.seen ≡ first'.seen → first'.seen ≡ longer first.seen x.seen → Sweeping was first' old (set now i x') (i + 1)
 sweeps_on was first first' old now i d x x' stop so less len is still one other seen longest =
@@ -186,7 +186,7 @@ pub with_first : (w : Walk) (others : List Walk) → All (λ o. o.seen ≡ w.see
 with_first w others have zero d less = refl
 with_first w others have (suc k) d less = have k d (omega (arith, less))
 
--- each of a list has met where its first one has, and each of the others
+-- each of a list has met if its first one has, and each of the others
 pub met_with_first : (old others new : List Walk) (f g : Walk) → old ≡ f ∷ others → HasMet f g → EachHasMet others new → EachHasMet old (g ∷ new)
 met_with_first old others new f g is first rest = subst (λ (ws : List Walk). EachHasMet ws (g ∷ new)) (sym is) each
   where

@@ -1,4 +1,4 @@
--- The calls of a pass in a lawful history are all on its own side: the senders', or that of its group.
+-- The calls of a pass in a legal history are all on its own side: the senders', or that of its group.
 use Rattle.std.proofs.Common.{◌≢◌, inl, inr, ◌≡◌, ℕ, Bool, false, List, [], ◌∷◌, ◌++◌, Option, Some, None, if◌then◌else◌, refl, sym, ap, ◌∙◌, arith, append-nil}
 use Rattle.std.specs.List.{AllByRecursion, filter, flat_map}
 use Rattle.std.proofs.lemmas.Bool.{cases_lt, ne_eqb}
@@ -42,7 +42,7 @@ not_in_group cfg g r ne (Pass.Receiver n) (Call.Send body) is = absurd is
 not_in_group cfg g r ne (Pass.Receiver n) Call.Close is = absurd is
 not_in_group cfg g r ne (Pass.Sender n) c is = absurd is
 
--- nor of any group where none is of those that there are
+-- nor of any group if none is of those that there are
 none_of_group : (cfg : Config) (h : Record) (p : Pass) (k : ℕ) → Legal cfg h → ((q : Pass) (c : Call) → IsReceivers cfg k q c → is_pass p q ≡ false) → its p (of_group h k).calls (of_group h k).answers ≡ []
 none_of_group cfg h p k l other = elim (cases_lt k cfg.groups) [
   | inl inside ↦ none_of (λ e. IsReceivers cfg k e.pass e.call) p (λ e is. other e.pass e.call is) (of_group h k).calls (of_group h k).answers (l.takes k inside).receivers

@@ -78,7 +78,7 @@ module _ (v s r w u : Walk) (c : Config) (at served next most : ℕ) (list : IsL
   pub look_did : (f : Kind → ℕ) → tally f r.did ≡ f Kind.ReadNext + tally f s.did
   look_did f = ap (tally f) (looked_did v s r k next here look)
 
--- where the look for the next call leads, in a chain of a list
+-- the places after the look for the next call, in a chain of a list
 module _ (v s r : Walk) (t : Topic) (c : Config) (x : Chain) (is : IsServing t c x v) (at served next : ℕ) (below : served < c.bound) (from : s ≡ worked_to v (round_place c.bound at served) s) where
   abbrev round : Round
   round = record { at = at; served = served }

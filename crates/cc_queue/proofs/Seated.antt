@@ -22,7 +22,7 @@ pub next_pass : (z : Topic) (first p : ℕ) (ws done done' : List Walk) (seat w 
 next_pass z first p ws done done' seat w some f is same at before is' =
     subst (fresh_from z first) (sym is') (fresh_push z first p done w at before (same ∙ first_seat z p ws seat some f is))
 
--- a seat behind those of all senders is a receiver's
+-- a seat after those of all senders is a receiver's
 module _ (z : Topic) (c : Config) (w : Walk) (p : ℕ) (topic : z.setting ≡ record { served = Served.List; config = c }) (is : w ≡ fresh z (c.senders + p)) where
   pub setting_is : w.setting ≡ record { served = Served.List; config = c }
   setting_is = ap (λ (x : Walk). x.setting) is ∙ topic

@@ -1,4 +1,4 @@
--- The sends that a pass has begun are counted where it stands.
+-- The number of sends that a pass has begun is kept at its place.
 use Rattle.std.proofs.Common.{◌≡◌, ℕ, ◌+◌, Bool, true, false, ◌==◌, cond, nat_lt, List, [], ◌∷◌, ◌++◌, refl, sym, ap, ◌∙◌, arith}
 use Rattle.std.proofs.lemmas.Bool.{eqb-true}
 use Rattle.cc_queue.specs.Names.{Call, Entry, Setting, Move, Stand, Place}
@@ -15,7 +15,7 @@ sends_more : (calls : List Entry) (e : Entry) → sends_in (calls ++ e ∷ []) �
 sends_more [] e = omega arith
 sends_more (d ∷ calls) e = omega (arith, sends_more calls e)
 
--- one more where a send is begun
+-- one more if a send is begun
 after_begin : (what : Call) (begun : ℕ) → begun_after what begun ≡ begun + is_send what
 after_begin (Call.Send body) begun = refl
 after_begin Call.Close begun = omega arith

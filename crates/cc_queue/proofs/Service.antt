@@ -1,4 +1,4 @@
--- A step within a call, as its seat sees it, behind what its pass did before.
+-- A step within a call, as its seat sees it, after the earlier steps of its pass.
 use Rattle.std.proofs.Common.{◌≡◌, ◌≢◌, ℕ, ◌+◌, ◌-◌, ◌≤◌, ◌==◌, Bool, cond, List, ◌∷◌, None, refl, sym, ap, ◌∙◌, subst, arith}
 use Rattle.std.proofs.lemmas.Bool.{eq-eqb, ne_eqb}
 use Rattle.cc_queue.specs.Names.{Answer, Chain, Config, Event, Job, Kind, Parcel, Place, SendAnswer, Sending, Setting, Stand}
@@ -44,22 +44,22 @@ module _ (v s r : Walk) (k : Kind) (here on : Place) (most found : ℕ) (at : Se
     later = λ first before. later first (at.later first before);
   }
 
--- where a look at a list node leads
+-- the places after a look at a list node
 abbrev looks_to : Config → Job → Parcel → (at nodes passed : ℕ) → Place
 looks_to c job parcel at nodes passed = place_of Place.Sending job (by_passed c parcel at nodes passed)
 
--- to its use, where it is free
+-- to its use, if it is free
 looks_free : (c : Config) (job : Job) (parcel : Parcel) (at nodes passed : ℕ) → passed ≡ c.groups → looks_to c job parcel at nodes passed ≡ Place.Sending job (Sending.ResetPassed parcel at)
 looks_free c job parcel at nodes passed free =
     ap (λ (b : Bool). place_of Place.Sending job (cond b (On (Sending.ResetPassed parcel at)) (cond (nodes == c.capacity + 1) (Decides (Answer.Send SendAnswer.Full)) (On (Sending.ReadPassed parcel (after c at) (nodes + 1)))))) (eq-eqb passed c.groups free)
 
--- to the next one, where it isn't free and isn't the last one
+-- to the next one, if it isn't free and isn't the last one
 looks_on : (c : Config) (job : Job) (parcel : Parcel) (at nodes passed : ℕ) → passed ≢ c.groups → nodes ≢ c.capacity + 1 → looks_to c job parcel at nodes passed ≡ Place.Sending job (Sending.ReadPassed parcel (after c at) (nodes + 1))
 looks_on c job parcel at nodes passed used more =
     ap (λ (b : Bool). place_of Place.Sending job (cond b (On (Sending.ResetPassed parcel at)) (cond (nodes == c.capacity + 1) (Decides (Answer.Send SendAnswer.Full)) (On (Sending.ReadPassed parcel (after c at) (nodes + 1)))))) (ne_eqb passed c.groups used)
     ∙ ap (λ (b : Bool). place_of Place.Sending job (cond b (Decides (Answer.Send SendAnswer.Full)) (On (Sending.ReadPassed parcel (after c at) (nodes + 1))))) (ne_eqb nodes (c.capacity + 1) more)
 
--- to the answer, where it is the last one and isn't free
+-- to the answer, if it is the last one and isn't free
 looks_full : (c : Config) (job : Job) (parcel : Parcel) (at nodes passed : ℕ) → passed ≢ c.groups → nodes ≡ c.capacity + 1 → looks_to c job parcel at nodes passed ≡ Place.WriteAnswer job (Answer.Send SendAnswer.Full)
 looks_full c job parcel at nodes passed used last =
     ap (λ (b : Bool). place_of Place.Sending job (cond b (On (Sending.ResetPassed parcel at)) (cond (nodes == c.capacity + 1) (Decides (Answer.Send SendAnswer.Full)) (On (Sending.ReadPassed parcel (after c at) (nodes + 1)))))) (ne_eqb passed c.groups used)
@@ -76,7 +76,7 @@ one_look v s r c job parcel at nodes passed most on list before step later leads
 pub at_start : (v : Walk) (here : Place) → v.stand.place ≡ here → Serves v here 0 v
 at_start v here at = record { worked = ap (λ (p : Place). record v { stand = record v.stand { place = p } }) at; reads = omega arith; marks = omega arith; hands = omega arith; scans = omega arith; later = λ first before. before }
 
--- so many looks at most are as many and more at most
+-- at most this number of looks are at most as many and more
 pub at_most : (v r : Walk) (on : Place) (few most : ℕ) → few ≤ most → Serves v on few r → Serves v on most r
 at_most v r on few most le at = record { worked = at.worked; reads = at.reads; marks = at.marks; hands = at.hands; scans = omega (arith, at.scans, le); later = at.later }
 
@@ -95,7 +95,7 @@ module _ (v s r : Walk) (c : Config) (job : Job) (parcel : Parcel) (at nodes pas
   pub looks_further : (next : ℕ) → passed ≢ c.groups → nodes ≢ c.capacity + 1 → next ≡ after c at → Serves v (Place.Sending job (Sending.ReadPassed parcel next (nodes + 1))) most r
   looks_further next used more is = look (Place.Sending job (Sending.ReadPassed parcel next (nodes + 1))) (looks_on c job parcel at nodes passed used more ∙ ap (λ (n : ℕ). Place.Sending job (Sending.ReadPassed parcel n (nodes + 1))) (sym is)) (λ z. refl)
 
--- it can do the step at which it stands
+-- it can do the step of its place
 pub can_step : (v s : Walk) (here : Place) (k : Kind) (op : Operation) → s ≡ worked_to v here s → event_at here ≡ Event.Did k → operation v.setting (chain_of v.setting.config v.number) v.stand.node here ≡ op → Steps s k op
 can_step v s here k op at event does = subst (λ (z : Walk). Steps z k op) (sym at) (event, does)
 

@@ -59,7 +59,8 @@ final_unless SendAnswer.Full ne = absurd (ne refl)
 final_unless SendAnswer.Closed ne = tt
 final_unless SendAnswer.Spent ne = tt
 
--- a pass that may send now might have sent before it tried, where one that was worn then is where it was
+-- a pass that may send now might have sent before it tried, if one that was exhausted then has not
+-- moved
 pub might_before : (v w : Walk) → (v.setting.config.per_sender ≤ v.stand.begun → w ≡ v) → w.stand.begun < w.setting.config.per_sender → v.stand.begun < v.setting.config.per_sender
 might_before v w same may = elim (cases_lt v.stand.begun v.setting.config.per_sender) [
   | inl less ↦ less

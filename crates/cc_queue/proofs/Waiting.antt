@@ -24,7 +24,7 @@ use Rattle.cc_queue.specs.Receipts.{HasEnded, told_of}
 use Rattle.cc_queue.proofs.Headline.{stopped_stands, still_out, calls_in, answers_in}
 use Rattle.cc_queue.proofs.OnItsSide.{Told, its, kept, on_its_side, side_begins}
 
--- ---- a front of a run in which the pass was out of its chain, and had begun the same calls
+-- ---- a prefix of a run in which the pass was out of its chain, and had begun the same calls
 
 record Front (c : Setting) (moves : List Move) (p : ℕ) : Type 0 where
   pub later : List Move

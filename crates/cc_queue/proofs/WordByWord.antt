@@ -1,4 +1,4 @@
--- A loop over the words of a body: where a step on a word leads.
+-- A loop over the words of a body: the places after a step on a word.
 use Rattle.std.proofs.Common.{◌≡◌, ℕ, ◌+◌, ◌<◌, ◌≤◌, Bool, true, false, cond, nat_lt, None, refl, ap, ◌∙◌, subst, arith}
 use Rattle.std.proofs.lemmas.Bool.{le-ltb, lt-ltb}
 use Rattle.cc_queue.specs.Names.{Event, Kind, Place, Stand}
@@ -12,7 +12,7 @@ use Rattle.cc_steps.specs.Walk.{IsOf, Steps, Walk, walked_to}
 use Rattle.cc_queue.proofs.Service.{at_start, can_step, of_still, one_step}
 use Rattle.cc_queue.specs.Work.{Serves, reads, marks, hands, scans}
 
--- a pass that came to the first place stands at the second one, once an answer is taken
+-- a pass that came to the first place is at the second one, once an answer is taken
 abbrev pub Settles : Place → Place → Type 0
 Settles p q = (z : Stand) → settled (record z { place = p }) ≡ record z { place = q }
 
@@ -40,7 +40,7 @@ pub first_word : (v r : Walk) (k : Kind) (here next last on : Place) (further fo
 first_word v r k here next last on further found at step later event uncounted goes stays ends =
     stepped v v r k here (behind further 0 next last) (behind further 0 next on) found (at_start v here at) step later event uncounted goes (settles_either (nat_lt 0 further) next next last on stays ends)
 
--- a word behind others, while there is one left
+-- a word after others, while there is one left
 pub at_word : (v s : Walk) (here on : Place) (further i : ℕ) → Serves v (behind further i here on) 0 s → i < further → Serves v here 0 s
 at_word v s here on further i at less = subst (λ (b : Bool). Serves v (cond b here on) 0 s) (lt-ltb i further less) at
 
@@ -54,11 +54,11 @@ pub next_word : (v s r : Walk) (k : Kind) (here before next last on : Place) (fu
 next_word v s r k here before next last on further i found at less step later event uncounted goes stays ends =
     stepped v s r k here (behind further (i + 1) next last) (behind further (i + 1) next on) found (at_word v s here before further i at less) step later event uncounted goes (settles_either (nat_lt (i + 1) further) next next last on stays ends)
 
--- where none is left
+-- if none is left
 pub past_words : (v s : Walk) (here on : Place) (further i : ℕ) → Serves v (behind further i here on) 0 s → further ≤ i → Serves v on 0 s
 past_words v s here on further i at none = subst (λ (b : Bool). Serves v (cond b here on) 0 s) (le-ltb i further none) at
 
--- a step of a service stands behind a choice between two of them as a choice between two places
+-- a step of a service with a choice between two of them is one with a choice between two places
 pub behind_in : {S : Type 0} (in_service : S → Place) (further i : ℕ) (next on : S) (z : Stand) → ◌≡◌ {A = Stand} (record z { place = in_service (behind further i next on) }) (record z { place = behind further i (in_service next) (in_service on) })
 behind_in {S = S} in_service further i next on z = either (nat_lt i further)
   where
@@ -66,7 +66,7 @@ behind_in {S = S} in_service further i next on z = either (nat_lt i further)
     either true = refl
     either false = refl
 
--- A pass writes the words of a body, each in one step: where it stands before each word, and where behind the last one.
+-- A pass writes the words of a body, each in one step: its place before each word, and after the last one.
 pub record GoesOver (v : Walk) (k : Kind) (here : ℕ → Place) (on : Place) (further : ℕ) : Type 0 where
   pub event : (i : ℕ) → event_at (here i) ≡ Event.Did k
   pub uncounted : IsUncounted k

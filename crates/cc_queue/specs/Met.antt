@@ -1,4 +1,4 @@
--- What passes know that have met.
+-- The knowledge of passes that have met.
 use Rattle.std.specs.Prelude.{◌≡◌, ℕ, ◌<◌, List, [], length, slice_index_or}
 use Rattle.std.specs.List.{All}
 use Rattle.cc_queue.specs.Names.{Move}
@@ -24,7 +24,7 @@ pub record Sees (v w : Walk) : Type 0 where
   pub onward : Onward v.seen w.seen
   pub sound : IsSound w
 
--- A pass has seen more, and did nothing. All that it has seen stands in one history.
+-- A pass has seen more, and did nothing. All that it has seen is one history.
 pub record HasMet (v w : Walk) : Type 0 where
   pub stands : StandsInOne v [] w
   pub same : w ≡ record v { seen = w.seen }
@@ -33,14 +33,14 @@ pub record HasMet (v w : Walk) : Type 0 where
 abbrev pub EachHasMet : List Walk → List Walk → Type 0
 EachHasMet old new = (k : ℕ) (d : Walk) → k < length old → HasMet (slice_index_or old k d) (slice_index_or new k d)
 
--- a pass of this queue may meet each of the others in turn: it stands still, and all are of one queue
+-- a pass of this queue may meet each of the others in turn: it doesn't move, and all are of one queue
 pub record MayMeet (z : Topic) (v : Walk) (passes : List Walk) : Type 0 where
   pub here : IsOf z v
   pub still : HasStopped v
   pub others : All (λ w. IsOfOne v w) passes
 
--- a pass that met each of the others in turn: it has seen all that any of them has; and where it had seen that before,
--- it has seen no more now, and all have seen the same
+-- a pass that met each of the others in turn: it has seen all that any of them has; and if it had seen that before, it
+-- has seen no more now, and all have seen the same
 pub record Swept (v w : Walk) (old new : List Walk) : Type 0 where
   pub first : HasMet v w
   pub others : EachHasMet old new

@@ -1,4 +1,4 @@
--- What holds of every pass, idle or with a pending call.
+-- The facts of every pass, idle or with a pending call.
 use Rattle.std.specs.Arc.{arc_value}
 use Rattle.std.specs.Prelude.{◌≡◌, ◌<◌, ◌≤◌, List, [], ◌∷◌, ◌++◌, Ok}
 use Rattle.cc_model.specs.Config.{config_fault}
@@ -14,7 +14,7 @@ pub record KeepsQueue (z : Topic) (c : Config) : Type 0 where
   pub checked : config_fault c ≡ Ok tt
   pub bound : 0 < c.bound
 
--- The sender of this seat stands here. The seat is one of its queue's words.
+-- This is the sender of this seat. The seat is one of its queue's words.
 pub record KeepsSender (s : SenderSeat) (at : Place) : Type 0 where
   pub here : IsOf (arc_value s.words) s.seat
   pub list : s.seat.setting.served ≡ Served.List
@@ -26,7 +26,7 @@ pub record KeepsSender (s : SenderSeat) (at : Place) : Type 0 where
   pub low : 1 ≤ s.number
   pub high : s.number ≤ 64
 
--- The receiver of this seat stands here.
+-- This is the receiver of this seat.
 pub record KeepsReceiver (r : ReceiverSeat) (at : Place) : Type 0 where
   pub here : IsOf (arc_value r.words) r.seat
   pub list : r.seat.setting.served ≡ Served.List
@@ -35,13 +35,13 @@ pub record KeepsReceiver (r : ReceiverSeat) (at : Place) : Type 0 where
   pub stand : r.seat.stand ≡ record { begun = 0; node = r.node; place = at }
   pub named : name r.seat ≡ Pass.Receiver r.number
 
--- a pass can be given up where it has no call, and where its call waits
+-- a pass can be abandoned if it has no call, and if its call waits
 abbrev pub IsStill : Place → Type 0
 IsStill Place.Idle = Unit {0}
 IsStill Place.ReadState = Unit {0}
 IsStill _ = ⊥
 
--- a pass of a list that stands so
+-- a pass of a list that is so
 pub record HasStopped (w : Walk) : Type 0 where
   pub list : w.setting.served ≡ Served.List
   pub still : IsStill w.stand.place

@@ -10,7 +10,7 @@ use Rattle.cc_steps.specs.Topic.{Topic}
 use Rattle.cc_steps.specs.Walk.{Walk, IsOf}
 use Rattle.cc_queue.specs.Headline.{StandsInOne, name, history}
 
--- these are the passes of a queue from the first on, so many, in the order of its row
+-- these are the passes of a queue from the first on, this many, in the order of its row
 pub record AreInRow (z : Topic) (first count : ℕ) (ws : List Walk) : Type 0 where
   pub count_is : length ws ≡ count
   pub are : All (IsOf z) ws
@@ -72,7 +72,7 @@ abbrev pub receipts_by : {X : Type 0} → (Entry × Option Answer → List X) �
 receipts_by receipts [] = []
 receipts_by receipts (w ∷ ws) = receipts_in receipts (calls_of (name w) (history w)) ++ receipts_by receipts ws
 
--- of the calls of a pass that was given up here: those whose answers it was told, which are all but one that it left waiting
+-- of the calls of a pass that was abandoned here: those whose answers it got, which are all but one that it left waiting
 abbrev pub told_of : Place → List (Entry × Option Answer) → List (Entry × Option Answer)
 told_of Place.Idle calls = calls
 told_of _ calls = take (length calls - 1) calls
@@ -82,7 +82,7 @@ abbrev pub left_of : Place → List (Entry × Option Answer) → List (Entry × 
 left_of Place.Idle calls = []
 left_of _ calls = drop (length calls - 1) calls
 
--- the same of a pass at the end, in a history: a live one was told all its answers
+-- the same of a pass at the end, in a history: a live one got all its answers
 abbrev pub told_in : Record → Last → List (Entry × Option Answer)
 told_in h (Live w) = calls_of (name w) h
 told_in h (Gone w) = told_of w.stand.place (calls_of (name w) h)
@@ -91,7 +91,7 @@ abbrev pub left_in : Record → Last → List (Entry × Option Answer)
 left_in h (Live w) = []
 left_in h (Gone w) = left_of w.stand.place (calls_of (name w) h)
 
--- the receipts that these passes hold: of the calls whose answers they were told
+-- the receipts that these passes hold: of the calls whose answers they got
 abbrev pub receipts_told : {X : Type 0} → (Entry × Option Answer → List X) → List Last → List X
 receipts_told receipts [] = []
 receipts_told receipts (p ∷ ps) = receipts_in receipts (told_in (history (walk_at p)) p) ++ receipts_told receipts ps
@@ -101,26 +101,25 @@ abbrev pub receipts_left : {X : Type 0} → (Entry × Option Answer → List X) 
 receipts_left receipts [] = []
 receipts_left receipts (p ∷ ps) = receipts_in receipts (left_in (history (walk_at p)) p) ++ receipts_left receipts ps
 
--- the total of the close that is answered Shut in the history, or none, as where nobody was told it
+-- the total of the close that returned Shut in the history, or none, as if nobody got it
 abbrev pub IsTotal : Record → Option ℕ → Type 0
 IsTotal h None = Unit {0}
 IsTotal h (Some total) = total_of h ≡ Some total
 
--- The history has of a pass just the calls that it made, and each whose answer it was told has its answer.
+-- The history has of a pass exactly the calls that it made, and each whose answer it got has its answer.
 pub record HasJustItsCalls (h : Record) (p : Last) : Type 0 where
   pub made : map (λ z. z.0) (calls_of (name (walk_at p)) h) ≡ (walk_at p).made
   pub answered : AllByRecursion HasAnswer (told_in h p)
 
--- The history is that of these passes: each call is of one of them, and of each of them it has just those that it made. Each
--- has its answer, but for those that were left waiting, of each pass that was given up at most the last one.
+-- The history is that of these passes: each call is of one of them, and of each of them it has exactly those that it made.
+-- Each has its answer, but for those that were left waiting, of each abandoned pass at most the last one.
 pub record HasJustCallsOf (row : Row) (h : Record) : Type 0 where
   pub sends : All (λ e. Any (λ w. e.pass ≡ name w) (map walk_at row.senders)) h.sends.calls
   pub takes : (g : ℕ) → All (λ e. Any (λ w. e.pass ≡ name w) (map walk_at row.receivers)) (of_group h g).calls
   pub of_senders : All (HasJustItsCalls h) row.senders
   pub of_receivers : All (HasJustItsCalls h) row.receivers
 
--- A pass was given up here: all that it has seen stands in one history, in which each call whose answer it was told has its
--- answer.
+-- A pass was abandoned here: all that it has seen is one history, in which each call whose answer it got has its answer.
 pub record HasEnded (w : Walk) : Type 0 where
   pub stands : StandsInOne w [] w
   pub answered : AllByRecursion HasAnswer (told_of w.stand.place (calls_of (name w) (history w)))

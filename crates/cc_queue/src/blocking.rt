@@ -83,8 +83,8 @@ fn await_take<R: Wait>(queue: &Queue, rt: &R, pending: PendingTake) -> (Receiver
     unreachable!()
 }
 
-/// Sends this body, and waits for the answer; it doesn't try again where the queue was full. Err hands the sender back
-/// unchanged, where it has begun as many sends as one sender may.
+/// Sends this body, and waits for the answer; it doesn't try again if the queue was full. Err hands the sender back
+/// unchanged, if it has begun as many sends as one sender may.
 #[inline(always)]
 pub fn send<R: Wait>(
     queue: &Queue,
@@ -148,9 +148,9 @@ pub fn take_until<R: Wait>(queue: &Queue, rt: &R, receiver: Receiver) -> (Receiv
     unreachable!()
 }
 
-/// Sends this body, again where the queue was full, until it is accepted, or told that none will be: the queue is closed, or
-/// has had all its items. Err hands the sender back where it has begun as many sends as one sender may, each of which since
-/// this call was told that the queue is full; and unchanged where it had begun so many before.
+/// Sends this body, again if the queue was full, until it is accepted, or never will be: the queue is closed, or has had all
+/// its items. Err hands the sender back if it has begun as many sends as one sender may, each of which since this call found
+/// the queue full; and unchanged if it had begun that many before.
 #[inline(always)]
 pub fn send_until<R: Wait>(
     queue: &Queue,

@@ -1,4 +1,4 @@
-//! The words of a body, one after another: the first one, and those behind it that the tag tells of.
+//! The words of a body, one after another: the first one, and the further ones that the tag counts.
 ghost use Rattle.std.specs.Prelude.{◌≡◌};
 ghost use Rattle.cc_queue.specs.Names.{Answer, TakeAnswer, Chain, Place, Sending, Taking};
 ghost use Rattle.cc_runs.specs.Codes as codes;
@@ -74,7 +74,7 @@ pub fn write_item(words: &Words, seat: &mut PassSeat, job: Job, parcel: Parcel, 
     }
 }
 
-/// A group's combiner reads the body of the item behind the dummy. `job` and `dummy` are here for the clauses alone.
+/// A group's combiner reads the body of the item after the dummy. `job` and `dummy` are here for the clauses alone.
 #[inline(always)]
 pub fn read_item(
     words: &Words,

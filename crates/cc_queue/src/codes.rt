@@ -1,4 +1,4 @@
-//! What a turn reads of its answer word, narrowed to its side.
+//! The value that a turn reads in its answer word, narrowed to its side.
 ghost use Rattle.std.specs.Prelude.{◌≡◌};
 ghost use Rattle.cc_queue.specs.Names.{Answer};
 ghost use Rattle.cc_runs.specs.Codes.{list_reads};

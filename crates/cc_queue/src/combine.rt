@@ -25,7 +25,7 @@ fn serve(words: &Words, seat: &mut PassSeat, config: &Config, chain: Chain, job:
     }
 }
 
-/// Serves requests from the own node on, at most `bound` of them, and hands over where it stops. Gives how many.
+/// Serves requests from the own node on, at most `bound` of them, and hands over at the end. Returns how many.
 #[inline(always)]
 pub fn combine(words: &Words, seat: &mut PassSeat, config: &Config, chain: Chain, node: u64) -> u32
     requires here { IsServing words.now config.now chain seat.old }

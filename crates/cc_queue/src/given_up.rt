@@ -39,8 +39,8 @@ impl GivenUp {
         self.pass
     }
 
-    /// All that the pass has seen stands in one history, in which each call whose answer it was told has its answer: a fact
-    /// for proofs, and no work.
+    /// All that the pass has seen is one history, in which each call whose answer it got has its answer: a fact for proofs,
+    /// and no work.
     pub fn is_sound(&self)
         ensures { HasEnded self.now }
     {

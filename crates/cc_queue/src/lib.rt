@@ -2,11 +2,11 @@
 //! chain in place of each lock (CC-Synch and CC-Queue, Fatourou and Kallimanis, PPoPP 2012).
 //!
 //! `Queue::open` gives the queue with all its senders and receivers, the passes. A pass is a value that its owner moves
-//! into a call and gets back with the answer. A call is begun, and then it is asked for its answer in turns; where a
-//! pass finds itself first in its chain, its turn serves others' calls too. None of these calls takes memory or waits;
-//! the audit after all of them (`audit_all`) takes memory for the receipts.
+//! into a call and gets back with the answer. A call is begun, and then it is asked for its answer in turns; if a pass
+//! finds itself first in its chain, its turn serves others' calls too. None of these calls takes memory or waits; the
+//! audit after all of them (`audit_all`) takes memory for the receipts.
 //!
-//! What every answer stands in is said in `specs/Headline.antt`, and what each call tells in `specs/Calls.antt`.
+//! `specs/Headline.antt` says to which history every answer belongs, and `specs/Calls.antt` what each call returns.
 #![tactic(auto)]
 
 mod begins;

@@ -70,7 +70,7 @@ pub fn again(queue: &Queue, note: &mut Note) -> Note
 }
 
 /// Takes, and waits for the answer, once the receiver has heeded the note. Empty says that the group was handed, before that
-/// answer, all items that had been accepted when the note was made; and it is no answer where the queue was closed then.
+/// answer, all items that had been accepted when the note was made; and it is no answer if the queue was closed then.
 #[tactic(auto, using(crate::proofs::Heeded::completed_after))]
 pub fn take_after<R: Wait>(
     queue: &Queue,
@@ -88,7 +88,7 @@ pub fn take_after<R: Wait>(
 }
 
 /// Sends this body, and waits for the answer, once the sender has heeded the note. Full says that before that answer at least
-/// `capacity` items were accepted beyond those that every group had been handed when the note was made; where the queue was closed
+/// `capacity` items were accepted beyond those that every group had been handed when the note was made; if the queue was closed
 /// then, Closed is the only answer.
 ///
 /// # Errors
@@ -114,7 +114,7 @@ pub fn send_after<R: Wait>(
     send(queue, rt, sender, body)
 }
 
-/// What a pass has heeded it has seen still, whatever it did since.
+/// A pass has still seen all that it heeded, whatever it did since.
 #[tactic(auto, using(crate::proofs::Heeded::heeded_stays))]
 pub fn heeded_stays()
     ensures { HeededStays }

@@ -52,7 +52,7 @@ impl Model for Sender {
     ghost invariant = { λ s. KeepsSender s.at Place.Idle };
 }
 
-/// A sender whose send is pending. It must be spent, by a turn or by `abandon`.
+/// A sender whose send is pending. It must be used up, by a turn or by `abandon`.
 pub struct PendingSend {
     pub(crate) at: SenderSeat,
 }
@@ -69,7 +69,7 @@ impl Model for PendingSend {
     ghost invariant = { λ s. KeepsSender s.at Place.ReadState × MadeLast IsSend s.at.seat.made };
 }
 
-/// A sender whose close is pending. It must be spent, by a turn or by `abandon`.
+/// A sender whose close is pending. It must be used up, by a turn or by `abandon`.
 pub struct PendingClose {
     pub(crate) at: SenderSeat,
 }
@@ -104,7 +104,7 @@ impl Model for Receiver {
     ghost invariant = { λ r. KeepsReceiver r.at Place.Idle };
 }
 
-/// A receiver whose take is pending. It must be spent, by a turn or by `abandon`.
+/// A receiver whose take is pending. It must be used up, by a turn or by `abandon`.
 pub struct PendingTake {
     pub(crate) at: ReceiverSeat,
 }
@@ -121,8 +121,8 @@ impl Model for PendingTake {
     ghost invariant = { λ r. KeepsReceiver r.at Place.ReadState };
 }
 
-/// What a turn of a send answers. `served` is how many requests this turn served: 0 where another pass had served the
-/// call, else from 1 to `bound`.
+/// The result of a turn of a send. `served` is how many requests this turn served: 0 if another pass had served the call,
+/// else from 1 to `bound`.
 pub enum SendTurn {
     /// The call waits still.
     Waiting(PendingSend),
@@ -133,7 +133,7 @@ pub enum SendTurn {
     },
 }
 
-/// What a turn of a close answers, with `served` as of a send.
+/// The result of a turn of a close, with `served` as of a send.
 pub enum CloseTurn {
     /// The call waits still.
     Waiting(PendingClose),
@@ -144,7 +144,7 @@ pub enum CloseTurn {
     },
 }
 
-/// What a turn of a take answers, with `served` as of a send.
+/// The result of a turn of a take, with `served` as of a send.
 pub enum TakeTurn {
     /// The call waits still.
     Waiting(PendingTake),
@@ -171,8 +171,8 @@ impl Sender {
         self.at.begun
     }
 
-    /// All that the sender has seen stands in one history, in which each of its calls has its answer: a fact for proofs,
-    /// and no work.
+    /// All that the sender has seen is one history, in which each of its calls has its answer: a fact for proofs, and no
+    /// work.
     pub fn is_sound(&self)
         ensures met { HasMet self.now self.now }
         ensures rest { IsAtRest self.now }
@@ -182,8 +182,8 @@ impl Sender {
 }
 
 impl Receiver {
-    /// All that the receiver has seen stands in one history, in which each of its calls has its answer: a fact for proofs,
-    /// and no work.
+    /// All that the receiver has seen is one history, in which each of its calls has its answer: a fact for proofs, and no
+    /// work.
     pub fn is_sound(&self)
         ensures met { HasMet self.now self.now }
         ensures rest { IsAtRest self.now }
@@ -193,7 +193,7 @@ impl Receiver {
 }
 
 impl PendingSend {
-    /// All that the sender has seen stands in one history.
+    /// All that the sender has seen is one history.
     pub(crate) fn is_sound(&self)
         ensures { StandsInOne self.now [] self.now }
     {
@@ -202,7 +202,7 @@ impl PendingSend {
 }
 
 impl PendingClose {
-    /// All that the sender has seen stands in one history.
+    /// All that the sender has seen is one history.
     pub(crate) fn is_sound(&self)
         ensures { StandsInOne self.now [] self.now }
     {
@@ -211,7 +211,7 @@ impl PendingClose {
 }
 
 impl PendingTake {
-    /// All that the receiver has seen stands in one history.
+    /// All that the receiver has seen is one history.
     pub(crate) fn is_sound(&self)
         ensures { StandsInOne self.now [] self.now }
     {

@@ -66,7 +66,7 @@ fn sender_on(words: Arc<Words, Global>, seat: PassSeat, config: &Config, row: u3
     }
 }
 
-/// A receiver on the seat of its pass, which stands behind all senders in the row of passes.
+/// A receiver on the seat of its pass, which comes after all senders in the row of passes.
 fn receiver_on(words: Arc<Words, Global>, seat: PassSeat, config: &Config, place: u32) -> Receiver
     requires setting { (arc_value words).setting ≡ record { served = Served.List; config = config.now } }
     requires checked { config_fault config.now ≡ Ok tt }

@@ -42,11 +42,11 @@ fn all_given_up_stand(given_up: &[GivenUp])
 }
 
 /// The audit of all receipts of a queue: those of its senders, those of the receivers of one group, each in any order, and the
-/// total of a close, if one was told it. All passes of the queue have met, live ones and those that were given up, in the order
-/// of its row (`passes`). The history that they have seen is made of their calls, each with its answer, but for at most one that
-/// each pass that was given up left waiting. Beside the receipts that are given there are those of calls that were left
-/// waiting and served all the same: nobody holds them. With these the verdict is Clean. So it is Clean where there are none.
-/// `group` is what `Receiver::group` tells. It takes memory in proportion to the receipts.
+/// total of a close, if one returned it. All passes of the queue have met, live ones and abandoned ones, in the order of its
+/// row (`passes`). The history that they have seen is made of their calls, each with its answer, but for at most one that each
+/// abandoned pass left waiting. In addition to the receipts that are given there are those of calls that were left waiting and
+/// served all the same: nobody holds them. With these the verdict is Clean. So it is Clean if there are none. `group` is what
+/// `Receiver::group` returns. It takes memory in proportion to the receipts.
 pub fn audit_all(
     alloc: Global,
     queue: &Queue,

@@ -21,8 +21,8 @@ pub fn begin_take(queue: &Queue, receiver: Receiver) -> PendingTake
     PendingTake { at }
 }
 
-/// One turn of a take: reads the state once. Where it is 1 the call waits; where it is 0 this pass serves its own call
-/// and others', at most `bound` of them; and then the answer is read.
+/// One turn of a take: reads the state once. If it is 1 the call waits; if it is 0 this pass serves its own call and
+/// others', at most `bound` of them; and then the answer is read.
 #[inline(always)]
 pub fn turn_take(queue: &Queue, pending: PendingTake) -> TakeTurn
     requires { IsOf queue.now pending }

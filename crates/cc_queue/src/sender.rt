@@ -12,7 +12,7 @@ use crate::turns::turn_request;
 use cc_model::{Body, Call};
 use cc_runs::{BodyWords, Request, packed, words_in};
 
-/// Begins a send of this body. Err hands the sender back unchanged, where it has begun as many sends as one sender may.
+/// Begins a send of this body. Err hands the sender back unchanged, if it has begun as many sends as one sender may.
 #[inline(always)]
 pub fn begin_send(queue: &Queue, sender: Sender, body: Body) -> Result<PendingSend, Sender>
     requires { IsOf queue.now sender }
@@ -56,8 +56,8 @@ pub fn begin_close(queue: &Queue, sender: Sender) -> PendingClose
     PendingClose { at }
 }
 
-/// One turn of a send: reads the state once. Where it is 1 the call waits; where it is 0 this pass serves its own call
-/// and others', at most `bound` of them; and then the answer is read.
+/// One turn of a send: reads the state once. If it is 1 the call waits; if it is 0 this pass serves its own call and
+/// others', at most `bound` of them; and then the answer is read.
 #[inline(always)]
 pub fn turn_send(queue: &Queue, pending: PendingSend) -> SendTurn
     requires { IsOf queue.now pending }

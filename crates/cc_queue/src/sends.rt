@@ -12,7 +12,7 @@ use cc_steps::seats::PassSeat;
 use cc_steps::steps;
 use cc_steps::words::Words;
 
-/// Serves one request up to its mark: reads it, and tells why not where the queue is closed.
+/// Serves one request up to its mark: reads it, and decides why not if the queue is closed.
 pub fn serve_request(words: &Words, seat: &mut PassSeat, config: &Config, job: Job)
     requires here { IsServing words.now config.now Chain.Send seat.old }
     requires at { seat.old.stand.place ≡ Place.Sending job Sending.ReadTag }
@@ -29,8 +29,8 @@ pub fn serve_request(words: &Words, seat: &mut PassSeat, config: &Config, job: J
     serve_open(words, seat, config, job, request);
 }
 
-/// Serves a request of a queue that isn't closed: closes the list, or looks for a free node, or tells that `life` items were
-/// accepted.
+/// Serves a request of a queue that isn't closed: closes the list, or looks for a free node, or decides that `life` items
+/// were accepted.
 #[inline(always)]
 fn serve_open(words: &Words, seat: &mut PassSeat, config: &Config, job: Job, request: Request)
     requires here { IsServing words.now config.now Chain.Send seat.old }
@@ -74,7 +74,7 @@ fn refuse_after_close(words: &Words, seat: &mut PassSeat, job: Job, tag: u64)
     tell(words, seat, Chain::Send, job, answer);
 }
 
-/// Closes: links the reserved node behind the last one, and sets `shut`.
+/// Closes: links the reserved node after the last one, and sets `shut`.
 fn link_mark(words: &Words, seat: &mut PassSeat, config: &Config, job: Job, total: u64)
     requires here { IsServing words.now config.now Chain.Send seat.old }
     requires at { seat.old.stand.place ≡ Place.Sending job (Sending.ReadLastToClose total) }
@@ -89,7 +89,7 @@ fn link_mark(words: &Words, seat: &mut PassSeat, config: &Config, job: Job, tota
     tell(words, seat, Chain::Send, job, answer);
 }
 
-/// Appends the item in the first free node from the cursor on, or tells that the queue is full.
+/// Appends the item in the first free node from the cursor on, or decides that the queue is full.
 fn scan(words: &Words, seat: &mut PassSeat, config: &Config, job: Job, parcel: Parcel)
     requires here { IsServing words.now config.now Chain.Send seat.old }
     requires at { seat.old.stand.place ≡ Place.Sending job (Sending.ReadCursor parcel) }
@@ -154,7 +154,7 @@ fn prepare(words: &Words, seat: &mut PassSeat, config: &Config, job: Job, parcel
     append(words, seat, config, job, parcel.place, node);
 }
 
-/// Links the prepared node behind the last one: here the item is accepted.
+/// Links the prepared node after the last one: here the item is accepted.
 #[inline(always)]
 fn append(words: &Words, seat: &mut PassSeat, config: &Config, job: Job, count: u64, node: u64)
     requires here { IsServing words.now config.now Chain.Send seat.old }

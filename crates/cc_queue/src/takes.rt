@@ -12,7 +12,7 @@ use cc_steps::seats::PassSeat;
 use cc_steps::steps;
 use cc_steps::words::Words;
 
-/// Serves one take up to its mark: reads the dummy's next and the item there, or tells that there is none.
+/// Serves one take up to its mark: reads the dummy's next and the item there, or decides that there is none.
 pub fn serve_take(words: &Words, seat: &mut PassSeat, group: u32, job: Job)
     requires here { IsOnList words.now (Chain.Take group) seat.old }
     requires at { seat.old.stand.place ≡ Place.Taking job Taking.ReadHead }
@@ -29,7 +29,7 @@ pub fn serve_take(words: &Words, seat: &mut PassSeat, group: u32, job: Job)
     take_item(words, seat, group, job, dummy, taken, next - 1);
 }
 
-/// Reads the item of the node behind the dummy and hands it out, or tells the end where that node is the close mark.
+/// Reads the item of the node after the dummy and hands it out, or decides the end if that node is the close mark.
 fn take_item(
     words: &Words,
     seat: &mut PassSeat,
@@ -54,7 +54,7 @@ fn take_item(
     hand_out(words, seat, group, job, dummy, node, parcel);
 }
 
-/// Makes the item's node the new dummy, frees the old one, and tells the item.
+/// Makes the item's node the new dummy, frees the old one, and decides the item.
 fn hand_out(
     words: &Words,
     seat: &mut PassSeat,

@@ -13,8 +13,8 @@ use cc_steps::seats::PassSeat;
 use cc_steps::steps;
 use cc_steps::words::Words;
 
-/// Reads the state of the current node once. Where it is 1 the call waits; where it is 0 the pass combines; and then
-/// its answer may be read, and this is how many calls it served.
+/// Reads the state of the current node once. If it is 1 the call waits; if it is 0 the pass combines; and then its
+/// answer may be read, and this is how many calls it served.
 #[inline(always)]
 pub fn await_answer(
     words: &Words,
@@ -102,7 +102,7 @@ pub fn read_take_answer(words: &Words, seat: &mut PassSeat, group: u32, node: u6
     }
 }
 
-/// A turn of a send or a close: its answer word, and how many calls were served, where it doesn't wait.
+/// A turn of a send or a close: its answer word, and how many calls were served, if it doesn't wait.
 #[inline(always)]
 pub fn turn_request(
     words: &Words,
@@ -122,7 +122,7 @@ pub fn turn_request(
     Some((read_request_answer(words, seat, node), served))
 }
 
-/// A turn of a take: its answer, and how many calls were served, where it doesn't wait.
+/// A turn of a take: its answer, and how many calls were served, if it doesn't wait.
 #[inline(always)]
 pub fn turn_take(
     words: &Words,

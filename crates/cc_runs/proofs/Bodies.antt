@@ -5,7 +5,7 @@ use Rattle.cc_model.proofs.Bodies.{few_words, of_its_words}
 use Rattle.cc_runs.specs.Names.{Body, BodyWords, Parcel}
 use Rattle.cc_runs.specs.Codes.{word, further_words, item_in, tag_of, body_words, packed, tag_sender, tag_number, slots, words_in, body_in}
 
--- at most three words stand behind the first
+-- at most three words come after the first
 pub few_behind : (b : Body) → IsBody b → further_of b ≤ 3
 few_behind b whole = omega (arith, (few_words b whole).1)
 
@@ -33,7 +33,7 @@ body_same (suc (suc zero)) v w few same = λ i. body_in 2 (record { first = same
 body_same (suc (suc (suc zero))) v w few same = λ i. body_in 3 (record { first = same 0 (omega arith) i; second = same 1 (omega arith) i; third = same 2 (omega arith) i; fourth = same 3 (omega arith) i })
 body_same (suc (suc (suc (suc n)))) v w few same = absurd (omega (arith, few))
 
--- ---- what a tag tells
+-- ---- the number of words that a tag has
 
 by_parts : (n s number : ℕ) → n ≤ 3 → number < 2 ^ 32 → (n * 2 ^ 48 + (s % 2 ^ 16 * 2 ^ 32 + number)) / 2 ^ 48 % 4 ≡ n
 by_parts n s number few less = omega (arith, few, less)
@@ -52,7 +52,7 @@ body_told s number b less whole = ap (λ (n : ℕ). body_in n (words_in b)) (fur
 
 -- ---- an item that was made of words
 
--- it has as many as the tag tells
+-- it has as many as the tag says
 further_in : (n : ℕ) (words : BodyWords) → n ≤ 3 → further_of (body_in n words) ≡ n
 further_in (suc (suc (suc (suc n)))) words few = absurd (omega (arith, few))
 further_in _ words few = refl
@@ -71,7 +71,7 @@ of_three_parts tag further is = omega (arith, is)
 pub few_further : (tag : ℕ) → further_words tag ≤ 3
 few_further tag = omega arith
 
--- its tag is the one that it was made of, as far as that tells something
+-- its tag is the one that it was made of, as far as that says something
 pub tag_cut : (p : Parcel) → tag_of (item_in p) ≡ p.tag % 2 ^ 50
 tag_cut p = of_three_parts p.tag _ (further_in (further_words p.tag) p.body (few_further p.tag))
 

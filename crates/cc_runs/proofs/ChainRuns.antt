@@ -1,4 +1,4 @@
--- The chains over every run: what a call is told, and that each step can be done.
+-- The chains over every run: the answer that a call gets, and that each step can be done.
 use Rattle.std.proofs.Common.{◌≡◌, ℕ, ◌^◌, ◌<◌, refl, ap, sym, ◌∙◌, subst, arith, Some, List, [], ◌∷◌, ◌++◌, length, Ok, inl, inr, false}
 use Rattle.std.proofs.lemmas.Bool.{cases_lt}
 use Rattle.std.proofs.lemmas.List.{length-replicate, length-set, get_or_past}
@@ -68,7 +68,7 @@ sides_are c (Move.Step p ∷ earlier) = with_length (chain_of c.config p) (reach
 pub not_other : (c : Setting) → 0 < c.config.bound → (moves : List Move) → IsRun c moves → (x : Chain) → NotOther c x (reached c moves).history
 not_other c some moves run x = not_other_by c (reached c moves) (chains_hold c some moves run) c.served refl (λ e. silent_takes c e moves run) (sides_are c moves) x
 
--- what a call that is finished was told
+-- the answer that a finished call got
 pub has_told : (c : Setting) → 0 < c.config.bound → (moves : List Move) → IsRun c moves → (p : ℕ) → p < passes c → (told : Answer) → ((reached c moves).stand p).place ≡ Place.Finished told →
     HasTold c (chain_of c.config p) (reached c moves).history (pass_at c.config p) told
 has_told c some moves run p less told e =
@@ -96,7 +96,7 @@ calls_wait c checked moves run p less entering =
     let ends = open_on c (chain_of c.config p) (reached c moves) (k.holds (chain_of c.config p) (chain_is c p less)) (not_other c r.bound.0 moves run (chain_of c.config p)) on.number on.inside rank in
     subst (λ (z : ℕ). IsLastPending (pass_at c.config z) (reached c moves).history) (sym on.pass_is) record { before = ends.before; entry = _; last = ends.last }
 
--- a call is told its answer in the history, where the numbers of the answers fit their words
+-- a call gets its answer in the history, if the numbers of the answers fit their words
 pub last_answer : (c : Setting) → 0 < c.config.bound → (moves : List Move) → IsRun c moves → (p : ℕ) → p < passes c → (told : Answer) → ((reached c moves).stand p).place ≡ Place.Finished told →
     ((n : ℕ) → n < length (answers_on (chain_of c.config p) (reached c moves).history) → FitsIn c.served (answer_at (answers_on (chain_of c.config p) (reached c moves).history) n)) →
     IsLastAnswer (pass_at c.config p) (reached c moves).history told
@@ -128,7 +128,7 @@ counter_number c counter some moves run p less told e =
     let k : Counts c (reached c moves) = counter_holds c counter some moves run in
     (t.number, t.within, t.read ∙ reads_back c.served Chain.Send (answer_at (reached c moves).history.sends.answers t.number) t.sided (fits_counter c.served counter (answer_at (reached c moves).history.sends.answers t.number)) ∙ k.kth t.number t.within)
 
--- each step can be done, where the answers fit their words and each step of a service can be done
+-- each step can be done, if the answers fit their words and each step of a service can be done
 pub ready : (c : Setting) → config_fault c.config ≡ Ok tt → (moves : List Move) → IsRun c moves → (p : ℕ) → p < passes c →
     ((n : ℕ) → n < length (answers_on (chain_of c.config p) (reached c moves).history) → ret_of c.served (answer_at (answers_on (chain_of c.config p) (reached c moves).history) n) < 2 ^ 64) →
     (IsService ((reached c moves).stand p).place → IsStepSafe c (reached c moves) p) → IsReady c (reached c moves) p

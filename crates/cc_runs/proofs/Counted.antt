@@ -22,7 +22,7 @@ abbrev pub HasCount : ℕ → Place → Type 0
 HasCount n (Place.Counting job (Counting.WriteCount count)) = count ≡ n
 HasCount n _ = Unit {0}
 
--- where a step doesn't touch the counter, and comes neither from nor to a wait for the exchange
+-- if a step doesn't touch the counter, and comes neither from nor to a wait for the exchange
 pub record IsCalm (there : Place) : Type 0 where
   pub waits_not : before_exchange there ≡ 0
   pub counts_not : (n : ℕ) → HasCount n there

@@ -1,4 +1,5 @@
--- As a history goes on, there is no less to be known of it: a front of a run gives a pass no more to know than the run.
+-- As a history goes on, there is no less to be known of it: a prefix of a run gives a pass no more to know than the
+-- run.
 use Rattle.std.proofs.Common.{◌≡◌, ℕ, ◌+◌, ◌≤◌, Bool, true, false, ◌||◌, List, [], ◌∷◌, ◌++◌, length, map, get_or, suc, sym, ap, ◌∙◌, arith, length-append, if◌then◌else◌}
 use Rattle.std.specs.List.{list_any}
 use Rattle.std.proofs.lemmas.List.{length-map}

@@ -1,4 +1,4 @@
--- Where a step leads.
+-- The places after a step.
 use Rattle.std.proofs.Common.{ℕ, zero, suc, ◌+◌, Bool, true, false, ◌==◌, nat_lt, if◌then◌else◌}
 use Rattle.cc_runs.specs.Names.{Entry, Answer, TakeAnswer, Setting, Served, Chain, Round, Job, Place}
 use Rattle.cc_runs.specs.Codes.{code_of, parcel, no_words, with_read, tag_of, further_words}
@@ -8,7 +8,7 @@ use Rattle.cc_runs.specs.CountLines as count_side
 use Rattle.cc_runs.specs.SendLines as send_side
 use Rattle.cc_runs.specs.TakeLines as take_side
 
--- a step of a service: on in the service, or to the telling of an answer
+-- a step of a service: on in the service, or to the writing of an answer
 module _ {S : Type 0} (P : Place → Type 0) (in_service : Job → S → Place) (job : Job) (on : (service : S) → P (in_service job service)) (over : (told : Answer) → P (Place.WriteAnswer job told)) where
   pub leads : (next : Next S) → P (place_of in_service job next)
   leads (On service) = on service
@@ -16,7 +16,7 @@ module _ {S : Type 0} (P : Place → Type 0) (in_service : Job → S → Place) 
   leads (DecidesAndOn told service) = on service
   leads (Tells told) = over told
 
--- a place of a pass that has exchanged, or has no call; in a service where T holds
+-- a place of a pass that has exchanged, or has no call; in a service in which T holds
 abbrev pub IsAfter : Type 0 → Place → Type 0
 IsAfter T (Place.ResetNext call) = ⊥
 IsAfter T (Place.ResetState call) = ⊥

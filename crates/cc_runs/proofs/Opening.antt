@@ -1,4 +1,4 @@
--- What the stores of an opening leave.
+-- The state after the stores of an opening.
 use Rattle.std.proofs.Common.{if◌then◌else◌, ◌==◌, ◌≡◌, ℕ, ◌+◌, ◌<◌, nat_lt, refl, arith}
 use Rattle.cc_runs.specs.Names.{Config, Chain, ItemField, Object, Word}
 use Rattle.cc_runs.specs.Words.{groups, put}

@@ -25,7 +25,7 @@ next_word body words i value most is front j low = elim (cases_eq j i) [
   | inr ne ↦ word_other body i value j ne ∙ front j (omega arith)
 ]
 
--- an item is told by its place, its tag and its words
+-- an item is given by its place, its tag and its words
 pub one_item : (p : Parcel) {place tag : ℕ} (body : BodyWords) → p.place ≡ place → p.tag ≡ tag → ((j : ℕ) → j ≤ further_words p.tag → word p.body j ≡ word body j) → item_in p ≡ item_of place tag body
 one_item p {place} {tag} body place_is tag_is words =
     ap (λ (b : Body). by p.place p.tag b) (body_same (further_words p.tag) p.body body (few_further p.tag) words)
@@ -34,7 +34,7 @@ one_item p {place} {tag} body place_is tag_is words =
     by : ℕ → ℕ → Body → Item
     by place tag body = record { place = place; sender = tag_sender tag; number = tag_number tag; body = body }
 
--- what holds where the step at a word leads to the next one, and where it leads on
+-- the facts at the next word, and at the place after the last one
 pub behind_word : {A : Type 0} (P : A → Type 0) (further i : ℕ) (next on : A) → (i < further → P next) → (further ≤ i → P on) → P (behind further i next on)
 behind_word {A} P further i next on more last = by_case (nat_lt i further) refl
   where

@@ -1,4 +1,4 @@
--- A front of a run is a run, and its history begins the later one.
+-- A prefix of a run is a run, and its history begins the later one.
 use Rattle.std.proofs.Common.{◌≡◌, ℕ, ◌≤◌, length, slice_set, subst, arith, inl, inr, List, [], ◌∷◌, ◌++◌, Option, Some, None, refl, sym, ap, ◌∙◌, append_assoc, append-nil}
 use Rattle.std.proofs.lemmas.Bool.{cases_eq, cases_lt}
 use Rattle.std.proofs.lemmas.List.{length-set, get_or_past}
@@ -39,7 +39,7 @@ begins_more h l m a b = record {
 side_appended : (s : Side) (call : Option Entry) (told : Option Answer) → SideBegins s (record { calls = appended s.calls call; answers = appended s.answers told })
 side_appended s call told = record { calls = front_appended s.calls call; answers = front_appended s.answers told }
 
--- where there is no such group nothing changes
+-- if there is no such group nothing changes
 past : (h : Record) (y x : ℕ) (now : Side) → length h.takes ≤ y → of_group (with_takes h y now) x ≡ of_group h x
 past h y x now far = elim (cases_eq x y) [
   | inl is ↦ get_or_past (slice_set h.takes y now) x silent (omega (arith, is, far, length-set h.takes y now)) ∙ sym (get_or_past h.takes x silent (omega (arith, is, far)))

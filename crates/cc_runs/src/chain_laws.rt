@@ -17,7 +17,7 @@ pub fn laws_of_counters()
     ensures { CounterLawsOfRuns }
 {}
 
-/// The calls of every pass, after every run: the history has just those that the pass began and that have exchanged,
+/// The calls of every pass, after every run: the history has exactly those that the pass began and that have exchanged,
 /// each once and in the order of their begins, with what was handed in and known at the begin.
 #[tactic(auto, using(crate::proofs::CallsMade::calls_made))]
 pub fn laws_of_calls()
@@ -31,8 +31,8 @@ pub fn numbers_of_sends()
     ensures { NumbersOfSends }
 {}
 
-/// A call that has exchanged and whose pass stands before its link is pending, after every run: it is its pass's last
-/// call in the history, and has no answer there. A combiner reaches a call only over the link to the next node.
+/// A call that has exchanged and that its pass hasn't linked is pending, after every run: it is its pass's last call in
+/// the history, and has no answer there. A combiner reaches a call only over the link to the next node.
 #[tactic(auto, using(crate::proofs::ChainRuns::calls_wait))]
 pub fn calls_wait_for_their_link()
     ensures { CallsWaitForTheirLink }

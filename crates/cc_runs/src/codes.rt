@@ -12,7 +12,7 @@ use cc_model::{
 /// An answer word of the list is this times the code of the answer, and its number.
 pub const CODE: u64 = 1 << 56;
 
-/// How many words of its body a tag tells of beside the first: three at most.
+/// The number of words of its body that a tag counts after the first: three at most.
 #[inline(always)]
 pub fn further_words(tag: u64) -> u32
     ensures words { result ≡ codes.further_words tag }
@@ -62,7 +62,7 @@ impl BodyWords {
         }
     }
 
-    /// One word, and 0 behind it.
+    /// One word, and 0 after it.
     #[inline(always)]
     pub fn one(value: u64) -> BodyWords
         ensures { result ≡ codes.with_word codes.no_words 0 value }
@@ -87,7 +87,7 @@ impl BodyWords {
     }
 }
 
-/// How many words a body has beside the first.
+/// The number of words of a body after the first.
 #[inline(always)]
 fn further_of(body: Body) -> u32
     ensures words { result ≡ further_of body }
@@ -97,7 +97,7 @@ fn further_of(body: Body) -> u32
     body.words().len() as u32 - 1
 }
 
-/// The words of a body, and 0 behind them.
+/// The words of a body, and 0 after them.
 #[inline(always)]
 pub fn words_in(body: Body) -> BodyWords
     ensures { result ≡ codes.words_in body }
@@ -118,7 +118,7 @@ fn word_at(words: &[u64], index: usize) -> u64
     if index < words.len() { words[index] } else { 0 }
 }
 
-/// The body of the first of these words, and of so many behind it.
+/// The body of the first of these words, and of this number of further ones.
 #[inline(always)]
 pub fn body_in(further: u32, words: BodyWords) -> Body
     ensures { result ≡ codes.body_in further words }
@@ -154,7 +154,7 @@ pub fn item_of(place: u64, tag: u64, body: BodyWords) -> Item
     }
 }
 
-/// What the words that were read of an item tell.
+/// The item of the words that were read of it.
 impl Parcel {
     /// The tag of the item.
     #[inline(always)]
@@ -165,7 +165,7 @@ impl Parcel {
         self.tag % (1 << 50)
     }
 
-    /// How many words its body has beside the first.
+    /// The number of words of its body after the first.
     #[inline(always)]
     #[tactic(auto, using(crate::proofs::Bodies::further_same))]
     pub fn further_of_item(self) -> u32
@@ -254,7 +254,7 @@ pub fn ret_of(served: Served, answer: Answer) -> u64
     }
 }
 
-/// What a sender of the list reads in its answer word.
+/// The answer that a sender of the list reads in its answer word.
 pub fn list_reads(ret: u64) -> Answer
     ensures { result ≡ codes.list_reads ret }
 {
@@ -269,7 +269,7 @@ pub fn list_reads(ret: u64) -> Answer
     }
 }
 
-/// What a sender reads in its answer word, whatever is served.
+/// The answer that a sender reads in its answer word, whatever is served.
 pub fn sender_reads(served: Served, ret: u64) -> Answer
     ensures { result ≡ codes.sender_reads served ret }
 {

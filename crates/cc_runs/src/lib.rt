@@ -1,10 +1,10 @@
-//! The runs of the queue's machine: its words, where a pass stands, what each atomic step does, and the laws of every run.
+//! The runs of the queue's machine: its words, the place of a pass, what each atomic step does, and the laws of every run.
 //!
-//! A machine is one combining chain round a counter, or the queue, whose senders' and receivers' chains stand round one
+//! A machine is one combining chain round a counter, or the queue, with the senders' and the receivers' chains round one
 //! list. The chains are CC-Synch, and the queue is CC-Queue (Fatourou and Kallimanis, PPoPP 2012), which puts them into
 //! the two-lock list queue (Michael and Scott, PODC 1996). A run is any order of the begins, the steps and the takings of
-//! answers of all passes; no code here does one. What holds of all of them stands as the contracts of functions with
-//! empty bodies: on these laws the machine of one thread stands, and the queue that threads share.
+//! answers of all passes; no code here does one. The laws of all of them are the contracts of functions with empty bodies:
+//! the machine of one thread rests on these laws, and so does the queue that threads share.
 #![tactic(auto)]
 
 mod chain_laws;

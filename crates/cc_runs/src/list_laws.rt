@@ -1,12 +1,12 @@
 ghost use Rattle.cc_runs.specs.MachineLaws.{HistoryIsLegal, HistoryIsFifo, BusyNodesAreItems, PreparedNodeIsBusy, ResetAfterTheTake, PreparedAlone, LinksNameNodes, ScansAreShort, NumbersStayWithin, StepsAreReady, AnswersAreTold, FrontsBegin};
 
-/// After every run the history is lawful: each answer is one that its call may get, and the items handed out are those
+/// After every run the history is legal: each answer is one that its call may get, and the items handed out are those
 /// accepted, in their order, with at most `capacity` of them between.
 pub fn histories_are_legal()
     ensures { HistoryIsLegal }
 {}
 
-/// After every run the items handed out are a front of those accepted, each sender's among them in its own order, none
+/// After every run the items handed out are a prefix of those accepted, each sender's among them in its own order, none
 /// twice, and none is accepted after a close.
 pub fn histories_are_fifo()
     ensures { HistoryIsFifo }
@@ -19,7 +19,7 @@ pub fn busy_nodes_are_items()
     ensures { BusyNodesAreItems }
 {}
 
-/// While a node is in preparation, it is busy beside them.
+/// While a node is in preparation, it is busy in addition to them.
 #[tactic(auto, using(crate::proofs::ListRuns::Laws::prepared_node_is_busy))]
 pub fn prepared_node_is_busy()
     ensures { PreparedNodeIsBusy }
@@ -62,13 +62,13 @@ pub fn steps_are_ready()
     ensures { StepsAreReady }
 {}
 
-/// What a call has read as its answer, after any run, is the answer of its pass's last call in the history.
+/// The answer that a call has read, after any run, is the answer of its pass's last call in the history.
 #[tactic(auto, using(crate::proofs::ListRuns::Ready::list_answers_told))]
 pub fn answers_are_told()
     ensures { AnswersAreTold }
 {}
 
-/// A front of a run is a run, and its history begins that of the whole run: calls and answers are only added.
+/// A prefix of a run is a run, and its history begins that of the whole run: calls and answers are only added.
 pub fn fronts_of_runs_begin()
     ensures { FrontsBegin }
 {}

@@ -9,7 +9,7 @@ pub enum Kind {
     Exchange,
     /// A caller loads the state of its current node: 1 waiting, 2 done, 0 serve.
     ReadState,
-    /// A combiner stores 0, serve, into the state of the node where it stopped.
+    /// A combiner stores 0, serve, into the state of the node at which it stopped.
     HandOver,
     /// A combiner loads a word of the object that it serves.
     ReadObject,
@@ -47,14 +47,14 @@ pub enum Kind {
     AddPassed,
 }
 
-/// What an event did: a step of this kind, or nothing, since the pass has no running call or doesn't exist.
+/// The result of an event: a step of this kind, or nothing, since the pass has no running call or doesn't exist.
 #[derive(Clone, Copy, Debug, PartialEq, Eq)]
 pub enum Event {
     Did(Kind),
     Idle,
 }
 
-/// The words of a body: as many of the four are used as the tag beside them tells.
+/// The words of a body: as many of the four are used as the tag with them counts.
 #[derive(Clone, Copy)]
 pub struct BodyWords {
     pub first: u64,
@@ -63,7 +63,7 @@ pub struct BodyWords {
     pub fourth: u64,
 }
 
-/// What a sender asks for: the tag of a close is 0.
+/// The request of a sender: the tag of a close is 0.
 #[derive(Clone, Copy)]
 pub struct Request {
     pub tag: u64,
@@ -78,22 +78,22 @@ pub struct Parcel {
     pub body: BodyWords,
 }
 
-/// What a combiner keeps: the node to be served next, and how many it served.
+/// The registers of a combiner: the node to be served next, and how many it served.
 #[derive(Clone, Copy)]
 pub struct Round {
     pub at: u64,
     pub served: u32,
 }
 
-/// What a combiner keeps during a service: its round, and the node after the one that it serves.
+/// The registers of a combiner during a service: its round, and the node after the one that it serves.
 #[derive(Clone, Copy)]
 pub struct Job {
     pub round: Round,
     pub next: u64,
 }
 
-/// Where the combiner stands in the service of one request to the counter. The words of a request are read as those of
-/// a send are, and aren't used.
+/// The place of the combiner in the service of one request to the counter. The words of a request are read as those of a send
+/// are, and aren't used.
 #[derive(Clone, Copy)]
 pub enum Counting {
     ReadTag,
@@ -102,7 +102,7 @@ pub enum Counting {
     WriteCount { count: u64 },
 }
 
-/// Where the senders' combiner stands in the service of one request to the list.
+/// The place of the senders' combiner in the service of one request to the list.
 #[derive(Clone, Copy)]
 pub enum Sending {
     ReadTag,
@@ -178,7 +178,7 @@ pub enum Sending {
     },
 }
 
-/// Where a group's combiner stands in the service of one take.
+/// The place of a group's combiner in the service of one take.
 #[derive(Clone, Copy)]
 pub enum Taking {
     ReadHead,
@@ -215,7 +215,7 @@ pub enum Taking {
     },
 }
 
-/// Where a pass stands: the step that it does next, with what it keeps for later steps.
+/// The place of a pass: the step that it does next, with its registers for later steps.
 #[derive(Clone, Copy)]
 pub enum Place {
     Idle,

@@ -90,8 +90,8 @@ impl ItemField {
     }
 }
 
-/// The list node behind this one in a row of so many: behind the last comes the first. It divides only there, since a scan
-/// of the whole row asks it for each node.
+/// The list node after this one in a row of this length: after the last comes the first. It divides only there, since a
+/// scan of the whole row asks it for each node.
 #[inline(always)]
 pub fn node_after(node: u64, nodes: u64) -> u64
     requires some { 0 < nodes }

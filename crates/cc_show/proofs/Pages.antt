@@ -1,4 +1,4 @@
--- The page of a machine that stands where a plan's run leads.
+-- The page of a machine at the end of a plan's run.
 use Rattle.std.proofs.Common.{◌≡◌, ◌≤◌, List, length, ap, subst}
 use Rattle.cc_model.specs.Record.{Record}
 use Rattle.cc_model.specs.Legal.{Legal}

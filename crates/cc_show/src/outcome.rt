@@ -1,4 +1,4 @@
-//! What came of a plan, as it is told: the exit status, and the line on standard error.
+//! The report of an outcome of a plan: the exit status, and the line on standard error.
 ghost use Rattle.std.specs.Prelude.{◌≡◌, ◌<◌, ◌-◌, ◌^◌};
 ghost use Rattle.cc_play.specs.Outcome.{Told};
 ghost use Rattle.cc_show.specs.Show.{shown_line, shown_status};
@@ -8,7 +8,7 @@ use cc_audit::Verdict;
 use cc_device::Sink;
 use cc_play::{tell, told};
 
-/// Tells what went wrong, and answers the status: 5 where the run has too many events, and else that of a play.
+/// Reports what went wrong, and returns the status: 5 if the run has too many events, and else that of a play.
 #[tactic(auto, unfolding(crate::specs::Show::shown_line))]
 pub fn tell_shown<E: Sink>(errors: &mut E, outcome: Result<Verdict, ShowFault>) -> u8
     requires { E.write_failures errors.old < 2 ^ 64 - 1 }

@@ -1,6 +1,6 @@
 //! The fixed text of the page. It is written from page/page.html by tools/page_text.sh.
 
-/// What stands before the run.
+/// The text before the run.
 pub const FRONT: &[u8] = b"\
 <!DOCTYPE html>
 <html lang=\"en\">
@@ -185,12 +185,12 @@ branch. The address of this page with <code>#event=17</code> opens it after even
 </footer>
 <script type=\"text/plain\" id=\"run\">";
 
-/// What stands between the run and the report.
+/// The text between the run and the report.
 pub const MIDDLE: &[u8] = b"\
 </script>
 <script type=\"text/plain\" id=\"report\">";
 
-/// What stands behind the report.
+/// The text after the report.
 pub const BACK: &[u8] = b"\
 </script>
 <script id=\"machine\">

@@ -42,7 +42,7 @@ fn note(events: &mut Vec<Done>, row: usize, event: Event) -> Result<(), AllocErr
     Ok(())
 }
 
-/// Up to so many events of a pass, one by one.
+/// Up to this number of events of a pass, one by one.
 fn follow_entry(
     machine: &mut Machine,
     begun: &mut [usize],
@@ -72,7 +72,7 @@ fn follow_entry(
     Ok(())
 }
 
-/// Plays the schedule of a plan from the opening of its machine; `None` where its run has more events than a page shows.
+/// Plays the schedule of a plan from the opening of its machine; `None` if its run has more events than a page shows.
 /// Only memory can be refused.
 pub fn play_events(alloc: Global, plan: &Plan) -> Result<Option<Played>, AllocError>
     requires lawful { Lawful (plan_value plan.now) }

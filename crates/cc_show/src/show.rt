@@ -13,8 +13,8 @@ use cc_play::{read_input, read_plan};
 use std::alloc::Global;
 
 /// Reads a plan from the source, plays its schedule on a machine event by event, and writes the page that shows it to the
-/// sink: the plan's configuration and calls, each event as the machine told it, and the report of the play. The page is
-/// written only when the whole schedule was played.
+/// sink: the plan's configuration and calls, each event as the machine returned it, and the report of the play. The page
+/// is written only when the whole schedule was played.
 pub fn show<R: Source, W: Sink>(
     alloc: Global,
     source: &mut R,

@@ -29,7 +29,7 @@ pub fn write_page<W: Sink>(
     write_bytes(sink, BACK)
 }
 
-/// Writes what stands before the report, and the report, and stops at the first write that fails.
+/// Writes what comes before the report, and the report, and stops at the first write that fails.
 fn write_told<W: Sink>(
     sink: &mut W,
     plan: &Plan,
@@ -45,7 +45,7 @@ fn write_told<W: Sink>(
     write_report(sink, report)
 }
 
-/// Writes what stands before the report, and stops at the first write that fails.
+/// Writes what comes before the report, and stops at the first write that fails.
 fn write_front<W: Sink>(sink: &mut W, plan: &Plan, events: &[Done]) -> Result<(), WriteFault>
     requires { W.write_failures sink.old < 2 ^ 64 - 1 }
     ensures { Writes (is_err result) (W.bytes_written sink.old) (W.bytes_written sink.new)

@@ -1,4 +1,4 @@
--- The slots of a table: past the configuration, and on different lines where different threads write.
+-- The slots of a table: past the configuration, and on different lines if different threads write.
 use Rattle.std.proofs.Common.{◌≡◌, ℕ, ◌+◌, ◌*◌, ◌<◌, ◌≤◌, Bool, true, false, ◌&&◌, nat_lt, IsTrue, refl, sym, ap, ◌∙◌, arith}
 use Rattle.std.proofs.lemmas.Bool.{and_parts}
 use Rattle.cc_steps.specs.Names.{Chain, Object, Word}
@@ -23,7 +23,7 @@ past_config l (Word.Node Chain.Send i f) = omega arith
 past_config l (Word.Node (Chain.Take g) i f) = omega arith
 past_config l (Word.Item i f) = omega arith
 
--- a word lies on the line that the first one beside it begins
+-- a word is on the line that the first one next to it begins
 record OnLine (l : Layout) (w : Word) : Type 0 where
   line : ℕ
   begins : slot l (first_beside w) ≡ 8 * line

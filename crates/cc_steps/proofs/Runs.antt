@@ -1,4 +1,4 @@
--- Runs that go on: others' moves leave a pass where it stands, and what one step adds to a run.
+-- Runs that go on: others' moves leave a pass at its place, and what one step adds to a run.
 use Rattle.std.proofs.Common.{◌≡◌, ◌≢◌, ℕ, ◌<◌, ◌≤◌, Bool, List, [], ◌∷◌, ◌++◌, IsTrue, Option, Some, None, Ok, refl, sym, ap, ◌∙◌, subst, eq-eqb, append_assoc, if◌then◌else◌}
 use Rattle.cc_model.specs.Config.{config_fault}
 use Rattle.cc_steps.specs.Names.{Call, Move, Setting, Word, Stand, Place, Event}
@@ -17,7 +17,7 @@ use Rattle.cc_runs.proofs.AllReady.{each_ready}
 use Rattle.cc_steps.specs.Seen.{GoesOn, stand_in, word_in, known_in, begun, entered, taken, rested, settled, added, after_step, does_at, did_in, made_in, with_begun}
 use Rattle.cc_steps.specs.Shown.{CanStart}
 
--- ---- where a pass stands
+-- ---- the place of a pass
 
 pub stand-others : (c : Setting) (more seen : List Move) (p : ℕ) → by p more ≡ [] → stand_in c (more ++ seen) p ≡ stand_in c seen p
 unfolding stand_in

@@ -1,4 +1,4 @@
--- What a step's clauses say of the run that its pass has seen: before the step, with others' moves, and after it.
+-- The clauses of a step about the run that its pass has seen: before the step, with others' moves, and after it.
 use Rattle.std.proofs.Common.{◌≡◌, ℕ, ◌<◌, List, ◌++◌, Option, Some, None, Ok, sym, ap, ◌∙◌, subst}
 use Rattle.cc_model.specs.Config.{config_fault}
 use Rattle.cc_steps.specs.Names.{Call, Move, Setting}

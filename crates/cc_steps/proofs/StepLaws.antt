@@ -1,4 +1,4 @@
--- What the laws of every run say of one step: nodes that are used again, and calls that wait for their link.
+-- The laws of every run about one step: nodes that are used again, and calls that wait for their link.
 use Rattle.std.proofs.Common.{◌≡◌, ℕ, List, ◌∷◌, ◌++◌, Option, Some, None, refl, sym, ap, ◌∙◌, subst}
 use Rattle.cc_model.specs.Record.{Record}
 use Rattle.cc_steps.specs.Names.{Call, Move, Setting, Served, Chain, ItemField, NodeField, Word, Kind, Event, Place, Counting, Sending, Taking, Stand}

@@ -2,8 +2,8 @@
 ghost use Rattle.cc_steps.specs.Longest.{LastMoverHasSeenAll, StepperHasSeenAll};
 ghost use Rattle.cc_steps.specs.Slots.{LinesApart};
 
-/// Two words of a table lie on one line of 8 slots only where they lie beside one another: words of one side of the
-/// list, or of one node. So threads that use different nodes never wait for one another's line.
+/// Two words of a table are on one line of 8 slots only if they are neighbours: words of one side of the list, or of one
+/// node. So threads that use different nodes never wait for one another's line.
 pub fn lines_are_apart()
     ensures { LinesApart }
 {}
@@ -15,7 +15,7 @@ pub fn last_mover_has_seen_all()
 {}
 
 /// A step of a pass keeps the rule of the table, and then its seat has seen the longest run: no other seat has seen more,
-/// and what it tells of its pass is so in that run.
+/// and what it says of its pass is so in that run.
 pub fn stepper_has_seen_all()
     ensures { StepperHasSeenAll }
 {}

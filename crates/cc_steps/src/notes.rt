@@ -1,7 +1,7 @@
-//! Notes of what a pass has seen. A note is made by one pass and heeded by another, which then has seen it too: so what a program
-//! hands over from thread to thread tells the second thread's calls of the first one's. A note is no event of the machine, and it
-//! has no bytes: a part of the one view goes over to the other seat, and a load of a word that no step writes lets that seat keep
-//! the longer of the two runs.
+//! Notes of what a pass has seen. A note is made by one pass and heeded by another, which then has seen it too: so a value that
+//! a program hands from thread to thread orders the second thread's calls after the first one's. A note is no event of the
+//! machine, and it has no bytes: a part of the one view goes over to the other seat, and a load of a word that no step writes
+//! lets that seat keep the longer of the two runs.
 ghost use Rattle.std.specs.Prelude.{◌≡◌};
 ghost use Rattle.cc_steps.specs.Noted.{IsNoteOf, noted_by};
 ghost use Rattle.cc_steps.specs.Walk.{HasLooked, IsOf};
@@ -22,7 +22,7 @@ impl Split<View> for Cut {
     ghost right = { part };
 }
 
-/// A part is laid beside the view of a pass.
+/// A part is added to the view of a pass.
 struct Glue;
 
 impl Join<View> for Glue {
@@ -33,7 +33,7 @@ impl Join<View> for Glue {
     ghost spent = { spent };
 }
 
-/// The pass keeps the longer of the two runs: one of them goes on from the other, since both are fronts of the longest.
+/// The pass keeps the longer of the two runs: one of them goes on from the other, since both are prefixes of the longest.
 struct Learns;
 
 impl Play<(), View> for Learns {
@@ -42,8 +42,8 @@ impl Play<(), View> for Learns {
     ghost then = { learns };
 }
 
-/// What a pass had seen when the note was made. Contracts see the table and the run (`Noted`). A note goes to another thread as any
-/// value does: in a closure, by a join, under a lock.
+/// All that a pass had seen when the note was made. Contracts see the table and the run (`Noted`). A note goes to another
+/// thread as any value does: in a closure, by a join, under a lock.
 #[derive(Drop)]
 pub struct Note {
     seat: Seat<(), View>,

@@ -1,13 +1,13 @@
 //! The 21 kinds of atomic step, one function each (the steps of a call and of a combiner: CC-Synch, Fatourou and Kallimanis,
 //! PPoPP 2012; those of the list: the two-lock queue, Michael and Scott, PODC 1996).
 //!
-//! Each takes a share of the words, the seat of the pass that steps, and the plain values of its step. It may be called where
-//! the seat is of this topic (`here`), and where the pass stands at just this step, with just these values (`at`): a node is
-//! its index, a link an index and 1, with 0 for none. A load, a swap or an addition answers the word as it was. Afterwards:
+//! Each takes a share of the words, the seat of the pass that steps, and the plain values of its step. It may be called if
+//! the seat is of this topic (`here`), and if the pass is at exactly this step, with exactly these values (`at`): a node is
+//! its index, a link an index and 1, with 0 for none. A load, a swap or an addition returns the word as it was. Afterwards:
 //!
 //! - `walked` or `found`: moves of other passes came in between, and then this one; the seat has seen that run; and what a
 //!   load found is what the word held in it;
-//! - `step`: the pass stands where the machine's step leads to, with the calls that it began and this kind added to those
+//! - `step`: the pass is at the next place of the machine's step, with the calls that it began and this kind added to those
 //!   that it did;
 //! - `later`: what was seen before begins what is seen now.
 ghost use Rattle.std.specs.Prelude.{◌≡◌, ◌+◌, ◌<◌, ◌^◌, Some, None};
@@ -195,7 +195,7 @@ pub fn mark_done(words: &Words, seat: &mut PassSeat, chain: Chain, node: u64)
     operations::store(words, seat, Word::Node(chain, node, NodeField::State), 2);
 }
 
-/// HandOver, by a combiner: stores 0 into `state` of the node where it stopped, whose caller serves from there on.
+/// HandOver, by a combiner: stores 0 into `state` of the node at which it stopped, whose caller serves from there on.
 #[tactic(auto, using(crate::proofs::Walks::can_do))]
 #[inline(always)]
 pub fn hand_over(words: &Words, seat: &mut PassSeat, chain: Chain, node: u64)
@@ -208,9 +208,9 @@ pub fn hand_over(words: &Words, seat: &mut PassSeat, chain: Chain, node: u64)
     operations::store(words, seat, Word::Node(chain, node, NodeField::State), 0);
 }
 
-/// ReadAnswer, by the caller: loads the answer word of its current node, or the tag or a word of the body of the item that
-/// it was given. Where it is the last word, the call ends with this step, and the answer is taken. `told`: it is then the
-/// answer of the pass's last call in the history that the pass has seen.
+/// ReadAnswer, by the caller: loads the answer word of its current node, or the tag or a word of the body of the item that it
+/// was given. If it is the last word, the call ends with this step, and the answer is taken. `told`: it is then the answer of
+/// the pass's last call in the history that the pass has seen.
 #[tactic(auto, using(crate::proofs::Walks::can_do, crate::proofs::ReadAnswers::told_so))]
 #[inline(always)]
 pub fn read_answer(

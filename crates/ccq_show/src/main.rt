@@ -21,7 +21,7 @@ fn main(rt: HostRuntime) -> ExitCode {
     ExitCode::from(status)
 }
 
-/// Whether the command line has a word behind the program's name, or can't be read.
+/// Whether the command line has a word after the program's name, or can't be read.
 fn has_words(rt: &HostRuntime) -> bool {
     match env::args(rt) {
         Ok(args) => args.len() > 1,

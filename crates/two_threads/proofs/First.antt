@@ -38,7 +38,7 @@ as_made w v made s =
     let side : Side = side_of w.setting.config (name w) (history w) in
     omega (arith, its_length (name w) side.calls side.answers, ap (λ (l : List Told). length l) (on_its_side w.setting.config (history w) (name w) s.legal), ap (λ (l : List Entry). length l) s.calls_are, length-map (calls_of (name w) (history w)) (λ (x : Told). x.0))
 
--- so the first call stands behind no answer
+-- so the first call comes after no answer
 none_before : (calls : List Entry) (before : List Answer) (e : Entry) → length calls ≡ 1 → slice_get calls (length before) ≡ Some e → before ≡ []
 none_before [] before e one is = absurd (omega (arith, one))
 none_before (c ∷ []) [] e one is = refl
@@ -142,7 +142,7 @@ module _ (n : Noted) (u w : Walk) (told : TakeAnswer) (c : CompletedAfter n u Ca
       let a : IsAnswered H.sends c.fresh.before E (Answer.Take told) = subst (λ (p : Pass). IsAnswered (side_of C p H) c.fresh.before E (Answer.Take told)) is c.fresh.after.answered in
       absurd (subst (λ (p : Pass). IsSenders C p Call.Take) is (all_at (λ (x : Entry). IsSenders C x.pass x.call) H.sends.calls (length c.fresh.before) E c.completed.stands.legal.senders a.call_is))
 
-  -- the first take of the only receiver of a group gets the first item, where there was one when the note was made
+  -- the first take of the only receiver of a group gets the first item, if there was one when the note was made
   pub taken_first : Gets n told
   taken_first = by_pass E.pass refl
 

@@ -1,4 +1,4 @@
--- What a note says of the first item.
+-- The statements that a note makes of the first item.
 use Rattle.std.specs.Prelude.{◌≡◌, Some}
 use Rattle.std.specs.List.{slice_get}
 use Rattle.cc_model.specs.Items.{accepted}

@@ -1,4 +1,4 @@
-//! An item that one thread sends and another takes, where a note is handed on in between: that the item is there is proved, so the
+//! An item that one thread sends and another takes, with a note handed on in between: that the item is there is proved, so the
 //! code that takes has no answer but Got to handle.
 ghost use Rattle.std.specs.Prelude.{◌≡◌, [], IfSome};
 ghost use Rattle.std.specs.Thread.{IsSync};
@@ -14,7 +14,7 @@ use std::alloc::Global;
 use std::sync::Wait;
 use std::thread::{Threads, join};
 
-/// The only sender of a queue makes its first send, and then notes what it has seen. None where the send isn't accepted.
+/// The only sender of a queue makes its first send, and then notes what it has seen. None if the send isn't accepted.
 fn send_first<R: Wait>(rt: &R, queue: &Queue, sender: Sender, body: Body) -> Option<Note>
     requires here { IsOf queue.now sender }
     requires first { sender.made ≡ [] }
@@ -44,7 +44,7 @@ fn take_first<R: Wait>(rt: &R, queue: &Queue, receiver: Receiver, note: Note) ->
 }
 
 /// One thread sends the body, and gives a note back by its join; then another heeds the note and takes. It gets that body. None
-/// where the send isn't accepted.
+/// if the send isn't accepted.
 fn hand_on<R: Threads + Wait + Sync>(
     rt: &R,
     queue: &Queue,
@@ -91,7 +91,7 @@ fn hand_on_first<R: Threads + Wait + Sync>(
     hand_on(rt, &opened.queue, sender, receiver, body)
 }
 
-/// Opens a queue for one sender and one receiver, and hands a body on through it. None where it isn't opened, or the send isn't
+/// Opens a queue for one sender and one receiver, and hands a body on through it. None if it isn't opened, or the send isn't
 /// accepted.
 pub fn handed_on<R: Threads + Wait + Sync>(
     rt: &R,

@@ -1,4 +1,4 @@
-//! Calls that one thread makes in turns, with what it was told printed.
+//! Calls that one thread makes in turns, with their answers printed.
 ghost use Rattle.std.specs.Prelude.{IfOk, IfSome};
 ghost use Rattle.cc_queue.specs.Opened.{HasOpened};
 ghost use Rattle.cc_steps.specs.Walk.{IsOf};
@@ -12,8 +12,8 @@ use std::alloc::Global;
 use std::io;
 use std::sync::Wait;
 
-/// Sends this body, and prints for each turn that it waits. None where it isn't answered in so many turns, or the sender has
-/// sent all that it may.
+/// Sends this body, and prints for each turn that it waits. None if it isn't answered in this number of turns, or the sender
+/// has sent all that it may.
 pub fn send_in_turns<R: Print>(
     rt: &R,
     queue: &Queue,
@@ -66,7 +66,7 @@ pub fn print_all<R: Wait + Print>(rt: &R, queue: &Queue, receiver: Receiver) -> 
     unreachable!()
 }
 
-/// Sends a body of two words and closes. The answer is whether that came about.
+/// Sends a body of two words and closes. Returns whether both were done.
 fn send_and_close<R: Wait + Print>(rt: &R, queue: &Queue, sender: Sender) -> io::Result<bool>
     requires { IsOf queue.now sender }
 {

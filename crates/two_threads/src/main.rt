@@ -22,8 +22,8 @@ use std::process::ExitCode;
 use std::sync::Wait;
 use std::thread::{Threads, join};
 
-/// Sends the numbers 1 to 100, each again where the queue is full, and closes the queue. None where a send isn't accepted: the
-/// queue is closed then too, so that nobody waits for what doesn't come.
+/// Sends the numbers 1 to 100, each again if the queue is full, and closes the queue. None if a send isn't accepted: the queue
+/// is closed then too, so that nobody waits for an item that doesn't come.
 fn send_all<R: Wait>(rt: &R, queue: &Queue, sender: Sender) -> Option<u64>
     requires { IsOf queue.now sender }
 {
@@ -94,7 +94,7 @@ fn pass_first<R: Threads + Wait + Sync>(
     Some(pass(rt, &opened.queue, sender, receiver))
 }
 
-/// Opens a queue for two threads. None where it isn't opened.
+/// Opens a queue for two threads. None if it isn't opened.
 fn two_threads<R: Threads + Wait + Sync>(
     rt: &R,
     alloc: Global,

@@ -36,7 +36,7 @@ fn is_plan_key(key: &str, version: u32) -> bool
     ) || (version == 2 && key == "groups")
 }
 
-/// Whether each key but those of the lists has a number, where it has to be there.
+/// Whether each key but those of the lists has a number, if it has to be there.
 #[tactic(auto, unfolding(crate::specs::PlanShape::has_numbers))]
 fn has_numbers(tree: &Value, version: u32) -> bool
     ensures { result ≡ has_numbers version (view tree.now) }
@@ -48,7 +48,7 @@ fn has_numbers(tree: &Value, version: u32) -> bool
         && tree.get("life").is_some_and(is_number)
 }
 
-/// Whether there is a number of groups, where the version has groups.
+/// Whether there is a number of groups, if the version has groups.
 fn has_groups(tree: &Value, version: u32) -> bool
     ensures { result ≡ has_groups version (view tree.now) }
 {
@@ -119,7 +119,7 @@ fn pass(name: &[u8]) -> Option<Pass>
     }
 }
 
-/// The number of a pass: one to ten digits of which the first isn't 0. One that no 32 bits hold is told as the greatest
+/// The number of a pass: one to ten digits of which the first isn't 0. One that no 32 bits hold is read as the greatest
 /// that they hold, which is no pass of any plan.
 fn numbered(digits: &[u8]) -> Option<u32>
     ensures { result ≡ numbered digits.now }

@@ -83,7 +83,7 @@ fn with_lists(alloc: Global, tree: &Value, numbers: Numbers) -> Result<Plan, Pla
     })
 }
 
-/// The configuration of the numbers, for so many senders, and so many receivers in all groups.
+/// The configuration of the numbers, for this number of senders, and of receivers in all groups.
 fn config(numbers: Numbers, senders: usize, receivers: usize) -> Config
     requires { (1 ≤ numbers.groups) × (numbers.groups ≤ 8) × (senders ≤ 64) × (receivers / numbers.groups ≤ 64) }
     ensures { result ≡ config_of numbers.groups senders (receivers / numbers.groups) numbers.capacity numbers.bound
@@ -120,7 +120,7 @@ fn number_at(tree: &Value, key: &str, high: u64) -> Option<u64>
     number_in(tree.get(key)?, 1, high)
 }
 
-/// The elements, if they are so many as the range allows.
+/// The elements, if their number is within the range.
 fn counted(value: &Value, low: u64, high: u64) -> Option<&[Value]>
     ensures value { option_map (λ l. map view l.now) result ≡ counted low high (view value.now) }
     ensures range { IfSome result (λ l. length l.now ≤ high) }
@@ -133,7 +133,7 @@ fn counted(value: &Value, low: u64, high: u64) -> Option<&[Value]>
     }
 }
 
-/// What each sender calls, in its order.
+/// The calls of each sender, in its order.
 fn senders(alloc: Global, tree: &Value, version: u32) -> Result<Option<Vec<Vec<Call>>>, AllocError>
     ensures value { IfOk result (λ all. option_map (λ v. map (λ c. c.items) v.items) all
         ≡ option_and_then (senders_of version) (get (codes "senders") (view tree.now))) }
@@ -200,7 +200,7 @@ fn receivers(alloc: Global, tree: &Value, groups: usize) -> Result<Option<Vec<u3
     each(alloc, list, takes)
 }
 
-/// Whether so many receivers make up the groups: in each as many as in the others, 1 to 64.
+/// Whether this number of receivers makes up the groups: in each as many as in the others, 1 to 64.
 fn fill_groups(count: usize, groups: usize) -> bool
     requires { 1 ≤ groups }
     ensures value { result ≡ fill_groups groups count }

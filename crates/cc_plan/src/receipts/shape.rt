@@ -42,14 +42,14 @@ fn is_total(value: &Value) -> bool
     is_number(value) || value.is_null()
 }
 
-/// Whether the value is an array of rows, each of so many numbers and a body.
+/// Whether the value is an array of rows, each of this number of numbers and a body.
 fn are_rows(value: &Value, version: u32, numbers: usize) -> bool
     ensures { result ≡ is_list_of (is_row version numbers) (view value.now) }
 {
     is_list_of(value, |row| is_row(row, version, numbers))
 }
 
-/// Whether the value is an array of just so many numbers, and a body behind them.
+/// Whether the value is an array of exactly this number of numbers, and a body after them.
 fn is_row(value: &Value, version: u32, numbers: usize) -> bool
     ensures { result ≡ is_row version numbers (view value.now) }
 {

@@ -40,7 +40,7 @@ pub fn values(alloc: Global, tree: &Value) -> Result<Receipts, PlanFault>
     })
 }
 
-/// The total, where one is given.
+/// The total, if one is given.
 fn total(tree: &Value) -> Option<Option<u64>>
     ensures { result ≡ total_of (view tree.now) }
 {

@@ -161,7 +161,7 @@ module _ (c : Setting) (x : Chain) (s : State) (p begun own : ℕ) where
       let cells : (i : ℕ) → i ≢ job.round.at → cell_of x (words_at (Place.MarkDone job) i) ≡ cell_of x (before_at i) = λ i ne. cell_apart s.mem x job.round.at i NodeField.State 2 ne in
       grind (arith, others (Place.MarkDone job))
 
-  -- where it stands then
+  -- its place then
   led : (job : Job) (b : Bool) → (job.round.served + 1 == c.config.bound) ≡ b → post_at x ((after (Place.MarkDone job)).stand (pass_on c x p)) ≡ post_of x own (cond b (Place.HandOver job.next) (Place.ReadNext record { at = job.next; served = job.round.served + 1 }))
   led job b is = is_at (Place.MarkDone job) ∙ ap (λ (b : Bool). post_of x own (cond b (Place.HandOver job.next) (Place.ReadNext record { at = job.next; served = job.round.served + 1 }))) is
 

@@ -1,4 +1,5 @@
--- What the list has from its two chains: one service of a side at most, of the first call without an answer.
+-- The facts that the list uses of its two chains: one service of a side at most, of the first call without
+-- an answer.
 use Rattle.std.proofs.Common.{◌≡◌, ℕ, suc, ◌<◌, ◌≤◌, refl, ap, ◌∙◌, subst, arith, Some, length}
 use Rattle.std.specs.List.{slice_get}
 use Rattle.cc_runs.specs.Names.{Entry, Setting, Chain, NodeField, Word, Job, Sending, Taking, Place, Request}

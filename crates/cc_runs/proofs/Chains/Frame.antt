@@ -1,4 +1,4 @@
--- What a store changes of a chain's words, and what a step changes of where the passes stand.
+-- The change that a store makes to a chain's words, and a step to the places of the passes.
 use Rattle.std.proofs.Common.{◌≡◌, ◌≢◌, ℕ, zero, suc, Bool, false, ◌&&◌, ◌==◌, cond, refl, ap, sym, ◌∙◌, arith}
 use Rattle.std.proofs.Math.Bool.{and-false}
 use Rattle.std.proofs.lemmas.Bool.{eq-eqb, ne_eqb}

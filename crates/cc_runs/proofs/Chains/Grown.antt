@@ -95,7 +95,7 @@ module _ (c : Setting) (x : Chain) (calls : List Entry) (answers : List Answer) 
         ∙ ap (λ (z : Entry). request_long x z) (sym (call_old calls e g.calls k ties.calls_are (omega arith)))
   ]
 
-  -- nobody but p changes, and p has nothing to tell yet
+  -- nobody but p changes, and p has nothing to read yet
   pub ties_entered : (e : Entry) (own : ℕ) (there : Stand) → IsCall c x p e → stand' p ≡ there → ((q : ℕ) → q ≢ p → stand' q ≡ stand q) → g.server ≢ p + 1 → ((q : ℕ) → g.server ≡ q + 1 → q < members c x) →
       g.marked ≤ g.answers → g.answers ≤ g.calls → ((q : ℕ) → q < members c x → IsFinished (stand q).place → g.at q < g.calls) →
       ((q : ℕ) → g.server ≡ q + 1 → 1 ≤ (post_at x (stand q)).stage → (post_at x (stand q)).stage ≤ 2 → g.marked < g.calls) →

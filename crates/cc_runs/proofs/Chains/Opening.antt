@@ -16,7 +16,7 @@ use Rattle.cc_runs.proofs.Chains.Registers.{IsChainOf, IsChain, HasSide, answer_
 use Rattle.cc_runs.proofs.Chains.Ties.{Ties, Holds, stands_on}
 use Rattle.cc_runs.proofs.Chains.Others.{group_in}
 
--- where a pass of the chain stands
+-- the place of a pass of the chain
 abbrev placed : Setting → ℕ → ℕ → Stand
 placed c p node = record { begun = 0; node = node; place = Place.Idle }
 

@@ -1,4 +1,5 @@
--- What a step of another chain, a begin, and the taking of an answer leave of a chain.
+-- The parts of a chain that a step of another chain, a begin, and the taking of an answer don't
+-- change.
 use Rattle.std.proofs.Common.{◌≡◌, ◌≢◌, ◌⊎◌, ℕ, ◌+◌, ◌*◌, ◌/◌, ◌%◌, ◌-◌, ◌<◌, ◌≤◌, Bool, false, ◌&&◌, ◌==◌, cond, refl, ap, sym, ◌∙◌, subst, arith, inl, inr, List}
 use Rattle.std.proofs.Math.Bool.{and-false}
 use Rattle.std.proofs.lemmas.Bool.{cases_eq, cases_lt, lt-ltb, le-ltb, ne_eqb}

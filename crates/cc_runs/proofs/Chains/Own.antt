@@ -17,7 +17,7 @@ use Rattle.cc_runs.proofs.Chains.Steps as steps
 use Rattle.cc_runs.proofs.Chains.Serve.{At, then, finds, the_call, the_answer, serves_at, request_at, service, write_answer, mark, hand_over}
 use Rattle.cc_runs.proofs.Chains.Read as by_side
 
--- what is served where
+-- the object that is served, and its place
 pub counts_where : (s : Served) (x : Chain) → Counts s x → (s ≡ Served.Counter) × (x ≡ Chain.Send)
 counts_where Served.Counter Chain.Send a = (refl, refl)
 counts_where _ _ a = absurd a

@@ -109,7 +109,7 @@ module _ (c : Setting) (x : Chain) (ok : IsChain c x) (some : 0 < c.config.bound
         keep = λ q ne a. (a, refl);
       }
 
--- a receiver is told an item, and reads it
+-- a receiver gets an item, and reads it
 module _ (c : Setting) (g : ℕ) (ok : IsChain c (Chain.Take g)) (some : 0 < c.config.bound) (s : State) (p begun own : ℕ) (inside : p < members c (Chain.Take g)) (w : Holds c (Chain.Take g) s) where
   write_answer_tag_take : (job : Job) (item : Item) → At c (Chain.Take g) ok some s p begun own inside w (Place.WriteAnswerTag job item) → Holds c (Chain.Take g) (then c (Chain.Take g) ok some s p begun own inside w (Place.WriteAnswerTag job item))
   write_answer_tag_take job item e =

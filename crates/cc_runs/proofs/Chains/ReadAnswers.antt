@@ -1,4 +1,4 @@
--- What a call reads as its answer is its answer in the history.
+-- The answer that a call reads is its answer in the history.
 use Rattle.std.proofs.Common.{◌≡◌, ◌≢◌, ℕ, zero, suc, ◌+◌, ◌*◌, ◌/◌, ◌-◌, ◌<◌, ◌≤◌, Bool, true, false, cond, refl, ap, sym, ◌∙◌, subst, arith, inl, inr, Option, Some, None, List, [], ◌∷◌, ◌++◌, length, get_or}
 use Rattle.std.proofs.lemmas.Bool.{cases_eq, lt-ltb, le-ltb, eq-eqb, ne_eqb}
 use Rattle.std.proofs.lemmas.List.{append-nil}
@@ -143,7 +143,7 @@ module _ (c : Setting) (x : Chain) (s : State) (w : Holds c x s) (none : NotOthe
   its_call : w.ghost.pass_of (w.ghost.at n) ≡ n
   its_call = w.inv.passes.at_is n inside (omega (arith, entering))
 
-  -- where an answer is decided and not marked, its call is linked
+  -- if an answer is decided and not marked, its call is linked
   not_decided : (p : ℕ) → w.ghost.server ≡ p + 1 → (post_at x (s.stand (pass_on c x p))).stage ≡ 2 → w.ghost.at n ≢ w.ghost.marked
   not_decided p served stage same =
       let linked : 4 ≤ (post_at x (s.stand (pass_on c x (w.ghost.pass_of w.ghost.marked)))).rank = w.inv.serving.serving_linked p served (omega (arith, stage)) (omega (arith, stage)) in

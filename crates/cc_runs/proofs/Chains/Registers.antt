@@ -1,4 +1,4 @@
--- What the places of a chain's passes keep, and what it has to do with the history.
+-- The registers at the places of a chain's passes, and their relation to the history.
 use Rattle.std.proofs.Common.{◌≡◌, ◌≤◌, ◌<◌, ◌+◌, ℕ, length, ◌==◌, if◌then◌else◌, List, get_or}
 use Rattle.cc_runs.specs.Names.{Entry, Pass, Call, Answer, SendAnswer, CloseAnswer, TakeAnswer, Setting, Served, Chain, BodyWords, Counting, Sending, Place}
 use Rattle.cc_runs.specs.Codes.{item_of, tag_of, body_words, no_words, further_words, word, request_in, ret_of, code_of, value_of, sender_reads}
@@ -41,7 +41,7 @@ pub record IsCall (c : Setting) (x : Chain) (p : ℕ) (e : Entry) : Type 0 where
   pub on : IsOn c.served x e.call
   pub number_in : e.number ≤ c.config.per_sender
 
--- what holds of senders, of receivers, and where this is served
+-- the facts of senders, of receivers, and if this is served
 abbrev pub OnSend : Chain → Type 0
 OnSend Chain.Send = Unit {0}
 OnSend (Chain.Take g) = ⊥

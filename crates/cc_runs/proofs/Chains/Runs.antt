@@ -1,4 +1,4 @@
--- What holds of a chain after every run.
+-- The facts of a chain after every run.
 use Rattle.std.proofs.Common.{◌≡◌, ◌≢◌, ◌⊎◌, ℕ, ◌<◌, ◌≤◌, refl, ap, sym, subst, arith, inl, inr, List, [], ◌∷◌}
 use Rattle.cc_runs.specs.Names.{Call, Setting, Chain, Stand, Place, Event, Move}
 use Rattle.cc_runs.specs.State.{State, chain_of}

@@ -22,7 +22,7 @@ node_exists c (Chain.Take g) ok i f field low =
     let group : nat_lt g (groups c.config) ≡ true = lt-ltb g (groups c.config) (group_in c.served (groups c.config) g ok) in
     ap (λ (b : Bool). (b && nat_lt i (c.config.receivers + 1)) && is_node_field f) group ∙ ap (λ (b : Bool). b && is_node_field f) (lt-ltb i (c.config.receivers + 1) (omega arith)) ∙ field
 
--- a word of a body that its tag tells of
+-- a word of a body that its tag counts
 pub four_words : (i tag : ℕ) → i ≤ further_words tag → IsTrue (nat_lt i 4)
 four_words i tag most = lt-ltb i 4 (omega (arith, few_further tag))
 
@@ -38,7 +38,7 @@ pub few_members : (c : Setting) (x : Chain) → InRange c.config → members c x
 few_members c Chain.Send r = r.senders.1
 few_members c (Chain.Take g) r = r.receivers.1
 
--- a place of a service, where the served object has a word in it
+-- a place of a service, if the served object has a word in it
 abbrev pub IsService : Place → Type 0
 IsService (Place.Counting job service) = Unit {0}
 IsService (Place.Sending job service) = Unit {0}

@@ -1,4 +1,4 @@
--- Who serves, and which call, after every run.
+-- The combiner of a chain, and the call that it serves, after every run.
 use Rattle.std.proofs.Common.{◌≡◌, ◌⊎◌, ℕ, ◌+◌, ◌-◌, ◌*◌, ◌/◌, ◌<◌, ◌≤◌, refl, ap, sym, ◌∙◌, subst, arith, inl, inr, Some, List, length}
 use Rattle.std.specs.List.{slice_get}
 use Rattle.std.proofs.lemmas.Bool.{cases_lt, cases_eq}
@@ -49,7 +49,7 @@ on_by c p (inr off) = absurd (not_other (chain_of c.config p) off.other)
 pub on_chain : (c : Setting) (p : ℕ) → p < passes c → IsOn c (chain_of c.config p) p
 on_chain c p less = on_by c p (which c (chain_of c.config p) (chain_is c p less) p less)
 
--- the stand of a combiner
+-- the state of a combiner
 abbrev pub Combines : Stand → Type 0
 Combines at = (post_at Chain.Send at).rank ≡ 5
 

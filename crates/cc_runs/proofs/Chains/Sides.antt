@@ -1,4 +1,4 @@
--- The steps that one side alone has: a sender writes its request, and a receiver is told an item.
+-- The steps that one side alone has: a sender writes its request, and a receiver gets an item.
 use Rattle.std.proofs.Common.{◌≡◌, ◌≢◌, ℕ, zero, suc, ◌+◌, ◌≤◌, ◌<◌, refl, ap, sym, arith}
 use Rattle.cc_runs.specs.Names.{Item, Setting, Chain, NodeField, Word, Job, Request, Place}
 use Rattle.cc_runs.specs.Codes.{tag_of, body_words, further_words, word}
@@ -25,7 +25,7 @@ pub asks_word : (r : Request) (i : ℕ) → i ≤ 3 → asks_in r (suc i) ≡ wo
 asks_word r (suc (suc (suc (suc i)))) most = absurd (omega arith)
 asks_word r _ most = refl
 
--- and behind all of them nothing
+-- and after all of them nothing
 asks_late : (r : Request) (j : ℕ) → all_wrote Chain.Send ≤ j → asks_in r j ≡ 0
 asks_late r (suc (suc (suc (suc (suc (suc j)))))) far = refl
 asks_late r _ far = absurd (omega arith)

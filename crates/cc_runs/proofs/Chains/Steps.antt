@@ -35,7 +35,7 @@ module _ (c : Setting) (x : Chain) (s : State) (p begun own : ℕ) where
   pub history_same : (at : Place) → enters at ≡ None → decides c at (found c x s p begun own at) ≡ None → (after c x s p begun own at).history ≡ s.history
   history_same at e d = (λ i. noted x s.history (e i) (d i)) ∙ noted_none x s.history
 
--- what a step keeps of the ties, where the history stays
+-- the ties that a step keeps, if the history stays
 pub record Moves (c : Setting) (x : Chain) (s : State) (g : Ghost) (p marked server : ℕ) (there : Place) : Type 0 where
   pub onward : g.marked ≤ marked
   pub call : HasCall c x p there

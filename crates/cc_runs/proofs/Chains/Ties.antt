@@ -1,4 +1,4 @@
--- What ties a chain to the history, and what of it a step keeps.
+-- The ties of a chain to the history, and those of them that a step keeps.
 use Rattle.std.proofs.Common.{◌≡◌, ◌≢◌, ℕ, ◌+◌, ◌<◌, ◌≤◌, List, length, refl, ap, sym, ◌∙◌, subst, arith, inl, inr}
 use Rattle.std.proofs.lemmas.Bool.{cases_eq}
 use Rattle.cc_runs.specs.Names.{Entry, Answer, Setting, Served, Chain, Stand, Sending, Place}
@@ -58,7 +58,7 @@ reader_answer served x own a a' (Place.Finished told) same ended h = subst (λ (
 reader_answer served x own a a' at same ended h = h
 
 module _ (c : Setting) (x : Chain) (calls : List Entry) (answers : List Answer) (stand stand' : ℕ → Stand) (g : Ghost) (p : ℕ) (ties : Ties c x calls answers stand g) where
-  -- the passes stand as they stood
+  -- no pass has moved
   pub ties_same : ((q : ℕ) → q < members c x → stand' q ≡ stand q) → ((q : ℕ) → g.server ≡ q + 1 → q < members c x) → Ties c x calls answers stand' g
   ties_same same server_in = record {
     calls_are = ties.calls_are;
@@ -76,7 +76,7 @@ module _ (c : Setting) (x : Chain) (calls : List Entry) (answers : List Answer) 
     ended = λ q qn f. ties.ended q qn (subst (λ (z : Stand). IsFinished z.place) (same q qn) f);
   }
 
-  -- pass p stands there now, and the history is as it was
+  -- pass p is there now, and the history is as it was
   pub ties_moved : (there : Stand) (marked server : ℕ) → stand' p ≡ there → ((q : ℕ) → q ≢ p → stand' q ≡ stand q) → g.marked ≤ marked →
       HasCall c x p there.place → HasRead c.served x (answer_at answers (g.at p)) there.place → (IsFinished there.place → (g.at p < marked) × (g.pass_of (g.at p) ≡ p)) →
       (server ≡ p + 1 → HasService c.served x (call_at calls marked) (answer_at answers marked) there.place) →

@@ -20,7 +20,7 @@ abbrev pub request_words : Chain → (NodeField → ℕ) → ℕ → ℕ
 request_words Chain.Send w j = words_of (w NodeField.Tag) (λ i. w (NodeField.Body i)) j
 request_words (Chain.Take g) w j = 0
 
--- the words of a request as its sender has them, and behind all of them how many of the body's there are
+-- the words of a request as its sender has them, and after all of them how many of the body's there are
 abbrev pub asks_in : Request → ℕ → ℕ
 asks_in r zero = r.tag
 asks_in r (suc zero) = r.body.first
@@ -39,7 +39,7 @@ abbrev pub request_long : Chain → Entry → ℕ
 request_long Chain.Send e = further_words (request_in e).tag + 2
 request_long (Chain.Take g) e = 0
 
--- the words of an answer: a take is told an item's tag and its body too
+-- the words of an answer: a take gets an item's tag and its body too
 abbrev pub told_words : ℕ → ℕ → (ℕ → ℕ) → ℕ → ℕ
 told_words ret tag body zero = ret
 told_words ret tag body (suc j) = words_of tag body j
@@ -64,7 +64,7 @@ abbrev pub all_wrote : Chain → ℕ
 all_wrote Chain.Send = 6
 all_wrote (Chain.Take g) = 0
 
--- how many words of an answer are told once its first is written
+-- how many words of an answer are there once its first is written
 abbrev pub told_next : Answer → ℕ
 told_next (Answer.Take (TakeAnswer.Got item)) = 1
 told_next _ = all_told

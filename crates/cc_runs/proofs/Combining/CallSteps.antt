@@ -49,7 +49,7 @@ pub record Enters (v v' : Chain) (p : ℕ) : Type 0 where
   pub before : (v.post p).rank ≡ 3
   pub state : (v'.node (v.post p).node).state ≡ (v.node (v.post p).node).state
 
--- the next word of a request of so many words; after the last one all are written
+-- the next word of a request of this number of words; after the last one all are written
 pub record Writes (long : ℕ) (v v' : Chain) (p : ℕ) : Type 0 where
   pub step : Enters v v' p
   pub rank : (v'.post p).rank ≡ 3
@@ -61,7 +61,7 @@ pub record Writes (long : ℕ) (v v' : Chain) (p : ℕ) : Type 0 where
   pub word : (v'.node (v.post p).node).request (v.post p).wrote ≡ (v.post p).asks (v.post p).wrote
   pub words : (j : ℕ) → j ≢ (v.post p).wrote → (v'.node (v.post p).node).request j ≡ (v.node (v.post p).node).request j
 
--- the link to the node that was put into Tail, after a request of so many words, which are all written
+-- the link to the node that was put into Tail, after a request of this number of words, which are all written
 pub record Links (long : ℕ) (v v' : Chain) (p : ℕ) : Type 0 where
   pub step : Enters v v' p
   pub wrote : long ≤ (v.post p).wrote

@@ -62,7 +62,7 @@ pub record Serves (v v' : Chain) (p : ℕ) : Type 0 where
   pub next : (v'.node (v.post p).target).next ≡ (v.node (v.post p).target).next
   pub request : (j : ℕ) → (v'.node (v.post p).target).request j ≡ (v.node (v.post p).target).request j
 
--- the next word of an answer of so many words; after the last one all are told
+-- the next word of an answer of this number of words; after the last one all are there
 pub record Tells (long : ℕ) (v v' : Chain) (p word : ℕ) : Type 0 where
   pub step : Serves v v' p
   pub start : (v.post p).stage ≡ 2

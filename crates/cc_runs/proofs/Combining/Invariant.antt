@@ -1,4 +1,4 @@
--- What every run keeps of a chain of n passes with bound h.
+-- The invariant of every run of a chain of n passes with bound h.
 use Rattle.std.proofs.Common.{◌≡◌, ℕ, ◌+◌, ◌<◌, ◌≤◌, ◌≢◌}
 use Rattle.cc_runs.proofs.Combining.Chain.{Chain, Ghost}
 

@@ -58,7 +58,7 @@ unfolding total
 total_ones zero = refl
 total_ones (suc n) = omega (arith, total_ones n)
 
--- 1 where a is below b
+-- 1 if a is below b
 pub below : ℕ → ℕ → ℕ
 below a b = cond (ltb a b) 1 0
 
@@ -85,7 +85,7 @@ covering m (suc n) node at low is =
 pub covered : (m n : ℕ) (node at : ℕ → ℕ) → ((x : ℕ) → x < n → at x < m) → ((x : ℕ) → x < n → node (at x) ≡ x) → n ≤ m
 covered m n node at low is = omega (arith, covering m n node at low is, total_most m (λ (k : ℕ). below (node k) n) (λ j l. below_most (node j) n))
 
--- a sum of 0 and 1 is m where m places name its ones, each once
+-- a sum of 0 and 1 is m if m places name its ones, each once
 pub total_none : (n : ℕ) (f : ℕ → ℕ) → ((x : ℕ) → x < n → f x ≡ 0) → total n f ≡ 0
 unfolding total
 total_none zero f none = refl

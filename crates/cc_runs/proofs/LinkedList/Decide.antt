@@ -1,4 +1,4 @@
--- What each deciding step may answer.
+-- The possible answers of each deciding step.
 use Rattle.std.proofs.Common.{◌≡◌, ℕ, ◌+◌, ◌-◌, ◌<◌, ◌≤◌, ◌≢◌, arith}
 use Rattle.std.proofs.lemmas.Bool.{cases_eq, cases_lt}
 use Rattle.cc_runs.proofs.LinkedList.Queue.{Queue, Ghosts}

@@ -169,7 +169,7 @@ module _ (m : ℕ) (g : Ghosts) (s : ℕ) (inside : s < m + 1) (counted : Counte
     by_some = λ k l. above_some m (m + 1) after k refl l;
   }
 
--- where the numbers handed out stay
+-- if the numbers handed out stay
 pub counted_same : (m : ℕ) (g g' : Ghosts) → SameHands g g' → Counted m g → Counted m g'
 counted_same m g g' same k = record {
   least = same.least ∙ k.least ∙ ap (λ (h : ℕ → ℕ). smallest m h) (λ i s. sym (same.handed s) i);

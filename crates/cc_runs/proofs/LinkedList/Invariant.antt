@@ -1,4 +1,5 @@
--- What every run keeps of a list of c + 1 nodes and the mark (node c + 1), for items up to `life`, with n take sides.
+-- The invariant of every run of a list of c + 1 nodes and the mark (node c + 1), for items up to `life`, with n take
+-- sides.
 use Rattle.std.proofs.Common.{◌≡◌, ℕ, ◌+◌, ◌<◌, ◌≤◌, ◌≢◌}
 use Rattle.cc_runs.proofs.LinkedList.Queue.{Queue, Ghosts}
 

@@ -38,9 +38,11 @@ pub record Queue : Type 0 where
   pub enq : Enq
   pub side : ℕ → Side
 
--- What no word holds. accepted, handed, shut: the numbers of Accepted, of Got on each side, of Shut among the answers. items, long: the words of the k-th accepted item, and how many. tells: how many words an item with this tag has, the tag among them (never changes).
--- node: the list node at place k (place 0 the first dummy, k + 1 the k-th item). role: 0 never linked, 1 in preparation, 2 linked, at place `pos`.
--- least: the smallest of handed. by k: how many sides have handed more than k
+-- The facts that no word holds. accepted, handed, shut: the numbers of Accepted, of Got on each side, of Shut among the
+-- answers. items, long: the words of the k-th accepted item, and how many. tells: how many words an item with this tag has, the
+-- tag among them (never changes). node: the list node at place k (place 0 the first dummy, k + 1 the k-th item). role: 0 never
+-- linked, 1 in preparation, 2 linked, at place `pos`. least: the smallest of handed. by k: how many sides have handed more than
+-- k
 pub record Ghosts : Type 0 where
   pub accepted : ℕ
   pub handed : ℕ → ℕ

@@ -1,4 +1,4 @@
--- The node that a scan looks at: where it is busy, it has a place from known on.
+-- The node that a scan looks at: if it is busy, it has a place from known on.
 use Rattle.std.proofs.Common.{◌≡◌, ℕ, ◌+◌, ◌<◌, ◌≤◌, ◌≢◌, arith}
 use Rattle.std.proofs.lemmas.Bool.{cases_eq, cases_lt}
 use Rattle.cc_runs.proofs.LinkedList.Queue.{Queue, Ghosts}

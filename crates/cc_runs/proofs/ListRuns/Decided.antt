@@ -9,7 +9,7 @@ use Rattle.cc_model.specs.Legal.{EAnswer, EAnswers, DAnswer, DAnswers}
 use Rattle.cc_runs.specs.Names.{Config, Call, Entry, Item, Answer, SendAnswer, CloseAnswer}
 use Rattle.cc_model.proofs.Grows.{any-append, accepted_more, e_answer_more, d_answer_more, d_items_more, handed_by-append}
 
--- the answers of all sides are lawful
+-- the answers of all sides are legal
 pub record Lawful (c : Config) (h : Record) : Type 0 where
   pub sends : EAnswers c 0 false h.sends.calls h.sends.answers
   pub takes : (y : ℕ) → DAnswers (accepted h) (is_shut h) 0 (of_group h y).calls (of_group h y).answers

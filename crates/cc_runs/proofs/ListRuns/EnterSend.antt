@@ -21,7 +21,7 @@ use Rattle.cc_runs.proofs.ListRuns.Facts.{lists, IsSending, ChainFacts}
 use Rattle.cc_runs.proofs.ListRuns.Invariant.{Parts, Onward}
 use Rattle.cc_runs.proofs.ListRuns.Least.{least_is}
 
--- where nothing is served the stage is 0
+-- if nothing is served the stage is 0
 begun_or_none : (e : Entry) (from : ℕ) (service : Sending) → (IsBegun service → ⊥) → (enq_in e from service).stage ≡ 0
 begun_or_none e from Sending.ReadTag not = refl
 begun_or_none e from (Sending.ReadBody request i) not = refl

@@ -22,7 +22,7 @@ idle_takes : (at : Place) → IsIdle at → IsTaking at → ⊥
 idle_takes Place.Idle idle u = u
 idle_takes _ idle u = idle
 
--- where no take is served the stage is 0
+-- if no take is served the stage is 0
 take_regs_none : (at : Place) → (IsTaking at → ⊥) → (regs_at at).stage ≡ 0
 take_regs_none (Place.Taking job service) not = absurd (not tt)
 take_regs_none _ not = refl

@@ -1,4 +1,4 @@
--- What the list's invariant needs to know of the two chains.
+-- The facts of the two chains that the list's invariant needs.
 use Rattle.std.proofs.Common.{◌≡◌, ℕ, ◌<◌, ◌≤◌}
 use Rattle.cc_runs.specs.Names.{Config, Entry, Setting, Served, Chain, NodeField, Word, Job, Place, Sending, Taking, Request}
 use Rattle.cc_runs.specs.State.{State, chain_of}

@@ -1,4 +1,5 @@
--- What the list needs of its two chains holds after every run; and so does the list's invariant.
+-- The facts that the list needs of its two chains hold after every run; and so does the list's
+-- invariant.
 use Rattle.std.proofs.Common.{◌≡◌, List, Some, length, refl, sym, ap, subst, arith}
 use Rattle.cc_runs.specs.Names.{Config, Setting, Served, Job, Place, Sending, Taking, Entry, Chain, Move}
 use Rattle.cc_runs.specs.State.{State}
@@ -44,6 +45,6 @@ chain_facts c fits moves run =
 pub after_runs : (c : Config) → InRange c → (moves : List Move) → IsRun (lists c) moves → AfterRun c moves
 after_runs c fits moves run = after_run c fits (λ m r. chain_facts c fits m r) moves run
 
--- a setting whose chains serve the list is told by its configuration
+-- a setting whose chains serve the list is given by its configuration
 pub of_setting : (P : Setting → Type 0) (c : Setting) → c.served ≡ Served.List → P (lists c.config) → P c
 of_setting P c e h = subst P (sym (ap (λ (z : Served). record { served = z; config = c.config }) e)) h

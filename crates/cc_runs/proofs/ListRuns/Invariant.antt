@@ -28,18 +28,18 @@ pub record Parts (c : Config) (s : State) : Type 0 where
   pub serving : Serving c s duty
   pub ties : Ties c s.history told
 
--- the invariant of a later state, in which no less is told, and these nodes were linked
+-- the invariant of a later state, in which no less is written, and these nodes were linked
 pub record OnwardBy (c : Config) (s : State) (k : Parts c s) (t : State) (new : List ℕ) : Type 0 where
   pub parts : Parts c t
   pub least_up : k.told.least ≤ parts.told.least
   pub entries_up : k.told.accepted + k.told.shut ≤ parts.told.accepted + parts.told.shut
   pub linked : Linked k.told parts.told new
 
--- where no node was linked
+-- if no node was linked
 abbrev pub Onward : (c : Config) (s : State) → Parts c s → State → Type 0
 Onward c s k t = OnwardBy c s k t []
 
--- ---- a move of pass p that touches no word of the list and stands outside both services before and after
+-- ---- a move of pass p that touches no word of the list and is outside both services before and after
 
 module _ (c : Config) (s : State) (p : ℕ) (now : Stand) (mem' : Word → ℕ) (later : Record) (k : Parts c s)
     (before_send : StillSend (s.stand p).place) (before_take : StillTake (s.stand p).place) (after_send : StillSend now.place) (after_take : StillTake now.place)

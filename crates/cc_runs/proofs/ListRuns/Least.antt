@@ -35,7 +35,7 @@ counts_get [] k = refl
 counts_get (s ∷ sides) zero = refl
 counts_get (s ∷ sides) (suc k) = counts_get sides k
 
--- of a history with so many groups, what all were handed is the smallest of what each was
+-- of a history with this number of groups, the items handed to all are as many as the smallest number handed to one
 pub least_of_groups : (h : Record) (m : ℕ) (each : ℕ → ℕ) → length h.takes ≡ m + 1 → ((y : ℕ) → each y ≡ length (handed h y)) → smallest m each ≡ handed_to_all h
 least_of_groups h m each many same = by_list h.takes refl
   where

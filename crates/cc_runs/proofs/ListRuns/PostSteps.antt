@@ -22,7 +22,7 @@ use Rattle.cc_runs.proofs.ListRuns.Posts.{Begun, IsTakes, Well, Posts, Calls, Ha
 use Rattle.cc_runs.proofs.ListRuns.Untouched.{plain_goes}
 use Rattle.cc_runs.proofs.Leads.{leads}
 
--- ---- where a service's steps lead
+-- ---- the places after a service's steps
 
 -- a place in the service of chain x, or after it
 record Kept (x : Chain) (at : Place) : Type 0 where
@@ -53,7 +53,7 @@ exchange_kept : (x : Chain) (own : ℕ) (e : Entry) → Kept x (after_exchange x
 exchange_kept Chain.Send own e = record { well = λ h pass begun. tt; waits_none = refl }
 exchange_kept (Chain.Take g) own e = record { well = λ h pass begun. tt; waits_none = refl }
 
--- ---- where each step leads
+-- ---- the places after each step
 
 pub next_well : (c : Config) (x : Chain) (own : ℕ) (at : Place) (found : ℕ) (h later : Record) (pass : Pass) (begun : ℕ) → known_at pass h ≤ known_at pass later → Well h x pass begun at → Well later x pass begun (goes (lists c) x own at found)
 next_well c x own (Place.ResetNext e) found h later pass begun up w = well_grows h later x pass begun (Place.ResetState e) up w

@@ -1,4 +1,4 @@
--- What holds of each pass and of each call, whatever the chains do: a begun call is one that its pass can make, with the next
+-- The facts of each pass and of each call, whatever the chains do: a begun call is one that its pass can make, with the next
 -- number of a send; and the calls in the history are such calls.
 use Rattle.std.proofs.Common.{◌≡◌, ℕ, zero, suc, ◌+◌, ◌-◌, ◌/◌, ◌<◌, ◌≤◌, nat_lt, List, [], ◌∷◌, length, Bool, true, false, cond, ◌⊎◌, inl, inr, Some, ap, subst, arith}
 use Rattle.std.proofs.lemmas.Bool.{cases_lt, lt-ltb, le-ltb}
@@ -46,7 +46,7 @@ abbrev pub is_send : Call → ℕ
 is_send (Call.Send body) = 1
 is_send _ = 0
 
--- 1 where a send is begun and hasn't exchanged
+-- 1 if a send is begun and hasn't exchanged
 abbrev pub waits : Place → ℕ
 waits (Place.ResetNext e) = is_send e.call
 waits (Place.ResetState e) = is_send e.call

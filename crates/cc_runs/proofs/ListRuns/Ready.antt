@@ -99,7 +99,7 @@ list_ready c serves checked moves run p less =
     of_setting (λ (z : Setting). config_fault z.config ≡ Ok tt → IsRun z moves → p < passes z → IsReady z (reached z moves) p) c serves
     (λ ok r l. ready_here c.config (in_range c.config ok) moves r p l ok) checked run less
 
--- and a call that is finished was told its answer in the history
+-- and a call that is finished got its answer in the history
 pub list_answer : (c : Setting) → c.served ≡ Served.List → config_fault c.config ≡ Ok tt → (moves : List Move) → IsRun c moves → (p : ℕ) → p < passes c → (told : Answer) → ((reached c moves).stand p).place ≡ Place.Finished told → IsLastAnswer (pass_at c.config p) (reached c moves).history told
 list_answer c serves checked moves run p less told is =
     of_setting (λ (z : Setting). config_fault z.config ≡ Ok tt → IsRun z moves → p < passes z → ((reached z moves).stand p).place ≡ Place.Finished told → IsLastAnswer (pass_at z.config p) (reached z moves).history told) c serves

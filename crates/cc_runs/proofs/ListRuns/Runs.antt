@@ -66,7 +66,7 @@ linked_on nodes (x ∷ rest) g g' a l = record {
         let at : k ≡ length nodes = omega (arith, is, a.many) in
         ap (λ (j : ℕ). slice_get (nodes ++ x ∷ []) j) at ∙ get_last nodes x ∙ ap (λ (y : ℕ). Some y) (sym l.2) ∙ ap (λ (j : ℕ). Some (g'.node j)) (sym is)
 
--- ---- what is told grows
+-- ---- the written words grow
 
 -- the least number handed out
 pub parts_least : (c : Config) (s : State) (k : Parts c s) → k.told.least ≡ handed_to_all s.history
@@ -427,7 +427,7 @@ after_run c fits facts (Move.Step p ∷ earlier) r =
     step_on c fits (reached (lists c) earlier) p ((reached (lists c) earlier).stand p).begun ((reached (lists c) earlier).stand p).node r.1.0 before.whole ((reached (lists c) earlier).stand p).place refl (facts earlier r.0) (facts (Move.Step p ∷ earlier) r) in
     record { whole = on.whole; linked = linked_on (linked_nodes (lists c) earlier) (links_at ((reached (lists c) earlier).stand p).place) before.whole.parts.told on.whole.parts.told before.linked on.linked }
 
--- ---- the history is lawful
+-- ---- the history is legal
 
 pub legal : (c : Config) (s : State) → Whole c s → Legal c s.history
 legal c s w =

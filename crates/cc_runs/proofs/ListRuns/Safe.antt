@@ -19,7 +19,7 @@ use Rattle.cc_runs.proofs.ListRuns.Invariant.{Parts}
 pub item_exists : (c : Config) (i : ℕ) (f : ItemField) → IsTrue (is_item_field f) → i ≤ c.capacity + 1 → IsTrue (exists (layout_of c) (Word.Item i f))
 item_exists c i f part l = ap (λ (b : Bool). b && is_item_field f) (lt-ltb i (c.capacity + 2) (omega (arith, l))) ∙ part
 
--- ---- the list's invariant, where pass p serves a send or a close
+-- ---- the list's invariant, if pass p serves a send or a close
 
 module _ (c : Config) (s : State) (p : ℕ) (job : Job) (service : Sending) (stands : (s.stand p).place ≡ Place.Sending job service) (on : IsBegun service) (k : Parts c s) where
   abbrev d : Duty
@@ -40,7 +40,7 @@ module _ (c : Config) (s : State) (p : ℕ) (job : Job) (service : Sending) (sta
   pub send_reads : Reads c d.e_call d.from service
   send_reads = subst (λ (z : Place). ReadsAt c d.e_call d.from z) stands_there k.serving.reads
 
--- ---- and where it serves a take of group y
+-- ---- and if it serves a take of group y
 
 module _ (c : Config) (s : State) (p y : ℕ) (chain : chain_of c p ≡ Chain.Take y) (job : Job) (service : Taking) (stands : (s.stand p).place ≡ Place.Taking job service) (k : Parts c s) where
   mine_take : p ≡ k.duty.d_pass y
@@ -126,7 +126,7 @@ module _ (c : Config) (r : InRange c) (s : State) (p : ℕ) (k : Parts c s) wher
     stage_at : (job : Job) (service : Taking) → (s.stand p).place ≡ Place.Taking job service → (regs_of s.stand k.duty y).stage ≡ (regs_in service).stage
     stage_at job service e = ap (λ (z : Regs). z.stage) (take_regs c s p y chain job service e k)
 
-    -- a word of an item's body that its tag tells of
+    -- a word of an item's body that its tag counts
     word_at : (job : Job) (dummy at : ℕ) (parcel : Parcel) (i : ℕ) → (s.stand p).place ≡ Place.Taking job (Taking.ReadItemBody dummy at parcel i) → i < 4
     word_at job dummy at parcel i e =
         let is : regs_of s.stand k.duty y ≡ regs_in (Taking.ReadItemBody dummy at parcel i) = take_regs c s p y chain job (Taking.ReadItemBody dummy at parcel i) e k in

@@ -16,7 +16,7 @@ use Rattle.cc_runs.proofs.LinkedList.Grow.{Prepares, Accepts, Shuts}
 use Rattle.cc_runs.proofs.ListRuns.View.{Duty, Regs, long_of, asks_of, enq_in, resting, item_word, part_here, part_other, queue_from}
 
 module _ (mem : Word → ℕ) (d : Duty) (r : ℕ → Regs) (c : Config) (n : ℕ) (g : Ghosts) where
-  -- the invariant at a step of the service, and where nobody serves
+  -- the invariant at a step of the service, and if nobody serves
   abbrev Keeps : (Word → ℕ) → Sending → Type 0
   Keeps m service = LInv c.capacity c.life n (queue_from m d (enq_in d.e_call d.from service) r) g
 
@@ -131,7 +131,7 @@ module _ (mem : Word → ℕ) (d : Duty) (r : ℕ → Regs) (c : Config) (n : �
       let known = looked_known c.capacity c.life n at _ g i refl here busy in
       grind (arith, cases_eq at, role, known, here)
 
--- the cursor is where the scan begins
+-- the cursor is at the begin of the scan
 pub read_cursor : (mem : Word → ℕ) (d : Duty) (r : ℕ → Regs) (c : Config) (n : ℕ) (g : Ghosts) (parcel : Parcel) (from : ℕ) → mem (Word.Object Object.Cursor) ≡ from
     → LInv c.capacity c.life n (queue_from mem d (enq_in d.e_call d.from (Sending.ReadCursor parcel)) r) g
     → LInv c.capacity c.life n (queue_from mem d (enq_in d.e_call from (Sending.ReadPassed parcel from 1)) r) g

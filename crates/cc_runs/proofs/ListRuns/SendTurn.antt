@@ -1,4 +1,4 @@
--- A step of the service of a send or a close keeps the list's invariant, and decides a lawful answer.
+-- A step of the service of a send or a close keeps the list's invariant, and decides a legal answer.
 use Rattle.std.proofs.Common.{◌≡◌, ◌≢◌, ℕ, zero, suc, ◌+◌, ◌-◌, ◌%◌, ◌<◌, ◌≤◌, ◌==◌, List, [], ◌∷◌, ◌++◌, length, Bool, true, false, ◌||◌, cond, if◌then◌else◌, Some, None, refl, sym, ap, ◌∙◌, subst, arith, inl, inr, append-nil, length-append}
 use Rattle.std.proofs.lemmas.Bool.{cases_eq, cases_lt, eqb-true, eqb-false}
 use Rattle.std.proofs.Math.Nat.{mod-eq_of_lt, mod_self}
@@ -40,7 +40,7 @@ pub record TurnBy (c : Config) (mem : Word → ℕ) (d : Duty) (r : ℕ → Regs
   pub ties : Ties c h told
   pub linked : Linked g told new
 
--- where it links no node
+-- if it links no node
 abbrev pub Turn : Config → (Word → ℕ) → Duty → (ℕ → Regs) → Record → Ghosts → Place → Type 0
 Turn c mem d r h g at = TurnBy c mem d r h g at []
 

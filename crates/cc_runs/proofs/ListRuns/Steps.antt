@@ -31,7 +31,7 @@ use Rattle.cc_runs.proofs.ListRuns.ServeTake.{take_serves}
 use Rattle.cc_runs.proofs.ListRuns.EnterSend.{send_enters}
 use Rattle.cc_runs.proofs.ListRuns.EnterTake.{take_enters}
 
--- ---- where a combiner goes on
+-- ---- if a combiner goes on
 
 read_tag_still : (job : Job) → StillSend (Place.Sending job Sending.ReadTag)
 read_tag_still job = record { enq_is = λ e from. refl; serves = λ u. u; open_send = λ u. u; reads = λ c e from. tt }

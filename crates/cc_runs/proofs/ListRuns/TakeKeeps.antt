@@ -1,5 +1,5 @@
--- Each line of the service of a take of a group keeps the list's invariant. The registers of that group's service are told by
--- where its pass stands, those of the others stay.
+-- Each line of the service of a take of a group keeps the list's invariant. The registers of that group's service follow from
+-- the place of its pass, those of the others stay.
 use Rattle.std.proofs.Common.{◌≡◌, ◌≢◌, ℕ, zero, suc, ◌+◌, ◌<◌, ◌≤◌, arith, refl, sym, ap, ◌∙◌}
 use Rattle.std.proofs.lemmas.Bool.{cases_eq}
 use Rattle.cc_runs.specs.Names.{Config, ItemField, Object as Obj, Word, Parcel, Taking}
@@ -16,7 +16,7 @@ use Rattle.cc_runs.proofs.LinkedList.Invariant.{LInv, Heads, Takes}
 use Rattle.cc_runs.proofs.LinkedList.Grow.{Gives}
 use Rattle.cc_runs.proofs.ListRuns.View.{Duty, Regs, long_of, none, regs_in, queue_from, object_here, object_other}
 
--- what names no side of the takes stays where they alone change
+-- a fact that names no side of the takes stays if they alone change
 sides_keep : (c life n : ℕ) (v v' : Queue) (g : Ghosts) → SameWords v v' → SameCells v v' → v'.enq ≡ v.enq → LInv c life n v g → Heads c life n v' g → Takes c life n v' g → LInv c life n v' g
 sides_keep c life n v v' g words cells enq i heads takes = grind (arith, heads, takes)
 

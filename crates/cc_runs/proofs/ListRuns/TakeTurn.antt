@@ -1,4 +1,4 @@
--- A step of the service of a take of a group keeps the list's invariant, and decides a lawful answer.
+-- A step of the service of a take of a group keeps the list's invariant, and decides a legal answer.
 use Rattle.std.proofs.Common.{◌≡◌, ◌≢◌, inl, inr, ℕ, zero, suc, ◌+◌, ◌-◌, ◌<◌, ◌≤◌, [], ◌∷◌, length, Some, None, refl, sym, ap, ◌∙◌, subst, arith, length-append}
 use Rattle.std.proofs.lemmas.Bool.{cases_eq}
 use Rattle.std.proofs.lemmas.List.{length-set}
@@ -26,7 +26,7 @@ use Rattle.cc_runs.proofs.ListRuns.TakeKeeps as keeps
 use Rattle.cc_runs.proofs.ListRuns.Decided.{told_take, d_handed, d_others, d_decided}
 use Rattle.cc_runs.proofs.ListRuns.Ties.{Ties, further, body_at, item_same, word_at, IsTaking, IsNextTake, Linked, ties_same, shut_true}
 
--- what such a step leads to, where the services' registers are these then
+-- the result of such a step, if the services' registers are these then
 pub record Turn (c : Config) (mem : Word → ℕ) (d : Duty) (e : Enq) (y : ℕ) (r : ℕ → Regs) (h : Record) (g : Ghosts) (at : Place) : Type 0 where
   pub told : Ghosts
   pub list : ListHolds c.capacity c.life (further c) (queue_from mem d e r) told

@@ -11,15 +11,15 @@ use Rattle.cc_runs.proofs.ListRuns.View.{long_of}
 use Rattle.cc_runs.proofs.LinkedList.Queue.{Ghosts}
 use Rattle.cc_runs.proofs.ListRuns.Decided.{Lawful}
 
--- 1 where the list is shut
+-- 1 if the list is shut
 abbrev pub shut_number : Bool → ℕ
 shut_number b = if b then 1 else 0
 
--- the sides of the list beside the first: one for each group
+-- the sides of the list after the first: one for each group
 abbrev pub further : Config → ℕ
 further c = groups c - 1
 
--- the words of a body behind a tag
+-- the words of a body after a tag
 abbrev pub body_at : (ℕ → ℕ) → BodyWords
 body_at words = record { first = words 1; second = words 2; third = words 3; fourth = words 4 }
 
@@ -31,7 +31,8 @@ word_at words _ most = refl
 pub item_same : (k : ℕ) (f g : ℕ → ℕ) → ((j : ℕ) → f j ≡ g j) → item_of k (f 0) (body_at f) ≡ item_of k (g 0) (body_at g)
 item_same k f g same = λ i. item_of k (same 0 i) (body_at (λ j. same j i))
 
--- the ghosts are those of the history, which has a side for each group and whose answers are lawful; each item has as many words as its tag tells
+-- the ghosts are those of the history, which has a side for each group and whose answers are legal; each item has as many words
+-- as its tag says
 pub record Ties (c : Config) (h : Record) (g : Ghosts) : Type 0 where
   pub some : 0 < groups c
   pub many : length h.takes ≡ groups c
@@ -103,7 +104,7 @@ IsNextSend h e = slice_get h.sends.calls (length h.sends.answers) ≡ Some e
 abbrev pub IsNextTake : Record → (group : ℕ) → Entry → Type 0
 IsNextTake h y e = slice_get (of_group h y).calls (length (of_group h y).answers) ≡ Some e
 
--- the nodes of the places so far stay, and these nodes were linked behind them
+-- the nodes of the places so far stay, and these nodes were linked after them
 abbrev pub Linked : Ghosts → Ghosts → List ℕ → Type 0
 Linked g g' [] = (g'.accepted ≡ g.accepted) × ((j : ℕ) → j ≤ g.accepted → g'.node j ≡ g.node j)
 Linked g g' (x ∷ rest) = (rest ≡ []) × (g'.accepted ≡ g.accepted + 1) × (g'.node (g.accepted + 1) ≡ x) × ((j : ℕ) → j ≤ g.accepted → g'.node j ≡ g.node j)

@@ -68,7 +68,7 @@ plain _ u = record {
 pub plain_goes : (c : Config) (x : Chain) (own : ℕ) (at : Place) (found : ℕ) → LeadsAfter ⊥ at → Plain (goes (lists c) x own at found)
 plain_goes c = goes_after ⊥ Plain plain (lists c)
 
--- ---- where a service's steps lead
+-- ---- the places after a service's steps
 
 pub in_send : (job : Job) (service : Sending) → StillTake (Place.Sending job service)
 in_send job service = record { regs_are = refl; takes = λ never. never }

@@ -9,8 +9,8 @@ use Rattle.cc_runs.specs.Codes.{request_in, further_words, word}
 use Rattle.cc_runs.proofs.Chains.View.{words_of, no_word}
 use Rattle.cc_runs.proofs.LinkedList.Queue.{Enq, Side, Queue}
 
--- What no word and no place holds of the two services: which pass served last on each side, the call that it serves or
--- served last, and where the scan for a free node began; the takes' by the group
+-- The facts that no word and no place holds of the two services: which pass served last on each side, the call that it
+-- serves or served last, and the begin of the scan for a free node; the takes' by the group
 pub record Duty : Type 0 where
   pub e_pass : ℕ
   pub e_call : Entry
@@ -26,7 +26,7 @@ long_of tag = further_words tag + 2
 abbrev pub asks_of : Entry → ℕ → ℕ
 asks_of e = words_of (request_in e).tag (word (request_in e).body)
 
--- the service of the send side where nobody serves
+-- the service of the send side if nobody serves
 abbrev pub resting : Entry → ℕ → Enq
 resting e from = record { stage = 0; asks = asks_of e; asks_long = long_of (request_in e).tag; known = e.known; seen = 0; cursor = from; tried = 0; found = 0; wrote = 0; last = 0 }
 
@@ -113,7 +113,7 @@ queue_from mem d e r = record {
   side = λ y. side_from (mem (Word.Object (Obj.Head y))) (mem (Word.Object (Obj.Taken y))) (d.d_call y) (r y);
 }
 
--- the registers of the groups' services where the passes stand so
+-- the registers of the groups' services if the passes are so
 abbrev pub regs_of : (ℕ → Stand) → Duty → ℕ → Regs
 regs_of stands d y = regs_at (stands (d.d_pass y)).place
 
@@ -154,7 +154,7 @@ hold_same {X} look stands p now e q = by_case (p == q) refl
     by_case true same = e ∙ ap (λ (k : ℕ). look (stands k)) (eqb-true p q same)
     by_case false same = refl
 
--- what holds of the pass as it stands now, and of each other one, holds of all
+-- a fact of the pass as it is now, and of each other one, holds of all
 pub hold_all : (P : ℕ → Stand → Type 0) (stands : ℕ → Stand) (p : ℕ) (now : Stand) → P p now → ((q : ℕ) → p ≢ q → P q (stands q)) → (q : ℕ) → P q (hold stands p now q)
 hold_all P stands p now here others q = by_case (p == q) refl
   where

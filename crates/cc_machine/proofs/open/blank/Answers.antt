@@ -21,7 +21,7 @@ zero_words l words n e w = clipped (exists l w) (slice_index_or words (address l
     zeros : (n k : ℕ) → ◌≡◌ {A = ℕ} (slice_index_or (replicate {A = ℕ} n 0) k 0) 0
     zeros n k = ⊎_elim (λ (lt : k < n). get_or-replicate n k 0 0 lt) (λ (le : n ≤ k). let size : length (replicate {A = ℕ} n 0) ≡ n = length-replicate n 0 in get_or_past (replicate {A = ℕ} n 0) k 0 (omega (arith, size, le))) (cases_lt k n)
 
--- a row that stands first is that of the opening
+-- a row that comes first is that of the opening
 stood : (c : Setting) (stands : List Stand) → StandFirst c stands → (p : ℕ) → slice_index_or stands p nowhere ≡ (opening c).stand p
 stood c stands s p = ⊎_elim
     (λ (lt : p < passes c). s.each p lt ∙ sym (ap (λ (b : Bool). cond b (record { begun = 0; node = first_node c.config p; place = Place.Idle }) nowhere) (lt-ltb p (passes c) lt)))

@@ -4,7 +4,7 @@ use Rattle.cc_plan.specs.Plan.{plan_value}
 use Rattle.cc_play.specs.Schedule.{IsAt, IsBetweenTurns, follow, run_of}
 use Rattle.cc_play.proofs.player.follow.Given as goal
 
--- the machine stands at a run from which the rest of the schedule leads to the plan's
+-- the machine is at a run from which the rest of the schedule leads to the plan's
 abbrev pub invariant-loop-pass : goal.invariant-loop-pass
 invariant-loop-pass l = record {
   between : IsBetweenTurns (plan_value l.plan) l.machine l.begun.items;

@@ -17,7 +17,7 @@ returns-in-Some-clause-one c =
     let g = c.gather in
     record { seen = g.new.first.seen; senders_have = with_first g.new.first g.new.senders g.ensures.senders_one; receivers_have = g.ensures.receivers_one; given_up_have = g.ensures.given_up_one }
 
--- where there is no sender, the first of the receivers
+-- if there is no sender, the first of the receivers
 
 pub gather-requires-in-Some-split_first_mut-clause-receivers : goal.gather-requires-in-Some-split_first_mut-clause-receivers
 gather-requires-in-Some-split_first_mut-clause-receivers c = may_rest _ _ _ _ _ _ c.queue.view_is c.first-in-Some-split_first_mut.view_is (idle_receiver _ c.first-in-Some-split_first_mut.invariant) c.requires.receivers_are c.in-Some-split_first_mut.ensures.cases.0
@@ -33,7 +33,7 @@ returns-in-Some-split_first_mut-clause-one c =
     let g = c.gather-in-Some-split_first_mut in
     record { seen = g.new.first.seen; senders_have = g.ensures.senders_one; receivers_have = with_first g.new.first g.new.receivers g.ensures.receivers_one; given_up_have = g.ensures.given_up_one }
 
--- where no pass is live, the first of those that were given up
+-- if no pass is live, the first of those that were abandoned
 
 pub gather-requires-in-Some-split_first_mut-2-clause-given_up : goal.gather-requires-in-Some-split_first_mut-2-clause-given_up
 gather-requires-in-Some-split_first_mut-2-clause-given_up c = may_rest _ _ _ _ _ _ c.queue.view_is c.first-in-Some-split_first_mut-2.view_is c.first-in-Some-split_first_mut-2.invariant.stopped c.requires.given_up_are c.in-Some-split_first_mut-2.ensures.cases.0

@@ -5,7 +5,7 @@ use Rattle.cc_play.specs.Schedule.{IsBetweenTurns, follow, run_of}
 use Rattle.cc_show.specs.Events.{event_limit, Stands}
 use Rattle.cc_show.proofs.player.play_events.Given as goal
 
--- the machine stands at a run from which the rest of the schedule leads to the plan's
+-- the machine is at a run from which the rest of the schedule leads to the plan's
 abbrev pub invariant-loop-pass : goal.invariant-loop-pass
 invariant-loop-pass l = record {
   short : length l.events.items ≤ event_limit;

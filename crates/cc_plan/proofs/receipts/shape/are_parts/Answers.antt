@@ -14,7 +14,7 @@ use Rattle.cc_plan.specs.ReceiptsShape.{are_parts}
 use Rattle.cc_plan.proofs.receipts.shape.are_parts.Goals as goal
 use Rattle.cc_plan.proofs.receipts.shape.are_parts.Goals.{then-first-numbers, else-first-numbers}
 
--- just so many, and a value behind them
+-- exactly this number, and a value after them
 of_count : (version : ℕ) (ds : List Data) (d : Data) → are_parts version (length ds) (ds ++ d ∷ []) ≡ (list_all is_number ds && is_body version d)
 of_count version ds d = rw (take-append_seam ds (d ∷ []), get_last ds d, length-append ds (d ∷ [])) grind (arith, nat_tests)
 
