@@ -7,8 +7,8 @@ Five checks, in about a second:
 
 - Words: README.md has at most 900, and README.md with docs/*.md at most 35,000, as `wc -w` counts them, without
   docs/STATEMENTS*, which a script writes. --words prints the number of words of each document, and checks nothing.
-- Patterns: none of PATTERNS is found in a document, or in a comment of the C headers. Each names the words to use, and has a
-  sentence in which it is found.
+- Patterns: none of PATTERNS is found in a document, or in a comment of the C headers, of code or of definitions. Each names
+  the words to use, and has a sentence in which it is found.
 - Quotes: after a line `<!-- from PATH -->` the next block of code has the lines of that file, one after another.
 - Figures: after README's line `<!-- figures of docs/BENCH.md -->` a table has in its columns the medians that docs/BENCH.md
   has in the tables and columns of FIGURES, row by row.
@@ -29,6 +29,7 @@ LIMIT_OF_README, LIMIT_OF_ALL = 900, 35_000
 COUNTED = ["README.md", "docs/*.md"]
 READ = [*COUNTED, "CONTRIBUTING.md", "CHANGELOG.md", "bindings/*/*.md", "examples/README.md"]
 HEADERS = ["bindings/c/vahepito*.h"]
+CODE = ["crates/*/src/**/*.rt", "crates/*/specs/**/*.antt"]
 FIGURES = [
     ("An item's time, by the clock", "one thread"),
     ("An item's time, by the clock", "4/4"),
@@ -36,7 +37,7 @@ FIGURES = [
     ("One call's time", "2/2 send p50"),
     ("A send that finds the queue full, by capacity", "1024"),
 ]
-WRITTEN_BY_SCRIPTS = re.compile(r"docs/STATEMENTS")
+WRITTEN_BY_SCRIPTS = re.compile(r"docs/STATEMENTS|crates/cc_show/src/page.rt")
 
 # What a reader stumbles over, what to write instead, and a sentence that had it.
 PATTERNS = [
@@ -73,7 +74,8 @@ PATTERNS = [
 
 def documents(patterns):
     """The paths of the documents that these patterns name, from the top."""
-    found = [os.path.relpath(path, TOP) for pattern in patterns for path in sorted(glob.glob(os.path.join(TOP, pattern)))]
+    paths = [path for pattern in patterns for path in sorted(glob.glob(os.path.join(TOP, pattern), recursive=True))]
+    found = [os.path.relpath(path, TOP) for path in paths]
     return [path for path in found if not WRITTEN_BY_SCRIPTS.match(path)]
 
 
@@ -117,8 +119,22 @@ def comments(text):
         yield text[:comment.start()].count("\n") + 1, re.sub(r"\n \*( |$)", " ", comment[0], flags=re.MULTILINE)
 
 
+def line_comments(text):
+    """The paragraphs of the comments that stand on lines of their own, each with the number of its first line."""
+    begun, parts = 0, []
+    for number, line in enumerate([*text.split("\n"), ""], 1):
+        found = re.fullmatch(r" *(?:///|//!|//|--)(?: (.*))?", line)
+        if parts and (not found or not found[1] or re.match(r"[-*] ", found[1])):
+            yield begun, re.sub(r"`[^`]*`", "`..`", " ".join(parts))
+            parts = []
+        if found and found[1]:
+            begun = begun if parts else number
+            parts.append(re.sub(r"^[-*] ", "", found[1].strip()))
+
+
 def check_patterns():
     parts = [(path, *part) for path in documents(READ) for part in prose(read(path))]
+    parts += [(path, *part) for path in documents(CODE) for part in line_comments(read(path))]
     parts += [(path, *part) for path in documents(HEADERS) for part in comments(read(path))]
     for pattern, instead, example in PATTERNS:
         if not re.search(pattern, example):
