@@ -47,7 +47,10 @@ fn archive(name: &str) -> PathBuf {
     let path = packed(&place, &Path::new("..").join(&place));
     if !path.is_file() {
         stop(&[
-            &format!("vahepito is built for x86_64-unknown-linux-gnu, and the target is {target}: there is no {}", path.display()),
+            &format!(
+                "vahepito is built for x86_64-unknown-linux-gnu, and the target is {target}: there is no {}",
+                path.display()
+            ),
             "VAHEPITO_LIB and VAHEPITO_HEAP name archives that were built for it",
         ]);
     }

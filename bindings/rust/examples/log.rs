@@ -9,8 +9,8 @@
 //!
 //!     cargo run --release --example log [EVENTS]
 //!
-//! tells how many events were archived, and how many alarms there were, where each thread writes so
-//! many events (10,000). Each service is a group of receivers: it gets every event once.
+//! prints how many events were archived, and how many alarms there were, when each thread writes
+//! this number of events (10,000). Each service is a group of receivers: it gets every event once.
 use std::thread;
 use vahepito::words::{Config, Item, OpenError, open_groups};
 

@@ -1,9 +1,9 @@
 //! A pipeline of three stages: one thread gives numbers, four count the steps of each to 1 (halved
-//! where it is even, else three times and one more), and one looks for the greatest count.
+//! if it is even, else three times and one more), and one looks for the greatest count.
 //!
 //!     cargo run --release --example pipeline [LIMIT]
 //!
-//! tells the number below LIMIT (100,000) that takes the most steps. Each stage ends when the one
+//! prints the number below LIMIT (100,000) that takes the most steps. Each stage ends when the one
 //! before it has ended: its last sender is dropped, and that closes the queue.
 use std::thread;
 use vahepito::words::{Config, OpenError, open};

@@ -16,7 +16,7 @@ struct Pool {
 }
 
 impl Pool {
-    /// So many threads, and room for so many jobs that wait.
+    /// This number of threads, and room for this number of jobs that wait.
     fn start(threads: usize, room: usize) -> Result<Pool, OpenError> {
         let (jobs, receiver) = channel::<Job>(room)?;
         let thread = |_| {

@@ -21,7 +21,7 @@ use std::io::{self, Write};
 use std::sync::atomic::{Ordering, fence};
 use std::time::Instant;
 
-/// What a send was answered.
+/// The answer of a send.
 #[derive(Clone, Copy, Debug, PartialEq, Eq)]
 pub enum Sent {
     /// The queue accepted the item.
@@ -32,7 +32,7 @@ pub enum Sent {
     Closed,
 }
 
-/// What a take was answered.
+/// The answer of a take.
 #[derive(Clone, Copy, Debug, PartialEq, Eq)]
 pub enum Taken {
     /// It got this item.
@@ -43,7 +43,7 @@ pub enum Taken {
     Ended,
 }
 
-/// What a call does, and its answer if it returned.
+/// The act of a call, and its answer if it returned.
 #[derive(Clone, Copy, Debug)]
 enum Call {
     Send(u64, Option<Sent>),
@@ -89,7 +89,8 @@ impl Recorder {
         answer
     }
 
-    /// Nanoseconds from the start. What the thread wrote before is seen by then, and what it reads later is read later.
+    /// Nanoseconds from the start. All that the thread wrote before is seen by then, and all that it reads later is read
+    /// later.
     fn now(&self) -> u64 {
         fence(Ordering::SeqCst);
         let nanoseconds = self.start.elapsed().as_nanos();

@@ -1,9 +1,10 @@
-//! What the handles of a channel share: the seats of either side, the lines, and the calls that don't
-//! wait.
+//! The state that the handles of a channel share: the seats of either side, the lines, and the calls that
+//! don't wait.
 //!
-//! The queue below accepts so many items in all, and each of its senders begins so many sends. When
-//! either is used up, a further queue takes its place, and so it does when a group has lost its last
-//! receiver: while all seats are taken, what is left is moved over. For all other calls this is one step.
+//! The queue below accepts a limited number of items in all, and each of its senders begins a limited number
+//! of sends. When either is used up, a further queue takes its place, and so it does when a group has lost
+//! its last receiver: while all seats are taken, the remaining items are moved over. For all other calls this
+//! is one step.
 //!
 //! **Order of locks**: the state, all seats, a line. A holder of a seat makes one call of the queue, and
 //! takes no other lock. Code of others (an item's drop or copy, a waker) runs while none is held.
@@ -21,12 +22,12 @@ use std::panic::resume_unwind;
 use std::sync::Mutex;
 use std::sync::atomic::{AtomicBool, AtomicUsize, Ordering};
 
-/// What a try gives, or when it is to be made again.
+/// The result of a try, or when it is to be made again.
 pub type Try<R> = Result<R, Again>;
 
 /// A side of the channel: its senders, or a group of receivers.
 pub struct Side {
-    /// Where its calls wait: for room, or for items.
+    /// The line in which its calls wait: for room, or for items.
     pub line: Event,
     pub seats: Pool,
     /// Whether it has lost its last handle, and whether what comes of that is done.
@@ -49,7 +50,7 @@ impl Side {
     }
 }
 
-/// What a channel has in the place of a queue.
+/// The rooms of a channel without a queue.
 pub enum Special<T> {
     /// It has capacity 0.
     Meeting(Meeting<T>),
@@ -57,7 +58,7 @@ pub enum Special<T> {
     Timer(Timer<T>),
 }
 
-/// What changes with the queue.
+/// The state that changes with the queue.
 pub struct State {
     /// The number of the queue, from 0.
     pub queue: u64,
@@ -135,7 +136,7 @@ impl<T> Core<T> {
         }
     }
 
-    /// What it has if it has capacity 0.
+    /// Its rooms if it has capacity 0.
     #[inline]
     pub fn meeting(&self) -> Option<&Meeting<T>> {
         match &self.special {
@@ -343,8 +344,8 @@ impl<T> Core<T> {
         panic
     }
 
-    /// The last handle of this side is gone: the channel is closed, or goes on without this group. What the
-    /// group hasn't taken is let go.
+    /// The last handle of this side is gone: the channel is closed, or goes on without this group. The items
+    /// that the group hasn't taken are dropped.
     pub fn lose(&self, side: usize) {
         let mut state = lock(&self.state);
         self.side(side).lost.store(true, Ordering::SeqCst);

@@ -1,4 +1,4 @@
-//! Why a channel's call wasn't done. What wasn't sent is handed back.
+//! Why a channel's call wasn't done. An item that wasn't sent is handed back.
 use std::error::Error;
 use std::fmt::{self, Debug, Display, Formatter};
 

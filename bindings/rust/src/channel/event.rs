@@ -1,4 +1,4 @@
-//! Where callers wait, and why no wake-up is lost.
+//! The lines in which callers wait, and why no wake-up is lost.
 //!
 //! An event is a line of those that wait: for an item, for room, or for a free seat. A waiter is a
 //! [`Waker`]: a task's, or that of a thread that parks. Waiting goes so, step by step on either side:
@@ -58,8 +58,8 @@
 //! **Rings for nothing** are harmless: their waiter tries, finds nothing, and stands in line again.
 //! So a take rings for room though another group hasn't taken the item yet, and a close rings for all.
 //!
-//! `tests/wakeups.rs` searches all interleavings of these steps in small models, and finds the lost
-//! wake-up where one of them is left out.
+//! `tests/wakeups.rs` searches all interleavings of these steps in small models, and finds the lost wake-up
+//! if one of them is left out.
 use crate::words::backoff::Backoff;
 use std::any::Any;
 use std::cell::RefCell;
@@ -221,8 +221,8 @@ impl Event {
         }
     }
 
-    /// Changes the line, and then tells its length. A waker that it gives is used, or dropped, once
-    /// the lock is released.
+    /// Changes the line, and then writes its length. A waker that it returns is used, or dropped, once the
+    /// lock is released.
     fn with_line<R>(&self, change: impl FnOnce(&mut Line) -> R) -> R {
         let mut line = lock(&self.line);
         let changed = change(&mut line);

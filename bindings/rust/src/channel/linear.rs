@@ -13,7 +13,7 @@ use std::time::Duration;
 
 const THREADS: usize = 4;
 
-/// What a call returned; if that is a receiver's, with its group.
+/// The result of a call; if that is a receiver's, with its group.
 #[derive(Clone, Copy, Debug, PartialEq, Eq)]
 enum Told {
     Sent(u32),
@@ -67,7 +67,7 @@ struct Model {
 }
 
 impl Model {
-    /// With this capacity, so many senders, and so many receivers of each group.
+    /// With this capacity, this number of senders, and this number of receivers of each group.
     fn start(capacity: usize, senders: usize, receivers: &[usize]) -> Model {
         let group = |&receivers: &usize| {
             let items = VecDeque::new();
@@ -446,7 +446,7 @@ impl Clock {
     }
 }
 
-/// One thread's calls, at random, of so many kinds: those from 30 on are of selects.
+/// One thread's calls, at random, of this number of kinds: those from 30 on are of selects.
 fn calls(own: &mut Own, clock: &Clock, mut random: Random, first: u32, kinds: u64) -> Vec<Call> {
     clock.start();
     let mut all = vec![];
@@ -479,7 +479,7 @@ fn calls(own: &mut Own, clock: &Clock, mut random: Random, first: u32, kinds: u6
     all
 }
 
-/// So many channels of so many groups, and how the calls of four threads on each went.
+/// This number of channels of this number of groups, and the record of the calls of four threads on each.
 struct Runs {
     groups: usize,
     life: u64,
@@ -589,7 +589,7 @@ impl Runs {
     }
 }
 
-/// Channels whose queues accept so many items, and whose senders begin so many sends.
+/// Channels whose queues accept this number of items, and whose senders begin this number of sends.
 fn runs(count: u64, groups: usize, life: u64, per_sender: u32) {
     let runs = Runs {
         groups,
@@ -601,7 +601,7 @@ fn runs(count: u64, groups: usize, life: u64, per_sender: u32) {
     runs.make(count);
 }
 
-/// Selects over such a channel, of so many groups, and another one of this capacity.
+/// Selects over such a channel, of this number of groups, and another one of this capacity.
 fn select_runs(count: u64, groups: usize, capacity: fn(u64) -> usize, other: usize) {
     let runs = Runs {
         groups,

@@ -1,6 +1,6 @@
 //! A channel of capacity 0: a send and a take meet.
 //!
-//! It stands beside the queue, under locks of its own, and rests on nothing of the queue's proof.
+//! It works without the queue, under locks of its own, and rests on nothing of the queue's proof.
 //!
 //! A waiter is posted in its channel: a thread that takes or selects; and a send, of a thread or a task, with
 //! its item. A call looks first whether one of the other side is posted. It takes the item of a send. It meets
@@ -16,8 +16,8 @@
 //!
 //! **A time that is over** hands the item back exactly if nobody took it: a send takes it off itself then.
 //!
-//! **Takes of tasks** aren't posted: nobody may wait until a task is polled. They stand in the receivers'
-//! line, for which each post of a send rings: see [`event`](super::event).
+//! **Takes of tasks** aren't posted: nobody may wait until a task is polled. They wait in the receivers' line,
+//! for which each post of a send rings: see [`event`](super::event).
 //!
 //! **A selected operation that is dropped** gives its pair up. The other one waits for a further one to meet.
 //!
@@ -62,7 +62,7 @@ impl Waiter {
         is_first
     }
 
-    /// Takes it off these channels, and tells who met it before.
+    /// Takes it off these channels, and returns the one that met it before.
     pub fn withdraw(self: &Arc<Waiter>, cases: &[Case]) -> Option<(usize, u64)> {
         for (_, channel, side) in cases {
             let posted = &mut lock(channel.lines()).posted[*side];

@@ -65,7 +65,7 @@ fn config(capacity: usize) -> Config {
 ///
 /// With capacity 0 a send is over when a receiver has taken the item. If its time is over before, nobody has
 /// it, and it is handed back. `try_send` succeeds if a thread waits in a take or a select, and `try_recv` if
-/// a send waits. Such a channel has no queue: it stands under locks, and rests on nothing that is proved.
+/// a send waits. Such a channel has no queue: it uses locks, and rests on nothing that is proved.
 ///
 /// The channel is closed by [`Sender::close`] or [`Receiver::close`], by the drop of the last sender,
 /// or by that of the last receiver, which also drops what is left in the channel.
@@ -85,8 +85,8 @@ fn config(capacity: usize) -> Config {
 ///
 /// # Errors
 ///
-/// The linked library is another one than this crate is for; a capacity out of its range; or want of
-/// memory for the queue.
+/// The linked library is another one than this crate is for; a capacity out of its range; or lack of memory
+/// for the queue.
 pub fn channel<T>(capacity: usize) -> Result<(Sender<T>, Receiver<T>), OpenError> {
     let core = Arc::new(match capacity {
         0 => Core::special(config(0), Special::Meeting(Meeting::new())),
@@ -140,7 +140,7 @@ fn open<T>(
     Ok((Handle::new(core, 0), receivers))
 }
 
-/// What doesn't compile: a handle doesn't go to another thread if its items can't, and no group clones items
+/// These don't compile: a handle doesn't go to another thread if its items can't, and no group clones items
 /// on one thread while another reads them unless they are made for it.
 ///
 /// ```compile_fail,E0277

@@ -53,7 +53,7 @@ pub struct Pool {
     seats: Box<[Seat]>,
     /// How many seats there are up to the last one that an item went through.
     used: AtomicUsize,
-    /// Where callers wait for a free seat.
+    /// The line in which callers wait for a free seat.
     free: Event,
 }
 
@@ -90,7 +90,7 @@ impl Drop for Held<'_> {
     }
 }
 
-/// Where the next thread begins.
+/// The seat at which the next thread begins.
 static NEXT: AtomicUsize = AtomicUsize::new(0);
 
 thread_local! {

@@ -107,7 +107,7 @@ impl<T> Receiver<T> {
     /// # Ok::<(), vahepito::OpenError>(())
     /// ```
     pub fn recv_timeout(&self, time: Duration) -> Result<T, RecvTimeoutError> {
-        // A moment that the clock can't tell never comes.
+        // A moment beyond the clock's range never comes.
         self.recv_until(Instant::now().checked_add(time))
     }
 

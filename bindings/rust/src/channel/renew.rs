@@ -12,7 +12,7 @@ impl<T> Core<T> {
     /// nothing has changed then. A closed queue stays as it is.
     ///
     /// A queue accepts more items, and a sender begins more sends, than the capacity: so that there are some
-    /// beside those by which items are moved over.
+    /// in addition to those by which items are moved over.
     pub fn renew(&self, state: &mut State) -> Option<Vec<Parcel<T>>> {
         let (words, capacity) = (words_of(self.copies), self.capacity());
         let is_alive = |&group: &usize| !self.side(group).is_lost();
@@ -33,7 +33,7 @@ impl<T> Core<T> {
             let empty = |pass: &mut Pass| pass.handle = Handle::empty();
             seats.iter_mut().for_each(|seat| empty(seat.pass()));
         }
-        // What the others have left is the end of what the slowest group has left.
+        // The items that the others have left are the end of those that the slowest group has left.
         let slowest = (0..alive.len()).max_by_key(|&at| self.len(alive[at]))?;
         let from = seats[1 + slowest][0].pass();
         kept.extend(iter::from_fn(|| from.handle.take(words).ok()));

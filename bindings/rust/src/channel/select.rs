@@ -32,7 +32,7 @@ use std::sync::Arc;
 use std::sync::atomic::{AtomicU64, Ordering};
 use std::time::{Duration, Instant};
 
-/// How a selected operation stands, until it is completed.
+/// The state of a selected operation, until it is completed.
 pub enum Begun {
     /// The channel keeps the item under this number.
     Kept(u64),
@@ -48,9 +48,9 @@ pub enum Begun {
 
 /// An operation of a select.
 pub trait Case {
-    /// Where one waits for it.
+    /// The line in which one waits for it.
     fn line(&self) -> &Event;
-    /// Where it is posted, and on which side, if the channel has capacity 0.
+    /// The channel and the side at which it is posted, if the channel has capacity 0.
     fn meeting(&self) -> Option<(&dyn Meets, usize)>;
     /// It is posted: rings for those of the other side that aren't.
     fn is_posted(&self);
@@ -486,7 +486,7 @@ impl<'a> Select<'a> {
         &mut self,
         time: Duration,
     ) -> Result<SelectedOperation<'a>, SelectTimeoutError> {
-        // A moment that the clock can't tell never comes.
+        // A moment beyond the clock's range never comes.
         let until = Instant::now().checked_add(time);
         self.select_until(until).ok_or(SelectTimeoutError)
     }
@@ -577,7 +577,7 @@ impl<'a> SelectedOperation<'a> {
         self.entry.index
     }
 
-    /// How it stands, if it is the operation of this handle.
+    /// Its state, if it is the operation of this handle.
     fn begun_of<H>(&mut self, handle: &H) -> Begun {
         assert!(
             addr_eq(self.entry.case, handle),

@@ -4,9 +4,9 @@
 ///
 /// An arm is one of these:
 ///
-/// - `recv(receiver) -> item => expression`, where `item` is a pattern for what [`recv`] returns;
-/// - `send(sender, item) -> sent => expression`, where `sent` is a pattern for what [`send`] returns, and
-///   `item` is evaluated if this operation is selected;
+/// - `recv(receiver) -> item => expression`, with a pattern `item` for the result of [`recv`];
+/// - `send(sender, item) -> sent => expression`, with a pattern `sent` for the result of [`send`], and `item`
+///   is evaluated if this operation is selected;
 /// - `default => expression`, once at most, if no operation is ready;
 /// - `default(time) => expression`, if none is ready in that time.
 ///

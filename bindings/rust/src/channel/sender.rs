@@ -109,7 +109,7 @@ impl<T> Sender<T> {
     /// # Ok::<(), vahepito::OpenError>(())
     /// ```
     pub fn send_timeout(&self, item: T, time: Duration) -> Result<(), SendTimeoutError<T>> {
-        // A moment that the clock can't tell never comes.
+        // A moment beyond the clock's range never comes.
         self.send_until(item, Instant::now().checked_add(time))
     }
 

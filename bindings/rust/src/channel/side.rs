@@ -5,7 +5,7 @@ use std::marker::PhantomData;
 use std::panic::{RefUnwindSafe, UnwindSafe};
 use std::sync::{Arc, Weak};
 
-/// What all handles of a side share. It goes with the last of them.
+/// The state that all handles of a side share. It goes with the last of them.
 struct Shared<T, S> {
     core: Arc<Core<T>>,
     /// 0 is that of the senders, and each other one a group of receivers.
@@ -52,7 +52,7 @@ impl<T, S> Handle<T, S> {
         self.shared.side
     }
 
-    /// Where its calls wait.
+    /// The line in which its calls wait.
     pub(super) fn line(&self) -> &Event {
         &self.core().side(self.side()).line
     }

@@ -6,7 +6,7 @@ use std::sync::Mutex;
 use std::thread;
 use std::time::Duration;
 
-/// So many items and sends, beside those that are moved over from the queue before.
+/// This number of items and sends, in addition to those that are moved over from the queue before.
 fn short_config(capacity: u32, life: u64, per_sender: u32) -> Config {
     Config {
         life: life + u64::from(capacity),
@@ -15,7 +15,8 @@ fn short_config(capacity: u32, life: u64, per_sender: u32) -> Config {
     }
 }
 
-/// A channel whose queues accept so many items, and whose senders begin so many sends.
+/// A channel whose queues accept this number of items, and whose senders begin this number of
+/// sends.
 fn short<T: Send>(capacity: u32, life: u64, per_sender: u32) -> (Sender<T>, Receiver<T>) {
     let config = short_config(capacity, life, per_sender);
     let (sender, mut receivers) = open(config, 1, None).unwrap();
@@ -152,7 +153,7 @@ fn an_idle_handle_goes_on() {
     assert_eq!(last.recv(), Err(RecvError));
 }
 
-/// A sender waits for room where one queue follows another, and a receiver that takes one item and
+/// A sender waits for room when one queue follows another, and a receiver that takes one item and
 /// no more makes it.
 #[test]
 fn room_between_two_queues() {

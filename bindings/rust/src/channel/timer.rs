@@ -94,7 +94,7 @@ pub fn at(moment: Instant) -> Receiver<Instant> {
 /// # Ok::<(), vahepito::OpenError>(())
 /// ```
 pub fn after(time: Duration) -> Receiver<Instant> {
-    // A moment that the clock can't tell never comes.
+    // A moment beyond the clock's range never comes.
     timer(
         Instant::now().checked_add(time),
         None,

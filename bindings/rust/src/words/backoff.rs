@@ -28,8 +28,8 @@ impl Backoff {
         self.round = self.round.saturating_add(1);
     }
 
-    /// Until the next try of a pass that has no call. Nobody waits for it, so it sleeps where it
-    /// has tried for long.
+    /// Until the next try of a pass that has no call. Nobody waits for it, so it sleeps if it has
+    /// tried for long.
     pub fn between_tries(&mut self) {
         let Some(slept) = self.round.checked_sub(SPINS + YIELDS) else {
             return self.between_turns();

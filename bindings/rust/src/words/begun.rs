@@ -123,7 +123,7 @@ impl<S> Pass<S> {
         self.sides[1..].iter().any(is_lost)
     }
 
-    /// Begins a call, for a guard. Returns an error if the sender is worn.
+    /// Begins a call, for a guard. Returns an error if the sender is exhausted.
     pub(super) fn begin_call(&mut self, call: Call) -> Result<(), SendError> {
         self.settle(true);
         match self.handle.begin(call) {
@@ -200,7 +200,7 @@ pub struct Pending<'a, S, A> {
     waited: u32,
 }
 
-/// What one turn of a guard returned.
+/// The result of one turn of a guard.
 #[derive(Debug)]
 #[must_use = "a call that was begun is to be turned until it is done"]
 pub enum Turn<P, A> {

@@ -1,8 +1,8 @@
-//! What a queue is opened with, and its opening.
+//! The configuration of a queue, and its opening.
 use crate::words::begun::{Pass, Side, Sides};
 use crate::words::{OpenError, Receiver, Sender, handle};
 
-/// What a queue is opened with.
+/// The configuration of a queue.
 ///
 /// ```
 /// use vahepito::words::Config;
@@ -15,7 +15,7 @@ use crate::words::{OpenError, Receiver, Sender, handle};
 pub struct Config {
     /// How many senders, 1 to 64.
     pub senders: u32,
-    /// How many receivers, 1 to 64; where there are several groups of them, how many in each.
+    /// The number of receivers, 1 to 64; if there are several groups of them, the number in each.
     pub receivers: u32,
     /// How many items the queue holds at once, 1 to 4,096.
     pub capacity: u32,
@@ -57,15 +57,14 @@ type Opened = (Vec<Sender>, Vec<Vec<Receiver>>);
 ///
 /// # Errors
 ///
-/// The linked library is another one than this crate is for; the first field of the configuration
-/// that is out of its range; else want of memory for the queue. (Where std has no memory for the `Vec`s, it ends the process, as always.)
+/// The linked library is another one than this crate is for; the first field of the configuration that is out of its range;
+/// else lack of memory for the queue. (If std has no memory for the `Vec`s, it ends the process, as always.)
 pub fn open(config: Config) -> Result<(Vec<Sender>, Vec<Receiver>), OpenError> {
     let (senders, groups) = open_groups(config, 1)?;
     Ok((senders, groups.into_iter().flatten().collect()))
 }
 
-/// Opens a queue whose receivers stand in groups, and gives its senders, and its receivers by their
-/// groups.
+/// Opens a queue whose receivers are in groups, and returns its senders, and its receivers by their groups.
 ///
 /// A group gets every item once: each item goes to one of its receivers. And every group gets every
 /// item, from the first one on, at its own pace.
@@ -81,8 +80,8 @@ pub fn open(config: Config) -> Result<(Vec<Sender>, Vec<Receiver>), OpenError> {
 /// There are 1 to 8 groups, with `config.receivers` receivers in each. Receivers are numbered
 /// through, group by group.
 ///
-/// An item takes up room until each group has taken it. So the slowest group sets the pace: where it
-/// falls `capacity` items behind, the senders are told `Full`, until it goes on.
+/// An item takes up room until each group has taken it. So the slowest group sets the pace: if it falls `capacity` items
+/// behind, the senders get `Full`, until it goes on.
 ///
 /// ```
 /// use std::thread;
@@ -106,8 +105,8 @@ pub fn open(config: Config) -> Result<(Vec<Sender>, Vec<Receiver>), OpenError> {
 ///
 /// # Errors
 ///
-/// As of [`open`]: another library; the first field of the configuration that is out of its range;
-/// then the number of groups, where it isn't from 1 to 8; else want of memory.
+/// As of [`open`]: another library; the first field of the configuration that is out of its range; then the number of groups,
+/// if it isn't from 1 to 8; else lack of memory.
 pub fn open_groups(config: Config, groups: u32) -> Result<Opened, OpenError> {
     let mut opened = handle::open(&config, groups, 1)?;
     let sides: Sides = opened.iter().map(|it| Side::new(it.len())).collect();

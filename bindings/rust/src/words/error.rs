@@ -3,7 +3,7 @@ use std::error::Error;
 use std::fmt::{Display, Formatter, Result};
 
 /// Why a queue or a channel wasn't opened: another library, the first field of its configuration that is
-/// out of its range, its number of groups, or want of memory.
+/// out of its range, its number of groups, or lack of memory.
 #[derive(Clone, Copy, Debug, PartialEq, Eq, Hash)]
 #[non_exhaustive]
 pub enum OpenError {

@@ -9,7 +9,7 @@ use std::iter;
 use std::mem::{MaybeUninit, size_of};
 use std::ptr::{null_mut, read_volatile};
 
-/// What a call tells, by the header's names.
+/// The codes that a call returns, by the header's names.
 pub mod code {
     pub const WORN: u32 = 13;
     pub const BEGUN: u32 = 14;
@@ -24,7 +24,7 @@ pub mod code {
     pub const ENDED: u32 = 25;
 }
 
-/// A code that the call doesn't tell.
+/// A code that the call doesn't return.
 #[cold]
 pub fn unexpected(code: u32) -> ! {
     panic!("the linked library isn't the one of this crate: it told {code} where it can't")
@@ -36,7 +36,7 @@ struct Pass {
     live: bool,
 }
 
-/// The version that this crate is for, as the library tells its own: this crate's own version.
+/// The version that this crate is for, as the library returns its own: this crate's own version.
 const VERSION: u32 = number(env!("CARGO_PKG_VERSION_MAJOR")) * 1_000_000
     + number(env!("CARGO_PKG_VERSION_MINOR")) * 1_000
     + number(env!("CARGO_PKG_VERSION_PATCH"));
@@ -143,8 +143,8 @@ pub enum Call {
     Take,
 }
 
-/// What a call returned: its code, the place or the total if the code has one, how many calls were served,
-/// and the item that a take got, else none.
+/// The result of a call: its code, the place or the total if the code has one, how many calls were served, and
+/// the item that a take got, else none.
 #[derive(Clone, Copy)]
 pub struct Answer {
     pub code: u32,
@@ -222,7 +222,7 @@ impl Handle {
         Answer::by(|item, total, served| vahepito_try_take(pass, item, total, served))
     }
 
-    /// Sends these words, of which there are so many, and waits for the answer: the code of a send.
+    /// Sends these words, of this number, and waits for the answer: the code of a send.
     #[inline]
     pub fn send(&mut self, words: &Words, count: usize) -> u32 {
         let (pass, at) = (&mut self.0, words.as_ptr());
@@ -234,8 +234,8 @@ impl Handle {
         answered(first, || vahepito_turn_send(&mut self.0, &mut 0, &mut 0))
     }
 
-    /// Takes the words of an item, of which there are so many, and waits for the answer. If there is no
-    /// item, it gives the code of the take.
+    /// Takes the words of an item, of this number, and waits for the answer. If there is no item, it returns
+    /// the code of the take.
     #[inline]
     pub fn take(&mut self, count: usize) -> Result<Words, u32> {
         let (take, turn): (Take, Take) = match count {
@@ -296,7 +296,7 @@ pub fn check_library() -> Result<(), OpenError> {
     Err(OpenError::OtherLibrary { linked, wanted })
 }
 
-/// What an opening tells by this code of the header.
+/// The result of an opening by this code of the header.
 fn told(code: u32) -> Result<(), OpenError> {
     use OpenError::*;
     /// From the code 1 on.

@@ -1,6 +1,6 @@
 #![doc = include_str!("../../WORDS.md")]
 //!
-//! [`channel`](crate::channel()) and [`groups`](crate::groups) stand over these queues.
+//! [`channel`](crate::channel()) and [`groups`](crate::groups) use these queues.
 
 pub(crate) mod backoff;
 mod begun;
@@ -16,7 +16,7 @@ pub use error::{OpenError, RecvError, SendError};
 pub use receiver::{Item, PendingRecv, Receiver, Receivers};
 pub use sender::{Closed, PendingClose, PendingSend, Sender, Senders};
 
-/// What doesn't compile: a pass is neither shared nor cloned, and a guard holds its pass.
+/// These don't compile: a pass is neither shared nor cloned, and a guard holds its pass.
 ///
 /// ```compile_fail,E0277
 /// fn shared<T: Sync>() {}

@@ -15,7 +15,7 @@ pub struct Item {
     pub sender: u32,
     /// Which of its sender's sends it is, from 1. Sends that weren't accepted count too.
     pub number: u32,
-    /// What was sent.
+    /// The item's word.
     pub body: u64,
 }
 
@@ -99,9 +99,8 @@ impl Receiver {
 
     /// Begins a take, and does nothing more.
     ///
-    /// The call stands in line among its group's calls from here on, and may be served by any of
-    /// them. So the guard is to be turned without delay, until it is done: see
-    /// [Guards](crate::words#guards).
+    /// The call is in line among its group's calls from here on, and may be served by any of them. So
+    /// the guard is to be turned without delay, until it is done: see [Guards](crate::words#guards).
     ///
     /// ```
     /// use vahepito::words::{Config, open};

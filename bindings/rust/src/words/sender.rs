@@ -16,7 +16,7 @@ pub type PendingSend<'a> = Pending<'a, Senders, Result<u64, SendError>>;
 /// A close that was begun: see [Guards](crate::words#guards).
 pub type PendingClose<'a> = Pending<'a, Senders, Closed>;
 
-/// What a close tells.
+/// The result of a close.
 #[derive(Clone, Copy, Debug, PartialEq, Eq, Hash)]
 pub struct Closed {
     /// How many items were accepted in all.
@@ -50,8 +50,8 @@ impl Sender {
         self.handle.is_worn()
     }
 
-    /// Sends, and gives the place of the item among all that the queue accepted, from 0. It doesn't
-    /// try again where the queue is full.
+    /// Sends, and returns the place of the item among all that the queue accepted, from 0. It doesn't
+    /// try again if the queue is full.
     ///
     /// It isn't crossbeam's `try_send` in this: another thread may be serving the calls of all
     /// senders at this moment, and then it waits for its answer. To do something else meanwhile,
@@ -59,8 +59,8 @@ impl Sender {
     ///
     /// # Errors
     ///
-    /// See [`SendError`]. `Full` is told by what the sender knew: `capacity` items had been
-    /// accepted beyond those of which it knew that they were taken.
+    /// See [`SendError`]. `Full` goes by what the sender knew: `capacity` items had been accepted
+    /// beyond those of which it knew that they were taken.
     ///
     /// ```
     /// use vahepito::words::{Config, SendError, open};
@@ -87,8 +87,8 @@ impl Sender {
     /// # Errors
     ///
     /// See [`SendError`]. `Disconnected` isn't an answer of the queue but of this crate: the queue was
-    /// full, and all receivers of a group were dropped. Where there is no other group, the queue stays
-    /// full. Where another group was behind that one, it may still make room, for at most `capacity`
+    /// full, and all receivers of a group were dropped. If there is no other group, the queue stays
+    /// full. If another group was slower than that one, it may still make room, for at most `capacity`
     /// items, until it has caught up; then the queue stays full.
     pub fn send(&mut self, body: u64) -> Result<u64, SendError> {
         let (mut backoff, mut lost) = (Backoff::new(), false);
@@ -97,7 +97,7 @@ impl Sender {
                 Err(SendError::Full) if lost => return Err(SendError::Disconnected),
                 Err(SendError::Full) => {
                     // Receivers that are gone may have gone because the queue was closed since: the
-                    // next try tells.
+                    // next try says.
                     lost = self.has_lost_a_group();
                     backoff.between_tries();
                 }
@@ -107,7 +107,7 @@ impl Sender {
     }
 
     /// Closes the queue: nothing is accepted after it, and the receivers see the end once they have
-    /// taken what was accepted. A worn sender may close, and a queue may be closed twice.
+    /// taken what was accepted. An exhausted sender may close, and a queue may be closed twice.
     ///
     /// ```
     /// use vahepito::words::{Closed, Config, RecvError, SendError, open};
@@ -126,9 +126,8 @@ impl Sender {
 
     /// Begins a send, and does nothing more.
     ///
-    /// The call stands in line among the senders' calls from here on, and may be served by any of
-    /// them. So the guard is to be turned without delay, until it is done: see
-    /// [Guards](crate::words#guards).
+    /// The call is in line among the senders' calls from here on, and may be served by any of them. So
+    /// the guard is to be turned without delay, until it is done: see [Guards](crate::words#guards).
     ///
     /// # Errors
     ///
