@@ -30,13 +30,13 @@ text_of() {
     awk '
         function begin(name, what) { printf "\n/// %s\npub const %s: &[u8] = b\"\\\n", what, name }
         function literal(s) { gsub(/[\\"]/, "\\\\&", s); return s }
-        BEGIN { begin("FRONT", "What stands before the run.") }
+        BEGIN { begin("FRONT", "The text before the run.") }
         {
             line = $0
             while (match(line, /@(run|report)@/)) {
                 printf "%s\";\n", literal(substr(line, 1, RSTART - 1))
-                if (substr(line, RSTART, RLENGTH) == "@run@") begin("MIDDLE", "What stands between the run and the report.")
-                else begin("BACK", "What stands behind the report.")
+                if (substr(line, RSTART, RLENGTH) == "@run@") begin("MIDDLE", "The text between the run and the report.")
+                else begin("BACK", "The text after the report.")
                 line = substr(line, RSTART + RLENGTH)
             }
             printf "%s\n", literal(line)
