@@ -2,6 +2,7 @@
 //! for is counted, and what the C library has handed out.
 use std::alloc::{GlobalAlloc, Layout, System};
 use std::cell::Cell;
+use std::hint::black_box;
 use std::sync::Barrier;
 use std::thread;
 use std::time::Duration;
@@ -37,7 +38,7 @@ fn asked(call: impl FnOnce()) -> u64 {
 
 #[test]
 fn what_asks_is_counted() {
-    assert_eq!(asked(|| drop(Box::new([7; 9]))), 1);
+    assert_eq!(asked(|| drop(black_box(Box::new([7; 9])))), 1);
     assert!(asked(|| drop(channel::<u8>(1))) > 0);
 }
 
