@@ -4,8 +4,7 @@
     bench/channel.py COMMIT [--seconds N] [--only MODE]
 
 One command, in some N seconds (330 if no number is given) after the build. The crate of the commit is taken by
-git archive into bench/channel/out, and both are linked with crates/cc_binding/out/libcc_binding.a, which
-tools/build_library.sh builds. crossbeam's channel is Debian's librust-crossbeam-channel-dev; the run goes on without it.
+git archive into bench/channel/out, and both are linked with the archives in bindings/lib. crossbeam's channel is Debian's librust-crossbeam-channel-dev; the run goes on without it.
 
 A round runs each burst once, in a random order, each in a process of its own: half of the rounds with nothing beside it,
 and half with a process that is busy on each processor. Medians are printed, with quartiles in brackets, and the median
@@ -25,7 +24,8 @@ HERE = os.path.dirname(os.path.abspath(__file__))
 TOP = os.path.dirname(HERE)
 OUT = os.path.join(HERE, "channel", "out")
 REGISTRY = "/usr/share/cargo/registry"
-ARCHIVE = os.environ.get("VAHEPITO_LIB", os.path.join(TOP, "crates", "cc_binding", "out", "libcc_binding.a"))
+LIBRARY = os.path.join(TOP, "bindings", "lib", "x86_64-unknown-linux-gnu")
+ARCHIVES = {"VAHEPITO_LIB": os.path.join(LIBRARY, "libvahepito.a"), "VAHEPITO_HEAP": os.path.join(LIBRARY, "libvahepito_heap.a")}
 
 VERSION = r'(?m)(?<=^version = ")\d+\.\d+\.\d+(?="$)'
 
@@ -66,7 +66,7 @@ def build(name, crate, peers, selects):
         file.write(f'[source.crates-io]\nreplace-with = "debian"\n\n[source.debian]\ndirectory = "{REGISTRY}"\n' if peers else "")
     features = ["select"] * selects + ["crossbeam-channel"] * peers
     words = ["cargo", "build", "-q", "--release", "--offline", "--features", ",".join(features)]
-    environment = {**os.environ, "VAHEPITO_LIB": ARCHIVE, "CARGO_TARGET_DIR": os.path.join(room, "target")}
+    environment = {**ARCHIVES, **os.environ, "CARGO_TARGET_DIR": os.path.join(room, "target")}
     subprocess.run(words, cwd=room, check=True, env=environment)
     return os.path.join(room, "target", "release", "channel")
 
