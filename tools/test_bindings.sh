@@ -52,7 +52,7 @@ else
     skip 'Rust: clippy' 'it is not on this machine'
 fi
 # Two tests look at how much memory the process has, which says nothing under another allocator; two search a model,
-# and call nothing. Of the rounds of the long tests a twentieth is enough here; all were made by the tests above.
+# and call nothing. Of the rounds of the long tests a few are enough from here on; all were made by the tests above.
 fewer=(--skip frees_the_queue --skip cheap_in_memory --skip interleaving --skip the_search)
 # Its dependencies are Debian's librust-futures-core-dev and librust-futures-sink-dev.
 registry=/usr/share/cargo/registry
@@ -67,7 +67,7 @@ host=$(rustc -vV | sed -n 's/^host: //p')
 if has valgrind; then
     lost='definite,indirect'
     valgrind="valgrind -q --fair-sched=yes --error-exitcode=99 --leak-check=full --show-leak-kinds=$lost --errors-for-leak-kinds=$lost"
-    limit=600 step 'Rust: under valgrind' env "CARGO_TARGET_$(tr 'a-z-' 'A-Z_' <<<"$host")_RUNNER=$valgrind" VAHEPITO_ROUNDS=5 \
+    limit=600 step 'Rust: under valgrind' env "CARGO_TARGET_$(tr 'a-z-' 'A-Z_' <<<"$host")_RUNNER=$valgrind" VAHEPITO_ROUNDS=2 \
         cargo "${options[@]}" test --tests -- "${fewer[@]}"
 else
     skip 'Rust: under valgrind' 'valgrind is not on this machine'
@@ -95,7 +95,7 @@ package=$(echo "$room"/vahepito-*.crate)
 tar xzf "$package" -C "$room"
 package=$room/$(basename "$package" .crate)
 export CARGO_TARGET_DIR=$room/of_package
-limit=600 step 'Rust: the tests of the package' bash -c "cd '$package' && cargo test --quiet --offline"
+limit=600 step 'Rust: the tests of the package' bash -c "cd '$package' && VAHEPITO_ROUNDS=5 cargo test --quiet --offline"
 cargo clippy --version >/dev/null 2>&1 &&
     step 'Rust: clippy on the package' bash -c "cd '$package' && cargo clippy --quiet --offline --all-targets -- -D warnings"
 (cp -r "$top/bindings" "$room/repository" && cd "$room/repository" && git init -q . && git add . &&
