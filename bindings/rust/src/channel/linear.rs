@@ -36,8 +36,6 @@ enum Told {
     SentToRoom(u32),
     RoomClosed,
     GaveBack,
-    /// No operation of a select was ready: whether it had a take and a send of this channel, and of the other.
-    NoneReady(usize, [(bool, bool); 2]),
 }
 
 #[derive(Clone, Copy, Debug)]
@@ -127,11 +125,6 @@ impl Model {
                 self.reserved -= 1;
                 true
             }
-            Told::NoneReady(group, [(takes, sends), _]) => {
-                let is_empty = !takes || self.group(group).items.is_empty();
-                let is_full = !sends || self.is_full();
-                is_empty && is_full && !(takes || sends) | !self.closed
-            }
             Told::Full => !self.closed && self.is_full(),
             Told::SendClosed => self.closed,
             Told::Got(group, item) => self.group(group).items.pop_front() == Some(item),
@@ -200,18 +193,13 @@ fn make(calls: &[Call], all: &[usize], models: &mut [Model; 2]) -> bool {
     let Call { channel, told, .. } = calls[*first];
     match told {
         _ if all.len() == 2 => !models[channel].closed,
-        Told::NoneReady(group, [of_this, of_other]) => {
-            let other = Told::NoneReady(0, [of_other, of_this]);
-            models[channel].makes(Told::NoneReady(group, [of_this, of_other]))
-                && models[1 - channel].makes(other)
-        }
         told => models[channel].makes(told),
     }
 }
 
 /// Whether there is such an order.
 fn is_linear(calls: &[Call], start: [Model; 2]) -> bool {
-    let (all, mut seen) = ((1_u64 << calls.len()) - 1, HashSet::new());
+    let (all, mut seen) = ((1_u128 << calls.len()) - 1, HashSet::new());
     let mut left = vec![(0, start)];
     while let Some((made, models)) = left.pop() {
         if made == all {
@@ -330,16 +318,13 @@ impl Own {
         let senders = [self.senders.last(), Some(&self.other.0)];
         let mut select = Select::new();
         let mut operations = vec![];
-        let mut of_channels = [(false, false); 2];
         for channel in 0..2 {
             if let Some(receiver) = receivers[channel].filter(|_| bits >> channel & 1 == 1) {
                 select.recv(receiver);
-                of_channels[channel].0 = true;
                 operations.push((channel, false));
             }
             if let Some(sender) = senders[channel].filter(|_| bits >> (2 + channel) & 1 == 1) {
                 select.send(sender);
-                of_channels[channel].1 = true;
                 operations.push((channel, true));
             }
         }
@@ -350,8 +335,13 @@ impl Own {
         };
         let end = clock.now();
         let Some(operation) = operation else {
-            let told = Told::NoneReady(self.group, of_channels);
-            return vec![(begin, end, 0, told)];
+            // Each wasn't ready at a moment of its own.
+            let not_ready = |&(channel, sends): &(usize, bool)| {
+                let take = Told::Empty([self.group, 0][channel]);
+                let told = if sends { Told::Full } else { take };
+                (begin, end, channel, told)
+            };
+            return operations.iter().map(not_ready).collect();
         };
         let (channel, sends) = operations[operation.index()];
         let has_room = matches!(operation.begun, Some(Begun::Room));
@@ -693,7 +683,6 @@ fn what_has_no_order_is_refused() {
     for calls in refused {
         assert!(!is_linear(&calls), "{calls:?}");
     }
-    let none_ready = Told::NoneReady(0, [(true, false), (true, false)]);
     let of_other = |call: Call| Call { channel: 1, ..call };
     let refused = [
         vec![call(0, 1, Told::Reserved), sent_at(2)],
@@ -707,24 +696,18 @@ fn what_has_no_order_is_refused() {
             call(2, 3, Told::GaveBack),
             call(4, 5, Told::Full),
         ],
-        vec![sent, call(2, 3, none_ready)],
-        // One of the two has an item all the time.
-        vec![
-            sent,
-            call(2, 9, none_ready),
-            of_other(call(3, 4, Told::Sent(8))),
-            call(5, 6, Told::Got(0, 7)),
-            of_other(call(10, 11, Told::Got(0, 8))),
-        ],
     ];
     for calls in refused {
         assert!(!is_linear(&calls), "{calls:?}");
     }
+    // The operations of a select, each of which isn't ready at a moment of its own.
     assert!(is_linear(&[
         sent,
-        call(2, 9, none_ready),
-        call(3, 4, Told::Got(0, 7)),
-        of_other(call(5, 6, Told::Sent(8))),
+        call(2, 9, Told::Empty(0)),
+        of_other(call(2, 9, Told::Empty(0))),
+        of_other(call(3, 4, Told::Sent(8))),
+        call(5, 6, Told::Got(0, 7)),
+        of_other(call(10, 11, Told::Got(0, 8))),
     ]));
     let meets = |calls: &[Call]| super::linear::is_linear(calls, start(0));
     let meeting = |begin| call(begin, begin + 2, Told::Sent(7));

@@ -16,10 +16,8 @@ impl<T> Core<T> {
     /// some moment of this call.
     pub fn seems_to_have_item(&self, group: usize) -> Try<()> {
         // In this order, so that the number of items is never too small.
-        let has_item = || {
-            let taken = self.side(group).seats.count();
-            taken < self.senders.seats.count()
-        };
+        let taken = self.side(group).seats.count();
+        let has_item = || taken < self.senders.seats.count();
         if !has_item() {
             settle(&self.senders.seats);
         }

@@ -5,8 +5,8 @@
 //! of the lines rings, leaves all, and tries again. It passes on the ring of each line from which it takes
 //! nothing. So no wake-up is lost, and while it is blocked it costs nothing.
 //!
-//! **None is ready**, it says after its time only if that was so at one moment: while it stood in all lines
-//! and looked, nobody rang in any of them.
+//! **None is ready**, it says after its time if each operation wasn't ready at a moment of this call, after which
+//! nobody rang for it. These moments may differ: a send that is on its way rings after its item is in.
 //!
 //! **A selected take has its item.** The try is the take itself, so there is one, and no other receiver gets
 //! the item. The channel keeps it until [`SelectedOperation::recv`] hands it over.
@@ -360,7 +360,7 @@ impl<'a> Select<'a> {
     }
 
     /// Stands in all lines, looks, and parks; leaves all, and tries again. If none is done, returns whether
-    /// there was no ring: then at the end of the look none was ready. The ring of a line is passed on if its
+    /// there was no ring: then each wasn't ready when it was looked at. The ring of a line is passed on if its
     /// operation wasn't tried after it, or was only looked at and is ready.
     fn stand_and_park(
         &self,
