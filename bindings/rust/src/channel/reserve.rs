@@ -30,9 +30,22 @@ impl<T> Core<T> {
     /// Whether there seems to be room that isn't reserved, or none will come. If it says no, there was none at
     /// some moment of this call.
     pub fn seems_to_have_room(&self) -> Try<()> {
+        self.has_room_beside(0)?;
+        let reserved = self.reserved.load(Ordering::SeqCst);
+        if reserved == 0 || self.has_room_beside(reserved).is_ok() {
+            return Ok(());
+        }
+        // Not while a selected send is on its way: its item may be taken before its place is counted down.
+        let _state = lock(&self.state);
+        let _seats = self.senders.seats.take_all();
+        self.has_room_beside(self.reserved.load(Ordering::SeqCst))
+    }
+
+    /// Whether there is room beside these reserved places, or none will come. If it says no, there was none at
+    /// some moment of this call, if they were reserved all the time.
+    fn has_room_beside(&self, reserved: usize) -> Try<()> {
         // In this order, so that the number of items is never too large.
         let sent = self.senders.seats.count();
-        let reserved = self.reserved.load(Ordering::SeqCst);
         let is_full = |seats: &Pool| {
             let items = sent.saturating_sub(seats.count()) as usize;
             items + reserved >= self.capacity()
@@ -62,7 +75,7 @@ impl<T> Core<T> {
         if self.is_closed() {
             return Ok(false);
         }
-        self.seems_to_have_room()?;
+        self.has_room_beside(self.reserved.load(Ordering::SeqCst))?;
         self.reserved.fetch_add(1, Ordering::SeqCst);
         Ok(true)
     }
@@ -103,7 +116,7 @@ impl<T> Core<T> {
     pub fn send_beside_reserved(&self, parcel: &Parcel<T>) -> Try<bool> {
         let state = lock(&self.state);
         let mut seats = self.senders.seats.take_all();
-        self.seems_to_have_room()?;
+        self.has_room_beside(self.reserved.load(Ordering::SeqCst))?;
         let sent = self.send_by(&mut seats[0], parcel);
         drop(seats);
         drop(state);
