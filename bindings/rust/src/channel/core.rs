@@ -9,7 +9,7 @@
 //! **Order of locks**: the state, all seats, a line. A holder of a seat makes one call of the queue, and
 //! takes no other lock. Code of others (an item's drop or copy, a waker) runs while none is held.
 use super::body::{Copies, Parcel, words_of};
-use super::event::{Again, Event, Panic, keep_first, let_be, lock, panic_of};
+use super::event::{Again, Event, Panic, Try, first_of, let_be, lock, run_each};
 use super::meeting::Meeting;
 use super::pool::{Held, Pass, Pool};
 use super::select::Kept;
@@ -21,9 +21,7 @@ use std::iter;
 use std::panic::resume_unwind;
 use std::sync::Mutex;
 use std::sync::atomic::{AtomicBool, AtomicUsize, Ordering};
-
-/// The result of a try, or when it is to be made again.
-pub type Try<R> = Result<R, Again>;
+use std::thread::panicking;
 
 /// A side of the channel: its senders, or a group of receivers.
 pub struct Side {
@@ -38,7 +36,7 @@ pub struct Side {
 impl Side {
     fn new(handles: Vec<Handle>) -> Side {
         Side {
-            line: Event::new(),
+            line: Event::default(),
             seats: Pool::new(handles),
             lost: AtomicBool::new(false),
             gone: AtomicBool::new(false),
@@ -82,19 +80,11 @@ pub struct Core<T> {
     pub kept: Mutex<Kept<T>>,
 }
 
-/// Drops each of these, and gives the first panic.
-fn drop_all<D>(all: impl IntoIterator<Item = D>) -> Option<Panic> {
-    let mut panic = None;
-    all.into_iter()
-        .for_each(|it| keep_first(&mut panic, panic_of(|| drop(it))));
-    panic
-}
-
 /// Goes on with a panic at the end of a drop, unless there is one already.
 fn go_on(panic: Option<Panic>) {
     match panic {
-        Some(panic) if !std::thread::panicking() => resume_unwind(panic),
-        other => let_be(other),
+        Some(panic) if !panicking() => resume_unwind(panic),
+        other => other.into_iter().for_each(let_be),
     }
 }
 
@@ -266,8 +256,10 @@ impl<T> Core<T> {
         }
         drop(state);
         // The item isn't sent yet, but this call may go on for others: it doesn't panic.
-        let_be(drop_all(let_go));
-        let_be(self.senders.line.ring_for_all());
+        let panics = run_each(let_go, drop).into_iter();
+        panics
+            .chain(self.senders.line.ring_for_all())
+            .for_each(let_be);
         Ok(true)
     }
 
@@ -337,11 +329,9 @@ impl<T> Core<T> {
 
     /// Wakes all that wait, and returns the first panic of their wakers.
     fn ring_all(&self) -> Option<Panic> {
-        let mut panic = self.senders.line.ring_for_all();
-        keep_first(&mut panic, self.meeting().and_then(Meeting::wake_all));
-        let groups = self.groups.iter();
-        groups.for_each(|it| keep_first(&mut panic, it.line.ring_for_all()));
-        panic
+        let sides = iter::once(&self.senders).chain(&self.groups);
+        let panics = sides.filter_map(|it| it.line.ring_for_all());
+        first_of(panics.chain(self.meeting().and_then(Meeting::wake_all)))
     }
 
     /// The last handle of this side is gone: the channel is closed, or goes on without this group. The items
@@ -357,14 +347,13 @@ impl<T> Core<T> {
         };
         self.side(side).gone.store(true, Ordering::SeqCst);
         drop(state);
-        let mut panic = self.ring_all();
-        keep_first(&mut panic, drop_all(left.into_iter().flatten()));
+        let mut panics = vec![self.ring_all(), run_each(left.into_iter().flatten(), drop)];
         if side != 0 && self.is_closed() {
             let in_queue = lock(&self.state).groups.clone(); // it stays so
             let lost = in_queue.into_iter().filter(|&it| self.side(it).is_lost());
             let left = lost.flat_map(|group| iter::from_fn(move || self.try_recv(group).ok()?));
-            keep_first(&mut panic, drop_all(left));
+            panics.push(run_each(left, drop));
         }
-        go_on(panic);
+        go_on(first_of(panics.into_iter().flatten()));
     }
 }

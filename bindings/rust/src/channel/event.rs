@@ -63,7 +63,8 @@
 use crate::words::backoff::Backoff;
 use std::any::Any;
 use std::cell::RefCell;
-use std::mem::{forget, replace, swap};
+use std::collections::BTreeMap;
+use std::mem::{forget, swap, take};
 use std::panic::{AssertUnwindSafe, catch_unwind};
 use std::sync::atomic::{AtomicBool, AtomicUsize, Ordering};
 use std::sync::{Arc, Mutex, MutexGuard, PoisonError};
@@ -73,8 +74,6 @@ use std::time::{Duration, Instant};
 
 /// Tries before parking, with spins and yields between: a park costs some microseconds, so few.
 pub const TRIES: u32 = 12;
-/// A line that empties gives memory back above this number of nodes.
-const KEPT: usize = 64;
 
 pub fn lock<T>(mutex: &Mutex<T>) -> MutexGuard<'_, T> {
     mutex.lock().unwrap_or_else(PoisonError::into_inner)
@@ -82,181 +81,99 @@ pub fn lock<T>(mutex: &Mutex<T>) -> MutexGuard<'_, T> {
 
 pub type Panic = Box<dyn Any + Send>;
 
-/// Runs code of others, and gives its panic.
-pub fn panic_of(foreign: impl FnOnce()) -> Option<Panic> {
-    catch_unwind(AssertUnwindSafe(foreign)).err()
+/// Runs code of others for each of these, and gives the first panic.
+pub fn run_each<I>(all: impl IntoIterator<Item = I>, mut foreign: impl FnMut(I)) -> Option<Panic> {
+    let run = |it| catch_unwind(AssertUnwindSafe(|| foreign(it))).err();
+    first_of(all.into_iter().filter_map(run))
 }
 
-/// Keeps the first panic.
-pub fn keep_first(first: &mut Option<Panic>, next: Option<Panic>) {
-    match first {
-        None => *first = next,
-        Some(_) => let_be(next),
-    }
+/// The first of these panics. The others end here.
+pub fn first_of(panics: impl IntoIterator<Item = Panic>) -> Option<Panic> {
+    let mut panics = panics.into_iter();
+    let first = panics.next();
+    panics.for_each(let_be);
+    first
 }
 
 /// Ends a panic here. Its drop is code of others, too.
-pub fn let_be(panic: Option<Panic>) {
-    forget(panic_of(|| drop(panic)));
+pub fn let_be(panic: Panic) {
+    forget(catch_unwind(AssertUnwindSafe(|| drop(panic))));
 }
 
-/// A waiter, linked to those before and after it. Node 0 is none: it closes the ring of nodes.
-struct Node {
-    before: usize,
-    after: usize,
-    /// That of its ticket; 0 in a node that is free, whose `after` is the next free one.
-    number: u64,
-    waker: Option<Waker>,
-}
-
+/// Those that stand in line.
+#[derive(Default)]
 struct Line {
-    nodes: Vec<Node>,
-    free: usize,
-    length: usize,
+    /// By the numbers of their tickets, so that the first one came first.
+    wakers: BTreeMap<u64, Waker>,
     /// The number of the last ticket: each has one of its own.
     last: u64,
     /// How many rings there were while somebody was in line.
     rings: u64,
 }
 
+impl Line {
+    fn pop(&mut self) -> Option<Waker> {
+        self.rings += 1;
+        Some(self.wakers.pop_first()?.1)
+    }
+}
+
 /// A place in the line of an event, until a ring takes it out.
 #[derive(Clone, Copy, Debug)]
 pub struct Ticket {
-    at: usize,
     number: u64,
     /// The rings before it.
     rings: u64,
 }
 
-impl Line {
-    fn push(&mut self, waker: Waker) -> Ticket {
-        self.last += 1;
-        let number = self.last;
-        if self.nodes.is_empty() {
-            self.nodes.push(Node {
-                before: 0,
-                after: 0,
-                number: 0,
-                waker: None,
-            });
-        }
-        let node = Node {
-            before: self.nodes[0].before,
-            after: 0,
-            number,
-            waker: Some(waker),
-        };
-        let before = node.before;
-        let at = match self.free {
-            0 => {
-                self.nodes.push(node);
-                self.nodes.len() - 1
-            }
-            at => {
-                self.free = self.nodes[at].after;
-                self.nodes[at] = node;
-                at
-            }
-        };
-        self.nodes[before].after = at;
-        self.nodes[0].before = at;
-        self.length += 1;
-        let rings = self.rings;
-        Ticket { at, number, rings }
-    }
-
-    /// The waker of this ticket, if it is still in line.
-    fn waker(&mut self, ticket: Ticket) -> Option<&mut Waker> {
-        let node = self.nodes.get_mut(ticket.at)?;
-        node.waker.as_mut().filter(|_| node.number == ticket.number)
-    }
-
-    /// Takes this node out, which is in line.
-    fn take(&mut self, at: usize) -> Option<Waker> {
-        let Node { before, after, .. } = self.nodes[at];
-        self.nodes[before].after = after;
-        self.nodes[after].before = before;
-        self.length -= 1;
-        let node = &mut self.nodes[at];
-        node.number = 0;
-        node.after = replace(&mut self.free, at);
-        let waker = node.waker.take();
-        if self.length == 0 && self.nodes.len() > KEPT {
-            self.nodes = Vec::new();
-            self.free = 0;
-        }
-        waker
-    }
-
-    fn remove(&mut self, ticket: Ticket) -> Option<Waker> {
-        self.waker(ticket)?;
-        self.take(ticket.at)
-    }
-
-    fn pop(&mut self) -> Option<Waker> {
-        self.rings += 1;
-        match self.nodes.first()?.after {
-            0 => None,
-            first => self.take(first),
-        }
-    }
-}
-
+#[derive(Default)]
 pub struct Event {
     waiting: AtomicUsize,
     line: Mutex<Line>,
 }
 
 impl Event {
-    pub fn new() -> Event {
-        Event {
-            waiting: AtomicUsize::new(0),
-            line: Mutex::new(Line {
-                nodes: Vec::new(),
-                free: 0,
-                length: 0,
-                last: 0,
-                rings: 0,
-            }),
-        }
-    }
-
     /// Changes the line, and then writes its length. A waker that it returns is used, or dropped, once the
     /// lock is released.
     fn with_line<R>(&self, change: impl FnOnce(&mut Line) -> R) -> R {
         let mut line = lock(&self.line);
         let changed = change(&mut line);
         // It is written under the lock alone.
-        if self.waiting.load(Ordering::Relaxed) != line.length {
-            self.waiting.store(line.length, Ordering::SeqCst);
+        if self.waiting.load(Ordering::Relaxed) != line.wakers.len() {
+            self.waiting.store(line.wakers.len(), Ordering::SeqCst);
         }
         changed
     }
 
     /// Stands in line. The waiter has to try after this, before it waits.
     pub fn stand(&self, waker: Waker) -> Ticket {
-        self.with_line(|line| line.push(waker))
+        self.with_line(|line| {
+            line.last += 1;
+            line.wakers.insert(line.last, waker);
+            let (number, rings) = (line.last, line.rings);
+            Ticket { number, rings }
+        })
     }
 
     /// Stays in line with this waker, after a try that found nothing. Returns whether it was still
     /// there.
     pub fn stay(&self, ticket: Ticket, waker: &Waker) -> bool {
-        let is_same = |line: &mut Line| Some(line.waker(ticket)?.will_wake(waker));
-        match is_same(&mut lock(&self.line)) {
+        let is_same = |line: &Line| Some(line.wakers.get(&ticket.number)?.will_wake(waker));
+        match is_same(&lock(&self.line)) {
             Some(false) => {}
             there => return there.is_some(),
         }
         // The one that isn't in line then is dropped once the lock is released.
         let mut waker = waker.clone();
         self.with_line(|line| {
-            let place = line.waker(ticket);
+            let place = line.wakers.get_mut(&ticket.number);
             place.map(|place| swap(place, &mut waker)).is_some()
         })
     }
 
     /// Leaves the line. Returns whether a ring had taken this one out, and whether there was a ring at all.
-    fn leave(&self, ticket: Ticket) -> (bool, bool) {
-        let leave = |line: &mut Line| (line.remove(ticket), line.rings != ticket.rings);
+    fn leave(&self, Ticket { number, rings }: Ticket) -> (bool, bool) {
+        let leave = |line: &mut Line| (line.wakers.remove(&number), line.rings != rings);
         let (waker, was_rung) = self.with_line(leave);
         (waker.is_none(), was_rung)
     }
@@ -279,22 +196,20 @@ impl Event {
     #[cold]
     fn wake_first(&self) {
         while let Some(waker) = self.with_line(Line::pop) {
-            match panic_of(|| waker.wake()) {
+            match run_each([waker], Waker::wake) {
                 None => return,
-                panic => let_be(panic),
+                Some(panic) => let_be(panic),
             }
         }
     }
 
     /// Wakes all that stand in line now, and returns the first panic of their wakers.
     pub fn ring_for_all(&self) -> Option<Panic> {
-        let pops = |line: &mut Line| std::iter::from_fn(|| line.pop()).collect();
-        let all: Vec<Waker> = self.with_line(pops);
-        let mut first = None;
-        for waker in all {
-            keep_first(&mut first, panic_of(|| waker.wake()));
-        }
-        first
+        let all = self.with_line(|line| {
+            line.rings += 1;
+            take(&mut line.wakers)
+        });
+        run_each(all.into_values(), Waker::wake)
     }
 }
 
@@ -303,41 +218,27 @@ pub struct Place<'a> {
     event: &'a Event,
     /// Until it leaves the line.
     ticket: Option<Ticket>,
-    /// Whether a ring took it out, after which no try was made.
-    rung: bool,
+    /// Whether a ring took it out. A try that is made after that clears it.
+    pub rung: bool,
 }
 
 impl<'a> Place<'a> {
     /// Stands in line. The thread has to try after this, before it parks.
     pub fn stand(event: &'a Event, parker: &Arc<Parker>) -> Place<'a> {
-        let ticket = Some(event.stand(parker.clone().into()));
-        let rung = false;
         Place {
             event,
-            ticket,
-            rung,
+            ticket: Some(event.stand(parker.clone().into())),
+            rung: false,
         }
     }
 
     /// Leaves the line. A try has to follow, since a ring may have taken this one out. Returns whether there
     /// was a ring at all since it stood there.
     pub fn leave(&mut self) -> bool {
-        let ticket = self.ticket.take();
-        ticket.is_some_and(|ticket| {
-            let (rung, was_rung) = self.event.leave(ticket);
-            self.rung = rung;
-            was_rung
-        })
-    }
-
-    /// Whether a ring took it out.
-    pub fn is_rung(&self) -> bool {
-        self.rung
-    }
-
-    /// A try was made after it left.
-    pub fn has_tried(&mut self) {
-        self.rung = false;
+        let left = self.ticket.take().map(|ticket| self.event.leave(ticket));
+        let (rung, was_rung) = left.unwrap_or((self.rung, false));
+        self.rung = rung;
+        was_rung
     }
 }
 
@@ -374,17 +275,17 @@ thread_local! {
 }
 
 impl Parker {
-    pub fn get() -> Arc<Parker> {
-        let parker = PARKERS.try_with(|idle| idle.borrow_mut().pop());
-        parker.ok().flatten().unwrap_or_else(|| {
+    /// Waits by one of this thread that is idle.
+    pub fn with<R>(wait: impl FnOnce(&Arc<Parker>) -> R) -> R {
+        let idle = PARKERS.try_with(|idle| idle.borrow_mut().pop());
+        let parker = idle.ok().flatten().unwrap_or_else(|| {
             let (thread, woken) = (thread::current(), AtomicBool::new(false));
             Arc::new(Parker { thread, woken })
-        })
-    }
-
-    pub fn give_back(self: Arc<Self>) {
+        });
+        let done = wait(&parker);
         // If the thread locals are gone already, it goes too.
-        let _ = PARKERS.try_with(|idle| idle.borrow_mut().push(self));
+        let _ = PARKERS.try_with(|idle| idle.borrow_mut().push(parker));
+        done
     }
 
     /// Waits a little for a waker that is near.
@@ -410,7 +311,9 @@ impl Parker {
     }
 }
 
-/// When a try is to be made again.
+/// The result of a try, or when it is to be made again.
+pub type Try<R> = Result<R, Again>;
+
 pub enum Again {
     /// Once it is rung for.
     AtARing,
@@ -435,7 +338,7 @@ impl Again {
 pub fn wait<R>(
     event: &Event,
     until: Option<Instant>,
-    mut attempt: impl FnMut() -> Result<R, Again>,
+    mut attempt: impl FnMut() -> Try<R>,
 ) -> Option<R> {
     let mut backoff = Backoff::new();
     for _ in 0..TRIES {
@@ -444,34 +347,23 @@ pub fn wait<R>(
         }
         backoff.between_turns();
     }
-    let parker = Parker::get();
-    let done = park_until(event, until, attempt, &parker);
-    parker.give_back();
-    done
-}
-
-/// The same, with parks between the tries.
-fn park_until<R>(
-    event: &Event,
-    until: Option<Instant>,
-    mut attempt: impl FnMut() -> Result<R, Again>,
-    parker: &Arc<Parker>,
-) -> Option<R> {
-    loop {
-        if until.is_some_and(|until| until <= Instant::now()) {
-            return attempt().ok();
+    Parker::with(|parker| {
+        loop {
+            if until.is_some_and(|until| until <= Instant::now()) {
+                return attempt().ok();
+            }
+            let mut place = Place::stand(event, parker);
+            let again = match attempt() {
+                Ok(done) => return Some(done),
+                Err(again) => again.moment(),
+            };
+            parker.park(until.into_iter().chain(again).min());
+            place.leave();
+            let tried = attempt();
+            place.rung = false;
+            if let Ok(done) = tried {
+                return Some(done);
+            }
         }
-        let mut place = Place::stand(event, parker);
-        let again = match attempt() {
-            Ok(done) => return Some(done),
-            Err(again) => again.moment(),
-        };
-        parker.park(until.into_iter().chain(again).min());
-        place.leave();
-        let tried = attempt();
-        place.has_tried();
-        if let Ok(done) = tried {
-            return Some(done);
-        }
-    }
+    })
 }

@@ -1,8 +1,7 @@
 //! Sends and takes as futures. A poll makes a call of the queue to its end, and so may spin for its
 //! answer, but none is left begun between two polls: it would stop its side.
 use super::body::Parcel;
-use super::core::Try;
-use super::event::{Again, Ticket};
+use super::event::{Again, Ticket, Try};
 use super::side::Handle;
 use super::{Receiver, RecvError, SendError, Sender};
 use crate::words::{Receivers, Senders};

@@ -22,8 +22,7 @@
 //! **A selected operation that is dropped** gives its pair up. The other one waits for a further one to meet.
 //!
 //! **Order of locks**: the lines, by their address; the pairs; a waiter.
-use super::core::Try;
-use super::event::{Again, Panic, Parker, TRIES, keep_first, let_be, lock, panic_of};
+use super::event::{Again, Panic, Parker, TRIES, Try, let_be, lock, run_each};
 use super::select::{Begun, Select};
 use super::{Receiver, RecvTimeoutError, SendTimeoutError, Sender, TrySendError};
 use crate::words::backoff::Backoff;
@@ -122,7 +121,7 @@ pub fn meet_or_post(cases: &[Case], waiter: &Arc<Waiter>) -> Option<(usize, Begu
 
 /// Wakes a task. It is done with its send, so its panic is nobody's.
 fn wake(waker: Option<Waker>) {
-    let_be(panic_of(|| waker.into_iter().for_each(Waker::wake)));
+    run_each(waker, Waker::wake).into_iter().for_each(let_be);
 }
 
 /// How far a pair is.
@@ -348,11 +347,7 @@ impl<T> Meeting<T> {
         let of_offer = |it: &mut Offer<T>| replace(&mut it.waker, none());
         let wakers: Vec<Waker> = lock(&self.pairs).offers.iter_mut().map(of_offer).collect();
         drop(lines);
-        let mut panic = None;
-        for waker in wakers {
-            keep_first(&mut panic, panic_of(|| waker.wake()));
-        }
-        panic
+        run_each(wakers, Waker::wake)
     }
 }
 
@@ -407,21 +402,21 @@ impl<T> Sender<T> {
         item: T,
         until: Option<Instant>,
     ) -> Result<(), SendTimeoutError<T>> {
-        let parker = Parker::get();
-        let posted = meeting.post(item, &parker.clone().into());
-        let left = posted.map_or_else(Some, |number| {
-            let number = number?;
-            self.core().ring_for_item();
-            parker.spin();
-            loop {
-                parker.park(until);
-                let is_over = until.is_some_and(|until| until <= Instant::now());
-                if is_over || self.is_closed() || !meeting.has(number) {
-                    return meeting.withdraw(number);
+        let left = Parker::with(|parker| {
+            let posted = meeting.post(item, &parker.clone().into());
+            posted.map_or_else(Some, |number| {
+                let number = number?;
+                self.core().ring_for_item();
+                parker.spin();
+                loop {
+                    parker.park(until);
+                    let is_over = until.is_some_and(|until| until <= Instant::now());
+                    if is_over || self.is_closed() || !meeting.has(number) {
+                        return meeting.withdraw(number);
+                    }
                 }
-            }
+            })
         });
-        parker.give_back();
         match left {
             None => Ok(()),
             Some(item) if self.is_closed() => Err(SendTimeoutError::Disconnected(item)),

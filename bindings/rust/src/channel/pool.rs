@@ -111,7 +111,7 @@ impl Pool {
         Pool {
             seats: (1..).zip(handles).map(seat).collect(),
             used: AtomicUsize::new(0),
-            free: Event::new(),
+            free: Event::default(),
         }
     }
 

@@ -1,7 +1,6 @@
 //! The receivers of a channel.
 use super::body::Parcel;
-use super::core::Try;
-use super::event::wait;
+use super::event::{Try, wait};
 use super::future::RecvFuture;
 use super::side::{Handle, WeakHandle};
 use super::{RecvError, RecvTimeoutError, TryRecvError};

@@ -1,7 +1,7 @@
 //! Room that is reserved for selected sends, and the looks of a select: see [`select`](super::select).
 use super::body::Parcel;
-use super::core::{Core, Side, Try};
-use super::event::{Again, lock};
+use super::core::{Core, Side};
+use super::event::{Again, Try, lock};
 use super::pool::Pool;
 use crate::words::backoff::Backoff;
 use std::sync::atomic::Ordering;

@@ -21,8 +21,8 @@
 //! give it back, and then look whether somebody waits. A look takes each of those seats, and gives it back. A
 //! holder before that has counted; a holder after that sees the waiter in line. So a look that finds nothing
 //! is the look of [`event`](super::event)'s argument: at some moment of it there was nothing.
-use super::core::{Special, Try};
-use super::event::{Event, Parker, Place, TRIES, lock};
+use super::core::Special;
+use super::event::{Event, Parker, Place, TRIES, Try, lock};
 use super::meeting::{Meets, SENDS, TAKES, Waiter, meet_or_post, try_meet};
 use super::{Receiver, RecvError, SendError, Sender};
 use crate::words::backoff::Backoff;
@@ -346,15 +346,15 @@ impl<'a> Select<'a> {
             done = try_each(&self.entries, begins).ok();
         }
         if done.is_none() {
-            let parker = Parker::get();
-            done = loop {
-                match self.stand_and_park(until, begins, &parker) {
-                    Ok(done) => break Some(done),
-                    Err(was_quiet) if was_quiet && is_over() => break None,
-                    Err(_) => {}
+            done = Parker::with(|parker| {
+                loop {
+                    match self.stand_and_park(until, begins, parker) {
+                        Ok(done) => return Some(done),
+                        Err(was_quiet) if was_quiet && is_over() => return None,
+                        Err(_) => {}
+                    }
                 }
-            };
-            parker.give_back();
+            });
         }
         done.map(|(place, begun)| (self.entries[place], begun))
     }
@@ -393,7 +393,7 @@ impl<'a> Select<'a> {
             return Err(true);
         }
         // The one that was rung for comes first.
-        let is_rung = |it: &Option<Place>| it.as_ref().is_some_and(Place::is_rung);
+        let is_rung = |it: &Option<Place>| it.as_ref().is_some_and(|it| it.rung);
         let first = places.iter().position(is_rung);
         let rung = first.and_then(|at| {
             let (_, begun) = try_each(&self.entries[at..=at], begins).ok()?;
@@ -406,7 +406,7 @@ impl<'a> Select<'a> {
             None => 0..places.len(),
         };
         let tried = places[tried].iter_mut().flatten();
-        tried.for_each(Place::has_tried);
+        tried.for_each(|place| place.rung = false);
         done.ok_or(is_quiet)
     }
 

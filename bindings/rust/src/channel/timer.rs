@@ -1,6 +1,6 @@
 //! Receivers of moments, and of nothing. None has a thread: who waits for it parks until the moment.
-use super::core::{Core, Special, Try};
-use super::event::{Again, lock};
+use super::core::{Core, Special};
+use super::event::{Again, Try, lock};
 use super::side::Handle;
 use super::{Receiver, config};
 use std::sync::{Arc, Mutex};
