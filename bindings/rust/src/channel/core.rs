@@ -56,14 +56,6 @@ pub enum Special<T> {
     Timer(Timer<T>),
 }
 
-/// The state that changes with the queue.
-pub struct State {
-    /// The number of the queue, from 0.
-    pub queue: u64,
-    /// The groups that the queue has, in its order.
-    pub groups: Vec<usize>,
-}
-
 pub struct Core<T> {
     pub config: Config,
     pub copies: Option<Copies<T>>,
@@ -73,7 +65,8 @@ pub struct Core<T> {
     closed: AtomicBool,
     /// How many groups the queue has. It changes while all seats are taken.
     pub shares: AtomicUsize,
-    pub state: Mutex<State>,
+    /// The groups that the queue has, in its order. A further queue takes its place under this lock.
+    pub in_queue: Mutex<Vec<usize>>,
     /// How much room is reserved for selected sends. It grows while all senders' seats are taken.
     pub reserved: AtomicUsize,
     /// The items of selected takes. By it this is `Send` and `Sync` if items are `Send`.
@@ -84,7 +77,7 @@ pub struct Core<T> {
 fn go_on(panic: Option<Panic>) {
     match panic {
         Some(panic) if !panicking() => resume_unwind(panic),
-        other => other.into_iter().for_each(let_be),
+        other => let_be(other),
     }
 }
 
@@ -116,10 +109,7 @@ impl<T> Core<T> {
             senders,
             closed: AtomicBool::new(false),
             shares: AtomicUsize::new(groups.len()),
-            state: Mutex::new(State {
-                queue: 0,
-                groups: (1..=groups.len()).collect(),
-            }),
+            in_queue: Mutex::new((1..=groups.len()).collect()),
             groups,
             reserved: AtomicUsize::new(0),
             kept: Mutex::default(),
@@ -131,13 +121,6 @@ impl<T> Core<T> {
     pub fn meeting(&self) -> Option<&Meeting<T>> {
         match &self.special {
             Some(Special::Meeting(meeting)) => Some(meeting),
-            _ => None,
-        }
-    }
-
-    pub fn timer(&self) -> Option<&Timer<T>> {
-        match &self.special {
-            Some(Special::Timer(timer)) => Some(timer),
             _ => None,
         }
     }
@@ -158,9 +141,9 @@ impl<T> Core<T> {
         self.closed.load(Ordering::SeqCst)
     }
 
-    /// How many groups have receivers.
-    fn alive(&self) -> usize {
-        self.groups.iter().filter(|it| !it.is_lost()).count()
+    /// The groups that have receivers.
+    pub fn alive(&self) -> impl Iterator<Item = &Side> {
+        self.groups.iter().filter(|it| !it.is_lost())
     }
 
     /// Waits until all is done that comes of the loss of this side's last handle: another thread is at it.
@@ -170,19 +153,13 @@ impl<T> Core<T> {
 
     /// How many items this group hasn't taken; for the senders, some group that has receivers.
     pub fn len(&self, side: usize) -> usize {
-        if let Some(timer) = self.timer() {
+        if let Some(Special::Timer(timer)) = &self.special {
             return timer.len();
         }
         let sent = self.senders.seats.count();
         let len = |group: &Side| sent.saturating_sub(group.seats.count()) as usize;
         let len = match side {
-            0 => {
-                let alive = self
-                    .groups
-                    .iter()
-                    .filter(|it| !it.lost.load(Ordering::SeqCst));
-                alive.map(len).max().unwrap_or(0)
-            }
+            0 => self.alive().map(len).max().unwrap_or(0),
             group => len(self.side(group)),
         };
         len.min(self.capacity())
@@ -193,18 +170,22 @@ impl<T> Core<T> {
     /// for a further queue, nobody rings when there is.
     #[inline]
     pub fn try_send(&self, parcel: &Parcel<T>) -> Try<bool> {
-        let mut seat = self.senders.seats.take();
-        if self.reserved.load(Ordering::Relaxed) != 0 {
+        loop {
+            let mut seat = self.senders.seats.take();
+            if self.reserved.load(Ordering::Relaxed) != 0 {
+                drop(seat);
+                return self.send_beside_reserved(parcel);
+            }
+            let sent = self.send_by(&mut seat, parcel);
             drop(seat);
-            return self.send_beside_reserved(parcel);
+            let Err(refusal) = sent else {
+                self.ring_for_item();
+                return Ok(true);
+            };
+            if !self.goes_on(parcel, refusal)? {
+                return Ok(false);
+            }
         }
-        let sent = self.send_by(&mut seat, parcel);
-        drop(seat);
-        match sent {
-            Ok(()) => self.ring_for_item(),
-            Err(refusal) => return self.go_on_sending(parcel, refusal),
-        }
-        Ok(true)
     }
 
     /// Sends by this seat. If it isn't sent, gives the code, and the number of the queue.
@@ -226,40 +207,31 @@ impl<T> Core<T> {
         self.groups.iter().for_each(|group| group.line.ring());
     }
 
-    #[cold]
-    pub fn go_on_sending(&self, parcel: &Parcel<T>, refusal: (u32, u64)) -> Try<bool> {
-        match self.goes_on(parcel, refusal)? {
-            true => self.try_send(parcel),
-            false => Ok(false),
-        }
-    }
-
     /// Goes on when this queue didn't accept an item. Returns whether a further try is to be made; if not,
     /// the channel is closed.
+    #[cold]
     pub fn goes_on(&self, parcel: &Parcel<T>, (code, queue): (u32, u64)) -> Try<bool> {
         parcel.is_for(1);
         // Whether a lost group is in the queue, and holds up the others.
-        let is_stale = self.shares.load(Ordering::SeqCst) != self.alive();
+        let is_stale = self.shares.load(Ordering::SeqCst) != self.alive().count();
         match code {
             code::CLOSED => self.closed.store(true, Ordering::SeqCst),
             code::FULL if !is_stale => return Err(Again::AtARing),
             code::FULL | code::SPENT | code::WORN => {}
             code => unexpected(code),
         }
-        let mut state = lock(&self.state);
+        let mut in_queue = lock(&self.in_queue);
         if self.is_closed() {
             return Ok(false);
         }
         let mut let_go = vec![];
-        if state.queue == queue {
-            let_go = self.renew(&mut state).ok_or(Again::Soon)?;
+        if self.senders.seats.take().pass().queue == queue {
+            let_go = self.renew(&mut in_queue).ok_or(Again::Soon)?;
         }
-        drop(state);
+        drop(in_queue);
         // The item isn't sent yet, but this call may go on for others: it doesn't panic.
-        let panics = run_each(let_go, drop).into_iter();
-        panics
-            .chain(self.senders.line.ring_for_all())
-            .for_each(let_be);
+        let_be(run_each(let_go, drop));
+        let_be(self.senders.line.ring_for_all());
         Ok(true)
     }
 
@@ -337,23 +309,26 @@ impl<T> Core<T> {
     /// The last handle of this side is gone: the channel is closed, or goes on without this group. The items
     /// that the group hasn't taken are dropped.
     pub fn lose(&self, side: usize) {
-        let mut state = lock(&self.state);
+        let mut in_queue = lock(&self.in_queue);
         self.side(side).lost.store(true, Ordering::SeqCst);
-        let left = if side == 0 || self.alive() == 0 {
+        let let_go = if side == 0 || self.alive().next().is_none() {
             self.close_queue();
             None
         } else {
-            self.renew(&mut state) // or there is no memory: a send tries again, once it finds no room
+            self.renew(&mut in_queue) // or there is no memory: a send tries again, once it finds no room
         };
-        self.side(side).gone.store(true, Ordering::SeqCst);
-        drop(state);
-        let mut panics = vec![self.ring_all(), run_each(left.into_iter().flatten(), drop)];
+        let mut lost = vec![];
         if side != 0 && self.is_closed() {
-            let in_queue = lock(&self.state).groups.clone(); // it stays so
-            let lost = in_queue.into_iter().filter(|&it| self.side(it).is_lost());
-            let left = lost.flat_map(|group| iter::from_fn(move || self.try_recv(group).ok()?));
-            panics.push(run_each(left, drop));
+            lost.extend(in_queue.iter().filter(|&&it| self.side(it).is_lost()));
         }
+        self.side(side).gone.store(true, Ordering::SeqCst);
+        drop(in_queue);
+        let takes = |group| iter::from_fn(move || self.try_recv(group).ok()?);
+        let left = lost.into_iter().flat_map(takes);
+        let panics = [
+            self.ring_all(),
+            run_each(let_go.into_iter().flatten().chain(left), drop),
+        ];
         go_on(first_of(panics.into_iter().flatten()));
     }
 }

@@ -91,13 +91,15 @@ pub fn run_each<I>(all: impl IntoIterator<Item = I>, mut foreign: impl FnMut(I))
 pub fn first_of(panics: impl IntoIterator<Item = Panic>) -> Option<Panic> {
     let mut panics = panics.into_iter();
     let first = panics.next();
-    panics.for_each(let_be);
+    let_be(panics);
     first
 }
 
-/// Ends a panic here. Its drop is code of others, too.
-pub fn let_be(panic: Panic) {
-    forget(catch_unwind(AssertUnwindSafe(|| drop(panic))));
+/// Ends these panics here. Their drops are code of others, too.
+pub fn let_be(panics: impl IntoIterator<Item = Panic>) {
+    for panic in panics {
+        forget(catch_unwind(AssertUnwindSafe(|| drop(panic))));
+    }
 }
 
 /// Those that stand in line.
@@ -198,7 +200,7 @@ impl Event {
         while let Some(waker) = self.with_line(Line::pop) {
             match run_each([waker], Waker::wake) {
                 None => return,
-                Some(panic) => let_be(panic),
+                panic => let_be(panic),
             }
         }
     }

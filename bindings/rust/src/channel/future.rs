@@ -7,7 +7,7 @@ use super::{Receiver, RecvError, SendError, Sender};
 use crate::words::{Receivers, Senders};
 use std::borrow::Cow;
 use std::pin::Pin;
-use std::task::{Context, Poll, Waker};
+use std::task::{Context, Poll};
 
 /// A take: see [`recv_async`](crate::Receiver::recv_async). If it is polled after it was done, it takes a further item.
 pub type RecvFuture<'a, T> = CallFuture<'a, T, Receivers>;
@@ -92,35 +92,9 @@ impl<T> Future for RecvFuture<'_, T> {
 
     fn poll(mut self: Pin<&mut Self>, context: &mut Context<'_>) -> Poll<Self::Output> {
         // Nobody rings for a moment.
-        let seems_empty = |it: &Receiver<T>| it.is_empty() && it.core().timer().is_none();
+        let seems_empty = |it: &Receiver<T>| it.is_empty() && it.core().special.is_none();
         let taken = self.poll_call(context, seems_empty, Handle::try_take);
         taken.map(|parcel| parcel.map(Parcel::unpack).ok_or(RecvError))
-    }
-}
-
-impl<T> SendFuture<'_, T> {
-    /// On a channel of capacity 0, posts the item, and then looks whether it was taken.
-    fn poll_posted(&mut self, waker: &Waker) -> Option<Poll<Result<(), SendError<T>>>> {
-        let core = self.handle.core();
-        let meeting = core.meeting()?;
-        let Some(number) = self.posted else {
-            let parcel = self.parcel.take().expect("the item isn't sent yet");
-            return Some(match meeting.post(parcel.unpack(), waker) {
-                Ok(None) => Poll::Ready(Ok(())),
-                Err(item) => Poll::Ready(Err(SendError(item))),
-                Ok(number) => {
-                    self.posted = number;
-                    core.ring_for_item();
-                    Poll::Pending
-                }
-            });
-        };
-        if !core.is_closed() && meeting.stays(number, waker) {
-            return Some(Poll::Pending);
-        }
-        self.posted = None;
-        let left = meeting.withdraw(number);
-        Some(Poll::Ready(left.map_or(Ok(()), |it| Err(SendError(it)))))
     }
 }
 
@@ -131,8 +105,12 @@ impl<T> Future for SendFuture<'_, T> {
     ///
     /// It is polled after it was done.
     fn poll(mut self: Pin<&mut Self>, context: &mut Context<'_>) -> Poll<Self::Output> {
-        if let Some(polled) = self.poll_posted(context.waker()) {
-            return polled;
+        let this = &mut *self;
+        if let Some(meeting) = this.handle.core().meeting() {
+            let (parcel, posted) = (&mut this.parcel, &mut this.posted);
+            return this
+                .handle
+                .poll_posted(meeting, parcel, posted, context.waker());
         }
         let parcel = self.parcel.take().expect("the item isn't sent yet");
         let attempt = |it: &Sender<T>| it.core().try_send(&parcel);

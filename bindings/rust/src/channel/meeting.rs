@@ -22,15 +22,16 @@
 //! **A selected operation that is dropped** gives its pair up. The other one waits for a further one to meet.
 //!
 //! **Order of locks**: the lines, by their address; the pairs; a waiter.
+use super::body::Parcel;
 use super::event::{Again, Panic, Parker, TRIES, Try, let_be, lock, run_each};
 use super::select::{Begun, Select};
-use super::{Receiver, RecvTimeoutError, SendTimeoutError, Sender, TrySendError};
+use super::{Receiver, RecvTimeoutError, SendError, SendTimeoutError, Sender, TrySendError};
 use crate::words::backoff::Backoff;
 use std::collections::VecDeque;
 use std::mem::{replace, swap};
 use std::sync::atomic::{AtomicBool, Ordering};
 use std::sync::{Arc, Condvar, Mutex, PoisonError};
-use std::task::{Wake, Waker};
+use std::task::{Poll, Wake, Waker};
 use std::time::Instant;
 
 /// The sides of a channel.
@@ -121,7 +122,7 @@ pub fn meet_or_post(cases: &[Case], waiter: &Arc<Waiter>) -> Option<(usize, Begu
 
 /// Wakes a task. It is done with its send, so its panic is nobody's.
 fn wake(waker: Option<Waker>) {
-    run_each(waker, Waker::wake).into_iter().for_each(let_be);
+    let_be(run_each(waker, Waker::wake));
 }
 
 /// How far a pair is.
@@ -394,6 +395,34 @@ impl<T> Receiver<T> {
 }
 
 impl<T> Sender<T> {
+    /// One poll of a send: posts the item of this parcel, and then looks whether it was taken.
+    pub(super) fn poll_posted(
+        &self,
+        meeting: &Meeting<T>,
+        parcel: &mut Option<Parcel<T>>,
+        posted: &mut Option<u64>,
+        waker: &Waker,
+    ) -> Poll<Result<(), SendError<T>>> {
+        let Some(number) = *posted else {
+            let item = parcel.take().expect("the item isn't sent yet").unpack();
+            return match meeting.post(item, waker) {
+                Ok(None) => Poll::Ready(Ok(())),
+                Err(item) => Poll::Ready(Err(SendError(item))),
+                Ok(number) => {
+                    *posted = number;
+                    self.core().ring_for_item();
+                    Poll::Pending
+                }
+            };
+        };
+        if !self.is_closed() && meeting.stays(number, waker) {
+            return Poll::Pending;
+        }
+        *posted = None;
+        let left = meeting.withdraw(number);
+        Poll::Ready(left.map_or(Ok(()), |it| Err(SendError(it))))
+    }
+
     /// Sends to one that takes, and waits for one until this moment.
     #[cold]
     pub(super) fn meet_until(

@@ -1,6 +1,6 @@
 //! A further queue in the place of a channel's present one.
 use super::body::{Parcel, words_of};
-use super::core::{Core, State};
+use super::core::Core;
 use super::pool::Pass;
 use crate::words::handle::{self, Handle, code, unexpected};
 use std::iter;
@@ -13,10 +13,10 @@ impl<T> Core<T> {
     ///
     /// A queue accepts more items, and a sender begins more sends, than the capacity: so that there are some
     /// in addition to those by which items are moved over.
-    pub fn renew(&self, state: &mut State) -> Option<Vec<Parcel<T>>> {
+    pub fn renew(&self, in_queue: &mut Vec<usize>) -> Option<Vec<Parcel<T>>> {
         let (words, capacity) = (words_of(self.copies), self.capacity());
         let is_alive = |&group: &usize| !self.side(group).is_lost();
-        let (alive, lost): (Vec<_>, Vec<_>) = state.groups.iter().copied().partition(is_alive);
+        let (alive, lost): (Vec<_>, Vec<_>) = in_queue.iter().copied().partition(is_alive);
         let mut handles = handle::open(&self.config, alive.len() as u32, words).ok()?;
         let (mut kept, mut let_go) = (vec![], vec![]);
         kept.try_reserve_exact(capacity).ok()?;
@@ -49,14 +49,13 @@ impl<T> Core<T> {
                 skipped.unwrap_or_else(|code| unexpected(code));
             }
         }
-        state.queue += 1;
         let seats = seats.iter_mut().flatten();
         for (seat, handle) in seats.zip(handles.into_iter().flatten()) {
-            let queue = state.queue;
+            let queue = seat.pass().queue + 1;
             *seat.pass() = Pass { handle, queue };
         }
         self.shares.store(alive.len(), Ordering::SeqCst);
-        state.groups = alive;
+        *in_queue = alive;
         Some(let_go)
     }
 }

@@ -36,7 +36,7 @@ impl<T> Core<T> {
             return Ok(());
         }
         // Not while a selected send is on its way: its item may be taken before its place is counted down.
-        let _state = lock(&self.state);
+        let _in_queue = lock(&self.in_queue);
         let _seats = self.senders.seats.take_all();
         self.has_room_beside(self.reserved.load(Ordering::SeqCst))
     }
@@ -50,17 +50,13 @@ impl<T> Core<T> {
             let items = sent.saturating_sub(seats.count()) as usize;
             items + reserved >= self.capacity()
         };
-        let is_full =
-            self.groups
-                .iter()
-                .filter(|it| !it.is_lost())
-                .any(|Side { seats, .. }| {
-                    // The look without the seats is cheaper.
-                    is_full(seats) && {
-                        settle(seats);
-                        is_full(seats)
-                    }
-                });
+        let is_full = self.alive().any(|Side { seats, .. }| {
+            // The look without the seats is cheaper.
+            is_full(seats) && {
+                settle(seats);
+                is_full(seats)
+            }
+        });
         match is_full && !self.is_closed() {
             true => Err(Again::AtARing),
             false => Ok(()),
@@ -70,7 +66,7 @@ impl<T> Core<T> {
     /// Reserves room for one send. Returns whether it has; if not, the channel is closed.
     pub fn reserve(&self) -> Try<bool> {
         self.seems_to_have_room()?;
-        let _state = lock(&self.state);
+        let _in_queue = lock(&self.in_queue);
         let _seats = self.senders.seats.take_all();
         if self.is_closed() {
             return Ok(false);
@@ -114,18 +110,21 @@ impl<T> Core<T> {
     /// Tries to send while room is reserved for others. No other send is on its way then.
     #[cold]
     pub fn send_beside_reserved(&self, parcel: &Parcel<T>) -> Try<bool> {
-        let state = lock(&self.state);
+        let in_queue = lock(&self.in_queue);
         let mut seats = self.senders.seats.take_all();
         self.has_room_beside(self.reserved.load(Ordering::SeqCst))?;
         let sent = self.send_by(&mut seats[0], parcel);
         drop(seats);
-        drop(state);
+        drop(in_queue);
         match sent {
             Ok(()) => {
                 self.ring_for_item();
                 Ok(true)
             }
-            Err(refusal) => self.go_on_sending(parcel, refusal),
+            Err(refusal) => match self.goes_on(parcel, refusal)? {
+                true => self.try_send(parcel),
+                false => Ok(false),
+            },
         }
     }
 }
