@@ -1,12 +1,12 @@
 #![doc = include_str!("../README.md")]
 #![deny(missing_docs, unsafe_code)]
 
-/// `Debug` or `Display` of types that always show the same.
+/// `Debug` or `Display` of types, by what their values show.
 macro_rules! shows {
-    ($($trait:ident [$($item:ident),*] $type:ty, $shown:literal;)+) => {$(
+    ($($trait:ident [$($item:ident),*] $type:ty: $($value:pat => $shown:expr),+;)+) => {$(
         impl<$($item),*> std::fmt::$trait for $type {
             fn fmt(&self, f: &mut std::fmt::Formatter<'_>) -> std::fmt::Result {
-                f.pad($shown)
+                f.pad(match self { $($value => $shown),+ })
             }
         }
     )+};
@@ -16,10 +16,5 @@ mod channel;
 pub mod record;
 pub mod words;
 
-pub use channel::{
-    CallFuture, Handle, IntoIter, Iter, ReadyTimeoutError, Receiver, RecvError, RecvFuture,
-    RecvTimeoutError, Select, SelectTimeoutError, SelectedOperation, SendError, SendFuture,
-    SendTimeoutError, Sender, TryIter, TryReadyError, TryRecvError, TrySelectError, TrySendError,
-    WeakHandle, WeakReceiver, WeakSender, after, at, channel, groups, never, tick,
-};
+pub use channel::*;
 pub use words::OpenError;

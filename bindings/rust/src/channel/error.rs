@@ -1,6 +1,5 @@
 //! Why a channel's call wasn't done. An item that wasn't sent is handed back.
 use std::error::Error;
-use std::fmt::{self, Debug, Display, Formatter};
 
 /// Why [`send`](crate::Sender::send) didn't send: the channel is closed. It has the item.
 #[derive(Clone, Copy, PartialEq, Eq, Hash)]
@@ -18,11 +17,19 @@ impl<T> SendError<T> {
     }
 }
 
+impl<T> SendError<T> {
+    const SAYS: &str = "sending on a channel that is closed";
+}
+
+impl RecvError {
+    const SAYS: &str = "receiving on a channel that is closed and has no more items";
+}
+
 // An item needs no `Debug`, so that each error has it.
 shows! {
-    Debug [T] SendError<T>, "SendError(..)";
-    Display [T] SendError<T>, "sending on a channel that is closed";
-    Display [] RecvError, "receiving on a channel that is closed and has no more items";
+    Debug [T] SendError<T>: _ => "SendError(..)";
+    Display [T] SendError<T>: _ => Self::SAYS;
+    Display [] RecvError: _ => Self::SAYS;
 }
 
 impl<T> Error for SendError<T> {}
@@ -67,22 +74,13 @@ macro_rules! errors {
             )?
         }
 
-        impl $(<$item>)? Debug for $error $(<$item>)? {
-            fn fmt(&self, f: &mut Formatter<'_>) -> fmt::Result {
-                f.write_str(match self {
-                    $error::$variant { .. } => concat!(stringify!($variant) $(, $shown)?),
-                    $error::Disconnected { .. } => concat!("Disconnected" $(, $shown)?),
-                })
-            }
-        }
-
-        impl $(<$item>)? Display for $error $(<$item>)? {
-            fn fmt(&self, f: &mut Formatter<'_>) -> fmt::Result {
-                match self {
-                    $error::$variant { .. } => f.write_str($says),
-                    $error::Disconnected { .. } => Display::fmt(&$ended $((None::<$item>))?, f),
-                }
-            }
+        shows! {
+            Debug [$($item)?] $error $(<$item>)?:
+                $error::$variant { .. } => concat!(stringify!($variant) $(, $shown)?),
+                $error::Disconnected { .. } => concat!("Disconnected" $(, $shown)?);
+            Display [$($item)?] $error $(<$item>)?:
+                $error::$variant { .. } => $says,
+                $error::Disconnected { .. } => <$ended $(<$item>)?>::SAYS;
         }
 
         impl $(<$item>)? Error for $error $(<$item>)? {}

@@ -40,14 +40,12 @@ use crate::words::{Config, OpenError};
 use std::sync::Arc;
 
 shows! {
-    Debug [T] Sender<T>, "Sender { .. }";
-    Debug [T] Receiver<T>, "Receiver { .. }";
-    Debug [T] WeakSender<T>, "WeakSender { .. }";
-    Debug [T] WeakReceiver<T>, "WeakReceiver { .. }";
-    Debug [T] SendFuture<'_, T>, "SendFuture { .. }";
-    Debug [T] RecvFuture<'_, T>, "RecvFuture { .. }";
-    Debug [] Select<'_>, "Select { .. }";
-    Debug [] SelectedOperation<'_>, "SelectedOperation { .. }";
+    Debug [T] Sender<T>: _ => "Sender { .. }";
+    Debug [T] Receiver<T>: _ => "Receiver { .. }";
+    Debug [T] WeakSender<T>: _ => "WeakSender { .. }";
+    Debug [T] WeakReceiver<T>: _ => "WeakReceiver { .. }";
+    Debug [T] SendFuture<'_, T>: _ => "SendFuture { .. }";
+    Debug [T] RecvFuture<'_, T>: _ => "RecvFuture { .. }";
 }
 
 /// The configuration of the queues of a channel.

@@ -547,6 +547,11 @@ impl<'a> Select<'a> {
     }
 }
 
+shows! {
+    Debug [] Select<'_>: _ => "Select { .. }";
+    Debug [] SelectedOperation<'_>: _ => "SelectedOperation { .. }";
+}
+
 impl Default for Select<'_> {
     fn default() -> Self {
         Select::new()
@@ -630,7 +635,7 @@ macro_rules! errors {
         #[derive(Clone, Copy, Debug, PartialEq, Eq, Hash)]
         pub struct $name;
 
-        shows! { Display [] $name, $text; }
+        shows! { Display [] $name: _ => $text; }
 
         impl std::error::Error for $name {}
     )+};

@@ -250,7 +250,7 @@ impl<S, A> Drop for Pending<'_, S, A> {
 }
 
 shows! {
-    Debug [] Sender, "Sender { .. }";
-    Debug [] Receiver, "Receiver { .. }";
-    Debug [S, A] Pending<'_, S, A>, "Pending { .. }";
+    Debug [] Sender: _ => "Sender { .. }";
+    Debug [] Receiver: _ => "Receiver { .. }";
+    Debug [S, A] Pending<'_, S, A>: _ => "Pending { .. }";
 }

@@ -95,25 +95,16 @@ impl Display for OpenError {
 
 impl Error for OpenError {}
 
-impl Display for SendError {
-    fn fmt(&self, f: &mut Formatter<'_>) -> Result {
-        f.write_str(match self {
-            SendError::Full => "the queue is full",
-            SendError::Closed => "the queue is closed",
-            SendError::Spent => "the queue has accepted all the items of its life",
-            SendError::Worn => "the sender has begun all the sends that it may",
-            SendError::Disconnected => "the queue is full and a group of receivers is gone",
-        })
-    }
-}
-
-impl Display for RecvError {
-    fn fmt(&self, f: &mut Formatter<'_>) -> Result {
-        f.write_str(match self {
-            RecvError::Empty => "the queue is empty",
-            RecvError::Ended { .. } => "the queue is closed and all its items were taken",
-        })
-    }
+shows! {
+    Display [] SendError:
+        SendError::Full => "the queue is full",
+        SendError::Closed => "the queue is closed",
+        SendError::Spent => "the queue has accepted all the items of its life",
+        SendError::Worn => "the sender has begun all the sends that it may",
+        SendError::Disconnected => "the queue is full and a group of receivers is gone";
+    Display [] RecvError:
+        RecvError::Empty => "the queue is empty",
+        RecvError::Ended { .. } => "the queue is closed and all its items were taken";
 }
 
 impl Error for SendError {}
