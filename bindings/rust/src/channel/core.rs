@@ -9,7 +9,7 @@
 //! **Order of locks**: the state, all seats, a line. A holder of a seat makes one call of the queue, and
 //! takes no other lock. Code of others (an item's drop or copy, a waker) runs while none is held.
 use super::body::{Copies, Parcel, words_of};
-use super::event::{Again, Event, Panic, Try, first_of, let_be, lock, run_each};
+use super::event::{AT_A_RING, Event, Panic, Try, first_of, let_be, lock, run_each, soon};
 use super::meeting::Meeting;
 use super::pool::{Held, Pass, Pool};
 use super::select::Kept;
@@ -28,9 +28,8 @@ pub struct Side {
     /// The line in which its calls wait: for room, or for items.
     pub line: Event,
     pub seats: Pool,
-    /// Whether it has lost its last handle, and whether what comes of that is done.
+    /// Whether it has lost its last handle. What comes of that is done while the list of groups is locked.
     lost: AtomicBool,
-    gone: AtomicBool,
 }
 
 impl Side {
@@ -39,7 +38,6 @@ impl Side {
             line: Event::default(),
             seats: Pool::new(handles),
             lost: AtomicBool::new(false),
-            gone: AtomicBool::new(false),
         }
     }
 
@@ -85,27 +83,25 @@ impl<T> Core<T> {
     /// Opens a channel. Its groups share items if there is a function that copies them.
     pub fn open(config: Config, groups: u32, copies: Option<Copies<T>>) -> Result<Self, OpenError> {
         let sides = handle::open(&config, groups, words_of(copies))?;
-        Ok(Core::new(config, copies, sides, None))
+        Ok(Core::new(config, copies, sides))
     }
 
     /// A channel without a queue.
     pub fn special(config: Config, special: Special<T>) -> Core<T> {
-        Core::new(config, None, [vec![], vec![]], Some(special))
+        Core {
+            special: Some(special),
+            ..Core::new(config, None, vec![vec![], vec![]])
+        }
     }
 
-    fn new(
-        config: Config,
-        copies: Option<Copies<T>>,
-        sides: impl IntoIterator<Item = Vec<Handle>>,
-        special: Option<Special<T>>,
-    ) -> Core<T> {
+    fn new(config: Config, copies: Option<Copies<T>>, sides: Vec<Vec<Handle>>) -> Core<T> {
         let mut sides = sides.into_iter().map(Side::new);
         let senders = sides.next().expect("a channel has senders");
         let groups: Box<[Side]> = sides.collect();
         Core {
             config,
             copies,
-            special,
+            special: None,
             senders,
             closed: AtomicBool::new(false),
             shares: AtomicUsize::new(groups.len()),
@@ -148,7 +144,8 @@ impl<T> Core<T> {
 
     /// Waits until all is done that comes of the loss of this side's last handle: another thread is at it.
     pub fn wait_until_gone(&self, side: usize) {
-        turn_until(|| self.side(side).gone.load(Ordering::SeqCst).then_some(()));
+        turn_until(|| self.side(side).is_lost().then_some(()));
+        drop(lock(&self.in_queue));
     }
 
     /// How many items this group hasn't taken; for the senders, some group that has receivers.
@@ -216,7 +213,7 @@ impl<T> Core<T> {
         let is_stale = self.shares.load(Ordering::SeqCst) != self.alive().count();
         match code {
             code::CLOSED => self.closed.store(true, Ordering::SeqCst),
-            code::FULL if !is_stale => return Err(Again::AtARing),
+            code::FULL if !is_stale => return Err(AT_A_RING),
             code::FULL | code::SPENT | code::WORN => {}
             code => unexpected(code),
         }
@@ -226,7 +223,7 @@ impl<T> Core<T> {
         }
         let mut let_go = vec![];
         if self.senders.seats.take().pass().queue == queue {
-            let_go = self.renew(&mut in_queue).ok_or(Again::Soon)?;
+            let_go = self.renew(&mut in_queue).ok_or_else(soon)?;
         }
         drop(in_queue);
         // The item isn't sent yet, but this call may go on for others: it doesn't panic.
@@ -250,7 +247,7 @@ impl<T> Core<T> {
                 self.senders.line.ring();
                 Ok(Some(parcel))
             }
-            Err(code::EMPTY) => Err(Again::AtARing),
+            Err(code::EMPTY) => Err(AT_A_RING),
             Err(code::ENDED) => {
                 self.closed.store(true, Ordering::SeqCst);
                 Ok(None)
@@ -321,7 +318,6 @@ impl<T> Core<T> {
         if side != 0 && self.is_closed() {
             lost.extend(in_queue.iter().filter(|&&it| self.side(it).is_lost()));
         }
-        self.side(side).gone.store(true, Ordering::SeqCst);
         drop(in_queue);
         let takes = |group| iter::from_fn(move || self.try_recv(group).ok()?);
         let left = lost.into_iter().flat_map(takes);

@@ -11,14 +11,12 @@ pub struct SendError<T>(pub T);
 pub struct RecvError;
 
 impl<T> SendError<T> {
+    const SAYS: &str = "sending on a channel that is closed";
+
     /// The item.
     pub fn into_inner(self) -> T {
         self.0
     }
-}
-
-impl<T> SendError<T> {
-    const SAYS: &str = "sending on a channel that is closed";
 }
 
 impl RecvError {

@@ -292,7 +292,7 @@ impl Parker {
 
     /// Waits a little for a waker that is near.
     pub fn spin(&self) {
-        let mut backoff = Backoff::new();
+        let mut backoff = Backoff::default();
         for _ in 0..TRIES {
             if self.woken.load(Ordering::SeqCst) {
                 return;
@@ -313,27 +313,15 @@ impl Parker {
     }
 }
 
-/// The result of a try, or when it is to be made again.
-pub type Try<R> = Result<R, Again>;
+/// The result of a try; or, if it is to be made again though nobody rings, from which moment on.
+pub type Try<R> = Result<R, Option<Instant>>;
 
-pub enum Again {
-    /// Once it is rung for.
-    AtARing,
-    /// Or after a millisecond.
-    Soon,
-    /// Or at this moment.
-    At(Instant),
-}
+/// It is made again once it is rung for.
+pub const AT_A_RING: Option<Instant> = None;
 
-impl Again {
-    /// The moment at which it is made without a ring.
-    pub fn moment(self) -> Option<Instant> {
-        match self {
-            Again::AtARing => None,
-            Again::Soon => Some(Instant::now() + Duration::from_millis(1)),
-            Again::At(moment) => Some(moment),
-        }
-    }
+/// It is made again after a millisecond.
+pub fn soon() -> Option<Instant> {
+    Some(Instant::now() + Duration::from_millis(1))
 }
 
 /// Tries until it is done, or until this moment: then None. Between the tries it waits for rings.
@@ -342,7 +330,7 @@ pub fn wait<R>(
     until: Option<Instant>,
     mut attempt: impl FnMut() -> Try<R>,
 ) -> Option<R> {
-    let mut backoff = Backoff::new();
+    let mut backoff = Backoff::default();
     for _ in 0..TRIES {
         if let Ok(done) = attempt() {
             return Some(done);
@@ -357,7 +345,7 @@ pub fn wait<R>(
             let mut place = Place::stand(event, parker);
             let again = match attempt() {
                 Ok(done) => return Some(done),
-                Err(again) => again.moment(),
+                Err(again) => again,
             };
             parker.park(until.into_iter().chain(again).min());
             place.leave();

@@ -1,7 +1,7 @@
 //! Sends and takes as futures. A poll makes a call of the queue to its end, and so may spin for its
 //! answer, but none is left begun between two polls: it would stop its side.
 use super::body::Parcel;
-use super::event::{Again, Ticket, Try};
+use super::event::{AT_A_RING, Ticket, Try};
 use super::side::Handle;
 use super::{Receiver, RecvError, SendError, Sender};
 use crate::words::{Receivers, Senders};
@@ -51,7 +51,7 @@ impl<'a, T, S> CallFuture<'a, T, S> {
     ) -> Poll<R> {
         let (handle, waker) = (&*self.handle, context.waker());
         let mut tried = match finds_nothing(handle) {
-            true => Err(Again::AtARing),
+            true => Err(AT_A_RING),
             false => attempt(handle),
         };
         let stays = |ticket| handle.line().stay(ticket, waker);
@@ -64,8 +64,8 @@ impl<'a, T, S> CallFuture<'a, T, S> {
                 self.leave();
                 return Poll::Ready(done);
             }
-            Err(Again::Soon | Again::At(_)) => waker.wake_by_ref(),
-            Err(Again::AtARing) => {}
+            Err(AT_A_RING) => {}
+            Err(Some(_)) => waker.wake_by_ref(),
         }
         Poll::Pending
     }

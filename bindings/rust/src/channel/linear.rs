@@ -425,7 +425,7 @@ struct Clock {
 impl Clock {
     fn start(&self) {
         self.ready.fetch_add(1, Ordering::SeqCst);
-        let mut backoff = Backoff::new();
+        let mut backoff = Backoff::default();
         while self.ready.load(Ordering::SeqCst) < THREADS {
             backoff.between_turns();
         }

@@ -23,7 +23,7 @@
 //!
 //! **Order of locks**: the lines, by their address; the pairs; a waiter.
 use super::body::Parcel;
-use super::event::{Again, Panic, Parker, TRIES, Try, let_be, lock, run_each};
+use super::event::{AT_A_RING, Panic, Parker, TRIES, Try, let_be, lock, run_each};
 use super::select::{Begun, Select};
 use super::{Receiver, RecvTimeoutError, SendError, SendTimeoutError, Sender, TrySendError};
 use crate::words::backoff::Backoff;
@@ -209,7 +209,7 @@ impl<T> Meeting<T> {
         let has_offer = side == TAKES && !lock(&self.pairs).offers.is_empty();
         match has_offer || lines.is_closed || !lines.posted[1 - side].is_empty() {
             true => Ok(()),
-            false => Err(Again::AtARing),
+            false => Err(AT_A_RING),
         }
     }
 
@@ -237,7 +237,7 @@ impl<T> Meeting<T> {
 
     /// The item of a pair, once it is there; None if the sender gave the pair up.
     pub fn take(&self, pair: u64) -> Option<T> {
-        let (mut backoff, mut rounds) = (Backoff::new(), 0..TRIES);
+        let (mut backoff, mut rounds) = (Backoff::default(), 0..TRIES);
         let mut pairs = lock(&self.pairs);
         loop {
             match pairs.remove(pair)? {
@@ -374,7 +374,7 @@ impl<T> Meets for Meeting<T> {
 /// Meets one that is posted for this operation alone.
 pub fn try_meet(channel: &dyn Meets, side: usize) -> Try<Begun> {
     let met = channel.begin(&mut lock(channel.lines()), side);
-    let (begun, waker) = met.ok_or(Again::AtARing)?;
+    let (begun, waker) = met.ok_or(AT_A_RING)?;
     wake(waker);
     Ok(begun)
 }

@@ -5,7 +5,7 @@
 //! caller that finds none free tries a few times more, and then parks: see [`event`](super::event).
 #![allow(unsafe_code)]
 
-use super::event::{Again, Event, wait};
+use super::event::{Event, soon, wait};
 use crate::words::backoff::turn_until;
 use crate::words::handle::Handle;
 use std::cell::{Cell, UnsafeCell};
@@ -144,7 +144,7 @@ impl Pool {
             let mut places = hint..hint + self.seats.len();
             let found = places.find_map(|at| Some((at, self.try_take(at)?)));
             // The look at the line may come before the store for this thread: so not at a ring alone.
-            let (at, held) = found.ok_or(Again::Soon)?;
+            let (at, held) = found.ok_or_else(soon)?;
             HINT.set(at % MOST);
             Ok(held)
         };

@@ -1,7 +1,7 @@
 //! Room that is reserved for selected sends, and the looks of a select: see [`select`](super::select).
 use super::body::Parcel;
 use super::core::{Core, Side};
-use super::event::{Again, Try, lock};
+use super::event::{AT_A_RING, Try, lock};
 use super::pool::Pool;
 use crate::words::backoff::Backoff;
 use std::sync::atomic::Ordering;
@@ -23,7 +23,7 @@ impl<T> Core<T> {
         }
         match has_item() || self.is_closed() {
             true => Ok(()),
-            false => Err(Again::AtARing),
+            false => Err(AT_A_RING),
         }
     }
 
@@ -58,7 +58,7 @@ impl<T> Core<T> {
             }
         });
         match is_full && !self.is_closed() {
-            true => Err(Again::AtARing),
+            true => Err(AT_A_RING),
             false => Ok(()),
         }
     }
@@ -84,7 +84,7 @@ impl<T> Core<T> {
 
     /// Sends to room that was reserved. Returns whether it is sent; if not, the channel is closed.
     pub fn send_to_room(&self, parcel: &Parcel<T>) -> bool {
-        let mut backoff = Backoff::new();
+        let mut backoff = Backoff::default();
         loop {
             let mut seat = self.senders.seats.take();
             let Err(refusal) = self.send_by(&mut seat, parcel) else {

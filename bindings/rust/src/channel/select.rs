@@ -218,7 +218,7 @@ fn try_each(entries: &[Entry], begins: bool) -> Result<(usize, Begun), Option<In
         };
         match tried {
             Ok(begun) => return Ok((place, begun)),
-            Err(again) => moment = again.moment().into_iter().chain(moment).min(),
+            Err(again) => moment = again.into_iter().chain(moment).min(),
         }
     }
     Err(moment)
@@ -336,7 +336,7 @@ impl<'a> Select<'a> {
             true => 1,
             false => TRIES,
         };
-        let mut backoff = Backoff::new();
+        let mut backoff = Backoff::default();
         let mut done = try_each(&self.entries, begins).ok();
         for _ in 1..tries {
             if done.is_some() || is_over() {

@@ -1,6 +1,6 @@
 //! Receivers of moments, and of nothing. None has a thread: who waits for it parks until the moment.
 use super::core::{Core, Special};
-use super::event::{Again, Try, lock};
+use super::event::{AT_A_RING, Try, lock};
 use super::side::Handle;
 use super::{Receiver, config};
 use std::sync::{Arc, Mutex};
@@ -20,11 +20,11 @@ impl<T> Timer<T> {
     pub fn try_take(&self) -> Try<T> {
         let mut due = lock(&self.due);
         let (Some(at), Some(item)) = (*due, self.item) else {
-            return Err(Again::AtARing);
+            return Err(AT_A_RING);
         };
         let now = Instant::now();
         if now < at {
-            return Err(Again::At(at));
+            return Err(Some(at));
         }
         let next = |every: Duration| match now - at < every {
             true => at.checked_add(every),
@@ -37,8 +37,8 @@ impl<T> Timer<T> {
     /// Whether there is an item.
     pub fn look(&self) -> Try<()> {
         match *lock(&self.due) {
-            None => Err(Again::AtARing),
-            Some(at) if Instant::now() < at => Err(Again::At(at)),
+            None => Err(AT_A_RING),
+            Some(at) if Instant::now() < at => Err(Some(at)),
             Some(_) => Ok(()),
         }
     }

@@ -9,15 +9,12 @@ const YIELDS: u32 = 256;
 /// How long a round sleeps then: at first, and at most.
 const SLEEPS: (Duration, Duration) = (Duration::from_micros(50), Duration::from_millis(1));
 
+#[derive(Default)]
 pub struct Backoff {
     round: u32,
 }
 
 impl Backoff {
-    pub fn new() -> Backoff {
-        Backoff { round: 0 }
-    }
-
     /// Until the next turn of a call that was begun. Others may wait for this call, so it never
     /// sleeps.
     pub fn between_turns(&mut self) {
@@ -40,8 +37,9 @@ impl Backoff {
 }
 
 /// Does turns until one of them is answered.
+#[inline(never)]
 pub fn turn_until<T>(mut turn: impl FnMut() -> Option<T>) -> T {
-    let mut backoff = Backoff::new();
+    let mut backoff = Backoff::default();
     loop {
         if let Some(answer) = turn() {
             return answer;

@@ -43,14 +43,10 @@ impl Side {
     fn turn(&self, place: usize, handle: Option<&mut Handle>) -> Option<Answer> {
         let mut place = self.places[place].try_lock().ok()?;
         let begun = place.as_mut()?;
-        let answer = match begun.answer {
-            Some(answer) => Answer {
-                served: 0,
-                ..answer
-            },
-            None => begun.handle.turn(begun.call)?,
-        };
-        begun.answer = Some(answer);
+        let answer = begun.answer;
+        let answer = answer.or_else(|| begun.handle.turn(begun.call))?;
+        // A later turn serves none.
+        begun.answer.insert(answer).served = 0;
         if let Some(handle) = handle {
             *handle = place.take()?.handle;
             self.count.fetch_sub(1, Ordering::SeqCst);

@@ -111,8 +111,6 @@ pub fn open_groups(config: Config, groups: u32) -> Result<Opened, OpenError> {
     let mut opened = handle::open(&config, groups, 1)?;
     let sides: Sides = opened.iter().map(|it| Side::new(it.len())).collect();
     let senders = Pass::all(opened.remove(0), &sides, 0);
-    let receivers = (1..)
-        .zip(opened)
-        .map(|(side, it)| Pass::all(it, &sides, side));
-    Ok((senders, receivers.collect()))
+    let group = |(side, it)| Pass::all(it, &sides, side);
+    Ok((senders, (1..).zip(opened).map(group).collect()))
 }

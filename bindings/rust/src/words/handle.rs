@@ -64,12 +64,8 @@ type Taken = [Word; 7];
 // and each other reference is that of a variable of its own.
 unsafe extern "C" {
     safe fn vahepito_version() -> u32;
-    safe fn vahepito_sizes(
-        config: &mut usize,
-        pass: &mut usize,
-        item: &mut usize,
-        words_item: &mut usize,
-    );
+    // It writes the sizes of a configuration, a pass, an item, and an item of words.
+    safe fn vahepito_sizes(_: &mut usize, _: &mut usize, _: &mut usize, _: &mut usize);
     fn vahepito_open_words(
         config: &Config,
         groups: u32,
@@ -84,7 +80,7 @@ unsafe extern "C" {
     safe fn vahepito_begin_send(sender: &mut Pass, body: u64) -> u32;
     safe fn vahepito_begin_close(sender: &mut Pass) -> u32;
     safe fn vahepito_begin_take(receiver: &mut Pass) -> u32;
-    safe fn vahepito_try_send(_: &mut Pass, body: Word, place: &mut u64, served: &mut u32) -> u32;
+    safe fn vahepito_try_send(_: &mut Pass, body: Word, place: &mut u64, _: &mut u32) -> u32;
     fn vahepito_try_send_words(
         sender: &mut Pass,
         words: *const Word,
@@ -199,11 +195,10 @@ impl Handle {
 
     /// One turn of a call that was begun. Gives the answer if it is there.
     pub fn turn(&mut self, call: Call) -> Option<Answer> {
-        let pass = &mut self.0;
         let answer = Answer::by(|item, number, served| match call {
-            Call::Send(_) => vahepito_turn_send(pass, number, served),
-            Call::Close => vahepito_turn_close(pass, number, served),
-            Call::Take => vahepito_turn_take(pass, item, number, served),
+            Call::Send(_) => vahepito_turn_send(&mut self.0, number, served),
+            Call::Close => vahepito_turn_close(&mut self.0, number, served),
+            Call::Take => vahepito_turn_take(&mut self.0, item, number, served),
         });
         (answer.code != code::WAITING).then_some(answer)
     }
@@ -211,25 +206,25 @@ impl Handle {
     /// Begins a send of one word, and turns it once.
     #[inline]
     pub fn try_send(&mut self, body: u64) -> Answer {
-        let (pass, body) = (&mut self.0, Word::new(body));
-        Answer::by(|_, place, served| vahepito_try_send(pass, body, place, served))
+        Answer::by(|_, place, served| {
+            vahepito_try_send(&mut self.0, Word::new(body), place, served)
+        })
     }
 
     /// Begins a take of an item of one word, and turns it once.
     #[inline]
     pub fn try_take(&mut self) -> Answer {
-        let pass = &mut self.0;
-        Answer::by(|item, total, served| vahepito_try_take(pass, item, total, served))
+        Answer::by(|item, total, served| vahepito_try_take(&mut self.0, item, total, served))
     }
 
     /// Sends these words, of this number, and waits for the answer: the code of a send.
     #[inline]
     pub fn send(&mut self, words: &Words, count: usize) -> u32 {
-        let (pass, at) = (&mut self.0, words.as_ptr());
+        let at = words.as_ptr();
         let first = match count {
-            1 => vahepito_try_send(pass, words[0], &mut 0, &mut 0),
+            1 => vahepito_try_send(&mut self.0, words[0], &mut 0, &mut 0),
             // SAFETY: there are four words, and the library refuses to read more.
-            _ => unsafe { vahepito_try_send_words(pass, at, count, &mut 0, &mut 0) },
+            _ => unsafe { vahepito_try_send_words(&mut self.0, at, count, &mut 0, &mut 0) },
         };
         answered(first, || vahepito_turn_send(&mut self.0, &mut 0, &mut 0))
     }
@@ -261,16 +256,11 @@ impl Handle {
 }
 
 /// The code of a call that was turned once, and gave this one: if it isn't answered yet it is turned on.
-fn answered(first: u32, turn: impl FnMut() -> u32) -> u32 {
+fn answered(first: u32, mut turn: impl FnMut() -> u32) -> u32 {
     match first {
-        code::WAITING => turned(turn),
+        code::WAITING => turn_until(|| Some(turn()).filter(|&code| code != code::WAITING)),
         code => code,
     }
-}
-
-#[inline(never)]
-fn turned(mut turn: impl FnMut() -> u32) -> u32 {
-    turn_until(|| Some(turn()).filter(|&code| code != code::WAITING))
 }
 
 impl Drop for Handle {
@@ -316,10 +306,10 @@ fn told(code: u32) -> Result<(), OpenError> {
 pub fn open(config: &Config, groups: u32, words: usize) -> Result<Vec<Vec<Handle>>, OpenError> {
     check_library()?;
     // Of numbers that are too large the library refuses even these.
-    let empty = |count: u32| (0..count.min(8 * 64)).map(|_| Handle::empty());
-    let mut senders: Vec<_> = empty(config.senders).collect();
-    let receivers = groups.saturating_mul(config.receivers);
-    let mut receivers: Vec<_> = empty(receivers).collect();
+    let empty = |_| Handle::empty();
+    let some = |count: u32| (0..count.min(8 * 64)).map(empty).collect();
+    let mut senders: Vec<_> = some(config.senders);
+    let mut receivers: Vec<_> = some(groups.saturating_mul(config.receivers));
     // SAFETY: the pointers and counts are those of two lists, and the handles of both are empty.
     let code = unsafe {
         vahepito_open_words(

@@ -83,7 +83,7 @@ impl Receiver {
     ///
     /// The queue is closed, and its group has taken all its items.
     pub fn recv(&mut self) -> Result<Item, RecvError> {
-        let mut backoff = Backoff::new();
+        let mut backoff = Backoff::default();
         loop {
             match self.try_recv() {
                 Err(RecvError::Empty) => backoff.between_tries(),

@@ -91,7 +91,7 @@ impl Sender {
     /// full. If another group was slower than that one, it may still make room, for at most `capacity`
     /// items, until it has caught up; then the queue stays full.
     pub fn send(&mut self, body: u64) -> Result<u64, SendError> {
-        let (mut backoff, mut lost) = (Backoff::new(), false);
+        let (mut backoff, mut lost) = (Backoff::default(), false);
         loop {
             match self.try_send(body) {
                 Err(SendError::Full) if lost => return Err(SendError::Disconnected),
