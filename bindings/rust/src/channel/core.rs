@@ -12,7 +12,7 @@ use super::body::{Copies, Parcel, words_of};
 use super::event::{AT_A_RING, Event, Panic, Try, first_of, let_be, lock, run_each, soon};
 use super::meeting::Meeting;
 use super::pool::{Held, Pass, Pool};
-use super::select::Kept;
+use super::select::Selected;
 use super::timer::Timer;
 use crate::words::backoff::turn_until;
 use crate::words::handle::{self, Handle, code, hands_over, has_taken, unexpected};
@@ -65,10 +65,8 @@ pub struct Core<T> {
     pub shares: AtomicUsize,
     /// The groups that the queue has, in its order. A further queue takes its place under this lock.
     pub in_queue: Mutex<Vec<usize>>,
-    /// How much room is reserved for selected sends. It grows while all senders' seats are taken.
-    pub reserved: AtomicUsize,
-    /// The items of selected takes. By it this is `Send` and `Sync` if items are `Send`.
-    pub kept: Mutex<Kept<T>>,
+    /// By it this is `Send` and `Sync` if items are `Send`.
+    pub selected: Selected<T>,
 }
 
 /// Goes on with a panic at the end of a drop, unless there is one already.
@@ -107,8 +105,7 @@ impl<T> Core<T> {
             shares: AtomicUsize::new(groups.len()),
             in_queue: Mutex::new((1..=groups.len()).collect()),
             groups,
-            reserved: AtomicUsize::new(0),
-            kept: Mutex::default(),
+            selected: Selected::default(),
         }
     }
 
@@ -167,21 +164,25 @@ impl<T> Core<T> {
     /// for a further queue, nobody rings when there is.
     #[inline]
     pub fn try_send(&self, parcel: &Parcel<T>) -> Try<bool> {
-        loop {
-            let mut seat = self.senders.seats.take();
-            if self.reserved.load(Ordering::Relaxed) != 0 {
-                drop(seat);
-                return self.send_beside_reserved(parcel);
-            }
-            let sent = self.send_by(&mut seat, parcel);
+        let mut seat = self.senders.seats.take();
+        if self.selected.room.load(Ordering::Relaxed) != 0 {
             drop(seat);
-            let Err(refusal) = sent else {
-                self.ring_for_item();
-                return Ok(true);
-            };
-            if !self.goes_on(parcel, refusal)? {
-                return Ok(false);
-            }
+            return self.send_beside_reserved(parcel);
+        }
+        let sent = self.send_by(&mut seat, parcel);
+        drop(seat);
+        match sent {
+            Ok(()) => self.ring_for_item(),
+            Err(refusal) => return self.go_on_sending(parcel, refusal),
+        }
+        Ok(true)
+    }
+
+    #[cold]
+    pub fn go_on_sending(&self, parcel: &Parcel<T>, refusal: (u32, u64)) -> Try<bool> {
+        match self.goes_on(parcel, refusal)? {
+            true => self.try_send(parcel),
+            false => Ok(false),
         }
     }
 
@@ -206,7 +207,6 @@ impl<T> Core<T> {
 
     /// Goes on when this queue didn't accept an item. Returns whether a further try is to be made; if not,
     /// the channel is closed.
-    #[cold]
     pub fn goes_on(&self, parcel: &Parcel<T>, (code, queue): (u32, u64)) -> Try<bool> {
         parcel.is_for(1);
         // Whether a lost group is in the queue, and holds up the others.
@@ -232,21 +232,29 @@ impl<T> Core<T> {
         Ok(true)
     }
 
+    /// Takes an item of the queue for a group. Gives the code if there is none, or no queue.
+    #[inline]
+    pub fn take(&self, group: usize) -> Result<Parcel<T>, u32> {
+        if self.special.is_some() {
+            return Err(code::EMPTY);
+        }
+        let mut seat = self.side(group).seats.take();
+        let parcel = self.take_by(seat.pass())?;
+        seat.count_one();
+        drop(seat);
+        has_taken(self);
+        self.senders.line.ring();
+        Ok(parcel)
+    }
+
     /// Tries to take an item for a group. Gives None at the end of the channel.
     #[inline]
     pub fn try_recv(&self, group: usize) -> Try<Option<Parcel<T>>> {
         if let Some(special) = &self.special {
             return self.try_recv_special(special);
         }
-        let mut seat = self.side(group).seats.take();
-        match self.take_by(seat.pass()) {
-            Ok(parcel) => {
-                seat.count_one();
-                drop(seat);
-                has_taken(self);
-                self.senders.line.ring();
-                Ok(Some(parcel))
-            }
+        match self.take(group) {
+            Ok(parcel) => Ok(Some(parcel)),
             Err(code::EMPTY) => Err(AT_A_RING),
             Err(code::ENDED) => {
                 self.closed.store(true, Ordering::SeqCst);

@@ -63,8 +63,9 @@
 use crate::words::backoff::Backoff;
 use std::any::Any;
 use std::cell::RefCell;
-use std::collections::BTreeMap;
-use std::mem::{forget, swap, take};
+use std::collections::VecDeque;
+use std::iter;
+use std::mem::{forget, swap};
 use std::panic::{AssertUnwindSafe, catch_unwind};
 use std::sync::atomic::{AtomicBool, AtomicUsize, Ordering};
 use std::sync::{Arc, Mutex, MutexGuard, PoisonError};
@@ -74,6 +75,8 @@ use std::time::{Duration, Instant};
 
 /// Tries before parking, with spins and yields between: a park costs some microseconds, so few.
 pub const TRIES: u32 = 12;
+/// A line gives memory back, if it has some for more waiters than these.
+const KEPT: usize = 64;
 
 pub fn lock<T>(mutex: &Mutex<T>) -> MutexGuard<'_, T> {
     mutex.lock().unwrap_or_else(PoisonError::into_inner)
@@ -105,8 +108,10 @@ pub fn let_be(panics: impl IntoIterator<Item = Panic>) {
 /// Those that stand in line.
 #[derive(Default)]
 struct Line {
-    /// By the numbers of their tickets, so that the first one came first.
-    wakers: BTreeMap<u64, Waker>,
+    /// With the numbers of their tickets, in order. One that has left is none, until half of them are.
+    wakers: VecDeque<(u64, Option<Waker>)>,
+    /// How many there are.
+    length: usize,
     /// The number of the last ticket: each has one of its own.
     last: u64,
     /// How many rings there were while somebody was in line.
@@ -114,9 +119,31 @@ struct Line {
 }
 
 impl Line {
+    fn waker(&mut self, number: u64) -> Option<&mut Option<Waker>> {
+        let at = self.wakers.binary_search_by_key(&number, |it| it.0);
+        Some(&mut self.wakers[at.ok()?].1)
+    }
+
+    fn remove(&mut self, number: u64) -> Option<Waker> {
+        let waker = self.waker(number)?.take()?;
+        self.has_left();
+        Some(waker)
+    }
+
     fn pop(&mut self) -> Option<Waker> {
         self.rings += 1;
-        Some(self.wakers.pop_first()?.1)
+        let mut first = iter::from_fn(|| self.wakers.pop_front());
+        let waker = first.find_map(|it| it.1)?;
+        self.has_left();
+        Some(waker)
+    }
+
+    fn has_left(&mut self) {
+        self.length -= 1;
+        if 2 * self.length <= self.wakers.len() {
+            self.wakers.retain(|it| it.1.is_some());
+            self.wakers.shrink_to(KEPT);
+        }
     }
 }
 
@@ -141,8 +168,8 @@ impl Event {
         let mut line = lock(&self.line);
         let changed = change(&mut line);
         // It is written under the lock alone.
-        if self.waiting.load(Ordering::Relaxed) != line.wakers.len() {
-            self.waiting.store(line.wakers.len(), Ordering::SeqCst);
+        if self.waiting.load(Ordering::Relaxed) != line.length {
+            self.waiting.store(line.length, Ordering::SeqCst);
         }
         changed
     }
@@ -151,7 +178,8 @@ impl Event {
     pub fn stand(&self, waker: Waker) -> Ticket {
         self.with_line(|line| {
             line.last += 1;
-            line.wakers.insert(line.last, waker);
+            line.length += 1;
+            line.wakers.push_back((line.last, Some(waker)));
             let (number, rings) = (line.last, line.rings);
             Ticket { number, rings }
         })
@@ -159,23 +187,23 @@ impl Event {
 
     /// Stays in line with this waker, after a try that found nothing. Returns whether it was still
     /// there.
-    pub fn stay(&self, ticket: Ticket, waker: &Waker) -> bool {
-        let is_same = |line: &Line| Some(line.wakers.get(&ticket.number)?.will_wake(waker));
-        match is_same(&lock(&self.line)) {
+    pub fn stay(&self, Ticket { number, .. }: Ticket, waker: &Waker) -> bool {
+        let is_same = |line: &mut Line| Some(line.waker(number)?.as_ref()?.will_wake(waker));
+        match is_same(&mut lock(&self.line)) {
             Some(false) => {}
             there => return there.is_some(),
         }
         // The one that isn't in line then is dropped once the lock is released.
         let mut waker = waker.clone();
         self.with_line(|line| {
-            let place = line.wakers.get_mut(&ticket.number);
+            let place = line.waker(number).and_then(Option::as_mut);
             place.map(|place| swap(place, &mut waker)).is_some()
         })
     }
 
     /// Leaves the line. Returns whether a ring had taken this one out, and whether there was a ring at all.
-    fn leave(&self, Ticket { number, rings }: Ticket) -> (bool, bool) {
-        let leave = |line: &mut Line| (line.wakers.remove(&number), line.rings != rings);
+    pub fn leave(&self, Ticket { number, rings }: Ticket) -> (bool, bool) {
+        let leave = |line: &mut Line| (line.remove(number), line.rings != rings);
         let (waker, was_rung) = self.with_line(leave);
         (waker.is_none(), was_rung)
     }
@@ -207,49 +235,8 @@ impl Event {
 
     /// Wakes all that stand in line now, and returns the first panic of their wakers.
     pub fn ring_for_all(&self) -> Option<Panic> {
-        let all = self.with_line(|line| {
-            line.rings += 1;
-            take(&mut line.wakers)
-        });
-        run_each(all.into_values(), Waker::wake)
-    }
-}
-
-/// A thread's place in line. Its drop passes on the ring that took it out, if no try came after it.
-pub struct Place<'a> {
-    event: &'a Event,
-    /// Until it leaves the line.
-    ticket: Option<Ticket>,
-    /// Whether a ring took it out. A try that is made after that clears it.
-    pub rung: bool,
-}
-
-impl<'a> Place<'a> {
-    /// Stands in line. The thread has to try after this, before it parks.
-    pub fn stand(event: &'a Event, parker: &Arc<Parker>) -> Place<'a> {
-        Place {
-            event,
-            ticket: Some(event.stand(parker.clone().into())),
-            rung: false,
-        }
-    }
-
-    /// Leaves the line. A try has to follow, since a ring may have taken this one out. Returns whether there
-    /// was a ring at all since it stood there.
-    pub fn leave(&mut self) -> bool {
-        let left = self.ticket.take().map(|ticket| self.event.leave(ticket));
-        let (rung, was_rung) = left.unwrap_or((self.rung, false));
-        self.rung = rung;
-        was_rung
-    }
-}
-
-impl Drop for Place<'_> {
-    fn drop(&mut self) {
-        self.leave();
-        if self.rung {
-            self.event.ring();
-        }
+        let all: Vec<_> = self.with_line(|line| iter::from_fn(|| line.pop()).collect());
+        run_each(all, Waker::wake)
     }
 }
 
@@ -342,16 +329,16 @@ pub fn wait<R>(
             if until.is_some_and(|until| until <= Instant::now()) {
                 return attempt().ok();
             }
-            let mut place = Place::stand(event, parker);
-            let again = match attempt() {
-                Ok(done) => return Some(done),
-                Err(again) => again,
-            };
-            parker.park(until.into_iter().chain(again).min());
-            place.leave();
-            let tried = attempt();
-            place.rung = false;
-            if let Ok(done) = tried {
+            let ticket = event.stand(parker.clone().into());
+            match attempt() {
+                Ok(done) => {
+                    event.pass_on(ticket);
+                    return Some(done);
+                }
+                Err(again) => parker.park(until.into_iter().chain(again).min()),
+            }
+            event.leave(ticket);
+            if let Ok(done) = attempt() {
                 return Some(done);
             }
         }

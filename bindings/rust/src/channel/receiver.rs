@@ -6,6 +6,7 @@ use super::side::{Handle, WeakHandle};
 use super::{RecvError, RecvTimeoutError, TryRecvError};
 use crate::words::Receivers;
 use std::borrow::Cow;
+use std::convert::identity;
 use std::iter::FusedIterator;
 use std::time::{Duration, Instant};
 
@@ -52,10 +53,10 @@ impl<T> Receiver<T> {
 
     /// Takes an item, and waits for one until this moment.
     #[inline]
-    fn recv_until(&self, until: Option<Instant>) -> Result<T, RecvTimeoutError> {
-        match self.try_take() {
-            Ok(Some(parcel)) => Ok(parcel.unpack()),
-            _ => self.wait_for_item(until),
+    fn recv_until<E>(&self, until: Option<Instant>, or: fn(RecvTimeoutError) -> E) -> Result<T, E> {
+        match self.core().take(self.side()) {
+            Ok(parcel) => Ok(parcel.unpack()),
+            Err(_) => self.wait_for_item(until).map_err(or),
         }
     }
 
@@ -86,8 +87,9 @@ impl<T> Receiver<T> {
     /// assert!(receiver.recv().is_err());
     /// # Ok::<(), vahepito::OpenError>(())
     /// ```
+    #[inline]
     pub fn recv(&self) -> Result<T, RecvError> {
-        self.recv_until(None).map_err(|_| RecvError)
+        self.recv_until(None, |_| RecvError)
     }
 
     /// Takes an item, and waits for one, but not longer than this.
@@ -107,7 +109,7 @@ impl<T> Receiver<T> {
     /// ```
     pub fn recv_timeout(&self, time: Duration) -> Result<T, RecvTimeoutError> {
         // A moment beyond the clock's range never comes.
-        self.recv_until(Instant::now().checked_add(time))
+        self.recv_until(Instant::now().checked_add(time), identity)
     }
 
     /// Takes an item, and waits for one, but not beyond this moment.
@@ -131,7 +133,7 @@ impl<T> Receiver<T> {
     /// # Ok::<(), vahepito::OpenError>(())
     /// ```
     pub fn recv_deadline(&self, until: Instant) -> Result<T, RecvTimeoutError> {
-        self.recv_until(Some(until))
+        self.recv_until(Some(until), identity)
     }
 
     /// Takes an item, as a future of any runtime. If it is dropped before it is done, nothing was

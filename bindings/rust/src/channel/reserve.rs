@@ -31,14 +31,14 @@ impl<T> Core<T> {
     /// some moment of this call.
     pub fn seems_to_have_room(&self) -> Try<()> {
         self.has_room_beside(0)?;
-        let reserved = self.reserved.load(Ordering::SeqCst);
+        let reserved = self.selected.room.load(Ordering::SeqCst);
         if reserved == 0 || self.has_room_beside(reserved).is_ok() {
             return Ok(());
         }
         // Not while a selected send is on its way: its item may be taken before its place is counted down.
         let _in_queue = lock(&self.in_queue);
         let _seats = self.senders.seats.take_all();
-        self.has_room_beside(self.reserved.load(Ordering::SeqCst))
+        self.has_room_beside(self.selected.room.load(Ordering::SeqCst))
     }
 
     /// Whether there is room beside these reserved places, or none will come. If it says no, there was none at
@@ -71,14 +71,14 @@ impl<T> Core<T> {
         if self.is_closed() {
             return Ok(false);
         }
-        self.has_room_beside(self.reserved.load(Ordering::SeqCst))?;
-        self.reserved.fetch_add(1, Ordering::SeqCst);
+        self.has_room_beside(self.selected.room.load(Ordering::SeqCst))?;
+        self.selected.room.fetch_add(1, Ordering::SeqCst);
         Ok(true)
     }
 
     /// Gives back room that was reserved.
     pub fn give_back_room(&self) {
-        self.reserved.fetch_sub(1, Ordering::SeqCst);
+        self.selected.room.fetch_sub(1, Ordering::SeqCst);
         self.senders.line.ring();
     }
 
@@ -89,7 +89,7 @@ impl<T> Core<T> {
             let mut seat = self.senders.seats.take();
             let Err(refusal) = self.send_by(&mut seat, parcel) else {
                 // While the seat is taken, so that nobody counts both the item and its room.
-                self.reserved.fetch_sub(1, Ordering::SeqCst);
+                self.selected.room.fetch_sub(1, Ordering::SeqCst);
                 drop(seat);
                 self.ring_for_item();
                 return true;
@@ -112,7 +112,7 @@ impl<T> Core<T> {
     pub fn send_beside_reserved(&self, parcel: &Parcel<T>) -> Try<bool> {
         let in_queue = lock(&self.in_queue);
         let mut seats = self.senders.seats.take_all();
-        self.has_room_beside(self.reserved.load(Ordering::SeqCst))?;
+        self.has_room_beside(self.selected.room.load(Ordering::SeqCst))?;
         let sent = self.send_by(&mut seats[0], parcel);
         drop(seats);
         drop(in_queue);
@@ -121,10 +121,7 @@ impl<T> Core<T> {
                 self.ring_for_item();
                 Ok(true)
             }
-            Err(refusal) => match self.goes_on(parcel, refusal)? {
-                true => self.try_send(parcel),
-                false => Ok(false),
-            },
+            Err(refusal) => self.go_on_sending(parcel, refusal),
         }
     }
 }

@@ -22,14 +22,14 @@
 //! holder before that has counted; a holder after that sees the waiter in line. So a look that finds nothing
 //! is the look of [`event`](super::event)'s argument: at some moment of it there was nothing.
 use super::core::Special;
-use super::event::{Event, Parker, Place, TRIES, Try, lock};
+use super::event::{Event, Parker, TRIES, Ticket, Try, lock};
 use super::meeting::{Meets, SENDS, TAKES, Waiter, meet_or_post, try_meet};
 use super::{Receiver, RecvError, SendError, Sender};
 use crate::words::backoff::Backoff;
 use std::cell::Cell;
 use std::ptr::addr_eq;
-use std::sync::Arc;
-use std::sync::atomic::{AtomicU64, Ordering};
+use std::sync::atomic::{AtomicU64, AtomicUsize, Ordering};
+use std::sync::{Arc, Mutex};
 use std::time::{Duration, Instant};
 
 /// The state of a selected operation, until it is completed.
@@ -62,27 +62,37 @@ pub trait Case {
     fn give_up(&self, begun: Begun);
 }
 
-/// The items of selected takes.
-pub struct Kept<T> {
+/// What a channel keeps for selected operations until they are completed.
+pub struct Selected<T> {
+    /// How much room is reserved for sends. It grows while all senders' seats are taken.
+    pub room: AtomicUsize,
+    /// The items of takes.
+    kept: Mutex<Kept<T>>,
+}
+
+impl<T> Default for Selected<T> {
+    fn default() -> Selected<T> {
+        let items = vec![];
+        Selected {
+            room: AtomicUsize::new(0),
+            kept: Mutex::new(Kept { last: 0, items }),
+        }
+    }
+}
+
+struct Kept<T> {
     last: u64,
     items: Vec<(u64, T)>,
 }
 
-impl<T> Default for Kept<T> {
-    fn default() -> Kept<T> {
-        let items = vec![];
-        Kept { last: 0, items }
-    }
-}
-
 impl<T> Kept<T> {
-    pub fn put(&mut self, item: T) -> u64 {
+    fn put(&mut self, item: T) -> u64 {
         self.last += 1;
         self.items.push((self.last, item));
         self.last
     }
 
-    pub fn take(&mut self, number: u64) -> Option<T> {
+    fn take(&mut self, number: u64) -> Option<T> {
         let at = self.items.iter().position(|(other, _)| *other == number)?;
         Some(self.items.swap_remove(at).1)
     }
@@ -108,7 +118,7 @@ impl<T> Case for Receiver<T> {
         let taken = self.try_take()?;
         Ok(taken.map_or(Begun::Closed, |parcel| {
             let item = parcel.unpack();
-            Begun::Kept(lock(&self.core().kept).put(item))
+            Begun::Kept(lock(&self.core().selected.kept).put(item))
         }))
     }
 
@@ -134,7 +144,7 @@ impl<T> Receiver<T> {
         match (begun, self.core().meeting()) {
             (Begun::Met(pair), Some(meeting)) => meeting.take(pair).map(Ok),
             (Begun::Kept(number), _) => {
-                let item = lock(&self.core().kept).take(number);
+                let item = lock(&self.core().selected.kept).take(number);
                 Some(item.ok_or(RecvError))
             }
             _ => Some(Err(RecvError)),
@@ -197,6 +207,44 @@ impl<T> Sender<T> {
                 }
             }
             _ => Err(SendError(item)),
+        }
+    }
+}
+
+/// A thread's place in line. Its drop passes on the ring that took it out, if no try came after it.
+struct Place<'a> {
+    event: &'a Event,
+    /// Until it leaves the line.
+    ticket: Option<Ticket>,
+    /// Whether a ring took it out. A try that is made after that clears it.
+    rung: bool,
+}
+
+impl<'a> Place<'a> {
+    /// Stands in line. The thread has to try after this, before it parks.
+    fn stand(event: &'a Event, parker: &Arc<Parker>) -> Place<'a> {
+        Place {
+            event,
+            ticket: Some(event.stand(parker.clone().into())),
+            rung: false,
+        }
+    }
+
+    /// Leaves the line. A try has to follow, since a ring may have taken this one out. Returns whether there
+    /// was a ring at all since it stood there.
+    fn leave(&mut self) -> bool {
+        let left = self.ticket.take().map(|ticket| self.event.leave(ticket));
+        let (rung, was_rung) = left.unwrap_or((self.rung, false));
+        self.rung = rung;
+        was_rung
+    }
+}
+
+impl Drop for Place<'_> {
+    fn drop(&mut self) {
+        self.leave();
+        if self.rung {
+            self.event.ring();
         }
     }
 }

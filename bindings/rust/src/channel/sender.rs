@@ -87,6 +87,7 @@ impl<T> Sender<T> {
     /// assert_eq!(sender.send("two").unwrap_err().into_inner(), "two");
     /// # Ok::<(), vahepito::OpenError>(())
     /// ```
+    #[inline]
     pub fn send(&self, item: T) -> Result<(), SendError<T>> {
         let sent = self.send_until(item, None);
         sent.map_err(|error| SendError(error.into_inner()))

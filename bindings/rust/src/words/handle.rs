@@ -258,7 +258,7 @@ impl Handle {
 /// The code of a call that was turned once, and gave this one: if it isn't answered yet it is turned on.
 fn answered(first: u32, mut turn: impl FnMut() -> u32) -> u32 {
     match first {
-        code::WAITING => turn_until(|| Some(turn()).filter(|&code| code != code::WAITING)),
+        code::WAITING => turn_until(move || Some(turn()).filter(|&code| code != code::WAITING)),
         code => code,
     }
 }
