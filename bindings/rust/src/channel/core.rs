@@ -6,7 +6,7 @@
 //! its last receiver: while all seats are taken, the remaining items are moved over. For all other calls this
 //! is one step.
 //!
-//! **Order of locks**: the state, all seats, a line. A holder of a seat makes one call of the queue, and
+//! **Order of locks**: the list of groups, all seats, a line. A holder of a seat makes one call of the queue, and
 //! takes no other lock. Code of others (an item's drop or copy, a waker) runs while none is held.
 use super::body::{Copies, Parcel, words_of};
 use super::event::{AT_A_RING, Event, Panic, Try, first_of, let_be, lock, run_each, soon};
@@ -41,6 +41,7 @@ impl Side {
         }
     }
 
+    #[inline]
     pub fn is_lost(&self) -> bool {
         self.lost.load(Ordering::SeqCst)
     }

@@ -108,7 +108,7 @@ pub fn let_be(panics: impl IntoIterator<Item = Panic>) {
 /// Those that stand in line.
 #[derive(Default)]
 struct Line {
-    /// With the numbers of their tickets, in order. One that has left is none, until half of them are.
+    /// By the numbers of their tickets, in order. Those that have left are none, and go once half of all are.
     wakers: VecDeque<(u64, Option<Waker>)>,
     /// How many there are.
     length: usize,

@@ -153,7 +153,7 @@ impl<S> Pass<S> {
         if first.code != code::WAITING {
             return first;
         }
-        turn_until(|| self.handle.turn(call).or_else(|| self.side().turn_all()))
+        turn_until(move || self.handle.turn(call).or_else(|| self.side().turn_all()))
     }
 
     /// One turn of the call that was begun by a guard. If it is answered, it stays where it is, or ends.
