@@ -16,6 +16,7 @@ mod known;
 mod machine;
 mod named;
 mod open;
+mod reads;
 mod row;
 mod send;
 mod take;

@@ -3,7 +3,7 @@ use crate::fault::BeginFault;
 use crate::known::Known;
 use crate::row::row;
 use cc_model::{Answer, Call, Config, History, Pass};
-use cc_runs::{Chain, Event, Kind, OpenFault, Served, Setting};
+use cc_runs::{Chain, Event, Kind, OpenFault, Served, Setting, Word};
 use std::alloc::Global;
 use std::marker::Model;
 
@@ -45,6 +45,8 @@ impl Machine {
     ghost use Rattle.cc_model.specs.Legal.{Legal};
     ghost use Rattle.cc_model.specs.Fifo.{Fifo};
     ghost use Rattle.cc_machine.specs.Machine.{IsOpened, index_of, begin_fault, IsBeginFault, IsReached, HasBegun, event_of, event_in, waits_in, StandsStill, HasStepped, HasGone, HasGoneOn, HasPaused, last_event, answer_of, HasTaken};
+    ghost use Rattle.cc_machine.specs.Reads.{word_in};
+    ghost use Rattle.cc_machine.specs.View.{state_in};
     ghost use Rattle.cc_runs.specs.State.{chain_of};
     ghost use Rattle.cc_runs.specs.Run.{passes};
     ghost use Rattle.cc_runs.specs.ChainLaws.{IsLastAnswer};
@@ -175,6 +177,22 @@ impl Machine {
             Some(index) => self.board.is_waiting(index),
             None => false,
         }
+    }
+
+    /// The word of the next step of the pass in this row; without a call that is the link of its node, with which each call
+    /// begins.
+    pub fn word_in(&self, row: usize) -> Word
+        requires { row < passes self.now.setting }
+        ensures { result ≡ word_in self.now row }
+    {
+        self.board.word_in(row)
+    }
+
+    /// The value of a word; 0 if the machine has no such word.
+    pub fn value(&self, word: Word) -> u64
+        ensures { result ≡ (state_in self.now).mem word }
+    {
+        self.board.value(word)
     }
 
     /// Takes the answer of the pass's call, once the call has read it. `None`, and nothing is changed, if there is none.
