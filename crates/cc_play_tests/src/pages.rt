@@ -3,7 +3,7 @@ use crate::runs::{CutWriter, Refusal};
 use cc_device::Device;
 use cc_play::PlayFault;
 use cc_show::show::show;
-use cc_show::{ShowFault, tell_shown};
+use cc_show::{Form, ShowFault, tell_shown};
 use std::alloc::Global;
 use std::process::Abort;
 
@@ -19,7 +19,12 @@ fn shown(alloc: Global, input: &str) -> Outcome {
     let mut output = Vec::new(alloc);
     let mut errors = Vec::new(alloc);
     let mut sink = Device::new(&mut output);
-    let outcome = show(alloc, &mut Device::new(input.as_bytes()), &mut sink);
+    let outcome = show(
+        alloc,
+        Form::Page,
+        &mut Device::new(input.as_bytes()),
+        &mut sink,
+    );
     let status = tell_shown(&mut Device::new(&mut errors), outcome);
     Outcome {
         status,
@@ -96,7 +101,12 @@ fn holds<R: Abort>(rt: &R, takes: usize, is: bool) {
 /// after the failure.
 fn write_fails<R: Abort>(rt: &R, alloc: Global, page: &str, takes: usize) {
     let mut sink = CutWriter::new(alloc, takes, usize::MAX, Refusal::Error);
-    let outcome = show(alloc, &mut Device::new(FIRST.as_bytes()), &mut sink);
+    let outcome = show(
+        alloc,
+        Form::Page,
+        &mut Device::new(FIRST.as_bytes()),
+        &mut sink,
+    );
     let is_told = matches!(outcome, Err(ShowFault::Play(PlayFault::Write)));
     holds(rt, takes, is_told);
     holds(rt, takes, sink.has_front(page, takes));

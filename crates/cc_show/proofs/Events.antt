@@ -1,21 +1,24 @@
 -- The events of a run, turn by turn.
-use Rattle.std.proofs.Common.{◌≡◌, ◌<◌, ◌≤◌, ℕ, zero, suc, ◌+◌, ◌-◌, List, [], ◌∷◌, length, get_or, drop, Bool, false, Option, Some, None, refl, sym, ap, ◌∙◌, subst, arith}
+use Rattle.std.proofs.Common.{◌≡◌, ◌<◌, ◌≤◌, ℕ, zero, suc, ◌+◌, ◌-◌, List, [], ◌∷◌, ◌++◌, length, get_or, drop, Option, Some, None, refl, sym, ap, ◌∙◌, subst, arith}
 use Rattle.std.proofs.lemmas.List.{drop_all, length-append}
 use Rattle.cc_runs.specs.declared.place.Kind.{Kind}
 use Rattle.cc_runs.specs.declared.place.Event.{Event}
 use Rattle.cc_runs.specs.declared.place.Place.{Place}
 use Rattle.cc_runs.specs.declared.run.Move.{Move}
+use Rattle.cc_runs.specs.declared.word.Word.{Word}
 use Rattle.cc_model.specs.declared.call.Call.{Call}
 use Rattle.cc_model.specs.declared.call.Pass.{Pass}
 use Rattle.cc_runs.specs.Lines.{event_at}
-use Rattle.cc_runs.specs.State.{State}
 use Rattle.cc_machine.specs.Machine.{index_of}
-use Rattle.cc_machine.specs.View.{View}
+use Rattle.cc_machine.specs.View.{View, state_in}
+use Rattle.cc_machine.specs.Reads.{word_in}
+use Rattle.cc_machine.proofs.Rows.{inside}
 use Rattle.cc_plan.specs.Plan.{PlanValue}
 use Rattle.cc_play.specs.Schedule.{setting_of, place_in, begun_in, next_call, begins_at, begins, steps_at, steps, takes_at, turn, turns, entry, follow, run_of, IsAt, HasTurned, HasEnded}
 use Rattle.cc_play.proofs.Turns.{stays_on}
 use Rattle.cc_show.specs.declared.player.Done.{Done}
-use Rattle.cc_show.specs.Events.{noted, happened, Stands}
+use Rattle.cc_show.specs.Events.{done_at, noted, happened, Stands}
+use Rattle.cc_show.proofs.Seen.{seen}
 
 -- a begin is no event, nor is an answer taken; a step is one
 begun_none : (plan : PlanValue) (row : ℕ) (at : Place) (next : Option Call) (known : ℕ) (run : List Move) → happened plan (begins_at row at next known run) ≡ happened plan run
@@ -27,35 +30,53 @@ taken_none : (plan : PlanValue) (row : ℕ) (at : Place) (run : List Move) → h
 taken_none plan row (Place.Finished told) run = refl
 taken_none plan row _ run = refl
 
-stepped_one : (plan : PlanValue) (row : ℕ) (run : List Move) (e : Event) → e ≡ event_at (place_in plan run row) → happened plan (steps_at row e run) ≡ noted row e (happened plan run)
-stepped_one plan row run (Event.Did kind) is = ap (λ (x : Event). noted row x (happened plan run)) (sym is)
+stepped_one : (plan : PlanValue) (row : ℕ) (run : List Move) (e : Event) → e ≡ event_at (place_in plan run row) → happened plan (steps_at row e run) ≡ noted e (done_at plan run row) (happened plan run)
+stepped_one plan row run (Event.Did kind) is = ap (λ (x : Event). noted x (done_at plan run row) (happened plan run)) (sym is)
 stepped_one plan row run Event.Idle is = refl
 
 -- a turn
-turn_noted : (plan : PlanValue) (who : Pass) (row : ℕ) (run : List Move) → happened plan (turn plan who row run) ≡ noted row (event_at (place_in plan (begins plan who row run) row)) (happened plan run)
+turn_noted : (plan : PlanValue) (who : Pass) (row : ℕ) (run : List Move)
+    → happened plan (turn plan who row run) ≡ noted (event_at (place_in plan (begins plan who row run) row)) (done_at plan (begins plan who row run) row) (happened plan run)
 unfolding turn
 turn_noted plan who row run =
     let begun : List Move = begins plan who row run in
     taken_none plan row (place_in plan (steps plan row begun) row) (steps plan row begun) ∙ stepped_one plan row begun (event_at (place_in plan begun row)) refl
-    ∙ ap (λ (events : List Done). noted row (event_at (place_in plan begun row)) events) (begun_none plan row (place_in plan run row) (next_call plan who (begun_in row run)) _ run)
+    ∙ ap (λ (events : List Done). noted (event_at (place_in plan begun row)) (done_at plan begun row) events) (begun_none plan row (place_in plan run row) (next_call plan who (begun_in row run)) _ run)
 
 module _ (plan : PlanValue) (who : Pass) (row : ℕ) (named : index_of (setting_of plan) who ≡ Some row) where
   -- ---- an entry
 
   -- one turn more
-  pub one_more : (m1 m2 : View) (begun1 begun2 : List ℕ) (events events2 : List Done) (n : ℕ) (e : Event) (run : List Move) → Stands plan m1 begun1 events (turns plan who row n run)
-      → HasTurned plan who row m1 m2 begun1 begun2 e → events2 ≡ noted row e events → Stands plan m2 begun2 events2 (turns plan who row (suc n) run)
-  one_more m1 m2 begun1 begun2 events events2 n e run s turned new = record {
-    at = turned.at (turns plan who row n run) s.at;
-    told = new ∙ ap (noted row e) s.told ∙ ap (λ (x : Event). noted row x (happened plan (turns plan who row n run))) (turned.told (turns plan who row n run) s.at) ∙ sym (turn_noted plan who row (turns plan who row n run));
-  }
+  turned_more : (m1 m2 : View) (begun1 begun2 : List ℕ) (events : List Done) (n : ℕ) (e : Event) (run : List Move) → Stands plan m1 begun1 events (turns plan who row n run)
+      → HasTurned plan who row m1 m2 begun1 begun2 e → Stands plan m2 begun2 (noted e (done_at plan (begins plan who row (turns plan who row n run)) row) events) (turns plan who row (suc n) run)
+  turned_more m1 m2 begun1 begun2 events n e run s turned =
+      let here : List Move = turns plan who row n run in
+      let done : Kind → Done = done_at plan (begins plan who row here) row in
+      record {
+        at = turned.at here s.at;
+        told = ap (noted e done) s.told ∙ ap (λ (x : Event). noted x done (happened plan here)) (turned.told here s.at) ∙ sym (turn_noted plan who row here);
+      }
+
+  -- with an event, which was read before and after
+  pub one_more : (m1 m2 : View) (begun1 begun2 : List ℕ) (events events2 : List Done) (n : ℕ) (kind : Kind) (run : List Move) → Stands plan m1 begun1 events (turns plan who row n run)
+      → HasTurned plan who row m1 m2 begun1 begun2 (Event.Did kind) → (call : ℕ) (word : Word) (before after : ℕ)
+      → events2 ≡ events ++ record { row = row; pass = who; call = call; kind = kind; word = word; before = before; after = after } ∷ []
+      → call ≡ get_or begun2 row 0 → word ≡ word_in m1 row → before ≡ (state_in m1).mem word → after ≡ (state_in m2).mem word
+      → Stands plan m2 begun2 events2 (turns plan who row (suc n) run)
+  one_more m1 m2 begun1 begun2 events events2 n kind run s turned call word before after new call_is word_is before_is after_is =
+      let here : List Move = turns plan who row n run in
+      let later : IsAt plan m2 begun2 (turn plan who row here) = turned.at here s.at in
+      let within : row < length begun2 = omega (arith, later.rows, inside (setting_of plan) who row named) in
+      let is = seen plan who row named m1 m2 begun1 begun2 kind here s.at later within (sym (turned.told here s.at)) call word before after call_is word_is before_is after_is in
+      subst (λ (es : List Done). Stands plan m2 begun2 es (turns plan who row (suc n) run)) (sym (new ∙ ap (λ (d : Done). events ++ d ∷ []) is))
+      (turned_more m1 m2 begun1 begun2 events n (Event.Did kind) run s turned)
 
   -- the pass has no event more
-  pub no_more : (m1 m2 : View) (begun1 begun2 : List ℕ) (events events2 : List Done) (n count : ℕ) (e : Event) (run : List Move) → n < count → Stands plan m1 begun1 events (turns plan who row n run)
-      → HasTurned plan who row m1 m2 begun1 begun2 e → e ≡ Event.Idle → events2 ≡ noted row e events → Stands plan m2 begun2 events2 (entry plan who (index_of (setting_of plan) who) count run)
-  no_more m1 m2 begun1 begun2 events events2 n count e run less s turned none new =
-      let now : Stands plan m2 begun2 events2 (turns plan who row (suc n) run) = one_more m1 m2 begun1 begun2 events events2 n e run s turned new in
-      let over : HasEnded plan who row (turns plan who row (suc n) run) = turned.ended (turns plan who row n run) s.at none in
+  pub no_more : (m1 m2 : View) (begun1 begun2 : List ℕ) (events : List Done) (n count : ℕ) (run : List Move) → n < count → Stands plan m1 begun1 events (turns plan who row n run)
+      → HasTurned plan who row m1 m2 begun1 begun2 Event.Idle → Stands plan m2 begun2 events (entry plan who (index_of (setting_of plan) who) count run)
+  no_more m1 m2 begun1 begun2 events n count run less s turned =
+      let now : Stands plan m2 begun2 events (turns plan who row (suc n) run) = turned_more m1 m2 begun1 begun2 events n Event.Idle run s turned in
+      let over : HasEnded plan who row (turns plan who row (suc n) run) = turned.ended (turns plan who row n run) s.at refl in
       let rest : suc n + (count - suc n) ≡ count = omega arith in
       let stays : turns plan who row count run ≡ turns plan who row (suc n) run = ap (λ (k : ℕ). turns plan who row k run) (sym rest) ∙ stays_on plan who row named (suc n) (count - suc n) run over in
       rw (named, stays) now
@@ -66,12 +87,12 @@ module _ (plan : PlanValue) (who : Pass) (row : ℕ) (named : index_of (setting_
 
 -- ---- later runs have the events of the earlier ones
 
-noted_grows : (row : ℕ) (e : Event) (events : List Done) → length events ≤ length (noted row e events)
-noted_grows row (Event.Did kind) events = omega (arith, length-append events (record { row = row; kind = kind } ∷ []))
-noted_grows row Event.Idle events = omega arith
+noted_grows : (e : Event) (done : Kind → Done) (events : List Done) → length events ≤ length (noted e done events)
+noted_grows (Event.Did kind) done events = omega (arith, length-append events (done kind ∷ []))
+noted_grows Event.Idle done events = omega arith
 
 turn_grows : (plan : PlanValue) (who : Pass) (row : ℕ) (run : List Move) → length (happened plan run) ≤ length (happened plan (turn plan who row run))
-turn_grows plan who row run = rw (turn_noted plan who row run) (noted_grows row (event_at (place_in plan (begins plan who row run) row)) (happened plan run))
+turn_grows plan who row run = rw (turn_noted plan who row run) (noted_grows (event_at (place_in plan (begins plan who row run) row)) (done_at plan (begins plan who row run) row) (happened plan run))
 
 turns_grow : (plan : PlanValue) (who : Pass) (row n : ℕ) (run : List Move) → length (happened plan run) ≤ length (happened plan (turns plan who row n run))
 turns_grow plan who row zero run = omega arith

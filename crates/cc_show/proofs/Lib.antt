@@ -1,3 +1,4 @@
 pub mod Texts
+pub mod Seen
 pub mod Events
 pub mod Pages

@@ -1,24 +1,42 @@
--- The events of a run, as the page lists them.
+-- The events of a run, as a page and a trace list them.
 use Rattle.std.specs.Prelude.{ℕ, ◌≡◌, List, [], ◌∷◌, ◌++◌}
-use Rattle.cc_show.specs.Names.{Done, Event, Move}
-use Rattle.cc_runs.specs.Lines.{event_at}
+use Rattle.cc_show.specs.Names.{Done, Event, Kind, Move, Word}
+use Rattle.cc_runs.specs.Lines.{event_at, operation}
+use Rattle.cc_runs.specs.State.{State, chain_of, pass_at, word_of}
+use Rattle.cc_runs.specs.Run.{reached}
 use Rattle.cc_machine.specs.View.{View}
 use Rattle.cc_plan.specs.Plan.{PlanValue}
-use Rattle.cc_play.specs.Schedule.{place_in, IsAt}
+use Rattle.cc_play.specs.Schedule.{setting_of, place_in, begun_in, IsAt}
 
 -- how many events a page shows at most
 abbrev pub event_limit : ℕ
 event_limit = 20000
 
--- an event of the pass in this row comes after the earlier ones, if it was one
-abbrev pub noted : ℕ → Event → List Done → List Done
-noted row (Event.Did kind) events = events ++ record { row = row; kind = kind } ∷ []
-noted row Event.Idle events = events
+-- the word that the next step of the pass in this row is on, in a state
+abbrev pub touched : PlanValue → State → ℕ → Word
+touched plan s row = word_of (operation (setting_of plan) (chain_of plan.config row) (s.stand row).node (s.stand row).place)
 
--- the events of a run, the first one first: for each step its pass and its kind
+-- the step of the pass in this row, of this kind, after the earlier moves: its word has one value before it and one after it
+abbrev pub done_at : PlanValue → List Move → ℕ → Kind → Done
+done_at plan earlier row kind = record {
+  row = row;
+  pass = pass_at plan.config row;
+  call = begun_in row earlier;
+  kind = kind;
+  word = touched plan (reached (setting_of plan) earlier) row;
+  before = (reached (setting_of plan) earlier).mem (touched plan (reached (setting_of plan) earlier) row);
+  after = (reached (setting_of plan) (Move.Step row ∷ earlier)).mem (touched plan (reached (setting_of plan) earlier) row);
+}
+
+-- an event comes after the earlier ones, if it was one
+abbrev pub noted : Event → (Kind → Done) → List Done → List Done
+noted (Event.Did kind) done events = events ++ done kind ∷ []
+noted Event.Idle done events = events
+
+-- the events of a run, the first one first: its steps
 abbrev pub happened : PlanValue → List Move → List Done
 happened plan [] = []
-happened plan (Move.Step row ∷ earlier) = noted row (event_at (place_in plan earlier row)) (happened plan earlier)
+happened plan (Move.Step row ∷ earlier) = noted (event_at (place_in plan earlier row)) (done_at plan earlier row) (happened plan earlier)
 happened plan (Move.Begin row call known ∷ earlier) = happened plan earlier
 happened plan (Move.Take row ∷ earlier) = happened plan earlier
 

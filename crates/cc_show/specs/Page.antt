@@ -1,13 +1,10 @@
 -- The text of a page.
-use Rattle.std.specs.Prelude.{ℕ, ◌≡◌, ◌≤◌, ◌++◌, List, codes, length}
+use Rattle.std.specs.Prelude.{ℕ, ◌++◌, List, codes}
 use Rattle.cc_model.specs.Body.{words_of}
 use Rattle.cc_device.specs.Written.{word_text}
 use Rattle.cc_plan.specs.Plan.{PlanValue}
 use Rattle.cc_plan.specs.Report.{texts, words_text}
-use Rattle.cc_play.specs.Play.{IsReport}
-use Rattle.cc_play.specs.Schedule.{run_of}
-use Rattle.cc_show.specs.Names.{Call, Done, Kind, Verdict}
-use Rattle.cc_show.specs.Events.{event_limit, happened}
+use Rattle.cc_show.specs.Names.{Call, Done, Kind}
 use Rattle.cc_show.specs.declared.page.TheConstants.{FRONT, MIDDLE, BACK}
 
 -- the number of a kind
@@ -74,10 +71,3 @@ told_text p events report = front_text p events ++ report
 -- the page of a plan with these events, and a report
 unfoldable pub page_text : PlanValue → List Done → (report : List ℕ) → List ℕ
 page_text p events report = told_text p events report ++ BACK.now
-
--- the page of a plan: that of the events of the run that its schedule describes, and of the report that a play of it writes
-pub record IsPage (p : PlanValue) (verdict : Verdict) (text : List ℕ) : Type 0 where
-  pub report : List ℕ
-  pub reported : IsReport p verdict report
-  pub short : length (happened p (run_of p)) ≤ event_limit
-  pub text_is : text ≡ page_text p (happened p (run_of p)) report

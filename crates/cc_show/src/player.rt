@@ -7,22 +7,31 @@ ghost use Rattle.cc_machine.specs.Machine.{index_of};
 ghost use Rattle.cc_plan.specs.Plan.{plan_value};
 ghost use Rattle.cc_plan.specs.PlanLaws.{Lawful};
 ghost use Rattle.cc_play.specs.Schedule.{setting_of, IsBetweenTurns, entry, run_of};
-ghost use Rattle.cc_show.specs.Events.{noted, happened, event_limit, Stands};
+ghost use Rattle.cc_show.specs.Events.{happened, event_limit, Stands};
 
 use cc_machine::{Event, Kind, Machine, OpenFault};
 use cc_model::Pass;
 use cc_plan::Plan;
 use cc_play::turn;
+use cc_runs::Word;
 use std::alloc::{AllocError, Global};
 
 /// How many events a page shows at most.
 pub const EVENT_LIMIT: usize = 20_000;
 
-/// An event: the row of its pass among all passes, and its kind.
-#[derive(Clone, Copy, Debug, PartialEq, Eq)]
+/// An event.
+#[derive(Clone, Copy)]
 pub struct Done {
+    /// The row of its pass among all passes.
     pub row: usize,
+    pub pass: Pass,
+    /// How many calls the pass had begun: the number of the call whose step this was.
+    pub call: usize,
     pub kind: Kind,
+    /// The word of the step, and its values before and after.
+    pub word: Word,
+    pub before: u64,
+    pub after: u64,
 }
 
 /// A machine that has followed a schedule, and the events of that, the first one first.
@@ -30,16 +39,6 @@ pub struct Done {
 pub struct Played {
     pub machine: Machine,
     pub events: Vec<Done>,
-}
-
-/// Goes on with the events by one, if it is one.
-fn note(events: &mut Vec<Done>, row: usize, event: Event) -> Result<(), AllocError>
-    ensures { OnOk result (events.new.items ≡ noted row event events.old.items) }
-{
-    if let Event::Did(kind) = event {
-        events.push(Done { row, kind })?;
-    }
-    Ok(())
 }
 
 /// Up to this number of events of a pass, one by one.
@@ -63,10 +62,19 @@ fn follow_entry(
         return Ok(());
     };
     for _done in 0..count {
-        let event = turn(machine, begun, plan, pass, row)?;
-        note(events, row, event)?;
-        if let Event::Idle = event {
-            return Ok(());
+        let word = machine.word_in(row);
+        let before = machine.value(word);
+        match turn(machine, begun, plan, pass, row)? {
+            Event::Did(kind) => events.push(Done {
+                row,
+                pass,
+                call: begun[row],
+                kind,
+                word,
+                before,
+                after: machine.value(word),
+            })?,
+            Event::Idle => return Ok(()),
         }
     }
     Ok(())
