@@ -2,7 +2,7 @@
 """Derives the corpus: writes tests/corpus/NAME.in and NAME.expect for every row below.
 
     tests/derive.py
-    tests/derive.py play|audit < INPUT      derives what is told of one input, and writes no file
+    tests/derive.py play|audit|trace < INPUT      derives what is told of one input, and writes no file
 
 It is a second program for the same texts, written from docs/FORMATS.md and docs/ALGORITHM.md alone: a strict reader of
 JSON, the checks of plans and receipts, the machine one step at a time, and the audit by its seven kinds. It never runs
@@ -12,11 +12,13 @@ some that are played the report; where the two differ nothing is written. The ga
 
 NAME.expect: line 1 the task and the exit status, line 2 what is told on standard error, and then the standard output.
 """
+import json
 import os
 import random
 import sys
 
 LIMIT = 16777216
+EVENT_LIMIT = 20000
 TOP = os.path.dirname(os.path.dirname(os.path.abspath(__file__)))
 
 
@@ -329,23 +331,6 @@ def receipts_of(data):
 # ------------------------------------------------------------- the machine
 
 
-class Node:
-    """A node of a chain: link, state, request and answer words."""
-
-    def __init__(self):
-        self.next = self.state = self.tag = self.ret = 0
-        self.body = [0] * 4
-
-
-class Item:
-    """A node of the list."""
-
-    def __init__(self, passed):
-        self.tag = self.next = 0
-        self.body = [0] * 4
-        self.passed = passed
-
-
 def tag_of(sender, number, words):
     return (words - 1) * 2**48 + sender * 2**32 + number
 
@@ -359,38 +344,67 @@ def spaced(words):
     return " ".join(str(word) for word in words)
 
 
+def of(chain, field):
+    """The name of a word of a chain."""
+    return ("d%d.%s" % (chain, field)) if chain else "e." + field
+
+
+def node(chain, field, number):
+    """The name of a word of a chain's node."""
+    return "%s[%d]" % (of(chain, field), number)
+
+
+def answer_word(code, number=0):
+    """An answer word: which answer it is, and its number."""
+    return code * 2**56 + number
+
+
 # The chain of the senders. The chain of a group of receivers is the group's number, from 1.
 SENDERS = 0
 
 
 class Pass:
-    """A sender or a receiver: its chain, its number in the whole queue, and its own node there."""
+    """A sender or a receiver: its name, its chain, its number in the whole queue, and its own node there."""
 
     def __init__(self, chain, number, node, calls):
+        self.name = ("s%d" if chain == SENDERS else "r%d") % number
         self.chain, self.number, self.node, self.calls = chain, number, node, calls
-        self.sends, self.steps = 0, None
+        self.begun, self.sends, self.steps = 0, 0, None
 
 
 class Machine:
-    """The queue, one atomic step at each `next` of a call. A step yields True where it was its call's last."""
+    """The queue, one atomic step at each `next` of a call: a load, a store, a swap or an add on one of the words, which a trace
+    names. `step` has the last one: its kind, its word, and the values before and after."""
 
     def __init__(self, plan):
         self.capacity, self.bound, self.life = plan["capacity"], plan["bound"], plan["life"]
         self.groups = plan["groups"]
         chains = range(self.groups + 1)
-        self.nodes = [[Node() for _ in range(len(plan["senders"]) + 1)]]
-        self.nodes += [[Node() for _ in range(len(plan["receivers"]) // self.groups + 1)] for _ in chains[1:]]
-        self.tail = [1 for _ in chains]
-        middle = [Item(self.groups) for _ in range(self.capacity)]
-        self.list = [Item(0)] + middle + [Item(0)]
-        self.last, self.shut, self.count, self.cursor = 1, 0, 0, 1
-        self.head, self.taken = [1 for _ in chains], [0 for _ in chains]
+        self.words, self.step = {"list.last": 1, "list.cursor": 1, "list.passed[0]": 0}, None
+        for chain in chains:
+            self.words[of(chain, "tail")] = self.words[of(chain, "head")] = 1
+        for node in range(1, self.capacity + 1):
+            self.words["list.passed[%d]" % node] = self.groups
         self.calls, self.answers = [[] for _ in chains], [[] for _ in chains]
         self.sent, self.got, self.total = [], [[] for _ in chains], None
 
+    def change(self, kind, word, by):
+        """One step, in which the word's value becomes what is made of it; the value that it found."""
+        assert self.step is None, "two steps in one"
+        found = self.words.get(word, 0)
+        self.words[word] = by(found)
+        self.step = {"kind": kind, "word": word, "before": found, "after": self.words[word]}
+        return found
+
+    def load(self, kind, word):
+        return self.change(kind, word, lambda found: found)
+
+    def store(self, kind, word, value):
+        return self.change(kind, word, lambda _: value)
+
     def call(self, pass_, body):
         """The steps of a call: of a sender a body, or None for a close; of a receiver a take."""
-        chain, nodes, tag = pass_.chain, self.nodes[pass_.chain], 0
+        chain, tag = pass_.chain, 0
         if chain != SENDERS:
             told = "take"
         elif body is None:
@@ -400,186 +414,175 @@ class Machine:
             pass_.sends += 1
             tag = tag_of(pass_.number, pass_.sends, len(body))
         own = pass_.node
-        nodes[own].next = 0
-        yield False
-        nodes[own].state = 1
-        yield False
-        pass_.node, self.tail[chain] = self.tail[chain] - 1, own + 1
+        yield self.store("ResetNext", node(chain, "next", own), 0)
+        yield self.store("ResetState", node(chain, "state", own), 1)
+        pass_.node = self.store("Exchange", of(chain, "tail"), own + 1) - 1
         self.calls[chain].append((pass_.number, told))
-        yield False
-        mine = nodes[pass_.node]
+        yield
+        mine = pass_.node
         if chain == SENDERS:
-            mine.tag = tag
-            yield False
-            for place, word in enumerate(body or [0]):
-                mine.body[place] = word
-                yield False
-        mine.next = own + 1
-        yield False
+            yield self.store("WriteRequest", node(chain, "tag", mine), tag)
+            yield from self.write_words("WriteRequest", node(chain, "body%d", mine), body or [0])
+        yield self.store("Link", node(chain, "next", mine), own + 1)
         state = 1
         while state == 1:
-            state = mine.state
-            yield False
+            state = self.load("ReadState", node(chain, "state", mine))
+            yield
         if state == 0:
-            yield from self.combine(chain, pass_.node)
-        answer = mine.ret
-        if answer[0] == "got":
-            yield False
-            _, _, words = untagged(mine.tag)
-            for _ in range(words):
-                yield False
-        yield True
+            yield from self.combine(chain, mine)
+        answer = self.load("ReadAnswer", node(chain, "ret", mine))
+        yield
+        if chain != SENDERS and answer // 2**56 == 1:
+            tag = self.load("ReadAnswer", node(chain, "tag", mine))
+            yield
+            yield from self.read_words("ReadAnswer", node(chain, "body%d", mine), untagged(tag)[2], [])
 
     def combine(self, chain, at):
-        nodes, served = self.nodes[chain], 0
+        served = 0
         while served < self.bound:
-            link = nodes[at].next
-            yield False
+            link = self.load("ReadNext", node(chain, "next", at))
+            yield
             if link == 0:
                 break
-            yield from self.serve_send(nodes[at]) if chain == SENDERS else self.serve_take(chain, nodes[at])
-            nodes[at].state = 2
-            yield False
+            yield from self.serve_send(at) if chain == SENDERS else self.serve_take(chain, at)
+            yield self.store("MarkDone", node(chain, "state", at), 2)
             at, served = link - 1, served + 1
-        nodes[at].state = 0
-        yield False
+        yield self.store("HandOver", node(chain, "state", at), 0)
 
     def decide(self, chain, *answer):
         self.answers[chain].append(spaced(answer))
-        return answer
 
-    def read_words(self, node, words, body):
+    def answer(self, chain, at, word):
+        """The step that writes an answer word."""
+        return self.store("WriteAnswer", node(chain, "ret", at), word)
+
+    def read_words(self, kind, word, words, body):
         """The first words of a node's body, one at each step, put behind those of a list."""
         for place in range(words):
-            body.append(node.body[place])
-            yield False
+            body.append(self.load(kind, word % place))
+            yield
 
-    def write_words(self, node, body):
+    def write_words(self, kind, word, body):
         """A body, one word at each step."""
-        for place, word in enumerate(body):
-            node.body[place] = word
-            yield False
+        for place, value in enumerate(body):
+            yield self.store(kind, word % place, value)
 
-    def serve_send(self, node):
-        tag, body = node.tag, []
-        yield False
+    def serve_send(self, at):
+        tag, body = self.load("ReadRequest", node(SENDERS, "tag", at)), []
+        yield
         sender, number, words = untagged(tag)
-        yield from self.read_words(node, words, body)
-        shut = self.shut
+        yield from self.read_words("ReadRequest", node(SENDERS, "body%d", at), words, body)
+        shut = self.load("ReadObject", "list.shut")
         if shut and tag:
-            answer = self.decide(SENDERS, "closed")
-            yield False
-            node.ret = answer
-            yield False
+            self.decide(SENDERS, "closed")
+            yield
+            yield self.answer(SENDERS, at, answer_word(3))
             return
-        yield False
-        count = self.count
-        if shut or (tag and count == self.life):
-            answer = self.decide(SENDERS, "already", count) if shut else self.decide(SENDERS, "spent")
-            yield False
-            node.ret = answer
-            yield False
+        yield
+        count = self.load("ReadObject", "list.count")
+        if shut:
+            self.decide(SENDERS, "already", count)
+            yield
+            yield self.answer(SENDERS, at, answer_word(6, count))
             return
-        yield False
+        if tag and count == self.life:
+            self.decide(SENDERS, "spent")
+            yield
+            yield self.answer(SENDERS, at, answer_word(4))
+            return
+        yield
         if not tag:
-            last = self.last
-            yield False
-            self.list[last - 1].next = self.capacity + 2
-            answer = self.decide(SENDERS, "shut", count)
-            self.total = count
-            yield False
-            self.last = self.capacity + 2
-            yield False
-            self.shut = 1
-            yield False
-            node.ret = answer
-            yield False
+            yield from self.close(count)
+            yield self.answer(SENDERS, at, answer_word(5, count))
             return
-        cursor = self.cursor
-        yield False
-        free = None
+        free = yield from self.scan()
+        if free is None:
+            yield self.answer(SENDERS, at, answer_word(2))
+            return
+        yield self.store("ResetListNode", "list.passed[%d]" % free, 0)
+        yield self.store("ResetListNode", "list.next[%d]" % free, 0)
+        yield self.store("WriteItem", "list.tag[%d]" % free, tag)
+        yield from self.write_words("WriteItem", "list.body%%d[%d]" % free, body)
+        last = self.load("ReadObject", "list.last")
+        yield
+        self.store("LinkLast", "list.next[%d]" % (last - 1), free + 1)
+        self.decide(SENDERS, "accepted", count)
+        self.sent.append((sender, number, count, body))
+        yield
+        yield self.store("WriteObject", "list.last", free + 1)
+        yield self.store("WriteObject", "list.count", count + 1)
+        yield self.store("WriteObject", "list.cursor", (free + 1) % (self.capacity + 1))
+        yield self.answer(SENDERS, at, answer_word(1, count))
+
+    def close(self, count):
+        """The steps that link the mark and set shut."""
+        last = self.load("ReadObject", "list.last")
+        yield
+        self.store("LinkLast", "list.next[%d]" % (last - 1), self.capacity + 2)
+        self.decide(SENDERS, "shut", count)
+        self.total = count
+        yield
+        yield self.store("WriteObject", "list.last", self.capacity + 2)
+        yield self.store("WriteObject", "list.shut", 1)
+
+    def scan(self):
+        """The steps that look for a free list node from the cursor on, and that node; None where all were busy."""
+        cursor = self.load("ReadObject", "list.cursor")
+        yield
         for step in range(self.capacity + 1):
             place = (cursor + step) % (self.capacity + 1)
-            if self.list[place].passed == self.groups:
-                free = place
-                yield False
-                break
-            if step == self.capacity:
-                answer = self.decide(SENDERS, "full")
-            yield False
-        if free is None:
-            node.ret = answer
-            yield False
-            return
-        item = self.list[free]
-        item.passed = 0
-        yield False
-        item.next = 0
-        yield False
-        item.tag = tag
-        yield False
-        yield from self.write_words(item, body)
-        last = self.last
-        yield False
-        self.list[last - 1].next = free + 1
-        answer = self.decide(SENDERS, "accepted", count)
-        self.sent.append((sender, number, count, body))
-        yield False
-        self.last = free + 1
-        yield False
-        self.count = count + 1
-        yield False
-        self.cursor = (free + 1) % (self.capacity + 1)
-        yield False
-        node.ret = answer
-        yield False
+            is_free = self.load("ReadPassed", "list.passed[%d]" % place) == self.groups
+            if not is_free and step == self.capacity:
+                self.decide(SENDERS, "full")
+            yield
+            if is_free:
+                return place
+        return None
 
-    def serve_take(self, group, node):
-        head = self.head[group]
-        yield False
-        taken = self.taken[group]
-        yield False
-        link = self.list[head - 1].next
+    def serve_take(self, group, at):
+        head = self.load("ReadObject", of(group, "head"))
+        yield
+        taken = self.load("ReadObject", of(group, "taken"))
+        yield
+        link = self.load("ReadDummyNext", "list.next[%d]" % (head - 1))
         if link == 0:
-            answer = self.decide(group, "empty")
-            yield False
-            node.ret = answer
-            yield False
+            self.decide(group, "empty")
+            yield
+            yield self.answer(group, at, answer_word(2))
             return
-        yield False
-        tag, body = self.list[link - 1].tag, []
+        yield
+        tag, body = self.load("ReadItem", "list.tag[%d]" % (link - 1)), []
         if tag == 0:
-            answer = self.decide(group, "ended", taken)
-            yield False
-            node.ret = answer
-            yield False
+            self.decide(group, "ended", taken)
+            yield
+            yield self.answer(group, at, answer_word(3, taken))
             return
-        yield False
+        yield
         sender, number, words = untagged(tag)
-        yield from self.read_words(self.list[link - 1], words, body)
-        self.head[group] = link
-        yield False
-        self.taken[group] = taken + 1
-        yield False
-        self.list[head - 1].passed += 1
-        answer = self.decide(group, "got", taken, "s%d" % sender, number, *body)
+        yield from self.read_words("ReadItem", "list.body%%d[%d]" % (link - 1), words, body)
+        yield self.store("WriteObject", of(group, "head"), link)
+        yield self.store("WriteObject", of(group, "taken"), taken + 1)
+        self.change("AddPassed", "list.passed[%d]" % (head - 1), lambda found: found + 1)
+        self.decide(group, "got", taken, "s%d" % sender, number, *body)
         self.got[group].append((0, taken, sender, number, body))
-        yield False
-        node.ret = answer
-        yield False
-        node.tag = tag
-        yield False
-        yield from self.write_words(node, body)
+        yield
+        yield self.answer(group, at, answer_word(1, taken))
+        yield self.store("WriteAnswer", node(group, "tag", at), tag)
+        yield from self.write_words("WriteAnswer", node(group, "body%d", at), body)
 
     def event(self, pass_):
-        """One event of a pass, which begins its next call where it is idle. False where it has no call left."""
-        if pass_.steps is None:
-            if not pass_.calls:
-                return False
-            pass_.steps = self.call(pass_, pass_.calls.pop(0))
-        if next(pass_.steps):
+        """One event of a pass, which begins its next call where it is idle: its line of a trace, without its number. None where
+        it has no call left."""
+        while True:
+            if pass_.steps is None:
+                if not pass_.calls:
+                    return None
+                pass_.begun += 1
+                pass_.steps = self.call(pass_, pass_.calls.pop(0))
+            self.step = None
+            for _ in pass_.steps:
+                return {"pass": pass_.name, **self.step, "call": pass_.begun}
             pass_.steps = None
-        return True
 
 
 def passes_of(plan):
@@ -591,12 +594,20 @@ def passes_of(plan):
     return passes
 
 
-def report_of(plan):
-    machine, passes = Machine(plan), passes_of(plan)
-    for name, events in plan["schedule"]:
-        for _ in range(events):
-            if not machine.event(passes[name]):
+def run_of(plan):
+    """The machine that followed the schedule of a plan, and its events."""
+    machine, passes, events = Machine(plan), passes_of(plan), []
+    for name, count in plan["schedule"]:
+        for _ in range(count):
+            event = machine.event(passes[name])
+            if event is None:
                 break
+            events.append(event)
+    return machine, events
+
+
+def report_of(plan):
+    machine, _ = run_of(plan)
     lines = []
     for chain in range(machine.groups + 1):
         side = "s" if chain == SENDERS else "r"
@@ -648,9 +659,20 @@ def verdict_of(accepted, taken, total):
     return CLEAN
 
 
+def trace_of(plan):
+    """The status, what is told on standard error, and the lines of a trace."""
+    events = run_of(plan)[1]
+    if len(events) > EVENT_LIMIT:
+        return 5, "ccq_show: more than 20000 events", []
+    lines = [{"event": number + 1, **event} for number, event in enumerate(events)]
+    return 0, "", [json.dumps(line, separators=(",", ":")) for line in lines]
+
+
 def outcome_of(task, data):
     """The status, what is told on standard error, and the lines on standard output."""
     try:
+        if task == "trace":
+            return trace_of(plan_of(data))
         if task == "play":
             return 0, "", report_of(plan_of(data))
         line = verdict_of(*receipts_of(data))
@@ -2070,9 +2092,10 @@ def write_corpus():
     print("%d rows" % (len(files) // 2))
 
 
-if sys.argv[1:] in (["play"], ["audit"]):
-    derive_one(sys.argv[1])
-elif sys.argv[1:]:
-    sys.exit(__doc__)
-else:
-    write_corpus()
+if __name__ == "__main__":
+    if sys.argv[1:] in (["play"], ["audit"], ["trace"]):
+        derive_one(sys.argv[1])
+    elif sys.argv[1:]:
+        sys.exit(__doc__)
+    else:
+        write_corpus()

@@ -1,7 +1,7 @@
 #!/bin/bash
-# Tests the pages of ccq_show: the one in docs/pages is what the program writes; random steps by hand lead to the plan and the
-# report of the page; and in a browser without a window, Chromium, each page is stepped through, driven and looked at
-# (tools/show/pages.py says how).
+# Tests ccq_show: its traces are what tests/derive.py derives; the page in docs/pages is what the program writes; random steps
+# by hand lead to the plan and the report of the page; and in a browser without a window, Chromium, each page is stepped
+# through, driven and looked at (tools/show/pages.py says how).
 #
 # Usage: tools/test_show.sh
 #
@@ -20,10 +20,11 @@ tests=show
 step 'the page is the text of the program' tools/page_text.sh
 for program in crates/ccq_show/out/ccq_show crates/ccq/out/ccq; do
     if [ ! -x "$program" ]; then
-        skip 'pages' "$program isn't there"
+        skip 'traces and pages' "$program isn't there"
         end_steps
     fi
 done
+step 'traces of examples/ and of tests/corpus' tests/trace.py
 is_page() { crates/ccq_show/out/ccq_show <examples/bodies_of_words.json | cmp - docs/pages/bodies_of_words.html; }
 export -f is_page
 step 'docs/pages has the page that the program writes' bash -c is_page

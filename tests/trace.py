@@ -1,0 +1,105 @@
+#!/usr/bin/env python3
+"""Compares traces of ccq_show, as `rt run` built it, with the steps that a second program makes of the same plan.
+
+    tests/trace.py              the program in crates/ccq_show/out
+    tests/trace.py PROGRAM      another one
+
+The plans are those of examples/ and of tests/corpus, refused ones too. The second program is tests/derive.py, which knows
+the algorithm from the documents alone; the status, standard error and each line have to be the same. Before that the script
+shows that it finds each value of a line that is wrong, a line too few and one too many. Lines with other words are refused
+behind it. Exit status 0 if all is so.
+"""
+import json
+import pathlib
+import subprocess
+import sys
+
+sys.dont_write_bytecode = True
+import derive
+
+TOP = pathlib.Path(__file__).resolve().parent.parent
+PROGRAM = TOP / "crates/ccq_show/out/ccq_show"
+
+
+def told(program, words, data):
+    """The status, standard error and standard output of the program."""
+    ran = subprocess.run([program, *words], input=data, capture_output=True, timeout=120)
+    return ran.returncode, ran.stderr.decode(), ran.stdout.decode()
+
+
+def derived(data):
+    """What the second program tells of a plan, in the same form."""
+    status, error, lines = derive.outcome_of("trace", data)
+    return status, error and error + "\n", "".join(line + "\n" for line in lines)
+
+
+def difference(seen, due):
+    """The first place at which what is told isn't what is due; None if there is none."""
+    if seen[:2] != due[:2]:
+        return f"status {seen[0]} and {seen[1]!r}, and {due[0]} and {due[1]!r} are due"
+    lines, wanted = seen[2].split("\n"), due[2].split("\n")
+    for number, (line, other) in enumerate(zip(lines, wanted)):
+        if line != other:
+            return f"line {number + 1} is {line}, and {other} is due"
+    return None if len(lines) == len(wanted) else f"{len(lines) - 1} lines, and {len(wanted) - 1} are due"
+
+
+def wrong_traces(text):
+    """Traces that differ from this one: each value of its middle line is another, a line is missing, or stands twice."""
+    lines = text.splitlines(keepends=True)
+    middle = len(lines) // 2
+    for key, value in json.loads(lines[middle]).items():
+        other = json.loads(lines[middle]) | {key: value + 1 if isinstance(value, int) else value + "x"}
+        yield key, [*lines[:middle], json.dumps(other, separators=(",", ":")) + "\n", *lines[middle + 1 :]]
+    yield "a line too few", lines[:-1]
+    yield "no line in the middle", [*lines[:middle], *lines[middle + 1 :]]
+    yield "a line too many", [*lines, lines[-1]]
+
+
+def plans():
+    """The plans by their names."""
+    for path in sorted(TOP.glob("examples/*.json")):
+        yield path.name, path.read_bytes()
+    for path in sorted(TOP.glob("tests/corpus/*.in")):
+        yield path.name, path.read_bytes()
+
+
+def finds_what_is_wrong():
+    """Whether each wrong trace is found, and the right one is let through."""
+    due = derived((TOP / "examples/bodies_of_words.json").read_bytes())
+    missed = [name for name, lines in wrong_traces(due[2]) if difference((0, "", "".join(lines)), due) is None]
+    if missed or difference(due, due):
+        print(f"trace: {missed or 'the right trace'} was judged wrongly, so this script finds nothing")
+    return not missed and difference(due, due) is None
+
+
+def refuses(program, words):
+    """Whether a line with these words is refused: nothing goes to standard output, and the usage to standard error."""
+    status, error, output = told(program, words, b"{}")
+    if (status, output) == (64, "") and "Usage: ccq_show [--trace]" in error:
+        return True
+    print(f"trace: {words}: status {status}, {output!r:.100} and {error!r:.200}")
+    return False
+
+
+def main(program):
+    if not finds_what_is_wrong():
+        return 1
+    wrong, events, played = 0, 0, 0
+    for name, data in plans():
+        due = derived(data)
+        found = difference(told(program, ["--trace"], data), due)
+        events, played, wrong = events + due[2].count("\n"), played + (due[0] == 0), wrong + bool(found)
+        if found:
+            print(f"trace: {name}: {found}")
+    lines = [["--help"], ["--trace", "--trace"], ["--trace", "x"], ["x"], [""], ["--trac"]]
+    wrong += sum(not refuses(program, words) for words in lines)
+    print(f"trace: {played} traces with {events} events, each as tests/derive.py derives it, and {len(lines)} lines refused; {wrong} wrong")
+    return wrong > 0
+
+
+if __name__ == "__main__":
+    if sys.argv[1:] in (["-h"], ["--help"]) or len(sys.argv) > 2:
+        print(__doc__)
+        sys.exit(0 if len(sys.argv) == 2 else 64)
+    sys.exit(main(sys.argv[1] if sys.argv[1:] else PROGRAM))
