@@ -69,8 +69,11 @@ run_plan() {
     -h | --help) printf '%s\n' "$help" && exit ;;
     --try) tried=yes && shift ;;
     esac
+    if [ "$name" = show ] && [ "${1-}" = --trace ]; then
+        words=(--trace) && shift
+    fi
     if [ "$#" -gt 1 ]; then
-        echo "usage: ./$name [--try] [PLAN], or ./$name [--try] < PLAN" >&2
+        echo "usage: ./$name [--try] [PLAN], or ./$name [--try] < PLAN; ./$name --help says more" >&2
         exit 64
     fi
     if [ "$#" -eq 1 ]; then
@@ -80,7 +83,7 @@ run_plan() {
         fi
         exec <"$1"
     fi
-    if [ "$name" = show ] && [ -t 1 ]; then
+    if [ "$name" = show ] && [ "${#words[@]}" -eq 0 ] && [ -t 1 ]; then
         say 'the page goes to standard output, for a browser: ./show PLAN > page.html'
         exit 64
     fi
