@@ -1,9 +1,14 @@
 -- The seats of a row of passes, one after another.
-use Rattle.std.proofs.Common.{◌≡◌, ℕ, ◌+◌, ◌-◌, ◌/◌, ◌%◌, ◌<◌, Bool, false, cond, nat_lt, List, [], ◌∷◌, ◌++◌, length, slice_index_or, sym, ap, ◌∙◌, subst, arith}
+use Rattle.std.proofs.Common.{◌≡◌, ℕ, ◌+◌, ◌-◌, ◌*◌, ◌/◌, ◌%◌, ◌<◌, ◌≤◌, Ok, Bool, false, cond, nat_lt, List, [], ◌∷◌, ◌++◌, length, slice_index_or, sym, ap, ◌∙◌, subst, arith}
+use Rattle.std.proofs.Math.Nat.{mul-le-mul_right}
 use Rattle.std.proofs.lemmas.Bool.{le-ltb}
+use Rattle.std.proofs.lemmas.Nat.{div_below}
 use Rattle.std.specs.List.{remove}
+use Rattle.cc_model.specs.Config.{config_fault}
 use Rattle.cc_queue.specs.Names.{Chain, Config, Pass, Place, Served, Setting}
 use Rattle.cc_runs.specs.State.{chain_of, first_node, pass_at}
+use Rattle.cc_runs.specs.Words.{groups}
+use Rattle.cc_runs.proofs.Ranges.{InRange, in_range}
 use Rattle.cc_steps.specs.Topic.{Topic}
 use Rattle.cc_steps.specs.Walk.{Walk, fresh, fresh_from}
 use Rattle.cc_steps.proofs.Dealt.{fresh_push}
@@ -53,3 +58,23 @@ module _ (z : Topic) (c : Config) (w : Walk) (p : ℕ) (topic : z.setting ≡ re
       ∙ ap (λ (x : Setting). record { begun = 0; node = first_node x.config (c.senders + p); place = Place.Idle }) topic
       ∙ ap (λ (b : Bool). record { begun = 0; node = cond b (c.senders + p + 1) ((c.senders + p - c.senders) % c.receivers + 1); place = Place.Idle }) behind_senders
       ∙ ap (λ (n : ℕ). record { begun = 0; node = n % c.receivers + 1; place = Place.Idle }) place_is
+
+-- of a checked configuration: requests can be served, groups have receivers, and the places of all receivers and their groups are few
+pub some_bound : (c : Config) → config_fault c ≡ Ok tt → 0 < c.bound
+some_bound c checked = let r : InRange c = in_range c checked in omega (arith, r.bound)
+
+pub some_receivers : (c : Config) → config_fault c ≡ Ok tt → 0 < c.receivers
+some_receivers c checked = let r : InRange c = in_range c checked in omega (arith, r.receivers)
+
+pub few_places : (c : Config) (p : ℕ) → config_fault c ≡ Ok tt → p < groups c * c.receivers → p < 512
+few_places c p checked less =
+    let r : InRange c = in_range c checked in
+    let high : c.groups ≤ 8 = omega (arith, r.groups) in
+    let most : c.groups * c.receivers ≤ 8 * c.receivers = mul-le-mul_right c.receivers high in
+    omega (arith, most, r.receivers, less)
+
+pub few_groups : (c : Config) (p : ℕ) → config_fault c ≡ Ok tt → p < groups c * c.receivers → p / c.receivers < 8
+few_groups c p checked less =
+    let r : InRange c = in_range c checked in
+    let group : p / c.receivers < c.groups = div_below p c.receivers c.groups (omega (arith, r.receivers)) less in
+    omega (arith, group, r.groups)

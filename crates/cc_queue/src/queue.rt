@@ -67,6 +67,7 @@ fn sender_on(words: Arc<Words, Global>, seat: PassSeat, config: &Config, row: u3
 }
 
 /// A receiver on the seat of its pass, which comes after all senders in the row of passes.
+#[tactic(auto, using(crate::proofs::Seated::receivers_chain, crate::proofs::Seated::receivers_name, crate::proofs::Seated::receivers_stand, crate::proofs::Seated::few_places, crate::proofs::Seated::few_groups, crate::proofs::Seated::some_receivers))]
 fn receiver_on(words: Arc<Words, Global>, seat: PassSeat, config: &Config, place: u32) -> Receiver
     requires setting { (arc_value words).setting ≡ record { served = Served.List; config = config.now } }
     requires checked { config_fault config.now ≡ Ok tt }
@@ -85,6 +86,7 @@ fn receiver_on(words: Arc<Words, Global>, seat: PassSeat, config: &Config, place
     }
 }
 
+#[tactic(auto, using(crate::proofs::Seated::first_seat, crate::proofs::Seated::other_seats, crate::proofs::Seated::next_pass))]
 fn all_senders(
     alloc: Global,
     words: &Arc<Words, Global>,
@@ -106,6 +108,7 @@ fn all_senders(
     Ok(senders)
 }
 
+#[tactic(auto, using(crate::proofs::Seated::first_seat, crate::proofs::Seated::other_seats, crate::proofs::Seated::next_pass))]
 fn all_receivers(
     alloc: Global,
     words: &Arc<Words, Global>,
@@ -128,6 +131,7 @@ fn all_receivers(
 }
 
 /// The queue over its words, with a sender and a receiver on each seat.
+#[tactic(auto, using(crate::proofs::Seated::some_bound))]
 fn over_words(
     alloc: Global,
     words: OpenedWords,
