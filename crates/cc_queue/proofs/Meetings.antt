@@ -185,11 +185,3 @@ may_rest q z all rest x v words seat still are is = may_others q z all rest rest
 pub with_first : (w : Walk) (others : List Walk) → All (λ o. o.seen ≡ w.seen) others → All (λ o. o.seen ≡ w.seen) (w ∷ others)
 with_first w others have zero d less = refl
 with_first w others have (suc k) d less = have k d (omega (arith, less))
-
--- each of a list has met if its first one has, and each of the others
-pub met_with_first : (old others new : List Walk) (f g : Walk) → old ≡ f ∷ others → HasMet f g → EachHasMet others new → EachHasMet old (g ∷ new)
-met_with_first old others new f g is first rest = subst (λ (ws : List Walk). EachHasMet ws (g ∷ new)) (sym is) each
-  where
-    each : EachHasMet (f ∷ others) (g ∷ new)
-    each zero d less = first
-    each (suc k) d less = rest k d (omega (arith, less))

@@ -59,6 +59,7 @@ pub fn meet_receivers(one: &mut Receiver, other: &mut Receiver)
 }
 
 /// The pass of this seat meets each of the senders in turn.
+#[tactic(auto, using(crate::proofs::Meetings::swept))]
 fn sweep_senders(words: &Words, first: &mut PassSeat, others: &mut [Sender])
     requires { MayMeet words.now first.old others.old }
     ensures { Swept first.old first.new others.old others.new }
@@ -70,6 +71,7 @@ fn sweep_senders(words: &Words, first: &mut PassSeat, others: &mut [Sender])
 }
 
 /// It meets each of the receivers in turn.
+#[tactic(auto, using(crate::proofs::Meetings::swept))]
 fn sweep_receivers(words: &Words, first: &mut PassSeat, others: &mut [Receiver])
     requires { MayMeet words.now first.old others.old }
     ensures { Swept first.old first.new others.old others.new }
@@ -81,6 +83,7 @@ fn sweep_receivers(words: &Words, first: &mut PassSeat, others: &mut [Receiver])
 }
 
 /// It meets each of the passes that were given up.
+#[tactic(auto, using(crate::proofs::Meetings::swept))]
 fn sweep_given_up(words: &Words, first: &mut PassSeat, others: &mut [GivenUp])
     requires { MayMeet words.now first.old others.old }
     ensures { Swept first.old first.new others.old others.new }

@@ -1,4 +1,4 @@
-use Rattle.cc_queue.proofs.Meetings.{idle_sender, met_still, sweeps_none, sweeps_on, swept}
+use Rattle.cc_queue.proofs.Meetings.{idle_sender, met_still, sweeps_none, sweeps_on}
 use Rattle.cc_queue.proofs.meets.sweep_senders.Goals as goal
 
 pub loop-other-init : goal.loop-other-init
@@ -8,6 +8,3 @@ pub loop-other-preserved : goal.loop-other-preserved
 loop-other-preserved c =
     let m = c.meet_seats.ensures in
     sweeps_on _ _ _ _ _ _ c.other-item.result _ _ c.requires.still c.loop-other.invariant c.loop-other-test.true c.loop-other.auto.others c.other.view_is (idle_sender _ c.other.invariant) m.one m.other m.seen m.longest
-
-pub returns : goal.returns
-returns c = swept _ _ _ _ _ c.loop-other.invariant c.loop-other-test.false c.loop-other.auto.others
