@@ -1,6 +1,6 @@
 -- A round of the combining loop, as the seat sees it: the look for the next call, the service of this one, and its mark.
 use Rattle.std.proofs.Common.{◌≡◌, ◌≢◌, ℕ, zero, suc, ◌+◌, ◌-◌, ◌<◌, ◌≤◌, ◌*◌, ◌==◌, Bool, true, false, cond, List, ◌∷◌, None, refl, sym, ap, ◌∙◌, subst, arith}
-use Rattle.std.proofs.lemmas.Bool.{ne_eqb}
+use Rattle.std.proofs.lemmas.Bool.{eq-eqb, ne_eqb}
 use Rattle.cc_queue.specs.Names.{Config, Setting, Served, Chain, Kind, Job, Round, Place, Stand}
 use Rattle.cc_runs.specs.State.{chain_of}
 use Rattle.cc_runs.specs.Lines.{after_next, after_done, serves}
@@ -54,9 +54,9 @@ module _ (r w u : Walk) (job : Job) (at : w ≡ worked_to r (Place.MarkDone job)
       ∙ ap (λ (z : Stand). record r { seen = u.seen; did = Kind.MarkDone ∷ w.did; stand = z }) (stays_done (job.round.served + 1 == r.setting.config.bound) job.next record { at = job.next; served = job.round.served + 1 } r.stand)
       ∙ ap (λ (did : List Kind). record r { seen = u.seen; did = did; stand = record r.stand { place = on } }) (sym marked_did)
 
--- the whole round
-module _ (v s r w u : Walk) (c : Config) (at served next most : ℕ) (list : IsListWith v c) (below : served < c.bound) (from : s ≡ worked_to v (round_place c.bound at served) s)
-    (look : r ≡ walked_to s None next r.seen) (serves : Serves r (Place.MarkDone record { round = record { at = at; served = served }; next = next - 1 }) most w) (mark : u ≡ walked_to w None 0 u.seen) where
+-- the whole round, by a pass that has served so many
+module _ (v s r w u : Walk) (c : Config) (at served next : ℕ) (list : IsListWith v c) (below : served < c.bound) (so : Works v (round_place c.bound at served) (combined c served 0) s)
+    (look : r ≡ walked_to s None next r.seen) (serves : Serves r (Place.MarkDone record { round = record { at = at; served = served }; next = next - 1 }) (c.capacity + 1) w) (mark : u ≡ walked_to w None 0 u.seen) where
   abbrev k : Round
   k = record { at = at; served = served }
 
@@ -64,27 +64,37 @@ module _ (v s r w u : Walk) (c : Config) (at served next most : ℕ) (list : IsL
   job = record { round = k; next = next - 1 }
 
   here : s ≡ worked_to v (Place.ReadNext k) s
-  here = from ∙ ap (λ (b : Bool). worked_to v (cond b (Place.HandOver at) (Place.ReadNext k)) s) (ne_eqb served c.bound (λ e. omega (arith, e, below)))
+  here = so.worked ∙ ap (λ (b : Bool). worked_to v (cond b (Place.HandOver at) (Place.ReadNext k)) s) (ne_eqb served c.bound (λ e. omega (arith, e, below)))
 
-  pub round_to : u ≡ worked_to v (round_place c.bound (next - 1) (served + 1)) u
+  round_to : u ≡ worked_to v (round_place c.bound (next - 1) (served + 1)) u
   round_to =
       marked_to r w u job serves.worked mark
       ∙ ap (λ (z : Walk). worked_to z (after_done z.setting.config.bound job) u) (looked_to v s r k next here look)
       ∙ ap (λ (z : Setting). worked_to v (after_done z.config.bound job) u) list
 
-  pub round_did : (f : Kind → ℕ) → tally f u.did ≡ f Kind.MarkDone + tally f w.did
-  round_did f = ap (tally f) (marked_did r w u job serves.worked mark)
+  did : (f : Kind → ℕ) → tally f u.did ≡ f Kind.MarkDone + tally f w.did
+  did f = ap (tally f) (marked_did r w u job serves.worked mark)
 
-  pub look_did : (f : Kind → ℕ) → tally f r.did ≡ f Kind.ReadNext + tally f s.did
+  look_did : (f : Kind → ℕ) → tally f r.did ≡ f Kind.ReadNext + tally f s.did
   look_did f = ap (tally f) (looked_did v s r k next here look)
 
+  pub one_round : Onward s.seen r.seen → Onward w.seen u.seen → Works v (round_place c.bound (next - 1) (served + 1)) (combined c (served + 1) 0) u
+  one_round looked marked = record {
+    worked = round_to;
+    reads = omega (arith, did reads, serves.reads, look_did reads, so.reads);
+    marks = omega (arith, did marks, serves.marks, look_did marks, so.marks);
+    hands = omega (arith, did hands, serves.hands, look_did hands, so.hands);
+    scans = omega (arith, did scans, serves.scans, look_did scans, so.scans);
+    later = λ first goes. marked first (serves.later first (looked first (so.later first goes)));
+  }
+
 -- the places after the look for the next call, in a chain of a list
-module _ (v s r : Walk) (t : Topic) (c : Config) (x : Chain) (is : IsServing t c x v) (at served next : ℕ) (below : served < c.bound) (from : s ≡ worked_to v (round_place c.bound at served) s) where
+module _ (v s r : Walk) (t : Topic) (c : Config) (x : Chain) (is : IsServing t c x v) (at served next : ℕ) (below : served < c.bound) (so : Works v (round_place c.bound at served) (combined c served 0) s) where
   abbrev round : Round
   round = record { at = at; served = served }
 
   pub looks : s ≡ worked_to v (Place.ReadNext round) s
-  looks = from ∙ ap (λ (b : Bool). worked_to v (cond b (Place.HandOver at) (Place.ReadNext round)) s) (ne_eqb served c.bound (λ e. omega (arith, e, below)))
+  looks = so.worked ∙ ap (λ (b : Bool). worked_to v (cond b (Place.HandOver at) (Place.ReadNext round)) s) (ne_eqb served c.bound (λ e. omega (arith, e, below)))
 
   module _ (look : r ≡ walked_to s None next r.seen) where
     leads : (to : Place) → after_next Served.List x round next ≡ to → r ≡ worked_to v to r
@@ -94,9 +104,6 @@ module _ (v s r : Walk) (t : Topic) (c : Config) (x : Chain) (is : IsServing t c
         ∙ ap (λ (y : Chain). worked_to v (after_next Served.List y round next) r) is.chain
         ∙ ap (λ (p : Place). worked_to v p r) e
 
-    pub found_none : next ≡ 0 → r ≡ worked_to v (Place.HandOver at) r
-    found_none e = leads (Place.HandOver at) (ap (after_next Served.List x round) e)
-
     pub found_one : next ≢ 0 → r ≡ worked_to v (serves Served.List x record { round = round; next = next - 1 }) r
     found_one some = leads (serves Served.List x record { round = round; next = next - 1 }) (linked next some)
       where
@@ -104,13 +111,29 @@ module _ (v s r : Walk) (t : Topic) (c : Config) (x : Chain) (is : IsServing t c
         linked zero none = absurd (none refl)
         linked (suc n) none = ap (λ (m : ℕ). serves Served.List x record { round = round; next = m }) (omega arith)
 
-    pub looked_once : (f : Kind → ℕ) → tally f r.did ≡ f Kind.ReadNext + tally f s.did
-    looked_once f = ap (tally f) (looked_did v s r round next looks look)
+    once : (f : Kind → ℕ) → tally f r.did ≡ f Kind.ReadNext + tally f s.did
+    once f = ap (tally f) (looked_did v s r round next looks look)
+
+    pub found_none : next ≡ 0 → Onward s.seen r.seen → Works v (Place.HandOver at) (combined c served 0) r
+    found_none e looked = record {
+      worked = leads (Place.HandOver at) (ap (after_next Served.List x round) e);
+      reads = omega (arith, once reads, so.reads);
+      marks = omega (arith, once marks, so.marks);
+      hands = omega (arith, once hands, so.hands);
+      scans = omega (arith, once scans, so.scans);
+      later = λ first goes. looked first (so.later first goes);
+    }
+
+-- or if it has served as many as it may
+pub served_all : (v s : Walk) (c : Config) (at served : ℕ) → served ≡ c.bound → Works v (round_place c.bound at served) (combined c served 0) s → Works v (Place.HandOver at) (combined c c.bound 0) s
+served_all v s c at served all so =
+    subst (λ (n : ℕ). Works v (Place.HandOver at) (combined c n 0) s) all
+    (subst (λ (b : Bool). Works v (cond b (Place.HandOver at) (Place.ReadNext record { at = at; served = served })) (combined c served 0) s) (eq-eqb served c.bound all) so)
 
 -- the last step of a combiner
-module _ (v s u : Walk) (at : ℕ) (there : s ≡ worked_to v (Place.HandOver at) s) (step : u ≡ walked_to s None 0 u.seen) where
+module _ (v s u : Walk) (c : Config) (at served : ℕ) (so : Works v (Place.HandOver at) (combined c served 0) s) (step : u ≡ walked_to s None 0 u.seen) (later : Onward s.seen u.seen) where
   handed : u ≡ walked_to (worked_to v (Place.HandOver at) s) None 0 u.seen
-  handed = subst (λ (z : Walk). u ≡ walked_to z None 0 u.seen) there step
+  handed = subst (λ (z : Walk). u ≡ walked_to z None 0 u.seen) so.worked step
 
   handed_did : u.did ≡ Kind.HandOver ∷ s.did
   handed_did = ap (λ (z : Walk). z.did) handed
@@ -118,14 +141,14 @@ module _ (v s u : Walk) (at : ℕ) (there : s ≡ worked_to v (Place.HandOver at
   counts : (f : Kind → ℕ) → tally f u.did ≡ f Kind.HandOver + tally f s.did
   counts f = ap (tally f) handed_did
 
-  pub hands_over : (c : Config) (served : ℕ) → tally reads s.did ≡ tally reads v.did → tally marks s.did ≡ served + tally marks v.did → tally hands s.did ≡ tally hands v.did → tally scans s.did ≤ served * (c.capacity + 1) + tally scans v.did → Onward v.seen u.seen → Works v Place.ReadAnswer (combined c served 1) u
-  hands_over c served read mark hand scan later = record {
+  pub hands_over : Works v Place.ReadAnswer (combined c served 1) u
+  hands_over = record {
     worked = handed ∙ ap (λ (did : List Kind). record v { seen = u.seen; did = did; stand = record v.stand { place = Place.ReadAnswer } }) (sym handed_did);
-    reads = omega (arith, counts reads, read);
-    marks = omega (arith, counts marks, mark);
-    hands = omega (arith, counts hands, hand);
-    scans = omega (arith, counts scans, scan);
-    later = later;
+    reads = omega (arith, counts reads, so.reads);
+    marks = omega (arith, counts marks, so.marks);
+    hands = omega (arith, counts hands, so.hands);
+    scans = omega (arith, counts scans, so.scans);
+    later = λ first goes. later first (so.later first goes);
   }
 
 -- a combiner that finds none has served its own call
