@@ -60,6 +60,7 @@ impl Model for Note {
 }
 
 /// Notes what the pass has seen. Nothing of the pass changes. It costs one load, takes no memory and never waits.
+#[tactic(auto, using(crate::proofs::Joined::some_words, crate::proofs::Joined::cuts))]
 pub fn make_note(words: &Words, from: &mut PassSeat) -> Note
     requires here { IsOf words.now from.old }
     ensures same { from.new ≡ from.old }
@@ -72,6 +73,7 @@ pub fn make_note(words: &Words, from: &mut PassSeat) -> Note
 }
 
 /// The same note once more, at the cost of one load.
+#[tactic(auto, using(crate::proofs::Joined::some_words, crate::proofs::Joined::cuts_part))]
 pub fn again(words: &Words, note: &mut Note) -> Note
     requires here { IsNoteOf words.now note.old }
     ensures same { note.new ≡ note.old }
