@@ -9,7 +9,7 @@ use Rattle.cc_runs.specs.CallsMade.{made}
 use Rattle.cc_runs.specs.Run.{begins, rests, begun_after, number_of, nowhere, passes, reached}
 use Rattle.cc_steps.specs.Seen.{stand_in, made_in}
 use Rattle.cc_steps.specs.Walk.{Walk, IsSound}
-use Rattle.cc_queue.specs.SendCount.{is_send, sends_in, HasBegunSends}
+use Rattle.cc_queue.specs.SendCount.{is_send, sends_in}
 
 sends_more : (calls : List Entry) (e : Entry) → sends_in (calls ++ e ∷ []) ≡ sends_in calls + is_send e.call
 sends_more [] e = omega arith
@@ -54,9 +54,6 @@ counted c (Move.Take q ∷ earlier) p =
     other (q == p) (rests (s.stand q)) (s.stand q) (s.stand p) (λ t. ap s.stand (eqb-true q p t)) refl ∙ counted c earlier p
 
 -- of a pass that has stepped so far
-pub begun_so : (w seat : Walk) (count : ℕ) → seat ≡ w → count ≡ seat.stand.begun → IsSound seat → HasBegunSends w count
+pub sends_made : (w : Walk) → IsSound w → w.stand.begun ≡ sends_in w.made
 unfolding stand_in made_in
-begun_so w seat count view is sound =
-    let all : seat.stand.begun ≡ sends_in seat.made =
-    ap begun_at sound.shows.0 ∙ counted seat.setting seat.seen seat.number ∙ ap sends_in (sym sound.shows.1) in
-    record { made = is ∙ all ∙ ap (λ (z : Walk). sends_in z.made) view; counted = is ∙ ap (λ (z : Walk). z.stand.begun) view }
+sends_made w sound = ap begun_at sound.shows.0 ∙ counted w.setting w.seen w.number ∙ ap sends_in (sym sound.shows.1)

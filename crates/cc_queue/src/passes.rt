@@ -164,6 +164,7 @@ impl Sender {
     }
 
     /// How many sends the sender has begun, whatever their answers.
+    #[tactic(auto, using(crate::proofs::SendCount::sends_made))]
     pub fn begun(&self) -> u32
         ensures { HasBegunSends self.now result }
     {

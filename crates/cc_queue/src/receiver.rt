@@ -50,6 +50,7 @@ impl Receiver {
     }
 
     /// The group whose chain its takes go to, from 1.
+    #[tactic(auto, using(crate::proofs::Headline::ranked_so))]
     pub fn group(&self) -> u32
         ensures { Ranked self.now result }
     {

@@ -1,20 +1,6 @@
-use Rattle.std.proofs.Common.{◌+◌, ◌-◌, ◌<◌, refl, arith}
-use Rattle.cc_queue.specs.Names.{Job, Kind, Parcel, Place, Sending}
-use Rattle.cc_queue.proofs.Service.{at_start, finds_free, finds_none, looks_further, one_step}
+use Rattle.std.proofs.Common.{◌+◌, ◌-◌, ◌<◌, arith}
+use Rattle.cc_queue.proofs.Service.{finds_free, finds_none, looks_further}
 use Rattle.cc_queue.proofs.sends.find_free.Goals as goal
-
-pub loop-reads-init : goal.loop-reads-init
-loop-reads-init c =
-    let job : Job = c.args.job in
-    let parcel : Parcel = c.args.parcel in
-    let v = c.args.seat.now in
-    let found = c.read_object-node.ensures in (
-      one_step v v c.read_object-node.new.seat Kind.ReadObject (Place.Sending job (Sending.ReadCursor parcel)) (Place.Sending job (Sending.ReadPassed parcel c.read_object-node.result 1)) 0 c.read_object-node.result
-          (at_start v (Place.Sending job (Sending.ReadCursor parcel)) c.requires.at) found.step found.later refl (refl, refl, refl) (λ z. refl),
-      found.found.walked.ready,
-      omega arith,
-      omega arith,
-    )
 
 pub loop-reads-preserved : goal.loop-reads-preserved
 loop-reads-preserved c =
