@@ -1,7 +1,7 @@
 -- A step within a call, as its seat sees it, after the earlier steps of its pass.
 use Rattle.std.proofs.Common.{◌≡◌, ◌≢◌, ℕ, ◌+◌, ◌-◌, ◌≤◌, ◌==◌, Bool, cond, List, ◌∷◌, None, refl, sym, ap, ◌∙◌, subst, arith}
 use Rattle.std.proofs.lemmas.Bool.{eq-eqb, ne_eqb}
-use Rattle.cc_queue.specs.Names.{Answer, Chain, Config, Event, Job, Kind, Parcel, Place, SendAnswer, Sending, Setting, Stand}
+use Rattle.cc_queue.specs.Names.{Answer, Config, Event, Job, Kind, Parcel, Place, SendAnswer, Sending, Setting, Stand}
 use Rattle.cc_runs.specs.Lines.{event_at, operation}
 use Rattle.cc_runs.specs.Passes.{then_did}
 use Rattle.cc_runs.specs.SendLines.{after, by_passed}

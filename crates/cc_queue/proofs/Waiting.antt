@@ -1,11 +1,10 @@
 -- Of the calls of a pass that waits, all but the last one have their answers.
-use Rattle.std.proofs.Common.{◌≡◌, ℕ, zero, suc, ◌+◌, ◌-◌, ◌≤◌, ◌==◌, Bool, true, false, nat_lt, List, [], ◌∷◌, ◌++◌, map, length, take, Some, None, if◌then◌else◌, refl, sym, ap, ◌∙◌, subst, arith, length-append}
+use Rattle.std.proofs.Common.{◌≡◌, ℕ, zero, suc, ◌-◌, ◌≤◌, ◌==◌, Bool, true, false, nat_lt, List, [], ◌∷◌, ◌++◌, map, length, take, Some, None, if◌then◌else◌, refl, sym, ap, ◌∙◌, subst, arith, length-append}
 use Rattle.std.proofs.lemmas.List.{length-map}
 use Rattle.std.specs.List.{AllByRecursion}
 use Rattle.cc_model.specs.Record.{Side, Record}
 use Rattle.cc_model.specs.Items.{HasAnswer, Begins, SideBegins, calls_of, is_pass}
 use Rattle.cc_model.specs.Legal.{Legal}
-use Rattle.cc_model.specs.Config.{group_of}
 use Rattle.cc_queue.specs.Names.{Config, Entry, Answer, Pass, Place, Move, Setting, Served}
 use Rattle.cc_model.specs.After.{side_of}
 use Rattle.cc_runs.specs.State.{pass_at, first_node}
