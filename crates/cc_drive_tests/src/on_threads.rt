@@ -1,32 +1,31 @@
-//! A round on one queue: threads send while threads take until the queue has ended. Each keeps its receipts.
-ghost use Rattle.std.specs.Prelude.{◌≡◌, IfOk};
+//! A round on one queue: threads send while threads take until the queue has ended. Each gives back its pass, with the receipts
+//! of all its calls.
+ghost use Rattle.std.specs.Prelude.{◌≡◌, [], ◌∷◌, ◌++◌, length, map};
 ghost use Rattle.std.specs.List.{All};
 ghost use Rattle.std.specs.Thread.{IsSync};
-ghost use Rattle.cc_steps.specs.Walk.{IsOf};
+ghost use Rattle.cc_drive_tests.specs.Rounds.{IsFresh, HasClosed, HasKept, HasPlayed, HaveKept};
+ghost use Rattle.cc_drive.specs.Names.{Answer};
+ghost use Rattle.cc_queue.specs.Headline.{history, name};
+ghost use Rattle.cc_queue.specs.Receipts.{got, sent};
+ghost use Rattle.cc_runs.specs.ChainLaws.{IsLastAnswer};
+ghost use Rattle.cc_steps.specs.Walk.{fresh_from};
 
 use cc_audit::{SendReceipt, TakeReceipt};
 use cc_model::{Body, CloseAnswer, Config, SendAnswer, TakeAnswer};
-use cc_queue::{Opened, Queue, Receiver, Sender, close, meet_all, send_until, take_until};
-use std::alloc::{AllocError, Global};
+use cc_queue::{Opened, Queue, Receiver, Sender, close, send_until, take_until};
+use std::alloc::Global;
 use std::process::Abort;
-use std::sync::{Mutex, Wait};
+use std::sync::Wait;
 use std::thread::{Threads, join, map_vec};
 
-/// The results of the threads of a round: each adds its receipts at its end, in the order of its calls.
+/// The receipts of a round, and the answer of its close.
 #[derive(Drop)]
 pub struct Kept {
+    /// Those of each sender, in the order of its calls. The last one closes, and has none.
     pub sends: Vec<Vec<SendReceipt>>,
-    /// Each with the group of the receiver.
-    pub takes: Vec<(u32, Vec<TakeReceipt>)>,
-}
-
-impl Kept {
-    fn new(alloc: Global) -> Kept {
-        Kept {
-            sends: Vec::new(alloc),
-            takes: Vec::new(alloc),
-        }
-    }
+    /// Those of each receiver.
+    pub takes: Vec<Vec<TakeReceipt>>,
+    pub close: CloseAnswer,
 }
 
 /// A body of one to four words for each number below 2^62: none of its words is in that of another number.
@@ -40,193 +39,239 @@ fn body_of(number: u64) -> Body {
     }
 }
 
-/// Sends the bodies of the numbers below `items` in turn, each again when the queue is full, and keeps a receipt of each. It
-/// stops when a send isn't accepted.
-fn send_all<R: Wait>(
+/// Adds one more at the end.
+fn add<R: Abort, X: Drop>(rt: &R, list: &mut Vec<X>, one: X)
+    ensures { list.new.items ≡ list.old.items ++ one ∷ [] }
+{
+    assert!(rt; list.push(one).is_ok(), "memory");
+}
+
+/// Sends the bodies of the numbers below `items` in turn, each again when the queue is full, and keeps a receipt of each.
+fn send_all<R: Abort + Wait>(
     rt: &R,
     alloc: Global,
     queue: &Queue,
-    kept: &Mutex<Kept>,
     items: u64,
-    mut sender: Sender,
-) -> Sender
-    requires { IsOf queue.now sender }
-    ensures { IsOf queue.now result }
+    sender: Sender,
+) -> (Sender, Vec<SendReceipt>)
+    requires { IsFresh queue.now sender }
+    ensures { HasKept sent queue.now sender.number result.0 result.1.items }
 {
+    sender.is_sound();
+    let number = sender.number();
+    let mut sender = sender;
     let mut receipts = Vec::new(alloc);
     for item in 0..items {
         let body = body_of(item);
-        let (after, answer) = match send_until(queue, rt, sender, body) {
-            Ok(answered) => answered,
-            Err(worn) => {
-                sender = worn;
-                break;
-            }
+        let Ok((after, answer)) = send_until(queue, rt, sender, body) else {
+            panic!(rt; "an exhausted sender")
         };
-        sender = after;
         let SendAnswer::Accepted { place } = answer else {
-            break;
+            panic!(rt; "a send wasn't accepted")
         };
         let receipt = SendReceipt {
-            sender: sender.number(),
-            number: sender.begun(),
+            sender: number,
+            number: after.begun(),
             place,
             body,
         };
-        let _ = receipts.push(receipt);
+        add(rt, &mut receipts, receipt);
+        sender = after;
     }
-    let _ = kept.lock(rt).sends.push(receipts);
-    sender
+    (sender, receipts)
 }
 
 /// Takes until the queue has ended, and keeps a receipt of each item.
-fn take_all<R: Wait>(
+fn take_all<R: Abort + Wait>(
     rt: &R,
     alloc: Global,
     queue: &Queue,
-    kept: &Mutex<Kept>,
-    mut receiver: Receiver,
-) -> Receiver
-    requires { IsOf queue.now receiver }
-    ensures { IsOf queue.now result }
+    receiver: Receiver,
+) -> (Receiver, Vec<TakeReceipt>)
+    requires { IsFresh queue.now receiver }
+    ensures { HasKept got queue.now receiver.number result.0 result.1.items }
 {
+    receiver.is_sound();
+    let number = receiver.number();
+    let mut receiver = receiver;
     let mut receipts = Vec::new(alloc);
     for _ in rt.forever() {
         let (after, answer) = take_until(queue, rt, receiver);
         receiver = after;
         let TakeAnswer::Got(item) = answer else {
-            break;
+            return (receiver, receipts);
         };
         let receipt = TakeReceipt {
-            receiver: receiver.number(),
+            receiver: number,
             item,
         };
-        let _ = receipts.push(receipt);
+        add(rt, &mut receipts, receipt);
     }
-    let _ = kept.lock(rt).takes.push((receiver.group(), receipts));
-    receiver
+    unreachable!()
 }
 
-/// A thread for each of these senders, in which it sends all its items; when all are joined, the closer closes.
-fn send_side<R: Threads + Wait + Sync>(
+/// The passes, and the receipts of each.
+fn apart<R: Abort, P: Drop, X: Drop>(
+    rt: &R,
+    alloc: Global,
+    ends: Vec<(P, Vec<X>)>,
+) -> (Vec<P>, Vec<Vec<X>>)
+    ensures passes { result.0.items ≡ map (λ e. e.0) ends.items }
+    ensures receipts { map (λ k. k.items) result.1.items ≡ map (λ e. e.1.items) ends.items }
+{
+    let mut passes = Vec::new(alloc);
+    let mut kept = Vec::new(alloc);
+    for (pass, receipts) in ends {
+        add(rt, &mut passes, pass);
+        add(rt, &mut kept, receipts);
+    }
+    (passes, kept)
+}
+
+/// A thread for each of these senders, in which it sends all its items. Returns when all are joined.
+fn send_side<R: Threads + Wait + Sync + Abort>(
     rt: &R,
     alloc: Global,
     queue: &Queue,
-    kept: &Mutex<Kept>,
     items: u64,
     senders: Vec<Sender>,
-    closer: Sender,
-) -> (Result<Vec<Sender>, AllocError>, Sender, CloseAnswer)
-    requires senders { All (IsOf queue.now) senders.items }
-    requires closer { IsOf queue.now closer }
-    ensures senders { IfOk result.0 (λ v. All (IsOf queue.now) v.items) }
-    ensures closer { IsOf queue.now result.1 }
+) -> (Vec<Sender>, Vec<Vec<SendReceipt>>)
+    requires own { All (IsFresh queue.now) senders.items }
+    requires row { fresh_from queue.now 0 senders.items }
+    ensures count { length result.0.items ≡ length senders.items }
+    ensures kept { HaveKept sent queue.now 0 result.0.items (map (λ k. k.items) result.1.items) }
 {
-    let send = move |sender: Sender| -> Sender
-        requires { IsOf queue.now sender }
-        ensures { IsOf queue.entry.now result }
-    { send_all(rt, alloc, queue, kept, items, sender) };
-    let senders = map_vec(rt, senders, &send);
-    let (closer, answer) = close(queue, rt, closer);
-    (senders, closer, answer)
+    let send = move |sender: Sender| -> (Sender, Vec<SendReceipt>)
+        requires { IsFresh queue.now sender }
+        ensures { HasKept sent queue.entry.now sender.number result.0 result.1.items }
+    { send_all(rt, alloc, queue, items, sender) };
+    let Ok(ends) = map_vec(rt, senders, &send) else {
+        panic!(rt; "memory")
+    };
+    apart(rt, alloc, ends)
 }
 
 /// A thread for each of these receivers, in which it takes until the queue has ended.
-fn take_side<R: Threads + Wait + Sync>(
+fn take_side<R: Threads + Wait + Sync + Abort>(
     rt: &R,
     alloc: Global,
     queue: &Queue,
-    kept: &Mutex<Kept>,
     receivers: Vec<Receiver>,
-) -> Result<Vec<Receiver>, AllocError>
-    requires { All (IsOf queue.now) receivers.items }
-    ensures { IfOk result (λ v. All (IsOf queue.now) v.items) }
+) -> (Vec<Receiver>, Vec<Vec<TakeReceipt>>)
+    requires own { All (IsFresh queue.now) receivers.items }
+    requires row { fresh_from queue.now queue.now.setting.config.senders receivers.items }
+    ensures count { length result.0.items ≡ length receivers.items }
+    ensures kept { HaveKept got queue.now queue.now.setting.config.senders result.0.items (map (λ k. k.items) result.1.items) }
 {
-    let take = move |receiver: Receiver| -> Receiver
-        requires { IsOf queue.now receiver }
-        ensures { IsOf queue.entry.now result }
-    { take_all(rt, alloc, queue, kept, receiver) };
-    map_vec(rt, receivers, &take)
+    let take = move |receiver: Receiver| -> (Receiver, Vec<TakeReceipt>)
+        requires { IsFresh queue.now receiver }
+        ensures { HasKept got queue.entry.now receiver.number result.0 result.1.items }
+    { take_all(rt, alloc, queue, receiver) };
+    let Ok(ends) = map_vec(rt, receivers, &take) else {
+        panic!(rt; "memory")
+    };
+    apart(rt, alloc, ends)
 }
 
-/// All passes meet.
-fn meet_everyone(
-    queue: &Queue,
-    closer: Sender,
-    mut senders: Vec<Sender>,
-    mut receivers: Vec<Receiver>,
-) -> Result<(), AllocError>
-    requires closer { IsOf queue.now closer }
-    requires senders { All (IsOf queue.now) senders.items }
-    requires receivers { All (IsOf queue.now) receivers.items }
+/// Closes the queue by a sender that made no other call.
+fn close_by<R: Wait>(rt: &R, queue: &Queue, closer: Sender) -> (Sender, CloseAnswer)
+    requires { IsFresh queue.now closer }
+    ensures kept { HasKept sent queue.now closer.number result.0 [] }
+    ensures closed { IsLastAnswer (name result.0) (history result.0) (Answer.Close result.1) }
 {
-    senders.push(closer)?;
-    meet_all(queue, &mut senders, &mut receivers, &mut []);
-    Ok(())
+    closer.is_sound();
+    close(queue, rt, closer)
 }
 
-/// Both sides at once; afterwards all passes meet. Returns the answer of the close.
-fn both_sides<R: Threads + Wait + Sync>(
+/// Sends by all senders but the last, and closes by that one when they are joined.
+fn send_and_close<R: Threads + Wait + Sync + Abort>(
     rt: &R,
     alloc: Global,
     queue: &Queue,
-    kept: &Mutex<Kept>,
     items: u64,
     senders: Vec<Sender>,
-    closer: Sender,
-    receivers: Vec<Receiver>,
-) -> Result<CloseAnswer, AllocError>
-    requires senders { All (IsOf queue.now) senders.items }
-    requires closer { IsOf queue.now closer }
-    requires receivers { All (IsOf queue.now) receivers.items }
+) -> (Vec<Sender>, Vec<Vec<SendReceipt>>, CloseAnswer)
+    requires { fresh_from queue.now 0 senders.items }
+    ensures count { length result.0.items ≡ length senders.items }
+    ensures kept { HaveKept sent queue.now 0 result.0.items (map (λ k. k.items) result.1.items) }
+    ensures closed { HasClosed result.2 result.0.items }
 {
-    let (receivers, (senders, closer, answer)) = join(
-        rt,
-        move || -> Result<Vec<Receiver>, AllocError>
-            requires { IsSync R.row × All (IsOf queue.now) receivers.items }
-            ensures { IfOk result (λ v. All (IsOf queue.entry.now) v.items) }
-        { take_side(rt, alloc, queue, kept, receivers) },
-        move || -> (Result<Vec<Sender>, AllocError>, Sender, CloseAnswer)
-            requires { IsSync R.row × IsOf queue.now closer × All (IsOf queue.now) senders.items }
-            ensures senders { IfOk result.0 (λ v. All (IsOf queue.entry.now) v.items) }
-            ensures closer { IsOf queue.entry.now result.1 }
-        { send_side(rt, alloc, queue, kept, items, senders, closer) },
-    );
-    meet_everyone(queue, closer, senders?, receivers?)?;
-    Ok(answer)
+    let mut senders = senders;
+    let Some(closer) = senders.pop() else {
+        panic!(rt; "no sender")
+    };
+    let (mut senders, mut sends) = send_side(rt, alloc, queue, items, senders);
+    let (closer, close) = close_by(rt, queue, closer);
+    add(rt, &mut senders, closer);
+    add(rt, &mut sends, Vec::new(alloc));
+    (senders, sends, close)
 }
 
-/// All of these passes on threads: the last sender closes, and each other sends `items` items. None when there is no sender.
-fn play<R: Threads + Wait + Sync>(
+/// Both sides at once.
+fn both_sides<R: Threads + Wait + Sync + Abort>(
     rt: &R,
     alloc: Global,
     queue: &Queue,
-    kept: &Mutex<Kept>,
     items: u64,
-    mut senders: Vec<Sender>,
+    senders: Vec<Sender>,
     receivers: Vec<Receiver>,
-) -> Option<CloseAnswer>
-    requires senders { All (IsOf queue.now) senders.items }
-    requires receivers { All (IsOf queue.now) receivers.items }
+) -> (
+    (Vec<Receiver>, Vec<Vec<TakeReceipt>>),
+    (Vec<Sender>, Vec<Vec<SendReceipt>>, CloseAnswer),
+)
+    requires senders { fresh_from queue.now 0 senders.items }
+    requires own { All (IsFresh queue.now) receivers.items }
+    requires receivers { fresh_from queue.now queue.now.setting.config.senders receivers.items }
+    ensures count_receivers { length result.0.0.items ≡ length receivers.items }
+    ensures takes { HaveKept got queue.now queue.now.setting.config.senders result.0.0.items (map (λ k. k.items) result.0.1.items) }
+    ensures count_senders { length result.1.0.items ≡ length senders.items }
+    ensures sends { HaveKept sent queue.now 0 result.1.0.items (map (λ k. k.items) result.1.1.items) }
+    ensures closed { HasClosed result.1.2 result.1.0.items }
 {
-    let closer = senders.pop()?;
-    both_sides(rt, alloc, queue, kept, items, senders, closer, receivers).ok()
+    join(
+        rt,
+        move || -> (Vec<Receiver>, Vec<Vec<TakeReceipt>>)
+            requires { IsSync R.row × All (IsFresh queue.now) receivers.items × fresh_from queue.now queue.now.setting.config.senders receivers.items }
+            ensures count { length result.0.items ≡ length receivers.items }
+            ensures kept { HaveKept got queue.entry.now queue.entry.now.setting.config.senders result.0.items (map (λ k. k.items) result.1.items) }
+        { take_side(rt, alloc, queue, receivers) },
+        move || -> (Vec<Sender>, Vec<Vec<SendReceipt>>, CloseAnswer)
+            requires { IsSync R.row × fresh_from queue.now 0 senders.items }
+            ensures count { length result.0.items ≡ length senders.items }
+            ensures kept { HaveKept sent queue.entry.now 0 result.0.items (map (λ k. k.items) result.1.items) }
+            ensures closed { HasClosed result.2 result.0.items }
+        { send_and_close(rt, alloc, queue, items, senders) },
+    )
 }
 
-/// Opens a queue and uses each of its passes in a thread. The last sender closes when each other has sent `items` items.
-/// Gives all receipts, and the answer of the close.
+/// Opens a queue, and uses each of its passes in a thread. The last sender closes when each other has sent `items` items.
 pub fn play_round<R: Threads + Wait + Sync + Abort>(
     rt: &R,
     alloc: Global,
     config: &Config,
     items: u64,
-) -> (Kept, CloseAnswer) {
+) -> (Opened, Kept)
+    ensures { HasPlayed config.now result.0.queue result.0.senders.items result.0.receivers.items (map (λ k. k.items) result.1.sends.items) (map (λ k. k.items) result.1.takes.items) result.1.close }
+{
     let Opened {
         queue,
         senders,
         receivers,
     } = Queue::open(alloc, config).expect(rt, "the queue opens");
-    let kept = Mutex::new(Kept::new(alloc));
-    let close = play(rt, alloc, &queue, &kept, items, senders, receivers);
-    (kept.into_inner(), close.expect(rt, "a closer, and memory"))
+    let ((receivers, takes), (senders, sends, close)) = both_sides(
+        rt, alloc, &queue, items, senders, receivers,
+    );
+    let opened = Opened {
+        queue,
+        senders,
+        receivers,
+    };
+    (
+        opened,
+        Kept {
+            sends,
+            takes,
+            close,
+        },
+    )
 }

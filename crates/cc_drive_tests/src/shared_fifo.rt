@@ -1,30 +1,25 @@
-//! Threads on one queue, of one group and of two.
+//! Threads on one queue, of one group and of two: the audit of all receipts, once all passes have met.
+ghost use Rattle.std.specs.Prelude.{◌≡◌, ◌≤◌, map, IfOk};
+ghost use Rattle.cc_drive.specs.Crew.{in_turn};
+ghost use Rattle.cc_drive.specs.Names.{Verdict};
+ghost use Rattle.cc_drive.specs.Ran.{total_in};
+ghost use Rattle.cc_drive_tests.specs.Rounds.{AreSettled, HasPlayed};
+ghost use Rattle.cc_runs.specs.Words.{groups};
+
 use crate::on_threads::{Kept, play_round};
-use cc_audit::{SendReceipt, TakeReceipt, Verdict, audit};
+use cc_audit::{TakeReceipt, Verdict};
 use cc_model::{CloseAnswer, Config};
+use cc_queue::{Opened, Queue, Receiver, Sender, audit_all, meet_all};
 use std::alloc::{AllocError, Global};
 use std::process::Abort;
 
-/// All receipts of sends.
-fn all_sends(alloc: Global, kept: &Kept) -> Result<Vec<SendReceipt>, AllocError> {
+/// Lists one after another.
+fn in_one<X: Copy>(alloc: Global, lists: &[Vec<X>]) -> Result<Vec<X>, AllocError>
+    ensures { IfOk result (λ v. v.items ≡ in_turn (map (λ l. l.items) lists.now)) }
+{
     let mut all = Vec::new(alloc);
-    for receipts in &kept.sends {
-        for receipt in receipts {
-            all.push(*receipt)?;
-        }
-    }
-    Ok(all)
-}
-
-/// All receipts of the takes of a group.
-fn takes_of(alloc: Global, kept: &Kept, group: u32) -> Result<Vec<TakeReceipt>, AllocError> {
-    let mut all = Vec::new(alloc);
-    for (of, receipts) in &kept.takes {
-        if *of == group {
-            for receipt in receipts {
-                all.push(*receipt)?;
-            }
-        }
+    for list in lists {
+        all.extend_from_slice(list)?;
     }
     Ok(all)
 }
@@ -41,21 +36,96 @@ fn in_order<R: Abort>(rt: &R, receipts: &[TakeReceipt]) {
     }
 }
 
-/// Each group got all items, each of its receivers in order, and the audit of its receipts is Clean.
-fn each_group_got_all<R: Abort>(rt: &R, alloc: Global, kept: &Kept, groups: u32, items: u64) {
-    let sends = all_sends(alloc, kept).expect(rt, "memory");
-    assert_eq!(rt; sends.len() as u64, items);
-    for (_, receipts) in &kept.takes {
+/// The total that a close returns.
+fn total_of(close: CloseAnswer) -> u64
+    ensures { result ≡ total_in close }
+{
+    let (CloseAnswer::Shut { total } | CloseAnswer::Already { total }) = close;
+    total
+}
+
+/// The audit of all sends, and of the takes of one group, from 1. With it come their numbers.
+fn audit_group(
+    alloc: Global,
+    config: &Config,
+    queue: &Queue,
+    senders: &[Sender],
+    receivers: &[Receiver],
+    kept: &Kept,
+    group: u32,
+) -> Result<(u64, u64, Verdict), AllocError>
+    requires settled { AreSettled config.now queue.now senders.now receivers.now (map (λ k. k.items) kept.now.sends.items) (map (λ k. k.items) kept.now.takes.items) kept.now.close }
+    requires low { 1 ≤ group }
+    requires high { group ≤ groups config.now }
+    ensures { IfOk result (λ r. r.2 ≡ Verdict.Clean) }
+{
+    let first = ((group - 1) * config.receivers) as usize;
+    let last = (group * config.receivers) as usize;
+    let sends = in_one(alloc, &kept.sends)?;
+    let takes = in_one(alloc, &kept.takes[first..last])?;
+    let verdict = audit_all(
+        alloc,
+        queue,
+        senders,
+        receivers,
+        &[],
+        group,
+        &sends,
+        &takes,
+        Some(total_of(kept.close)),
+    )?;
+    Ok((sends.len() as u64, takes.len() as u64, verdict))
+}
+
+/// All passes meet, and the audit of each group is Clean: this number of sends, and of takes.
+fn meet_and_audit<R: Abort>(
+    rt: &R,
+    alloc: Global,
+    config: &Config,
+    queue: &Queue,
+    senders: &mut [Sender],
+    receivers: &mut [Receiver],
+    kept: &Kept,
+    items: u64,
+)
+    requires { HasPlayed config.now queue.now senders.old receivers.old (map (λ k. k.items) kept.now.sends.items) (map (λ k. k.items) kept.now.takes.items) kept.now.close }
+{
+    meet_all(queue, senders, receivers, &mut []);
+    for group in 0..config.groups {
+        let audit = audit_group(alloc, config, queue, senders, receivers, kept, group + 1);
+        assert_eq!(rt; audit, Ok((items, items, Verdict::Clean)));
+    }
+}
+
+/// Each group got all items of a round, each of its receivers in order, and the audit of its receipts is Clean.
+fn each_group_got_all<R: Abort>(
+    rt: &R,
+    alloc: Global,
+    config: &Config,
+    opened: Opened,
+    kept: &Kept,
+    items: u64,
+)
+    requires { HasPlayed config.now opened.queue opened.senders.items opened.receivers.items (map (λ k. k.items) kept.now.sends.items) (map (λ k. k.items) kept.now.takes.items) kept.now.close }
+{
+    for receipts in &kept.takes {
         in_order(rt, receipts);
     }
-    for group in 0..groups {
-        let takes = takes_of(alloc, kept, group.saturating_add(1)).expect(rt, "memory");
-        assert_eq!(rt; takes.len() as u64, items);
-        assert_eq!(rt;
-            audit(alloc, &sends, &takes, Some(items)),
-            Ok(Verdict::Clean)
-        );
-    }
+    let Opened {
+        queue,
+        mut senders,
+        mut receivers,
+    } = opened;
+    meet_and_audit(
+        rt,
+        alloc,
+        config,
+        &queue,
+        &mut senders,
+        &mut receivers,
+        kept,
+        items,
+    );
 }
 
 /// Two threads send 1,000 items each through a queue for four, each again when the queue is full. Two threads take them, and
@@ -71,9 +141,9 @@ fn shared_fifo(rt: HostRuntime) {
         per_sender: u32::MAX,
         groups: 1,
     };
-    let (kept, close) = play_round(&rt, rt.alloc(), &config, 1000);
-    assert_eq!(rt; close, CloseAnswer::Shut { total: 2000 });
-    each_group_got_all(&rt, rt.alloc(), &kept, 1, 2000);
+    let (opened, kept) = play_round(&rt, rt.alloc(), &config, 1000);
+    assert_eq!(rt; kept.close, CloseAnswer::Shut { total: 2000 });
+    each_group_got_all(&rt, rt.alloc(), &config, opened, &kept, 2000);
 }
 
 /// One thread sends 1,000 items through a queue for four to two groups of two threads each. Each group takes every item
@@ -89,7 +159,7 @@ fn groups_threads(rt: HostRuntime) {
         per_sender: u32::MAX,
         groups: 2,
     };
-    let (kept, close) = play_round(&rt, rt.alloc(), &config, 1000);
-    assert_eq!(rt; close, CloseAnswer::Shut { total: 1000 });
-    each_group_got_all(&rt, rt.alloc(), &kept, 2, 1000);
+    let (opened, kept) = play_round(&rt, rt.alloc(), &config, 1000);
+    assert_eq!(rt; kept.close, CloseAnswer::Shut { total: 1000 });
+    each_group_got_all(&rt, rt.alloc(), &config, opened, &kept, 1000);
 }
