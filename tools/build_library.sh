@@ -91,10 +91,12 @@ if [ -z "$proof" ] || [ "$(sum_of_sources)" != "$sources" ]; then
 fi
 mkdir -p "$made"
 LC_ALL=C sed "$renamed" crates/cc_binding/out/libcc_binding.a >"$made/libvahepito.a"
-# `realloc` shares bytes with a name there, so that one is renamed by its table.
+# `realloc` shares bytes with a name there, so that one is renamed by its table. Large blocks begin where a line of the cache does.
 objcopy -D --redefine-sym rattle_alloc=vahepito_new --redefine-sym rattle_realloc=vahepito_renew \
-    --redefine-sym rattle_dealloc=vahepito_freed "$kit/c/liblibc_c.a" "$made/libvahepito_heap.a" || exit 1
-if nm -g --format=just-symbols "$made"/*.a | grep -vxE 'vahepito_.*|.*\.o:|mem(cpy|move|set)|malloc|realloc|free|'; then
+    --redefine-sym rattle_dealloc=vahepito_freed --redefine-sym malloc=vahepito_block "$kit/c/liblibc_c.a" "$made/libvahepito_heap.a" &&
+    "$kit/toolchain/bin/clang" --target=$target -std=c11 -O2 -fPIC -g0 -c bindings/c/blocks.c -o "$made/blocks.o" &&
+    "$kit/toolchain/bin/llvm-ar" rcsD "$made/libvahepito_heap.a" "$made/blocks.o" && rm "$made/blocks.o" || exit 1
+if nm -g --format=just-symbols "$made"/*.a | grep -vxE 'vahepito_.*|.*\.o:|mem(cpy|move|set)|malloc|posix_memalign|realloc|free|'; then
     echo 'library: FAILED: these symbols are neither of the library nor what it needs of the C library' >&2
     exit 1
 fi
@@ -114,7 +116,7 @@ if [ -n "$update" ]; then
     cp "$made"/* "$kept/"
     echo "library: $kept is what was built, in $SECONDS s"
 elif cmp "$kept/libvahepito.a" "$made/libvahepito.a" && cmp "$kept/libvahepito_heap.a" "$made/libvahepito_heap.a" &&
-    diff <(grep -v '^proof: ' "$kept/PROOF") <(grep -v '^proof: ' "$made/PROOF"); then
+    diff <(grep -vE '^(proof|toolchain): ' "$kept/PROOF") <(grep -vE '^(proof|toolchain): ' "$made/PROOF"); then
     echo "library: proved and built in $SECONDS s, and $kept is the same, byte for byte"
 else
     echo "library: $kept isn't what was built of these sources: tools/build_library.sh --update writes it" >&2

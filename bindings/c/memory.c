@@ -1,15 +1,17 @@
-/* What the library does with memory: linked with --wrap for malloc, realloc and free, so that each of its allocations is
- * counted and can be refused.
+/* What the library does with memory: linked with --wrap for malloc, posix_memalign, realloc and free, so that each of its
+ * allocations is counted and can be refused.
  *
  * An opening that is refused memory says so, whichever of its allocations that is, leaves the handles empty and keeps
  * nothing. No later call takes memory. The last handle frees all, and none before it frees the queue. */
 #include "vahepito.h"
 
+#include <errno.h>
 #include <stdio.h>
 #include <stdlib.h>
 #include <string.h>
 
 void *__real_malloc(size_t);
+int __real_posix_memalign(void **, size_t, size_t);
 void *__real_realloc(void *, size_t);
 void __real_free(void *);
 
@@ -23,6 +25,13 @@ void *__wrap_malloc(size_t size) {
     void *at = __real_malloc(size);
     blocks += at != NULL;
     return at;
+}
+
+int __wrap_posix_memalign(void **at, size_t alignment, size_t size) {
+    if (is_refused()) return ENOMEM;
+    int refusal = __real_posix_memalign(at, alignment, size);
+    blocks += refusal == 0;
+    return refusal;
 }
 
 void *__wrap_realloc(void *old, size_t size) {

@@ -155,7 +155,9 @@ pub struct Ticket {
     rings: u64,
 }
 
+/// It has lines of the cache for itself: those that wait write it, and each call of its side reads what else is near.
 #[derive(Default)]
+#[repr(align(64))]
 pub struct Event {
     waiting: AtomicUsize,
     line: Mutex<Line>,
