@@ -1,14 +1,15 @@
 #!/usr/bin/env python3
 """Times the channel of bindings/rust beside the same crate at another commit, and beside crossbeam's, in one run.
 
-    bench/channel.py COMMIT [--seconds N] [--only MODE]
+    bench/channel.py COMMIT [--seconds N] [--only MODE] [--write]
 
 One command, in some N seconds (330 if no number is given) after the build. The crate of the commit is taken by
 git archive into bench/channel/out, and both are linked with the archives in bindings/lib. crossbeam's channel is Debian's librust-crossbeam-channel-dev; the run goes on without it.
 
 A round runs each burst once, in a random order, each in a process of its own: half of the rounds with nothing beside it,
 and half with a process that is busy on each processor. Medians are printed, with quartiles in brackets, and the median
-of each round's quotient to the crate of the commit, or to crossbeam where that is compared.
+of each round's quotient to the crate of the commit, or to crossbeam where that is compared. With --write the table `channel`
+of docs/BENCH.md is written: what of this bench/peers/run.py doesn't measure, with nothing beside it.
 """
 import argparse
 import os
@@ -19,6 +20,9 @@ import statistics
 import subprocess
 import sys
 import time
+
+sys.dont_write_bytecode = True
+from document import spread, write
 
 HERE = os.path.dirname(os.path.abspath(__file__))
 TOP = os.path.dirname(HERE)
@@ -119,11 +123,21 @@ def told(values):
     return f"{middle:.0f} ({low:.0f} to {high:.0f})"
 
 
+def table(took, bursts):
+    """The rows of the table `channel`: what bench/peers/run.py doesn't measure of this crate and of crossbeam's, alone."""
+    rows = [["", "typed", "crossbeam-channel"]]
+    for name, mode, number, *_ in bursts:
+        if mode not in ("shared", "blocked") and (mode, number) != ("alone", 1):
+            rows.append([name, *(spread(took[name, False, of]) if (name, False, of) in took else "" for of in ("new", "crossbeam"))])
+    return rows
+
+
 def main():
     parser = argparse.ArgumentParser(description=__doc__, formatter_class=argparse.RawDescriptionHelpFormatter)
     parser.add_argument("commit", help="of the crate that is beside this one")
     parser.add_argument("--seconds", type=int, default=330)
     parser.add_argument("--only", help="bursts of this mode alone")
+    parser.add_argument("--write", action="store_true", help="the table of docs/BENCH.md")
     words = parser.parse_args()
     peers = any(name.startswith("crossbeam-channel-") for name in os.listdir(REGISTRY)) if os.path.isdir(REGISTRY) else False
     programs = {"new": (build("new", os.path.join(TOP, "bindings", "rust"), peers, True), "vahepito"),
@@ -154,6 +168,8 @@ def main():
             quotient = lambda base: f"{statistics.median(a / b for a, b in zip(new, base)):.2f}" if base else ""
             print(f"| {burst[0]} | {told(new)} | {told(old) if old else ''} | {quotient(old)} | {told(peer) if peer else ''} | {quotient(peer)} |")
         print()
+    if words.write:
+        write("channel", table(took, bursts))
 
 
 if __name__ == "__main__":

@@ -1,7 +1,7 @@
 #!/usr/bin/env python3
 """Times the proved queue beside its peers, in one run, and writes the tables and pictures of docs/BENCH.md.
 
-    bench/peers/run.py [--seconds N] [--print] [--again]
+    bench/peers/run.py [--seconds N] [--print | --busy] [--again]
 
 One command, in some N seconds (420 where no number is given; 120 are a short form, and 20 a trial), after the build. It
 takes crossbeam's, flume's and smol's queues from Debian's packages: those that aren't there it installs, where it is root
@@ -10,6 +10,7 @@ and there is apt-get, and goes on without those that it can't have. The proved q
 A run is some rounds of bursts: each round runs each queue in each shape once, all of them in a random order, each in a
 process of its own. The medians of the rounds are told, and their quartiles. What others took of the processors
 meanwhile is measured and written beside them. --print writes nothing into docs, --again takes the figures of the last run.
+With --busy a process is busy on each processor meanwhile, and the table `busy` of docs/BENCH.md is written.
 """
 import argparse
 import glob
@@ -29,7 +30,9 @@ HERE = os.path.dirname(os.path.abspath(__file__))
 TOP = os.path.dirname(os.path.dirname(HERE))
 sys.path.insert(0, os.path.dirname(HERE))
 sys.dont_write_bytecode = True
+from document import spread, write
 from picture import draw
+
 OUT = os.path.join(HERE, "out")
 BENCH = os.path.join(TOP, "docs", "BENCH.md")
 PICTURES = os.path.join(TOP, "docs", "pictures")
@@ -273,6 +276,27 @@ def text_of(machine, length, versions, all_tables, numbers):
     return "\n".join(lines)
 
 
+# Beside busy processes.
+
+def beside_busy(program, seconds):
+    """The rows of the table `busy`: an item's time by the clock and, in square brackets, of all processors together."""
+    queues, shapes = [*OURS, "Mutex+Condvar"], [(1, 1), (4, 4), (8, 8), (32, 32)]
+    others = [subprocess.Popen([sys.executable, "-c", "while True: pass"]) for _ in range(os.cpu_count())]
+    cells, start, rounds = {(at, queue): [] for at in shapes for queue in queues}, time.time(), 0
+    while time.time() - start < seconds:
+        for (senders, receivers), queue in random.sample(list(cells), len(cells)):
+            command = [program, "pass", queue, *map(str, shape(senders, receivers)), "40"]
+            told = subprocess.run(command, capture_output=True, text=True, check=True, timeout=60).stdout.split()
+            cells[(senders, receivers), queue].append([float(word) for word in told])
+        rounds += 1
+    for process in others:
+        process.kill()
+    print(f"peers: {rounds} rounds beside {len(others)} busy processes")
+    told = lambda bursts: f"{spread([clock for clock, _ in bursts])} [{spread([spent for _, spent in bursts])}]"
+    rows = [[f"{at[0]}/{at[1]}", *(told(cells[at, queue]) for queue in queues)] for at in shapes]
+    return [["senders/receivers", *queues], *rows]
+
+
 # The pictures.
 
 def picture(title, joined, unit, rows, numbers):
@@ -287,6 +311,7 @@ def main():
     parser.add_argument("--seconds", type=int, default=420)
     parser.add_argument("--print", action="store_true")
     parser.add_argument("--again", action="store_true")
+    parser.add_argument("--busy", action="store_true")
     options = parser.parse_args()
     kept = os.path.join(OUT, "last.json")
     if options.again:
@@ -295,6 +320,8 @@ def main():
     else:
         there = install()
         program = build(there)
+        if options.busy:
+            return write("busy", beside_busy(program, options.seconds))
         order = [*OURS, *there, *OF_STD]
         told = measure(program, tables(order), options.seconds)
         told.update(queues=order, versions={library: version(library) for library in there})
