@@ -1,9 +1,9 @@
 -- A run whose threads were all started and came to their ends.
-use Rattle.std.proofs.Common.{◌≡◌, ℕ, zero, suc, ◌+◌, ◌<◌, ◌≤◌, inl, inr, Bool, true, false, List, [], ◌∷◌, ◌++◌, length, map, Option, Some, None, IfSome, IfNone, IfErr, is_some, Result, Ok, Err, refl, sym, ap, ◌∙◌, subst, arith}
+use Rattle.std.proofs.Common.{◌≡◌, ℕ, zero, suc, ◌+◌, ◌<◌, ◌≤◌, inl, inr, Bool, true, false, List, [], ◌∷◌, ◌++◌, ◌&&◌, length, map, Option, Some, None, IfSome, IfNone, IfErr, is_some, Result, Ok, Err, refl, sym, ap, ◌∙◌, subst, arith}
 use Rattle.std.specs.Prelude.{⊤}
 use Rattle.std.specs.List.{All, AllByRecursion}
 use Rattle.std.proofs.lemmas.List.{length-map}
-use Rattle.cc_drive.specs.Names.{CloseAnswer, Config, ConfigFault, SendReceipt, TakeReceipt, DriveConfig, Worked, DriveFault, Refused}
+use Rattle.cc_drive.specs.Names.{CloseAnswer, Config, ConfigFault, SendReceipt, TakeReceipt, DriveConfig, Worked, DriveFault, Refused, Crew}
 use Rattle.cc_steps.specs.Topic.{Topic}
 use Rattle.cc_steps.specs.Walk.{Walk, IsOf, fresh}
 use Rattle.cc_queue.specs.Met.{HasMet}
@@ -11,11 +11,11 @@ use Rattle.cc_queue.specs.Receipts.{receipts_in, receipts_by, sent, got}
 use Rattle.cc_queue.proofs.OnItsSide.{Told}
 use Rattle.cc_drive.specs.Back.{IsBack, SenderIsBack, ReceiverIsBack, SenderGave, ReceiverGave, IsNotClosed, calls}
 use Rattle.cc_drive.specs.Config.{queue_of, IsDue}
-use Rattle.cc_drive.specs.Crew.{present, least_missing, in_turn}
-use Rattle.cc_drive.specs.Ran.{ClosedAfter, IsTold, due}
+use Rattle.cc_drive.specs.Crew.{AreGathered, IsCrew, present, least_missing, in_turn}
+use Rattle.cc_drive.specs.Ran.{ClosedAfter, EndedWith, HasEnded, HasRun, IsTold, due}
 use Rattle.cc_drive.specs.Row.{InRow, Pairs}
 use Rattle.cc_drive.specs.Start.{IsStarted, AreStarted}
-use Rattle.cc_drive.proofs.Crews.{crew_passes, crew_count, crew_receipts, crew_all}
+use Rattle.cc_drive.proofs.Crews.{crew_passes, crew_count, crew_receipts, crew_all, first_too, second_too, some_at}
 use Rattle.cc_drive.proofs.Unclosed.{unclosed}
 use Rattle.cc_drive.proofs.Ended.{row_weaker, row_met, sender_met, receipts_met, pairs_length}
 
@@ -43,37 +43,51 @@ are_of z items limit workers passes gave is =
     subst (All (IsOf z)) (sym is) (all_indexed (IsOf z) _ (crew_all (λ d. d.pass) (SenderIsBack z items limit) (IsOf z) (λ k w s. s.back.here) 0 workers
     (row_weaker (SenderGave z items limit) (λ n d. IfSome d.pass (SenderIsBack z items limit n)) (λ n d gave. gave.0) 0 workers gave)))
 
-pub has_run : (z : Topic) (c : DriveConfig) (sent_by : List (Worked Walk SendReceipt)) (got_by : List (Worked Walk TakeReceipt)) (passes senders receivers : List Walk) (sends : List SendReceipt) (takes : List TakeReceipt) (closer w : Walk) (told : CloseAnswer)
-    → InRow (SenderGave z c.items c.limit) 0 sent_by → InRow (ReceiverGave z c.limit) (c.senders + 1) got_by → length sent_by ≡ c.senders → length got_by ≡ c.receivers
-    → least_missing 0 (map (λ d. d.pass) sent_by) ≡ None → least_missing c.senders (map (λ d. d.pass) got_by) ≡ None
-    → passes ≡ present (map (λ d. d.pass) sent_by) → receivers ≡ present (map (λ d. d.pass) got_by)
-    → AllByRecursion (λ d. d.kept.is_whole ≡ true) sent_by → AllByRecursion (λ d. d.kept.is_whole ≡ true) got_by
-    → sends ≡ in_turn (map (λ d. d.kept.receipts.items) sent_by) → takes ≡ in_turn (map (λ d. d.kept.receipts.items) got_by)
-    → z.setting.config ≡ queue_of c → Pairs HasMet passes senders → closer ≡ fresh z c.senders → ClosedAfter closer senders told w
-    → (InRow (SenderIsBack z c.items c.limit) 0 senders) × (length senders ≡ c.senders) × (ClosedAfter (fresh z c.senders) senders told w) × (InRow (ReceiverIsBack z) (c.senders + 1) receivers) × (length receivers ≡ c.receivers) × (sends ≡ receipts_by sent senders) × (takes ≡ receipts_by got receivers) × AllByRecursion (λ x. AllByRecursion IsNotClosed (calls x)) senders
-has_run z c sent_by got_by passes senders receivers sends takes closer w told gave gave' count count' none none' are are' whole whole' sends_are takes_are config met is closed =
-    let theirs : InRow (SenderIsBack z c.items c.limit) 0 passes = subst (InRow (SenderIsBack z c.items c.limit) 0) (sym are) (crew_passes (λ d. d.pass) (SenderIsBack z c.items c.limit) 0 0 sent_by none
-    (row_weaker (SenderGave z c.items c.limit) (λ n d. IfSome d.pass (SenderIsBack z c.items c.limit n)) (λ n d g. g.0) 0 sent_by gave)) in
-    let back : InRow (IsBack z) 0 passes = row_weaker (SenderIsBack z c.items c.limit) (IsBack z) (λ k x s. s.back) 0 passes theirs in
-    let theirs_met : InRow (SenderIsBack z c.items c.limit) 0 senders = row_met (SenderIsBack z c.items c.limit) (sender_met z c.items c.limit) 0 passes senders theirs met in
-    let many : length senders ≡ c.senders = pairs_length passes senders met ∙ ap length are ∙ crew_count (λ d. d.pass) 0 sent_by none ∙ count in
-    let first : ClosedAfter (fresh z c.senders) senders told w = subst (λ (x : Walk). ClosedAfter x senders told w) is closed in (
-      theirs_met,
-      many,
-      first,
-      subst (InRow (ReceiverIsBack z) (c.senders + 1)) (sym are') (crew_passes (λ d. d.pass) (ReceiverIsBack z) (c.senders + 1) c.senders got_by none'
-          (row_weaker (ReceiverGave z c.limit) (λ n d. IfSome d.pass (ReceiverIsBack z n)) (λ n d g. g.0) (c.senders + 1) got_by gave')),
-      ap length are' ∙ crew_count (λ d. d.pass) c.senders got_by none' ∙ count',
-      sends_are
-          ∙ crew_receipts (λ d. d.pass) (λ d. d.kept.receipts.items) (λ d. d.kept.is_whole) (λ x. receipts_in sent (calls x)) 0 0 sent_by none whole
-          (row_weaker (SenderGave z c.items c.limit) (λ n d. IfSome d.pass (λ x. d.kept.is_whole ≡ true → d.kept.receipts.items ≡ receipts_in sent (calls x))) (λ n d g. g.1) 0 sent_by gave)
-          ∙ by_turn sent (present (map (λ d. d.pass) sent_by)) ∙ ap (receipts_by sent) (sym are) ∙ sym (receipts_met sent z 0 passes senders back met),
-      takes_are
-          ∙ crew_receipts (λ d. d.pass) (λ d. d.kept.receipts.items) (λ d. d.kept.is_whole) (λ x. receipts_in got (calls x)) (c.senders + 1) c.senders got_by none' whole'
-          (row_weaker (ReceiverGave z c.limit) (λ n d. IfSome d.pass (λ x. d.kept.is_whole ≡ true → d.kept.receipts.items ≡ receipts_in got (calls x))) (λ n d g. g.1) (c.senders + 1) got_by gave')
-          ∙ by_turn got (present (map (λ d. d.pass) got_by)) ∙ ap (receipts_by got) (sym are'),
-      unclosed z c.items c.limit senders first.met (ap (λ (k : Config). k.senders) config ∙ ap (λ (n : ℕ). n + 1) (sym many)) theirs_met (subst (λ (n : ℕ). HasMet (fresh z n) first.met) (sym many) first.first) first.after,
-    )
+-- all of them, if none was refused
+all_started : (senders receivers sending taking : ℕ) (refused : Option Refused) → is_some refused ≡ false → AreStarted senders receivers sending taking refused → (sending ≡ senders) × (taking ≡ receivers)
+all_started senders receivers sending taking None none all = all
+all_started senders receivers sending taking (Some e) none at = absurd (cc none)
+
+-- a run in which nothing else is due has come to its end
+pub has_run : (z : Topic) (c : DriveConfig) (refused : Option Refused) (ours : Crew Walk SendReceipt) (shut : Option (Walk × CloseAnswer)) (theirs : Crew Walk TakeReceipt) (closer : Walk) (told : CloseAnswer)
+    → due (is_some refused) (c.senders + c.receivers) ours.limited theirs.limited (is_some shut) (ours.is_whole && theirs.is_whole) ≡ None → shut ≡ Some (closer, told) → z.setting.config ≡ queue_of c → HasEnded z c refused ours shut theirs
+    → HasRun z c (record { config = c; senders = ours.passes; closer = closer; closed = told; receivers = theirs.passes; sends = ours.receipts; takes = theirs.receipts })
+has_run z c refused ours shut theirs closer told free is config e =
+    let f = none_due _ _ _ _ _ _ free in
+    let s = e.senders.senders in
+    let r = e.receivers in
+    let all = all_started _ _ _ _ refused f.0 e.started in
+    let none = sym s.missing ∙ f.1 in
+    let none' = sym r.missing ∙ f.2 in
+    let senders : List Walk = ours.passes.items in
+    let theirs_back : InRow (SenderIsBack z c.items c.limit) 0 e.senders.back = subst (InRow (SenderIsBack z c.items c.limit) 0) (sym s.back) (crew_passes (λ d. d.pass) (SenderIsBack z c.items c.limit) 0 0 s.workers none
+    (row_weaker (SenderGave z c.items c.limit) (λ n d. IfSome d.pass (SenderIsBack z c.items c.limit n)) (λ n d g. g.0) 0 s.workers s.gave)) in
+    let back : InRow (IsBack z) 0 e.senders.back = row_weaker (SenderIsBack z c.items c.limit) (IsBack z) (λ k x b. b.back) 0 e.senders.back theirs_back in
+    let met : InRow (SenderIsBack z c.items c.limit) 0 senders = row_met (SenderIsBack z c.items c.limit) (sender_met z c.items c.limit) 0 e.senders.back senders theirs_back e.senders.met in
+    let many : length senders ≡ c.senders = pairs_length e.senders.back senders e.senders.met ∙ ap length s.back ∙ crew_count (λ d. d.pass) 0 s.workers none ∙ s.many ∙ all.0 in
+    let first : ClosedAfter (fresh z c.senders) senders told closer = some_at (λ x. ClosedAfter (fresh z c.senders) senders x.1 x.0) shut (closer, told) is e.senders.after in
+    record {
+      of = refl;
+      senders = met;
+      count_senders = many;
+      unclosed = unclosed z c.items c.limit senders first.met (ap (λ (k : Config). k.senders) config ∙ ap (λ (n : ℕ). n + 1) (sym many)) met (subst (λ (n : ℕ). HasMet (fresh z n) first.met) (sym many) first.first) first.after;
+      closed = first;
+      receivers = subst (InRow (ReceiverIsBack z) (c.senders + 1)) (sym r.back) (crew_passes (λ d. d.pass) (ReceiverIsBack z) (c.senders + 1) c.senders r.workers none'
+          (row_weaker (ReceiverGave z c.limit) (λ n d. IfSome d.pass (ReceiverIsBack z n)) (λ n d g. g.0) (c.senders + 1) r.workers r.gave));
+      count_receivers = ap length r.back ∙ crew_count (λ d. d.pass) c.senders r.workers none' ∙ r.many ∙ all.1;
+      sends = s.kept (first_too _ _ f.4)
+          ∙ crew_receipts (λ d. d.pass) (λ d. d.kept.receipts.items) (λ d. d.kept.is_whole) (λ x. receipts_in sent (calls x)) 0 0 s.workers none (s.whole (first_too _ _ f.4))
+          (row_weaker (SenderGave z c.items c.limit) (λ n d. IfSome d.pass (λ x. d.kept.is_whole ≡ true → d.kept.receipts.items ≡ receipts_in sent (calls x))) (λ n d g. g.1) 0 s.workers s.gave)
+          ∙ by_turn sent (present (map (λ d. d.pass) s.workers)) ∙ ap (receipts_by sent) (sym s.back) ∙ sym (receipts_met sent z 0 e.senders.back senders back e.senders.met);
+      takes = r.kept (second_too _ _ f.4)
+          ∙ crew_receipts (λ d. d.pass) (λ d. d.kept.receipts.items) (λ d. d.kept.is_whole) (λ x. receipts_in got (calls x)) (c.senders + 1) c.senders r.workers none' (r.whole (second_too _ _ f.4))
+          (row_weaker (ReceiverGave z c.limit) (λ n d. IfSome d.pass (λ x. d.kept.is_whole ≡ true → d.kept.receipts.items ≡ receipts_in got (calls x))) (λ n d g. g.1) (c.senders + 1) r.workers r.gave)
+          ∙ by_turn got (present (map (λ d. d.pass) r.workers)) ∙ ap (receipts_by got) (sym r.back);
+    }
+
+-- a row of workers whose results were gathered
+pub crew_of : {P X : Type 0} (Gave : ℕ → Worked P X → Type 0) (place number count : ℕ) (workers : List (Worked P X)) (passes : List P) (crew : Crew P X) → AreGathered number workers passes crew → InRow Gave place workers → length workers ≡ count → IsCrew Gave place number count passes crew
+crew_of Gave place number count workers passes crew g gave many = record { workers = workers; gave = gave; many = many; back = g.back; missing = g.missing; whole = g.whole; kept = g.kept }
 
 -- ---- a run without an end
 
@@ -92,11 +106,6 @@ due_below false workers None None false whole told low low' e = (let is : DriveF
 due_below false workers None None true false told low low' e = (let is : DriveFault.NoMemory ≡ told = cc e in subst (IsDue (Ok tt) workers) is tt)
 due_below false workers None None true true told low low' e = absurd (cc e)
 
--- all of them, if none was refused
-pub all_started : (senders receivers sending taking : ℕ) (refused : Option Refused) → is_some refused ≡ false → AreStarted senders receivers sending taking refused → (sending ≡ senders) × (taking ≡ receivers)
-all_started senders receivers sending taking None none all = all
-all_started senders receivers sending taking (Some e) none at = absurd (cc none)
-
 told_due : (z : Topic) (c : DriveConfig) (told : DriveFault) → IsTold z c told → IsDue (Ok tt) (c.senders + c.receivers) told
 told_due z c told (inl is) = subst (IsDue (Ok tt) (c.senders + c.receivers)) (sym is) tt
 told_due z c told (inr e) =
@@ -114,9 +123,28 @@ memory_due lawful workers (Ok a) fine none = tt
 memory_due lawful workers (Err f) fine none = subst (λ (y : Result ⊤ ConfigFault × DriveFault). IsDue y.0 workers y.1) (λ i. (sym fine i, sym none i)) tt
 
 -- a closer without an answer
-pub none_at : {A : Type 0} (P : Type 0) (x : Option A) → is_some x ≡ false → IfNone x P → P
+none_at : {A : Type 0} (P : Type 0) (x : Option A) → is_some x ≡ false → IfNone x P → P
 none_at P (Some a) is p = absurd (cc is)
 none_at P None is p = p
+
+-- and why a run has no end
+pub ended_with : (z : Topic) (c : DriveConfig) (refused : Option Refused) (ours : Crew Walk SendReceipt) (shut : Option (Walk × CloseAnswer)) (theirs : Crew Walk TakeReceipt) (told : DriveFault)
+    → due (is_some refused) (c.senders + c.receivers) ours.limited theirs.limited (is_some shut) (ours.is_whole && theirs.is_whole) ≡ Some told → HasEnded z c refused ours shut theirs → EndedWith z c told
+ended_with z c refused ours shut theirs told is e =
+    let s = e.senders.senders in
+    let r = e.receivers in
+    record {
+      senders = s.workers;
+      receivers = r.workers;
+      refused = refused;
+      closed = is_some shut;
+      whole = ours.is_whole && theirs.is_whole;
+      senders_gave = s.gave;
+      receivers_gave = r.gave;
+      started = subst (λ (n : ℕ × ℕ). AreStarted c.senders c.receivers n.0 n.1 refused) (λ i. (sym s.many i, sym r.many i)) e.started;
+      still = λ open_still. let still = none_at _ shut open_still e.senders.still in (ours.passes.items, still.0, still.1);
+      why = (λ i. due (is_some refused) (c.senders + c.receivers) (sym s.missing i) (sym r.missing i) (is_some shut) (ours.is_whole && theirs.is_whole)) ∙ is;
+    }
 
 -- the threads of both rows, the receivers' first
 pub both_started : (senders receivers sending taking : ℕ) (first second : Option Refused) → IsStarted None (senders + 1) receivers taking first → IsStarted first 0 senders sending second → AreStarted senders receivers sending taking second

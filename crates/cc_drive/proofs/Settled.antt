@@ -1,7 +1,8 @@
 -- A run that has ended is clean, and reports how many items passed.
-use Rattle.std.proofs.Common.{◌≡◌, ℕ, ◌+◌, ◌*◌, ◌-◌, ◌^◌, ◌<◌, List, [], ◌∷◌, ◌++◌, length, Some, refl, sym, ap, ◌∙◌, subst, arith, length-append}
+use Rattle.std.proofs.Common.{◌≡◌, ℕ, ◌+◌, ◌*◌, ◌-◌, ◌^◌, ◌<◌, ◌≤◌, List, [], ◌∷◌, ◌++◌, length, map, Some, refl, sym, ap, ◌∙◌, subst, arith, length-append}
 use Rattle.std.specs.List.{All}
-use Rattle.std.proofs.lemmas.List.Sorted.{length_permutation}
+use Rattle.std.specs.List.Sorted.{IsPermutation}
+use Rattle.std.proofs.lemmas.List.Sorted.{IsPermutation-refl, length_permutation}
 use Rattle.cc_model.specs.Record.{Record}
 use Rattle.cc_model.specs.Legal.{Legal}
 use Rattle.cc_drive.specs.Names.{Config, Move, Setting, Served, DriveConfig, Ran}
@@ -11,8 +12,9 @@ use Rattle.cc_steps.specs.Walk.{Walk, IsOf, fresh}
 use Rattle.cc_audit.specs.Receipts.{sends_of, takes_of, total_of}
 use Rattle.cc_queue.specs.Headline.{name, history}
 use Rattle.cc_queue.specs.Met.{AreOf, HasMet, HaveSeenOne}
-use Rattle.cc_queue.specs.Receipts.{AreInRow, in_group, receipts_by, seen_by, sent, got}
+use Rattle.cc_queue.specs.Receipts.{AreAll, AreInRow, Live, in_group, receipts_by, receipts_told, seen_by, sent, got, walk_at}
 use Rattle.cc_queue.proofs.Held.{sends_held, takes_held, only_group, seen_is}
+use Rattle.cc_queue.proofs.Lasts.{all_live, group_of_map, live_row, live_told, live_walks}
 use Rattle.cc_runs.specs.Words.{groups}
 use Rattle.cc_drive.specs.Config.{queue_of}
 use Rattle.cc_drive.specs.Back.{IsBack, SenderIsBack, ReceiverIsBack}
@@ -23,15 +25,19 @@ use Rattle.cc_drive.proofs.Totals.{total_is, taken_is_sent}
 use Rattle.cc_drive.proofs.Pairs.{pairs_last, all_split}
 use Rattle.cc_drive.proofs.Ended.{row_weaker, row_all, row_met, back_met, receiver_met, receipts_met, pairs_length, are_in_row, no_more_receipts, all_items, closer_back, closer_sent_none, closer_told}
 
--- what an end needs, of the passes that have met
+-- what the audit of an end needs, of the passes that have met
 pub record Settled (z : Topic) (c : DriveConfig) (r : Ran) (senders receivers : List Walk) : Type 0 where
-  pub senders_are : AreInRow z 0 z.setting.config.senders senders
-  pub receivers_are : AreInRow z z.setting.config.senders (groups z.setting.config * z.setting.config.receivers) receivers
-  pub sends : receipts_by sent senders ≡ r.sends.items
-  pub takes : receipts_by got (in_group z.setting.config 1 receivers) ≡ r.takes.items
-  pub total : Some (total_in r.closed) ≡ total_of (seen_by senders)
+  pub all : AreAll z (live_row senders receivers) senders receivers []
+  pub one : HaveSeenOne senders receivers []
+  pub group : 1 ≤ groups z.setting.config
+  pub sends : IsPermutation (receipts_told sent (map Live senders)) r.sends.items
+  pub takes : IsPermutation (receipts_told got (in_group z.setting.config 1 (map Live receivers))) r.takes.items
+  pub total : total_of (seen_by (map walk_at (map Live senders))) ≡ Some (total_in r.closed)
   pub even : length r.takes.items ≡ length r.sends.items
   pub count : c.limit < 2 ^ 32 - 1 → length r.sends.items ≡ c.senders * c.items
+
+same_items : {X : Type 0} (xs ys : List X) → xs ≡ ys → IsPermutation xs ys
+same_items xs ys same = subst (IsPermutation xs) same (IsPermutation-refl xs)
 
 -- the history that a pass of the queue has seen
 seen_of : (z : Topic) (n : ℕ) (w : Walk) (seen : List Move) → IsBack z n w → w.seen ≡ seen → history w ≡ history_of z.setting seen
@@ -75,12 +81,14 @@ settled z c r all senders receivers setting some run is met met' one =
     let seen : seen_by senders ≡ history_of z.setting one.seen = seen_is z senders one.seen (let n = count in omega (arith, n)) first.0 one.senders_have in
     let legal = lawful z c.senders who one.seen who_back who_seen in
     record {
-      senders_are = first.0;
-      receivers_are = first.1;
-      sends = sends;
-      takes = takes;
-      total = total_is who.setting.config (history who) (name who) r.closed who_back.stands.legal (closer_told z c.senders (fresh z c.senders) r.closer who r.senders.items r.closed refl run.closed last.4)
-          ∙ ap total_of (seen_of z c.senders who one.seen who_back who_seen ∙ sym seen);
+      all = all_live z senders receivers [] first.0 first.1;
+      one = one;
+      group = omega (arith, one_group);
+      sends = same_items _ r.sends.items (live_told sent senders ∙ sends);
+      takes = same_items _ r.takes.items (ap (receipts_told got) (group_of_map Live z.setting.config 1 receivers) ∙ live_told got (in_group z.setting.config 1 receivers) ∙ takes);
+      total = ap (λ l. total_of (seen_by l)) (live_walks senders)
+          ∙ sym (total_is who.setting.config (history who) (name who) r.closed who_back.stands.legal (closer_told z c.senders (fresh z c.senders) r.closer who r.senders.items r.closed refl run.closed last.4)
+          ∙ ap total_of (seen_of z c.senders who one.seen who_back who_seen ∙ sym seen));
       even = ap length (sym takes) ∙ sym (length_permutation _ _ (takes_held z receivers one.seen 1 (rw (ap (λ (k : Config). k.receivers) config) some) (omega arith) (omega (arith, one_group)) legal first.1 one.receivers_have)) ∙ even_so z (c.senders + 1) receivers one.seen one_group (let n = count' in omega (arith, n, some)) theirs one.receivers_have
           ∙ length_permutation _ _ (sends_held z senders one.seen legal first.0 one.senders_have) ∙ ap length sends;
       count = λ few. ap length run.sends ∙ all_items z c.items c.limit 0 r.senders.items few run.senders ∙ ap (λ (n : ℕ). n * c.items) run.count_senders;

@@ -26,7 +26,7 @@ pub record Working {X : Type 0} (receipts : Told → List X) (z : Topic) (row : 
 -- ---- before the first call
 
 -- a fresh pass has made no call
-pub calls_fresh : (z : Topic) (row : ℕ) (w : Walk) → w ≡ fresh z row → HasMet w w → calls w ≡ []
+calls_fresh : (z : Topic) (row : ℕ) (w : Walk) → w ≡ fresh z row → HasMet w w → calls w ≡ []
 calls_fresh z row w is met = nil_of (calls w) (met.stands.calls_are ∙ ap (λ (x : Walk). x.made) is)
 
 pub working_none : {X : Type 0} (receipts : Told → List X) (z : Topic) (row : ℕ) (who : Pass) (w : Walk) (whole : Bool) (keeps : List X) → w ≡ fresh z row → pass_at z.setting.config row ≡ who → HasMet w w → keeps ≡ [] → Working receipts z row who w whole keeps
@@ -70,9 +70,10 @@ working_more receipts z row who w x whole whole' keeps keeps' c told b k still m
 
 -- ---- a send
 
-pub sent_one : (n begun : ℕ) (w : Walk) (body : Body) (place : ℕ) → name w ≡ Pass.Sender n → begun ≡ w.stand.begun → sent (entry_of w (Call.Send body), Some (Answer.Send (SendAnswer.Accepted place))) ≡ record { sender = n; number = begun + 1; place = place; body = body } ∷ []
-sent_one n begun w body place named is =
-    ap (λ (p : Pass). map send_receipt (sent_item p (Call.Send body) (w.stand.begun + 1) place)) named ∙ (λ i. record { sender = n; number = sym is i + 1; place = place; body = body } ∷ [])
+pub sent_one : (n begun : ℕ) (w : Walk) (body : Body) (place : ℕ) (told : SendAnswer) → name w ≡ Pass.Sender n → begun ≡ w.stand.begun → told ≡ SendAnswer.Accepted place → sent (entry_of w (Call.Send body), Some (Answer.Send told)) ≡ record { sender = n; number = begun + 1; place = place; body = body } ∷ []
+sent_one n begun w body place told named is accepted =
+    ap (λ (a : SendAnswer). sent (entry_of w (Call.Send body), Some (Answer.Send a))) accepted
+    ∙ ap (λ (p : Pass). map send_receipt (sent_item p (Call.Send body) (w.stand.begun + 1) place)) named ∙ (λ i. record { sender = n; number = sym is i + 1; place = place; body = body } ∷ [])
 
 pub sent_none : (e : Entry) (told : SendAnswer) → ((place : ℕ) → told ≢ SendAnswer.Accepted place) → sent (e, Some (Answer.Send told)) ≡ []
 sent_none e SendAnswer.Full ne = refl
@@ -80,35 +81,30 @@ sent_none e SendAnswer.Closed ne = refl
 sent_none e SendAnswer.Spent ne = refl
 sent_none e (SendAnswer.Accepted place) ne = absurd (ne place refl)
 
-pub count_more : (z : Topic) (row : ℕ) (w x : Walk) (body : Body) (told : SendAnswer) → IsBack z row w → Completed w (Call.Send body) (Answer.Send told) x → length (receipts_in sent (calls x)) ≡ length (receipts_in sent (calls w)) + length (sent (entry_of w (Call.Send body), Some (Answer.Send told)))
+count_more : (z : Topic) (row : ℕ) (w x : Walk) (body : Body) (told : SendAnswer) → IsBack z row w → Completed w (Call.Send body) (Answer.Send told) x → length (receipts_in sent (calls x)) ≡ length (receipts_in sent (calls w)) + length (sent (entry_of w (Call.Send body), Some (Answer.Send told)))
 count_more z row w x body told b k = ap length (receipts_more sent z row w x (Call.Send body) (Answer.Send told) b k) ∙ length-append (receipts_in sent (calls w)) (sent (entry_of w (Call.Send body), Some (Answer.Send told)))
 
 -- ---- a take
 
-pub got_one : (n : ℕ) (w : Walk) (item : Item) → name w ≡ Pass.Receiver n → got (entry_of w Call.Take, Some (Answer.Take (TakeAnswer.Got item))) ≡ record { receiver = n; item = item } ∷ []
+got_one : (n : ℕ) (w : Walk) (item : Item) → name w ≡ Pass.Receiver n → got (entry_of w Call.Take, Some (Answer.Take (TakeAnswer.Got item))) ≡ record { receiver = n; item = item } ∷ []
 got_one n w item named = ap (λ (p : Pass). take_receipt p (Answer.Take (TakeAnswer.Got item))) named
 
-pub got_empty : (n : ℕ) (w : Walk) → name w ≡ Pass.Receiver n → got (entry_of w Call.Take, Some (Answer.Take TakeAnswer.Empty)) ≡ []
-got_empty n w named = ap (λ (p : Pass). take_receipt p (Answer.Take TakeAnswer.Empty)) named
-
-pub got_end : (n : ℕ) (w : Walk) (total : ℕ) → name w ≡ Pass.Receiver n → got (entry_of w Call.Take, Some (Answer.Take (TakeAnswer.Ended total))) ≡ []
-got_end n w total named = ap (λ (p : Pass). take_receipt p (Answer.Take (TakeAnswer.Ended total))) named
+got_none : (n : ℕ) (w : Walk) (told : TakeAnswer) → name w ≡ Pass.Receiver n → ((item : Item) → told ≢ TakeAnswer.Got item) → got (entry_of w Call.Take, Some (Answer.Take told)) ≡ []
+got_none n w (TakeAnswer.Got item) named not = absurd (not item refl)
+got_none n w told named not = ap (λ (p : Pass). take_receipt p (Answer.Take told)) named
 
 -- a call that leaves no receipt
-pub working_still : {X : Type 0} (receipts : Told → List X) (z : Topic) (row : ℕ) (who : Pass) (w x : Walk) (whole : Bool) (keeps : List X) (c : Call) (told : Answer) → Working receipts z row who w whole keeps → Completed w c told x → receipts (entry_of w c, Some told) ≡ [] → Working receipts z row who x whole keeps
+working_still : {X : Type 0} (receipts : Told → List X) (z : Topic) (row : ℕ) (who : Pass) (w x : Walk) (whole : Bool) (keeps : List X) (c : Call) (told : Answer) → Working receipts z row who w whole keeps → Completed w c told x → receipts (entry_of w c, Some told) ≡ [] → Working receipts z row who x whole keeps
 working_still receipts z row who w x whole keeps c told b k none = working_more receipts z row who w x whole whole keeps keeps c told b k (λ is. is) (λ is. sym (append-nil keeps) ∙ ap (λ l. keeps ++ l) (sym none))
 
-pub taken_none : (z : Topic) (row n : ℕ) (w x : Walk) (whole : Bool) (keeps : List TakeReceipt) (told : Answer) → Working got z row (Pass.Receiver n) w whole keeps → Completed w Call.Take told x → got (entry_of w Call.Take, Some told) ≡ [] → Working got z row (Pass.Receiver n) x whole keeps
-taken_none z row n w x whole keeps told b k none = working_still got z row (Pass.Receiver n) w x whole keeps Call.Take told b k none
+pub taken_one : (z : Topic) (row n : ℕ) (w x : Walk) (whole whole' : Bool) (keeps keeps' : List TakeReceipt) (told : TakeAnswer) (item : Item) → Working got z row (Pass.Receiver n) w whole keeps → Completed w Call.Take (Answer.Take told) x → told ≡ TakeAnswer.Got item
+    → (whole' ≡ true → whole ≡ true) → (whole' ≡ true → keeps' ≡ keeps ++ record { receiver = n; item = item } ∷ []) → Working got z row (Pass.Receiver n) x whole' keeps'
+taken_one z row n w x whole whole' keeps keeps' told item b k is still more =
+    working_more got z row (Pass.Receiver n) w x whole whole' keeps keeps' Call.Take (Answer.Take told) b k still
+    (λ all. more all ∙ ap (λ l. keeps ++ l) (sym (ap (λ (a : TakeAnswer). got (entry_of w Call.Take, Some (Answer.Take a))) is ∙ got_one n w item b.named)))
 
--- this many more items accepted
-pub count_one : (z : Topic) (row n : ℕ) (w x : Walk) (body : Body) (place so_far : ℕ) → IsBack z row w → name w ≡ Pass.Sender n → Completed w (Call.Send body) (Answer.Send (SendAnswer.Accepted place)) x → so_far ≡ length (receipts_in sent (calls w)) → so_far + 1 ≡ length (receipts_in sent (calls x))
-count_one z row n w x body place so_far b named k are =
-    ap (λ (m : ℕ). m + 1) are ∙ ap (λ l. length (receipts_in sent (calls w)) + length l) (sym (sent_one n w.stand.begun w body place named refl)) ∙ sym (count_more z row w x body (SendAnswer.Accepted place) b k)
-
-pub count_none : (z : Topic) (row : ℕ) (w x : Walk) (body : Body) (so_far : ℕ) (told : SendAnswer) → IsBack z row w → Completed w (Call.Send body) (Answer.Send told) x → sent (entry_of w (Call.Send body), Some (Answer.Send told)) ≡ [] → so_far ≡ length (receipts_in sent (calls w)) → so_far ≡ length (receipts_in sent (calls x))
-count_none z row w x body so_far told b k none are =
-    are ∙ sym (count_more z row w x body told b k ∙ ap (λ l. length (receipts_in sent (calls w)) + length l) none ∙ (let e : length (receipts_in sent (calls w)) + 0 ≡ length (receipts_in sent (calls w)) = omega arith in e))
+pub taken_none : (z : Topic) (row n : ℕ) (w x : Walk) (whole : Bool) (keeps : List TakeReceipt) (told : TakeAnswer) → Working got z row (Pass.Receiver n) w whole keeps → Completed w Call.Take (Answer.Take told) x → ((item : Item) → told ≢ TakeAnswer.Got item) → Working got z row (Pass.Receiver n) x whole keeps
+taken_none z row n w x whole keeps told b k not = working_still got z row (Pass.Receiver n) w x whole keeps Call.Take (Answer.Take told) b k (got_none n w told b.named not)
 
 -- ---- sends of the bodies in order
 
@@ -121,7 +117,7 @@ sends_end n (y ∷ zs) z s is = (
       (is ∙ (let e : n + length (sent y ++ receipts_in sent zs) ≡ n + length (sent y) + length (receipts_in sent zs) = omega (arith, length-append (sent y) (receipts_in sent zs)) in ap (λ (m : ℕ). Call.Send (one_word m)) e)),
 )
 
-pub sends_more : (z : Topic) (row : ℕ) (w x : Walk) (body : Body) (so_far : ℕ) (told : Answer) → body ≡ one_word (so_far + 1) → IsBack z row w → Completed w (Call.Send body) told x → so_far ≡ length (receipts_in sent (calls w)) → SendsFrom 1 (calls w) → SendsFrom 1 (calls x)
+sends_more : (z : Topic) (row : ℕ) (w x : Walk) (body : Body) (so_far : ℕ) (told : Answer) → body ≡ one_word (so_far + 1) → IsBack z row w → Completed w (Call.Send body) told x → so_far ≡ length (receipts_in sent (calls w)) → SendsFrom 1 (calls w) → SendsFrom 1 (calls x)
 sends_more z row w x body so_far told is b k are s =
     subst (SendsFrom 1) (sym (call_more z row w x (Call.Send body) told b k))
     (sends_end 1 (calls w) (entry_of w (Call.Send body), Some told) s (ap (λ (c : Body). Call.Send c) is ∙ (let e : so_far + 1 ≡ 1 + length (receipts_in sent (calls w)) = omega (arith, are) in ap (λ (m : ℕ). Call.Send (one_word m)) e)))
@@ -149,8 +145,42 @@ bodies_both : (n m : ℕ) (xs ys : List Body) → m ≡ n + length xs → Bodies
 bodies_both n m [] ys at k l = (let e : m ≡ n = omega (arith, at) in subst (λ (j : ℕ). BodiesFrom j ys) e l)
 bodies_both n m (x ∷ xs) ys at k l = (k.0, bodies_both (n + 1) m xs ys (omega (arith, at)) k.1 l)
 
-pub bodies_of : (n : ℕ) (zs : List Told) → SendsFrom n zs → BodiesFrom n (map body_in (receipts_in sent zs))
+bodies_of : (n : ℕ) (zs : List Told) → SendsFrom n zs → BodiesFrom n (map body_in (receipts_in sent zs))
 bodies_of n [] s = tt
 bodies_of n (z ∷ zs) s =
     subst (BodiesFrom n) (sym (map-append body_in (sent z) (receipts_in sent zs)))
     (bodies_both n (n + length (sent z)) (map body_in (sent z)) (map body_in (receipts_in sent zs)) (ap (λ (m : ℕ). n + m) (sym (length-map (sent z) body_in))) (one_body n z s.0) (bodies_of (n + length (sent z)) zs s.1))
+
+-- ---- the work of a sender so far
+
+pub record Sending (z : Topic) (row n : ℕ) (w : Walk) (whole : Bool) (keeps : List SendReceipt) (accepted : ℕ) : Type 0 where
+  pub works : Working sent z row (Pass.Sender n) w whole keeps
+  pub count : accepted ≡ length (receipts_in sent (calls w))
+  pub sends : SendsFrom 1 (calls w)
+  pub bodies : BodiesFrom 1 (map body_in (receipts_in sent (calls w)))
+
+pub sending_none : (z : Topic) (row n : ℕ) (w : Walk) (whole : Bool) (keeps : List SendReceipt) → w ≡ fresh z row → pass_at z.setting.config row ≡ Pass.Sender n → HasMet w w → keeps ≡ [] → Sending z row n w whole keeps 0
+sending_none z row n w whole keeps is named met none =
+    let empty : [] ≡ calls w = sym (calls_fresh z row w is met) in
+    record {
+      works = working_none sent z row (Pass.Sender n) w whole keeps is named met none;
+      count = ap (λ l. length (receipts_in sent l)) empty;
+      sends = subst (SendsFrom 1) empty tt;
+      bodies = bodies_of 1 (calls w) (subst (SendsFrom 1) empty tt);
+    }
+
+pub sending_more : (z : Topic) (row n : ℕ) (w x : Walk) (whole whole' : Bool) (keeps keeps' : List SendReceipt) (accepted accepted' : ℕ) (body : Body) (told : SendAnswer) → Sending z row n w whole keeps accepted → Completed w (Call.Send body) (Answer.Send told) x → body ≡ one_word (accepted + 1)
+    → (whole' ≡ true → whole ≡ true) → (whole' ≡ true → keeps' ≡ keeps ++ sent (entry_of w (Call.Send body), Some (Answer.Send told))) → accepted' ≡ accepted + length (sent (entry_of w (Call.Send body), Some (Answer.Send told))) → Sending z row n x whole' keeps' accepted'
+sending_more z row n w x whole whole' keeps keeps' accepted accepted' body told s k is still more now =
+    let sends = sends_more z row w x body accepted (Answer.Send told) is s.works.back k s.count s.sends in
+    record {
+      works = working_more sent z row (Pass.Sender n) w x whole whole' keeps keeps' (Call.Send body) (Answer.Send told) s.works k still more;
+      count = now ∙ ap (λ (m : ℕ). m + length (sent (entry_of w (Call.Send body), Some (Answer.Send told)))) s.count ∙ sym (count_more z row w x body told s.works.back k);
+      sends = sends;
+      bodies = bodies_of 1 (calls x) sends;
+    }
+
+pub sending_still : (z : Topic) (row n : ℕ) (w x : Walk) (whole : Bool) (keeps : List SendReceipt) (accepted : ℕ) (body : Body) (told : SendAnswer) → Sending z row n w whole keeps accepted → Completed w (Call.Send body) (Answer.Send told) x → body ≡ one_word (accepted + 1)
+    → sent (entry_of w (Call.Send body), Some (Answer.Send told)) ≡ [] → Sending z row n x whole keeps accepted
+sending_still z row n w x whole keeps accepted body told s k is none =
+    sending_more z row n w x whole whole keeps keeps accepted accepted body told s k is (λ all. all) (λ all. sym (append-nil keeps) ∙ ap (λ l. keeps ++ l) (sym none)) (let many : length (sent (entry_of w (Call.Send body), Some (Answer.Send told))) ≡ 0 = ap length none in omega (arith, many))

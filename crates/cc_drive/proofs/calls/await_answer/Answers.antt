@@ -1,9 +1,6 @@
 use Rattle.std.proofs.Common.{rules, ◌∙◌}
-use Rattle.cc_drive.proofs.Counted.{not_yet, read_on, was_answered}
+use Rattle.cc_drive.proofs.Counted.{read_on, was_answered}
 use Rattle.cc_drive.proofs.calls.await_answer.Goals as goal
-
-pub loop-turns-init : goal.loop-turns-init
-loop-turns-init g c = (not_yet _ _ c.requires.pending.1 c.requires.within, c.requires.pending.0)
 
 pub returns-in-Ok-clause-answered : goal.returns-in-Ok-clause-answered
 returns-in-Ok-clause-answered g c = was_answered _ _ _ _ c.in-Ok.ensures.done.0 _ _ c.loop-turns.invariant.0 (search rules) c.in-Ok.ensures.done.1

@@ -1,13 +1,6 @@
 use Rattle.std.proofs.Common.{rules, ◌+◌}
+use Rattle.cc_drive.proofs.Crewed.{crew_of}
 use Rattle.cc_drive.proofs.ending.join_receivers.Goals as goal
 
 pub returns : goal.returns
-returns g c z b promised = record {
-  workers = c.join_all-done.result.items;
-  gave = c.join_all-done.ensures.gives z b (c.args.senders + 1) promised;
-  many = (let joined = c.join_all-done.ensures.len in search rules);
-  back = c.gather.ensures.gathered.back;
-  missing = c.gather.ensures.gathered.missing;
-  whole = c.gather.ensures.gathered.whole;
-  kept = c.gather.ensures.gathered.kept;
-}
+returns g c z b promised = let joined = c.join_all-done.ensures.len in crew_of _ _ _ _ _ _ _ c.gather.ensures.gathered (c.join_all-done.ensures.gives z b (c.args.senders + 1) promised) (search rules)
