@@ -35,39 +35,3 @@ one_kept Is Gives n left rest done more x y front end kept was =
 pub dealt_over : {A B : Type 0} (of : A → B) (xs new : List A) (x : A) (ys rest all : List B) (y : B) → ys ≡ y ∷ rest → new ≡ xs ++ x ∷ [] → of x ≡ y → map of xs ++ ys ≡ all → map of new ++ rest ≡ all
 dealt_over of xs new x ys rest all y front end same was =
     ap (λ l. map of l ++ rest) end ∙ ap (λ l. l ++ rest) (map-append of xs (x ∷ [])) ∙ append_assoc (map of xs) (of x ∷ []) rest ∙ ap (λ z. map of xs ++ z ∷ rest) same ∙ ap (λ l. map of xs ++ l) (sym front) ∙ was
-
--- this many were taken from the beginning, and this many are left: none is taken at the start
-pub none_yet : (n left all room : ℕ) → n ≡ 0 → left ≡ all → all ≤ room → n + left ≤ room
-none_yet n left all room none same fits = omega arith
-
--- one more is taken, and one fewer left
-pub one_fewer : (n left rest all : ℕ) → rest + 1 ≡ left → n + left ≡ all → n + 1 + rest ≡ all
-one_fewer n left rest all next was = omega arith
-
--- while one is left there is room for it
-pub room_for_one : (n left rest room : ℕ) → rest + 1 ≡ left → n + left ≤ room → n < room
-room_for_one n left rest room next was = omega arith
-
--- and the next number is in its range
-pub one_more_fits : (n left rest all bound : ℕ) → rest + 1 ≡ left → n + left ≡ all → all < bound → n + 1 < bound
-one_more_fits n left rest all bound next was fits = omega arith
-
--- there is room for the others when one was taken, of which one more is kept at most
-pub room_still : (n more left rest room wider : ℕ) → rest + 1 ≡ left → more ≤ n + 1 → n + left ≤ room → room ≤ wider → more + rest ≤ wider
-room_still n more left rest room wider next one was grown = omega arith
-
--- no more are taken than there were
-pub no_more_than : (n left all : ℕ) → n + left ≤ all → n ≤ all
-no_more_than n left all was = omega arith
-
--- the next number, if one element more is in the row
-pub one_counted : (number count more : ℕ) → number ≡ 1 + count → more ≡ count + 1 → number + 1 ≡ 1 + more
-one_counted number count more was next = omega arith
-
--- one that was left is dealt
-pub one_dealt : (n more left rest all : ℕ) → more ≡ n + 1 → rest + 1 ≡ left → n + left ≡ all → more + rest ≡ all
-one_dealt n more left rest all one next was = omega arith
-
--- and one more of the gates
-pub gates_taken : (gates left n more all : ℕ) → left + 1 ≡ gates → more ≡ n + 1 → gates + n ≡ all → left + more ≡ all
-gates_taken gates left n more all next one was = omega arith

@@ -6,15 +6,9 @@ use Rattle.cc_queue.specs.Opened.{HasOpened}
 use Rattle.cc_drive.specs.Config.{IsDue}
 use Rattle.cc_drive.proofs.driver.drive.Goals as goal
 
-pub drive_opened-requires-clause-opened : goal.drive_opened-requires-clause-opened
-drive_opened-requires-clause-opened g c κs within = subst (λ (k : Config). HasOpened k c.in_ok-opened.opened) c.in_ok-of_queue.ensures.config c.in_ok-opened.ensures
-
 pub returns-clause-lawful : goal.returns-clause-lawful
 returns-clause-lawful g c = all_ok c.drive_opened.result c.in_ok-of_queue.ensures.fine
   where
     all_ok : {T E P : Type 0} (r : Result T E) → P → OnOk r P
     all_ok (Ok x) p = p
     all_ok (Err e) p = tt
-
-pub returns-clause-due : goal.returns-clause-due
-returns-clause-due g c = subst (λ (f : Result ⊤ ConfigFault). IfErr c.drive_opened.result (IsDue f (c.args.config.now.senders + c.args.config.now.receivers))) (sym c.in_ok-of_queue.ensures.fine) c.drive_opened.ensures.due

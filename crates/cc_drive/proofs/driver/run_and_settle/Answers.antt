@@ -6,12 +6,6 @@ use Rattle.cc_drive.proofs.Crewed.{memory_due}
 use Rattle.cc_drive.proofs.Crews.{ok_weaker}
 use Rattle.cc_drive.proofs.driver.run_and_settle.Goals as goal
 
-pub settle-requires-clause-queue : goal.settle-requires-clause-queue
-settle-requires-clause-queue g c = subst (λ (k : DriveConfig). IsQueueOf k c.args.queue.now) (sym c.in_ok-ran.ensures.run.of) c.requires.ready.queue
-
-pub settle-requires-clause-run : goal.settle-requires-clause-run
-settle-requires-clause-run g c = subst (λ (k : DriveConfig). HasRun c.args.queue.now k c.in_ok-ran.ran) (sym c.in_ok-ran.ensures.run.of) c.in_ok-ran.ensures.run
-
 pub returns-clause-due : goal.returns-clause-due
 returns-clause-due g c = memory_due (Ok tt) (c.args.config.now.senders + c.args.config.now.receivers) c.settle.result refl c.settle.ensures.memory
 

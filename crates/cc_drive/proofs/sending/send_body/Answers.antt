@@ -1,5 +1,5 @@
 use Rattle.std.proofs.Common.{rules, ◌∙◌}
-use Rattle.cc_drive.proofs.Counted.{answer_of, turns_made}
+use Rattle.cc_drive.proofs.Counted.{answer_of}
 use Rattle.cc_drive.proofs.Told.{stands_self}
 use Rattle.cc_drive.proofs.sending.send_body.Goals as goal
 
@@ -10,6 +10,3 @@ pub returns-in-Ok-answer_within-clause-sent : goal.returns-in-Ok-answer_within-c
 returns-in-Ok-answer_within-clause-sent g c =
     let begun = c.in-Ok.ensures.begun in let answer = c.in-Ok-answer_within.ensures.back.answer in
     (answer_of _ _ _ _ _ _ _ begun answer, answer.read.begun ∙ begun.begun, c.in-Ok.ensures.may)
-
-pub returns-in-Ok-answer_within-clause-costs : goal.returns-in-Ok-answer_within-clause-costs
-returns-in-Ok-answer_within-clause-costs g c = turns_made _ _ _ _ _ _ _ _ _ _ _ c.in-Ok-answer_within.ensures.back

@@ -7,7 +7,6 @@ use Rattle.cc_drive.proofs.threads.join_all.Given as goal
 
 abbrev pub invariant-loop-handle : goal.invariant-loop-handle
 invariant-loop-handle g l =
-    ((z : Topic) (b : Brief) (first : ℕ) → InRow (λ n h. (h.promise.queue.value ≡ z) × (h.promise.brief ≡ b) × (h.promise.row ≡ n)) first l.fn.handles.items
+    ((vec_len l.done + into_iter_len l.handle-iterator ≡ vec_len l.fn.handles) × (vec_len l.fn.handles ≤ vec_capacity l.done))
+    × ((z : Topic) (b : Brief) (first : ℕ) → InRow (λ n h. (h.promise.queue.value ≡ z) × (h.promise.brief ≡ b) × (h.promise.row ≡ n)) first l.fn.handles.items
     → InRow (λ n h. (h.promise.queue.value ≡ z) × (h.promise.brief ≡ b) × (h.promise.row ≡ n)) (first + length l.done.items) (into_iter_items l.handle-iterator) × InRow (g.J.Worker.gives z b) first l.done.items)
-    × (vec_len l.done + into_iter_len l.handle-iterator ≡ vec_len l.fn.handles)
-    × (vec_len l.fn.handles ≤ vec_capacity l.done)

@@ -5,8 +5,8 @@ use Rattle.cc_drive.proofs.threads.start_all.Given as goal
 
 abbrev pub invariant-loop-worker : goal.invariant-loop-worker
 invariant-loop-worker g l =
-    InRow (λ n h. (h.promise.queue.value ≡ l.fn.queue) × (h.promise.brief ≡ l.fn.brief) × (h.promise.row ≡ n)) l.fn.row.first l.handles.items
-    × InRow (g.J.Worker.is_ready l.fn.queue) l.place (into_iter_items l.worker-iterator)
-    × (l.place ≡ l.fn.row.first + length l.handles.items)
+    ((l.place ≡ l.fn.row.first + length l.handles.items)
     × (vec_len l.handles + into_iter_len l.worker-iterator ≡ vec_len l.fn.row.workers)
-    × (vec_len l.fn.row.workers ≤ vec_capacity l.handles)
+    × (vec_len l.fn.row.workers ≤ vec_capacity l.handles))
+    × InRow (λ n h. (h.promise.queue.value ≡ l.fn.queue) × (h.promise.brief ≡ l.fn.brief) × (h.promise.row ≡ n)) l.fn.row.first l.handles.items
+    × InRow (g.J.Worker.is_ready l.fn.queue) l.place (into_iter_items l.worker-iterator)
