@@ -9,11 +9,11 @@ use Rattle.cc_steps.specs.Walk.{Walk, IsOf, fresh}
 use Rattle.cc_queue.specs.Met.{HasMet}
 use Rattle.cc_queue.specs.Receipts.{receipts_in, receipts_by, sent, got}
 use Rattle.cc_queue.proofs.OnItsSide.{Told}
-use Rattle.cc_drive.specs.Back.{IsBack, SenderIsBack, ReceiverIsBack, SenderGave, ReceiverGave, IsNotClosed, calls}
+use Rattle.cc_drive.specs.Back.{IsBack, SenderIsBack, ReceiverIsBack, SenderGave, ReceiverGave, calls}
 use Rattle.cc_drive.specs.Config.{queue_of, IsDue}
 use Rattle.cc_drive.specs.Crew.{AreGathered, IsCrew, present, least_missing, in_turn}
-use Rattle.cc_drive.specs.Ran.{ClosedAfter, EndedWith, HasEnded, HasRun, IsTold, due}
-use Rattle.cc_drive.specs.Row.{InRow, Pairs}
+use Rattle.cc_drive.specs.Ran.{ClosedAfter, EndedWith, HasClosed, HasEnded, HasRun, IsTold, due}
+use Rattle.cc_drive.specs.Row.{InRow}
 use Rattle.cc_drive.specs.Start.{IsStarted, AreStarted}
 use Rattle.cc_drive.proofs.Crews.{crew_passes, crew_count, crew_receipts, crew_all, first_too, second_too, some_at}
 use Rattle.cc_drive.proofs.Unclosed.{unclosed}
@@ -147,7 +147,18 @@ ended_with z c refused ours shut theirs told is e =
     }
 
 -- the threads of both rows, the receivers' first
-pub both_started : (senders receivers sending taking : ℕ) (first second : Option Refused) → IsStarted None (senders + 1) receivers taking first → IsStarted first 0 senders sending second → AreStarted senders receivers sending taking second
+both_started : (senders receivers sending taking : ℕ) (first second : Option Refused) → IsStarted None (senders + 1) receivers taking first → IsStarted first 0 senders sending second → AreStarted senders receivers sending taking second
 both_started senders receivers sending taking None None all all' = (all', all)
 both_started senders receivers sending taking None (Some e) all at = inr (at.0 ∙ omega arith, at.1, all)
 both_started senders receivers sending taking (Some e) second at none = subst (AreStarted senders receivers sending taking) (sym none.1) (inl (at.0, at.1, none.0))
+
+pub has_ended : (z : Topic) (c : DriveConfig) (closer : Walk) (senders receivers sending taking : ℕ) (first second : Option Refused) (ours : Crew Walk SendReceipt) (shut : Option (Walk × CloseAnswer)) (theirs : Crew Walk TakeReceipt)
+    → closer ≡ fresh z c.senders → senders ≡ c.senders → receivers ≡ c.receivers → IsStarted None (c.senders + 1) receivers taking first → IsStarted first 0 senders sending second
+    → HasClosed z (record { items = c.items; limit = c.limit }) closer sending ours shut → IsCrew (ReceiverGave z c.limit) (c.senders + 1) c.senders taking theirs.passes.items theirs → HasEnded z c second ours shut theirs
+has_ended z c closer senders receivers sending taking first second ours shut theirs is count count' all all' closed crew = record {
+  sending = sending;
+  taking = taking;
+  senders = subst (λ (w : Walk). HasClosed z (record { items = c.items; limit = c.limit }) w sending ours shut) is closed;
+  receivers = crew;
+  started = both_started c.senders c.receivers sending taking first second (subst (λ (n : ℕ). IsStarted None (c.senders + 1) n taking first) count' all) (subst (λ (n : ℕ). IsStarted first 0 n sending second) count all');
+}

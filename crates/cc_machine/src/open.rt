@@ -62,7 +62,7 @@ fn blank(alloc: Global, setting: Setting) -> Result<Board, AllocError>
 }
 
 /// A board at its opening.
-#[tactic(auto, using(crate::proofs::LawfulMoves::laid_kept))]
+#[tactic(auto, using(crate::proofs::LawfulMoves::laid_kept, cc_runs::proofs::Opening::groups_all, cc_runs::proofs::Opening::freed_all))]
 pub fn open(alloc: Global, setting: Setting) -> Result<Board, AllocError>
     requires small { IsSmall (layout_of setting.config) }
     ensures state { IfOk result (λ b. state_of b ≡ opening setting) }

@@ -1,9 +1,5 @@
 use Rattle.std.specs.Result.{OnOk}
-use Rattle.std.proofs.Common.{Result, Ok, Err, IfErr, ◌+◌, sym, subst}
-use Rattle.std.specs.Prelude.{⊤}
-use Rattle.cc_drive.specs.Names.{Config, ConfigFault}
-use Rattle.cc_queue.specs.Opened.{HasOpened}
-use Rattle.cc_drive.specs.Config.{IsDue}
+use Rattle.std.proofs.Common.{Result, Ok, Err}
 use Rattle.cc_drive.proofs.driver.drive.Goals as goal
 
 pub returns-clause-lawful : goal.returns-clause-lawful

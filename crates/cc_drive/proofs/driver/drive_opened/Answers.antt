@@ -1,6 +1,5 @@
-use Rattle.std.proofs.Common.{arith, ◌≡◌, ◌∙◌, length, ap}
+use Rattle.std.proofs.Common.{rules}
 use Rattle.cc_runs.proofs.Ranges.{in_range}
-use Rattle.cc_steps.specs.Walk.{fresh}
 use Rattle.cc_drive.specs.Config.{queue_of}
 use Rattle.cc_drive.proofs.Rows.{one_longer}
 use Rattle.cc_drive.proofs.Dealt.{fresh_split}
@@ -13,13 +12,4 @@ deal_and_run-requires-clause-passes g c κs within =
     let parts = fresh_split c.args.opened.queue 0 _ _ c.in-Some.closer c.in-Some.ensures.items opened.senders in
     let long = one_longer _ _ c.in-Some.closer c.in-Some.ensures.items in
     let total = opened.count_senders in
-    let count : length c.pop.new.self.items ≡ c.args.config.now.senders = omega (arith, long, total) in
-    let count' : length c.args.opened.receivers.items ≡ c.args.config.now.receivers = let all = opened.count_receivers in omega (arith, all) in
-    record {
-      queue = record { setting = opened.setting; few = omega (arith, r.senders, r.receivers); some = omega (arith, r.receivers) };
-      closer = parts.1 ∙ ap (fresh c.args.opened.queue) (omega (arith, count));
-      senders = parts.0;
-      count_senders = count;
-      receivers = opened.receivers;
-      count_receivers = count';
-    }
+    search rules

@@ -1,7 +1,5 @@
 use Rattle.std.proofs.Common.{◌≡◌, ◌+◌, ◌-◌, ◌*◌, ◌^◌, ◌<◌, Ok, refl, sym, subst}
 use Rattle.cc_drive.specs.Names.{DriveConfig}
-use Rattle.cc_drive.specs.Jobs.{IsQueueOf}
-use Rattle.cc_drive.specs.Ran.{HasRun, IsEndOf}
 use Rattle.cc_drive.proofs.Crewed.{memory_due}
 use Rattle.cc_drive.proofs.Crews.{ok_weaker}
 use Rattle.cc_drive.proofs.driver.run_and_settle.Goals as goal

@@ -21,10 +21,4 @@ returns-clause-end c =
     let s = settled _ _ _ _ _ _ c.requires.queue.setting c.requires.queue.some c.requires.run c.in-Ok.ensures.items c.meet_everyone.ensures.senders c.meet_everyone.ensures.receivers c.meet_everyone.ensures.one in
     let k : Config = c.args.queue.now.setting.config in
     let clean = c.audit_all.ensures.none_left (none_left sent c.deref.result.now) (ap (receipts_left got) (group_of_map Live k 1 c.deref-2.result.now) ∙ none_left got (in_group k 1 c.deref-2.result.now)) in
-    record {
-      clean = search rules;
-      sent = search rules;
-      taken = search rules;
-      all_taken = (let even = s.even in search rules);
-      all_sent = λ few. let count = s.count few in search rules;
-    }
+    let even = s.even in let count = s.count in search rules

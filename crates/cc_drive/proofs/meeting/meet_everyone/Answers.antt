@@ -1,16 +1,7 @@
-use Rattle.std.proofs.Common.{rules, ◌≡◌, ◌∙◌, List, length, sym, subst}
-use Rattle.std.specs.List.{All}
+use Rattle.std.proofs.Common.{rules, ◌≡◌, ◌∙◌, length}
 use Rattle.cc_queue.specs.Met.{HasMet}
-use Rattle.cc_steps.specs.Walk.{IsOf, Walk}
 use Rattle.cc_drive.proofs.Pairs.{met_back, one_back}
 use Rattle.cc_drive.proofs.meeting.meet_everyone.Goals as goal
-
-pub meet_all-requires : goal.meet_all-requires
-meet_all-requires c = record {
-  senders_are = subst (λ (l : List Walk). All (IsOf c.args.queue.now) l) (sym c.deref_mut.ensures.value) c.requires.senders_are;
-  receivers_are = subst (λ (l : List Walk). All (IsOf c.args.queue.now) l) (sym c.deref_mut-2.ensures.value) c.requires.receivers_are;
-  given_up_are = c.requires.given_up_are;
-}
 
 pub returns-clause-senders : goal.returns-clause-senders
 returns-clause-senders c =

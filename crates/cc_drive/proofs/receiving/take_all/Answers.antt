@@ -1,5 +1,5 @@
 use Rattle.std.proofs.Common.{rules, refl, subst}
-use Rattle.cc_drive.specs.Names.{Answer, Call, Pass, TakeAnswer}
+use Rattle.cc_drive.specs.Names.{Answer, Pass, TakeAnswer}
 use Rattle.cc_runs.specs.ChainLaws.{IsLastAnswer}
 use Rattle.cc_queue.specs.Headline.{name, history}
 use Rattle.cc_queue.specs.Receipts.{got}

@@ -1,10 +1,10 @@
-use Rattle.std.proofs.Common.{◌≡◌, ℕ, ◌+◌, ◌∙◌, ap, arith, refl}
+use Rattle.std.proofs.Common.{ℕ, ◌∙◌, ap, arith, refl}
 use Rattle.cc_machine.specs.Names.{Setting, Chain, Object, Word, ItemField}
 use Rattle.cc_runs.specs.Words.{groups, put}
 use Rattle.cc_runs.specs.State.{State}
 use Rattle.cc_runs.specs.Run.{opening}
 use Rattle.cc_machine.proofs.LawfulMoves.{laid_kept}
-use Rattle.cc_runs.proofs.Opening.{freed, freed_all, freed_more, opened, group_more, groups_all, started}
+use Rattle.cc_runs.proofs.Opening.{freed_more, group_more, started}
 use Rattle.cc_machine.proofs.open.open.Goals as goal
 
 -- the opening with these words
@@ -37,14 +37,6 @@ loop-group-preserved c =
       within = omega (arith, c.loop-group-test.true, c.loop-group.auto.group-end);
     }
 
-pub loop-node-init : goal.loop-node-init
-loop-node-init c =
-    let end : c.loop-group.group ≡ groups c.args.setting.config = omega (arith, c.loop-group.auto.group-end, c.loop-group-test.false, c.loop-group.invariant.within) in record {
-      state = c.loop-group.invariant.state ∙ ap (with_words c.args.setting) (ap (opened c.args.setting.config) end ∙ groups_all c.args.setting.config);
-      setting = c.loop-group.invariant.setting;
-      laid = c.loop-group.invariant.laid;
-    }
-
 pub loop-node-preserved : goal.loop-node-preserved
 loop-node-preserved c = record {
   state = c.store-in-loop-node.ensures.state ∙ ap (stores (Word.Item c.loop-node.node ItemField.Passed) (groups c.args.setting.config)) c.loop-node.invariant.state
@@ -52,8 +44,3 @@ loop-node-preserved c = record {
   setting = c.store-in-loop-node.ensures.keeps.setting ∙ c.loop-node.invariant.setting;
   laid = laid_kept c.loop-node.board c.store-in-loop-node.new.self c.store-in-loop-node.ensures.keeps c.loop-node.invariant.laid;
 }
-
-pub returns-clause-state : goal.returns-clause-state
-returns-clause-state c =
-    let end : c.loop-node.node ≡ c.args.setting.config.capacity + 1 = omega (arith, c.loop-node.auto.node, c.loop-node.auto.node-end, c.loop-node-test.false) in
-    c.loop-node.invariant.state ∙ ap (with_words c.args.setting) (ap (λ (n : ℕ). freed c.args.setting.config n) end ∙ freed_all c.args.setting.config)
