@@ -3,21 +3,16 @@ use Rattle.cc_handles.specs.Names.{Pass}
 use Rattle.cc_handles.proofs.Filling.{is_of, other_seats, next_held}
 use Rattle.cc_handles.proofs.opening.keep_senders.Goals as goal
 
-pub remove-requires : goal.remove-requires
-remove-requires c = let i = c.loop-row.invariant in omega (arith, i.0, c.loop-row-test.true, c.len-row-end.ensures)
-
 pub held-requires : goal.held-requires
 held-requires c =
-    let i = c.loop-row.invariant in
-    let some : 0 < length c.loop-row.senders.items = omega (arith, i.0, c.loop-row-test.true, c.len-row-end.ensures) in
-    is_of _ c.loop-row._row c.loop-row.senders.items c.remove.result some i.1 c.remove.ensures.value
+    let some : 0 < length c.loop-row.senders.items = omega (arith, c.loop-row.invariant.0.0, c.loop-row-test.true, c.len-row-end.ensures) in
+    is_of _ c.loop-row._row c.loop-row.senders.items c.remove.result some c.loop-row.invariant.1 c.remove.ensures.value
 
 pub loop-row-preserved : goal.loop-row-preserved
 loop-row-preserved c =
     let i = c.loop-row.invariant in
-    let some : 0 < length c.loop-row.senders.items = omega (arith, i.0, c.loop-row-test.true, c.len-row-end.ensures) in (
+    let some : 0 < length c.loop-row.senders.items = omega (arith, i.0.0, c.loop-row-test.true, c.len-row-end.ensures) in (
       search rules,
       other_seats _ c.loop-row._row (c.loop-row._row + 1) c.loop-row.senders.items _ (omega arith) some i.1 c.remove.ensures.items,
-      search rules,
-      next_held (λ b. b.value) Pass.Sender c.args.words _ 0 c.loop-row._row c.loop-row.senders.items c.loop-row.all.items c.push.new.self.items c.remove.result c.in_ok-held.field-0 some i.1 c.remove.ensures.value c.in_ok-held.ensures (omega (arith, i.2)) i.3 c.in_ok-push.ensures.items,
+      next_held (λ b. b.value) Pass.Sender c.args.words _ 0 c.loop-row._row c.loop-row.senders.items c.loop-row.all.items c.push.new.self.items c.remove.result c.in_ok-held.field-0 some i.1 c.remove.ensures.value c.in_ok-held.ensures (omega (arith, i.0.1)) i.2 c.in_ok-push.ensures.items,
     )

@@ -6,4 +6,4 @@ use Rattle.cc_handles.proofs.opening.keep_senders.Given as goal
 
 abbrev pub invariant-loop-row : goal.invariant-loop-row
 invariant-loop-row l =
-    (length l.senders.items + l._row ≡ length l.fn.senders.items) × fresh_from l.fn.queue l._row l.senders.items × (length l.all.items ≡ l._row) × HoldFresh l.all.items (λ b. b.value) Pass.Sender l.fn.words l.fn.queue 0
+    ((length l.senders.items + l._row ≡ length l.fn.senders.items) × (length l.all.items ≡ l._row)) × fresh_from l.fn.queue l._row l.senders.items × HoldFresh l.all.items (λ b. b.value) Pass.Sender l.fn.words l.fn.queue 0
