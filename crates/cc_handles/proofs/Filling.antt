@@ -1,6 +1,5 @@
 -- Rows of handles that are filled one after another.
-use Rattle.std.proofs.Common.{◌≡◌, ℕ, ◌+◌, ◌<◌, List, [], ◌∷◌, ◌++◌, length, map, set, take, slice_index_or, Option, Some, None, sym, ap, ◌∙◌, subst, append_assoc, append-nil, arith, ◌≤◌}
-use Rattle.std.proofs.lemmas.List.{take_more_set, map-append, take_all}
+use Rattle.std.proofs.Common.{◌≡◌, ℕ, ◌+◌, ◌<◌, List, [], ◌∷◌, ◌++◌, length, map, slice_index_or, Option, Some, None, sym, ap, ◌∙◌, subst, arith}
 use Rattle.std.specs.List.{remove}
 use Rattle.cc_steps.specs.Topic.{Topic}
 use Rattle.cc_steps.specs.Walk.{Walk, IsOf, fresh, fresh_from}
@@ -48,17 +47,3 @@ filled handle box side words z p [] bs e f = tt
 filled handle box side words z p (h ∷ hs) [] e f = absurd (omega (arith, ap length e))
 filled handle box side words z p (h ∷ hs) (b ∷ bs) e f =
     (ap (λ ys. in_box (head_of None ys)) e ∙ f.0, filled handle box side words z (p + 1) hs bs (ap rest_of e) f.1)
-
-module _ {H B Y : Type 0} (f : H → Y) (g : B → Y) where
-  -- a handle more was filled
-  pub one_more : (i : ℕ) (hs hs' : List H) (h : H) (b : B) (bs bs' : List B) (all : List Y) → i < length hs → f h ≡ g b → b ≡ slice_index_or bs 0 b → 0 < length bs → bs' ≡ remove bs 0 → hs' ≡ set hs i h
-      → map f (take i hs) ++ map g bs ≡ all → map f (take (i + 1) hs') ++ map g bs' ≡ all
-  one_more i hs hs' h b [] bs' all less same is some rest at e = absurd (omega (arith, some))
-  one_more i hs hs' h b (x ∷ bs) bs' all less same is some rest at e =
-      let step : map f (take (i + 1) (set hs i h)) ≡ map f (take i hs) ++ g x ∷ [] = ap (map f) (take_more_set hs i h less) ∙ map-append f (take i hs) (h ∷ []) ∙ ap (λ y. map f (take i hs) ++ y ∷ []) (same ∙ ap g is) in
-      ap (λ ys. map f (take (i + 1) ys) ++ map g bs') at ∙ ap (λ ys. map f (take (i + 1) (set hs i h)) ++ map g ys) rest ∙ ap (λ ys. ys ++ map g bs) step ∙ append_assoc (map f (take i hs)) (g x ∷ []) (map g bs) ∙ e
-
-  -- all were
-  pub all_filled : (i : ℕ) (hs : List H) (bs : List B) (all : List Y) → length hs ≤ i → length bs ≡ 0 → map f (take i hs) ++ map g bs ≡ all → map f hs ≡ all
-  all_filled i hs [] all far none e = ap (map f) (sym (take_all i hs far)) ∙ sym (append-nil (map f (take i hs))) ∙ e
-  all_filled i hs (b ∷ bs) all far none e = absurd (omega (arith, none))
