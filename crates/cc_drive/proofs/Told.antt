@@ -4,7 +4,6 @@ use Rattle.std.specs.List.{AllByRecursion}
 use Rattle.cc_model.specs.Record.{Side, Record, of_group}
 use Rattle.cc_model.specs.Items.{HasAnswer, SideBegins, Begins, calls_of, is_pass}
 use Rattle.cc_model.specs.Legal.{Legal}
-use Rattle.cc_model.specs.Config.{group_of}
 use Rattle.cc_drive.specs.Names.{Config, Pass, Entry, Answer, Setting}
 use Rattle.cc_runs.specs.ChainLaws.{IsLastAnswer}
 use Rattle.cc_runs.specs.State.{pass_at}
