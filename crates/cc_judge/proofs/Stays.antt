@@ -1,10 +1,10 @@
 -- The stay of an item in a legal order, and of calls that began later.
-use Rattle.std.proofs.Common.{◌≡◌, ℕ, ◌+◌, ◌<◌, ◌≤◌, ◌⊎◌, inl, inr, List, [], ◌∷◌, length, get_or, drop, Some, refl, sym, ap, ◌∙◌, subst, arith}
+use Rattle.std.proofs.Common.{◌≡◌, ◌≢◌, ℕ, ◌+◌, ◌<◌, ◌≤◌, ◌⊎◌, inl, inr, List, [], ◌∷◌, length, get_or, drop, Some, refl, sym, ap, ◌∙◌, subst, arith}
 use Rattle.std.specs.List.{slice_get}
 use Rattle.std.proofs.lemmas.List.{drop_more}
 use Rattle.cc_judge.specs.Names.{Act, Call, Step, Stay, Leave}
 use Rattle.cc_judge.specs.Order.{EndsBefore, IsOrder}
-use Rattle.cc_judge.specs.Faults.{Did, Returned, Differ, SentBefore, IsLeft, Fewer, IsRising, Left, Stays, Follows, Covers}
+use Rattle.cc_judge.specs.Faults.{Did, Returned, Differ, SentBefore, IsLeft, Fewer, IsRising, Left, Stays, Passed, Follows, Overtaken, Covers}
 use Rattle.cc_judge.specs.Checks.{BeginsFrom, Until}
 use Rattle.cc_judge.proofs.Places.{In, in_order, in_at, at_in}
 use Rattle.cc_judge.proofs.Orders.{returned_step, took_in_log, apart, one_take}
@@ -12,7 +12,7 @@ use Rattle.cc_judge.proofs.Fewer.{another}
 
 -- ---- more is known of the takes, or the call began later
 
-pub stays_as : (calls : List Call) (stay : Stay) (from : ℕ) (P Q : ℕ → Type 0) → ((i : ℕ) → P i → Q i) → Stays calls stay from P → Stays calls stay from Q
+stays_as : (calls : List Call) (stay : Stay) (from : ℕ) (P Q : ℕ → Type 0) → ((i : ℕ) → P i → Q i) → Stays calls stay from P → Stays calls stay from Q
 stays_as calls (Stay.Taken send take) from P Q give s = (s.0, s.1, s.2, give take s.3)
 stays_as calls (Stay.Left sends next) from P Q give s = record {
   each = s.each;
@@ -24,7 +24,7 @@ stays_as calls (Stay.Left sends next) from P Q give s = record {
   };
 }
 
-pub ends_from : (calls : List Call) (place next other : ℕ) → BeginsFrom calls (Some next) other → EndsBefore calls place next → EndsBefore calls place other
+ends_from : (calls : List Call) (place next other : ℕ) → BeginsFrom calls (Some next) other → EndsBefore calls place next → EndsBefore calls place other
 ends_from calls place next other b e =
     let both : Some e.other ≡ Some b.0 = sym e.other_is ∙ b.2 in
     let one : e.other ≡ b.0 = cc in
@@ -34,7 +34,7 @@ ends_from calls place next other b e =
 sent_from : (calls : List Call) (send next other item : ℕ) → BeginsFrom calls (Some next) other → SentBefore calls send next item → SentBefore calls send other item
 sent_from calls send next other item b s = record { sent = s.sent; before = ends_from calls send next other b s.before }
 
-pub stays_from : (calls : List Call) (stay : Stay) (next other : ℕ) (more : ℕ → Type 0) → BeginsFrom calls (Some next) other → Stays calls stay next more → Stays calls stay other more
+stays_from : (calls : List Call) (stay : Stay) (next other : ℕ) (more : ℕ → Type 0) → BeginsFrom calls (Some next) other → Stays calls stay next more → Stays calls stay other more
 stays_from calls (Stay.Taken send take) next other more b s = (s.0, sent_from calls send next other s.0 b s.1, s.2, s.3)
 stays_from calls (Stay.Left sends m) next other more b s = record {
   each = λ k send is. let l = s.each k send is in record { item = l.item; sent_before = sent_from calls send next other l.item b l.sent_before; untaken = l.untaken };
@@ -42,7 +42,7 @@ stays_from calls (Stay.Left sends m) next other more b s = record {
   fewer = s.fewer;
 }
 
-pub covers_from : (calls : List Call) (call next other : ℕ) (stays : List Stay) → BeginsFrom calls (Some next) other → Covers calls call next stays → Covers calls call other stays
+covers_from : (calls : List Call) (call next other : ℕ) (stays : List Stay) → BeginsFrom calls (Some next) other → Covers calls call next stays → Covers calls call other stays
 covers_from calls call next other [] b covers = ends_from calls call next other b covers
 covers_from calls call next other (x ∷ rest) b covers = stays_from calls x next other (λ take. Covers calls call take rest) b covers
 
@@ -59,19 +59,19 @@ left_until calls sends from next rising each fewer = record {
   };
 }
 
-pub stays_never : (calls : List Call) (stay : Stay) (from : ℕ) (leave : Leave) (more : ℕ → Type 0) → leave ≡ Leave.Never → Stays calls stay from (Until calls leave) → Stays calls stay from more
+stays_never : (calls : List Call) (stay : Stay) (from : ℕ) (leave : Leave) (more : ℕ → Type 0) → leave ≡ Leave.Never → Stays calls stay from (Until calls leave) → Stays calls stay from more
 stays_never calls stay from leave more never s = stays_as calls stay from (Until calls leave) more (λ i until. absurd (subst (λ (l : Leave). Until calls l i) never until)) s
 
-pub stays_by : (calls : List Call) (stay : Stay) (from take : ℕ) (leave : Leave) (more : ℕ → Type 0) → leave ≡ Leave.By take → more take → ((i : ℕ) → Did calls i Act.Taking → BeginsFrom calls (Some take) i → more i) → Stays calls stay from (Until calls leave) → Stays calls stay from more
+stays_by : (calls : List Call) (stay : Stay) (from take : ℕ) (leave : Leave) (more : ℕ → Type 0) → leave ≡ Leave.By take → more take → ((i : ℕ) → Did calls i Act.Taking → BeginsFrom calls (Some take) i → more i) → Stays calls stay from (Until calls leave) → Stays calls stay from more
 stays_by calls stay from take leave more by here later s = stays_as calls stay from (Until calls leave) more known s
   where
     known : (i : ℕ) → Until calls leave i → more i
     known i until = elim (subst (λ (l : Leave). Until calls l i) by until) [ inl same ↦ subst more (sym same) here | inr taking ↦ later i taking.0 taking.1 ]
 
-pub covers_at : (calls : List Call) (call from i : ℕ) (stays : List Stay) (x : Stay) → i < length stays → x ≡ get_or stays i x → Covers calls call from (x ∷ drop (i + 1) stays) → Covers calls call from (drop i stays)
+covers_at : (calls : List Call) (call from i : ℕ) (stays : List Stay) (x : Stay) → i < length stays → x ≡ get_or stays i x → Covers calls call from (x ∷ drop (i + 1) stays) → Covers calls call from (drop i stays)
 covers_at calls call from i stays x within is covers = subst (λ (xs : List Stay). Covers calls call from xs) (sym (drop_more stays i x within ∙ ap (λ (y : Stay). y ∷ drop (i + 1) stays) (sym is))) covers
 
-pub follows_from : (calls : List Call) (first item take i : ℕ) → Returned calls first (Act.Took item) → Did calls i Act.Taking → BeginsFrom calls (Some take) i → EndsBefore calls first take → Follows calls first i
+follows_from : (calls : List Call) (first item take i : ℕ) → Returned calls first (Act.Took item) → Did calls i Act.Taking → BeginsFrom calls (Some take) i → EndsBefore calls first take → Follows calls first i
 follows_from calls first item take i took taking begins ends = record {
   apart = λ same.
       let both : Some took.call ≡ Some taking.call = sym took.call_is ∙ ap (slice_get calls) same ∙ taking.call_is in
@@ -80,6 +80,26 @@ follows_from calls first item take i took taking begins ends = record {
       cc;
   after = ends_from calls first take i begins ends;
 }
+
+-- a stay of which an item left by a take, or never: what the stays from place i on cover
+module _ (calls : List Call) (call from i : ℕ) (stays : List Stay) (x : Stay) (leave : Leave) (within : i < length stays) (is : x ≡ get_or stays i x) (s : Stays calls x from (Until calls leave)) where
+  pub covers_never : leave ≡ Leave.Never → Covers calls call from (drop i stays)
+  covers_never never = covers_at calls call from i stays x within is (stays_never calls x from leave (λ t. Covers calls call t (drop (i + 1) stays)) never s)
+
+  pub covers_by : (take : ℕ) → leave ≡ Leave.By take → Covers calls call take (drop (i + 1) stays) → Covers calls call from (drop i stays)
+  covers_by take by covers =
+      covers_at calls call from i stays x within is (stays_by calls x from take leave (λ t. Covers calls call t (drop (i + 1) stays)) by covers (λ k taking begins. covers_from calls call take k (drop (i + 1) stays) begins covers) s)
+
+-- the same of a later item that was taken before
+module _ (calls : List Call) (stay : Stay) (send take : ℕ) (leave : Leave) (later : Passed calls send take) (s : Stays calls stay send (Until calls leave)) where
+  pub overtaken_never : leave ≡ Leave.Never → Overtaken calls stay send take
+  overtaken_never never = record { later = later; stays = stays_never calls stay send leave (Follows calls take) never s }
+
+  pub overtaken_by : (by : ℕ) → leave ≡ Leave.By by → by ≢ take → EndsBefore calls take by → Overtaken calls stay send take
+  overtaken_by by is other after = record {
+    later = later;
+    stays = stays_by calls stay send by leave (Follows calls take) is (record { apart = λ same. other (sym same); after = after }) (λ i taking begins. follows_from calls take later.item by i later.took taking begins after) s;
+  }
 
 -- ---- in a legal order
 

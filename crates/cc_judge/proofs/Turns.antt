@@ -4,7 +4,7 @@ use Rattle.std.specs.List.{slice_get, slice_set}
 use Rattle.std.proofs.lemmas.Bool.{cases_lt}
 use Rattle.std.proofs.lemmas.Option.{get_or_from_slice_get, slice_get-get_or, slice_get_within}
 use Rattle.cc_judge.specs.Names.{Act, Call, Step}
-use Rattle.cc_judge.specs.Order.{EndsBefore, Has}
+use Rattle.cc_judge.specs.Order.{EndsBefore, Has, IsOnce, IsTimely}
 use Rattle.cc_judge.specs.Faults.{Did, IsIn, Fewer}
 use Rattle.cc_judge.specs.Checks.{GoesOn, Marks, BeginsFrom}
 
@@ -23,33 +23,33 @@ below_or_at xs i k d x below is = elim (cases_lt k i) [
 
 -- ---- time
 
--- no call of the steps so far began after a time
-abbrev pub Begun : List Call → List Step → (upto latest : ℕ) → Type 0
-Begun calls order upto latest = (k : ℕ) (s : Step) (c : Call) → k < upto → slice_get order k ≡ Some s → slice_get calls s.place ≡ Some c → c.begin ≤ latest
+-- none of the steps so far is of a call that began after a time, or comes after one whose call began after its own had ended
+pub record TimelyTo (calls : List Call) (order : List Step) (upto latest : ℕ) : Type 0 where
+  pub begun : (k : ℕ) (s : Step) (c : Call) → k < upto → slice_get order k ≡ Some s → slice_get calls s.place ≡ Some c → c.begin ≤ latest
+  pub timely : (j k : ℕ) (s t : Step) → j < k → k < upto → slice_get order j ≡ Some s → slice_get order k ≡ Some t → EndsBefore calls t.place s.place → ⊥
 
--- none of the steps so far comes after one whose call began after its own had ended
-abbrev pub TimelyTo : List Call → List Step → (upto : ℕ) → Type 0
-TimelyTo calls order upto = (j k : ℕ) (s t : Step) → j < k → k < upto → slice_get order j ≡ Some s → slice_get order k ≡ Some t → EndsBefore calls t.place s.place → ⊥
+pub timely_on : (calls : List Call) (order : List Step) (i latest next : ℕ) (d : Step) → TimelyTo calls order i latest → GoesOn calls (get_or order i d).place latest next → TimelyTo calls order (i + 1) next
+timely_on calls order i latest next d so_far on = record {
+  begun = λ k s c below s_is c_is. elim (below_or_at order i k d s below s_is) [
+    | inl less ↦ omega (arith, so_far.begun k s c less s_is c_is, on.earlier)
+    | inr here ↦
+        let both : Some c ≡ Some on.call = sym c_is ∙ subst (λ (x : Step). slice_get calls x.place ≡ Some on.call) (sym here.1) on.call_is in
+        let one : c ≡ on.call = cc in
+        subst (λ (x : Call). x.begin ≤ next) (sym one) on.begun
+  ];
+  timely = λ j k s t less below s_is t_is ends. elim (below_or_at order i k d t below t_is) [
+    | inl lesser ↦ so_far.timely j k s t less lesser s_is t_is ends
+    | inr here ↦
+        let both : Some ends.one ≡ Some on.call = sym ends.one_is ∙ subst (λ (x : Step). slice_get calls x.place ≡ Some on.call) (sym here.1) on.call_is in
+        let one : ends.one ≡ on.call = cc in
+        let ended : latest ≤ ends.end = on.not_ended ends.end (subst (λ (x : Call). x.end ≡ Some ends.end) one ends.ended) in
+        let began : ends.other.begin ≤ latest = so_far.begun j s ends.other (omega arith) s_is ends.other_is in
+        omega (arith, ended, began, ends.before)
+  ];
+}
 
-pub begun_on : (calls : List Call) (order : List Step) (i latest next : ℕ) (d : Step) → Begun calls order i latest → GoesOn calls (get_or order i d).place latest next → Begun calls order (i + 1) next
-begun_on calls order i latest next d begun on k s c below s_is c_is = elim (below_or_at order i k d s below s_is) [
-  | inl less ↦ omega (arith, begun k s c less s_is c_is, on.earlier)
-  | inr here ↦
-      let both : Some c ≡ Some on.call = sym c_is ∙ subst (λ (x : Step). slice_get calls x.place ≡ Some on.call) (sym here.1) on.call_is in
-      let one : c ≡ on.call = cc in
-      subst (λ (x : Call). x.begin ≤ next) (sym one) on.begun
-]
-
-pub timely_on : (calls : List Call) (order : List Step) (i latest next : ℕ) (d : Step) → Begun calls order i latest → TimelyTo calls order i → GoesOn calls (get_or order i d).place latest next → TimelyTo calls order (i + 1)
-timely_on calls order i latest next d begun timely on j k s t less below s_is t_is ends = elim (below_or_at order i k d t below t_is) [
-  | inl lesser ↦ timely j k s t less lesser s_is t_is ends
-  | inr here ↦
-      let both : Some ends.one ≡ Some on.call = sym ends.one_is ∙ subst (λ (x : Step). slice_get calls x.place ≡ Some on.call) (sym here.1) on.call_is in
-      let one : ends.one ≡ on.call = cc in
-      let ended : latest ≤ ends.end = on.not_ended ends.end (subst (λ (x : Call). x.end ≡ Some ends.end) one ends.ended) in
-      let began : ends.other.begin ≤ latest = begun j s ends.other (omega arith) s_is ends.other_is in
-      omega (arith, ended, began, ends.before)
-]
+pub all_timely : (calls : List Call) (order : List Step) (i latest : ℕ) → length order ≤ i → TimelyTo calls order i latest → IsTimely calls order
+all_timely calls order i latest end so_far j k s t less s_is t_is = let within : k < length order = slice_get_within order k t t_is in so_far.timely j k s t less (omega (arith, within, end)) s_is t_is
 
 -- ---- marks
 
@@ -65,23 +65,11 @@ set_elsewhere (z ∷ xs) zero (suc q) y apart = refl
 set_elsewhere (z ∷ xs) (suc p) zero y apart = refl
 set_elsewhere (z ∷ xs) (suc p) (suc q) y apart = set_elsewhere xs p q y (λ same. apart (ap suc same))
 
--- only calls of steps are marked
-abbrev pub Marked : List Step → List Bool → Type 0
-Marked order marks = (place : ℕ) → slice_get marks place ≡ Some true → Has order place
-
--- the calls of the steps so far are marked
-abbrev pub MarkedTo : List Step → List Bool → (upto : ℕ) → Type 0
-MarkedTo order marks upto = (k : ℕ) (s : Step) → k < upto → slice_get order k ≡ Some s → slice_get marks s.place ≡ Some true
-
--- no two of the steps so far are of one call
-abbrev pub OnceTo : List Step → (upto : ℕ) → Type 0
-OnceTo order upto = (j k : ℕ) (s t : Step) → j < k → k < upto → slice_get order j ≡ Some s → slice_get order k ≡ Some t → s.place ≢ t.place
-
-pub marked_on : (order : List Step) (i : ℕ) (d : Step) (before after : List Bool) → i < length order → Marked order before → Marks before (get_or order i d).place after → Marked order after
-marked_on order i d before after within marked on place is = elim (nat_cases place (get_or order i d).place) [
-  | inl same ↦ record { at = i; step = get_or order i d; step_is = slice_get-get_or order i d within; place_is = sym same }
-  | inr other ↦ marked place (sym (set_elsewhere before (get_or order i d).place place true other) ∙ subst (λ (l : List Bool). slice_get l place ≡ Some true) on.now is)
-]
+-- only calls of steps are marked, those of the steps so far are, and no two of these are of one call
+pub record MarkedTo (order : List Step) (marks : List Bool) (upto : ℕ) : Type 0 where
+  pub has : (place : ℕ) → slice_get marks place ≡ Some true → Has order place
+  pub marked : (k : ℕ) (s : Step) → k < upto → slice_get order k ≡ Some s → slice_get marks s.place ≡ Some true
+  pub once : (j k : ℕ) (s t : Step) → j < k → k < upto → slice_get order j ≡ Some s → slice_get order k ≡ Some t → s.place ≢ t.place
 
 marked_still : (before after : List Bool) (p place : ℕ) → Marks before p after → slice_get before place ≡ Some true → slice_get after place ≡ Some true
 marked_still before after p place on is = elim (nat_cases place p) [
@@ -92,26 +80,28 @@ marked_still before after p place on is = elim (nat_cases place p) [
 marked_here : (before after : List Bool) (p : ℕ) → Marks before p after → slice_get after p ≡ Some true
 marked_here before after p on = subst (λ (l : List Bool). slice_get l p ≡ Some true) (sym on.now) (set_at before p false true on.was)
 
-pub marked_to_on : (order : List Step) (i : ℕ) (d : Step) (before after : List Bool) → MarkedTo order before i → Marks before (get_or order i d).place after → MarkedTo order after (i + 1)
-marked_to_on order i d before after marked on k s below is = elim (below_or_at order i k d s below is) [
-  | inl less ↦ marked_still before after (get_or order i d).place s.place on (marked k s less is)
-  | inr here ↦ subst (λ (x : Step). slice_get after x.place ≡ Some true) (sym here.1) (marked_here before after (get_or order i d).place on)
-]
+pub marked_on : (order : List Step) (i : ℕ) (d : Step) (before after : List Bool) → i < length order → MarkedTo order before i → Marks before (get_or order i d).place after → MarkedTo order after (i + 1)
+marked_on order i d before after within so_far on = record {
+  has = λ place is. elim (nat_cases place (get_or order i d).place) [
+    | inl same ↦ record { at = i; step = get_or order i d; step_is = slice_get-get_or order i d within; place_is = sym same }
+    | inr other ↦ so_far.has place (sym (set_elsewhere before (get_or order i d).place place true other) ∙ subst (λ (l : List Bool). slice_get l place ≡ Some true) on.now is)
+  ];
+  marked = λ k s below is. elim (below_or_at order i k d s below is) [
+    | inl less ↦ marked_still before after (get_or order i d).place s.place on (so_far.marked k s less is)
+    | inr here ↦ subst (λ (x : Step). slice_get after x.place ≡ Some true) (sym here.1) (marked_here before after (get_or order i d).place on)
+  ];
+  once = λ j k s t less below s_is t_is same. elim (below_or_at order i k d t below t_is) [
+    | inl lesser ↦ so_far.once j k s t less lesser s_is t_is same
+    | inr here ↦
+        let was : slice_get before s.place ≡ Some true = so_far.marked j s (omega arith) s_is in
+        let place_is : s.place ≡ (get_or order i d).place = same ∙ ap (λ (x : Step). x.place) here.1 in
+        let both : Some true ≡ Some false = sym was ∙ ap (slice_get before) place_is ∙ on.was in
+        cc
+  ];
+}
 
-pub once_on : (order : List Step) (i : ℕ) (d : Step) (before after : List Bool) → MarkedTo order before i → OnceTo order i → Marks before (get_or order i d).place after → OnceTo order (i + 1)
-once_on order i d before after marked once on j k s t less below s_is t_is same = elim (below_or_at order i k d t below t_is) [
-  | inl lesser ↦ once j k s t less lesser s_is t_is same
-  | inr here ↦
-      let was : slice_get before s.place ≡ Some true = marked j s (omega arith) s_is in
-      let place_is : s.place ≡ (get_or order i d).place = same ∙ ap (λ (x : Step). x.place) here.1 in
-      let both : Some true ≡ Some false = sym was ∙ ap (slice_get before) place_is ∙ on.was in
-      cc
-]
-
--- ---- the end of a loop
-
-pub all_steps : (order : List Step) (P : ℕ → Step → Type 0) (i : ℕ) → length order ≤ i → ((k : ℕ) (s : Step) → k < i → slice_get order k ≡ Some s → P k s) → (k : ℕ) (s : Step) → slice_get order k ≡ Some s → P k s
-all_steps order P i end below k s is = let within : k < length order = slice_get_within order k s is in below k s (omega arith) is
+pub all_once : (order : List Step) (marks : List Bool) (i : ℕ) → length order ≤ i → MarkedTo order marks i → IsOnce order
+all_once order marks i end so_far j k s t less s_is t_is = let within : k < length order = slice_get_within order k t t_is in so_far.once j k s t less (omega (arith, within, end)) s_is t_is
 
 -- ---- sends that are left
 
@@ -119,18 +109,6 @@ all_steps order P i end below k s is = let within : k < length order = slice_get
 pub record RisingTo (xs : List ℕ) (upto least : ℕ) : Type 0 where
   pub below : (k x : ℕ) → k < upto → slice_get xs k ≡ Some x → x < least
   pub rising : (j k x y : ℕ) → j < k → k < upto → slice_get xs j ≡ Some x → slice_get xs k ≡ Some y → x < y
-
-pub rising_on : (xs : List ℕ) (i least d : ℕ) → least ≤ get_or xs i d → RisingTo xs i least → RisingTo xs (i + 1) (get_or xs i d + 1)
-rising_on xs i least d next r = record {
-  below = λ k x below is. elim (below_or_at xs i k d x below is) [
-    | inl less ↦ omega (arith, next, r.below k x less is)
-    | inr here ↦ omega (arith, here.1)
-  ];
-  rising = λ j k x y less below x_is y_is. elim (below_or_at xs i k d y below y_is) [
-    | inl lesser ↦ r.rising j k x y less lesser x_is y_is
-    | inr here ↦ omega (arith, next, here.1, r.below j x (omega (arith, less, below)) x_is)
-  ];
-}
 
 -- of the takes so far that haven't returned, those which began before `next` are as many as `spare` falls short of the number
 pub record FewerTo (calls : List Call) (next : Option ℕ) (number spare upto : ℕ) : Type 0 where

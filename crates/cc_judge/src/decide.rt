@@ -100,6 +100,7 @@ fn index_of(alloc: Global, calls: &[Call], items: usize) -> Result<Indexed, Allo
 }
 
 /// The law: a fault leaves a log of items that differ without a legal order.
+#[tactic(auto, using(crate::proofs::NoOrder::no_order))]
 pub fn faults_have_no_order()
     ensures { FaultsHaveNoOrder }
 {}

@@ -69,6 +69,7 @@ fn is_absent(table: &Vec<Option<usize>>, item: usize) -> bool
 }
 
 /// Whether the call at this place took an item that no call sent.
+#[tactic(auto, using(crate::proofs::Tables::never_sent_so))]
 pub fn is_never_sent(calls: &[Call], index: &Index, take: usize) -> bool
     requires { IsIndex calls.now index.now }
     ensures { IsTrue result → NeverSent calls.now take }
@@ -117,6 +118,7 @@ fn sent_before(calls: &[Call], send: usize, from: usize) -> Option<usize>
 }
 
 /// Whether the call at one place sent an item that no call took, and had ended before the call `from` began.
+#[tactic(auto, using(crate::proofs::Tables::left_so))]
 fn is_left(calls: &[Call], index: &Index, send: usize, from: usize) -> bool
     requires { IsIndex calls.now index.now }
     ensures { IsTrue result → IsLeft calls.now from send }

@@ -47,6 +47,7 @@ fn mark(marks: &mut Vec<bool>, place: usize) -> bool
 }
 
 /// Which of the calls of a log of this length have a step, or None if one has two or isn't of the log.
+#[tactic(auto, using(crate::proofs::Turns::marked_on, crate::proofs::Turns::all_once))]
 fn marked(alloc: Global, calls: usize, order: &[Step]) -> Result<Option<Vec<bool>>, AllocError>
     ensures once { IfOk result (λ o. IfSome o (λ v. IsOnce order.now)) }
     ensures has { IfOk result (λ o. IfSome o (λ v. (place : ℕ) → slice_get v.items place ≡ Some true → Has order.now place)) }
@@ -84,6 +85,7 @@ fn goes_on(calls: &[Call], place: usize, time: u64) -> Option<u64>
 }
 
 /// Whether no call comes after one that began after it had ended.
+#[tactic(auto, using(crate::proofs::Turns::timely_on))]
 fn is_timely(calls: &[Call], order: &[Step]) -> bool
     ensures { IsTrue result → IsTimely calls.now order.now }
 {

@@ -63,6 +63,7 @@ fn enter(table: &mut Vec<Option<usize>>, item: usize, place: usize) -> Entry
 }
 
 /// Finds the calls of this kind by their items, which are below `items`. It takes memory in proportion to the items.
+#[tactic(auto, using(crate::proofs::Tables::tabled_twice, crate::proofs::Tables::did_here))]
 pub fn find(alloc: Global, calls: &[Call], items: usize, kind: Kind) -> Result<Found, AllocError>
     ensures { IfOk result (IsFound calls.now kind) }
 {

@@ -1,5 +1,5 @@
 use Rattle.std.proofs.Common.{ℕ, ◌+◌, List, Option, sym, ap, subst}
-use Rattle.cc_judge.proofs.Tables.{TabledTo, tabled_skip, tabled_new, tabled_twice, tabled_end, did_here}
+use Rattle.cc_judge.proofs.Tables.{TabledTo, tabled_skip, tabled_new, tabled_end}
 use Rattle.cc_judge.proofs.table.find.Goals as goal
 use Rattle.cc_judge.proofs.table.find.Goals.{in-Some+in-New, in_default}
 
@@ -10,12 +10,6 @@ loop-place-preserved c =
       | in-Some+in-New w ↦ subst Goes (ap (λ t. t.items) (sym w.table-is)) (tabled_new _ _ _ _ _ _ _ c.loop-place-test.true w.in-Some.ensures.some w.in-New.ensures.0 w.in-New.ensures.1 c.loop-place.invariant)
       | in_default w ↦ subst Goes (ap (λ t. t.items) (sym w.table-is)) (tabled_skip _ _ _ _ _ w.in_default.ensures.none c.loop-place.invariant)
     ]
-
-pub returns-in-Had : goal.returns-in-Had
-returns-in-Had c = tabled_twice _ _ _ _ _ _ _ c.loop-place-test.true c.in-Some.ensures.some c.in-Had.ensures.0 c.loop-place.invariant
-
-pub returns-in-Stray : goal.returns-in-Stray
-returns-in-Stray c = (c.in-Some.item, did_here _ _ _ _ c.loop-place-test.true c.in-Some.ensures.some)
 
 pub returns : goal.returns
 returns c = tabled_end _ _ _ _ c.loop-place-test.false c.loop-place.invariant
