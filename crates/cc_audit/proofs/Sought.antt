@@ -59,9 +59,6 @@ pub record Seen (sends : List SendReceipt) (takes : List TakeReceipt) (n : ℕ) 
   pub found : IfSome first (λ p. Altered sends takes p ⊎ DoubleAccept sends p)
   pub each : (k : ℕ) (d : TakeReceipt) → k < n → AlteredBy sends (get_or takes k d).item → DoubleAccept sends (get_or takes k d).item.place ⊎ AtMost first (get_or takes k d).item.place
 
-pub seen_none : (sends : List SendReceipt) (takes : List TakeReceipt) → Seen sends takes 0 None
-seen_none sends takes = record { found = tt; each = λ k d l. absurd (omega (arith, l)) }
-
 pub seen_more : (sends : List SendReceipt) (takes : List TakeReceipt) (n : ℕ) (first : Option ℕ) (d : TakeReceipt) → n < length takes → Seen sends takes n first → AlteredBy sends (get_or takes n d).item → Seen sends takes (n + 1) (sooner_of first (Some (get_or takes n d).item.place))
 seen_more sends takes n first d l seen altered =
     let t = get_or takes n d in

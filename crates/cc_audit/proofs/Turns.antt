@@ -46,9 +46,6 @@ pub record Walked (sends : List SendReceipt) (n : ℕ) (first : Option ℕ) : Ty
   pub found : IfSome first (λ p. Disorder sends p ⊎ DoubleAccept sends p)
   pub each : (i j : ℕ) (d : SendReceipt) → j ≡ i + 1 → j < n → (get_or sends i d).sender ≡ (get_or sends j d).sender → (get_or sends j d).number ≤ (get_or sends i d).number → AtMost first (get_or sends j d).place
 
-pub walked_none : (sends : List SendReceipt) → Walked sends 1 None
-walked_none sends = record { found = tt; each = λ i j d is l. absurd (omega (arith, l, is)) }
-
 -- the second of two neighbours isn't above the first
 abbrev pub OutOfTurn : SendReceipt → SendReceipt → Type 0
 OutOfTurn before here = (before.sender ≡ here.sender) × (here.number ≤ before.number)

@@ -55,6 +55,7 @@ fn is_altered(sends: &[&SendReceipt], item: &Item) -> bool
 }
 
 /// The least place at which what was taken isn't what was sent, as far as no place is sent twice.
+#[tactic(auto, using(crate::proofs::Sought::all_seen))]
 pub fn first_altered(sends: &[&SendReceipt], takes: &[TakeReceipt]) -> Option<u64>
     requires { IsSortedByKey (λ s. s.now.place) nat_cmp sends.now }
     ensures { IsLeastUnless (Altered (referred sends.now) takes.now) (DoubleAccept (referred sends.now)) result }
