@@ -12,6 +12,7 @@ use std::alloc::Global;
 
 /// The plan that the bytes describe, or why they describe none: a fault of the whole shape is reported before one
 /// of a range, a range in the order of the keys, and an unknown pass last.
+#[tactic(auto, using(cc_plan::proofs::Lawful::lawful_if_given))]
 pub fn read_plan(alloc: Global, bytes: &[u8]) -> Result<Plan, PlanFault>
     ensures plan { Gives plan_value result (plan_of bytes.now) }
     ensures memory { IsErrOf result PlanFault.P5 → length bytes.now ≤ input_limit }

@@ -48,6 +48,7 @@ fn begin(machine: &mut Machine, pass: Pass, call: Call) -> Result<(), AllocError
 
 /// One event of a pass, before which it begins its next call if it is idle, and after which the answer of a finished call
 /// is taken. Returns the event: the first step of a call if one began, and Idle if the pass had none.
+#[tactic(auto, using(crate::proofs::Turns::did_turned, crate::proofs::Between::did_between))]
 pub fn turn(
     machine: &mut Machine,
     begun: &mut [usize],
@@ -132,6 +133,7 @@ fn go_on(
 
 /// Up to this number of events of a pass. If it waits, or has no call to begin, those that are left needn't be done one by
 /// one: the machine is already in the state to which they lead.
+#[tactic(auto, using(crate::proofs::Turns::none_on, crate::proofs::Turns::on_and_on, crate::proofs::Turns::none_left))]
 fn follow_entry(
     machine: &mut Machine,
     begun: &mut [usize],
