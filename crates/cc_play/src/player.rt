@@ -74,6 +74,7 @@ pub fn turn(
 }
 
 /// The event of a pass that has no step to do: the first of its next call, if the plan has one.
+#[tactic(auto, using(crate::proofs::Turns::none_turned))]
 fn begin_turn(
     machine: &mut Machine,
     begun: &mut [usize],

@@ -1,5 +1,5 @@
-use Rattle.std.proofs.Common.{◌∙◌, refl, sym}
-use Rattle.cc_play.proofs.Turns.{begun_turned, none_turned}
+use Rattle.std.proofs.Common.{◌∙◌, sym}
+use Rattle.cc_play.proofs.Turns.{begun_turned}
 use Rattle.cc_play.proofs.Between.{idle_between, may_begin, begun_between}
 use Rattle.cc_model.specs.Items.{known_at}
 use Rattle.cc_plan.specs.Plan.{plan_value}
@@ -23,7 +23,3 @@ returns-clause-turned c =
     (may_begin (plan_value c.args.plan.now) c.args.pass c.args.row c.args.machine.now c.args.begun.now c.in-Some.call c.requires.lawful c.requires.pass c.requires.between c.requires.idle (sym c.next_call.ensures.call ∙ c.in-Some.is))
     c.in_ok-begin.ensures.begun
     c.event.ensures.event c.event.ensures.state c.answer.ensures.answer c.answer.ensures.state
-
-pub returns-in_default-clause-turned : goal.returns-in_default-clause-turned
-returns-in_default-clause-turned c =
-    none_turned (plan_value c.args.plan.now) c.args.pass c.args.row c.requires.pass c.args.machine.now c.args.machine.now c.args.begun.now c.requires.row (c.requires.between.taken c.args.row) c.requires.idle refl (sym c.next_call.ensures.call ∙ c.in_default.is)
