@@ -1,8 +1,8 @@
 #!/usr/bin/env python3
-"""Derives the corpus: writes tests/corpus/NAME.in and NAME.expect for every row below.
+"""Derives the corpus: writes tests/corpus/NAME.in and NAME.expect for every row below, and tests/places.
 
     tests/derive.py
-    tests/derive.py play|audit|trace < INPUT      derives what is told of one input, and writes no file
+    tests/derive.py play|audit|trace|why < INPUT  derives what is told of one input, and writes no file
 
 It is a second program for the same texts, written from docs/FORMATS.md and docs/ALGORITHM.md alone: a strict reader of
 JSON, the checks of plans and receipts, the machine one step at a time, and the audit by its seven kinds. It never runs
@@ -11,10 +11,13 @@ some that are played the report; where the two differ nothing is written. The ga
 `tools/rows.py` reads the files. Run it after a change of the formats.
 
 NAME.expect: line 1 the task and the exit status, line 2 what is told on standard error, and then the standard output.
+tests/places: of each refused row its name, and what `ccq why` tells of its input.
 """
+import collections
 import json
 import os
 import random
+import re
 import sys
 
 LIMIT = 16777216
@@ -38,7 +41,8 @@ class Number(str):
 
 
 class Text:
-    """One JSON text, read by its grammar."""
+    """One JSON text, read by its grammar. Of each value `spans` has where it begins and ends, by its path, and `names` the
+    same of the keys; `token` is where the text, number or word begins that is being read."""
 
     def __init__(self, data):
         if data.startswith(b"\xef\xbb\xbf"):
@@ -48,6 +52,7 @@ class Text:
         except UnicodeDecodeError:
             raise Fault("P1")
         self.at = 0
+        self.token, self.path, self.spans, self.names = None, (), {}, {}
 
     def peek(self):
         return self.text[self.at] if self.at < len(self.text) else ""
@@ -70,6 +75,19 @@ class Text:
         return tree
 
     def value(self, depth):
+        start = self.at
+        tree = self.any_value(depth)
+        self.spans[self.path] = start, self.at
+        return tree
+
+    def inside(self, place, depth):
+        """The value at a place of the one that is being read."""
+        self.path += (place,)
+        tree = self.value(depth)
+        self.path = self.path[:-1]
+        return tree
+
+    def any_value(self, depth):
         sign = self.peek()
         if sign in ("[", "{") and depth == 127:
             raise Fault("P1")
@@ -81,7 +99,9 @@ class Text:
             return self.string()
         for word, value in (("null", None), ("true", True), ("false", False)):
             if sign == word[0]:
+                self.token = self.at
                 self.want(word)
+                self.token = None
                 return value
         return self.number()
 
@@ -94,7 +114,7 @@ class Text:
             return items
         while True:
             self.space()
-            items.append(self.value(depth))
+            items.append(self.inside(len(items), depth))
             self.space()
             if self.peek() == "]":
                 self.want("]")
@@ -110,11 +130,13 @@ class Text:
             return members
         while True:
             self.space()
+            start = self.at
             key = self.string()
+            self.names[self.path + (key,)] = start, self.at
             self.space()
             self.want(":")
             self.space()
-            members[key] = self.value(depth)
+            members[key] = self.inside(key, depth)
             self.space()
             if self.peek() == "}":
                 self.want("}")
@@ -148,6 +170,7 @@ class Text:
         return chr(unit)
 
     def string(self):
+        self.token = self.at
         self.want('"')
         parts = []
         while True:
@@ -156,6 +179,7 @@ class Text:
                 raise Fault("P1")
             self.at += 1
             if sign == '"':
+                self.token = None
                 return "".join(parts)
             parts.append(self.escape() if sign == "\\" else sign)
 
@@ -167,7 +191,7 @@ class Text:
             raise Fault("P1")
 
     def number(self):
-        start = self.at
+        start = self.token = self.at
         if self.peek() == "-":
             self.at += 1
         if self.peek() == "0":
@@ -185,6 +209,7 @@ class Text:
         written = self.text[start : self.at]
         if abs(float(written)) == float("inf"):
             raise Fault("P1")
+        self.token = None
         return Number(written)
 
 
@@ -326,6 +351,186 @@ def receipts_of(data):
         for key in ranges
     }
     return rows["accepted"], rows["taken"], total
+
+
+# ----------------------------------------------------------- where it is refused
+
+# What a part has to be: a test of its shape and one of its range, the words for what doesn't pass, and what its elements are.
+Want = collections.namedtuple("Want", "shape shape_text range range_text inside")
+
+
+def wanted_number(least, most):
+    text = "is no whole number from %d to %d" % (least, most)
+    return Want(is_number, "is no number", lambda n: n.whole() is not None and least <= n.whole() <= most, text, None)
+
+
+def wanted_array(inside, least=0, most=LIMIT, text="%d to %d"):
+    return Want(
+        is_list, "is no array", lambda x: least <= len(x) <= most, "is no array of " + text % (least, most) + " elements", inside
+    )
+
+
+def wanted_row(parts, text):
+    """An array of just these parts."""
+    shape = lambda x: is_list(x) and len(x) == len(parts)
+    return Want(shape, "is no array of " + text, lambda x: True, "", lambda place: parts[place])
+
+
+WORD = wanted_number(0, 2**64 - 1)
+
+
+def wanted_body(version):
+    return WORD if version == 1 else wanted_array(lambda place: WORD, 1, 4)
+
+
+def wanted_call(version):
+    body = wanted_body(version)
+    kind = "a number" if version == 1 else "an array"
+    text = 'is neither %s nor "close"' % kind
+    return Want(lambda x: is_close(x) or body.shape(x), text, lambda x: is_close(x) or body.range(x), body.range_text, body.inside)
+
+
+def is_pass_name(value):
+    return type(value) is str and re.fullmatch("[sr][1-9][0-9]{0,9}", value, re.ASCII) is not None
+
+
+def wanted_of_plan(tree, version):
+    """The parts of a plan, in the order of its table."""
+    written = tree.get("groups")
+    groups = is_number(written) and written.whole() or 1
+    name = Want(is_pass_name, "is no pass name, as s1 or r1", lambda x: True, "", None)
+    entry = wanted_row([name, wanted_number(1, 100000)], "a pass name and a number")
+    calls = wanted_array(lambda place: wanted_call(version), 0, 65536)
+    receivers = wanted_array(lambda place: wanted_number(0, 65536), groups, 64 * groups)
+    if groups > 1:
+        receivers = receivers._replace(range_text="is no array of %d times 1 to 64 elements" % groups)
+    return {
+        "version": wanted_number(1, 2),
+        "groups": wanted_number(1, 8),
+        "capacity": wanted_number(1, 4096),
+        "bound": wanted_number(1, 1024),
+        "life": wanted_number(1, 2**48),
+        "senders": wanted_array(lambda place: calls, 1, 64),
+        "receivers": receivers._replace(range=lambda x: len(x) % groups == 0 and groups <= len(x) <= 64 * groups),
+        "schedule": wanted_array(lambda place: entry, 0, 65536),
+    }
+
+
+def wanted_of_receipts(version):
+    """The parts of receipts, in the order of their table."""
+    number, sender = wanted_number(1, 2**32 - 1), wanted_number(1, 64)
+    receiver = wanted_number(1, 64 if version == 1 else 512)
+    body = wanted_body(version)
+    total = WORD._replace(
+        shape=lambda x: x is None or is_number(x),
+        shape_text="is neither a number nor null",
+        range=lambda x: x is None or WORD.range(x),
+    )
+    accepted = wanted_row([sender, number, WORD, body], "3 numbers and a body")
+    taken = wanted_row([receiver, WORD, sender, number, body], "4 numbers and a body")
+    rows = {"accepted": wanted_array(lambda place: accepted), "taken": wanted_array(lambda place: taken)}
+    return {"version": wanted_number(1, 2), "total": total, **rows}
+
+
+def parts_of(path, value, want):
+    """A value and those inside of it if it has its shape, each with its path and what it has to be."""
+    yield path, value, want
+    if is_list(value) and want.inside and want.shape(value):
+        for place, element in enumerate(value):
+            yield from parts_of(path + (place,), element, want.inside(place))
+
+
+def quoted(text, kind):
+    """The text as it is told: if it is short and plain, else its kind."""
+    return text if len(text) <= 40 and re.fullmatch("[ -~]+", text) else kind
+
+
+def kind_of(value):
+    if is_list(value):
+        return "an array of %d elements" % len(value)
+    return "an object" if isinstance(value, dict) else "a number" if is_number(value) else "a text"
+
+
+def told_at(text, place, path, said):
+    """The line of a fault at a place of the text."""
+    front = text[:place]
+    spelled = "".join("[%d]" % step if type(step) is int else step for step in path)
+    where = "%d:%d" % (front.count("\n") + 1, place - front.rfind("\n"))
+    return "%s%s: %s" % (where, spelled and " " + spelled, said)
+
+
+def unread_place(data):
+    """The line of an input that is no JSON: of the token with which it doesn't go on, or of its end."""
+    try:
+        text = data.decode("utf-8", "strict")
+    except UnicodeDecodeError as wrong:
+        return told_at(data[: wrong.start].decode(), wrong.start, (), "a byte that is no UTF-8")
+    at = 0
+    if not data.startswith(b"\xef\xbb\xbf"):
+        reader = Text(data)
+        try:
+            reader.read()
+        except Fault:
+            at = reader.at if reader.token is None else reader.token
+    run = "[^][{},: \t\n\r\"]+"
+    at = next((found.start() for found in re.finditer(run, text) if found.start() < at < found.end()), at)
+    if at == len(text):
+        return told_at(text, at, (), "the text ends too early")
+    token = re.compile('"(?:\\\\.|[^"\\\\])*"?|[][{},:]|' + run, re.DOTALL).match(text, at)
+    return told_at(text, at, (), quoted(token.group(), "this") + " is no JSON here")
+
+
+def keys_place(tree, version, wants, receipts):
+    """The key of the root that isn't known, or the one that is missing; or None."""
+    without = "groups" if version == 1 else ""
+    for key in sorted(tree, key=str.encode):
+        if key not in wants or key == without:
+            return key, "is no key of " + ("receipts" if receipts else "a plan of version %d" % version)
+    for key in wants:
+        if key not in tree and key not in ("version", "total", without):
+            return None, '"%s" is missing' % key
+    return None
+
+
+def why_of(data):
+    """What is told of where an input is refused."""
+    if len(data) > LIMIT:
+        return "input is out of its range"
+    try:
+        reader = Text(data)
+        tree = reader.read()
+    except Fault:
+        return unread_place(data)
+    text = reader.text
+
+    def told(path, value, said):
+        start, end = reader.spans[path]
+        return told_at(text, start, path, quoted(text[start:end], kind_of(value)) + " " + said)
+
+    if not isinstance(tree, dict):
+        return told((), tree, "is no object")
+    receipts, version = "accepted" in tree or "taken" in tree, version_of(tree)
+    wants = wanted_of_receipts(version) if receipts else wanted_of_plan(tree, version)
+    keys = keys_place(tree, version, wants, receipts)
+    if keys is not None:
+        start, end = reader.spans[()] if keys[0] is None else reader.names[keys[0],]
+        said = keys[1] if keys[0] is None else quoted(text[start:end], "a text") + " " + keys[1]
+        return told_at(text, start, (), said)
+    parts = [part for key in wants if key in tree for part in parts_of((key,), tree[key], wants[key])]
+    for path, value, want in parts:
+        if not want.shape(value):
+            return told(path, value, want.shape_text)
+    for path, value, want in parts:
+        if not want.range(value):
+            return told(path, value, want.range_text)
+    if receipts:
+        return "no fault: these receipts aren't refused"
+    counts = {"s": len(tree["senders"]), "r": len(tree["receivers"])}
+    for place, (name, _) in enumerate(tree["schedule"]):
+        if int(name[1:]) > counts[name[0]]:
+            there = ["%s1" % side if count == 1 else "%s1 to %s%d" % (side, side, count) for side, count in counts.items()]
+            return told(("schedule", place, 0), name, "names no pass (%s)" % ", ".join(there))
+    return "no fault: this plan isn't refused"
 
 
 # ------------------------------------------------------------- the machine
@@ -2056,8 +2261,8 @@ def check(name, task, outcome, wanted):
 
 
 def derived():
-    """The files of the corpus by their names, where all rows are as they have to be."""
-    files, names = {}, {}
+    """The files of the corpus by their names, where all rows are as they have to be; and the places of those refused."""
+    files, names, places = {}, {}, []
     for name, task, data, wanted in rows():
         if name + ".in" in files:
             sys.exit("two rows are named %s" % name)
@@ -2069,12 +2274,18 @@ def derived():
         status, told, lines = outcome
         files[name + ".in"] = data
         files[name + ".expect"] = "".join(line + "\n" for line in ["%s %d" % (task, status), told, *lines]).encode("ascii")
-    return files
+        if status == 2:
+            places.append("%s %s\n" % (name, why_of(data)))
+    return files, sorted(places)
 
 
 def derive_one(task):
     """What is told of the input on standard input. Ends with the status."""
-    status, told, lines = outcome_of(task, sys.stdin.buffer.read())
+    data = sys.stdin.buffer.read()
+    if task == "why":
+        print(why_of(data))
+        return
+    status, told, lines = outcome_of(task, data)
     sys.stdout.write("".join(line + "\n" for line in lines))
     sys.stderr.write(told and told + "\n")
     sys.exit(status)
@@ -2082,18 +2293,20 @@ def derive_one(task):
 
 def write_corpus():
     place = os.path.join(TOP, "tests", "corpus")
-    files = derived()
+    files, places = derived()
     os.makedirs(place, exist_ok=True)
     for old in os.listdir(place):
         os.remove(os.path.join(place, old))
     for name, data in files.items():
         with open(os.path.join(place, name), "wb") as out:
             out.write(data)
-    print("%d rows" % (len(files) // 2))
+    with open(os.path.join(TOP, "tests", "places"), "w", encoding="ascii") as out:
+        out.writelines(places)
+    print("%d rows, %d places" % (len(files) // 2, len(places)))
 
 
 if __name__ == "__main__":
-    if sys.argv[1:] in (["play"], ["audit"], ["trace"]):
+    if sys.argv[1:] in (["play"], ["audit"], ["trace"], ["why"]):
         derive_one(sys.argv[1])
     elif sys.argv[1:]:
         sys.exit(__doc__)
