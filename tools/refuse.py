@@ -99,6 +99,8 @@ def inputs():
     for path in [*sorted((TOP / "examples").glob("*.json")), *corpus]:
         yield (["audit"] if path.name.startswith(("receipts", "gap_")) else ["play"]), path
     yield ["judge"], TOP / "examples/calls.jsonl"
+    for name in ("first_of_two_strangers", "text_in_a_row", "unknown_key", "no_colon"):
+        yield ["why"], TOP / f"tests/corpus/{name}.in"
     yield ["--help"], os.devnull
     yield ["help", "play"], os.devnull
     yield ["plaz"], os.devnull

@@ -1,5 +1,6 @@
 #!/usr/bin/env python3
-"""Gives `ccq`, as the gate left it by each compiler, every input of tests/corpus and every line of tests/command_lines.
+"""Gives `ccq`, as the gate left it by each compiler, every input of tests/corpus, to its task and to `ccq why`, and every line
+of tests/command_lines.
 
     tools/rows.py           the programs in crates/ccq/out
     tools/rows.py --manual  writes docs/ccq.1 of the texts of help
@@ -7,7 +8,8 @@
                             a case there costs half a second
 
 NAME.expect in tests/corpus has the task and the status in its first line, what must stand on standard error in its second,
-and then the standard output. The head of tests/command_lines says how its rows are written.
+and then the standard output. tests/places has the names of the refused rows, each with what `ccq why` must tell of its input. The
+head of tests/command_lines says how its rows are written.
 
 Behind the rows: docs/ccq.1 beside the texts of help; every front of two plans; inputs of 16 MiB, at the limit and one byte past it; lists of a plan at their
 limit and one item past it; a large input in little memory; a word that is no text; outputs without room; and the width of
@@ -28,7 +30,7 @@ LIMIT = 16777216
 UNREAD = b"untouched"
 CLEAN = b"E 0 s1 send 7 -> accepted 0\naudit clean\n"
 MANUAL = TOP / "docs/ccq.1"
-HELPS = ["ccq", "ccq play", "ccq audit", "ccq judge", "ccq drive"]
+HELPS = ["ccq", "ccq play", "ccq audit", "ccq judge", "ccq why", "ccq drive"]
 
 
 @dataclasses.dataclass(frozen=True)
@@ -51,6 +53,18 @@ def corpus():
         first, err, out = path.with_suffix(".expect").read_bytes().split(b"\n", 2)
         task, status = first.decode().split()
         yield path.stem, Row([task], int(status), out, err + b"\n" if err else b"", path.read_bytes())
+
+
+def places():
+    """Rows of `ccq why` for the inputs of tests/corpus, by their names: for each refused one its line of tests/places."""
+    told = dict(it.split(" ", 1) for it in (TOP / "tests/places").read_text().splitlines())
+    read_as = {"play": "this plan isn't refused", "audit": "these receipts aren't refused"}
+    rows = dict(corpus())
+    if told.keys() != {name for name, row in rows.items() if row.status == 2}:
+        sys.exit("rows: tests/places isn't of the refused rows of tests/corpus: run tests/derive.py")
+    for name, row in rows.items():
+        line = told.get(name, f"no fault: {read_as[row.words[0]]}")
+        yield f"why_{name}", Row(["why"], int(not line.startswith("no fault: ")), f"{line}\n".encode(), input=row.input)
 
 
 def command_lines(text):
@@ -105,6 +119,9 @@ def others():
     for task in ("play", "audit"):
         yield refused(task, b" " * LIMIT, "P1")
         yield refused(task, b" " * (LIMIT + 1), "P3 input")
+    yield Row(["why"], 1, b"1:16777217: the text ends too early\n", input=b" " * LIMIT)
+    yield Row(["why"], 1, b"input is out of its range\n", input=b" " * (LIMIT + 1))
+    yield Row(["why"], 1, b"1:1: an array of 8388608 elements is no object\n", input=b"[" + b"0," * (LIMIT // 2 - 1) + b"0]")
     front = b'{"capacity":2,"bound":2,"life":10,"receivers":[0],"schedule":['
     for length in (65536, 65537):
         sends = front + b'["s1",28]],"senders":[[7' + b",7" * (length - 1) + b"]]}"
@@ -125,7 +142,7 @@ def is_told(program, words, status, err, **outputs):
 def without_room(program):
     """A large input in little memory, a word that is no text, and outputs that are full."""
     objects = b"[" + (b'{"a":0},' * (LIMIT // 8))[: LIMIT - 8] + b"0]"
-    for task in ("play", "audit"):
+    for task in ("play", "audit", "why"):
         yield does(program, Row([task], 3, err=b"ccq: out of memory\n", input=objects), memory=200000 * 1024)
     no_text = b"error: invalid UTF-8 was detected in one or more arguments\n\nUsage: ccq <COMMAND>\n\nFor more information, try '--help'.\n"
     yield is_told(program, [b"\xff"], 64, no_text, stdout=subprocess.DEVNULL, stderr=subprocess.PIPE)
@@ -175,6 +192,7 @@ def finds_what_is_wrong(program):
     item = dict(corpus())["words_for_two_groups"]
     plan = Row(["play"], 2, err=b"ccq: plan refused: P1\n", input=b"{")
     line = Row(["play", "x", "y"], 64, err=b"error:", is_read=False, more=True)
+    place = dict(places())["why_stranger_behind_a_sender"]
     wrong = [
         dataclasses.replace(item, status=1),
         dataclasses.replace(item, err=b"ccq: reading failed\n"),
@@ -182,11 +200,13 @@ def finds_what_is_wrong(program):
         dataclasses.replace(item, out=item.out.replace(b"D 2 0", b"D 1 1")),
         dataclasses.replace(item, out=item.out.replace(b"1 7 8\n", b"1 7\n")),
         dataclasses.replace(plan, out=plan.err, err=b""),
+        dataclasses.replace(place, out=place.out.replace(b"[1]", b"[0]")),
+        dataclasses.replace(place, out=place.out.replace(b"1:", b"2:")),
         dataclasses.replace(line, words=["play"]),
         dataclasses.replace(line, input=b"x", is_read=True),
         dataclasses.replace(line, err=b"error: no"),
     ]
-    if not all(does(program, it) for it in (item, plan, line)):
+    if not all(does(program, it) for it in (item, plan, line, place)):
         return False
     with open(os.devnull, "w") as quiet:
         shown, sys.stdout = sys.stdout, quiet
@@ -200,15 +220,16 @@ def finds_what_is_wrong(program):
 def on_programs():
     built = programs()
     for program in built:
-        rows = [it for _, it in corpus()], [it for _, it in command_lines((TOP / "tests/command_lines").read_text())], list(others())
+        lines = command_lines((TOP / "tests/command_lines").read_text())
+        rows = [it for _, it in corpus()], [it for _, it in places()], [it for _, it in lines], list(others())
         well = finds_what_is_wrong(program)
         for row in (it for part in rows for it in part):
             well &= does(program, row)
         well &= all(list(without_room(program))) and is_narrow(program)
         if not well:
             return False
-        corpus_rows, lines, large = map(len, rows)
-        print(f"{program}: {corpus_rows} inputs of tests/corpus, {lines} command lines, and {large + 8} fronts of plans, large inputs and full outputs")
+        corpus_rows, told, lines, large = map(len, rows)
+        print(f"{program}: {corpus_rows} inputs of tests/corpus and {told} answers of why, {lines} command lines, and {large + 9} fronts of plans, large inputs and full outputs")
     return bool(built)
 
 
@@ -219,7 +240,7 @@ def write_manual():
 
 def on_tried():
     """The rows as the cases of one `rt try`, whose lines tell each one's status, and whether its output is the expected one."""
-    rows = [*corpus(), *command_lines((TOP / "tests/command_lines").read_text())]
+    rows = [*corpus(), *places(), *command_lines((TOP / "tests/command_lines").read_text())]
     # `rt try` runs the program in a folder of its own
     rows = dict([it for it in rows if not any((TOP / word).exists() for word in it[1].words)][::24])
     with tempfile.TemporaryDirectory() as folder:

@@ -18,6 +18,9 @@ module _ (left : Option (List ℕ)) (reads : ℕ) (old new : Option (List ℕ)) 
   declined (Some Task.Play) faults kind (inl memory) d = let out = subst (Declines old new fails fails_after errors_old errors_new before after status) memory d in (Err PlayFault.NoMemory, out.1, omega arith, omega (arith, out.2), out.0, out.3)
   declined (Some Task.Audit) faults kind (inl memory) d = let out = subst (Declines old new fails fails_after errors_old errors_new before after status) memory d in (Err PlayFault.NoMemory, out.1, omega arith, omega (arith, out.2), out.0, out.3)
   declined (Some Task.Judge) faults kind (inl memory) d = tt
+  declined (Some Task.Why) faults kind (inl memory) d =
+      let out = subst (Declines old new fails fails_after errors_old errors_new before after status) memory d in
+      record { none = λ zero. absurd (omega (arith, out.0, zero)); some = λ one. absurd (omega (arith, out.0, one)) }
   declined (Some t) faults kind (inr h) d = cc
   declined None faults kind (inl memory) d = (kept left, refl, (kind, inl memory, d))
   declined None faults kind (inr h) d = (kept left, refl, (kind, inr h.1, d))

@@ -7,6 +7,7 @@ use Rattle.cc_device.specs.Written.{Writes}
 use Rattle.cc_command.specs.Names.{Verdict, PlayFault, Task}
 use Rattle.cc_play.specs.Outcome.{Told, line_of, no_memory_line, status_of}
 use Rattle.cc_play.specs.Play.{Plays, Audits, failed_reads, failed_writes}
+use Rattle.cc_why.specs.Why.{Explains}
 
 -- the line if the file of this name can't be read
 abbrev pub unread_line : List ℕ → List ℕ
@@ -34,7 +35,8 @@ module _ (old new : Option (List ℕ)) (fails fails_after : ℕ) (errors_old err
   Declines _ = Complains ⊎ RunsOut
 
 -- The bytes that a whole line leaves, on its input too, with the number of failed reads. If it asks for a play or an audit,
--- that is done as far as it goes and its outcome reported; nothing is said of what the judging of a log leaves. If it asks for
+-- that is done as far as it goes and its outcome reported; nothing is said of what the judging of a log leaves. If it asks for the
+-- place of an input's fault, the status says whether it has one. If it asks for
 -- none, nothing is read, and it is declined for a fault that the parser of command lines finds in it, or for lack of memory.
 module _ (left_old left_new : Option (List ℕ)) (reads reads_after : ℕ) (old new : Option (List ℕ)) (fails fails_after : ℕ) (errors_old errors_new : Option (List ℕ)) (before after status : ℕ) where
   abbrev pub Does : (Option (List ℕ) → Option (List ℕ) → Result Verdict PlayFault → Option (List ℕ) → Option (List ℕ) → Type 0) → Type 0
@@ -45,5 +47,6 @@ module _ (left_old left_new : Option (List ℕ)) (reads reads_after : ℕ) (old 
   Runs (Some Task.Play) faults = Does Plays
   Runs (Some Task.Audit) faults = Does Audits
   Runs (Some Task.Judge) faults = ⊤
+  Runs (Some Task.Why) faults = Explains left_old left_new status
   Runs None faults = Keeps left_old left_new × (reads_after ≡ reads)
       × ((found : ErrorKind) × IsAmong found (ErrorKind.OutOfMemory ∷ faults) × Declines old new fails fails_after errors_old errors_new before after status found)

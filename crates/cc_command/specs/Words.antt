@@ -9,7 +9,7 @@ spelled (word ∷ rest) = if bytes_eq word (codes "help") then rest ++ codes "--
 
 -- a task that reads an input
 abbrev pub reads_input : List ℕ → Bool
-reads_input word = bytes_eq word (codes "play") || bytes_eq word (codes "audit") || bytes_eq word (codes "judge")
+reads_input word = bytes_eq word (codes "play") || bytes_eq word (codes "audit") || bytes_eq word (codes "judge") || bytes_eq word (codes "why")
 
 -- it begins with -, and goes on
 abbrev pub is_option : List ℕ → Bool

@@ -10,6 +10,7 @@ use cc_device::{Pen, Sink, Source, write_bytes};
 use cc_log::judge_input;
 use cc_play::play::play;
 use cc_play::{PlayFault, audit_bytes, out_of_memory, tell, told};
+use cc_why::why_input;
 use clap::Error;
 use clap::error::ErrorKind;
 use std::alloc::Global;
@@ -48,6 +49,7 @@ pub fn run<R: Source, W: Sink, E: Sink>(
             tell(errors, outcome)
         }
         Ok(Task::Judge) => judge_input(alloc, source, sink, errors),
+        Ok(Task::Why) => why_input(alloc, source, sink, errors),
         Err(error) => decline(alloc, &error, sink, errors),
     }
 }

@@ -26,7 +26,7 @@ pub fn spelled(alloc: Global, words: Vec<String>) -> Result<Vec<String>, AllocEr
 fn reads_input(word: &str) -> bool
     ensures { result ≡ reads_input word.now }
 {
-    matches!(word, "play" | "audit" | "judge")
+    matches!(word, "play" | "audit" | "judge" | "why")
 }
 
 /// Whether the word begins with `-` and goes on.
