@@ -295,10 +295,12 @@ module _ (plan : PlanValue) (who : Pass) (row : ℕ) (named : index_of (setting_
   -- this number of steps, and the answer taken if there is one then
   pub gone_turned : (m m1 m2 : View) (begun : List ℕ) (n : ℕ) (a : Option Answer) → told_at ((state_in m).stand row).place ≡ None → HasGoneOn m (index_of m.setting who) n m1
       → a ≡ answer_of m1 who → HasTaken m1 (index_of m1.setting who) a m2 → HasDone m m2 begun n
-  gone_turned m m1 m2 begun n a untold gone told took = record { at = λ run at.
-      let steps = at_steps m m1 begun n run (subst (λ (o : Option ℕ). HasGoneOn m o n m1) (index m begun run at) gone) at in
-      let none : told_at (place_in plan run row) ≡ None = sym (ap (λ (s : State). told_at (s.stand row).place) at.state) ∙ untold in
-      rw (turns_are n run none steps.0) (answered m1 m2 begun (stepping n run) a steps.1 told took) }
+  gone_turned m m1 m2 begun n a untold gone told took = record {
+    at = λ run at.
+        let steps = at_steps m m1 begun n run (subst (λ (o : Option ℕ). HasGoneOn m o n m1) (index m begun run at) gone) at in
+        let none : told_at (place_in plan run row) ≡ None = sym (ap (λ (s : State). told_at (s.stand row).place) at.state) ∙ untold in
+        rw (turns_are n run none steps.0) (answered m1 m2 begun (stepping n run) a steps.1 told took);
+  }
 
   -- ---- some of an entry's turns
 
@@ -314,25 +316,31 @@ module _ (plan : PlanValue) (who : Pass) (row : ℕ) (named : index_of (setting_
 
   -- a pass that waits reads on
   pub waits_on : (m m1 : View) (begun : List ℕ) (n left : ℕ) → n ≤ left → HasDone m m1 begun n → StandsStill m1 (index_of m1.setting who) → IsOnItsWay plan who row m m1 begun begun left 0
-  waits_on m m1 begun n left less done waits = record { on = λ run at.
-      let now = done.at run at in
-      let still : StandsStill m1 (Some row) = subst (λ (o : Option ℕ). StandsStill m1 o) (index m1 begun (turns plan who row n run) now) waits in
-      let rest : n + (left - n) ≡ left = omega arith in
-      (turns plan who row left run, subst (λ (k : ℕ). IsAt plan m1 begun (turns plan who row k run)) rest (still_turns m1 begun run still.0 still.1 n (left - n) now), refl) }
+  waits_on m m1 begun n left less done waits = record {
+    on = λ run at.
+        let now = done.at run at in
+        let still : StandsStill m1 (Some row) = subst (λ (o : Option ℕ). StandsStill m1 o) (index m1 begun (turns plan who row n run) now) waits in
+        let rest : n + (left - n) ≡ left = omega arith in
+        (turns plan who row left run, subst (λ (k : ℕ). IsAt plan m1 begun (turns plan who row k run)) rest (still_turns m1 begun run still.0 still.1 n (left - n) now), refl);
+  }
 
   -- one turn more
   pub turned_on : (m m1 m2 : View) (begun begun2 : List ℕ) (n left rest : ℕ) {event : Event} → n + 1 + rest ≡ left → HasDone m m1 begun n → HasTurned plan who row m1 m2 begun begun2 event → IsOnItsWay plan who row m m2 begun begun2 left rest
-  turned_on m m1 m2 begun begun2 n left rest all done last = record { on = λ run at.
-      let later : suc n + rest ≡ left = omega (arith, all) in
-      (turns plan who row (suc n) run, last.at (turns plan who row n run) (done.at run at), turns_more (suc n) rest run ∙ ap (λ (k : ℕ). turns plan who row k run) later) }
+  turned_on m m1 m2 begun begun2 n left rest all done last = record {
+    on = λ run at.
+        let later : suc n + rest ≡ left = omega (arith, all) in
+        (turns plan who row (suc n) run, last.at (turns plan who row n run) (done.at run at), turns_more (suc n) rest run ∙ ap (λ (k : ℕ). turns plan who row k run) later);
+  }
 
   -- one turn more, and none to come
   pub ended_on : (m m1 m2 : View) (begun begun2 : List ℕ) (n left : ℕ) {event : Event} → n < left → HasDone m m1 begun n → HasTurned plan who row m1 m2 begun begun2 event → event ≡ Event.Idle
       → IsOnItsWay plan who row m m2 begun begun2 left 0
-  ended_on m m1 m2 begun begun2 n left less done last none = record { on = λ run at.
-      let over : HasEnded plan who row (turns plan who row (suc n) run) = last.ended (turns plan who row n run) (done.at run at) none in
-      let rest : suc n + (left - suc n) ≡ left = omega arith in
-      (turns plan who row (suc n) run, last.at (turns plan who row n run) (done.at run at), sym (ap (λ (k : ℕ). turns plan who row k run) (sym rest) ∙ stays_on (suc n) (left - suc n) run over)) }
+  ended_on m m1 m2 begun begun2 n left less done last none = record {
+    on = λ run at.
+        let over : HasEnded plan who row (turns plan who row (suc n) run) = last.ended (turns plan who row n run) (done.at run at) none in
+        let rest : suc n + (left - suc n) ≡ left = omega arith in
+        (turns plan who row (suc n) run, last.at (turns plan who row n run) (done.at run at), sym (ap (λ (k : ℕ). turns plan who row k run) (sym rest) ∙ stays_on (suc n) (left - suc n) run over));
+  }
 
   -- ---- an entry
 
@@ -342,10 +350,12 @@ module _ (plan : PlanValue) (who : Pass) (row : ℕ) (named : index_of (setting_
 
   -- what is left after one part is left after both
   pub on_and_on : (m m1 m2 : View) (begun begun1 begun2 : List ℕ) (events left rest : ℕ) → IsOnItsWay plan who row m m1 begun begun1 events left → IsOnItsWay plan who row m1 m2 begun1 begun2 left rest → IsOnItsWay plan who row m m2 begun begun2 events rest
-  on_and_on m m1 m2 begun begun1 begun2 events left rest first second = record { on = λ run at.
-      let here = first.on run at in
-      let there = second.on here.0 here.1 in
-      (there.0, there.1, there.2 ∙ here.2) }
+  on_and_on m m1 m2 begun begun1 begun2 events left rest first second = record {
+    on = λ run at.
+        let here = first.on run at in
+        let there = second.on here.0 here.1 in
+        (there.0, there.1, there.2 ∙ here.2);
+  }
 
   pub none_left : (m m1 : View) (begun begun1 : List ℕ) (events left : ℕ) → left ≡ 0 → IsOnItsWay plan who row m m1 begun begun1 events left
       → (run : List Move) → IsAt plan m begun run → IsAt plan m1 begun1 (entry plan who (index_of (setting_of plan) who) events run)
