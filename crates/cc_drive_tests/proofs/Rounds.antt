@@ -1,5 +1,5 @@
 -- The passes of a round and their receipts: as a thread works, as all come back, and as they meet.
-use Rattle.std.proofs.Common.{◌≡◌, ◌≢◌, ℕ, zero, suc, ◌+◌, ◌*◌, ◌<◌, true, List, [], ◌∷◌, ◌++◌, map, length, take, get_or, Some, refl, sym, ap, ◌∙◌, subst, arith, append-nil, append_assoc, length-append}
+use Rattle.std.proofs.Common.{◌≡◌, ◌≢◌, Bool, ℕ, zero, suc, ◌+◌, ◌*◌, ◌<◌, true, List, [], ◌∷◌, ◌++◌, map, length, take, get_or, Some, refl, sym, ap, ◌∙◌, subst, arith, append-nil, append_assoc, length-append}
 use Rattle.std.specs.List.{All}
 use Rattle.std.proofs.lemmas.List.{map-append, take_more}
 use Rattle.cc_runs.specs.ChainLaws.{IsLastAnswer}
@@ -26,11 +26,15 @@ use Rattle.cc_drive.proofs.Pairs.{all_split, pairs_last, pairs_of}
 use Rattle.cc_drive.proofs.Rows.{row_push}
 use Rattle.cc_drive.proofs.Told.{calls_stay}
 use Rattle.cc_drive.proofs.Totals.{total_is}
-use Rattle.cc_drive.proofs.Workers.{Working, working_none, working_more, working_still, sent_one}
+use Rattle.cc_drive.proofs.Workers.{Working, working_none, working_more, sent_one}
 use Rattle.cc_drive_tests.specs.Rounds.{IsFresh, receipts_each, HasKept, HaveKept, HasClosed, HasPlayed, AreSettled}
 use Rattle.cc_drive_tests.proofs.Numbers.{number_is}
 
 -- ---- a thread at work
+
+-- a call that leaves no receipt
+working_still : {X : Type 0} (receipts : Told → List X) (z : Topic) (row : ℕ) (who : Pass) (w x : Walk) (whole : Bool) (keeps : List X) (c : Call) (told : Answer) → Working receipts z row who w whole keeps → Completed w c told x → receipts (entry_of w c, Some told) ≡ [] → Working receipts z row who x whole keeps
+working_still receipts z row who w x whole keeps c told b k none = working_more receipts z row who w x whole whole keeps keeps c told b k (λ is. is) (λ is. sym (append-nil keeps) ∙ ap (λ l. keeps ++ l) (sym none))
 
 -- tries that leave no receipt
 tried : {X : Type 0} (receipts : Told → List X) (z : Topic) (row : ℕ) (who : Pass) (call : Call) (told : Answer) → ((e : Entry) → receipts (e, Some told) ≡ [])
@@ -45,7 +49,7 @@ sent_more z row who n count v x keeps new body place is k s begun end =
     let w : Walk = last_of v s.tried in
     let before = tried sent z row who (Call.Send body) (Answer.Send SendAnswer.Full) (λ e. refl) v s.tried keeps k s.full in
     let number : w.stand.begun + 1 ≡ count = number_is n count w x body (Answer.Send (SendAnswer.Accepted place)) (before.named ∙ is) s.sent begun in
-    let receipt = sent_one n w.stand.begun w body place (before.named ∙ is) refl ∙ ap (λ (m : ℕ). record { sender = n; number = m; place = place; body = body } ∷ []) number in
+    let receipt = sent_one n w.stand.begun w body place (SendAnswer.Accepted place) (before.named ∙ is) refl refl ∙ ap (λ (m : ℕ). record { sender = n; number = m; place = place; body = body } ∷ []) number in
     working_more sent z row who w x true true keeps new (Call.Send body) (Answer.Send (SendAnswer.Accepted place)) before s.sent (λ t. t) (λ t. end ∙ ap (λ l. keeps ++ l) (sym receipt))
 
 -- and of a take
