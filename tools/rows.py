@@ -121,7 +121,7 @@ def others():
         yield refused(task, b" " * (LIMIT + 1), "P3 input")
     yield Row(["why"], 1, b"1:16777217: the text ends too early\n", input=b" " * LIMIT)
     yield Row(["why"], 1, b"input is out of its range\n", input=b" " * (LIMIT + 1))
-    yield Row(["why"], 1, b"1:1: an array of 8388608 elements is no object\n", input=b"[" + b"0," * (LIMIT // 2 - 1) + b"0]")
+    yield Row(["why"], 1, b"1:1: an array of 8388607 elements is no object\n", input=b"[" + b"0," * (LIMIT // 2 - 2) + b"0]")
     front = b'{"capacity":2,"bound":2,"life":10,"receivers":[0],"schedule":['
     for length in (65536, 65537):
         sends = front + b'["s1",28]],"senders":[[7' + b",7" * (length - 1) + b"]]}"
