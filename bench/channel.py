@@ -12,6 +12,7 @@ of each round's quotient to the crate of the commit, or to crossbeam where that 
 of docs/BENCH.md is written: what of this bench/peers/run.py doesn't measure, with nothing beside it.
 """
 import argparse
+import contextlib
 import os
 import random
 import re
@@ -22,6 +23,7 @@ import sys
 import time
 
 sys.dont_write_bytecode = True
+from busy import busy_processors
 from document import spread, write
 
 HERE = os.path.dirname(os.path.abspath(__file__))
@@ -113,11 +115,6 @@ def run(program, queue, burst):
     return float(subprocess.run(words, check=True, capture_output=True, text=True).stdout)
 
 
-def others(busy):
-    """Processes that are busy, one for each processor."""
-    return [subprocess.Popen([sys.executable, "-c", "while True: pass"]) for _ in range(os.cpu_count() if busy else 0)]
-
-
 def told(values):
     low, middle, high = statistics.quantiles(values, n=4, method="inclusive") if len(values) > 1 else values * 3
     return f"{middle:.0f} ({low:.0f} to {high:.0f})"
@@ -149,15 +146,12 @@ def main():
     start, rounds = time.time(), 0
     while time.time() - start < words.seconds or rounds < 2:
         busy = rounds % 2 == 1
-        beside = others(busy)
         misses = lambda name, mode: name == "crossbeam" and mode == "tasks" or name == "old" and mode in NEW
         cells = [(burst, name) for burst in bursts for name in programs if not misses(name, burst[1])]
         random.shuffle(cells)
-        for burst, name in cells:
-            took.setdefault((burst[0], busy, name), []).append(run(*programs[name], burst))
-        for process in beside:
-            process.kill()
-            process.wait()
+        with busy_processors() if busy else contextlib.nullcontext():
+            for burst, name in cells:
+                took.setdefault((burst[0], busy, name), []).append(run(*programs[name], burst))
         rounds += 1
     print(f"{rounds} rounds in {time.time() - start:.0f} s, {os.cpu_count()} processors, load {os.getloadavg()[0]:.1f}: nanoseconds\n")
     for busy in [False, True]:

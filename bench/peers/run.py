@@ -30,6 +30,7 @@ HERE = os.path.dirname(os.path.abspath(__file__))
 TOP = os.path.dirname(os.path.dirname(HERE))
 sys.path.insert(0, os.path.dirname(HERE))
 sys.dont_write_bytecode = True
+from busy import busy_processors
 from document import spread, write
 from picture import draw
 
@@ -281,19 +282,17 @@ def text_of(machine, length, versions, all_tables, numbers):
 def beside_busy(program, seconds):
     """The rows of the table `busy`: an item's time by the clock and, in square brackets, of all processors together."""
     queues, shapes = [*OURS, "Mutex+Condvar"], [(1, 1), (4, 4), (8, 8), (32, 32)]
-    others = [subprocess.Popen([sys.executable, "-c", "while True: pass"]) for _ in range(os.cpu_count())]
     cells, start, rounds = {(at, queue): [] for at in shapes for queue in queues}, time.time(), 0
-    while time.time() - start < seconds:
-        for (senders, receivers), queue in random.sample(list(cells), len(cells)):
-            command = [program, "pass", queue, *map(str, shape(senders, receivers)), "40"]
-            told = subprocess.run(command, capture_output=True, text=True, check=True, timeout=60).stdout.split()
-            cells[(senders, receivers), queue].append([float(word) for word in told])
-        rounds += 1
-    for process in others:
-        process.kill()
-    print(f"peers: {rounds} rounds beside {len(others)} busy processes")
-    told = lambda bursts: f"{spread([clock for clock, _ in bursts])} [{spread([spent for _, spent in bursts])}]"
-    rows = [[f"{at[0]}/{at[1]}", *(told(cells[at, queue]) for queue in queues)] for at in shapes]
+    with busy_processors():
+        while time.time() - start < seconds:
+            for at, queue in random.sample(list(cells), len(cells)):
+                command = [program, "pass", queue, *map(str, shape(*at)), "40"]
+                done = subprocess.run(command, capture_output=True, text=True, check=True, timeout=60)
+                cells[at, queue].append([float(word) for word in done.stdout.split()])
+            rounds += 1
+    print(f"peers: {rounds} rounds with a busy process on each processor")
+    shown = lambda bursts: f"{spread([clock for clock, _ in bursts])} [{spread([spent for _, spent in bursts])}]"
+    rows = [[f"{at[0]}/{at[1]}", *(shown(cells[at, queue]) for queue in queues)] for at in shapes]
     return [["senders/receivers", *queues], *rows]
 
 
