@@ -6,8 +6,8 @@
 
 The plans are those of examples/ and of tests/corpus, refused ones too. The second program is tests/derive.py, which knows
 the algorithm from the documents alone; the status, standard error and each line have to be the same. Before that the script
-shows that it finds each value of a line that is wrong, a line too few and one too many. Lines with other words are refused
-behind it. Exit status 0 if all is so.
+shows that it finds each value of a line that is wrong, a line too few and one too many. At the end it looks that other words
+than --trace are refused. Exit status 0 if all is so.
 """
 import json
 import pathlib

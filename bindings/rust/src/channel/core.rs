@@ -28,7 +28,7 @@ pub struct Side {
     /// The line in which its calls wait: for room, or for items.
     pub line: Event,
     pub seats: Pool,
-    /// Whether it has lost its last handle. What comes of that is done while the list of groups is locked.
+    /// Whether it has lost its last handle. The list of groups is locked until the channel is closed, or goes on without it.
     lost: AtomicBool,
 }
 

@@ -108,9 +108,10 @@ pub fn let_be(panics: impl IntoIterator<Item = Panic>) {
 /// Those that stand in line.
 #[derive(Default)]
 struct Line {
-    /// By the numbers of their tickets, in order. Those that have left are none, and go once half of all are.
+    /// The wakers by the numbers of their tickets, in order. The entry of a waiter that has left has none; such entries
+    /// go once they are half of all.
     wakers: VecDeque<(u64, Option<Waker>)>,
-    /// How many there are.
+    /// The number of those in line.
     length: usize,
     /// The number of the last ticket: each has one of its own.
     last: u64,
@@ -155,7 +156,8 @@ pub struct Ticket {
     rings: u64,
 }
 
-/// It has lines of the cache for itself: those that wait write it, and each call of its side reads what else is near.
+/// A line in which callers wait. It has lines of the cache for itself, since waiters write it, and each call of its side
+/// reads what is near.
 #[derive(Default)]
 #[repr(align(64))]
 pub struct Event {
