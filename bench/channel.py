@@ -1,13 +1,15 @@
 #!/usr/bin/env python3
 """Times the channel of bindings/rust beside the same crate at another commit, and beside crossbeam's, in one run.
 
-    bench/channel.py COMMIT [--seconds N] [--only MODE] [--write]
+    bench/channel.py COMMIT [--archives LIBRARY HEAP] [--seconds N] [--only MODE] [--alone] [--write]
 
-One command, in some N seconds (330 if no number is given) after the build. The crate of the commit is taken by
-git archive into bench/channel/out, and both are linked with the archives in bindings/lib. crossbeam's channel is Debian's librust-crossbeam-channel-dev; the run goes on without it.
+One command, in some N seconds (330 if no number is given) after the build. The crate of the commit is taken by git
+archive into bench/channel/out. Its own library and functions for memory are named by --archives; without that it is
+linked with the archives in bindings/lib, as this crate is. crossbeam's channel is Debian's
+librust-crossbeam-channel-dev; the run goes on without it.
 
 A round runs each burst once, in a random order, each in a process of its own: half of the rounds with nothing beside it,
-and half with a process that is busy on each processor. Medians are printed, with quartiles in brackets, and the median
+and half with a process that is busy on each processor (none with --alone). Medians are printed, with quartiles in brackets, and the median
 of each round's quotient to the crate of the commit, or to crossbeam where that is compared. With --write the table `channel`
 of docs/BENCH.md is written: what of this bench/peers/run.py doesn't measure, with nothing beside it.
 """
@@ -58,8 +60,8 @@ BURSTS = [
 NEW = {"select", "meet"}  # the modes that the crate of an earlier commit may not have
 
 
-def build(name, crate, peers, selects):
-    """The program over this crate, with the modes NEW if it has selects."""
+def build(name, crate, archives, peers, selects):
+    """The program over this crate and these archives, with the modes NEW if it has selects."""
     room = os.path.join(OUT, name)
     os.makedirs(os.path.join(room, ".cargo"), exist_ok=True)
     wanted = 'crossbeam-channel = { version = "*", optional = true }\n' if peers else ""
@@ -72,7 +74,7 @@ def build(name, crate, peers, selects):
         file.write(f'[source.crates-io]\nreplace-with = "debian"\n\n[source.debian]\ndirectory = "{REGISTRY}"\n' if peers else "")
     features = ["select"] * selects + ["crossbeam-channel"] * peers
     words = ["cargo", "build", "-q", "--release", "--offline", "--features", ",".join(features)]
-    environment = {**ARCHIVES, **os.environ, "CARGO_TARGET_DIR": os.path.join(room, "target")}
+    environment = {**archives, **os.environ, "CARGO_TARGET_DIR": os.path.join(room, "target")}
     subprocess.run(words, cwd=room, check=True, env=environment)
     return os.path.join(room, "target", "release", "channel")
 
@@ -90,14 +92,16 @@ def change(path, pattern, text):
         file.write(changed)
 
 
-def crate_at(commit):
-    """The crate of this commit, which takes the library for one of its own version."""
+def crate_at(commit, is_linked_with_its_own):
+    """The crate of this commit. If it is linked with the archives in bindings/lib, it takes them for those of its version."""
     room = os.path.join(OUT, "tree")
     shutil.rmtree(room, ignore_errors=True)
     os.makedirs(room)
     archive = subprocess.run(["git", "archive", commit, "bindings"], cwd=TOP, check=True, capture_output=True)
     subprocess.run(["tar", "x", "-C", room], input=archive.stdout, check=True)
     crate = os.path.join(room, "bindings", "rust")
+    if is_linked_with_its_own:
+        return crate
     version = re.search(VERSION, read(os.path.join(TOP, "bindings", "rust", "Cargo.toml")))[0]
     for name in "Cargo.toml", "Cargo.lock":
         change(os.path.join(crate, name), VERSION, version)
@@ -132,20 +136,23 @@ def table(took, bursts):
 def main():
     parser = argparse.ArgumentParser(description=__doc__, formatter_class=argparse.RawDescriptionHelpFormatter)
     parser.add_argument("commit", help="of the crate that is beside this one")
+    parser.add_argument("--archives", nargs=2, metavar=("LIBRARY", "HEAP"), help="the archives of that commit")
     parser.add_argument("--seconds", type=int, default=330)
     parser.add_argument("--only", help="bursts of this mode alone")
+    parser.add_argument("--alone", action="store_true", help="no rounds beside busy processes")
     parser.add_argument("--write", action="store_true", help="the table of docs/BENCH.md")
     words = parser.parse_args()
     peers = any(name.startswith("crossbeam-channel-") for name in os.listdir(REGISTRY)) if os.path.isdir(REGISTRY) else False
-    programs = {"new": (build("new", os.path.join(TOP, "bindings", "rust"), peers, True), "vahepito"),
-                "old": (build("old", crate_at(words.commit), False, False), "vahepito")}
+    own = dict(zip(ARCHIVES, map(os.path.abspath, words.archives))) if words.archives else ARCHIVES
+    programs = {"new": (build("new", os.path.join(TOP, "bindings", "rust"), ARCHIVES, peers, True), "vahepito"),
+                "old": (build("old", crate_at(words.commit, words.archives), own, False, False), "vahepito")}
     if peers:
         programs["crossbeam"] = (programs["new"][0], "crossbeam")
     bursts = [burst for burst in BURSTS if words.only in (None, burst[1])]
     took = {}
     start, rounds = time.time(), 0
     while time.time() - start < words.seconds or rounds < 2:
-        busy = rounds % 2 == 1
+        busy = rounds % 2 == 1 and not words.alone
         misses = lambda name, mode: name == "crossbeam" and mode == "tasks" or name == "old" and mode in NEW
         cells = [(burst, name) for burst in bursts for name in programs if not misses(name, burst[1])]
         random.shuffle(cells)
@@ -154,7 +161,7 @@ def main():
                 took.setdefault((burst[0], busy, name), []).append(run(*programs[name], burst))
         rounds += 1
     print(f"{rounds} rounds in {time.time() - start:.0f} s, {os.cpu_count()} processors, load {os.getloadavg()[0]:.1f}: nanoseconds\n")
-    for busy in [False, True]:
+    for busy in [False] if words.alone else [False, True]:
         print("| " + ("beside a busy process on each processor" if busy else "alone") + " | now | " + words.commit
               + " | now to that | crossbeam | now to crossbeam |\n|---|---|---|---|---|---|")
         for burst in bursts:
