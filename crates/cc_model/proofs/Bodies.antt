@@ -1,5 +1,5 @@
 -- A body is that of its words.
-use Rattle.std.proofs.Common.{◌≡◌, ℕ, ◌≤◌, [], ◌∷◌, length, refl, arith}
+use Rattle.std.proofs.Common.{◌≡◌, ◌≤◌, [], ◌∷◌, length, refl, arith}
 use Rattle.cc_model.specs.Names.{Body, Words}
 use Rattle.cc_model.specs.Body.{in_all, words_of, body_of, IsWhole, IsBody}
 

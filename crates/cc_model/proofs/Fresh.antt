@@ -1,6 +1,7 @@
 -- The answer of a call agrees with all that its pass had seen.
 use Rattle.std.proofs.Common.{◌≡◌, ℕ, zero, suc, ◌+◌, ◌≤◌, List, [], ◌∷◌, ◌++◌, length, Bool, true, false, ◌||◌, Some, refl, sym, ap, ◌∙◌, subst, arith, add-zero, length-append, if◌then◌else◌}
 use Rattle.std.specs.List.{slice_get, list_any, AllByRecursion}
+use Rattle.std.proofs.Math.Bool.{or_assoc}
 use Rattle.cc_model.specs.Record.{Record, of_group}
 use Rattle.cc_model.specs.Items.{IsFront, entries, accepted, accepted_by, accepted_item, shuts, is_shut, handed_by, handed_item, handed_to_all, known_at}
 use Rattle.cc_model.specs.Legal.{LegalTakes, EAnswer, EAnswers, DAnswer, DAnswers, IsSenders, IsReceivers}
@@ -62,10 +63,6 @@ e_at cfg n shut (d ∷ calls) (b ∷ before) behind c a h is =
     count : n + length (accepted_item d b) + length (accepted_by calls before) ≡ n + length (accepted_item d b ++ accepted_by calls before)
     count = omega (arith, length-append (accepted_item d b) (accepted_by calls before))
 
-    or_assoc : (p q r : Bool) → (p || q) || r ≡ p || (q || r)
-    or_assoc true q r = refl
-    or_assoc false q r = refl
-
 pub sender_knows : (cfg : Config) (h : Record) (p : Pass) (k : Call) → IsSenders cfg p k → known_at p h ≡ handed_to_all h
 sender_knows cfg h (Pass.Sender s) k is = refl
 sender_knows cfg h (Pass.Receiver r) k is = absurd is
@@ -124,10 +121,6 @@ accepted_shut cfg n shut [] more (a ∷ answers) rest h k closed = absurd h
 accepted_shut cfg n shut (c ∷ calls) more (a ∷ answers) rest h k closed =
     let same = accepted_shut cfg (n + length (accepted_item c a)) (shut || shuts a) calls more answers rest h.1 k.1 (or_assoc shut (shuts a) (list_any shuts answers) ∙ closed) in
     omega (arith, same, length-append (accepted_item c a) (accepted_by calls answers), length-append (accepted_item c a) (accepted_by (calls ++ more) (answers ++ rest)))
-  where
-    or_assoc : (p q r : Bool) → (p || q) || r ≡ p || (q || r)
-    or_assoc true q r = refl
-    or_assoc false q r = refl
 
 module _ (cfg : Config) (h later : Record) (on : GoesOn cfg h later) where
   abbrev Calls : List Entry
