@@ -2,7 +2,7 @@
 use Rattle.std.proofs.Common.{◌≡◌, ℕ, ◌+◌, ◌<◌, ◌≤◌, ◌≢◌, ◌⊎◌, inl, inr, arith}
 use Rattle.std.proofs.lemmas.Bool.{cases_eq}
 use Rattle.cc_runs.proofs.Combining.Chain.{Chain, Ghost}
-use Rattle.cc_runs.proofs.Combining.Invariant.{Inv, Words, Server}
+use Rattle.cc_runs.proofs.Combining.Invariant.{Inv, Words}
 use Rattle.cc_runs.proofs.Combining.Apart.{node_chain, chain_apart, node_apart, reads_two, reads_zero}
 use Rattle.cc_runs.proofs.Combining.Step.{Loads, Stores, post_at}
 

@@ -2,7 +2,7 @@
 use Rattle.std.proofs.Common.{◌≡◌, ℕ, ◌+◌, ◌<◌, ◌≤◌, ◌≢◌, arith}
 use Rattle.std.proofs.lemmas.Bool.{cases_eq}
 use Rattle.cc_runs.proofs.Combining.Chain.{Chain, Ghost}
-use Rattle.cc_runs.proofs.Combining.Invariant.{Inv, Words, States}
+use Rattle.cc_runs.proofs.Combining.Invariant.{Inv, Words}
 use Rattle.cc_runs.proofs.Combining.Apart.{chain_apart, node_apart}
 use Rattle.cc_runs.proofs.Combining.Step.{Loads, Stores, post_at}
 

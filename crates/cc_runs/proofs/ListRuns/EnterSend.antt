@@ -84,9 +84,6 @@ module _ (c : Config) (s : State) (p begun own : ℕ) (job : Job) (request : Req
   abbrev regs : ℕ → Regs
   regs = regs_of s.stand d
 
-  abbrev before : Queue
-  before = queue_from s.mem d (enq_at d.e_call d.from (s.stand d.e_pass).place) regs
-
   abbrev after : Queue
   after = queue_from s.mem to (enq_at to.e_call to.from there) regs
 

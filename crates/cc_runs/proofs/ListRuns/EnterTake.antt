@@ -44,9 +44,6 @@ module _ (c : Config) (s : State) (p begun own y : ℕ) (chain : chain_of c p �
   abbrev t : State
   t = record { mem = s.mem; stand = hold s.stand p now; history = s.history }
 
-  below : y < further c + 1
-  below = omega (arith, inside, k.ties.some)
-
   module _ (facts : ChainFacts (lists c) t) where
     here : (t.stand p).place ≡ there
     here = ap (λ (z : Stand). z.place) (hold_here s.stand p now)
@@ -72,9 +69,6 @@ module _ (c : Config) (s : State) (p begun own y : ℕ) (chain : chain_of c p �
 
     abbrev enq : Enq
     enq = enq_at d.e_call d.from (s.stand d.e_pass).place
-
-    abbrev before : Queue
-    before = queue_from s.mem d enq (regs_of s.stand d)
 
     abbrev after : Queue
     after = queue_from s.mem to enq (regs_of t.stand to)
