@@ -1,5 +1,5 @@
 -- Further steps of one pass, one by one.
-use Rattle.std.proofs.Common.{◌≡◌, ◌≢◌, ◌≤◌, ◌<◌, inl, inr, ℕ, zero, suc, ◌+◌, Some, refl, sym, ap, subst, ◌∙◌, arith}
+use Rattle.std.proofs.Common.{◌≡◌, ◌≢◌, ◌≤◌, ◌<◌, inl, inr, ℕ, zero, suc, ◌+◌, Option, Some, refl, sym, ap, subst, ◌∙◌, arith}
 use Rattle.std.proofs.lemmas.Bool.{cases_eq}
 use Rattle.cc_machine.specs.Names.{Setting, Event, Kind}
 use Rattle.cc_runs.specs.State.{State}
@@ -29,12 +29,15 @@ one_more_last v m p n kind g is =
     let next : suc n ≡ n + 1 = omega arith in
     is ∙ ap (λ (s : State). event_at (s.stand p).place) g.state ∙ ap (last_event v p) next
 
--- at most one step
-pub one_step : (v w : View) (p n : ℕ) (last : Event) → n ≤ 1 → HasGone v p n w → last ≡ last_event v p n → (n ≡ 0 → w ≡ v) → (n ≡ 0 → 0 < 1 → event_in v (Some p) ≡ Event.Idle) → (last ≡ event_in v (Some p)) × HasStepped v (Some p) last w
-one_step v w p zero last few g is none idle = (is ∙ sym (idle refl (omega arith)), subst (λ (e : Event). HasStepped v (Some p) e w) (sym is) (none refl))
-one_step v w p (suc zero) last few g is none idle = (is, by last (λ none. g.each 0 (omega arith) (sym is ∙ none)))
+-- at most one step, of a pass that is found there
+pub one_step : (v w : View) (p n : ℕ) (last : Event) → n ≤ 1 → HasGone v p n w → last ≡ last_event v p n → (n ≡ 0 → w ≡ v) → (n ≡ 0 → 0 < 1 → event_in v (Some p) ≡ Event.Idle) → (o : Option ℕ) → o ≡ Some p → (last ≡ event_in v o) × HasStepped v o last w
+one_step v w p n last few g is none idle o found = rw found (by n few g is none idle)
   where
-    by : (e : Event) → e ≢ Event.Idle → HasStepped v (Some p) e w
-    by (Event.Did kind) some = record { setting = g.setting; state = g.state }
-    by Event.Idle some = absurd (some refl)
-one_step v w p (suc (suc n)) last few g is none idle = absurd (omega (arith, few))
+    did : (n : ℕ) (e : Event) → e ≢ Event.Idle → HasGone v p (suc zero) w → HasStepped v (Some p) e w
+    did n (Event.Did kind) some g = record { setting = g.setting; state = g.state }
+    did n Event.Idle some g = absurd (some refl)
+
+    by : (n : ℕ) → n ≤ 1 → HasGone v p n w → last ≡ last_event v p n → (n ≡ 0 → w ≡ v) → (n ≡ 0 → 0 < 1 → event_in v (Some p) ≡ Event.Idle) → (last ≡ event_in v (Some p)) × HasStepped v (Some p) last w
+    by zero few g is none idle = (is ∙ sym (idle refl (omega arith)), subst (λ (e : Event). HasStepped v (Some p) e w) (sym is) (none refl))
+    by (suc zero) few g is none idle = (is, did 1 last (λ none. g.each 0 (omega arith) (sym is ∙ none)) g)
+    by (suc (suc n)) few g is none idle = absurd (omega (arith, few))

@@ -1,5 +1,5 @@
 -- The counts of a history stay as the history goes on, and go on by further answers.
-use Rattle.std.proofs.Common.{◌≡◌, ◌≢◌, ℕ, ◌+◌, ◌<◌, ◌≤◌, List, [], ◌∷◌, ◌++◌, length, take, Bool, true, false, ◌||◌, if◌then◌else◌, Option, Some, None, refl, sym, ap, subst, ◌∙◌, arith, length-append, inl, inr, zero, suc, ◌-◌, get_or, slice_index_or, replicate, min}
+use Rattle.std.proofs.Common.{◌≡◌, ◌≢◌, ℕ, ◌+◌, ◌<◌, ◌≤◌, List, [], ◌∷◌, ◌++◌, length, take, Bool, true, false, ◌||◌, if◌then◌else◌, Option, Some, None, refl, sym, ap, subst, ◌∙◌, arith, length-append, inl, inr, zero, suc, get_or, slice_index_or, replicate, min}
 use Rattle.std.specs.List.{slice_get, list_any}
 use Rattle.std.proofs.lemmas.List.{length_push, length-take-le, take-append-le, take_more}
 use Rattle.cc_model.specs.Record.{Side, Record, empty, of_group}
@@ -25,8 +25,8 @@ smallest_of zero f = sym (smallest_one f)
 smallest_of (suc m) f = ap (λ (n : ℕ). min n (f (suc m))) (smallest_of m f) ∙ sym (smallest_min m f)
 
 -- what every group was handed is the least of what each was
-pub least_is : (h : Record) → 1 ≤ length h.takes → least_of (length h.takes - 1) (λ g. length (handed h g)) ≡ handed_to_all h
-least_is h some = smallest_of (length h.takes - 1) (λ g. length (handed h g)) ∙ least_of_groups h (length h.takes - 1) (λ g. length (handed h g)) (omega (arith, some)) (λ y. refl)
+pub least_is : (h : Record) (n : ℕ) → length h.takes ≡ n + 1 → least_of n (λ g. length (handed h g)) ≡ handed_to_all h
+least_is h n all = smallest_of n (λ g. length (handed h g)) ∙ least_of_groups h n (λ g. length (handed h g)) all (λ y. refl)
 
 -- ---- a side that goes on
 

@@ -212,13 +212,17 @@ begun_side old new p there x all near same stands history room f =
       | inr o ↦ fits_on old new p there x near same room (record { stands = stands; calls = omega (arith, calls, come_other x (chain_of old.setting.config p) there.place o, come_other x (chain_of old.setting.config p) ((state_of old).stand p).place o) }) f
     ]
 
-pub lawful_begin : (old new : Board) (p : ℕ) (call : Call) (known : ℕ) → IsLawful old → HasRoomToCome old (chain_of old.setting.config p) → May old.setting (state_of old) (Move.Begin p call known) → Keeps old new → state_of new ≡ moved old.setting (state_of old) (Move.Begin p call known) → IsLawful new
-lawful_begin old new p call known l room may k is =
-    let all = roomy old (chain_of old.setting.config p) room in
+pub lawful_begin : (old mid new : Board) (y : Chain) (p : ℕ) (call : Call) (known : ℕ) → IsLawful old → view_of mid ≡ view_of old → ((x : Chain) → room_on old.history x ≤ room_on mid.history x) → y ≡ chain_of old.setting.config p → HasRoomToCome mid y
+    → May old.setting (state_of old) (Move.Begin p call known) → Keeps mid new → state_of new ≡ moved mid.setting (state_of mid) (Move.Begin p call known) → IsLawful new
+lawful_begin old mid new y p call known l0 same up side room may0 k is =
+    let l = lawful_view old mid same up l0 in
+    let may = subst (λ (m : View). May m.setting (state_in m) (Move.Begin p call known)) (sym same) may0 in
+    let y_is : y ≡ chain_of mid.setting.config p = side ∙ ap (λ (m : View). chain_of m.setting.config p) (sym same) in
+    let all = roomy mid (chain_of mid.setting.config p) (subst (HasRoomToCome mid) y_is room) in
     let stands = ap (λ (z : State). z.stand) is in
     let history = ap (λ (z : State). z.history) is in
-    lawful_after old new (Move.Begin p call known) l (laid_kept old new k l.laid) may k.setting is
-    (λ x there. begun_side old new p _ x all may.0 k.setting stands history (omega (arith, k.rooms x)) (fits old l x there))
+    lawful_after mid new (Move.Begin p call known) l (laid_kept mid new k l.laid) may k.setting is
+    (λ x there. begun_side mid new p _ x all may.0 k.setting stands history (omega (arith, k.rooms x)) (fits mid l x there))
 
 -- ---- what a step needs
 

@@ -1,21 +1,14 @@
--- The answers of the calls of a list, and that its history is legal.
-use Rattle.std.proofs.Common.{◌≡◌, Ok, subst}
-use Rattle.cc_model.specs.Config.{config_fault}
+-- The history of a list is legal.
+use Rattle.std.proofs.Common.{◌≡◌, subst}
 use Rattle.cc_model.specs.HistoryRoom.{lists}
 use Rattle.cc_model.specs.Record.{Record}
 use Rattle.cc_model.specs.Legal.{Legal}
-use Rattle.cc_machine.specs.Names.{Board, Setting, Served}
+use Rattle.cc_machine.specs.Names.{Board, Served}
 use Rattle.cc_runs.specs.State.{State}
 use Rattle.cc_machine.specs.BoardSteps.{view_of, state_of}
 use Rattle.cc_machine.specs.Lawful.{IsLawful}
 use Rattle.cc_machine.proofs.LawfulMoves.{history_in}
-use Rattle.cc_machine.proofs.BoardLaws.{AlwaysTold}
-use Rattle.cc_runs.proofs.ListRuns.Ready.{list_answer}
 use Rattle.cc_runs.proofs.ListRuns.Laws.{history_is_legal}
-
--- its answer in the history
-pub list_told : (c : Setting) → c.served ≡ Served.List → config_fault c.config ≡ Ok tt → AlwaysTold c
-list_told c what checked moves run p near told is = list_answer c what checked moves run p near told is
 
 legal_in : (b : Board) → b.setting.served ≡ Served.List → IsLawful b → Legal b.setting.config (state_of b).history
 legal_in b what l = subst (λ (s : State). Legal b.setting.config s.history) l.reached.leads (history_is_legal b.setting l.reached.moves what l.checked l.reached.run)

@@ -196,7 +196,7 @@ impl Machine {
     }
 
     /// Takes the answer of the pass's call, once the call has read it. `None`, and nothing is changed, if there is none.
-    #[tactic(auto, using(crate::proofs::BoardLaws::told_if, crate::proofs::ListTold::list_told))]
+    #[tactic(auto, using(crate::proofs::BoardLaws::told_if, cc_runs::proofs::ListRuns::Ready::list_answer))]
     pub fn answer(&mut self, pass: Pass) -> Option<Answer>
         ensures answer { result ≡ answer_of self.old pass }
         ensures state { HasTaken self.old (index_of self.old.setting pass) result self.new }
