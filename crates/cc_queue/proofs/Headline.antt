@@ -16,7 +16,7 @@ use Rattle.cc_steps.specs.Topic.{Topic}
 use Rattle.cc_steps.specs.Walk.{Walk, IsOf, IsSameSeat, IsSound, IsPendingIn}
 use Rattle.cc_runs.specs.Lines.{group_of}
 use Rattle.cc_queue.specs.Group.{IsGroupOf, Ranked}
-use Rattle.cc_queue.specs.Headline.{StandsInOne, IsAtRest, entry_of, name, history}
+use Rattle.cc_queue.specs.Headline.{StandsInOne, entry_of, name, history}
 use Rattle.cc_queue.specs.Work.{IsOn, Works, Waits, Enters, turned, worked_to, tally, scans}
 use Rattle.cc_queue.specs.Calls.{Begun, Waited, Answered, Ended, Completed, IsSettled}
 use Rattle.cc_queue.specs.Codes.{IsSendAnswer, IsCloseAnswer}
@@ -74,29 +74,27 @@ begun_so u v w call node is list s e pending = subst (λ (x : Walk). Begun x cal
 })
 
 -- a turn that waits
-pub waited_so : (u v w : Walk) → v ≡ u → v.setting.served ≡ Served.List → v.stand.place ≡ Place.ReadState → IsSound w → Waits v w → Waited u w
-waited_so u v w is list at s e = subst (λ (x : Walk). Waited x w) is (record {
+pub waited_so : (u v w : Walk) (begun node : ℕ) → v ≡ u → v.setting.served ≡ Served.List → v.stand ≡ record { begun = begun; node = node; place = Place.ReadState } → IsSound w → Waits v w → Waited u w
+waited_so u v w begun node is list stand s e = subst (λ (x : Walk). Waited x w) is (record {
   stands = stands_on v w [] v.stand.begun v.stand.node Place.ReadState (ap (λ (x : Walk). x.stand) e.worked) refl s list (seat_of v w Place.ReadState e.worked) e.later (made_of v w Place.ReadState e.worked);
-  still = ap (λ (x : Walk). x.stand) e.worked ∙ (λ i. record { begun = v.stand.begun; node = v.stand.node; place = sym at i });
+  still = ap (λ (x : Walk). x.stand) e.worked ∙ (λ i. record { begun = v.stand.begun; node = v.stand.node; place = (sym stand i).place });
   did = e.did;
 })
 
--- the pass and its queue are of one list with this configuration
-pub listed : (q z : Topic) (u v : Walk) (c : Config) → q ≡ z → q.setting ≡ record { served = Served.List; config = c } → IsOf z u → v ≡ u → v.setting ≡ record { served = Served.List; config = c }
-listed q z u v c same list here is = ap (λ (x : Walk). x.setting) is ∙ here.1 ∙ sym (ap (λ (x : Topic). x.setting) same) ∙ list
-
--- a turn that is done
-pub answered_so : (u v w : Walk) (c : Config) (told : Answer) (n : ℕ) → v ≡ u → v.setting ≡ record { served = Served.List; config = c } → IsSound w → Works v Place.Idle (turned c n) w → IsLastAnswer (name w) (history w) told → n ≤ c.bound → Answered u told n w
-answered_so u v w c told n is list s e last few = subst (λ (x : Walk). Answered x told n w) is (record {
-  stands = stands_on v w [] v.stand.begun v.stand.node Place.Idle (ap (λ (x : Walk). x.stand) e.worked) refl s (ap (λ (x : Setting). x.served) list) (seat_of v w Place.Idle e.worked) e.later (made_of v w Place.Idle e.worked);
-  last = last;
-  begun = ap (λ (x : Walk). x.stand.begun) e.worked;
-  reads = e.reads;
-  marks = e.marks;
-  hands = e.hands;
-  few = subst (λ (x : Setting). n ≤ x.config.bound) (sym list) few;
-  scans = subst (λ (x : Setting). tally scans w.did ≤ n * (x.config.capacity + 1) + tally scans v.did) (sym list) e.scans;
-})
+-- a turn that is done, of a pass and a queue of one list with this configuration
+pub answered_so : (q z : Topic) (u v w : Walk) (c : Config) (told : Answer) (n : ℕ) → q ≡ z → q.setting ≡ record { served = Served.List; config = c } → IsOf z u → v ≡ u → IsSound w → Works v Place.Idle (turned c n) w → IsLastAnswer (name w) (history w) told → n ≤ c.bound → Answered u told n w
+answered_so q z u v w c told n same its here is s e last few =
+    let list : v.setting ≡ record { served = Served.List; config = c } = ap (λ (x : Walk). x.setting) is ∙ here.1 ∙ sym (ap (λ (x : Topic). x.setting) same) ∙ its in
+    subst (λ (x : Walk). Answered x told n w) is (record {
+      stands = stands_on v w [] v.stand.begun v.stand.node Place.Idle (ap (λ (x : Walk). x.stand) e.worked) refl s (ap (λ (x : Setting). x.served) list) (seat_of v w Place.Idle e.worked) e.later (made_of v w Place.Idle e.worked);
+      last = last;
+      begun = ap (λ (x : Walk). x.stand.begun) e.worked;
+      reads = e.reads;
+      marks = e.marks;
+      hands = e.hands;
+      few = subst (λ (x : Setting). n ≤ x.config.bound) (sym list) few;
+      scans = subst (λ (x : Setting). tally scans w.did ≤ n * (x.config.capacity + 1) + tally scans v.did) (sym list) e.scans;
+    })
 
 -- the answer of a send is one of a send
 pub send_told : (v w : Walk) (told : Answer) → v.setting.served ≡ Served.List → IsSound w → w ≡ worked_to v Place.Idle w → IsLastAnswer (name w) (history w) told → MadeLast IsSend v.made → IsSendAnswer told
@@ -153,13 +151,6 @@ stopped_stands u v is stop s = subst (λ (x : Walk). StandsInOne x [] x) is (sta
 pub answers_in : (w : Walk) → IsSound w → IsOut w.stand.place → AllByRecursion HasAnswer (calls_of (name w) (history w))
 unfolding stand_in
 answers_in w s out = calls_end w.setting s.checked w.seen s.run w.number s.below (subst (λ (x : Stand). IsOut x.place) s.shows.0 out)
-
--- an idle pass, which a caller knows as u
-pub at_rest_so : (u v : Walk) (begun node : ℕ) → v ≡ u → v.setting.served ≡ Served.List → v.stand ≡ record { begun = begun; node = node; place = Place.Idle } → IsSound v → IsAtRest u
-at_rest_so u v begun node is list stand s = subst IsAtRest is (record {
-  stands = stands_on v v [] begun node Place.Idle stand refl s list (refl, refl, refl) (λ first k. k) (sym (append-nil v.made));
-  answered = answers_in v s (subst (λ (x : Stand). IsOut x.place) (sym stand) tt);
-})
 
 -- an answer that isn't Empty
 pub settled_unless : (told : TakeAnswer) → told ≢ TakeAnswer.Empty → IsSettled told

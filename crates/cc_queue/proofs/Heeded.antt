@@ -15,12 +15,14 @@ use Rattle.cc_runs.proofs.RunFronts.{fronts_begin}
 use Rattle.cc_runs.proofs.KnownFronts.{fronts_know}
 use Rattle.cc_runs.proofs.ListRuns.Laws.{history_is_legal}
 use Rattle.cc_steps.specs.Noted.{Noted}
-use Rattle.cc_steps.specs.Seen.{GoesOn, Later, Onward, known_in}
-use Rattle.cc_steps.specs.Walk.{Walk}
+use Rattle.cc_steps.specs.Seen.{GoesOn, Onward, known_in}
+use Rattle.cc_steps.specs.Walk.{Walk, HasLooked, IsSound}
 use Rattle.cc_steps.proofs.Runs.{later_on}
 use Rattle.cc_queue.specs.Calls.{Completed, Repeated, last_of}
 use Rattle.cc_queue.specs.Headline.{StandsInOne, entry_of, name, history}
 use Rattle.cc_queue.specs.Met.{HasMet}
+use Rattle.cc_queue.specs.Passes.{HasStopped}
+use Rattle.cc_queue.proofs.Meetings.{met_stopped}
 use Rattle.cc_queue.specs.Noted.{IsOfOneQueue, IsListChecked, HasHeeded, CompletedAfter, HeededStays, HeededIsFresh, TakesAreFresh, SendsAreFresh, TurnsComplete, noted_history}
 use Rattle.cc_queue.proofs.AnswerKinds.{last_is, map_last}
 use Rattle.cc_queue.proofs.Headline.{begins_on, goes_self, completed_so, ended_so}
@@ -157,17 +159,20 @@ noted_begins_on : (n : Noted) (w : Walk) → n.setting ≡ w.setting → Onward 
 noted_begins_on n w of on run = subst (λ (c : Setting). Begins (history_of c n.seen) (history w)) (sym of) (begins_on w.setting n.seen w.seen on run)
 
 -- a pass that has taken in what was noted, and did nothing
-pub heeded_so : (n : Noted) (u w : Walk) → IsListChecked w.setting → IsOfOneQueue u n → Later n.seen w.seen → HasMet u w → HasHeeded n w
-heeded_so n u w queue here theirs met =
+pub heeded_so : (n : Noted) (u v w : Walk) → v ≡ u → HasStopped v → IsOfOneQueue u n → HasLooked v n.seen w → IsSound w → HasMet u w × HasHeeded n w
+heeded_so n u v w is stop here looked sound =
+    let met : HasMet u w = met_stopped u v w is stop (record { same = looked.same ∙ (λ i. record v { seen = (sym looked.same i).seen }); onward = looked.later; sound = sound }) in
     let setting : n.setting ≡ w.setting = here.1 ∙ sym (ap (λ (x : Walk). x.setting) met.same) in
-    let on : Onward n.seen w.seen = λ first k. later_on first n.seen w.seen (record { more = theirs.0; is = theirs.1 }) k in
-    record {
-      here = (here.0 ∙ sym (ap (λ (x : Walk). x.table_id) met.same), setting);
-      onward = on;
-      begins = noted_begins_on n w setting on met.stands.run;
-      stands = stands_still u w [] met.stands;
-      queue = queue;
-    }
+    let on : Onward n.seen w.seen = λ first k. later_on first n.seen w.seen (record { more = looked.theirs.0; is = looked.theirs.1 }) k in (
+      met,
+      record {
+        here = (here.0 ∙ sym (ap (λ (x : Walk). x.table_id) met.same), setting);
+        onward = on;
+        begins = noted_begins_on n w setting on met.stands.run;
+        stands = stands_still u w [] met.stands;
+        queue = record { list = ap (λ (x : Walk). x.setting.served) looked.same ∙ stop.list; checked = sound.checked };
+      },
+    )
 
 pub heeded_stays : HeededStays
 heeded_stays n v w calls h s =

@@ -9,10 +9,14 @@ use Rattle.cc_queue.specs.Names.{Move, Served, Stand, Place, SenderSeat, Receive
 use Rattle.cc_steps.specs.Seen.{Later, Onward}
 use Rattle.cc_steps.specs.Shown.{longer}
 use Rattle.cc_steps.specs.Topic.{Topic}
-use Rattle.cc_steps.specs.Walk.{Walk, HasLooked, IsOf, IsSound}
+use Rattle.cc_steps.specs.Walk.{Walk, IsOf, IsSound}
 use Rattle.cc_queue.specs.Passes.{IsStill, HasStopped, KeepsSender, KeepsReceiver}
 use Rattle.cc_queue.specs.Met.{IsOfOne, MayMeet, Sees, HasMet, EachHasMet, Swept, Gathered}
-use Rattle.cc_queue.proofs.Headline.{stands_in_one, stands_more, still_out}
+use Rattle.cc_model.specs.Items.{HasAnswer, calls_of}
+use Rattle.std.specs.List.{AllByRecursion}
+use Rattle.cc_runs.specs.ChainLaws.{IsOut}
+use Rattle.cc_queue.specs.Headline.{IsAtRest, name, history}
+use Rattle.cc_queue.proofs.Headline.{answers_in, stands_in_one, stands_more, still_out}
 
 -- a pass that doesn't move, whose seat has seen more
 pub met_stopped : (u v w : Walk) → v ≡ u → HasStopped v → Sees v w → HasMet u w
@@ -42,16 +46,15 @@ still_stopped v w stop same = record {
   still = subst (λ (x : Walk). IsStill x.stand.place) (sym same) stop.still;
 }
 
--- a pass that took in what was seen elsewhere has seen more
-pub sees_noted : (v w : Walk) (other : List Move) → HasLooked v other w → IsSound w → Sees v w
-sees_noted v w other l sound = record { same = l.same ∙ (λ i. record v { seen = (sym l.same i).seen }); onward = l.later; sound = sound }
-
 -- one that has seen no more has met itself
-pub met_still : (v : Walk) → HasStopped v → IsSound v → HasMet v v
-met_still v stop s = met_stopped v v v refl stop (record { same = refl; onward = λ first k. k; sound = s })
+met_still : (u v : Walk) → v ≡ u → HasStopped v → IsSound v → HasMet u u
+met_still u v is stop s = subst (λ (x : Walk). HasMet x x) is (met_stopped v v v refl stop (record { same = refl; onward = λ first k. k; sound = s }))
 
-pub met_self : (u v : Walk) (begun node : ℕ) → v ≡ u → v.setting.served ≡ Served.List → v.stand ≡ record { begun = begun; node = node; place = Place.Idle } → IsSound v → HasMet u u
-met_self u v begun node is list stand s = subst (λ (x : Walk). HasMet x x) is (met_still v (idle_stopped v list (ap (λ (z : Stand). z.place) stand)) s)
+-- an idle pass, which a caller knows as u, has met itself and come to rest
+pub rests_so : (u v : Walk) (begun node : ℕ) → v ≡ u → v.setting.served ≡ Served.List → v.stand ≡ record { begun = begun; node = node; place = Place.Idle } → IsSound v → HasMet u u × IsAtRest u
+rests_so u v begun node is list stand s =
+    let met = met_still u v is (idle_stopped v list (ap (λ (z : Stand). z.place) stand)) s in
+    (met, record { stands = met.stands; answered = subst (λ (x : Walk). AllByRecursion HasAnswer (calls_of (name x) (history x))) is (answers_in v s (subst (λ (x : Stand). IsOut x.place) (sym stand) tt)) })
 
 pub met_more : (a b c : Walk) → HasMet a b → HasMet b c → HasMet a c
 met_more a b c f g = record { stands = stands_more a b c [] [] f.stands g.stands; same = g.same ∙ (λ i. record (f.same i) { seen = c.seen }) }
@@ -129,9 +132,9 @@ sweeps_on was first first' old now i d x x' stop so less len is still one other 
     (met_on first first' (still_stopped was first stop so.met.same) one) (met_stopped (get_or now i d) x x' is still other) seen (longest ∙ ap (λ (y : Walk). longer first.seen y.seen) is)
 
 -- before the first of them
-pub sweeps_none : (was : Walk) (old : List Walk) → HasMet was was → Sweeping was was old old 0
-sweeps_none was old met = record {
-  met = met;
+pub sweeps_none : (was : Walk) (old : List Walk) → HasStopped was → IsSound was → Sweeping was was old old 0
+sweeps_none was old stop sound = record {
+  met = met_still was was refl stop sound;
   each = λ k d lo. absurd (omega arith);
   rest = λ k d le. refl;
   within = λ k d lo. absurd (omega arith);
@@ -170,16 +173,18 @@ gathered v0 v1 v2 v3 v4 v5 v6 a0 a1 a2 b0 b1 b2 c0 c1 c2 la lb lc one two three 
       given_up_one = sixth.1;
     }
 
--- the first of a list of passes of one queue may meet those of another list, and the others of its own; its seat is v, and its
--- words are z
-pub may_others : (q z : Topic) (all rest others : List Walk) (x v : Walk) → z ≡ q → v ≡ x → HasStopped v → All (IsOf q) all → All (IsOf q) others → all ≡ x ∷ rest → MayMeet z v others
-may_others q z all rest others x v words seat still are others_are is =
-    let here : IsOf q x = subst (All (IsOf q)) is are 0 x (omega arith) in
+-- the first of a list of passes of one queue may meet the others of its own list, and those of two other lists; its seat is v, and
+-- its words are z
+may_meet : (q z : Topic) (others : List Walk) (x v : Walk) → z ≡ q → v ≡ x → HasStopped v → IsOf q x → All (IsOf q) others → MayMeet z v others
+may_meet q z others x v words seat still here others_are =
     subst (λ (y : Topic × Walk). HasStopped y.1 → MayMeet y.0 y.1 others) (λ i. (sym words i, sym seat i))
     (λ stop. record { here = here; still = stop; others = λ k d less. let there : IsOf q (get_or others k d) = others_are k d less in (there.0 ∙ sym here.0, there.1 ∙ sym here.1) }) still
 
-pub may_rest : (q z : Topic) (all rest : List Walk) (x v : Walk) → z ≡ q → v ≡ x → HasStopped v → All (IsOf q) all → all ≡ x ∷ rest → MayMeet z v rest
-may_rest q z all rest x v words seat still are is = may_others q z all rest rest x v words seat still are (λ k d less. subst (All (IsOf q)) is are (suc k) d (omega (arith, less))) is
+pub may_gather : (q z : Topic) (all rest second third : List Walk) (x v : Walk) → z ≡ q → v ≡ x → HasStopped v → All (IsOf q) all → All (IsOf q) second → All (IsOf q) third → all ≡ x ∷ rest → MayMeet z v rest × MayMeet z v second × MayMeet z v third
+may_gather q z all rest second third x v words seat still are second_are third_are is =
+    let listed : All (IsOf q) (x ∷ rest) = subst (All (IsOf q)) is are in
+    let may = λ (others : List Walk). may_meet q z others x v words seat still (listed 0 x (omega arith)) in
+    (may rest (λ k d less. listed (suc k) d (omega (arith, less))), may second second_are, may third third_are)
 
 -- all have seen what the first one has
 pub with_first : (w : Walk) (others : List Walk) → All (λ o. o.seen ≡ w.seen) others → All (λ o. o.seen ≡ w.seen) (w ∷ others)

@@ -72,10 +72,6 @@ one_look v s r c job parcel at nodes passed most on list before step later leads
     one_step v s r Kind.ReadPassed (Place.Sending job (Sending.ReadPassed parcel at nodes)) on most passed before step later refl (refl, refl, refl)
     (λ z. ap (λ (x : Setting). settled (record z { place = looks_to x.config job parcel at nodes passed })) list ∙ ap (λ (p : Place). settled (record z { place = p })) leads ∙ stays z)
 
--- what holds at the start, before any step
-pub at_start : (v : Walk) (here : Place) → v.stand.place ≡ here → Serves v here 0 v
-at_start v here at = record { worked = ap (λ (p : Place). record v { stand = record v.stand { place = p } }) at; reads = omega arith; marks = omega arith; hands = omega arith; scans = omega arith; later = λ first before. before }
-
 -- at most this number of looks are at most as many and more
 pub at_most : (v r : Walk) (on : Place) (few most : ℕ) → few ≤ most → Serves v on few r → Serves v on most r
 at_most v r on few most le at = record { worked = at.worked; reads = at.reads; marks = at.marks; hands = at.hands; scans = omega (arith, at.scans, le); later = at.later }

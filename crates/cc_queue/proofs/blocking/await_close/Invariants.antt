@@ -1,7 +1,6 @@
 use Rattle.std.proofs.Common.{[]}
-use Rattle.cc_steps.specs.Walk.{IsOf}
 use Rattle.cc_queue.specs.Headline.{StandsInOne}
 use Rattle.cc_queue.proofs.blocking.await_close.Given as goal
 
 abbrev pub invariant-loop : goal.invariant-loop
-invariant-loop g l = StandsInOne l.fn.pending [] l.pending × IsOf l.fn.queue l.pending
+invariant-loop g l = StandsInOne l.fn.pending [] l.pending

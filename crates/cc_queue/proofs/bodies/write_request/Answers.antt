@@ -1,5 +1,5 @@
-use Rattle.std.proofs.Common.{◌+◌, ◌<◌, ℕ, refl, arith}
-use Rattle.cc_queue.specs.Names.{Kind, Place}
+use Rattle.std.proofs.Common.{◌<◌, refl, arith}
+use Rattle.cc_queue.specs.Names.{Kind}
 use Rattle.cc_runs.specs.Codes.{further_words}
 use Rattle.cc_queue.proofs.WordByWord.{next_word}
 use Rattle.cc_queue.proofs.bodies.write_request.Goals as goal
@@ -7,8 +7,5 @@ use Rattle.cc_queue.proofs.bodies.write_request.Goals as goal
 pub loop-done-preserved : goal.loop-done-preserved
 loop-done-preserved c =
     let w = c.write_request-in-loop-done.ensures in
-    let i : ℕ = c.loop-done.done in
-    let here = λ (n : ℕ). Place.WriteBody c.args.put c.args.request n in
-    let on : Place = Place.Link c.args.put in
-    let less : i < further_words c.args.request.tag = omega (arith, c.loop-done-test.true, c.further_words-done-end.ensures.words) in
-    (next_word _ _ _ Kind.WriteRequest (here (i + 1)) on (here (i + 1 + 1)) on on _ i 0 c.loop-done.invariant.0 less w.step w.later refl (refl, refl, refl, refl) (λ z. refl) (λ z. refl) (λ z. refl), w.walked.ready)
+    let less : c.loop-done.done < further_words c.args.request.tag = omega (arith, c.loop-done-test.true, c.further_words-done-end.ensures.words) in
+    (next_word _ _ _ Kind.WriteRequest _ _ _ _ _ _ _ 0 c.loop-done.invariant.0 less w.step w.later refl (refl, refl, refl, refl) (λ z. refl) (λ z. refl) (λ z. refl), w.walked.ready)

@@ -1,10 +1,4 @@
-use Rattle.std.proofs.Common.{◌≡◌, ◌<◌, refl, sym, ap, subst, arith}
-use Rattle.cc_runs.specs.declared.word.NodeField.{NodeField}
-use Rattle.cc_runs.specs.declared.word.Word.{Word}
-use Rattle.cc_queue.specs.Names.{Chain, Kind, Place}
-use Rattle.cc_runs.specs.State.{Load, Store}
-use Rattle.cc_steps.specs.Walk.{LinksOwn, Walk}
-use Rattle.cc_queue.specs.Work.{IsServing}
+use Rattle.std.proofs.Common.{◌≡◌, arith, refl}
 use Rattle.cc_queue.proofs.Rounds.{found_none, found_one, hands_over, looks, one_round, served_all, served_own}
 use Rattle.cc_queue.proofs.Service.{can_step, of_still}
 use Rattle.cc_queue.proofs.combine.combine.Goals as goal
@@ -18,21 +12,19 @@ pub read_next-next-requires : goal.read_next-next-requires
 read_next-next-requires c =
     let here = c.requires.here in
     let at = looks _ _ c.loop-served.seat _ _ _ here _ _ 0 c.loop-served-test.true c.loop-served.invariant.0 in
-    let on : Place = Place.ReadNext record { at = c.loop-served.at; served = c.loop-served.served } in
-    record { here = of_still c.args.words.now c.args.seat.now c.loop-served.seat on here.here at; at = can_step c.args.seat.now c.loop-served.seat on Kind.ReadNext (Load (Word.Node c.args.chain c.loop-served.at NodeField.Next)) at refl (ap (λ (x : Chain). Load (Word.Node x c.loop-served.at NodeField.Next)) here.chain) }
+    record { here = of_still _ c.args.seat.now _ _ here.here at; at = can_step c.args.seat.now _ _ _ _ at refl (rw here.chain) }
 
 pub serve-requires : goal.serve-requires
 serve-requires c =
     let here = c.requires.here in
     let at = found_one _ _ _ _ _ _ here _ _ _ c.loop-served-test.true c.loop-served.invariant.0 c.read_next-next.ensures.step c.if-next-eq0.false in
-    record { here = subst (IsServing c.args.words.now c.args.config.now c.args.chain) (sym at) record { here = here.here; list = here.list; chain = here.chain }; at = ap (λ (z : Walk). z.stand.place) at }
+    record { here = rw at record { here = here.here; list = here.list; chain = here.chain }; at = rw at }
 
 pub hand_over-requires : goal.hand_over-requires
 hand_over-requires c =
     let here = c.requires.here in
     let at = (found_none _ _ _ _ _ _ here _ _ _ c.loop-served-test.true c.loop-served.invariant.0 c.read_next-next.ensures.step c.if-next-eq0.true c.read_next-next.ensures.later).worked in
-    let on : Place = Place.HandOver c.loop-served.at in
-    record { here = of_still c.args.words.now c.args.seat.now c.read_next-next.new.seat on here.here at; at = can_step c.args.seat.now c.read_next-next.new.seat on Kind.HandOver (Store (Word.Node c.args.chain c.loop-served.at NodeField.State) 0) at refl (ap (λ (x : Chain). Store (Word.Node x c.loop-served.at NodeField.State) 0) here.chain) }
+    record { here = of_still _ c.args.seat.now _ _ here.here at; at = can_step c.args.seat.now _ _ _ _ at refl (rw here.chain) }
 
 pub returns-then-next-eq0 : goal.returns-then-next-eq0
 returns-then-next-eq0 c =
@@ -40,8 +32,7 @@ returns-then-next-eq0 c =
     let look = c.read_next-next.ensures in
     let none = found_none _ _ _ _ _ _ c.requires.here _ _ _ c.loop-served-test.true i.0 look.step c.if-next-eq0.true look.later in
     let there = looks _ _ c.loop-served.seat _ _ _ c.requires.here _ _ 0 c.loop-served-test.true i.0 in
-    let own : c.loop-served.served ≡ 0 → 0 < c.read_next-next.result = subst (λ (z : Walk). LinksOwn z.stand.place c.read_next-next.result) there look.own in
-    record { worked = hands_over _ _ _ c.args.config.now _ _ none c.hand_over.ensures.step c.hand_over.ensures.later; some = served_own _ _ own c.if-next-eq0.true; few = i.1 }
+    record { worked = hands_over _ _ _ c.args.config.now _ _ none c.hand_over.ensures.step c.hand_over.ensures.later; some = served_own _ _ (rw there at look.own) c.if-next-eq0.true; few = i.1 }
 
 pub returns-clause-worked : goal.returns-clause-worked
 returns-clause-worked c =

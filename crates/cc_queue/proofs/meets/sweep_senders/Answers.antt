@@ -1,8 +1,8 @@
-use Rattle.cc_queue.proofs.Meetings.{idle_sender, met_still, sweeps_none, sweeps_on}
+use Rattle.cc_queue.proofs.Meetings.{idle_sender, sweeps_none, sweeps_on}
 use Rattle.cc_queue.proofs.meets.sweep_senders.Goals as goal
 
 pub loop-other-init : goal.loop-other-init
-loop-other-init c = sweeps_none c.args.first.now c.args.others.now (met_still c.args.first.now c.requires.still c.is_sound.ensures)
+loop-other-init c = sweeps_none _ _ c.requires.still c.is_sound.ensures
 
 pub loop-other-preserved : goal.loop-other-preserved
 loop-other-preserved c =

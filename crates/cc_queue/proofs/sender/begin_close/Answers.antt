@@ -1,8 +1,5 @@
-use Rattle.cc_queue.specs.Names.{Call}
 use Rattle.cc_queue.proofs.Headline.{begun_so}
 use Rattle.cc_queue.proofs.sender.begin_close.Goals as goal
 
 pub returns : goal.returns
-returns c =
-    let e = c.begin_request.ensures in
-    begun_so _ c.sender.inside.at.seat c.begin_request.new.seat Call.Close c.begin_request.result c.sender.view_is c.sender.invariant.list c.is_sound.ensures e.entered e.pending
+returns c = begun_so _ _ _ _ _ c.sender.view_is c.sender.invariant.list c.is_sound.ensures c.begin_request.ensures.entered c.begin_request.ensures.pending
