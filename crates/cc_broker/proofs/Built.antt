@@ -1,11 +1,12 @@
 -- A list of topics that grows by one topic that was opened.
-use Rattle.std.proofs.Common.{◌≡◌, ℕ, zero, suc, ◌+◌, ◌<◌, List, [], ◌∷◌, ◌++◌, take, length, slice_get, slice_index_or, All, Some, refl, sym, ap, subst, ◌∙◌, arith}
+use Rattle.std.proofs.Common.{◌≡◌, ℕ, zero, suc, ◌+◌, ◌<◌, List, [], ◌∷◌, ◌++◌, take, length, slice_get, slice_index_or, All, Ok, Some, refl, sym, ap, subst, ◌∙◌, arith}
 use Rattle.std.specs.Borrow.{Bor}
 use Rattle.std.proofs.Math.Seq.{take-suc}
 use Rattle.std.proofs.lemmas.List.Elements.{All-push}
 use Rattle.std.proofs.lemmas.List.{map-append}
 use Rattle.std.proofs.lemmas.Option.{none-some}
 use Rattle.cc_model.specs.declared.config.Config.{Config}
+use Rattle.cc_model.specs.Config.{config_fault}
 use Rattle.cc_runs.specs.declared.setting.Setting.{Setting}
 use Rattle.cc_runs.specs.declared.setting.Served.{Served}
 use Rattle.cc_steps.specs.Topic.{Topic}
@@ -79,6 +80,6 @@ next_opened asked n d topics topics' passes passes' t p some so name one ts ps =
     (λ i. (sym (next_place asked n d some) i, sym ts i, sym ps i))
     (opened_push (take n asked) topics passes (slice_index_or asked n d) t p so name one)
 
--- and what holds of it and of all before holds of all so far
-pub next_holds : {X : Type 0} (P : X → Type 0) (xs : List X) (n : ℕ) (d : X) → n < length xs → All P (take n xs) → P (slice_index_or xs n d) → All P (take (n + 1) xs)
-next_holds P xs n d some so one = subst (All P) (sym (next_place xs n d some)) (All-push P (take n xs) (slice_index_or xs n d) so one)
+-- and if its configuration is in range, all so far are
+pub next_lawful : (asked : List (Bor (List ℕ) × Config)) (n : ℕ) (d : Bor (List ℕ) × Config) → n < length asked → All (λ a. config_fault a.1 ≡ Ok tt) (take n asked) → config_fault (slice_index_or asked n d).1 ≡ Ok tt → All (λ a. config_fault a.1 ≡ Ok tt) (take (n + 1) asked)
+next_lawful asked n d some so one = subst (All (λ a. config_fault a.1 ≡ Ok tt)) (sym (next_place asked n d some)) (All-push (λ a. config_fault a.1 ≡ Ok tt) (take n asked) (slice_index_or asked n d) so one)

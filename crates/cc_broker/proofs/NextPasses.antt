@@ -11,12 +11,6 @@ from_here [] n passes z e so = absurd (none-some _ e)
 from_here (y ∷ ys) zero passes z e so = subst (λ x. AreTheirPasses (x ∷ ys) passes) (same_Some y z e) so
 from_here (y ∷ ys) (suc n) passes z e so = from_here ys n passes z e so
 
-pub from_this : (queues : List Topic) (n : ℕ) (passes : List (Senders × Receivers)) (z : Topic) → slice_get queues n ≡ Some z → AreTheirPasses (drop n queues) passes → AreTheirPasses (z ∷ drop (n + 1) queues) passes
-from_this queues n passes z e so = subst (λ m. AreTheirPasses (z ∷ drop m queues) passes) next (from_here queues n passes z e so)
-  where
-    next : suc n ≡ n + 1
-    next = omega arith
-
 -- if there is none, no passes are left
 pub none_left : (queues : List Topic) (n : ℕ) (passes : List (Senders × Receivers)) → slice_get queues n ≡ None → AreTheirPasses (drop n queues) passes → passes ≡ []
 none_left [] zero [] e so = refl
@@ -27,6 +21,12 @@ none_left (y ∷ ys) zero passes e so = absurd (none-some y (sym e))
 none_left (y ∷ ys) (suc n) passes e so = none_left ys n passes e so
 
 -- the first passes are those of the first queue
-pub first_passes : (z : Topic) (queues : List Topic) (passes : List (Senders × Receivers)) (p : Senders × Receivers) → p ≡ slice_index_or passes 0 p → AreTheirPasses (z ∷ queues) passes → AreItsPasses z p × AreTheirPasses queues (remove passes 0)
+first_passes : (z : Topic) (queues : List Topic) (passes : List (Senders × Receivers)) (p : Senders × Receivers) → p ≡ slice_index_or passes 0 p → AreTheirPasses (z ∷ queues) passes → AreItsPasses z p × AreTheirPasses queues (remove passes 0)
 first_passes z queues [] p e so = absurd so
 first_passes z queues (q ∷ qs) p e so = (subst (AreItsPasses z) (sym e) so.0, so.1)
+
+pub next_passes : (queues : List Topic) (n : ℕ) (passes : List (Senders × Receivers)) (z : Topic) (p : Senders × Receivers) → slice_get queues n ≡ Some z → AreTheirPasses (drop n queues) passes → p ≡ slice_index_or passes 0 p
+    → AreItsPasses z p × AreTheirPasses (drop (n + 1) queues) (remove passes 0)
+next_passes queues n passes z p e so first =
+    let next : suc n ≡ n + 1 = omega arith in
+    rw (← next) (first_passes z (drop (suc n) queues) passes p first (from_here queues n passes z e so))
