@@ -1,26 +1,16 @@
 -- Rows of handles that are filled one after another.
 use Rattle.std.proofs.Common.{◌≡◌, ℕ, ◌+◌, ◌<◌, List, [], ◌∷◌, ◌++◌, length, map, slice_index_or, Option, Some, None, sym, ap, ◌∙◌, subst, arith}
-use Rattle.std.specs.List.{remove}
 use Rattle.cc_steps.specs.Topic.{Topic}
 use Rattle.cc_steps.specs.Walk.{Walk, IsOf, fresh, fresh_from}
+use Rattle.cc_queue.proofs.Seated.{first_seat}
 use Rattle.cc_handles.specs.Names.{Pass}
 use Rattle.cc_handles.specs.Passes.{Holding, holding}
 use Rattle.cc_handles.specs.Handles.{in_box}
 use Rattle.cc_handles.specs.Opened.{HoldFresh}
 
--- the first seat of a row of fresh ones
-pub first_seat : (z : Topic) (p : ℕ) (ws : List Walk) (w : Walk) → 0 < length ws → fresh_from z p ws → w ≡ slice_index_or ws 0 w → w ≡ fresh z p
-first_seat z p [] w some f is = absurd (omega (arith, some))
-first_seat z p (x ∷ ws) w some f is = is ∙ f.0
-
 -- it is of the queue
 pub is_of : (z : Topic) (p : ℕ) (ws : List Walk) (w : Walk) → 0 < length ws → fresh_from z p ws → w ≡ slice_index_or ws 0 w → IsOf z w
 is_of z p ws w some f is = let e = first_seat z p ws w some f is in (ap (λ (x : Walk). x.table_id) e, ap (λ (x : Walk). x.setting) e)
-
--- the others
-pub other_seats : (z : Topic) (p next : ℕ) (ws rest : List Walk) → next ≡ p + 1 → 0 < length ws → fresh_from z p ws → rest ≡ remove ws 0 → fresh_from z next rest
-other_seats z p next [] rest after some f is = absurd (omega (arith, some))
-other_seats z p next (x ∷ ws) rest after some f is = subst (λ (y : ℕ × List Walk). fresh_from z y.0 y.1) (λ i. (sym after i, sym is i)) f.1
 
 module _ {X : Type 0} (held : X → Holding) (side : Walk → Pass) (words : ℕ) (z : Topic) where
   -- one more holder, of the next fresh pass

@@ -130,6 +130,7 @@ fn held(alloc: Global, queue: &Queue, words: u32, pass: Pass) -> Result<Box<Held
 }
 
 /// The senders so, in order.
+#[tactic(auto, using(crate::proofs::Filling::is_of, cc_queue::proofs::Seated::other_seats, crate::proofs::Filling::next_held))]
 fn keep_senders(
     alloc: Global,
     queue: &Queue,
@@ -149,6 +150,7 @@ fn keep_senders(
 }
 
 /// The same for the receivers, which come after this number of senders in the row of passes.
+#[tactic(auto, using(crate::proofs::Filling::is_of, cc_queue::proofs::Seated::other_seats, crate::proofs::Filling::next_held))]
 fn keep_receivers(
     alloc: Global,
     queue: &Queue,
