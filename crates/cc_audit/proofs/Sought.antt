@@ -1,12 +1,11 @@
 -- The result of a search for a place among send receipts in the order of their places.
-use Rattle.std.proofs.Common.{◌≡◌, ℕ, ◌+◌, ◌<◌, ◌≤◌, ◌==◌, ◌⊎◌, inl, inr, List, length, Option, Some, None, Ok, Err, get_or, Any, IfSome, refl, sym, ap, ◌∙◌, subst, arith, eq-eqb}
+use Rattle.std.proofs.Common.{◌≡◌, ℕ, ◌+◌, ◌<◌, ◌≤◌, ◌==◌, ◌⊎◌, inl, inr, List, length, Option, Some, Ok, get_or, Any, IfSome, refl, sym, ap, ◌∙◌, subst, arith, eq-eqb}
 use Rattle.std.specs.Ordering.{nat_cmp}
 use Rattle.std.specs.declared.cmp.Ordering.{Ordering}
-use Rattle.std.specs.List.Sorted.{IsBinarySearchResult, IsSortedByKey}
+use Rattle.std.specs.List.Sorted.{IsBinarySearchResult}
 use Rattle.std.proofs.lemmas.Bool.{cases_lt, cases_order}
-use Rattle.std.proofs.lemmas.Cmp.{ranked, nat_cmp_total}
+use Rattle.std.proofs.lemmas.Cmp.{ranked}
 use Rattle.std.proofs.lemmas.List.{get_or_default}
-use Rattle.std.proofs.lemmas.List.Sorted.{searchable_from_sorted}
 use Rattle.cc_audit.specs.Names.{Item, SendReceipt, TakeReceipt}
 use Rattle.cc_audit.specs.Least.{IsLeastUnless, sooner_of}
 use Rattle.cc_audit.specs.Verdict.{SendNames, Differs, Altered, DoubleAccept}
@@ -41,17 +40,6 @@ hit_same sends x i d l found same other =
     doubled sends x.place i other.0 d
     (λ e. same (subst (λ (r : SendReceipt). Differs r x) (sym (ap (λ (k : ℕ). get_or sends k d) e ∙ here)) other.4.1))
     l other.2 (hit_place sends x.place i d found) (ap (λ (r : SendReceipt). r.place) here ∙ other.4.0)
-
--- no receipt names the place
-pub miss : (sends : List SendReceipt) (x : Item) (i : ℕ) → IsSortedByKey (λ s. s.place) nat_cmp sends → IsBinarySearchResult (λ s. nat_cmp s.place x.place) sends (Err i) → AlteredBy sends x → ⊥
-miss sends x i up found other =
-    let s = other.1 in
-    let round = found (searchable_from_sorted nat_cmp_total (λ (r : SendReceipt). r.place) sends x.place up) in
-    let names : (get_or sends other.0 s).place ≡ x.place = ap (λ (r : SendReceipt). r.place) other.3 ∙ other.4.0 in
-    elim (cases_lt other.0 i) [
-      | inl below ↦ (let less : (get_or sends other.0 s).place < x.place = ranked _ x.place Ordering.Less (sym (round.0 other.0 s (omega arith) below)) in absurd (omega arith))
-      | inr past ↦ (let more : x.place < (get_or sends other.0 s).place = ranked _ x.place Ordering.Greater (sym (round.1 other.0 s past other.2)) in absurd (omega arith))
-    ]
 
 -- ---- over the take receipts
 
