@@ -33,11 +33,11 @@ one_more_last v m p n kind g is =
 pub one_step : (v w : View) (p n : ℕ) (last : Event) → n ≤ 1 → HasGone v p n w → last ≡ last_event v p n → (n ≡ 0 → w ≡ v) → (n ≡ 0 → 0 < 1 → event_in v (Some p) ≡ Event.Idle) → (o : Option ℕ) → o ≡ Some p → (last ≡ event_in v o) × HasStepped v o last w
 one_step v w p n last few g is none idle o found = rw found (by n few g is none idle)
   where
-    did : (n : ℕ) (e : Event) → e ≢ Event.Idle → HasGone v p (suc zero) w → HasStepped v (Some p) e w
-    did n (Event.Did kind) some g = record { setting = g.setting; state = g.state }
-    did n Event.Idle some g = absurd (some refl)
+    did : (e : Event) → e ≢ Event.Idle → HasGone v p (suc zero) w → HasStepped v (Some p) e w
+    did (Event.Did kind) some g = record { setting = g.setting; state = g.state }
+    did Event.Idle some g = absurd (some refl)
 
     by : (n : ℕ) → n ≤ 1 → HasGone v p n w → last ≡ last_event v p n → (n ≡ 0 → w ≡ v) → (n ≡ 0 → 0 < 1 → event_in v (Some p) ≡ Event.Idle) → (last ≡ event_in v (Some p)) × HasStepped v (Some p) last w
     by zero few g is none idle = (is ∙ sym (idle refl (omega arith)), subst (λ (e : Event). HasStepped v (Some p) e w) (sym is) (none refl))
-    by (suc zero) few g is none idle = (is, did 1 last (λ none. g.each 0 (omega arith) (sym is ∙ none)) g)
+    by (suc zero) few g is none idle = (is, did last (λ none. g.each 0 (omega arith) (sym is ∙ none)) g)
     by (suc (suc n)) few g is none idle = absurd (omega (arith, few))

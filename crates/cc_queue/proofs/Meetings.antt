@@ -173,13 +173,13 @@ gathered v0 v1 v2 v3 v4 v5 v6 a0 a1 a2 b0 b1 b2 c0 c1 c2 la lb lc one two three 
       given_up_one = sixth.1;
     }
 
--- the first of a list of passes of one queue may meet the others of its own list, and those of two other lists; its seat is v, and
--- its words are z
+-- a pass of a queue may meet others of it; its seat is v, and its words are z
 may_meet : (q z : Topic) (others : List Walk) (x v : Walk) → z ≡ q → v ≡ x → HasStopped v → IsOf q x → All (IsOf q) others → MayMeet z v others
 may_meet q z others x v words seat still here others_are =
     subst (λ (y : Topic × Walk). HasStopped y.1 → MayMeet y.0 y.1 others) (λ i. (sym words i, sym seat i))
     (λ stop. record { here = here; still = stop; others = λ k d less. let there : IsOf q (get_or others k d) = others_are k d less in (there.0 ∙ sym here.0, there.1 ∙ sym here.1) }) still
 
+-- the first of a list of passes may meet the others of its own list, and those of two other lists
 pub may_gather : (q z : Topic) (all rest second third : List Walk) (x v : Walk) → z ≡ q → v ≡ x → HasStopped v → All (IsOf q) all → All (IsOf q) second → All (IsOf q) third → all ≡ x ∷ rest → MayMeet z v rest × MayMeet z v second × MayMeet z v third
 may_gather q z all rest second third x v words seat still are second_are third_are is =
     let listed : All (IsOf q) (x ∷ rest) = subst (All (IsOf q)) is are in
