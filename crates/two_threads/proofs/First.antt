@@ -220,7 +220,3 @@ taken_alone n u w told z c here none one has =
 -- and of one with one sender
 pub sent_alone : (v w : Walk) (body : Body) (place : ℕ) (z : Topic) → Completed v (Call.Send body) (Answer.Send (SendAnswer.Accepted place)) w → IsOf z v → v.made ≡ [] → z.setting.config.senders ≡ 1 → BeginsWith (noted_by w) body
 sent_alone v w body place z k here none one = sent_first v w body place k none (ap (λ (s : Setting). s.config.senders) (k.stands.same.1 ∙ here.1) ∙ one)
-
--- the first item is one
-pub one_first : (n : Noted) (body : Body) (item : Item) → BeginsWith n body → IsFirst n item → item.body ≡ body
-one_first n body item b first = let some : Some b.item ≡ Some item = sym b.first ∙ first in let same : b.item ≡ item = cc in ap (λ (x : Item). x.body) (sym same) ∙ b.body_is
