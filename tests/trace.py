@@ -67,10 +67,12 @@ def plans():
 def finds_what_is_wrong():
     """Whether each wrong trace is found, and the right one is let through."""
     due = derived((TOP / "examples/bodies_of_words.json").read_bytes())
-    missed = [name for name, lines in wrong_traces(due[2]) if difference((0, "", "".join(lines)), due) is None]
-    if missed or difference(due, due):
-        print(f"trace: {missed or 'the right trace'} was judged wrongly, so this script finds nothing")
-    return not missed and difference(due, due) is None
+    misjudged = [name for name, lines in wrong_traces(due[2]) if difference((0, "", "".join(lines)), due) is None]
+    if difference(due, due):
+        misjudged.append("the right trace")
+    if misjudged:
+        print(f"trace: {misjudged} judged wrongly, so this script finds nothing")
+    return not misjudged
 
 
 def refuses(program, words):
