@@ -138,10 +138,10 @@ def items_between(source, at, end):
 
 
 def attributes_at(source, at):
-    """The attributes from here on that say something, and the token behind them."""
-    kept = []
-    while source.token(at) == "#":
-        first = at + 1 + (source.token(at + 1) == "!")
+    """The attributes from here on that say something, of the whole file or of an item, and the token behind them."""
+    kept, of_file = [], source.token(at + 1) == "!"
+    while source.token(at) == "#" and (source.token(at + 1) == "!") == of_file:
+        first = at + 1 + of_file
         end = source.partner[first] + 1
         if source.token(first + 1) not in SILENT:
             kept.append(sorted_derive(one_line(source.slice(at, end))))
