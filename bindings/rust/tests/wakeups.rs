@@ -421,21 +421,20 @@ fn no_interleaving_loses_a_wake_up() {
     }
 }
 
-/// Each step is needed: without it some interleaving stops for good.
+/// Each step is needed: without it some interleaving of this model stops for good.
 #[test]
 fn the_search_finds_each_fault() {
-    for fault in [
-        Fault::NoTryInLine,
-        Fault::LookBeforeMaking,
-        Fault::TakerKeepsRing,
-        Fault::DroppedKeepsRing,
-        Fault::NoTryAtTheEnd,
-        Fault::SelectKeepsOther,
-        Fault::ReadyKeepsRing,
-        Fault::GivesBackSilently,
+    for (fault, model) in [
+        (Fault::NoTryInLine, 0),
+        (Fault::LookBeforeMaking, 0),
+        (Fault::TakerKeepsRing, 1),
+        (Fault::DroppedKeepsRing, 4),
+        (Fault::NoTryAtTheEnd, 3),
+        (Fault::SelectKeepsOther, 13),
+        (Fault::ReadyKeepsRing, 13),
+        (Fault::GivesBackSilently, 15),
     ] {
-        let found = MODELS.iter().any(|kinds| search(kinds, fault).is_err());
-        assert!(found, "{fault:?}");
+        assert!(search(MODELS[model], fault).is_err(), "{fault:?}");
     }
 }
 
