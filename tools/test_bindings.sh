@@ -25,15 +25,16 @@ elif ! make -k -s -C bindings/c "$([ -n "$quick" ] && echo check || echo check-a
 fi
 
 cd bindings/rust || exit 1
-# Of what a debugger is told, lines are enough here: they stand in what valgrind and the sanitizers say.
-export CARGO_TARGET_DIR=$room/target CARGO_TERM_COLOR=never CARGO_PROFILE_DEV_DEBUG=line-tables-only
+# Of what a debugger is told, lines are enough here: they stand in what valgrind and the sanitizers say. Nothing is compiled a
+# second time after a change, so what cargo would keep for that isn't made.
+export CARGO_TARGET_DIR=$room/target CARGO_TERM_COLOR=never CARGO_PROFILE_DEV_DEBUG=line-tables-only CARGO_INCREMENTAL=0
 options=(--quiet --locked --offline)
 if ! cargo --version >/dev/null 2>&1; then
     skip 'the crate in Rust' 'cargo is not on this machine'
     end_steps
 fi
-# Without valgrind and the rest a fifth of the rounds of the long tests is made.
-[ -z "$quick" ] || export VAHEPITO_ROUNDS=20
+# Without valgrind and the rest no lines are needed, and a twentieth of the rounds of the long tests is made.
+[ -z "$quick" ] || export VAHEPITO_ROUNDS=5 CARGO_PROFILE_DEV_DEBUG=none
 limit=600 step 'Rust: tests' cargo "${options[@]}" test
 step 'Rust: the thread pool' bash -c "prints '9592 primes below 100000' cargo ${options[*]} run --example thread_pool"
 step 'Rust: the pipeline' bash -c "prints '77031 takes 350 steps' cargo ${options[*]} run --example pipeline"
