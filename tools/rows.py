@@ -4,8 +4,8 @@ of tests/command_lines.
 
     tools/rows.py           the programs in crates/ccq/out
     tools/rows.py --manual  writes docs/ccq.1 of the texts of help
-    tools/rows.py --try     the program that `rt try` compiles, on one row of 24: statuses and standard outputs alone, as
-                            a case there costs half a second
+    tools/rows.py --try     the program that `rt try` compiles, on the first row of each task and status and each 250th after it,
+                            as a row there costs half a second: statuses and standard outputs alone
 
 NAME.expect in tests/corpus has the task and the status in its first line, what must stand on standard error in its second,
 and then the standard output. tests/places has the names of the refused rows, each with what `ccq why` must tell of its input. The
@@ -16,6 +16,7 @@ limit and one item past it; a large input in little memory; a word that is no te
 each text of help. Before them, the script shows that it finds a wrong status, a wrong text, one on the other output, a word
 too many, and an input that was read. Exit status 0 if all did so. It proves and builds nothing: `rt ci` does.
 """
+import collections
 import dataclasses
 import os
 import pathlib
@@ -30,7 +31,8 @@ LIMIT = 16777216
 UNREAD = b"untouched"
 CLEAN = b"E 0 s1 send 7 -> accepted 0\naudit clean\n"
 MANUAL = TOP / "docs/ccq.1"
-HELPS = ["ccq", "ccq play", "ccq audit", "ccq judge", "ccq why", "ccq drive"]
+TASKS = ["play", "audit", "judge", "why", "drive"]
+HELPS = ["ccq", *(f"ccq {task}" for task in TASKS)]
 
 
 @dataclasses.dataclass(frozen=True)
@@ -241,8 +243,13 @@ def write_manual():
 def on_tried():
     """The rows as the cases of one `rt try`, whose lines tell each one's status, and whether its output is the expected one."""
     rows = [*corpus(), *places(), *command_lines((TOP / "tests/command_lines").read_text())]
-    # `rt try` runs the program in a folder of its own
-    rows = dict([it for it in rows if not any((TOP / word).exists() for word in it[1].words)][::24])
+    alike = collections.defaultdict(list)
+    for name, row in rows:
+        task, *others = row.words or [""]
+        # `rt try` runs the program in a folder of its own
+        if not any((TOP / word).exists() for word in others):
+            alike[task if task in TASKS else "", row.status].append((name, row))
+    rows = dict(it for part in alike.values() for it in part[::250])
     with tempfile.TemporaryDirectory() as folder:
         for name, row in rows.items():
             case = pathlib.Path(folder, name)
