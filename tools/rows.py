@@ -12,9 +12,10 @@ and then the standard output. tests/places has the names of the refused rows, ea
 head of tests/command_lines says how its rows are written.
 
 Behind the rows: docs/ccq.1 beside the texts of help; every front of two plans; inputs of 16 MiB, at the limit and one byte past it; lists of a plan at their
-limit and one item past it; a large input in little memory; a word that is no text; outputs without room; and the width of
-each text of help. Before them, the script shows that it finds a wrong status, a wrong text, one on the other output, a word
-too many, and an input that was read. Exit status 0 if all did so. It proves and builds nothing: `rt ci` does.
+limit and one item past it; a large input in little memory; a word that is no text; outputs without room, at once or after a
+prefix of the text; and the width of each text of help. Before them, the script shows that it finds a wrong status, a wrong
+text, a wrong prefix, one on the other output, a word too many, and an input that was read. Exit status 0 if all did so. It
+proves and builds nothing: `rt ci` does.
 """
 import collections
 import dataclasses
@@ -22,6 +23,7 @@ import os
 import pathlib
 import re
 import resource
+import signal
 import subprocess
 import sys
 import tempfile
@@ -141,8 +143,25 @@ def is_told(program, words, status, err, **outputs):
     return False
 
 
+def fills(program, words, text):
+    """Whether a program whose output takes this text and no byte more writes it, and ends with status 4 and its line."""
+
+    def bounds():
+        # A write past the limit fails, and doesn't stop the program.
+        signal.signal(signal.SIGXFSZ, signal.SIG_IGN)
+        resource.setrlimit(resource.RLIMIT_FSIZE, (len(text), len(text)))
+
+    with tempfile.TemporaryFile() as output:
+        well = is_told(program, words, 4, b"ccq: writing failed\n", stdout=output, stderr=subprocess.PIPE, preexec_fn=bounds)
+        output.seek(0)
+        seen = output.read()
+    if seen != text:
+        print(f"{program} {words}: {seen!r} on an output that takes {text!r}")
+    return well and seen == text
+
+
 def without_room(program):
-    """A large input in little memory, a word that is no text, and outputs that are full."""
+    """A large input in little memory, a word that is no text, and outputs that are full, at once or after some bytes."""
     objects = b"[" + (b'{"a":0},' * (LIMIT // 8))[: LIMIT - 8] + b"0]"
     for task in ("play", "audit", "why"):
         yield does(program, Row([task], 3, err=b"ccq: out of memory\n", input=objects), memory=200000 * 1024)
@@ -153,6 +172,9 @@ def without_room(program):
             yield is_told(program, line.split(), 4, b"ccq: writing failed\n", stdout=full, stderr=subprocess.PIPE)
         yield is_told(program, ["drive", "--senders", "64"], 64, b"", stdout=subprocess.DEVNULL, stderr=full)
         yield is_told(program, ["drive", "--items", "5"], 4, b"", stdout=full, stderr=full)
+    for text in (b"", b"sent 20\n", b"sent 20\ntaken 20\n", b"sent 20\ntaken 20\naudit clean"):
+        yield fills(program, ["drive", "--items", "5"], text)
+    yield fills(program, ["drive", "--help"], b"Drives")
 
 
 def helps(program):
@@ -212,7 +234,7 @@ def finds_what_is_wrong(program):
         return False
     with open(os.devnull, "w") as quiet:
         shown, sys.stdout = sys.stdout, quiet
-        found = [not does(program, it) for it in wrong]
+        found = [*(not does(program, it) for it in wrong), not fills(program, ["drive", "--items", "5"], b"sent 21\n")]
         sys.stdout = shown
     if not all(found):
         print(f"rows: wrong row {found.index(False)} was let through, so this script finds nothing")
@@ -231,7 +253,7 @@ def on_programs():
         if not well:
             return False
         corpus_rows, told, lines, large = map(len, rows)
-        print(f"{program}: {corpus_rows} inputs of tests/corpus and {told} answers of why, {lines} command lines, and {large + 9} fronts of plans, large inputs and full outputs")
+        print(f"{program}: {corpus_rows} inputs of tests/corpus and {told} answers of why, {lines} command lines, and {large + 14} fronts of plans, large inputs and full outputs")
     return bool(built)
 
 

@@ -1,7 +1,6 @@
 //! Gates of the tests.
 ghost use Rattle.std.specs.Prelude.{◌≡◌, ◌+◌, IfOk, length, vec_len};
 
-use cc_command::Open;
 use cc_drive::{DriveConfig, DriveEnd, DriveFault, Gate, Go, Point, drive};
 use crossbeam_utils::Backoff;
 use std::alloc::{AllocError, Global};
@@ -9,9 +8,11 @@ use std::sync::Wait;
 use std::sync::atomic::{AtomicBool, AtomicU64, Ordering};
 use std::thread::Threads;
 
-/// A gate of a test, of either kind. They are one type, so that `drive` is compiled once for all of them.
+/// A gate of a test, of any kind. They are one type, so that `drive` is compiled once for all of them.
 #[derive(Drop)]
 pub enum TestGate<'a> {
+    /// Holds no worker up.
+    Open,
     Counts(Counting<'a>),
     Meets(Meeting<'a>),
 }
@@ -19,6 +20,7 @@ pub enum TestGate<'a> {
 impl<'a> Gate for TestGate<'a> {
     fn at(&mut self, point: Point) -> Go {
         match self {
+            TestGate::Open => Go::On,
             TestGate::Counts(counting) => counting.at(point),
             TestGate::Meets(meeting) => meeting.at(point),
         }
@@ -134,12 +136,12 @@ pub fn drive_counted<R: Threads + Wait + Sync>(
 }
 
 /// So many gates that hold no worker up.
-fn open_gates(alloc: Global, count: u64) -> Result<Vec<Open>, AllocError>
+fn open_gates<'a>(alloc: Global, count: u64) -> Result<Vec<TestGate<'a>>, AllocError>
     ensures { IfOk result (λ v. vec_len v ≡ count) }
 {
     let mut gates = Vec::new(alloc);
     for _ in 0..count {
-        gates.push(Open)?;
+        gates.push(TestGate::Open)?;
     }
     Ok(gates)
 }
