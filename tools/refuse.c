@@ -2,7 +2,8 @@
  * A library to be loaded before a program: refuses one of the allocations that the program itself makes, by answering null.
  * The variable REFUSE has its number, from 1; 0 refuses none. In the same way REFUSE_THREAD has the number of the thread
  * that isn't started. At each allocation that the program makes, one byte goes to
- * file descriptor 9, so that the length of what came there counts them, also where the program was stopped by a signal.
+ * file descriptor 9, so that the length of what came there counts them, also where the program was stopped by a signal. The
+ * byte is the number of bits of the size.
  *
  * What the C library asks for within its own calls is let through and not counted. Threads may run: each allocation has a
  * number of its own. Over glibc.
@@ -50,32 +51,33 @@ __attribute__((constructor)) static void begin(void) {
     dl_iterate_phdr(measure, NULL);
 }
 
-/* Counts an allocation that is asked for at this place of the code, and tells whether it is the one to refuse. */
-static int is_refused(void *place) {
+/* Counts an allocation of this size that is asked for at this place of the code, and tells whether it is the one to refuse. */
+static int is_refused(void *place, size_t size) {
     if ((uintptr_t)place < low || (uintptr_t)place >= high)
         return 0;
     long number = __atomic_add_fetch(&met, 1, __ATOMIC_SEQ_CST);
-    if (write(9, ".", 1) != 1)
+    unsigned char bits = size ? 64 - __builtin_clzl(size) : 0;
+    if (write(9, &bits, 1) != 1)
         _exit(99);
     if (number == refused)
         errno = ENOMEM;
     return number == refused;
 }
 
-#define IS_REFUSED is_refused(__builtin_return_address(0))
+#define IS_REFUSED(size) is_refused(__builtin_return_address(0), size)
 
-void *malloc(size_t size) { return IS_REFUSED ? NULL : __libc_malloc(size); }
+void *malloc(size_t size) { return IS_REFUSED(size) ? NULL : __libc_malloc(size); }
 
-void *calloc(size_t count, size_t size) { return IS_REFUSED ? NULL : __libc_calloc(count, size); }
+void *calloc(size_t count, size_t size) { return IS_REFUSED(count * size) ? NULL : __libc_calloc(count, size); }
 
-void *realloc(void *old, size_t size) { return IS_REFUSED ? NULL : __libc_realloc(old, size); }
+void *realloc(void *old, size_t size) { return IS_REFUSED(size) ? NULL : __libc_realloc(old, size); }
 
-void *memalign(size_t edge, size_t size) { return IS_REFUSED ? NULL : __libc_memalign(edge, size); }
+void *memalign(size_t edge, size_t size) { return IS_REFUSED(size) ? NULL : __libc_memalign(edge, size); }
 
-void *aligned_alloc(size_t edge, size_t size) { return IS_REFUSED ? NULL : __libc_memalign(edge, size); }
+void *aligned_alloc(size_t edge, size_t size) { return IS_REFUSED(size) ? NULL : __libc_memalign(edge, size); }
 
 int posix_memalign(void **made, size_t edge, size_t size) {
-    if (IS_REFUSED)
+    if (IS_REFUSED(size))
         return ENOMEM;
     void *found = __libc_memalign(edge, size);
     if (found)

@@ -9,7 +9,7 @@
 - `ccq drive` by three threads that send 100 items each beside two that take: each allocation, until ten runs in a row have
   asked for fewer, since their number depends on the order of the threads; then each of the five threads isn't started. The
   run must come to its clean end, or print nothing and end with status 3 and one line: memory, or a thread. It asks for no
-  sixth thread.
+  sixth thread, and with a capacity of 4096 for a larger allocation than with 64.
 - `cc_memory_rows`, which opens three topics and three machines, plays calls, audits receipts and prints each answer: each
   allocation, and 100 runs more. Either a call fails for want of memory, with status 3 and a beginning of the answers; or a
   begin was refused, was made again, and the answers are whole; or the program did without. Each of FAULTS must have come.
@@ -39,8 +39,8 @@ FAULTS = {
 MET = 9
 AGAIN = b"begin: 1 refused, and made again\n"
 
-# What a run left, and how many allocations it asked for.
-Ran = collections.namedtuple("Ran", "status out err met")
+# What a run left, how many allocations it asked for, and how many bits the size of the largest has.
+Ran = collections.namedtuple("Ran", "status out err met bits")
 
 
 class Wrong(Exception):
@@ -64,7 +64,8 @@ def run(library, words, input=os.devnull, memory=0, thread=0):
         # The library writes a byte there for each allocation.
         os.dup2(met.fileno(), MET)
         ran = subprocess.run(words, stdin=given, capture_output=True, timeout=60, env=env, pass_fds=[MET])
-        return Ran(ran.returncode, ran.stdout, ran.stderr, os.fstat(MET).st_size)
+        sizes = os.pread(MET, os.fstat(MET).st_size, 0)
+        return Ran(ran.returncode, ran.stdout, ran.stderr, len(sizes), max(sizes, default=0))
 
 
 def refuse_each(library, words, input=os.devnull):
@@ -130,6 +131,9 @@ def refuse_drive(library, program):
         ran = run(library, [program, *DRIVE], thread=thread)
         if ran[:3] != (ends[1] if thread < 6 else whole):
             raise Wrong(f"{program}: thread {thread} of 5 refused: neither status 3 with its line nor, of a sixth, the clean end, but {ran}")
+    least, most = (run(library, [program, "drive", "--items", "5", "--capacity", it]).bits for it in ("64", "4096"))
+    if least >= most:
+        raise Wrong(f"{program}: the largest allocation has {least} bits with a capacity of 64, and {most} with one of 4096")
     return f"each allocation of a driven run: {refused} runs said so, {number - refused} came to their clean end; and each of its 5 threads"
 
 
