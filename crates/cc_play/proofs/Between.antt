@@ -17,7 +17,6 @@ use Rattle.cc_runs.proofs.Chains.Frame.{hold_here, hold_apart}
 use Rattle.cc_plan.specs.Plan.{PlanValue}
 use Rattle.cc_plan.specs.PlanLaws.{IsOfSender, Lawful}
 use Rattle.cc_play.specs.Schedule.{setting_of, next_call, IsBetweenTurns}
-use Rattle.cc_play.proofs.Followed.{written_back}
 
 -- ---- the opening
 
@@ -35,10 +34,6 @@ opened_between plan m begun h = record {
   where
     stands : (r : ℕ) → (told_at ((state_in m).stand r).place ≡ None) × (((state_in m).stand r).begun ≡ 0)
     stands r = opened_stand (nat_lt r (passes (setting_of plan))) _ ((state_in m).stand r) (sym (ap (λ (s : State). s.stand r) h.state))
-
--- a slice of the whole list that was written back
-pub back_between : (plan : PlanValue) (m : View) (n : ℕ) (xs ys : List ℕ) → length ys ≡ length xs → n ≡ length xs → IsBetweenTurns plan m ys → IsBetweenTurns plan m (take n (ys ++ drop (length ys) xs))
-back_between plan m n xs ys same all between = rw (written_back n xs ys same all) between
 
 -- ---- within a turn
 

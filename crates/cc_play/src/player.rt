@@ -184,6 +184,7 @@ fn open(alloc: Global, config: &Config) -> Result<Machine, AllocError>
 }
 
 /// Follows the whole schedule of a plan on its machine, just opened.
+#[tactic(auto, using(crate::proofs::Followed::finished))]
 fn follow(alloc: Global, machine: &mut Machine, plan: &Plan) -> Result<(), AllocError>
     requires lawful { Lawful (plan_value plan.now) }
     requires opened { IsOpened Served.List (plan_value plan.now).config machine.old }
