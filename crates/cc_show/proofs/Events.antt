@@ -1,6 +1,6 @@
 -- The events of a run, turn by turn.
-use Rattle.std.proofs.Common.{◌≡◌, ◌<◌, ◌≤◌, ℕ, zero, suc, ◌+◌, ◌-◌, List, [], ◌∷◌, ◌++◌, length, get_or, drop, Option, Some, None, refl, sym, ap, ◌∙◌, subst, arith}
-use Rattle.std.proofs.lemmas.List.{drop_all, length-append}
+use Rattle.std.proofs.Common.{◌≡◌, ◌<◌, ◌≤◌, ℕ, zero, suc, ◌+◌, ◌-◌, List, [], ◌∷◌, ◌++◌, length, get_or, drop, Option, Some, None, refl, sym, ap, ◌∙◌, subst, arith, add-one}
+use Rattle.std.proofs.lemmas.List.{length-append}
 use Rattle.cc_runs.specs.declared.place.Kind.{Kind}
 use Rattle.cc_runs.specs.declared.place.Event.{Event}
 use Rattle.cc_runs.specs.declared.place.Place.{Place}
@@ -9,12 +9,14 @@ use Rattle.cc_runs.specs.declared.word.Word.{Word}
 use Rattle.cc_model.specs.declared.call.Call.{Call}
 use Rattle.cc_model.specs.declared.call.Pass.{Pass}
 use Rattle.cc_runs.specs.Lines.{event_at}
+use Rattle.cc_runs.specs.Run.{reached, IsRun}
 use Rattle.cc_machine.specs.Machine.{index_of}
 use Rattle.cc_machine.specs.View.{View, state_in}
 use Rattle.cc_machine.specs.Reads.{word_in}
 use Rattle.cc_machine.proofs.Rows.{inside}
 use Rattle.cc_plan.specs.Plan.{PlanValue}
 use Rattle.cc_play.specs.Schedule.{setting_of, place_in, begun_in, next_call, begins_at, begins, steps_at, steps, takes_at, turn, turns, entry, follow, run_of, IsAt, HasTurned, HasEnded}
+use Rattle.cc_play.proofs.Followed.{LeadsOn, ended}
 use Rattle.cc_play.proofs.Turns.{stays_on}
 use Rattle.cc_show.specs.declared.player.Done.{Done}
 use Rattle.cc_show.specs.Events.{done_at, noted, happened, Stands}
@@ -43,8 +45,15 @@ turn_noted plan who row run =
     taken_none plan row (place_in plan (steps plan row begun) row) (steps plan row begun) ∙ stepped_one plan row begun (event_at (place_in plan begun row)) refl
     ∙ ap (λ (events : List Done). noted (event_at (place_in plan begun row)) (done_at plan begun row) events) (begun_none plan row (place_in plan run row) (next_call plan who (begun_in row run)) _ run)
 
+-- ---- an entry
+
+-- these turns led there, of each run that the machine may have been at
+pub record HasShown (plan : PlanValue) (who : Pass) (row n : ℕ) (old new : View) (begun_old begun_new : List ℕ) (had events : List Done) : Type 0 where
+  pub on : (run : List Move) → Stands plan old begun_old had run → Stands plan new begun_new events (turns plan who row n run)
+
 module _ (plan : PlanValue) (who : Pass) (row : ℕ) (named : index_of (setting_of plan) who ≡ Some row) where
-  -- ---- an entry
+  pub none_shown : (m : View) (begun : List ℕ) (events : List Done) → HasShown plan who row 0 m m begun begun events events
+  none_shown m begun events = record { on = λ run s. s }
 
   -- one turn more
   turned_more : (m1 m2 : View) (begun1 begun2 : List ℕ) (events : List Done) (n : ℕ) (e : Event) (run : List Move) → Stands plan m1 begun1 events (turns plan who row n run)
@@ -58,32 +67,34 @@ module _ (plan : PlanValue) (who : Pass) (row : ℕ) (named : index_of (setting_
       }
 
   -- with an event, which was read before and after
-  pub one_more : (m1 m2 : View) (begun1 begun2 : List ℕ) (events events2 : List Done) (n : ℕ) (kind : Kind) (run : List Move) → Stands plan m1 begun1 events (turns plan who row n run)
-      → HasTurned plan who row m1 m2 begun1 begun2 (Event.Did kind) → (call : ℕ) (word : Word) (before after : ℕ)
-      → events2 ≡ events ++ record { row = row; pass = who; call = call; kind = kind; word = word; before = before; after = after } ∷ []
-      → call ≡ get_or begun2 row 0 → word ≡ word_in m1 row → before ≡ (state_in m1).mem word → after ≡ (state_in m2).mem word
-      → Stands plan m2 begun2 events2 (turns plan who row (suc n) run)
-  one_more m1 m2 begun1 begun2 events events2 n kind run s turned call word before after new call_is word_is before_is after_is =
-      let here : List Move = turns plan who row n run in
-      let later : IsAt plan m2 begun2 (turn plan who row here) = turned.at here s.at in
-      let within : row < length begun2 = omega (arith, later.rows, inside (setting_of plan) who row named) in
-      let is = seen plan who row named m1 m2 begun1 begun2 kind here s.at later within (sym (turned.told here s.at)) call word before after call_is word_is before_is after_is in
-      subst (λ (es : List Done). Stands plan m2 begun2 es (turns plan who row (suc n) run)) (sym (new ∙ ap (λ (d : Done). events ++ d ∷ []) is))
-      (turned_more m1 m2 begun1 begun2 events n (Event.Did kind) run s turned)
+  pub one_more : (m m1 m2 : View) (begun begun1 begun2 : List ℕ) (had events events2 : List Done) (n : ℕ) (kind : Kind) → HasShown plan who row n m m1 begun begun1 had events → HasTurned plan who row m1 m2 begun1 begun2 (Event.Did kind)
+      → (word : Word) (before after : ℕ) → events2 ≡ events ++ record { row = row; pass = who; call = get_or begun2 row 0; kind = kind; word = word; before = before; after = after } ∷ []
+      → word ≡ word_in m1 row → before ≡ (state_in m1).mem word → after ≡ (state_in m2).mem word → HasShown plan who row (n + 1) m m2 begun begun2 had events2
+  one_more m m1 m2 begun begun1 begun2 had events events2 n kind shown turned word before after new word_is before_is after_is = record {
+    on = λ run stands.
+        let here : List Move = turns plan who row n run in
+        let s = shown.on run stands in
+        let later : IsAt plan m2 begun2 (turn plan who row here) = turned.at here s.at in
+        let within : row < length begun2 = omega (arith, later.rows, inside (setting_of plan) who row named) in
+        let is = seen plan who row named m1 m2 begun1 begun2 kind here s.at later within (sym (turned.told here s.at)) (get_or begun2 row 0) word before after refl word_is before_is after_is in
+        rw (add-one n) (subst (λ (es : List Done). Stands plan m2 begun2 es (turns plan who row (suc n) run)) (sym (new ∙ ap (λ (d : Done). events ++ d ∷ []) is))
+        (turned_more m1 m2 begun1 begun2 events n (Event.Did kind) run s turned));
+  }
 
   -- the pass has no event more
-  pub no_more : (m1 m2 : View) (begun1 begun2 : List ℕ) (events : List Done) (n count : ℕ) (run : List Move) → n < count → Stands plan m1 begun1 events (turns plan who row n run)
-      → HasTurned plan who row m1 m2 begun1 begun2 Event.Idle → Stands plan m2 begun2 events (entry plan who (index_of (setting_of plan) who) count run)
-  no_more m1 m2 begun1 begun2 events n count run less s turned =
+  pub no_more : (m m1 m2 : View) (begun begun1 begun2 : List ℕ) (had events : List Done) (n count : ℕ) → n < count → HasShown plan who row n m m1 begun begun1 had events → HasTurned plan who row m1 m2 begun1 begun2 Event.Idle
+      → (run : List Move) → Stands plan m begun had run → Stands plan m2 begun2 events (entry plan who (index_of (setting_of plan) who) count run)
+  no_more m m1 m2 begun begun1 begun2 had events n count less shown turned run stands =
+      let s = shown.on run stands in
       let now : Stands plan m2 begun2 events (turns plan who row (suc n) run) = turned_more m1 m2 begun1 begun2 events n Event.Idle run s turned in
       let over : HasEnded plan who row (turns plan who row (suc n) run) = turned.ended (turns plan who row n run) s.at refl in
       let rest : suc n + (count - suc n) ≡ count = omega arith in
       let stays : turns plan who row count run ≡ turns plan who row (suc n) run = ap (λ (k : ℕ). turns plan who row k run) (sym rest) ∙ stays_on plan who row named (suc n) (count - suc n) run over in
       rw (named, stays) now
 
-  pub to_the_end : (m : View) (begun : List ℕ) (events : List Done) (n count : ℕ) (run : List Move) → n ≡ count → Stands plan m begun events (turns plan who row n run)
-      → Stands plan m begun events (entry plan who (index_of (setting_of plan) who) count run)
-  to_the_end m begun events n count run last s = rw (named, ← last) s
+  pub all_shown : (m m1 : View) (begun begun1 : List ℕ) (had events : List Done) (n count : ℕ) → n ≡ count → HasShown plan who row n m m1 begun begun1 had events
+      → (run : List Move) → Stands plan m begun had run → Stands plan m1 begun1 events (entry plan who (index_of (setting_of plan) who) count run)
+  all_shown m m1 begun begun1 had events n count last shown run stands = rw (named, ← last) (shown.on run stands)
 
 -- ---- later runs have the events of the earlier ones
 
@@ -114,14 +125,14 @@ follow_grows plan (e ∷ entries) run =
     omega (arith, first, rest)
 
 -- more events than a limit on the way to a plan's run
-pub too_many : (plan : PlanValue) (entries : List (Pass × ℕ)) (run : List Move) (events : List Done) (limit : ℕ) → follow plan entries run ≡ run_of plan → events ≡ happened plan run → limit < length events
-    → limit < length (happened plan (run_of plan))
-too_many plan entries run events limit leads told many =
-    let grown : length (happened plan run) ≤ length (happened plan (run_of plan)) = subst (λ (r : List Move). length (happened plan run) ≤ length (happened plan r)) leads (follow_grows plan entries run) in
-    omega (arith, ap length told, many, grown)
+pub too_many : (plan : PlanValue) (m : View) (begun : List ℕ) (events : List Done) (i limit : ℕ) → LeadsOn plan (Stands plan m begun events) i → limit < length events → limit < length (happened plan (run_of plan))
+too_many plan m begun events i limit on many =
+    let grown = subst (λ (r : List Move). length (happened plan on.run) ≤ length (happened plan r)) on.leads (follow_grows plan (drop i plan.schedule) on.run) in
+    omega (arith, ap length on.at.told, many, grown)
 
 -- all entries were followed
-pub all_told : (plan : PlanValue) (run : List Move) (events : List Done) (i : ℕ) → length plan.schedule ≤ i → follow plan (drop i plan.schedule) run ≡ run_of plan → events ≡ happened plan run → events ≡ happened plan (run_of plan)
-all_told plan run events i past leads told =
-    let none : drop i plan.schedule ≡ [] = drop_all i plan.schedule past in
-    told ∙ ap (happened plan) (ap (λ (es : List (Pass × ℕ)). follow plan es run) (sym none) ∙ leads)
+pub all_told : (plan : PlanValue) (m : View) (begun : List ℕ) (events : List Done) (i : ℕ) → length plan.schedule ≤ i → LeadsOn plan (Stands plan m begun events) i → IsRun (setting_of plan) (run_of plan)
+    × (m.setting ≡ setting_of plan)
+    × (state_in m ≡ reached (setting_of plan) (run_of plan))
+    × (events ≡ happened plan (run_of plan))
+all_told plan m begun events i past on = let s = ended plan (Stands plan m begun events) i past on in (s.at.moves, s.at.setting, s.at.state, s.told)

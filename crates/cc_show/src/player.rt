@@ -42,6 +42,7 @@ pub struct Played {
 }
 
 /// Up to this number of events of a pass, one by one.
+#[tactic(auto, using(crate::proofs::Events::none_shown, crate::proofs::Events::one_more, crate::proofs::Events::all_shown))]
 fn follow_entry(
     machine: &mut Machine,
     begun: &mut [usize],

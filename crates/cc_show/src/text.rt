@@ -14,6 +14,7 @@ use cc_model::Call;
 use cc_plan::{Plan, Report, write_body, write_report};
 
 /// Writes the page of a plan's events and of a report, and stops at the first write that fails.
+#[tactic(auto, using(cc_device::proofs::Writing::both_out, cc_device::proofs::Writing::first_failed), unfolding(crate::specs::Page::page_text))]
 pub fn write_page<W: Sink>(
     sink: &mut W,
     plan: &Plan,
@@ -30,6 +31,7 @@ pub fn write_page<W: Sink>(
 }
 
 /// Writes what comes before the report, and the report, and stops at the first write that fails.
+#[tactic(auto, using(cc_device::proofs::Writing::both_out, cc_device::proofs::Writing::first_failed), unfolding(crate::specs::Page::told_text))]
 fn write_told<W: Sink>(
     sink: &mut W,
     plan: &Plan,
@@ -91,6 +93,7 @@ fn write_config<W: Sink>(sink: &mut W, pen: &mut Pen, plan: &Plan)
 }
 
 /// Writes a line for each sender.
+#[tactic(auto, using(cc_plan::proofs::Lines::none))]
 fn write_senders<W: Sink>(sink: &mut W, pen: &mut Pen, senders: &[Vec<Call>])
     requires { pen.old.failed ≡ false → W.write_failures sink.old < 2 ^ 64 - 1 }
     ensures { Pens (desk pen.old (W.bytes_written sink.old) (W.write_failures sink.old))
@@ -104,6 +107,7 @@ fn write_senders<W: Sink>(sink: &mut W, pen: &mut Pen, senders: &[Vec<Call>])
 }
 
 /// Writes the calls of a sender.
+#[tactic(auto, using(cc_plan::proofs::Lines::none, cc_plan::proofs::Lines::all))]
 fn write_calls<W: Sink>(sink: &mut W, pen: &mut Pen, calls: &[Call])
     requires { pen.old.failed ≡ false → W.write_failures sink.old < 2 ^ 64 - 1 }
     ensures { Pens (desk pen.old (W.bytes_written sink.old) (W.write_failures sink.old))
@@ -131,6 +135,7 @@ fn write_call<W: Sink>(sink: &mut W, pen: &mut Pen, call: Call)
 }
 
 /// Writes how often each receiver takes.
+#[tactic(auto, using(cc_plan::proofs::Lines::none, cc_plan::proofs::Lines::all))]
 fn write_receivers<W: Sink>(sink: &mut W, pen: &mut Pen, takes: &[u32])
     requires { pen.old.failed ≡ false → W.write_failures sink.old < 2 ^ 64 - 1 }
     ensures { Pens (desk pen.old (W.bytes_written sink.old) (W.write_failures sink.old))
@@ -142,6 +147,7 @@ fn write_receivers<W: Sink>(sink: &mut W, pen: &mut Pen, takes: &[u32])
 }
 
 /// Writes the events.
+#[tactic(auto, using(cc_plan::proofs::Lines::none, cc_plan::proofs::Lines::all))]
 fn write_events<W: Sink>(sink: &mut W, pen: &mut Pen, events: &[Done])
     requires { pen.old.failed ≡ false → W.write_failures sink.old < 2 ^ 64 - 1 }
     ensures { Pens (desk pen.old (W.bytes_written sink.old) (W.write_failures sink.old))

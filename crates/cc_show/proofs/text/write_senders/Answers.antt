@@ -1,10 +1,7 @@
 use Rattle.cc_device.proofs.Writing.{then}
-use Rattle.cc_plan.proofs.Lines.{none, all}
+use Rattle.cc_plan.proofs.Lines.{all}
 use Rattle.cc_show.proofs.Texts.{over_map, named_more}
 use Rattle.cc_show.proofs.text.write_senders.Goals as goal
-
-pub loop-calls-init : goal.loop-calls-init
-loop-calls-init g c = none _ _ _
 
 pub loop-calls-preserved : goal.loop-calls-preserved
 loop-calls-preserved g c =
