@@ -1,6 +1,6 @@
 -- The invariant between turns, and why a pass without an answer to be taken can begin its next
 -- call.
-use Rattle.std.proofs.Common.{◌≡◌, ◌≢◌, ◌<◌, ◌≤◌, ℕ, zero, suc, nat_lt, ◌+◌, ◌-◌, ◌*◌, ◌++◌, List, [], length, get_or, set, take, drop, Bool, true, false, cond, ◌⊎◌, inl, inr, Option, Some, None, Result, Ok, refl, sym, ap, ◌∙◌, subst, arith}
+use Rattle.std.proofs.Common.{◌≡◌, ◌≢◌, ◌<◌, ◌≤◌, ℕ, zero, suc, nat_lt, ◌+◌, ◌-◌, ◌*◌, List, [], length, get_or, set, Bool, true, false, cond, ◌⊎◌, inl, inr, Option, Some, None, Result, Ok, refl, sym, ap, ◌∙◌, subst, arith}
 use Rattle.std.specs.Bool.{⊤}
 use Rattle.std.proofs.lemmas.Bool.{cases_eq}
 use Rattle.std.proofs.lemmas.Bool.Decides.{nat_tests}

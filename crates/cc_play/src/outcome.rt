@@ -11,6 +11,7 @@ use cc_plan::PlanFault;
 
 /// Reports what went wrong, and returns the status: 0 if the verdict is clean, 1 if the audit found a fault, 2 if the input
 /// is refused, 3 if memory is, and 4 if a device fails.
+#[tactic(auto, unfolding(crate::specs::Outcome::line_of))]
 pub fn tell<E: Sink>(errors: &mut E, outcome: Result<Verdict, PlayFault>) -> u8
     requires { E.write_failures errors.old < 2 ^ 64 - 1 }
     ensures status { result ≡ status_of outcome }
@@ -25,6 +26,7 @@ pub fn tell<E: Sink>(errors: &mut E, outcome: Result<Verdict, PlayFault>) -> u8
 }
 
 /// Tells why there is no verdict, and answers the status.
+#[tactic(auto, unfolding(crate::specs::Outcome::line_of))]
 fn tell_fault<E: Sink>(errors: &mut E, fault: PlayFault) -> u8
     requires { E.write_failures errors.old < 2 ^ 64 - 1 }
     ensures status { result ≡ status_of (Err fault) }

@@ -74,7 +74,7 @@ pub fn turn(
 }
 
 /// The event of a pass that has no step to do: the first of its next call, if the plan has one.
-#[tactic(auto, using(crate::proofs::Turns::none_turned))]
+#[tactic(auto, using(crate::proofs::Turns::none_turned, crate::proofs::Between::begun_between))]
 fn begin_turn(
     machine: &mut Machine,
     begun: &mut [usize],

@@ -1,7 +1,6 @@
 use Rattle.std.proofs.Common.{◌∙◌, sym}
 use Rattle.cc_play.proofs.Turns.{begun_turned}
-use Rattle.cc_play.proofs.Between.{idle_between, may_begin, begun_between}
-use Rattle.cc_model.specs.Items.{known_at}
+use Rattle.cc_play.proofs.Between.{idle_between, may_begin}
 use Rattle.cc_plan.specs.Plan.{plan_value}
 use Rattle.cc_play.proofs.player.begin_turn.Goals as goal
 
@@ -9,11 +8,6 @@ pub begin-requires : goal.begin-requires
 begin-requires c =
     may_begin (plan_value c.args.plan.now) c.args.pass c.args.row c.args.machine.now c.args.begun.now c.in-Some.call c.requires.lawful c.requires.pass c.requires.between
     c.requires.idle (sym c.next_call.ensures.call ∙ c.in-Some.is)
-
-pub returns-clause-between : goal.returns-clause-between
-returns-clause-between c =
-    begun_between (plan_value c.args.plan.now) c.args.pass c.args.row c.requires.pass c.args.machine.now _ _ _ _ c.in-Some.call (known_at c.args.pass c.args.machine.now.history) c.event.result _ c.requires.between c.requires.row
-    c.in_ok-begin.ensures.begun c.event.ensures.state c.answer.ensures.answer c.answer.ensures.state
 
 pub returns-clause-turned : goal.returns-clause-turned
 returns-clause-turned c =
