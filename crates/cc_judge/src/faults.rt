@@ -183,6 +183,7 @@ fn is_other(calls: &[Call], next: Option<usize>, place: usize) -> bool
 }
 
 /// Whether fewer takes than this number haven't returned and began before the call `next`.
+#[tactic(auto, using(crate::proofs::Turns::fewer_one, crate::proofs::Turns::fewer_skip))]
 fn are_fewer(calls: &[Call], next: Option<usize>, number: usize) -> bool
     ensures { IsTrue result → Fewer calls.now number (BeginsFrom calls.now next) }
 {
@@ -238,6 +239,7 @@ fn leave_of(calls: &[Call], index: &Index, stay: &Stay, from: usize) -> Option<L
 
 /// Whether of two items that were sent one after the other the later one was taken, and the earlier one after that, or
 /// never.
+#[tactic(auto, using(crate::proofs::Stays::overtaken_by, crate::proofs::Stays::overtaken_never))]
 pub fn is_overtaken(
     calls: &[Call],
     index: &Index,

@@ -115,6 +115,7 @@ fn does(held: &mut VecDeque<usize>, act: Act) -> Result<bool, AllocError>
 }
 
 /// Whether one queue that is empty at first answers so. It takes memory in proportion to the sends.
+#[tactic(auto, using(std::proofs::lemmas::List::drop_all))]
 fn is_run(alloc: Global, order: &[Step]) -> Result<bool, AllocError>
     ensures { IfOk result (λ b. IsTrue b → IsRun [] order.now) }
 {
