@@ -1,11 +1,10 @@
 -- The turns of a call, one after another.
-use Rattle.std.proofs.Common.{◌≡◌, ℕ, ◌+◌, ◌<◌, ◌≤◌, Bool, true, [], Result, Ok, Err, IfOk, IfErr, refl, ap, ◌∙◌, arith}
+use Rattle.std.proofs.Common.{◌≡◌, ℕ, ◌+◌, ◌<◌, Bool, true, Result, Ok, Err, IfOk, IfErr, ap, ◌∙◌, arith}
 use Rattle.std.specs.Prelude.{OnErr}
 use Rattle.cc_steps.specs.Walk.{Walk}
 use Rattle.cc_drive.specs.Names.{Answer, Call, TakeAnswer, Point, Go, Turns, Left}
 use Rattle.cc_drive.specs.Work.{WentOn, ReadOn, WasAnswered, AnsweredBetween, CameBack, Stopped, IsAskedInTake, CostsOfTake}
 use Rattle.cc_queue.specs.Calls.{Begun, Completed, Waited, Answered}
-use Rattle.cc_queue.specs.Headline.{StandsInOne}
 use Rattle.cc_queue.specs.Work.{tally, reads}
 use Rattle.cc_queue.proofs.Headline.{waits_on, ended_so, completed_so}
 
@@ -15,10 +14,6 @@ read_again p v w made before was e = let once : tally reads w.did ≡ 1 + tally 
 
 pub read_last : (p v w : Walk) (told : Answer) (served made before : ℕ) → made + tally reads p.did ≡ before + tally reads v.did → Answered v told served w → (made + 1) + tally reads p.did ≡ before + tally reads w.did
 read_last p v w told served made before was e = let once : tally reads w.did ≡ 1 + tally reads v.did = e.reads in omega (arith, was, once)
-
--- no turn was made yet
-pub not_yet : (v : Walk) (t : Turns) → StandsInOne v [] v → t.made ≤ t.limit → ReadOn v t t v
-not_yet v t stands within = record { stands = stands; begun = refl; reads = refl; on = record { limit = refl; more = omega arith; within = within } }
 
 -- one turn more
 one_turn : (old now : Turns) → WentOn old now → now.made < now.limit → WentOn old (record { made = now.made + 1; limit = now.limit })

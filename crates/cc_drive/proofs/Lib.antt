@@ -5,6 +5,7 @@ pub mod Unclosed
 pub mod Rows
 pub mod Crews
 pub mod Pairs
+pub mod Closers
 pub mod Ended
 pub mod Crewed
 pub mod Totals

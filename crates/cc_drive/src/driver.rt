@@ -26,6 +26,7 @@ use std::thread::{Scope, Threads, scope, scope_env};
 ///
 /// A thread that is refused ends the starting of further ones, and the workers that run go on to their end. So do they if
 /// one of them reaches its limit on turns or finds no memory for a receipt.
+#[tactic(auto, using(crate::proofs::Crews::if_ok))]
 pub fn drive<G: Gate + Send, R: Threads + Wait + Sync>(
     rt: &R,
     alloc: Global,
@@ -126,6 +127,7 @@ fn run_and_settle<G: Gate + Send, R: Threads + Wait + Sync>(
 }
 
 /// Runs all workers in threads, and closes between the senders' end and the receivers'.
+#[tactic(auto, using(crate::proofs::Crewed::all_due))]
 fn run<G: Gate + Send, R: Threads + Wait + Sync>(
     rt: &R,
     alloc: Global,

@@ -69,6 +69,7 @@ pub fn room_for<H: Drop, P: Drop, X: Drop>(
 }
 
 /// Joins the senders, and gathers what they gave back. There is room for one pass more.
+#[tactic(auto, using(crate::proofs::Crewed::crew_of))]
 pub fn join_senders<G: Gate + Send, R: Threads>(
     rt: &R,
     alloc: Global,
@@ -86,6 +87,7 @@ pub fn join_senders<G: Gate + Send, R: Threads>(
 }
 
 /// Joins the receivers of a run of this number of senders, and gathers their results.
+#[tactic(auto, using(crate::proofs::Crewed::crew_of))]
 pub fn join_receivers<G: Gate + Send, R: Threads>(
     rt: &R,
     alloc: Global,
@@ -103,6 +105,7 @@ pub fn join_receivers<G: Gate + Send, R: Threads>(
 }
 
 /// Closes the queue after the senders, which are joined.
+#[tactic(auto, using(crate::proofs::Closers::has_closed, crate::proofs::Closers::closes_on))]
 pub fn close_behind(
     alloc: Global,
     queue: &Queue,

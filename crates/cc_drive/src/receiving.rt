@@ -21,6 +21,7 @@ use std::sync::Wait;
 
 /// Takes, and waits for the answer within the limit. The gate is asked after the begin and after the answer. Err has the
 /// state of the worker in this call when it reached its limit.
+#[tactic(auto, using(crate::proofs::Told::stands_self, crate::proofs::Counted::take_asked, crate::proofs::Counted::take_costs))]
 fn take_one<G: Gate>(
     queue: &Queue,
     receiver: Receiver,

@@ -28,6 +28,7 @@ pub(crate) enum Sent {
 }
 
 /// Sends this body, and waits for the answer within the limit. The gate is asked after the begin and after the answer.
+#[tactic(auto, using(crate::proofs::Told::stands_self))]
 pub(crate) fn send_body<G: Gate>(
     queue: &Queue,
     sender: Sender,

@@ -8,14 +8,10 @@ close_behind-sent-requires-clause-senders g c =
     let crew = c.join_senders-sent.ensures.back c.args.queue.now (record { items = c.args.config.items; limit = c.args.config.limit }) c.start_all-sending.ensures.promised in
     are_of c.args.queue.now c.args.config.items c.args.config.limit crew.workers _ crew.gave crew.back
 
-pub returns-clause-run : goal.returns-clause-run
-returns-clause-run g c =
+pub returns : goal.returns
+returns g c =
     let brief : Brief = record { items = c.args.config.items; limit = c.args.config.limit } in
-    c.ran_of.ensures.run c.args.queue.now (ap (λ (s : Setting). s.config) c.requires.ready.queue.setting) (has_ended _ _ _ _ _ _ _ _ _ _ _ _ c.requires.ready.closer c.requires.ready.count_senders c.requires.ready.count_receivers
-    c.start_all-taking.ensures.started c.start_all-sending.ensures.started (c.close_behind-sent.ensures _ (c.join_senders-sent.ensures.back c.args.queue.now brief c.start_all-sending.ensures.promised)) (c.join_receivers-taken.ensures c.args.queue.now brief c.start_all-taking.ensures.promised))
-
-pub returns-clause-told : goal.returns-clause-told
-returns-clause-told g c =
-    let brief : Brief = record { items = c.args.config.items; limit = c.args.config.limit } in
-    c.ran_of.ensures.told c.args.queue.now (has_ended _ _ _ _ _ _ _ _ _ _ _ _ c.requires.ready.closer c.requires.ready.count_senders c.requires.ready.count_receivers
-    c.start_all-taking.ensures.started c.start_all-sending.ensures.started (c.close_behind-sent.ensures _ (c.join_senders-sent.ensures.back c.args.queue.now brief c.start_all-sending.ensures.promised)) (c.join_receivers-taken.ensures c.args.queue.now brief c.start_all-taking.ensures.promised))
+    let ready = c.requires.ready in
+    let ended = has_ended c.args.queue.now c.args.config _ _ _ _ _ _ _ _ _ _ ready.closer ready.count_senders ready.count_receivers c.start_all-taking.ensures.started c.start_all-sending.ensures.started
+    (c.close_behind-sent.ensures _ (c.join_senders-sent.ensures.back c.args.queue.now brief c.start_all-sending.ensures.promised)) (c.join_receivers-taken.ensures c.args.queue.now brief c.start_all-taking.ensures.promised) in
+    record { run = c.ran_of.ensures.run c.args.queue.now (ap (λ (s : Setting). s.config) ready.queue.setting) ended; told = c.ran_of.ensures.told c.args.queue.now ended }
