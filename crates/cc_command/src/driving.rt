@@ -74,6 +74,7 @@ fn driven<R: Threads + Wait + Sync>(
 }
 
 /// Writes how a run ended, and stops at the first write that fails.
+#[tactic(auto, using(cc_device::proofs::Writing::both_out, cc_device::proofs::Writing::first_failed), unfolding(crate::specs::Drive::end_text))]
 fn write_end<W: Sink>(sink: &mut W, end: &DriveEnd) -> Result<(), WriteFault>
     requires { W.write_failures sink.old < 2 ^ 64 - 1 }
     ensures { Writes (is_err result) (W.bytes_written sink.old) (W.bytes_written sink.new)
@@ -99,6 +100,7 @@ fn write_counts<W: Sink>(sink: &mut W, sent: u64, taken: u64) -> Result<(), Writ
 /// Reports what went wrong in a run, and returns the status: 0 if the verdict is clean, 1 if the audit found a fault, 3 if
 /// memory or a thread was refused or a worker reached its limit, 4 if a write failed, and 64 if a number is out of its
 /// range.
+#[tactic(auto, unfolding(crate::specs::Drive::line_of))]
 pub fn tell_end<E: Sink>(errors: &mut E, outcome: Result<Verdict, RunFault>) -> u8
     requires { E.write_failures errors.old < 2 ^ 64 - 1 }
     ensures status { result ≡ status_of outcome }
@@ -113,6 +115,7 @@ pub fn tell_end<E: Sink>(errors: &mut E, outcome: Result<Verdict, RunFault>) -> 
 }
 
 /// Reports why a run's end isn't written, or not whole, and returns the status.
+#[tactic(auto, unfolding(crate::specs::Drive::line_of))]
 fn tell_fault<E: Sink>(errors: &mut E, fault: RunFault) -> u8
     requires { E.write_failures errors.old < 2 ^ 64 - 1 }
     ensures status { result ≡ status_of (Err fault) }
@@ -126,6 +129,7 @@ fn tell_fault<E: Sink>(errors: &mut E, fault: RunFault) -> u8
 }
 
 /// Tells why a run has no end, and answers the status.
+#[tactic(auto, unfolding(crate::specs::Drive::line_of))]
 fn tell_no_end<E: Sink>(errors: &mut E, fault: DriveFault) -> u8
     requires { E.write_failures errors.old < 2 ^ 64 - 1 }
     ensures status { result ≡ status_of (Err (RunFault.Drive fault)) }

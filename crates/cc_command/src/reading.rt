@@ -20,6 +20,7 @@ use std::alloc::Global;
 /// the version was asked for and went to the sink; 1 if a fault was found, 2 if the input is refused, 3 if memory is, 4 if
 /// a device fails, 5 if the judge is undecided, and 64 if the line is refused. Faults are reported on `errors`, whose own
 /// failures change nothing.
+#[tactic(auto, using(crate::proofs::Declined::declined))]
 pub fn run<R: Source, W: Sink, E: Sink>(
     alloc: Global,
     words: &[String],
