@@ -36,7 +36,7 @@ pub record Settled (z : Topic) (c : DriveConfig) (r : Ran) (senders receivers : 
   pub even : length r.takes.items ≡ length r.sends.items
   pub count : c.limit < 2 ^ 32 - 1 → length r.sends.items ≡ c.senders * c.items
 
-same_items : {X : Type 0} (xs ys : List X) → xs ≡ ys → IsPermutation xs ys
+pub same_items : {X : Type 0} (xs ys : List X) → xs ≡ ys → IsPermutation xs ys
 same_items xs ys same = subst (IsPermutation xs) same (IsPermutation-refl xs)
 
 -- the history that a pass of the queue has seen

@@ -94,7 +94,7 @@ got_none n w (TakeAnswer.Got item) named not = absurd (not item refl)
 got_none n w told named not = ap (λ (p : Pass). take_receipt p (Answer.Take told)) named
 
 -- a call that leaves no receipt
-working_still : {X : Type 0} (receipts : Told → List X) (z : Topic) (row : ℕ) (who : Pass) (w x : Walk) (whole : Bool) (keeps : List X) (c : Call) (told : Answer) → Working receipts z row who w whole keeps → Completed w c told x → receipts (entry_of w c, Some told) ≡ [] → Working receipts z row who x whole keeps
+pub working_still : {X : Type 0} (receipts : Told → List X) (z : Topic) (row : ℕ) (who : Pass) (w x : Walk) (whole : Bool) (keeps : List X) (c : Call) (told : Answer) → Working receipts z row who w whole keeps → Completed w c told x → receipts (entry_of w c, Some told) ≡ [] → Working receipts z row who x whole keeps
 working_still receipts z row who w x whole keeps c told b k none = working_more receipts z row who w x whole whole keeps keeps c told b k (λ is. is) (λ is. sym (append-nil keeps) ∙ ap (λ l. keeps ++ l) (sym none))
 
 pub taken_one : (z : Topic) (row n : ℕ) (w x : Walk) (whole whole' : Bool) (keeps keeps' : List TakeReceipt) (told : TakeAnswer) (item : Item) → Working got z row (Pass.Receiver n) w whole keeps → Completed w Call.Take (Answer.Take told) x → told ≡ TakeAnswer.Got item

@@ -1,5 +1,5 @@
 -- The passes of a round and their receipts: as a thread works, as all come back, and as they meet.
-use Rattle.std.proofs.Common.{◌≡◌, ◌≢◌, Bool, ℕ, zero, suc, ◌+◌, ◌*◌, ◌<◌, true, List, [], ◌∷◌, ◌++◌, map, length, take, get_or, Some, refl, sym, ap, ◌∙◌, subst, arith, append-nil, append_assoc, length-append}
+use Rattle.std.proofs.Common.{◌≡◌, ◌≢◌, ℕ, zero, suc, ◌+◌, ◌*◌, ◌<◌, true, List, [], ◌∷◌, ◌++◌, map, length, take, get_or, Some, refl, sym, ap, ◌∙◌, subst, arith, append_assoc, append-nil, length-append}
 use Rattle.std.specs.List.{All}
 use Rattle.std.proofs.lemmas.List.{map-append, take_more}
 use Rattle.cc_runs.specs.ChainLaws.{IsLastAnswer}
@@ -26,15 +26,11 @@ use Rattle.cc_drive.proofs.Pairs.{all_split, pairs_last, pairs_of}
 use Rattle.cc_drive.proofs.Rows.{row_push}
 use Rattle.cc_drive.proofs.Told.{calls_stay}
 use Rattle.cc_drive.proofs.Totals.{total_is}
-use Rattle.cc_drive.proofs.Workers.{Working, working_none, working_more, sent_one}
+use Rattle.cc_drive.proofs.Workers.{Working, working_none, working_more, working_still, sent_one}
 use Rattle.cc_drive_tests.specs.Rounds.{IsFresh, receipts_each, HasKept, HaveKept, HasClosed, HasPlayed, AreSettled}
 use Rattle.cc_drive_tests.proofs.Numbers.{number_is}
 
 -- ---- a thread at work
-
--- a call that leaves no receipt
-working_still : {X : Type 0} (receipts : Told → List X) (z : Topic) (row : ℕ) (who : Pass) (w x : Walk) (whole : Bool) (keeps : List X) (c : Call) (told : Answer) → Working receipts z row who w whole keeps → Completed w c told x → receipts (entry_of w c, Some told) ≡ [] → Working receipts z row who x whole keeps
-working_still receipts z row who w x whole keeps c told b k none = working_more receipts z row who w x whole whole keeps keeps c told b k (λ is. is) (λ is. sym (append-nil keeps) ∙ ap (λ l. keeps ++ l) (sym none))
 
 -- tries that leave no receipt
 tried : {X : Type 0} (receipts : Told → List X) (z : Topic) (row : ℕ) (who : Pass) (call : Call) (told : Answer) → ((e : Entry) → receipts (e, Some told) ≡ [])
@@ -43,9 +39,10 @@ tried receipts z row who call told none w [] keeps k r = k
 tried receipts z row who call told none w (x ∷ ws) keeps k r = tried receipts z row who call told none x ws keeps (working_still receipts z row who w x true keeps call told k r.0 (none (entry_of w call))) r.1
 
 -- the receipt of a send that was accepted
-pub sent_more : (z : Topic) (row : ℕ) (who : Pass) (n count : ℕ) (v x : Walk) (keeps new : List SendReceipt) (body : Body) (place : ℕ) → who ≡ Pass.Sender n → Working sent z row who v true keeps → SentUntil v body (SendAnswer.Accepted place) x
+pub sent_more : (z : Topic) (row : ℕ) (who : Pass) (n count : ℕ) (v x : Walk) (keeps new : List SendReceipt) (body : Body) (told : SendAnswer) (place : ℕ) → who ≡ Pass.Sender n → Working sent z row who v true keeps → told ≡ SendAnswer.Accepted place → SentUntil v body told x
     → HasBegunSends x count → new ≡ keeps ++ record { sender = n; number = count; place = place; body = body } ∷ [] → Working sent z row who x true new
-sent_more z row who n count v x keeps new body place is k s begun end =
+sent_more z row who n count v x keeps new body told place is k accepted until begun end =
+    let s = subst (λ (a : SendAnswer). SentUntil v body a x) accepted until in
     let w : Walk = last_of v s.tried in
     let before = tried sent z row who (Call.Send body) (Answer.Send SendAnswer.Full) (λ e. refl) v s.tried keeps k s.full in
     let number : w.stand.begun + 1 ≡ count = number_is n count w x body (Answer.Send (SendAnswer.Accepted place)) (before.named ∙ is) s.sent begun in
@@ -65,9 +62,10 @@ got_none e told none = go e.pass told none
 taken_before : (z : Topic) (row : ℕ) (who : Pass) (v x : Walk) (told : TakeAnswer) (keeps : List TakeReceipt) → Working got z row who v true keeps → (t : TakenUntil v told x) → Working got z row who (last_of v t.tried) true keeps
 taken_before z row who v x told keeps k t = tried got z row who Call.Take (Answer.Take TakeAnswer.Empty) (λ e. got_none e TakeAnswer.Empty (λ item is. absurd (cc is))) v t.tried keeps k t.none
 
-pub taken_more : (z : Topic) (row : ℕ) (who : Pass) (n : ℕ) (v x : Walk) (keeps new : List TakeReceipt) (item : Item) → who ≡ Pass.Receiver n → Working got z row who v true keeps → TakenUntil v (TakeAnswer.Got item) x
+pub taken_more : (z : Topic) (row : ℕ) (who : Pass) (n : ℕ) (v x : Walk) (keeps new : List TakeReceipt) (told : TakeAnswer) (item : Item) → who ≡ Pass.Receiver n → Working got z row who v true keeps → told ≡ TakeAnswer.Got item → TakenUntil v told x
     → new ≡ keeps ++ record { receiver = n; item = item } ∷ [] → Working got z row who x true new
-taken_more z row who n v x keeps new item is k t end =
+taken_more z row who n v x keeps new told item is k got_it until end =
+    let t = subst (λ (a : TakeAnswer). TakenUntil v a x) got_it until in
     let before = taken_before z row who v x (TakeAnswer.Got item) keeps k t in
     working_more got z row who (last_of v t.tried) x true true keeps new Call.Take (Answer.Take (TakeAnswer.Got item)) before t.taken (λ t. t)
     (λ t. end ∙ ap (λ l. keeps ++ l) (sym (ap (λ (p : Pass). take_receipt p (Answer.Take (TakeAnswer.Got item))) (before.named ∙ is))))

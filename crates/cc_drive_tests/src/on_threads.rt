@@ -47,6 +47,7 @@ fn add<R: Abort, X: Drop>(rt: &R, list: &mut Vec<X>, one: X)
 }
 
 /// Sends the bodies of the numbers below `items` in turn, each again when the queue is full, and keeps a receipt of each.
+#[tactic(auto, using(crate::proofs::Rounds::at_first, crate::proofs::Rounds::has_kept))]
 fn send_all<R: Abort + Wait>(
     rt: &R,
     alloc: Global,
@@ -82,6 +83,7 @@ fn send_all<R: Abort + Wait>(
 }
 
 /// Takes until the queue has ended, and keeps a receipt of each item.
+#[tactic(auto, using(crate::proofs::Rounds::at_first))]
 fn take_all<R: Abort + Wait>(
     rt: &R,
     alloc: Global,

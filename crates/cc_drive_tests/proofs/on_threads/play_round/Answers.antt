@@ -23,12 +23,6 @@ both_sides-receivers-requires-clause-own g c κs within =
 pub returns : goal.returns
 returns g c =
     let opened : HasOpened c.args.config.now c.expect-queue.result = search rules in
-    record {
-      lawful = opened.lawful;
-      config = ap (λ (s : Setting). s.config) opened.setting;
-      count_senders = c.both_sides-receivers.ensures.count_senders ∙ opened.count_senders;
-      count_receivers = c.both_sides-receivers.ensures.count_receivers ∙ opened.count_receivers;
-      sent_all = c.both_sides-receivers.ensures.sends;
-      took_all = subst (λ (s : Setting). HaveKept got c.expect-queue.result.queue s.config.senders c.both_sides-receivers.result.0.0.items (map (λ k. k.items) c.both_sides-receivers.result.0.1.items)) opened.setting c.both_sides-receivers.ensures.takes;
-      closed = c.both_sides-receivers.ensures.closed;
-    }
+    let both = c.both_sides-receivers.ensures in
+    let took_all = subst (λ (s : Setting). HaveKept got c.expect-queue.result.queue s.config.senders c.both_sides-receivers.result.0.0.items (map (λ k. k.items) c.both_sides-receivers.result.0.1.items)) opened.setting both.takes in
+    record { lawful = opened.lawful; config = ap (λ (s : Setting). s.config) opened.setting; count_senders = both.count_senders ∙ opened.count_senders; count_receivers = both.count_receivers ∙ opened.count_receivers; sent_all = both.sends; took_all = took_all; closed = both.closed }

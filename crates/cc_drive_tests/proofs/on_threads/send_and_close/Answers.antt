@@ -16,17 +16,14 @@ send_side-senders-requires-clause-row g c κs within = (fresh_split c.args.queue
 pub close_by-closer-requires : goal.close_by-closer-requires
 close_by-closer-requires g c = let is = (fresh_split c.args.queue.now 0 _ _ c.in-Some.closer c.in-Some.ensures.items c.requires).1 in is ∙ ap (λ (w : Walk). fresh c.args.queue.now w.number) (sym is)
 
-pub returns-clause-count : goal.returns-clause-count
-returns-clause-count g c =
+pub returns : goal.returns
+returns g c =
     let one = one_longer _ _ _ c.in-Some.ensures.items in
     let one' = one_longer _ _ _ c.add.ensures in
-    let same = c.send_side-senders.ensures.count in omega (arith, one, one', same)
-
-pub returns-clause-kept : goal.returns-clause-kept
-returns-clause-kept g c =
-    let is = (fresh_split c.args.queue.now 0 _ _ c.in-Some.closer c.in-Some.ensures.items c.requires).1 in
-    kept_more sent c.args.queue.now 0 _ _ _ _ _ _ [] c.send_side-senders.ensures.kept c.close_by-closer.ensures.kept (ap (λ (w : Walk). w.number) is ∙ ap (λ n. 0 + n) (sym c.send_side-senders.ensures.count)) c.add.ensures
-    (ap (map (λ k. k.items)) c.add-2.ensures ∙ map-append (λ k. k.items) _ _ ∙ ap (λ l. map (λ k. k.items) c.send_side-senders.result.1.items ++ l ∷ []) c.new.ensures.items)
-
-pub returns-clause-closed : goal.returns-clause-closed
-returns-clause-closed g c = record { others = c.send_side-senders.result.0.items; closer = c.close_by-closer.result.0; last = c.add.ensures; closed = c.close_by-closer.ensures.closed }
+    let same = c.send_side-senders.ensures.count in
+    let is = (fresh_split c.args.queue.now 0 _ _ c.in-Some.closer c.in-Some.ensures.items c.requires).1 in record {
+      count = omega (arith, one, one', same);
+      kept = kept_more sent c.args.queue.now 0 _ _ _ _ _ _ [] c.send_side-senders.ensures.kept c.close_by-closer.ensures.kept (ap (λ (w : Walk). w.number) is ∙ ap (λ n. 0 + n) (sym same)) c.add.ensures
+          (ap (map (λ k. k.items)) c.add-2.ensures ∙ map-append (λ k. k.items) _ _ ∙ ap (λ l. map (λ k. k.items) c.send_side-senders.result.1.items ++ l ∷ []) c.new.ensures.items);
+      closed = record { others = c.send_side-senders.result.0.items; closer = c.close_by-closer.result.0; last = c.add.ensures; closed = c.close_by-closer.ensures.closed };
+    }
