@@ -112,7 +112,7 @@ each_holds P f h (d ∷ ds) xs e =
 each_all : {A : Type 0} (P : A → Type 0) (f : Data → Option A) → ((d : Data) (x : A) → f d ≡ Some x → P x) → (ds : List Data) (xs : List A) → each f ds ≡ Some xs → All P xs
 each_all P f h ds xs e = All-from_recursion P xs (each_holds P f h ds xs e)
 
-each_length : {A : Type 0} (f : Data → Option A) (ds : List Data) (xs : List A) → each f ds ≡ Some xs → length ds ≡ length xs
+pub each_length : {A : Type 0} (f : Data → Option A) (ds : List Data) (xs : List A) → each f ds ≡ Some xs → length ds ≡ length xs
 each_length f [] [] e = refl
 each_length f [] (x ∷ xs) e = cc e
 each_length f (d ∷ ds) xs e = let s = each_step f d ds xs e in ap (λ (n : ℕ). suc n) (each_length f ds s.1 s.3) ∙ ap length s.4

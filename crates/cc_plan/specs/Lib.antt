@@ -1,8 +1,15 @@
 pub mod Names
 pub mod Json
+pub mod Spelled
+pub mod Members
+pub mod Document
+pub mod Head
+pub mod Shapes
 pub mod Closures
 pub mod Refusal
 pub mod Answers
+pub mod Kept
+pub mod Calls
 pub mod Plan
 pub mod PlanShape
 pub mod PlanValues
@@ -14,3 +21,4 @@ pub mod ReceiptsShape
 pub mod ReceiptsValues
 pub mod ReceiptsOf
 pub mod Report
+pub mod Rows

@@ -2,14 +2,14 @@
 #![tactic(auto)]
 
 mod fault;
-mod json;
 mod plan;
 mod receipts;
 mod report;
+mod tokens;
 mod version;
 
 pub use fault::PlanFault;
-pub use json::INPUT_LIMIT;
-pub use plan::{Plan, read_values, stranger};
+pub use plan::{Calls, Plan, read_values, stranger};
 pub use receipts::{Receipts, read_receipts};
 pub use report::{Report, write_body, write_report, write_verdict};
+pub use tokens::document::INPUT_LIMIT;

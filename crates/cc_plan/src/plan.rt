@@ -1,7 +1,7 @@
 //! A plan, and how it is read.
 ghost use Rattle.std.specs.Prelude.{◌≡◌, ◌≤◌, not, IsErrOf, OnOk, length};
 ghost use Rattle.std.specs.List.{position};
-ghost use Rattle.serde_json.specs.View.{view};
+ghost use Rattle.cc_plan.specs.Document.{tree};
 ghost use Rattle.cc_plan.specs.Answers.{Gives};
 ghost use Rattle.cc_plan.specs.Plan.{plan_value};
 ghost use Rattle.cc_plan.specs.PlanOf.{values_of, values_of_tree, has_pass};
@@ -9,9 +9,9 @@ ghost use Rattle.cc_plan.specs.Refusal.{input_limit};
 ghost use Rattle.cc_plan.specs.Names.{PlanFault};
 
 use crate::fault::PlanFault;
-use crate::json;
-use cc_model::{Call, Config, Pass, is_within};
-use serde_json::Value;
+use crate::tokens::document::{Document, parse};
+use cc_model::{Config, Pass, is_within};
+use json::Scratch;
 use std::alloc::Global;
 
 /// The plan of a run.
@@ -24,16 +24,19 @@ pub struct Plan {
     pub config: Config,
     /// The calls of each of the 1 to 64 senders, at most 65,536 sends and closes each, in their order. In version 1 each
     /// body is of one word.
-    pub senders: Vec<Vec<Call>>,
+    pub senders: Vec<Calls>,
     /// How often each receiver takes, at most 65,536 times: group by group the 1 to 64 of each.
     pub receivers: Vec<u32>,
     /// The pass that goes on next, and by up to how many steps, from 1 to 100,000. At most 65,536 entries.
     pub schedule: Vec<(Pass, u32)>,
 }
 
+mod calls;
+mod kept;
 mod shape;
 mod values;
 
+pub use calls::Calls;
 use shape::has_plan_shape;
 use values::values;
 
@@ -45,18 +48,23 @@ pub fn read_values(alloc: Global, bytes: &[u8]) -> Result<Plan, PlanFault>
     ensures short { OnOk result (length bytes.now ≤ input_limit) }
     ensures memory { IsErrOf result PlanFault.P5 → length bytes.now ≤ input_limit }
 {
-    let tree = json::parse(alloc, bytes)?;
-    values_in(alloc, &tree)
+    let mut scratch = Scratch::new(alloc);
+    let document = parse(bytes, &mut scratch)?;
+    values_in(alloc, &document, &mut scratch)
 }
 
-/// The values that the tree describes.
-fn values_in(alloc: Global, tree: &Value) -> Result<Plan, PlanFault>
-    ensures { Gives plan_value result (values_of_tree (view tree.now)) }
+/// The values that the text describes.
+fn values_in(
+    alloc: Global,
+    document: &Document<'_>,
+    scratch: &mut Scratch,
+) -> Result<Plan, PlanFault>
+    ensures { Gives plan_value result (values_of_tree (tree document.now)) }
 {
-    if !has_plan_shape(tree) {
+    if !has_plan_shape(document, scratch)? {
         return Err(PlanFault::P2);
     }
-    values(alloc, tree)
+    values(alloc, document, scratch)
 }
 
 /// The place of the first schedule entry whose pass isn't there.

@@ -1,6 +1,6 @@
 //! Receipts, and how they are read.
 ghost use Rattle.std.specs.Prelude.{◌≡◌, ◌≤◌, IsErrOf, length};
-ghost use Rattle.serde_json.specs.View.{view};
+ghost use Rattle.cc_plan.specs.Document.{tree};
 ghost use Rattle.cc_plan.specs.Answers.{Gives};
 ghost use Rattle.cc_plan.specs.Receipts.{receipts_value};
 ghost use Rattle.cc_plan.specs.ReceiptsOf.{receipts_of, receipts_of_tree};
@@ -8,9 +8,9 @@ ghost use Rattle.cc_plan.specs.Refusal.{input_limit};
 ghost use Rattle.cc_plan.specs.Names.{PlanFault};
 
 use crate::fault::PlanFault;
-use crate::json;
+use crate::tokens::document::{Document, parse};
 use cc_audit::{SendReceipt, TakeReceipt};
-use serde_json::Value;
+use json::Scratch;
 use std::alloc::Global;
 
 /// The receipts of the senders and receivers of one topic, in any order, and the total that its close returned, if one
@@ -37,16 +37,21 @@ pub fn read_receipts(alloc: Global, bytes: &[u8]) -> Result<Receipts, PlanFault>
     ensures receipts { Gives receipts_value result (receipts_of bytes.now) }
     ensures memory { IsErrOf result PlanFault.P5 → length bytes.now ≤ input_limit }
 {
-    let tree = json::parse(alloc, bytes)?;
-    receipts_in(alloc, &tree)
+    let mut scratch = Scratch::new(alloc);
+    let document = parse(bytes, &mut scratch)?;
+    receipts_in(alloc, &document, &mut scratch)
 }
 
-/// The receipts that the tree describes.
-fn receipts_in(alloc: Global, tree: &Value) -> Result<Receipts, PlanFault>
-    ensures { Gives receipts_value result (receipts_of_tree (view tree.now)) }
+/// The receipts that the text describes.
+fn receipts_in(
+    alloc: Global,
+    document: &Document<'_>,
+    scratch: &mut Scratch,
+) -> Result<Receipts, PlanFault>
+    ensures { Gives receipts_value result (receipts_of_tree (tree document.now)) }
 {
-    if !has_receipts_shape(tree) {
+    if !has_receipts_shape(document, scratch)? {
         return Err(PlanFault::P2);
     }
-    values(alloc, tree)
+    values(alloc, document, scratch)
 }

@@ -24,7 +24,7 @@ fn next_call(plan: &Plan, pass: Pass, begun: usize) -> Option<Call>
     match pass {
         Pass::Sender(n) => {
             let calls = plan.senders.get((n as usize).saturating_sub(1))?;
-            calls.get(begun).copied()
+            calls.get(begun)
         }
         Pass::Receiver(n) => {
             let takes = plan.receivers.get((n as usize).saturating_sub(1))?;

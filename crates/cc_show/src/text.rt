@@ -2,6 +2,7 @@
 ghost use Rattle.std.specs.Prelude.{◌≡◌, ◌<◌, ◌^◌, ◌-◌, false, is_err, map};
 ghost use Rattle.cc_model.specs.HistoryRoom.{lists};
 ghost use Rattle.cc_device.specs.Written.{Writes, Pens, desk};
+ghost use Rattle.cc_plan.specs.Calls.{calls_in};
 ghost use Rattle.cc_plan.specs.Plan.{plan_value};
 ghost use Rattle.cc_plan.specs.Report.{words_text, report_text};
 ghost use Rattle.cc_show.specs.Page.{call_text, calls_text, senders_text, config_text, event_text, events_text, run_text, front_text, told_text, page_text};
@@ -11,7 +12,7 @@ use crate::page::{BACK, FRONT, MIDDLE};
 use crate::player::Done;
 use cc_device::{Pen, Sink, WriteFault, write_bytes};
 use cc_model::Call;
-use cc_plan::{Plan, Report, write_body, write_report};
+use cc_plan::{Calls, Plan, Report, write_body, write_report};
 
 /// Writes the page of a plan's events and of a report, and stops at the first write that fails.
 #[tactic(auto, using(cc_device::proofs::Writing::both_out, cc_device::proofs::Writing::first_failed), unfolding(crate::specs::Page::page_text))]
@@ -94,27 +95,27 @@ fn write_config<W: Sink>(sink: &mut W, pen: &mut Pen, plan: &Plan)
 
 /// Writes a line for each sender.
 #[tactic(auto, using(cc_plan::proofs::Lines::none))]
-fn write_senders<W: Sink>(sink: &mut W, pen: &mut Pen, senders: &[Vec<Call>])
+fn write_senders<W: Sink>(sink: &mut W, pen: &mut Pen, senders: &[Calls])
     requires { pen.old.failed ≡ false → W.write_failures sink.old < 2 ^ 64 - 1 }
     ensures { Pens (desk pen.old (W.bytes_written sink.old) (W.write_failures sink.old))
         (desk pen.new (W.bytes_written sink.new) (W.write_failures sink.new))
-        (senders_text (map (λ calls. calls.items) senders.now)) }
+        (senders_text (map calls_in senders.now)) }
 {
     for calls in senders {
-        write_calls(sink, pen, calls.as_slice());
+        write_calls(sink, pen, calls);
         pen.text(sink, b"\n");
     }
 }
 
 /// Writes the calls of a sender.
-#[tactic(auto, using(cc_plan::proofs::Lines::none, cc_plan::proofs::Lines::all))]
-fn write_calls<W: Sink>(sink: &mut W, pen: &mut Pen, calls: &[Call])
+#[tactic(auto, using(cc_plan::proofs::Lines::none))]
+fn write_calls<W: Sink>(sink: &mut W, pen: &mut Pen, calls: &Calls)
     requires { pen.old.failed ≡ false → W.write_failures sink.old < 2 ^ 64 - 1 }
     ensures { Pens (desk pen.old (W.bytes_written sink.old) (W.write_failures sink.old))
-        (desk pen.new (W.bytes_written sink.new) (W.write_failures sink.new)) (calls_text calls.now) }
+        (desk pen.new (W.bytes_written sink.new) (W.write_failures sink.new)) (calls_text (calls_in calls.now)) }
 {
-    for call in calls {
-        write_call(sink, pen, *call);
+    for place in 0..calls.len() {
+        write_call(sink, pen, calls.at(place));
     }
 }
 

@@ -1,5 +1,5 @@
 -- The parts of plans and receipts, and the values that pass as them.
-use Rattle.std.specs.Prelude.{ℕ, ◌≡◌, ◌⊎◌, ◌==◌, ◌&&◌, ◌||◌, ◌+◌, ◌-◌, ◌*◌, ◌/◌, ◌%◌, ◌^◌, Bool, true, false, not, nat_lt, List, codes, length, if◌then◌else◌, Option, Some, None, option_map, option_and_then, unwrap_or, is_some, slice_get}
+use Rattle.std.specs.Prelude.{ℕ, ◌≡◌, ◌⊎◌, ◌==◌, ◌&&◌, ◌||◌, ◌-◌, ◌^◌, Bool, true, false, nat_lt, List, codes, length, if◌then◌else◌, Option, Some, None, option_map, option_and_then, unwrap_or, is_some, slice_get}
 use Rattle.serde_json.specs.Data.{Data}
 use Rattle.serde_json.specs.Find.{as_null, as_object, get}
 use Rattle.serde_json.specs.View.{view}

@@ -274,7 +274,7 @@ fn is_whole(value: &Value, low: u64, high: u64) -> bool
 }
 
 /// The elements of an array.
-#[tactic(auto, using(cc_plan::proofs::Trees::listed_all))]
+#[tactic(auto, using(crate::proofs::Listed::listed_all))]
 pub fn elements(value: &Value) -> Option<&[Value]>
     ensures { option_map (λ l. map view l.now) result ≡ elements (view value.now) }
 {

@@ -1,29 +1,37 @@
-//! The shape of a plan's tree, whatever its numbers are.
-ghost use Rattle.std.specs.Prelude.{◌≡◌, codes};
-ghost use Rattle.std.specs.List.{list_all};
-ghost use Rattle.std.specs.Char.{is_ascii_digit};
-ghost use Rattle.serde_json.specs.View.{view};
-ghost use Rattle.cc_plan.specs.Json.{is_list_of, is_number, has_only, has, may_have};
-ghost use Rattle.cc_plan.specs.PlanShape.{is_call, is_pass_number, pass_number, numbered, pass_of, named, is_entry, is_plan_key, has_groups, has_numbers, has_lists, has_plan_shape};
+//! The shape of a plan, whatever its numbers are.
+ghost use Rattle.std.specs.Prelude.{◌≡◌, IfOk};
+ghost use Rattle.cc_plan.specs.Document.{tree};
+ghost use Rattle.cc_plan.specs.Json.{has_only};
+ghost use Rattle.cc_plan.specs.PlanShape.{is_plan_key, has_groups, has_numbers, has_lists, has_plan_shape};
 
-use crate::json::{elements, has_only, is_body, is_list_of, is_number, is_numbers, is_word, pair};
+use crate::tokens::document::Document;
+use crate::tokens::keyed::has;
+use crate::tokens::shape::{Call, Entry, ListOf, Number};
 use crate::version::table;
-use cc_model::{Pass, is_within};
-use serde_json::Value;
+use json::Scratch;
+use std::alloc::AllocError;
 
-/// Whether the tree is an object of the keys of its table, each but `version` there, with values of their shapes.
+/// Whether the root is an object of the keys of its table, each but `version` there, with values of their shapes.
 #[tactic(auto, unfolding(crate::specs::PlanShape::has_plan_shape))]
-pub fn has_plan_shape(tree: &Value) -> bool
-    ensures { result ≡ has_plan_shape (view tree.now) }
+pub fn has_plan_shape(document: &Document<'_>, scratch: &mut Scratch) -> Result<bool, AllocError>
+    ensures { IfOk result (λ has. has ≡ has_plan_shape (tree document.now)) }
 {
-    let version = table(tree);
-    has_plan_keys(tree, version) && has_numbers(tree, version) && has_lists(tree, version)
+    let version = table(document, scratch)?;
+    let keys = has_plan_keys(document, version, scratch)?;
+    let numbers = has_numbers(document, version, scratch)?;
+    let lists = has_lists(document, version, scratch)?;
+    Ok(keys && numbers && lists)
 }
 
-fn has_plan_keys(tree: &Value, version: u32) -> bool
-    ensures { result ≡ has_only (is_plan_key version) (view tree.now) }
+fn has_plan_keys(
+    document: &Document<'_>,
+    version: u32,
+    scratch: &mut Scratch,
+) -> Result<bool, AllocError>
+    ensures { IfOk result (λ has. has ≡ has_only (is_plan_key version) (tree document.now)) }
 {
-    has_only(tree, |key| is_plan_key(key, version))
+    let only = document.has_only(|key| is_plan_key(key, version), scratch)?;
+    Ok(only)
 }
 
 /// Whether a plan of this version may have the key.
@@ -38,112 +46,48 @@ fn is_plan_key(key: &str, version: u32) -> bool
 
 /// Whether each key but those of the lists has a number, if it has to be there.
 #[tactic(auto, unfolding(crate::specs::PlanShape::has_numbers))]
-fn has_numbers(tree: &Value, version: u32) -> bool
-    ensures { result ≡ has_numbers version (view tree.now) }
+fn has_numbers(
+    document: &Document<'_>,
+    version: u32,
+    scratch: &mut Scratch,
+) -> Result<bool, AllocError>
+    ensures { IfOk result (λ has. has ≡ has_numbers version (tree document.now)) }
 {
-    tree.get("version").is_none_or(is_number)
-        && has_groups(tree, version)
-        && tree.get("capacity").is_some_and(is_number)
-        && tree.get("bound").is_some_and(is_number)
-        && tree.get("life").is_some_and(is_number)
+    let named = has(document, "version", &Number, true, scratch)?;
+    let groups = has_groups(document, version, scratch)?;
+    let capacity = has(document, "capacity", &Number, false, scratch)?;
+    let bound = has(document, "bound", &Number, false, scratch)?;
+    let life = has(document, "life", &Number, false, scratch)?;
+    Ok(named && groups && capacity && bound && life)
 }
 
 /// Whether there is a number of groups, if the version has groups.
-fn has_groups(tree: &Value, version: u32) -> bool
-    ensures { result ≡ has_groups version (view tree.now) }
+fn has_groups(
+    document: &Document<'_>,
+    version: u32,
+    scratch: &mut Scratch,
+) -> Result<bool, AllocError>
+    ensures { IfOk result (λ has. has ≡ has_groups version (tree document.now)) }
 {
-    version != 2 || tree.get("groups").is_some_and(is_number)
+    if version == 2 {
+        has(document, "groups", &Number, false, scratch)
+    } else {
+        Ok(true)
+    }
 }
 
 /// Whether each of the lists is there, and has its shape.
 #[tactic(auto, unfolding(crate::specs::PlanShape::has_lists))]
-fn has_lists(tree: &Value, version: u32) -> bool
-    ensures { result ≡ has_lists version (view tree.now) }
+fn has_lists(
+    document: &Document<'_>,
+    version: u32,
+    scratch: &mut Scratch,
+) -> Result<bool, AllocError>
+    ensures { IfOk result (λ has. has ≡ has_lists version (tree document.now)) }
 {
-    tree.get("senders").is_some_and(|v| is_senders(v, version))
-        && tree.get("receivers").is_some_and(is_numbers)
-        && tree.get("schedule").is_some_and(is_schedule)
-}
-
-/// Whether the value is a body or the text `close`.
-fn is_call(value: &Value, version: u32) -> bool
-    ensures { result ≡ is_call version (view value.now) }
-{
-    is_body(value, version) || is_word(value, "close")
-}
-
-fn is_calls(value: &Value, version: u32) -> bool
-    ensures { result ≡ is_list_of (is_call version) (view value.now) }
-{
-    is_list_of(value, |v| is_call(v, version))
-}
-
-fn is_senders(value: &Value, version: u32) -> bool
-    ensures { result ≡ is_list_of (is_list_of (is_call version)) (view value.now) }
-{
-    is_list_of(value, |v| is_calls(v, version))
-}
-
-/// Whether the value is a pass name and a number.
-fn is_entry(value: &Value) -> bool
-    ensures { result ≡ is_entry (view value.now) }
-{
-    match elements(value).and_then(pair) {
-        Some((name, number)) => named(name).is_some() && is_number(number),
-        None => false,
-    }
-}
-
-fn is_schedule(value: &Value) -> bool
-    ensures { result ≡ is_list_of is_entry (view value.now) }
-{
-    is_list_of(value, is_entry)
-}
-
-/// The pass that the value names.
-pub fn named(value: &Value) -> Option<Pass>
-    ensures { result ≡ named (view value.now) }
-{
-    pass(value.as_str()?.as_bytes())
-}
-
-/// The pass of a name: `s` and a number, or `r` and a number.
-fn pass(name: &[u8]) -> Option<Pass>
-    ensures { result ≡ pass_of name.now }
-{
-    match name {
-        [] => None,
-        [b's', digits @ ..] => Some(Pass::Sender(numbered(digits)?)),
-        [b'r', digits @ ..] => Some(Pass::Receiver(numbered(digits)?)),
-        [_, ..] => None,
-    }
-}
-
-/// The number of a pass: one to ten digits of which the first isn't 0. One that no 32 bits hold is read as the greatest
-/// that they hold, which is no pass of any plan.
-fn numbered(digits: &[u8]) -> Option<u32>
-    ensures { result ≡ numbered digits.now }
-{
-    if !is_pass_number(digits) {
-        return None;
-    }
-    let mut n = 0u32;
-    for digit in digits {
-        n = n
-            .saturating_mul(10)
-            .saturating_add(u32::from(digit.saturating_sub(b'0')));
-    }
-    Some(n)
-}
-
-fn is_pass_number(digits: &[u8]) -> bool
-    ensures { result ≡ is_pass_number digits.now }
-{
-    is_within(digits.len() as u64, 1, 10) && digits[0] != b'0' && are_digits(digits)
-}
-
-fn are_digits(bytes: &[u8]) -> bool
-    ensures { result ≡ list_all is_ascii_digit bytes.now }
-{
-    bytes.iter().all(u8::is_ascii_digit)
+    let calls = ListOf(Call { version });
+    let senders = has(document, "senders", &ListOf(calls), false, scratch)?;
+    let receivers = has(document, "receivers", &ListOf(Number), false, scratch)?;
+    let schedule = has(document, "schedule", &ListOf(Entry), false, scratch)?;
+    Ok(senders && receivers && schedule)
 }

@@ -1,40 +1,50 @@
-//! The values of a plan's tree that has its shape.
-ghost use Rattle.std.specs.Prelude.{◌≡◌, ◌≤◌, IfOk, IfSome, codes, map, option_map, option_and_then, length, true, ◌/◌};
+//! The values of a plan that has its shape.
+ghost use Rattle.std.specs.Prelude.{◌≡◌, ◌≤◌, ℕ, IfOk, IfSome, Some, None, codes, map, option_map, option_and_then, length, nat_eq, if◌then◌else◌, true, ◌/◌};
 ghost use Rattle.serde_json.specs.Find.{get};
-ghost use Rattle.serde_json.specs.View.{view};
-ghost use Rattle.cc_plan.specs.Json.{each, number_in};
 ghost use Rattle.cc_plan.specs.Answers.{Gives};
+ghost use Rattle.cc_plan.specs.Calls.{calls_in};
+ghost use Rattle.cc_plan.specs.Document.{tree};
 ghost use Rattle.cc_plan.specs.Plan.{plan_value};
 ghost use Rattle.cc_plan.specs.PlanOf.{config_of, plan_of_lists, plan_of_values};
-ghost use Rattle.cc_plan.specs.PlanValues.{counted, groups_of, call_of, calls_of, senders_of, fill_groups, receivers_of, entry_of, schedule_of};
+ghost use Rattle.cc_plan.specs.PlanValues.{calls_of, groups_of, senders_of, fill_groups, receivers_of, schedule_of};
+ghost use Rattle.cc_plan.specs.Json.{elements};
+ghost use Rattle.cc_plan.specs.Spelled.{Gets, each_of_few};
 
-use super::Plan;
-use super::shape::named;
+use super::{Calls, Plan};
 use crate::fault::PlanFault;
-use crate::json::{body_as, each, elements, is_word, number_in, pair};
+use crate::tokens::array::array_of;
+use crate::tokens::call::{Takes, each_calls};
+use crate::tokens::document::Document;
+use crate::tokens::keyed::number_at;
+use crate::tokens::row::Entry;
+use crate::tokens::value::opens;
 use crate::version::version;
-use cc_model::{Call, Config, Pass, is_within};
-use serde_json::Value;
+use cc_model::{Config, Pass, is_within};
+use json::{Reader, Scratch};
 use std::alloc::{AllocError, Global};
 
 /// The values in their ranges, or the first key whose value is out of its range.
 #[tactic(auto, unfolding(crate::specs::PlanOf::plan_of_values))]
-pub fn values(alloc: Global, tree: &Value) -> Result<Plan, PlanFault>
-    ensures { Gives plan_value result (plan_of_values (view tree.now)) }
+pub fn values(
+    alloc: Global,
+    document: &Document<'_>,
+    scratch: &mut Scratch,
+) -> Result<Plan, PlanFault>
+    ensures { Gives plan_value result (plan_of_values (tree document.now)) }
 {
-    let Some(version) = version(tree) else {
+    let Some(version) = version(document, scratch)? else {
         return Err(PlanFault::P3("version"));
     };
-    let Some(groups) = groups(tree, version) else {
+    let Some(groups) = groups(document, version, scratch)? else {
         return Err(PlanFault::P3("groups"));
     };
-    let Some(capacity) = number_at(tree, "capacity", 4096) else {
+    let Some(capacity) = number_at(document, "capacity", 4096, scratch)? else {
         return Err(PlanFault::P3("capacity"));
     };
-    let Some(bound) = number_at(tree, "bound", 1024) else {
+    let Some(bound) = number_at(document, "bound", 1024, scratch)? else {
         return Err(PlanFault::P3("bound"));
     };
-    let Some(life) = number_at(tree, "life", 1 << 48) else {
+    let Some(life) = number_at(document, "life", 1 << 48, scratch)? else {
         return Err(PlanFault::P3("life"));
     };
     let numbers = Numbers {
@@ -44,7 +54,7 @@ pub fn values(alloc: Global, tree: &Value) -> Result<Plan, PlanFault>
         bound: bound as u32,
         life,
     };
-    with_lists(alloc, tree, numbers)
+    with_lists(alloc, document, numbers, scratch)
 }
 
 /// The values of a plan that are numbers.
@@ -59,18 +69,23 @@ struct Numbers {
 
 /// The plan of these numbers and of the tree's lists.
 #[tactic(auto, unfolding(crate::specs::PlanOf::plan_of_lists))]
-fn with_lists(alloc: Global, tree: &Value, numbers: Numbers) -> Result<Plan, PlanFault>
+fn with_lists(
+    alloc: Global,
+    document: &Document<'_>,
+    numbers: Numbers,
+    scratch: &mut Scratch,
+) -> Result<Plan, PlanFault>
     requires { (1 ≤ numbers.groups) × (numbers.groups ≤ 8) }
     ensures { Gives plan_value result (plan_of_lists numbers.version numbers.groups numbers.capacity numbers.bound
-        numbers.life (view tree.now)) }
+        numbers.life (tree document.now)) }
 {
-    let Some(senders) = senders(alloc, tree, numbers.version)? else {
+    let Some(senders) = senders(alloc, document, numbers.version, scratch)? else {
         return Err(PlanFault::P3("senders"));
     };
-    let Some(receivers) = receivers(alloc, tree, numbers.groups)? else {
+    let Some(receivers) = receivers(alloc, document, numbers.groups, scratch)? else {
         return Err(PlanFault::P3("receivers"));
     };
-    let Some(schedule) = schedule(alloc, tree)? else {
+    let Some(schedule) = schedule(alloc, document, scratch)? else {
         return Err(PlanFault::P3("schedule"));
     };
     let config = config(numbers, senders.len(), receivers.len());
@@ -101,103 +116,105 @@ fn config(numbers: Numbers, senders: usize, receivers: usize) -> Config
 }
 
 /// In how many groups the receivers are: in version 1 in one.
-fn groups(tree: &Value, version: u32) -> Option<usize>
-    ensures value { result ≡ groups_of version (view tree.now) }
-    ensures range { IfSome result (λ n. (1 ≤ n) × (n ≤ 8)) }
+fn groups(
+    document: &Document<'_>,
+    version: u32,
+    scratch: &mut Scratch,
+) -> Result<Option<usize>, AllocError>
+    ensures value { IfOk result (λ groups. groups ≡ groups_of version (tree document.now)) }
+    ensures range { IfOk result (λ groups. IfSome groups (λ n. (1 ≤ n) × (n ≤ 8))) }
 {
-    if version == 2 {
-        Some(number_at(tree, "groups", 8)? as usize)
-    } else {
-        Some(1)
+    if version != 2 {
+        return Ok(Some(1));
     }
-}
-
-/// The whole number at the key, from 1 to a limit.
-fn number_at(tree: &Value, key: &str, high: u64) -> Option<u64>
-    ensures value { result ≡ option_and_then (number_in 1 high) (get key.now (view tree.now)) }
-    ensures range { IfSome result (λ n. (1 ≤ n) × (n ≤ high)) }
-{
-    number_in(tree.get(key)?, 1, high)
-}
-
-/// The elements, if their number is within the range.
-fn counted(value: &Value, low: u64, high: u64) -> Option<&[Value]>
-    ensures value { option_map (λ l. map view l.now) result ≡ counted low high (view value.now) }
-    ensures range { IfSome result (λ l. length l.now ≤ high) }
-{
-    let list = elements(value)?;
-    if is_within(list.len() as u64, low, high) {
-        Some(list)
-    } else {
-        None
+    match number_at(document, "groups", 8, scratch)? {
+        Some(n) => Ok(Some(n as usize)),
+        None => Ok(None),
     }
 }
 
 /// The calls of each sender, in its order.
-fn senders(alloc: Global, tree: &Value, version: u32) -> Result<Option<Vec<Vec<Call>>>, AllocError>
-    ensures value { IfOk result (λ all. option_map (λ v. map (λ c. c.items) v.items) all
-        ≡ option_and_then (senders_of version) (get (codes "senders") (view tree.now))) }
+fn senders(
+    alloc: Global,
+    document: &Document<'_>,
+    version: u32,
+    scratch: &mut Scratch,
+) -> Result<Option<Vec<Calls>>, AllocError>
+    ensures value { IfOk result (λ all. option_map (λ v. map calls_in v.items) all
+        ≡ option_and_then (senders_of version) (get (codes "senders") (tree document.now))) }
     ensures range { IfOk result (λ all. IfSome all (λ v. length v.items ≤ 64)) }
 {
-    let Some(list) = tree.get("senders").and_then(|v| counted(v, 1, 64)) else {
-        return Ok(None);
-    };
-    each_calls(alloc, list, version)
+    match document.at("senders", scratch)? {
+        Some(mut reader) => {
+            let all = senders_at(alloc, &mut reader, version)?;
+            Ok(if_any(all))
+        }
+        None => Ok(None),
+    }
 }
 
-fn each_calls(
+/// The calls of each sender, of however few.
+fn senders_at(
     alloc: Global,
-    list: &[Value],
+    reader: &mut Reader<'_>,
     version: u32,
-) -> Result<Option<Vec<Vec<Call>>>, AllocError>
-    ensures value { IfOk result (λ all. option_map (λ v. map (λ c. c.items) v.items) all
-        ≡ each (calls_of version) (map view list.now)) }
-    ensures count { IfOk result (λ all. IfSome all (λ v. length v.items ≡ length list.now)) }
+) -> Result<Option<Vec<Calls>>, AllocError>
+    ensures value { IfOk result (λ all. Gets (λ d. option_and_then (each_of_few (Some 64) (calls_of version)) (elements d)) reader.old
+        (option_map (λ v. map calls_in v.items) all) reader.new) }
+    ensures range { IfOk result (λ all. IfSome all (λ v. length v.items ≤ 64)) }
 {
-    let mut all = Vec::new(alloc);
-    for element in list {
-        let Some(calls) = calls(alloc, element, version)? else {
-            return Ok(None);
-        };
-        all.push(calls)?;
-    }
-    Ok(Some(all))
-}
-
-/// The calls of one sender.
-fn calls(alloc: Global, value: &Value, version: u32) -> Result<Option<Vec<Call>>, AllocError>
-    ensures { IfOk result (λ all. option_map (λ v. v.items) all ≡ calls_of version (view value.now)) }
-{
-    let Some(list) = counted(value, 0, 65_536) else {
+    if !opens(reader) {
         return Ok(None);
-    };
-    each(alloc, list, |v| call(v, version))
+    }
+    let all = each_calls(alloc, reader, version)?;
+    Ok(all)
 }
 
-/// `close`, or a send of a body.
-fn call(value: &Value, version: u32) -> Option<Call>
-    ensures { result ≡ call_of version (view value.now) }
+/// The calls of the senders, if there is a sender.
+fn if_any(all: Option<Vec<Calls>>) -> Option<Vec<Calls>>
+    ensures value { result ≡ option_and_then (λ v. if nat_eq (length v.items) 0 then None else Some v) all }
+    ensures range { (most : ℕ) → IfSome all (λ v. length v.items ≤ most) → IfSome result (λ v. length v.items ≤ most) }
 {
-    if is_word(value, "close") {
-        return Some(Call::Close);
+    let all = all?;
+    if all.is_empty() {
+        return None;
     }
-    Some(Call::Send(body_as(value, version)?))
+    Some(all)
 }
 
 /// How often each receiver takes, group by group.
-fn receivers(alloc: Global, tree: &Value, groups: usize) -> Result<Option<Vec<u32>>, AllocError>
-    requires { 1 ≤ groups }
+fn receivers(
+    alloc: Global,
+    document: &Document<'_>,
+    groups: usize,
+    scratch: &mut Scratch,
+) -> Result<Option<Vec<u32>>, AllocError>
+    requires { (1 ≤ groups) × (groups ≤ 8) }
     ensures value { IfOk result (λ all. option_map (λ v. v.items) all
-        ≡ option_and_then (receivers_of groups) (get (codes "receivers") (view tree.now))) }
+        ≡ option_and_then (receivers_of groups) (get (codes "receivers") (tree document.now))) }
     ensures range { IfOk result (λ all. IfSome all (λ v. length v.items / groups ≤ 64)) }
 {
-    let Some(list) = tree.get("receivers").and_then(elements) else {
-        return Ok(None);
-    };
-    if !fill_groups(list.len(), groups) {
-        return Ok(None);
+    match document.at("receivers", scratch)? {
+        Some(mut reader) => {
+            let all = array_of(alloc, &mut reader, &Takes, Some(64 * groups))?;
+            Ok(if_filled(all, groups))
+        }
+        None => Ok(None),
     }
-    each(alloc, list, takes)
+}
+
+/// The receivers, if they make up the groups.
+fn if_filled(all: Option<Vec<u32>>, groups: usize) -> Option<Vec<u32>>
+    requires { 1 ≤ groups }
+    ensures value { option_map (λ v. v.items) result
+        ≡ option_and_then (λ xs. if fill_groups groups (length xs) then Some xs else None) (option_map (λ v. v.items) all) }
+    ensures range { IfSome result (λ v. length v.items / groups ≤ 64) }
+{
+    let all = all?;
+    if !fill_groups(all.len(), groups) {
+        return None;
+    }
+    Some(all)
 }
 
 /// Whether this number of receivers makes up the groups: in each as many as in the others, 1 to 64.
@@ -209,28 +226,20 @@ fn fill_groups(count: usize, groups: usize) -> bool
     count % groups == 0 && is_within((count / groups) as u64, 1, 64)
 }
 
-fn takes(value: &Value) -> Option<u32>
-    ensures { result ≡ number_in 0 65536 (view value.now) }
-{
-    Some(number_in(value, 0, 65_536)? as u32)
-}
-
 /// The entries of the schedule.
-fn schedule(alloc: Global, tree: &Value) -> Result<Option<Vec<(Pass, u32)>>, AllocError>
+fn schedule(
+    alloc: Global,
+    document: &Document<'_>,
+    scratch: &mut Scratch,
+) -> Result<Option<Vec<(Pass, u32)>>, AllocError>
     ensures { IfOk result (λ all. option_map (λ v. v.items) all
-        ≡ option_and_then schedule_of (get (codes "schedule") (view tree.now))) }
+        ≡ option_and_then schedule_of (get (codes "schedule") (tree document.now))) }
 {
-    let Some(list) = tree.get("schedule").and_then(|v| counted(v, 0, 65_536)) else {
-        return Ok(None);
-    };
-    each(alloc, list, entry)
-}
-
-/// A pass, and up to how many steps it makes.
-fn entry(value: &Value) -> Option<(Pass, u32)>
-    ensures { result ≡ entry_of (view value.now) }
-{
-    let (name, number) = pair(elements(value)?)?;
-    let pass = named(name)?;
-    Some((pass, number_in(number, 1, 100_000)? as u32))
+    match document.at("schedule", scratch)? {
+        Some(mut reader) => {
+            let all = array_of(alloc, &mut reader, &Entry, Some(65_536))?;
+            Ok(all)
+        }
+        None => Ok(None),
+    }
 }

@@ -1,5 +1,6 @@
 use Rattle.std.proofs.Common.{length, [], ◌+◌, refl, sym, ap, ◌∙◌, arith}
 use Rattle.std.proofs.lemmas.List.{length-map}
+use Rattle.cc_plan.specs.Calls.{calls_in}
 use Rattle.cc_plan.specs.Plan.{plan_value}
 use Rattle.cc_play.proofs.Between.{opened_between}
 use Rattle.cc_play.proofs.Followed.{written_back, opened, leads_on}
@@ -10,7 +11,7 @@ use Rattle.cc_show.proofs.player.play_events.Goals as goal
 pub loop-pass-init : goal.loop-pass-init
 loop-pass-init c =
     let p = c.args.plan.now in
-    let at = opened (plan_value p) _ _ _ _ c.requires.lawful c.in-Ok.ensures.opened (c.in_ok-begun.ensures.items_if_clones_equal (λ y e. e)) (c.len.ensures ∙ p.senders.ok.0 ∙ sym (length-map p.senders.items (λ calls. calls.items))) (c.len-2.ensures ∙ p.receivers.ok.0) in
+    let at = opened (plan_value p) _ _ _ _ c.requires.lawful c.in-Ok.ensures.opened (c.in_ok-begun.ensures.items_if_clones_equal (λ y e. e)) (c.len.ensures ∙ p.senders.ok.0 ∙ sym (length-map p.senders.items calls_in)) (c.len-2.ensures ∙ p.receivers.ok.0) in
     record { short = omega (arith, ap length c.new-events.ensures.items); between = opened_between (plan_value p) _ _ c.in-Ok.ensures.opened; leads = record { run = []; at = record { at = at; told = c.new-events.ensures.items }; leads = refl } }
 
 pub loop-pass-preserved : goal.loop-pass-preserved

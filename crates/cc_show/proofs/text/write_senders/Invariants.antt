@@ -1,4 +1,5 @@
 use Rattle.std.specs.Prelude.{◌++◌, codes}
+use Rattle.cc_plan.specs.Calls.{calls_in}
 use Rattle.cc_show.specs.Page.{calls_text}
 use Rattle.cc_device.specs.Written.{desk}
 use Rattle.cc_plan.proofs.Lines.{UpTo}
@@ -8,4 +9,4 @@ use Rattle.cc_show.proofs.text.write_senders.Given as goal
 abbrev pub invariant-loop-calls : goal.invariant-loop-calls
 invariant-loop-calls g l =
     UpTo (desk l.fn.pen (g.W.Sink.bytes_written l.fn.sink) (g.W.Sink.write_failures l.fn.sink)) (desk l.pen (g.W.Sink.bytes_written l.sink) (g.W.Sink.write_failures l.sink))
-    (λ i calls. calls_text calls.items ++ codes "\n") l.senders l.calls-index
+    (λ i calls. calls_text (calls_in calls) ++ codes "\n") l.senders l.calls-index

@@ -1,0 +1,13 @@
+use Rattle.std.proofs.Common.{Some, length}
+use Rattle.cc_plan.specs.Calls.{calls_in}
+use Rattle.cc_plan.specs.PlanValues.{call_of}
+use Rattle.cc_plan.proofs.Gathered.{Gathers}
+use Rattle.cc_plan.proofs.tokens.call.each_call.Given as goal
+
+abbrev pub invariant-calls : goal.invariant-calls
+invariant-calls l = record {
+  gathers : Gathers (Some 65536) (call_of l.fn.version) l.initial.reader l.reader (calls_in l.all);
+}
+
+abbrev pub decreases-calls : goal.decreases-calls
+decreases-calls l = length l.reader

@@ -1,0 +1,120 @@
+//! The calls of a sender.
+ghost use Rattle.std.specs.Prelude.{◌≡◌, ◌<◌, ◌++◌, ◌^◌, ◌-◌, IfSome, OnOk, [], ◌∷◌, length, get_or, true};
+ghost use Rattle.std.specs.List.{list_all, slice_get};
+ghost use Rattle.cc_plan.specs.Kept.{is_kept};
+
+use super::kept::Kept;
+use cc_model::{Body, Call};
+use std::alloc::{AllocError, Global};
+
+/// The calls of a sender, in their order. A close and a send of one word take 16 bytes, and another send takes 40 more.
+#[derive(Drop)]
+pub struct Calls {
+    calls: Vec<Kept>,
+    bodies: Vec<Body>,
+    ghost kept: { list_all (is_kept (length bodies.items)) calls.items ≡ true },
+}
+
+impl Calls {
+    ghost use Rattle.cc_plan.specs.Calls.{calls_in};
+    ghost use Rattle.cc_plan.specs.Kept.{kept_in};
+    ghost use Rattle.cc_plan.specs.Names.{Call};
+    ghost use Rattle.cc_plan.specs.PlanLaws.{IsOfSender};
+
+    /// No calls.
+    pub fn new(alloc: Global) -> Calls
+        ensures { calls_in result ≡ [] }
+    {
+        Calls {
+            calls: Vec::new(alloc),
+            bodies: Vec::new(alloc),
+        }
+    }
+
+    /// The number of calls.
+    pub fn len(&self) -> usize
+        ensures { result ≡ length (calls_in self.now) }
+    {
+        self.calls.len()
+    }
+
+    /// The call at a place, from 0, if there is one.
+    pub fn get(&self, place: usize) -> Option<Call>
+        ensures call { result ≡ slice_get (calls_in self.now) place }
+        ensures countable { IfSome result (λ _. place < 2 ^ 64 - 1) }
+    {
+        if place < self.len() {
+            Some(self.at(place))
+        } else {
+            None
+        }
+    }
+
+    /// The call at a place, from 0.
+    pub fn at(&self, place: usize) -> Call
+        requires { place < length (calls_in self.now) }
+        ensures { result ≡ get_or (calls_in self.now) place result }
+    {
+        self.call_of(self.calls[place])
+    }
+
+    /// The call that is kept so.
+    fn call_of(&self, kept: Kept) -> Call
+        ensures { is_kept (length self.now.bodies.items) kept ≡ true → result ≡ kept_in self.now.bodies.items kept }
+    {
+        match kept {
+            Kept::Close => Call::Close,
+            Kept::Word(word) => Call::Send(Body::one(word)),
+            Kept::Body(place) => match self.bodies.get(place) {
+                Some(body) => Call::Send(*body),
+                None => Call::Close,
+            },
+        }
+    }
+
+    /// Puts a call of a sender after the others.
+    pub fn push(&mut self, call: Call) -> Result<(), AllocError>
+        requires { IsOfSender call }
+        ensures { OnOk result (calls_in self.new ≡ calls_in self.old ++ call ∷ []) }
+    {
+        match call {
+            Call::Send(body) => self.push_send(body),
+            _ => self.push_kept(Kept::Close),
+        }
+    }
+
+    fn push_send(&mut self, body: Body) -> Result<(), AllocError>
+        ensures { OnOk result (calls_in self.new ≡ calls_in self.old ++ Call.Send body ∷ []) }
+    {
+        match body.words() {
+            [word] => self.push_kept(Kept::Word(*word)),
+            _ => self.push_body(body),
+        }
+    }
+
+    fn push_body(&mut self, body: Body) -> Result<(), AllocError>
+        ensures { OnOk result (calls_in self.new ≡ calls_in self.old ++ Call.Send body ∷ []) }
+    {
+        let place = self.bodies.len();
+        self.bodies.push(body)?;
+        self.push_kept(Kept::Body(place))?;
+        Ok(())
+    }
+
+    /// The same calls, without the memory that was reserved for others to come.
+    pub fn shrunk(mut self) -> Calls
+        ensures { calls_in result ≡ calls_in self }
+    {
+        self.calls.shrink_to_fit();
+        self.bodies.shrink_to_fit();
+        self
+    }
+
+    fn push_kept(&mut self, kept: Kept) -> Result<(), AllocError>
+        requires { is_kept (length self.old.bodies.items) kept ≡ true }
+        ensures { OnOk result (calls_in self.new ≡ calls_in self.old ++ kept_in self.old.bodies.items kept ∷ []) }
+    {
+        self.calls.push(kept)?;
+        Ok(())
+    }
+}

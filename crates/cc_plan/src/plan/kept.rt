@@ -1,0 +1,9 @@
+//! A call of a sender as a plan keeps it.
+
+/// A close, a send of one word, or a send of the body at a place of a list.
+#[derive(Clone, Copy)]
+pub enum Kept {
+    Close,
+    Word(u64),
+    Body(usize),
+}

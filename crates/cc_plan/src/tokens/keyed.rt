@@ -1,0 +1,43 @@
+//! Values at the keys of a text's root.
+ghost use Rattle.std.specs.Prelude.{◌≡◌, ◌≤◌, IfOk, IfSome, option_map, option_and_then, unwrap_or};
+ghost use Rattle.serde_json.specs.Find.{get};
+ghost use Rattle.cc_plan.specs.Document.{tree};
+ghost use Rattle.cc_plan.specs.Json.{number_in};
+
+use crate::tokens::document::Document;
+use crate::tokens::list::Shape;
+use crate::tokens::value::number_in;
+use json::Scratch;
+use std::alloc::AllocError;
+
+/// Whether the value at the key has the shape; `if_absent` if there is no value.
+pub fn has<S: Shape>(
+    document: &Document<'_>,
+    key: &str,
+    shape: &S,
+    if_absent: bool,
+    scratch: &mut Scratch,
+) -> Result<bool, AllocError>
+    ensures { IfOk result (λ has. has ≡ unwrap_or (option_map (S.test shape.now) (get key.now (tree document.now))) if_absent) }
+{
+    match document.at(key, scratch)? {
+        Some(mut reader) => Ok(shape.passes(&mut reader)),
+        None => Ok(if_absent),
+    }
+}
+
+/// The whole number at the key, from 1 to a limit.
+pub fn number_at(
+    document: &Document<'_>,
+    key: &str,
+    high: u64,
+    scratch: &mut Scratch,
+) -> Result<Option<u64>, AllocError>
+    ensures value { IfOk result (λ n. n ≡ option_and_then (number_in 1 high) (get key.now (tree document.now))) }
+    ensures range { IfOk result (λ n. IfSome n (λ n. (1 ≤ n) × (n ≤ high))) }
+{
+    match document.at(key, scratch)? {
+        Some(mut reader) => Ok(number_in(&mut reader, 1, high)),
+        None => Ok(None),
+    }
+}
