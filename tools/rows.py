@@ -164,7 +164,7 @@ def without_room(program):
     """A large input in little memory, a word that is no text, and outputs that are full, at once or after some bytes."""
     objects = b"[" + (b'{"a":0},' * (LIMIT // 8))[: LIMIT - 8] + b"0]"
     for task in ("play", "audit", "why"):
-        yield does(program, Row([task], 3, err=b"ccq: out of memory\n", input=objects), memory=200000 * 1024)
+        yield does(program, Row([task], 3, err=b"ccq: out of memory\n", input=objects), memory=20000 * 1024)
     no_text = b"error: invalid UTF-8 was detected in one or more arguments\n\nUsage: ccq <COMMAND>\n\nFor more information, try '--help'.\n"
     yield is_told(program, [b"\xff"], 64, no_text, stdout=subprocess.DEVNULL, stderr=subprocess.PIPE)
     with open("/dev/full", "wb") as full:
