@@ -15,6 +15,8 @@ use std::thread::available_parallelism;
 
 /// The passes of a side are no more than these.
 const MOST: usize = 64;
+/// As many items are several.
+const SEVERAL: u64 = 5;
 
 /// How many seats a side has: twice as many as processors, as a power of two.
 pub fn seats() -> usize {
@@ -39,6 +41,8 @@ struct Seat {
     number: usize,
     /// How many items went through it. The holder alone writes it.
     count: AtomicU64,
+    /// What the count was when it was asked for last, by [`Pool::has_passed_several`].
+    asked: AtomicU64,
     pass: UnsafeCell<Pass>,
 }
 
@@ -106,6 +110,7 @@ impl Pool {
             taken: AtomicBool::new(false),
             number,
             count: AtomicU64::new(0),
+            asked: AtomicU64::new(0),
             pass: UnsafeCell::new(Pass { handle, queue: 0 }),
         };
         Pool {
@@ -122,10 +127,22 @@ impl Pool {
         used.iter().map(|it| it.count.load(Ordering::Acquire)).sum()
     }
 
+    #[inline]
+    fn seat(&self, at: usize) -> &Seat {
+        &self.seats[at & (self.seats.len() - 1)]
+    }
+
+    /// Whether several items went through the seat that this thread tries first, since this was last asked of it.
+    pub fn has_passed_several(&self) -> bool {
+        let seat = self.seat(HINT.get());
+        let count = seat.count.load(Ordering::Relaxed);
+        count.saturating_sub(seat.asked.swap(count, Ordering::Relaxed)) >= SEVERAL
+    }
+
     /// Takes the seat at this place, if it is free.
     #[inline]
     fn try_take(&self, at: usize) -> Option<Held<'_>> {
-        let seat = &self.seats[at & (self.seats.len() - 1)];
+        let seat = self.seat(at);
         let taken = seat.taken.swap(true, Ordering::Acquire);
         (!taken).then(|| Held { pool: self, seat })
     }

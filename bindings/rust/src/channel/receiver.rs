@@ -1,6 +1,6 @@
 //! The receivers of a channel.
 use super::body::Parcel;
-use super::event::{Try, wait};
+use super::event::Try;
 use super::future::RecvFuture;
 use super::side::{Handle, WeakHandle};
 use super::{RecvError, RecvTimeoutError, TryRecvError};
@@ -65,7 +65,7 @@ impl<T> Receiver<T> {
         if self.core().meeting().is_some() {
             return self.meet_until(until);
         }
-        match wait(self.line(), until, || self.try_take()) {
+        match self.wait(until, || self.try_take()) {
             Some(Some(parcel)) => Ok(parcel.unpack()),
             Some(None) => Err(RecvTimeoutError::Disconnected),
             None => Err(RecvTimeoutError::Timeout),

@@ -1,6 +1,5 @@
 //! The senders of a channel.
 use super::body::Parcel;
-use super::event::wait;
 use super::future::SendFuture;
 use super::side::{Handle, WeakHandle};
 use super::{SendError, SendTimeoutError, TrySendError};
@@ -67,7 +66,7 @@ impl<T> Sender<T> {
 
     #[inline(never)]
     fn wait_for_room(&self, parcel: Parcel<T>, until: Option<Instant>) -> Sent<T> {
-        match wait(self.line(), until, || self.core().try_send(&parcel)) {
+        match self.wait(until, || self.core().try_send(&parcel)) {
             Some(true) => parcel.sent(),
             Some(false) => Err(SendTimeoutError::Disconnected(parcel.unpack())),
             None => Err(SendTimeoutError::Timeout(parcel.unpack())),

@@ -1,9 +1,14 @@
 //! The handles of a channel, of either side.
-use super::core::Core;
-use super::event::Event;
+use super::core::{Core, Side};
+use super::event::{Event, Try, wait};
+use crate::words::backoff::let_ahead;
 use std::marker::PhantomData;
 use std::panic::{RefUnwindSafe, UnwindSafe};
 use std::sync::{Arc, Weak};
+use std::time::Instant;
+
+/// With a smaller capacity than this a side can't go ahead: the channel is full or empty before.
+const ROOM_AHEAD: usize = 16;
 
 /// The state that all handles of a side share. It goes with the last of them.
 struct Shared<T, S> {
@@ -55,6 +60,22 @@ impl<T, S> Handle<T, S> {
     /// The line in which its calls wait.
     pub(super) fn line(&self) -> &Event {
         &self.core().side(self.side()).line
+    }
+
+    /// Tries until it is done, or until this moment: then None. Between the tries it waits for rings.
+    ///
+    /// A thread that passed several items since its last wait is faster than the other side. If it tries again at
+    /// once, both meet at each item, and wait for the same line of the cache. So it lets the other side go ahead.
+    pub(super) fn wait<R>(
+        &self,
+        until: Option<Instant>,
+        attempt: impl FnMut() -> Try<R>,
+    ) -> Option<R> {
+        let Side { line, seats, .. } = self.core().side(self.side());
+        if self.core().capacity() >= ROOM_AHEAD && seats.has_passed_several() {
+            let_ahead();
+        }
+        wait(line, until, attempt)
     }
 
     /// How many handles its side has.

@@ -50,6 +50,28 @@ fn one_thread_meets_no_end() {
     }
 }
 
+/// A thread that passed several items since it was last asked is ahead of the other side.
+#[test]
+fn several_items_are_five() {
+    let (sender, receiver) = crate::channel(1).unwrap();
+    for (items, several) in [
+        (0, false),
+        (4, false),
+        (4, false),
+        (5, true),
+        (0, false),
+        (9, true),
+    ] {
+        for item in 0..items {
+            sender.send(item).unwrap();
+            assert_eq!(receiver.recv(), Ok(item));
+        }
+        for side in [&sender.core().senders, receiver.core().side(1)] {
+            assert_eq!(side.seats.has_passed_several(), several, "{items}");
+        }
+    }
+}
+
 /// Sends that find no room are begun too, and wear a sender out.
 #[test]
 fn tries_that_find_no_room_meet_no_end() {

@@ -1,6 +1,6 @@
 //! How the time passes until the next turn, or the next try.
 use std::thread;
-use std::time::Duration;
+use std::time::{Duration, Instant};
 
 /// So many rounds spin, each twice as long as the one before.
 const SPINS: u32 = 7;
@@ -8,6 +8,8 @@ const SPINS: u32 = 7;
 const YIELDS: u32 = 256;
 /// How long a round sleeps then: at first, and at most.
 const SLEEPS: (Duration, Duration) = (Duration::from_micros(50), Duration::from_millis(1));
+/// How long the other side goes ahead: some items, and less than a park costs.
+const AHEAD: Duration = Duration::from_micros(1);
 
 #[derive(Default)]
 pub struct Backoff {
@@ -33,6 +35,14 @@ impl Backoff {
         };
         thread::sleep(SLEEPS.1.min(SLEEPS.0 * (1 << slept.min(8))));
         self.round = self.round.saturating_add(1);
+    }
+}
+
+/// Lets the other side go ahead.
+pub fn let_ahead() {
+    let from = Instant::now();
+    while from.elapsed() < AHEAD {
+        std::hint::spin_loop();
     }
 }
 
