@@ -9,59 +9,58 @@ quarter of that memory, where `ccq` must say that it ran out: so the limit holds
 """
 
 import re
-import resource
-import subprocess
 import sys
 from pathlib import Path
 
 TOP = Path(__file__).resolve().parent.parent
-PROGRAM = TOP / "crates/ccq/out/ccq"
+sys.dont_write_bytecode = True
+sys.path.insert(0, str(TOP / "tools"))
+from rows import Row, does, refused
+
+PROGRAM = "crates/ccq/out/ccq"
 SAYS = r"at most (\d+) bytes of memory for each byte of its input, and (\d+) MB"
-CLEAN = b"audit clean\n"
 
 
 def plan(calls, number, senders, version=1, schedule="", receivers="1"):
     """The text of a plan in which each sender has the same call that often."""
     head = '"version":2,"groups":1,' if version == 2 else ""
     lists = ",".join(["[" + ",".join([calls] * number) + "]"] * senders)
-    return (
-        f'{{{head}"capacity":2,"bound":2,"life":10,"senders":[{lists}],"receivers":[{receivers}],"schedule":[{schedule}]}}'
-    )
+    text = f'{{{head}"capacity":2,"bound":2,"life":10,"senders":[{lists}],"receivers":[{receivers}],"schedule":[{schedule}]}}'
+    return text.encode()
 
 
-def receipts(accepted, taken):
-    """The text of receipts."""
-    return f'{{"accepted":[{",".join(accepted)}],"taken":[{",".join(taken)}]}}'
+def clean(text):
+    """The row of a plan that is played to the end."""
+    return Row(["play"], 0, b"audit clean\n", input=text)
 
 
-def inputs():
-    """Each input's name, its task, its text, and what `ccq` must answer."""
-    yield "bodies of one word", "play", plan("[1]", 65536, 63, 2), (0, CLEAN)
-    yield "bodies of two words, half of the room to spare", "play", plan("[1,1]", 32800, 64, 2), (0, CLEAN)
-    yield "numbers, half of the room to spare", "play", plan("1", 32800, 64), (0, CLEAN)
-    stranger = plan("[1]", 65536, 63, 2, '["s99",1]')
-    yield "a stranger in the schedule", "play", stranger, (2, b"ccq: plan refused: P4 at 0\n")
+def audit(verdict, status, accepted, taken):
+    """The row of receipts with this verdict."""
+    text = f'{{"accepted":[{",".join(accepted)}],"taken":[{",".join(taken)}]}}'
+    return Row(["audit"], status, f"audit {verdict}\n".encode(), input=text.encode())
+
+
+TWO_WORDS = plan("[1,1]", 32800, 64, 2)
+
+
+def rows():
+    """What an input has, and its row."""
+    yield "bodies of one word", clean(plan("[1]", 65536, 63, 2))
+    yield "bodies of two words, half of the room to spare", clean(TWO_WORDS)
+    yield "numbers, half of the room to spare", clean(plan("1", 32800, 64))
+    yield "a stranger in the schedule", refused("play", plan("[1]", 65536, 63, 2, '["s99",1]'), "P4 at 0")
     long = plan("1", 1, 1, schedule=",".join(['["s1",1]'] * 1800000))
-    yield "a schedule past its limit", "play", long, (2, b"ccq: plan refused: P3 schedule\n")
+    yield "a schedule past its limit", refused("play", long, "P3 schedule")
     body = plan("[" + ",".join("1" * 8300000) + "]", 1, 1, 2)
-    yield "a body of too many words", "play", body, (2, b"ccq: plan refused: P3 senders\n")
+    yield "a body of too many words", refused("play", body, "P3 senders")
     often = plan("1", 1, 1, receivers=",".join("1" * 8300000))
-    yield "receivers past their limit", "play", often, (2, b"ccq: plan refused: P3 receivers\n")
+    yield "receivers past their limit", refused("play", often, "P3 receivers")
     items = range(330000)
     sent = [f"[1,{n + 1},{n},5]" for n in items]
     taken = [f"[1,{n},1,{n + 1},5]" for n in items]
-    yield "items taken once", "audit", receipts(sent, taken), (0, CLEAN)
-    yield "one send many times", "audit", receipts(["[1,1,0,0]"] * 1050000, []), (1, b"audit fault 1 place 0\n")
-    yield "one take many times", "audit", receipts([], ["[1,0,1,1,0]"] * 1050000), (1, b"audit fault 2 place 0\n")
-
-
-def answer(task, text, memory):
-    """The status and all output of `ccq` with that many bytes of memory."""
-    limit = lambda: resource.setrlimit(resource.RLIMIT_AS, (memory, memory))
-    done = subprocess.run(
-        [PROGRAM, task], input=text.encode(), stdout=subprocess.PIPE, stderr=subprocess.STDOUT, preexec_fn=limit, check=False
-    )
-    return done.returncode, done.stdout
+    yield "items taken once", audit("clean", 0, sent, taken)
+    yield "one send many times", audit("fault 1 place 0", 1, ["[1,1,0,0]"] * 1050000, [])
+    yield "one take many times", audit("fault 2 place 0", 1, [], ["[1,0,1,1,0]"] * 1050000)
 
 
 def main():
@@ -69,19 +68,15 @@ def main():
     if not says:
         sys.exit("memory: docs/FORMATS.md doesn't say how much memory ccq takes")
     factor, base = int(says[1]), int(says[2]) << 20
-    wrong = 0
-    for name, task, text, expected in inputs():
-        got = answer(task, text, base + factor * len(text))
-        if got != expected:
-            print(f"memory: {name}: {got[0]} {got[1][:100]}, expected {expected[0]} {expected[1]}")
-            wrong += 1
-    text = plan("[1,1]", 32800, 64, 2)
-    got = answer("play", text, base + factor * len(text) // 4)
-    if got != (3, b"ccq: out of memory\n"):
-        print(f"memory: in a quarter of the memory: {got[0]} {got[1][:100]}, expected that it ran out")
-        wrong += 1
-    print(f"memory: {wrong} wrong" if wrong else f"memory: each input in {factor} bytes a byte, and {base >> 20} MB")
-    sys.exit(bool(wrong))
+    within = lambda row, bytes_a_byte: does(TOP / PROGRAM, row, memory=base + bytes_a_byte * len(row.input))
+    right = []
+    for name, row in rows():
+        right.append(within(row, factor))
+        if not right[-1]:
+            print(f"memory: so it was with {name}")
+    right.append(within(Row(["play"], 3, err=b"ccq: out of memory\n", input=TWO_WORDS), factor // 4))
+    print(f"memory: {sum(right)} of {len(right)} inputs in {factor} bytes a byte, and {base >> 20} MB, one of them in a quarter")
+    sys.exit(not all(right))
 
 
 if __name__ == "__main__":
