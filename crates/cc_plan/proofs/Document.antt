@@ -105,9 +105,6 @@ get_of key (string s) o e = ap (option_and_then (get_member key)) e
 get_of key (array ds) o e = ap (option_and_then (get_member key)) e
 get_of key (object ms) o e = ap (option_and_then (get_member key)) e
 
-pub no_place : (text key : List ℕ) → as_object (tree text) ≡ None → get key (tree text) ≡ None
-no_place text key e = get_of key (tree text) None e
-
 pub place_is : (text key : List ℕ) (ts : List Token) (ms : Members) (place : Option ℕ) → after_begin_object (tokens text) ≡ Some ts → as_object (tree text) ≡ Some ms → IsLast key ts ms place → IsPlace text key place
 place_is text key ts ms None at e h = get_of key (tree text) (Some ms) e ∙ h
 place_is text key ts ms (Some n) at e h = (

@@ -14,13 +14,6 @@ abbrev pub Gathered : {A : Type 0} → (Data → Option A) → (initial now : Li
 Gathered of initial now done = (all : List Data) (rest : List Token) → Lists initial all rest
     → (ds : List Data) × Lists now ds rest × (option_map (λ xs. done ++ xs) (each of ds) ≡ each of all) × (length done + length ds ≡ length all)
 
-before_nothing : {A : Type 0} (o : Option (List A)) → option_map (λ xs. [] ++ xs) o ≡ o
-before_nothing None = refl
-before_nothing (Some xs) = refl
-
-pub gathered_none : {A : Type 0} (of : Data → Option A) (initial : List Token) (done : List A) → done ≡ [] → Gathered of initial initial done
-gathered_none of initial done is = rw is (λ all rest h. (all, h, before_nothing (each of all), omega arith))
-
 joined : {A : Type 0} (done : List A) (x : A) (o : Option (List A)) → option_map (λ xs. (done ++ x ∷ []) ++ xs) o ≡ option_map (λ xs. done ++ xs) (option_map (λ xs. x ∷ xs) o)
 joined done x None = refl
 joined done x (Some xs) = ap Some (append_assoc done (x ∷ []) xs)

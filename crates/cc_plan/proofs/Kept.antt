@@ -1,10 +1,9 @@
 -- The calls of a sender as a plan keeps them.
-use Rattle.std.proofs.Common.{◌≡◌, ◌<◌, ◌≤◌, ◌++◌, ◌&&◌, ℕ, true, List, [], ◌∷◌, length, get_or, map, refl, ap, ap₂, arith}
+use Rattle.std.proofs.Common.{◌≡◌, ◌≤◌, ◌++◌, ◌&&◌, ℕ, true, List, [], ◌∷◌, length, map, refl, ap, ap₂, arith}
 use Rattle.std.specs.List.{list_all}
 use Rattle.std.proofs.lemmas.Bool.{and_parts}
 use Rattle.std.proofs.lemmas.Bool.Decides.{nat_tests}
 use Rattle.std.proofs.lemmas.List.{get_or_append_left}
-use Rattle.std.proofs.lemmas.List.Sums.{AllPass-from_list_all}
 use Rattle.cc_model.specs.Body.{body_of}
 use Rattle.cc_plan.specs.Names.{Body, Call}
 use Rattle.cc_plan.specs.Kept.{kept_in, is_kept}
@@ -31,7 +30,3 @@ same_call bs b (Kept.Body place) h = ap Call.Send (get_or_append_left bs (b ∷ 
 pub same_calls : (bs : List Body) (b : Body) (ks : List Kept) → list_all (is_kept (length bs)) ks ≡ true → map (kept_in (bs ++ b ∷ [])) ks ≡ map (kept_in bs) ks
 same_calls bs b [] h = refl
 same_calls bs b (k ∷ ks) h = let both = and_parts (is_kept (length bs) k) (list_all (is_kept (length bs)) ks) h in ap₂ (λ c cs. c ∷ cs) (same_call bs b k both.0) (same_calls bs b ks both.1)
-
--- the call at a place is kept as all of them are
-pub kept_at : (n : ℕ) (ks : List Kept) (place : ℕ) (d : Kept) → list_all (is_kept n) ks ≡ true → place < length ks → is_kept n (get_or ks place d) ≡ true
-kept_at n ks place d h there = AllPass-from_list_all (is_kept n) ks h place d there

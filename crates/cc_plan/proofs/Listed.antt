@@ -69,9 +69,6 @@ and_true false = refl
 abbrev pub Decide : (Data → Bool) → (initial now : List Token) → Type 0
 Decide test initial now = (all : List Data) (rest : List Token) → Lists initial all rest → (ds : List Data) × Lists now ds rest × (list_all test ds ≡ list_all test all)
 
-pub decide_first : (test : Data → Bool) (initial : List Token) → Decide test initial initial
-decide_first test initial = λ all rest h. (all, h, refl)
-
 module _ (test : Data → Bool) (initial now mid new : List Token) (decide : Decide test initial now) (more : (after_end_array now ≡ None) × (mid ≡ now)) where
   pub decide_next : Tests test mid true new → Decide test initial new
   decide_next tests = λ all rest h.

@@ -60,15 +60,13 @@ impl Calls {
 
     /// The call that is kept so.
     fn call_of(&self, kept: Kept) -> Call
-        ensures { is_kept (length self.now.bodies.items) kept ≡ true → result ≡ kept_in self.now.bodies.items kept }
+        requires { is_kept (length self.now.bodies.items) kept ≡ true }
+        ensures { result ≡ kept_in self.now.bodies.items kept }
     {
         match kept {
             Kept::Close => Call::Close,
             Kept::Word(word) => Call::Send(Body::one(word)),
-            Kept::Body(place) => match self.bodies.get(place) {
-                Some(body) => Call::Send(*body),
-                None => Call::Close,
-            },
+            Kept::Body(place) => Call::Send(self.bodies[place]),
         }
     }
 
