@@ -111,8 +111,7 @@ gets_some most of old r result new gets is = λ d rest h. let g = gets d rest h 
 
 -- the list, if it is as long as that
 abbrev pub filled : (groups : ℕ) → {A : Type 0} → Option (List A) → Option (List A)
-filled groups None = None
-filled groups (Some xs) = if fill_groups groups (length xs) then Some xs else None
+filled groups o = option_and_then (λ xs. if fill_groups groups (length xs) then Some xs else None) o
 
 past : (q : ℕ) → 64 < q → within 1 64 q ≡ false
 past q more = grind (arith, leb_tells 1 q, leb_tells q 64)
@@ -143,21 +142,24 @@ by_groups : {A : Type 0} (groups : ℕ) (of : Data → Option A) (o : Option (Li
 by_groups groups of None = refl
 by_groups groups of (Some ds) = by_filled groups of ds (each of ds) refl (nat_le (length ds) (64 * groups)) refl
 
-was_filled : {A : Type 0} (groups : ℕ) (o : Option (List A)) → IsSome (filled groups o) → IsSome o
-was_filled groups None some = some
-was_filled groups (Some xs) some = refl
-
-pub gets_filled : {A : Type 0} (groups : ℕ) (of : Data → Option A) (old : List Token) (r result : Option (List A)) (new : List Token)
-    → Gets (λ d. option_and_then (each_of_few (Some (64 * groups)) of) (elements d)) old r new → result ≡ filled groups r
-    → Gets (λ d. option_and_then (λ ds. if fill_groups groups (length ds) then each of ds else None) (elements d)) old result new
-gets_filled groups of old r result new gets is = λ d rest h. let g = gets d rest h in (is ∙ ap (filled groups) g.0 ∙ by_groups groups of (elements d), λ some. g.1 (was_filled groups r (subst IsSome is some)))
-
 -- ---- however many
 
 by_all : {A : Type 0} (of : Data → Option A) (o : Option (List Data)) → option_and_then (each_of_few None of) o ≡ option_and_then (each of) o
 by_all of None = refl
 by_all of (Some ds) = refl
 
-pub gets_any : {A : Type 0} (of : Data → Option A) (old : List Token) (result : Option (List A)) (new : List Token) → Gets (λ d. option_and_then (each_of_few None of) (elements d)) old result new
-    → Gets (λ d. option_and_then (each of) (elements d)) old result new
-gets_any of old result new gets = λ d rest h. let g = gets d rest h in (g.0 ∙ by_all of (elements d), g.1)
+-- ---- at a key of a text's root
+
+pub any_at : {A : Type 0} (of : Data → Option A) (at : Option Data) → option_and_then (λ d. option_and_then (each_of_few None of) (elements d)) at ≡ option_and_then (λ d. option_and_then (each of) (elements d)) at
+any_at of None = refl
+any_at of (Some d) = by_all of (elements d)
+
+pub counted_at : {A : Type 0} (most : ℕ) (of : Data → Option A) (at : Option Data)
+    → option_and_then (λ d. option_and_then (each_of_few (Some most) of) (elements d)) at ≡ option_and_then (λ d. option_and_then (each of) (counted 0 most d)) at
+counted_at most of None = refl
+counted_at most of (Some d) = by_count most of (elements d)
+
+pub filled_at : {A : Type 0} (groups : ℕ) (of : Data → Option A) (at : Option Data)
+    → filled groups (option_and_then (λ d. option_and_then (each_of_few (Some (64 * groups)) of) (elements d)) at) ≡ option_and_then (λ d. option_and_then (λ ds. if fill_groups groups (length ds) then each of ds else None) (elements d)) at
+filled_at groups of None = refl
+filled_at groups of (Some d) = by_groups groups of (elements d)

@@ -1,21 +1,11 @@
 -- Lists that were read of an array, and then counted.
-use Rattle.std.proofs.Common.{◌≡◌, ◌*◌, ℕ, List, [], ◌∷◌, length, map, nat_eq, Option, Some, None, option_map, option_and_then, if◌then◌else◌, refl, ap, ◌∙◌, ne_eqb, arith}
+use Rattle.std.proofs.Common.{◌≡◌, ℕ, List, [], ◌∷◌, length, map, nat_eq, Option, Some, None, option_map, option_and_then, if◌then◌else◌, refl, ap, ◌∙◌, ne_eqb, arith}
 use Rattle.json.specs.Token.{Token}
 use Rattle.serde_json.specs.Data.{Data}
 use Rattle.cc_plan.specs.Json.{elements, each}
-use Rattle.cc_plan.specs.PlanValues.{counted, fill_groups}
+use Rattle.cc_plan.specs.PlanValues.{counted}
 use Rattle.cc_plan.specs.Spelled.{Gets, each_of_few}
-use Rattle.cc_plan.proofs.CallLists.{gets_filled, filled, gets_some, nonempty}
-
-is_filled : {A : Type 0} (groups : ℕ) (o : Option (List A)) → option_and_then (λ xs. if fill_groups groups (length xs) then Some xs else None) o ≡ filled groups o
-is_filled groups None = refl
-is_filled groups (Some xs) = refl
-
--- those of which as many were read as fill the groups
-pub gets_filling : {A : Type 0} (groups : ℕ) (of : Data → Option A) (old : List Token) (r result : Option (List A)) (new : List Token)
-    → Gets (λ d. option_and_then (each_of_few (Some (64 * groups)) of) (elements d)) old r new → result ≡ option_and_then (λ xs. if fill_groups groups (length xs) then Some xs else None) r
-    → Gets (λ d. option_and_then (λ ds. if fill_groups groups (length ds) then each of ds else None) (elements d)) old result new
-gets_filling groups of old r result new gets is = gets_filled groups of old r result new gets (is ∙ is_filled groups r)
+use Rattle.cc_plan.proofs.CallLists.{gets_some, nonempty}
 
 module _ {V A B : Type 0} (items : V → List A) (f : A → B) where
   is_nonempty_by : (v : V) (xs : List A) → items v ≡ xs → option_map (λ v. map f (items v)) (if nat_eq (length (items v)) 0 then None else Some v) ≡ nonempty (Some (map f (items v)))

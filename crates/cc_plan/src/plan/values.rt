@@ -12,10 +12,9 @@ ghost use Rattle.cc_plan.specs.Spelled.{Gets, each_of_few};
 
 use super::{Calls, Plan};
 use crate::fault::PlanFault;
-use crate::tokens::array::array_of;
 use crate::tokens::call::{Takes, each_calls};
 use crate::tokens::document::Document;
-use crate::tokens::keyed::number_at;
+use crate::tokens::keyed::{array_at, number_at};
 use crate::tokens::row::Entry;
 use crate::tokens::value::opens;
 use crate::version::version;
@@ -194,13 +193,9 @@ fn receivers(
         ≡ option_and_then (receivers_of groups) (get (codes "receivers") (tree document.now))) }
     ensures range { IfOk result (λ all. IfSome all (λ v. length v.items / groups ≤ 64)) }
 {
-    match document.at("receivers", scratch)? {
-        Some(mut reader) => {
-            let all = array_of(alloc, &mut reader, &Takes, Some(64 * groups))?;
-            Ok(if_filled(all, groups))
-        }
-        None => Ok(None),
-    }
+    let most = Some(64 * groups);
+    let all = array_at(alloc, document, "receivers", &Takes, most, scratch)?;
+    Ok(if_filled(all, groups))
 }
 
 /// The receivers, if they make up the groups.
@@ -235,11 +230,6 @@ fn schedule(
     ensures { IfOk result (λ all. option_map (λ v. v.items) all
         ≡ option_and_then schedule_of (get (codes "schedule") (tree document.now))) }
 {
-    match document.at("schedule", scratch)? {
-        Some(mut reader) => {
-            let all = array_of(alloc, &mut reader, &Entry, Some(65_536))?;
-            Ok(all)
-        }
-        None => Ok(None),
-    }
+    let all = array_at(alloc, document, "schedule", &Entry, Some(65_536), scratch)?;
+    Ok(all)
 }

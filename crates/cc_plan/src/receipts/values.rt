@@ -9,8 +9,8 @@ ghost use Rattle.cc_plan.specs.ReceiptsOf.{receipts_of_values};
 
 use super::Receipts;
 use crate::fault::PlanFault;
-use crate::tokens::array::array_of;
 use crate::tokens::document::Document;
+use crate::tokens::keyed::array_at;
 use crate::tokens::row::{SendRow, TakeRow};
 use crate::tokens::value::total;
 use crate::version::version;
@@ -69,13 +69,9 @@ fn accepted(
     ensures { IfOk result (λ all. option_map (λ v. v.items) all
         ≡ option_and_then (accepted_of version) (get (codes "accepted") (tree document.now))) }
 {
-    match document.at("accepted", scratch)? {
-        Some(mut reader) => {
-            let all = array_of(alloc, &mut reader, &SendRow { version }, None)?;
-            Ok(all)
-        }
-        None => Ok(None),
-    }
+    let row = SendRow { version };
+    let all = array_at(alloc, document, "accepted", &row, None, scratch)?;
+    Ok(all)
 }
 
 /// The receipts of the receivers.
@@ -88,11 +84,7 @@ fn taken(
     ensures { IfOk result (λ all. option_map (λ v. v.items) all
         ≡ option_and_then (taken_of version) (get (codes "taken") (tree document.now))) }
 {
-    match document.at("taken", scratch)? {
-        Some(mut reader) => {
-            let all = array_of(alloc, &mut reader, &TakeRow { version }, None)?;
-            Ok(all)
-        }
-        None => Ok(None),
-    }
+    let row = TakeRow { version };
+    let all = array_at(alloc, document, "taken", &row, None, scratch)?;
+    Ok(all)
 }

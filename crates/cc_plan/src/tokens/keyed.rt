@@ -2,13 +2,16 @@
 ghost use Rattle.std.specs.Prelude.{◌≡◌, ◌≤◌, IfOk, IfSome, option_map, option_and_then, unwrap_or};
 ghost use Rattle.serde_json.specs.Find.{get};
 ghost use Rattle.cc_plan.specs.Document.{tree};
-ghost use Rattle.cc_plan.specs.Json.{number_in};
+ghost use Rattle.cc_plan.specs.Json.{elements, number_in};
+ghost use Rattle.cc_plan.specs.Spelled.{each_of_few};
 
+use crate::tokens::array::array_of;
 use crate::tokens::document::Document;
 use crate::tokens::list::Shape;
+use crate::tokens::part::Part;
 use crate::tokens::value::number_in;
 use json::Scratch;
-use std::alloc::AllocError;
+use std::alloc::{AllocError, Global};
 
 /// Whether the value at the key has the shape; `if_absent` if there is no value.
 pub fn has<S: Shape>(
@@ -38,6 +41,28 @@ pub fn number_at(
 {
     match document.at(key, scratch)? {
         Some(mut reader) => Ok(number_in(&mut reader, 1, high)),
+        None => Ok(None),
+    }
+}
+
+/// The parts of the array at the key, if there are at most as many as is allowed.
+pub fn array_at<P: Part>(
+    alloc: Global,
+    document: &Document<'_>,
+    key: &str,
+    part: &P,
+    most: Option<usize>,
+    scratch: &mut Scratch,
+) -> Result<Option<Vec<P::Value>>, AllocError>
+    ensures { IfOk result (λ all. option_map (λ v. v.items) all
+        ≡ option_and_then (λ d. option_and_then (each_of_few most (P.value part.now)) (elements d))
+        (get key.now (tree document.now))) }
+{
+    match document.at(key, scratch)? {
+        Some(mut reader) => {
+            let all = array_of(alloc, &mut reader, part, most)?;
+            Ok(all)
+        }
         None => Ok(None),
     }
 }

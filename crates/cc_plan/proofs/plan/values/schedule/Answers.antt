@@ -1,8 +1,9 @@
-use Rattle.std.proofs.Common.{codes}
-use Rattle.cc_plan.specs.PlanValues.{schedule_of, entry_of}
-use Rattle.cc_plan.proofs.CallLists.{gets_counted}
-use Rattle.cc_plan.proofs.Keyed.{gets_at}
+use Rattle.std.proofs.Common.{◌∙◌, codes}
+use Rattle.serde_json.specs.Find.{get}
+use Rattle.cc_plan.specs.Document.{tree}
+use Rattle.cc_plan.specs.PlanValues.{entry_of}
+use Rattle.cc_plan.proofs.CallLists.{counted_at}
 use Rattle.cc_plan.proofs.plan.values.schedule.Goals as goal
 
-pub returns-in_ok-all-in-Some : goal.returns-in_ok-all-in-Some
-returns-in_ok-all-in-Some c = gets_at c.args.document.now (codes "schedule") _ _ c.in-Some.is c.in_ok-reader.ensures.some schedule_of _ _ (gets_counted 65536 entry_of _ _ _ c.in_ok-all-in-Some.ensures)
+pub returns : goal.returns
+returns c = c.in_ok-all.ensures ∙ counted_at 65536 entry_of (get (codes "schedule") (tree c.args.document.now))

@@ -1,8 +1,9 @@
-use Rattle.std.proofs.Common.{codes}
-use Rattle.cc_plan.specs.ReceiptsValues.{taken_of, take_receipt_of}
-use Rattle.cc_plan.proofs.CallLists.{gets_any}
-use Rattle.cc_plan.proofs.Keyed.{gets_at}
+use Rattle.std.proofs.Common.{◌∙◌, codes}
+use Rattle.serde_json.specs.Find.{get}
+use Rattle.cc_plan.specs.Document.{tree}
+use Rattle.cc_plan.specs.ReceiptsValues.{take_receipt_of}
+use Rattle.cc_plan.proofs.CallLists.{any_at}
 use Rattle.cc_plan.proofs.receipts.values.taken.Goals as goal
 
-pub returns-in_ok-all-in-Some : goal.returns-in_ok-all-in-Some
-returns-in_ok-all-in-Some c = gets_at c.args.document.now (codes "taken") _ _ c.in-Some.is c.in_ok-reader.ensures.some (taken_of c.args.version) _ _ (gets_any (take_receipt_of c.args.version) _ _ _ c.in_ok-all-in-Some.ensures)
+pub returns : goal.returns
+returns c = c.in_ok-all.ensures ∙ any_at (take_receipt_of c.args.version) (get (codes "taken") (tree c.args.document.now))
