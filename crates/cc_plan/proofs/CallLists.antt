@@ -66,14 +66,6 @@ nonempty None = None
 nonempty (Some []) = None
 nonempty (Some (x ∷ xs)) = Some (x ∷ xs)
 
-pub nonempty_some : {A : Type 0} (xs : List A) → (length xs ≡ 0 → ⊥) → Some xs ≡ nonempty (Some xs)
-nonempty_some [] some = absurd (some refl)
-nonempty_some (x ∷ xs) some = refl
-
-pub empty_none : {A : Type 0} (xs : List A) → length xs ≡ 0 → None ≡ nonempty (Some xs)
-empty_none [] is = refl
-empty_none (x ∷ xs) is = let never : ⊥ = omega (arith, is) in absurd never
-
 -- one element, and what the others give
 abbrev before : {A : Type 0} → Option A → Option (List A) → Option (List A)
 before o others = option_and_then (λ x. option_map (λ xs. x ∷ xs) others) o

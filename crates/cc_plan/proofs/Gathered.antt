@@ -30,10 +30,6 @@ pub still_few : (most : Option ℕ) (n m : ℕ) → few most n ≡ true → is_f
 still_few None n m are full is = refl
 still_few (Some most) n m are full is = grind (arith, leb_tells m most, leb_tells most n)
 
-pub few_none : (most : Option ℕ) (n : ℕ) → n ≡ 0 → few most n ≡ true
-few_none None n is = refl
-few_none (Some most) n is = grind (arith, leb_tells n most)
-
 pub either_none : {A : Type 0} (b : Bool) (o : Option A) → o ≡ None → (if b then o else None) ≡ None
 either_none true o e = e
 either_none false o e = refl
