@@ -152,11 +152,11 @@ impl<T> Core<T> {
             return timer.len();
         }
         let sent = self.senders.seats.count();
-        let len = |group: &Side| sent.saturating_sub(group.seats.count()) as usize;
-        let len = match side {
-            0 => self.alive().map(len).max().unwrap_or(0),
-            group => len(self.side(group)),
+        let taken = match side {
+            0 => self.alive().map(|group| group.seats.count()).min(),
+            group => Some(self.side(group).seats.count()),
         };
+        let len = sent.saturating_sub(taken.unwrap_or(sent)) as usize;
         len.min(self.capacity())
     }
 

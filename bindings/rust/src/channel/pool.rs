@@ -123,8 +123,8 @@ impl Pool {
     /// How many items went through all seats.
     #[inline]
     pub fn count(&self) -> u64 {
-        let used = &self.seats[..self.used.load(Ordering::Acquire)];
-        used.iter().map(|it| it.count.load(Ordering::Acquire)).sum()
+        let count = |at: usize| self.seats[at].count.load(Ordering::Acquire);
+        (0..self.used.load(Ordering::Acquire)).map(count).sum()
     }
 
     #[inline]
