@@ -9,9 +9,9 @@ linked with the archives in bindings/lib, as this crate is. crossbeam's channel 
 librust-crossbeam-channel-dev; the run goes on without it.
 
 A round runs each burst once, in a random order, each in a process of its own: half of the rounds with nothing beside it,
-and half with a process that is busy on each processor (none with --alone). Medians are printed, with quartiles in brackets, and the median
-of each round's quotient to the crate of the commit, or to crossbeam where that is compared. With --write the table `channel`
-of docs/BENCH.md is written: what of this bench/peers/run.py doesn't measure, with nothing beside it.
+and half with a process that is busy on each processor (none with --alone). Medians are printed, with quartiles in brackets,
+and the median of each round's quotient to the crate of the commit, or to crossbeam where that is compared. With --write
+the table `channel` of docs/BENCH.md is written: what of this bench/peers/run.py doesn't measure, with nothing beside it.
 """
 import argparse
 import contextlib

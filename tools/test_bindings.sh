@@ -25,8 +25,8 @@ elif ! make -k -s -C bindings/c "$([ -n "$quick" ] && echo check || echo check-a
 fi
 
 cd bindings/rust || exit 1
-# Of what a debugger is told, lines are enough here: they stand in what valgrind and the sanitizers say. Nothing is compiled a
-# second time after a change, so what cargo would keep for that isn't made.
+# A debugger's lines are enough here: valgrind and the sanitizers print them. Nothing is compiled a second time after a change,
+# so what cargo would keep for that isn't made.
 export CARGO_TARGET_DIR=$room/target CARGO_TERM_COLOR=never CARGO_PROFILE_DEV_DEBUG=line-tables-only CARGO_INCREMENTAL=0
 options=(--quiet --locked --offline)
 if ! cargo --version >/dev/null 2>&1; then
