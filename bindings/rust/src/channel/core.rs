@@ -13,7 +13,7 @@ use super::event::{AT_A_RING, Event, Panic, Try, first_of, let_be, lock, run_eac
 use super::meeting::Meeting;
 use super::pool::{Held, Pass, Pool};
 use super::select::Selected;
-use super::timer::Timer;
+use super::special::Special;
 use crate::words::backoff::turn_until;
 use crate::words::handle::{self, Handle, code, hands_over, has_taken, unexpected};
 use crate::words::{Config, OpenError};
@@ -45,14 +45,6 @@ impl Side {
     pub fn is_lost(&self) -> bool {
         self.lost.load(Ordering::SeqCst)
     }
-}
-
-/// The rooms of a channel without a queue.
-pub enum Special<T> {
-    /// It has capacity 0.
-    Meeting(Meeting<T>),
-    /// It is a receiver of moments.
-    Timer(Timer<T>),
 }
 
 pub struct Core<T> {
@@ -107,15 +99,6 @@ impl<T> Core<T> {
             in_queue: Mutex::new((1..=groups.len()).collect()),
             groups,
             selected: Selected::default(),
-        }
-    }
-
-    /// Its rooms if it has capacity 0.
-    #[inline]
-    pub fn meeting(&self) -> Option<&Meeting<T>> {
-        match &self.special {
-            Some(Special::Meeting(meeting)) => Some(meeting),
-            _ => None,
         }
     }
 
@@ -252,7 +235,7 @@ impl<T> Core<T> {
     #[inline]
     pub fn try_recv(&self, group: usize) -> Try<Option<Parcel<T>>> {
         if let Some(special) = &self.special {
-            return self.try_recv_special(special);
+            return special.try_recv(&self.closed);
         }
         match self.take(group) {
             Ok(parcel) => Ok(Some(parcel)),
@@ -263,16 +246,6 @@ impl<T> Core<T> {
             }
             Err(code) => unexpected(code),
         }
-    }
-
-    #[cold]
-    fn try_recv_special(&self, special: &Special<T>) -> Try<Option<Parcel<T>>> {
-        let item = match special {
-            _ if self.is_closed() => None,
-            Special::Meeting(meeting) => meeting.try_take()?,
-            Special::Timer(timer) => Some(timer.try_take()?),
-        };
-        Ok(item.map(|item| Parcel::pack(item, None)))
     }
 
     #[allow(unsafe_code)]
@@ -293,10 +266,8 @@ impl<T> Core<T> {
     }
 
     fn close_queue(&self) -> bool {
-        match &self.special {
-            None => {}
-            Some(Special::Meeting(meeting)) => return !meeting.close(&self.closed),
-            Some(Special::Timer(_)) => return !self.closed.swap(true, Ordering::SeqCst),
+        if let Some(special) = &self.special {
+            return special.close(&self.closed);
         }
         let mut seat = self.senders.seats.take();
         let closed = seat.pass().handle.close();

@@ -17,6 +17,7 @@ mod select;
 mod select_macro;
 mod sender;
 mod side;
+mod special;
 #[cfg(test)]
 mod tests;
 mod timer;
@@ -34,8 +35,9 @@ pub use side::{Handle, WeakHandle};
 pub use timer::{after, at, never, tick};
 
 use self::body::Copies;
-use self::core::{Core, Special};
+use self::core::Core;
 use self::meeting::Meeting;
+use self::special::Special;
 use crate::words::{Config, OpenError};
 use std::sync::Arc;
 

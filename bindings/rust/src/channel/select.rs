@@ -21,9 +21,9 @@
 //! give it back, and then look whether somebody waits. A look takes each of those seats, and gives it back. A
 //! holder before that has counted; a holder after that sees the waiter in line. So a look that finds nothing
 //! is the look of [`event`](super::event)'s argument: at some moment of it there was nothing.
-use super::core::Special;
 use super::event::{Event, Parker, TRIES, Ticket, Try, lock};
 use super::meeting::{Meets, SENDS, TAKES, Waiter, meet_or_post, try_meet};
+use super::special::Special;
 use super::{Receiver, RecvError, SendError, Sender};
 use crate::words::backoff::Backoff;
 use std::cell::Cell;

@@ -1,7 +1,8 @@
 //! Receivers of moments, and of nothing. None has a thread: who waits for it parks until the moment.
-use super::core::{Core, Special};
+use super::core::Core;
 use super::event::{AT_A_RING, Try, lock};
 use super::side::Handle;
+use super::special::Special;
 use super::{Receiver, config};
 use std::sync::{Arc, Mutex};
 use std::time::{Duration, Instant};
