@@ -15,7 +15,7 @@ use std::thread::available_parallelism;
 
 /// The passes of a side are no more than these.
 const MOST: usize = 64;
-/// As many items are several.
+/// From this number on, items are several.
 const SEVERAL: u64 = 5;
 
 /// How many seats a side has: twice as many as processors, as a power of two.

@@ -7,7 +7,8 @@ use std::panic::{RefUnwindSafe, UnwindSafe};
 use std::sync::{Arc, Weak};
 use std::time::Instant;
 
-/// With a smaller capacity than this a side can't go ahead: the channel is full or empty before.
+/// The least capacity with which a side goes ahead: a smaller channel is full or empty before, and below 8 this
+/// costs more than it saves. A channel without a queue, which has no seats either, has capacity 0 or 1.
 const ROOM_AHEAD: usize = 16;
 
 /// The state that all handles of a side share. It goes with the last of them.
