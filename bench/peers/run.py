@@ -1,7 +1,7 @@
 #!/usr/bin/env python3
 """Times the proved queue beside its peers, in one run, and writes the tables and pictures of docs/BENCH.md.
 
-    bench/peers/run.py [--seconds N] [--print | --busy] [--again]
+    bench/peers/run.py [--seconds N] [--print | --busy | --tail] [--again]
 
 One command, in some N seconds (420 where no number is given; 120 are a short form, and 20 a trial), after the build. It
 takes crossbeam's, flume's and smol's queues from Debian's packages: those that aren't there it installs, where it is root
@@ -10,7 +10,8 @@ and there is apt-get, and goes on without those that it can't have. The proved q
 A run is some rounds of bursts: each round runs each queue in each shape once, all of them in a random order, each in a
 process of its own. The medians of the rounds are told, and their quartiles. What others took of the processors
 meanwhile is measured and written beside them. --print writes nothing into docs, --again takes the figures of the last run.
-With --busy a process is busy on each processor meanwhile, and the table `busy` of docs/BENCH.md is written.
+With --busy a process is busy on each processor meanwhile, and the table `busy` of docs/BENCH.md is written. With --tail
+the slowest calls are measured, and the table `tail` is written.
 """
 import argparse
 import glob
@@ -296,6 +297,26 @@ def beside_busy(program, seconds):
     return [["senders/receivers", *queues], *rows]
 
 
+# The slowest calls.
+
+def slowest_calls(program, queues, seconds):
+    """The rows of the table `tail`: percentiles of the time of a send that doesn't wait, beside four receivers that block."""
+    counts = (4, 16, 64)
+    cells, start, rounds = {(count, queue): [] for count in counts for queue in queues}, time.time(), 0
+    while time.time() - start < seconds:
+        for count, queue in random.sample(list(cells), len(cells)):
+            command = [program, "tail", queue, *map(str, shape(count, 4, 1024)), "1000"]
+            done = subprocess.run(command, capture_output=True, text=True, check=True, timeout=60)
+            cells[count, queue].append([float(word) for word in done.stdout.split()])
+        rounds += 1
+    load = ", ".join(f"{one:.2f}" for one in os.getloadavg())
+    print(f"peers: {rounds} rounds of the slowest calls, and a load of {load} at their end")
+    medians = lambda bursts: [statistics.median(column) for column in zip(*bursts)]
+    shown = {cell: [short(value) for value in medians(bursts)] for cell, bursts in cells.items()}
+    rows = [[str(count), queue, *shown[count, queue]] for count in counts for queue in queues]
+    return [["senders", "queue", "p50", "p99", "p99.9", "p99.99", "over 0.5 ms, of a million"], *rows]
+
+
 # The pictures.
 
 def picture(title, joined, unit, rows, numbers):
@@ -311,6 +332,7 @@ def main():
     parser.add_argument("--print", action="store_true")
     parser.add_argument("--again", action="store_true")
     parser.add_argument("--busy", action="store_true")
+    parser.add_argument("--tail", action="store_true")
     options = parser.parse_args()
     kept = os.path.join(OUT, "last.json")
     if options.again:
@@ -321,6 +343,9 @@ def main():
         program = build(there)
         if options.busy:
             return write("busy", beside_busy(program, options.seconds))
+        if options.tail:
+            queues = ["typed", *(queue for queue in there if queue not in POLLED), "Mutex+Condvar"]
+            return write("tail", slowest_calls(program, queues, options.seconds))
         order = [*OURS, *there, *OF_STD]
         told = measure(program, tables(order), options.seconds)
         told.update(queues=order, versions={library: version(library) for library in there})

@@ -186,6 +186,43 @@ fn calls<Q: Queue>(it: &Burst) -> Vec<f64> {
     .collect()
 }
 
+/// Sends that don't wait, with 0 to 10 us of other work before each, and receivers that block: the nanoseconds of an
+/// accepted send at four percentiles (50, 99, 99.9, 99.99), and how many of a million took longer than 0.5 ms.
+fn tail<Q: Queue>(it: &Burst) -> Vec<f64> {
+    let (senders, receivers) = it.open::<Q>();
+    let (stop, start) = (
+        &AtomicBool::new(false),
+        &Barrier::new(it.senders + it.receivers + 1),
+    );
+    let until_stop = move |passed: bool| (!stop.load(Relaxed)).then_some(passed);
+    thread::scope(|scope| {
+        for mut receiver in receivers {
+            scope.spawn(move || {
+                start.wait();
+                while let Some(body) = Q::recv(&mut receiver) {
+                    black_box(body);
+                }
+            });
+        }
+        let sending = senders.into_iter().zip(1..).map(|(mut sender, seed)| {
+            scope.spawn(move || {
+                start.wait();
+                timed(seed, || until_stop(Q::try_send(&mut sender, seed)))
+            })
+        });
+        let sending: Vec<_> = sending.collect();
+        start.wait();
+        thread::sleep(it.time);
+        stop.store(true, Relaxed);
+        let times = sending.into_iter().map(|thread| thread.join().unwrap());
+        let mut times: Vec<f64> = times.flatten().collect();
+        let long = times.iter().filter(|time| **time > 500_000.0).count();
+        let parts = [0.5, 0.99, 0.999, 0.9999].map(|part| percentile(&mut times, part));
+        let long = long as f64 * 1e6 / times.len() as f64;
+        parts.into_iter().chain([long]).collect()
+    })
+}
+
 /// A receiver that waits, and an item each millisecond: the median and the 99th percentile of the microseconds from
 /// before its send to after its take, and those that the processors gave the receiver for an item, and the sender.
 fn paced<Q: Queue>(it: &Burst) -> Vec<f64> {
@@ -246,6 +283,7 @@ fn burst<Q: Queue>(mode: &str, it: &Burst) -> Vec<f64> {
         "alone" => alone::<Q>(it),
         "full" => full::<Q>(it),
         "calls" => calls::<Q>(it),
+        "tail" => tail::<Q>(it),
         "paced" => paced::<Q>(it),
         "idle" => idle::<Q>(it),
         _ => panic!("no mode {mode}"),
