@@ -17,7 +17,7 @@ from picture import draw
 DOCS = os.path.join(os.path.dirname(os.path.dirname(os.path.abspath(__file__))), "docs")
 IMAGE = re.compile(r"!\[(.*)\]\((pictures/bench-\w+\.svg)\)")
 LABELS = {"capacity": "c ", "bound": "b "}
-LEFT_OUT = {"released / steps"}
+LEFT_OUT = {"queue / steps"}
 NUMBER = r"([\d,.]+)"
 
 

@@ -3,10 +3,10 @@
 
     bench/run.py [--rounds N] [--items N] [--beside TREE | --words] [--write]
 
-`cc_bench` is the proved queue (build it by `rt run` in crates/cc_bench), `plain` the same atomic steps by hand, as they
-are and `released` (with the stores `Release` that need no locked instruction of their own), std's Mutex with Condvar, and
-std's sync_channel (build it by `cargo build --release` in bench/plain). A line a shape: senders, receivers, capacity, and
-the nanoseconds of the clock an item of each program; in brackets those of the processors.
+`cc_bench` is the proved queue as the toolchain builds it, each store an exchange (build it by `rt run` in crates/cc_bench),
+`plain` the same atomic steps by hand, std's Mutex with Condvar, and std's sync_channel (build it by `cargo build --release`
+in bench/plain). A line a shape: senders, receivers, capacity, and the nanoseconds of the clock an item of each program; in
+brackets those of the processors.
 With --beside the queue runs with that of another tree alone, called `before`, and the ratios are printed.
 With --words it runs alone, with bodies of one word, of two and of four, and quartiles are in brackets; else each body has
 one word. With --write the table `steps` of docs/BENCH.md is written, or with --words `bodies`.
@@ -87,22 +87,21 @@ def by_words(items, rounds):
 
 def by_steps(items, rounds):
     """The queue, the same steps by hand and other queues: the rows of the table `steps`."""
-    rows = [["senders and receivers", "capacity", "queue", "steps", "released", "released / steps"]]
+    rows = [["senders and receivers", "capacity", "queue", "steps", "queue / steps"]]
     room = ["1", "64", str(items)]
-    alone = {"queue": [QUEUE, "0", *room]}
-    alone.update({name: [PLAIN, mode, "1", *room] for name, mode in (("steps", "alone"), ("released", "alone_released"))})
+    alone = {"queue": [QUEUE, "0", *room], "steps": [PLAIN, "alone", "1", *room]}
     shapes = [("one thread, a send and a take", 64, alone)]
     for senders, receivers in SHAPES:
         for capacity in CAPACITIES:
             shape = [str(n) for n in (senders, receivers, capacity, items)]
             commands = {"queue": [QUEUE, *shape]}
-            commands.update({mode: [PLAIN, mode, *shape] for mode in ("steps", "released", "mutex", "sync_channel")})
+            commands.update({mode: [PLAIN, mode, *shape] for mode in ("steps", "mutex", "sync_channel")})
             shapes.append((f"{senders} and {receivers}", capacity, commands))
     for name, capacity, commands in shapes:
         medians = compare(commands, items, rounds)
         show(f"{name}, capacity {capacity}", medians)
-        cells = [f"{clock:.0f} ({processors:.0f})" for clock, processors in (medians[it] for it in rows[0][2:5])]
-        rows.append([name, str(capacity), *cells, f"{medians['released'][0] / medians['steps'][0]:.2f}"])
+        cells = [f"{clock:.0f} ({processors:.0f})" for clock, processors in (medians[it] for it in rows[0][2:4])]
+        rows.append([name, str(capacity), *cells, f"{medians['queue'][0] / medians['steps'][0]:.2f}"])
     return rows
 
 

@@ -44,14 +44,9 @@ pub fn take_all(mut next: impl FnMut() -> Option<u64>) -> u64 {
     got
 }
 
-/// The steps by hand; where `RELEASED`, their covered stores are `Release`.
-pub fn steps<const RELEASED: bool>(
-    senders: usize,
-    receivers: usize,
-    capacity: usize,
-    items: u64,
-) -> u64 {
-    let (queue, all, takers) = Queue::<RELEASED>::open(senders, receivers, capacity as u64, BOUND);
+/// The steps by hand.
+pub fn steps(senders: usize, receivers: usize, capacity: usize, items: u64) -> u64 {
+    let (queue, all, takers) = Queue::open(senders, receivers, capacity as u64, BOUND);
     let left = AtomicUsize::new(senders);
     let passed = AtomicU64::new(0);
     thread::scope(|scope| {
@@ -90,8 +85,8 @@ pub fn steps<const RELEASED: bool>(
 }
 
 /// The same on one thread.
-pub fn alone<const RELEASED: bool>(capacity: usize, items: u64) -> u64 {
-    let (queue, mut senders, mut receivers) = Queue::<RELEASED>::open(1, 1, capacity as u64, BOUND);
+pub fn alone(capacity: usize, items: u64) -> u64 {
+    let (queue, mut senders, mut receivers) = Queue::open(1, 1, capacity as u64, BOUND);
     let mut passed = 0;
     for body in 0..items {
         queue.send(&mut senders[0], body);

@@ -1,14 +1,6 @@
 //! The queue's atomic steps by hand: the same words in the same slots, sequentially consistent, with nothing proved.
-//!
-//! A store is **covered** where on every path a swap, an add or a store that isn't covered comes before the same thread's
-//! next load of a word. These are locked instructions on x86-64: none is done before the thread's earlier stores are. So
-//! there a covered store may be a plain `mov`, as a `Release` one is, and still comes before each later load: the outcomes
-//! are the sequentially consistent ones. That holds of x86-64 alone, not of Rust's rules for atomics.
 use super::Backoff;
-use std::sync::atomic::{
-    AtomicU64,
-    Ordering::{Release, SeqCst},
-};
+use std::sync::atomic::{AtomicU64, Ordering::SeqCst};
 
 const LAST: usize = 32;
 const SHUT: usize = 33;
@@ -19,8 +11,8 @@ const TAKEN: usize = 65;
 const NODES: usize = 80;
 const CODE: u64 = 1 << 56;
 
-/// The table of one queue. Where `RELEASED`, its covered stores are `Release`.
-pub struct Queue<const RELEASED: bool> {
+/// The table of one queue.
+pub struct Queue {
     words: Box<[AtomicU64]>,
     take_nodes: usize,
     items: usize,
@@ -62,7 +54,7 @@ pub enum Taken {
     Ended,
 }
 
-impl<const RELEASED: bool> Queue<RELEASED> {
+impl Queue {
     pub fn open(
         senders: usize,
         receivers: usize,
@@ -110,12 +102,6 @@ impl<const RELEASED: bool> Queue<RELEASED> {
         self.words[at].store(value, SeqCst)
     }
 
-    /// A covered store.
-    fn store_covered(&self, at: usize, value: u64) {
-        let order = if RELEASED { Release } else { SeqCst };
-        self.words[at].store(value, order)
-    }
-
     fn item(&self, node: u64) -> usize {
         self.items + 8 * node as usize
     }
@@ -143,8 +129,8 @@ impl<const RELEASED: bool> Queue<RELEASED> {
     /// From the reset of the own node to its exchange.
     fn enter(&self, chain: Chain, own: u64) -> u64 {
         let at = chain.nodes + 16 * own as usize;
-        self.store_covered(at, 0);
-        self.store_covered(at + 1, 1);
+        self.store(at, 0);
+        self.store(at + 1, 1);
         self.words[chain.tail].swap(own + 1, SeqCst) - 1
     }
 
@@ -184,43 +170,43 @@ impl<const RELEASED: bool> Queue<RELEASED> {
             } else {
                 3 * CODE
             };
-            return self.store_covered(at + 4, told);
+            return self.store(at + 4, told);
         }
         let count = self.load(COUNT);
         if tag == 0 {
             let mark = self.capacity + 1;
             let last = self.load(LAST) - 1;
-            self.store_covered(self.item(last) + 2, mark + 1);
-            self.store_covered(LAST, mark + 1);
-            self.store_covered(SHUT, 1);
-            return self.store_covered(at + 4, 5 * CODE + count);
+            self.store(self.item(last) + 2, mark + 1);
+            self.store(LAST, mark + 1);
+            self.store(SHUT, 1);
+            return self.store(at + 4, 5 * CODE + count);
         }
         if count == self.life {
-            return self.store_covered(at + 4, 4 * CODE);
+            return self.store(at + 4, 4 * CODE);
         }
         let nodes = self.capacity + 1;
         let mut node = self.load(CURSOR);
         for _ in 0..nodes {
             if self.load(self.item(node) + 3) == 1 {
                 self.append(node, tag, body, count);
-                return self.store_covered(at + 4, CODE + count);
+                return self.store(at + 4, CODE + count);
             }
             node = (node + 1) % nodes;
         }
-        self.store_covered(at + 4, 2 * CODE)
+        self.store(at + 4, 2 * CODE)
     }
 
     fn append(&self, node: u64, tag: u64, body: u64, count: u64) {
         let item = self.item(node);
-        self.store_covered(item + 3, 0);
-        self.store_covered(item + 2, 0);
-        self.store_covered(item, tag);
+        self.store(item + 3, 0);
+        self.store(item + 2, 0);
+        self.store(item, tag);
         self.store(item + 1, body);
         let last = self.load(LAST) - 1;
-        self.store_covered(self.item(last) + 2, node + 1);
-        self.store_covered(LAST, node + 1);
-        self.store_covered(COUNT, count + 1);
-        self.store_covered(CURSOR, (node + 1) % (self.capacity + 1));
+        self.store(self.item(last) + 2, node + 1);
+        self.store(LAST, node + 1);
+        self.store(COUNT, count + 1);
+        self.store(CURSOR, (node + 1) % (self.capacity + 1));
     }
 
     fn serve_take(&self, at: usize) {
@@ -228,20 +214,20 @@ impl<const RELEASED: bool> Queue<RELEASED> {
         let taken = self.load(TAKEN);
         let next = self.load(self.item(dummy) + 2);
         if next == 0 {
-            return self.store_covered(at + 2, 2 * CODE);
+            return self.store(at + 2, 2 * CODE);
         }
         let item = self.item(next - 1);
         let tag = self.load(item);
         if tag == 0 {
-            return self.store_covered(at + 2, 3 * CODE + taken);
+            return self.store(at + 2, 3 * CODE + taken);
         }
         let body = self.load(item + 1);
-        self.store_covered(HEAD, next);
-        self.store_covered(TAKEN, taken + 1);
+        self.store(HEAD, next);
+        self.store(TAKEN, taken + 1);
         self.words[self.item(dummy) + 3].fetch_add(1, SeqCst);
-        self.store_covered(at + 2, CODE + taken);
-        self.store_covered(at + 3, tag);
-        self.store_covered(at + 4, body);
+        self.store(at + 2, CODE + taken);
+        self.store(at + 3, tag);
+        self.store(at + 4, body);
     }
 
     fn request(&self, sender: &mut Sender, tag: u64, body: u64) -> u64 {
@@ -249,8 +235,8 @@ impl<const RELEASED: bool> Queue<RELEASED> {
         let own = sender.node;
         let got = self.enter(chain, own);
         let at = chain.nodes + 16 * got as usize;
-        self.store_covered(at + chain.tag, tag);
-        self.store_covered(at + chain.body, body);
+        self.store(at + chain.tag, tag);
+        self.store(at + chain.body, body);
         self.store(at, own + 1);
         sender.node = got;
         self.wait(chain, got, Self::serve_send);
