@@ -18,4 +18,4 @@ mod queue;
 pub mod record;
 
 pub use channel::*;
-pub use queue::OpenError;
+pub use queue::{IS_PROVED, OpenError};

@@ -2,37 +2,13 @@
 //! keeps what they ask for. No other file calls them.
 #![allow(unsafe_code)]
 
+use super::{Config, OpenError, Word};
+pub use super::{Words, code, unexpected};
 use crate::backoff::turn_until;
-use crate::queue::{Config, OpenError};
 use std::ffi::c_void;
 use std::iter;
-use std::mem::{MaybeUninit, size_of};
+use std::mem::size_of;
 use std::ptr::{null_mut, read_volatile};
-
-/// The codes that a call returns, by the header's names.
-pub mod code {
-    pub const DONE: u32 = 0;
-    pub const BAD_CAPACITY: u32 = 3;
-    pub const NO_MEMORY: u32 = 7;
-    pub const WORN: u32 = 13;
-    pub const BEGUN: u32 = 14;
-    pub const WAITING: u32 = 15;
-    pub const ACCEPTED: u32 = 17;
-    pub const FULL: u32 = 18;
-    pub const CLOSED: u32 = 19;
-    pub const SPENT: u32 = 20;
-    pub const SHUT: u32 = 21;
-    pub const GOT: u32 = 23;
-    pub const EMPTY: u32 = 24;
-    pub const ENDED: u32 = 25;
-    pub const BAD_GROUPS: u32 = 26;
-}
-
-/// A code that the call doesn't return.
-#[cold]
-pub fn unexpected(code: u32) -> ! {
-    panic!("the linked library isn't the one of this crate: it told {code} where it can't")
-}
 
 #[repr(C)]
 struct Pass {
@@ -52,12 +28,6 @@ const fn number(digits: &str) -> u32 {
         Err(_) => panic!("cargo gives numbers"),
     }
 }
-
-/// One word of a body. It may have bytes that nobody wrote.
-type Word = MaybeUninit<u64>;
-
-/// The words of a body, of which some may not be used.
-pub type Words = [Word; 4];
 
 /// An item with all words of its body, by words: place, sender and number, count, and the words. It has room
 /// for an item of one word, too, whose body is the third.
