@@ -16,3 +16,4 @@ pub mod CallsMade
 pub mod Passes
 pub mod MachineLaws
 pub mod Opening
+pub mod Linearizable
