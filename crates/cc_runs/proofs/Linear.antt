@@ -7,3 +7,4 @@ pub mod Replay
 pub mod Insert
 pub mod Decided
 pub mod Orders
+pub mod Small

@@ -17,3 +17,4 @@ pub mod Passes
 pub mod MachineLaws
 pub mod Opening
 pub mod Linearizable
+pub mod SmallOrders

@@ -1,4 +1,5 @@
 ghost use Rattle.cc_runs.specs.Linearizable.{RunsAreLinearizable, OrdersAgree, OrderKeepsTime, OrderIsRealTime};
+ghost use Rattle.cc_runs.specs.SmallOrders.{SmallOrders};
 
 /// Every run is linearizable (Herlihy and Wing, TOPLAS 1990): all its answered calls have an order in which a sequential queue
 /// answers so, and in which each takes effect between its exchange and the step that decides its answer.
@@ -24,4 +25,11 @@ pub fn orders_keep_time()
 #[tactic(auto, using(crate::proofs::Linear::Orders::order_is_real_time))]
 pub fn orders_are_real_time()
     ensures { OrderIsRealTime }
+{}
+
+/// A sequential queue answers some small orders of calls so, and not others: Full comes neither too early nor too late, Empty
+/// only without an item, and Accepted not after Shut.
+#[tactic(auto, using(crate::proofs::Linear::Small::small_orders))]
+pub fn small_orders_are_told_apart()
+    ensures { SmallOrders }
 {}

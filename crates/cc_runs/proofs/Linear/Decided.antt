@@ -5,7 +5,7 @@ use Rattle.std.proofs.lemmas.Bool.{eqb-true, eqb-false}
 use Rattle.std.specs.List.{slice_get, list_any}
 use Rattle.cc_model.specs.Items.{accepted_by, accepted_item, sent_item, shuts, handed_by, handed_item}
 use Rattle.cc_model.specs.Legal.{EAnswer, EAnswers, DAnswer, DAnswers, IsSenders}
-use Rattle.cc_runs.specs.Names.{Config, Call, Entry, Item, Pass, Answer, SendAnswer, CloseAnswer, TakeAnswer, Chain, Job, Parcel, Place, Sending, Taking}
+use Rattle.cc_runs.specs.Names.{Config, Call, Entry, Item, Pass, Answer, SendAnswer, CloseAnswer, TakeAnswer, Job, Parcel, Place, Sending, Taking}
 use Rattle.cc_runs.specs.Words.{groups}
 use Rattle.cc_runs.specs.Lines.{enters, decides}
 use Rattle.cc_runs.specs.SendLines as send_side

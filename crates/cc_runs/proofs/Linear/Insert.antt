@@ -47,8 +47,13 @@ module _ (c : Config) (m : ℕ) (some : c.groups ≡ m + 1) (e : Entry) where
       let up : length r.sends.answers ≤ length (replay c.groups (t ∷ now ++ old)).sends.answers = one_up t.chain r t.entry t.answer in
       let rest : (replay c.groups (now ++ later) ≡ with_full r e) × IsExact c (now ++ later) = put_below now old later is exact.0 exact' (omega (arith, up, less)) in (
         below_one t.chain r (replay c.groups (now ++ later)) e t.entry t.answer rest.0 (omega (arith, less, sends_up c.groups now old)),
-        (rest.1, exact.1, exact.2, subst (λ (z : Record). AnswersAfter c z t.chain t.entry.call t.answer) (sym rest.0)
-            (answers_alike c r (with_full r e) (full_alike r m e (replay_even c.groups (now ++ old)).0 (replay_groups c.groups (now ++ old) ∙ some)) t.chain t.entry.call t.answer exact.3)),
+        (
+          rest.1,
+          exact.1,
+          exact.2,
+          subst (λ (z : Record). AnswersAfter c z t.chain t.entry.call t.answer) (sym rest.0)
+              (answers_alike c r (with_full r e) (full_alike r m e (replay_even c.groups (now ++ old)).0 (replay_groups c.groups (now ++ old) ∙ some)) t.chain t.entry.call t.answer exact.3),
+        ),
       )
 
   full_timed : (h r : Record) → Timed h r → slice_get h.sends.calls (length r.sends.calls) ≡ Some e → Timed h (with_full r e)

@@ -165,7 +165,7 @@ module _ (c : Config) (checked : config_fault c ≡ Ok tt) where
         more_room : (at : ℕ) → a ≡ Answer.Send (SendAnswer.Accepted at) → length (accepted h) < handed_to_all h + c.capacity
         more_room at is =
             let one : length (accepted_item entry (Answer.Send (SendAnswer.Accepted at))) ≡ 1 = accepts_one c (length (accepted h)) entry.known (is_shut h) entry.pass entry.call entry.number at
-                is_senders (subst (λ (z : Answer). EAnswer c (length (accepted h)) (is_shut h) entry.known entry.call z) is told) in
+            is_senders (subst (λ (z : Answer). EAnswer c (length (accepted h)) (is_shut h) entry.known entry.call z) is told) in
             omega (
               arith,
               subst (λ (z : Record). length (accepted z) ≤ handed_to_all z + c.capacity) later_is (room (Move.Step p ∷ earlier) run),
@@ -188,14 +188,16 @@ module _ (c : Config) (checked : config_fault c ≡ Ok tt) where
               send_answers = ([], ap (λ (l : List Answer). l ++ a ∷ []) same ∙ sym (append-nil (h.sends.answers ++ a ∷ [])));
               take_calls = k.last.take_calls;
               take_answers = k.last.take_answers;
-            }) in
-            (record {
-              effects = (record { chain = Chain.Send; entry = entry; answer = a } ∷ []) ∷ k.effects;
-              timed = (k.timed, t);
-              exact = (k.exact, tt, is_senders, answers_alike c h r (alike earlier run.0 k) Chain.Send entry.call a fits);
-              last = t;
-              whole = omega (arith, ap (λ (z : Record). length z.sends.answers) later_is, length-append h.sends.answers (a ∷ []), length-append r.sends.answers (a ∷ []), ap length same);
-            }, part_more es es _ (part_self es))
+            }) in (
+              record {
+                effects = (record { chain = Chain.Send; entry = entry; answer = a } ∷ []) ∷ k.effects;
+                timed = (k.timed, t);
+                exact = (k.exact, tt, is_senders, answers_alike c h r (alike earlier run.0 k) Chain.Send entry.call a fits);
+                last = t;
+                whole = omega (arith, ap (λ (z : Record). length z.sends.answers) later_is, length-append h.sends.answers (a ∷ []), length-append r.sends.answers (a ∷ []), ap length same);
+              },
+              part_more es es _ (part_self es),
+            )
 
         -- Full is in it where the scan began
         module _ (is : a ≡ full) (k : Lin c earlier) where
@@ -250,14 +252,16 @@ module _ (c : Config) (checked : config_fault c ≡ Ok tt) where
                 send_answers = ([], ap (λ (l : List Answer). l ++ full ∷ []) same ∙ sym (append-nil (h.sends.answers ++ full ∷ [])));
                 take_calls = k.last.take_calls;
                 take_answers = k.last.take_answers;
-              })) in
-              (record {
-                effects = [] ∷ put.later;
-                timed = (subst (λ (l : List Move). AreTimed (lists c) l put.later) (sym w.split) put.timed, t);
-                exact = put.exact;
-                last = t;
-                whole = omega (arith, ap (λ (z : Record). length z.sends.answers) put.is, ap (λ (z : Record). length z.sends.answers) to, length-append h.sends.answers (full ∷ []), length-append r.sends.answers (full ∷ []), ap length same);
-              }, put.part)
+              })) in (
+                record {
+                  effects = [] ∷ put.later;
+                  timed = (subst (λ (l : List Move). AreTimed (lists c) l put.later) (sym w.split) put.timed, t);
+                  exact = put.exact;
+                  last = t;
+                  whole = omega (arith, ap (λ (z : Record). length z.sends.answers) put.is, ap (λ (z : Record). length z.sends.answers) to, length-append h.sends.answers (full ∷ []), length-append r.sends.answers (full ∷ []), ap length same);
+                },
+                put.part,
+              )
 
         sends : (k : Lin c earlier) → Grows (Move.Step p) earlier k
         sends k = elim (is_full a) [ inl is ↦ send_full is k | inr never ↦ send_now never k ]
@@ -342,13 +346,16 @@ module _ (c : Config) (checked : config_fault c ≡ Ok tt) where
           take_timed = subst (λ (z : Record). Timed z r') (sym take_later) (record { send_calls = k.last.send_calls; send_answers = k.last.send_answers; take_calls = λ g. (each g).0; take_answers = λ g. (each g).1 })
 
           takes : Grows (Move.Step p) earlier k
-          takes = (record {
-            effects = (record { chain = Chain.Take y; entry = entry; answer = a } ∷ []) ∷ k.effects;
-            timed = (k.timed, take_timed);
-            exact = (k.exact, inside, is_receivers, answers_alike c h r (alike earlier run.0 k) (Chain.Take y) entry.call a take_fits);
-            last = take_timed;
-            whole = omega (arith, k.whole, ap (λ (z : Record). length z.sends.answers) take_later);
-          }, part_more (in_order k.effects) (in_order k.effects) _ (part_self (in_order k.effects)))
+          takes = (
+            record {
+              effects = (record { chain = Chain.Take y; entry = entry; answer = a } ∷ []) ∷ k.effects;
+              timed = (k.timed, take_timed);
+              exact = (k.exact, inside, is_receivers, answers_alike c h r (alike earlier run.0 k) (Chain.Take y) entry.call a take_fits);
+              last = take_timed;
+              whole = omega (arith, k.whole, ap (λ (z : Record). length z.sends.answers) take_later);
+            },
+            part_more (in_order k.effects) (in_order k.effects) _ (part_self (in_order k.effects)),
+          )
 
       decided : (k : Lin c earlier) → Grows (Move.Step p) earlier k
       decided k = elim (of_side c p) [ inl of ↦ sends of k | inr of ↦ takes of k ]

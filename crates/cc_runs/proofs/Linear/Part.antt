@@ -1,5 +1,5 @@
 -- Lists that are other lists without some of their elements.
-use Rattle.std.proofs.Common.{◌≡◌, List, [], ◌∷◌, ◌++◌, inl, inr, refl, ◌∙◌}
+use Rattle.std.proofs.Common.{List, [], ◌∷◌, ◌++◌, inl, inr, refl, ◌∙◌}
 use Rattle.cc_runs.specs.Linearizable.{IsPart}
 
 pub part_self : {X : Type 0} (xs : List X) → IsPart xs xs

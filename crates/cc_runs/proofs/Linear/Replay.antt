@@ -63,13 +63,16 @@ one_more xs ys x y e = omega (arith, e, length-append xs (x ∷ []), length-appe
 
 noted_even : (x : Chain) (h : Record) (e : Entry) (a : Answer) → Even h → Even (noted x h (Some e) (Some a))
 noted_even Chain.Send h e a z = (one_more h.sends.calls h.sends.answers e a z.0, z.1)
-noted_even (Chain.Take x) h e a z = (z.0, λ g l.
-    let inside : g < length h.takes = omega (arith, l, length-set h.takes x (record { calls = (of_group h x).calls ++ e ∷ []; answers = (of_group h x).answers ++ a ∷ [] })) in
-    elim (cases_eq g x) [
-      | inl is ↦ subst (λ (k : ℕ). length (of_group (noted (Chain.Take x) h (Some e) (Some a)) k).calls ≡ length (of_group (noted (Chain.Take x) h (Some e) (Some a)) k).answers) (sym is)
-          (subst (λ (s : Side). length s.calls ≡ length s.answers) (sym (group_mine h x _ (omega (arith, inside, is)))) (one_more (of_group h x).calls (of_group h x).answers e a (z.1 x (omega (arith, inside, is)))))
-      | inr ne ↦ subst (λ (s : Side). length s.calls ≡ length s.answers) (sym (group_other h x g _ ne)) (z.1 g inside)
-    ])
+noted_even (Chain.Take x) h e a z = (
+  z.0,
+  λ g l.
+      let inside : g < length h.takes = omega (arith, l, length-set h.takes x (record { calls = (of_group h x).calls ++ e ∷ []; answers = (of_group h x).answers ++ a ∷ [] })) in
+      elim (cases_eq g x) [
+        | inl is ↦ subst (λ (k : ℕ). length (of_group (noted (Chain.Take x) h (Some e) (Some a)) k).calls ≡ length (of_group (noted (Chain.Take x) h (Some e) (Some a)) k).answers) (sym is)
+            (subst (λ (s : Side). length s.calls ≡ length s.answers) (sym (group_mine h x _ (omega (arith, inside, is)))) (one_more (of_group h x).calls (of_group h x).answers e a (z.1 x (omega (arith, inside, is)))))
+        | inr ne ↦ subst (λ (s : Side). length s.calls ≡ length s.answers) (sym (group_other h x g _ ne)) (z.1 g inside)
+      ],
+)
 
 empty_even : (n : ℕ) → Even (empty n)
 empty_even n = (refl, λ g l. subst (λ (s : Side). length s.calls ≡ length s.answers) (sym (no_calls n (Chain.Take g))) refl)
