@@ -45,6 +45,11 @@ IsExact cfg [] = Unit {0}
 IsExact cfg (e ∷ earlier) =
     IsExact cfg earlier × IsThere cfg e.chain × IsOfChain cfg e.chain e.entry × AnswersAfter cfg (replay cfg.groups earlier) e.chain e.entry.call e.answer
 
+-- after such an order it has exactly one answer to each call
+abbrev pub ExactOrdersGoOn : Type 0
+ExactOrdersGoOn = (cfg : Config) (order : List Effect) → IsExact cfg order → (x : Chain) (call : Call)
+    → (a : Answer) × AnswersAfter cfg (replay cfg.groups order) x call a × ((b : Answer) → AnswersAfter cfg (replay cfg.groups order) x call b → b ≡ a)
+
 -- ---- orders of runs
 
 -- the calls that take effect at each move, the newest move first, as one list

@@ -1,4 +1,4 @@
-ghost use Rattle.cc_runs.specs.Linearizable.{RunsAreLinearizable, OrdersAgree, OrderKeepsTime, OrderIsRealTime};
+ghost use Rattle.cc_runs.specs.Linearizable.{ExactOrdersGoOn, RunsAreLinearizable, OrdersAgree, OrderKeepsTime, OrderIsRealTime};
 ghost use Rattle.cc_runs.specs.SmallOrders.{SmallOrders};
 
 /// Every run is linearizable (Herlihy and Wing, TOPLAS 1990): all its answered calls have an order in which a sequential queue
@@ -32,4 +32,10 @@ pub fn orders_are_real_time()
 #[tactic(auto, using(crate::proofs::Linear::Small::small_orders))]
 pub fn small_orders_are_told_apart()
     ensures { SmallOrders }
+{}
+
+/// After each order of calls that a sequential queue answers so, it has exactly one answer to each call.
+#[tactic(auto, using(crate::proofs::Linear::Bounds::exact_orders_go_on))]
+pub fn exact_orders_go_on()
+    ensures { ExactOrdersGoOn }
 {}
