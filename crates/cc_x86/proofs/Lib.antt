@@ -1,0 +1,3 @@
+mod Buffers
+mod Litmus
+mod Threads
