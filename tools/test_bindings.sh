@@ -1,5 +1,5 @@
 #!/bin/bash
-# Tests what stands over the proved static library, with the archives in bindings/lib: the programs in bindings/c by make, the
+# Tests what stands over the proved static library, with the archives in bindings/rust/lib: the programs in bindings/c by make, the
 # crate in bindings/rust by cargo, and its package in a folder of its own; all but the last again under valgrind and the
 # sanitizers. It needs no rt, writes into a folder of its own, and fetches nothing.
 #

@@ -5,7 +5,7 @@
 
 One command, in some N seconds (420 where no number is given; 120 are a short form, and 20 a trial), after the build. It
 takes crossbeam's, flume's and smol's queues from Debian's packages: those that aren't there it installs, where it is root
-and there is apt-get, and goes on without those that it can't have. The proved queue is linked from bindings/lib.
+and there is apt-get, and goes on without those that it can't have. The proved queue is linked from bindings/rust/lib.
 
 A run is some rounds of bursts: each round runs each queue in each shape once, all of them in a random order, each in a
 process of its own. The medians of the rounds are told, and their quartiles. What others took of the processors

@@ -12,9 +12,10 @@ macro_rules! shows {
     )+};
 }
 
+mod backoff;
 mod channel;
+mod queue;
 pub mod record;
-pub mod words;
 
 pub use channel::*;
-pub use words::OpenError;
+pub use queue::{IS_PROVED, OpenError};

@@ -4,7 +4,7 @@ use super::body::Parcel;
 use super::event::{AT_A_RING, Ticket, Try};
 use super::side::Handle;
 use super::{Receiver, RecvError, SendError, Sender};
-use crate::words::{Receivers, Senders};
+use crate::queue::{Receivers, Senders};
 use std::borrow::Cow;
 use std::pin::Pin;
 use std::task::{Context, Poll};

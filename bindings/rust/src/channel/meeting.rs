@@ -26,7 +26,7 @@ use super::body::Parcel;
 use super::event::{AT_A_RING, Panic, Parker, TRIES, Try, let_be, lock, run_each};
 use super::select::{Begun, Select};
 use super::{Receiver, RecvTimeoutError, SendError, SendTimeoutError, Sender, TrySendError};
-use crate::words::backoff::Backoff;
+use crate::backoff::Backoff;
 use std::collections::VecDeque;
 use std::mem::{replace, swap};
 use std::sync::atomic::{AtomicBool, Ordering};

@@ -4,7 +4,7 @@ use super::event::Try;
 use super::future::RecvFuture;
 use super::side::{Handle, WeakHandle};
 use super::{RecvError, RecvTimeoutError, TryRecvError};
-use crate::words::Receivers;
+use crate::queue::Receivers;
 use std::borrow::Cow;
 use std::convert::identity;
 use std::iter::FusedIterator;

@@ -25,7 +25,7 @@ use super::event::{Event, Parker, TRIES, Ticket, Try, lock};
 use super::meeting::{Meets, SENDS, TAKES, Waiter, meet_or_post, try_meet};
 use super::special::Special;
 use super::{Receiver, RecvError, SendError, Sender};
-use crate::words::backoff::Backoff;
+use crate::backoff::Backoff;
 use std::cell::Cell;
 use std::ptr::addr_eq;
 use std::sync::atomic::{AtomicU64, AtomicUsize, Ordering};

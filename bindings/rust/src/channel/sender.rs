@@ -3,7 +3,7 @@ use super::body::Parcel;
 use super::future::SendFuture;
 use super::side::{Handle, WeakHandle};
 use super::{SendError, SendTimeoutError, TrySendError};
-use crate::words::Senders;
+use crate::queue::Senders;
 use std::borrow::Cow;
 use std::time::{Duration, Instant};
 

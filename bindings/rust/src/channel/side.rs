@@ -1,7 +1,7 @@
 //! The handles of a channel, of either side.
 use super::core::{Core, Side};
 use super::event::{Event, Try, wait};
-use crate::words::backoff::let_ahead;
+use crate::backoff::let_ahead;
 use std::marker::PhantomData;
 use std::panic::{RefUnwindSafe, UnwindSafe};
 use std::sync::{Arc, Weak};
