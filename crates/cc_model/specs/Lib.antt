@@ -8,5 +8,6 @@ pub mod Room
 pub mod Items
 pub mod Legal
 pub mod Fifo
+pub mod Sequential
 pub mod Fresh
 pub mod After

@@ -19,4 +19,5 @@ pub mod KnownFronts
 pub mod LinkedList
 pub mod ListRuns
 pub mod AllReady
+pub mod Linear
 pub mod Bodies

@@ -16,3 +16,5 @@ pub mod CallsMade
 pub mod Passes
 pub mod MachineLaws
 pub mod Opening
+pub mod Linearizable
+pub mod SmallOrders

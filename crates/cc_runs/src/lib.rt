@@ -10,6 +10,7 @@
 mod chain_laws;
 mod codes;
 mod fault;
+mod linear_laws;
 mod list_laws;
 mod place;
 mod run;
@@ -26,6 +27,10 @@ pub use codes::{
     ret_of, sender_reads, tag_of, words_in,
 };
 pub use fault::OpenFault;
+pub use linear_laws::{
+    orders_are_real_time, orders_keep_time, orders_of_runs_agree, runs_are_linearizable,
+    small_orders_are_told_apart,
+};
 pub use list_laws::{
     answers_are_told, busy_nodes_are_items, fronts_of_runs_begin, histories_are_fifo,
     histories_are_legal, links_name_nodes, nodes_are_prepared_alone,

@@ -1,0 +1,27 @@
+-- Small orders of calls: which of them a sequential queue answers so.
+use Rattle.std.proofs.Common.{◌≡◌, true, false, Some, None, refl, arith}
+use Rattle.cc_runs.specs.Names.{Item}
+use Rattle.cc_runs.specs.SmallOrders.{SmallOrders}
+
+off : false ≡ true → ⊥
+off e = absurd (cc)
+
+on : true ≡ false → ⊥
+on e = absurd (cc)
+
+nothing : (x : Item) → None ≡ Some x → ⊥
+nothing x e = absurd (cc)
+
+pub small_orders : SmallOrders
+small_orders = record {
+  good = ((((tt, tt, (omega arith, omega arith), (refl, (λ e. cc), omega arith, refl)), tt, (omega arith, omega arith), (refl, (λ e. cc), refl)), omega arith, (omega arith, omega arith, refl), refl), omega arith, (omega arith, omega arith, refl), (refl, refl));
+  ended = (((((tt, tt, (omega arith, omega arith), (refl, (λ e. cc), omega arith, refl)), tt, (omega arith, omega arith), (refl, refl)), omega arith, (omega arith, omega arith, refl), refl), tt, (omega arith, omega arith), refl), omega arith, (omega arith, omega arith, refl), (refl, refl, refl));
+  full_too_early = λ h. omega (arith, h.0.3.2);
+  full_too_late = λ h. omega (arith, h.3.2);
+  empty_with_an_item = λ h. omega (arith, h.3.1);
+  empty_after_shut = λ h. on h.3.0;
+  accepted_when_full = λ h. omega (arith, h.3.2);
+  accepted_after_shut = λ h. on h.3.0;
+  got_twice = λ h. nothing _ h.3;
+  ended_unshut = λ h. off h.3.0;
+}
