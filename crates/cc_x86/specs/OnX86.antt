@@ -1,5 +1,5 @@
 -- The queue's machine on a processor with store buffers.
-use Rattle.std.specs.Prelude.{◌≡◌, ℕ, ◌<◌, List, [], ◌∷◌, Ok}
+use Rattle.std.specs.Prelude.{◌≡◌, ℕ, ◌<◌, List, [], ◌∷◌, ◌++◌, Ok}
 use Rattle.cc_x86.specs.Buffered as buffers
 use Rattle.cc_x86.specs.Buffered.{Plain}
 use Rattle.cc_x86.specs.Fenced.{IsFenced, turns}
@@ -8,6 +8,7 @@ use Rattle.cc_model.specs.Legal.{Legal}
 use Rattle.cc_x86.specs.Names.{Setting, Served, Answer, Place, Stand, Move}
 use Rattle.cc_runs.specs.State.{pass_at}
 use Rattle.cc_runs.specs.ChainLaws.{IsLastAnswer}
+use Rattle.cc_runs.specs.Linearizable.{IsLinearizable}
 use Rattle.cc_runs.specs.Run.{IsRun, May, reached, history_of, passes}
 use Rattle.cc_x86.specs.Threads.{Ask, passes_as_threads, opened, moves_of}
 
@@ -49,3 +50,14 @@ pub record IsLegalOnX86 (c : Setting) (asks : ℕ → Ask) (plain : Plain Stand)
 
 abbrev pub HistoryIsLegalOnX86 : Type 0
 HistoryIsLegalOnX86 = WithBuffers (λ c asks plain moves. c.served ≡ Served.List → config_fault c.config ≡ Ok tt → IsLegalOnX86 c asks plain moves)
+
+-- Its calls have an order as a sequential queue answers them, each at a moment of the run of atomic steps between its exchange and
+-- its decision; and each moment of the run with store buffers is a moment of that run, so that this is the order in real time.
+pub record IsLinearizableOnX86 (c : Setting) (asks : ℕ → Ask) (plain : Plain Stand) (moves : List buffers.Move) : Type 0 where
+  pub linearizable : IsLinearizable c (in_order c asks plain moves)
+  pub in_time : (later seen : List buffers.Move) → moves ≡ later ++ seen
+      → (meanwhile : List Move) × (in_order c asks plain moves ≡ meanwhile ++ in_order c asks plain seen)
+
+abbrev pub RunsAreLinearizableOnX86 : Type 0
+RunsAreLinearizableOnX86 =
+    WithBuffers (λ c asks plain moves. c.served ≡ Served.List → config_fault c.config ≡ Ok tt → IsLinearizableOnX86 c asks plain moves)

@@ -1,8 +1,8 @@
 ghost use Rattle.cc_x86.specs.Fenced.{BuffersAreNotSeen, MostAreFenced};
-ghost use Rattle.cc_x86.specs.OnX86.{HistoryIsLegalOnX86, RunsAreThoseOfAtomicSteps};
+ghost use Rattle.cc_x86.specs.OnX86.{HistoryIsLegalOnX86, RunsAreLinearizableOnX86, RunsAreThoseOfAtomicSteps};
 ghost use Rattle.std.specs.Prelude.{ℕ};
 
-use cc_runs::{answers_are_told, histories_are_legal};
+use cc_runs::{answers_are_told, histories_are_legal, runs_are_linearizable};
 
 /// If each plain store of any threads is fenced, then what they do with store buffers is what they do by atomic steps in some
 /// order: the same effects in the same order, the same shared words, and each thread without a waiting store in the same state.
@@ -26,4 +26,11 @@ pub fn histories_are_legal_on_x86()
 {
     histories_are_legal();
     answers_are_told();
+}
+
+/// And it is linearizable: its answered calls have an order in real time in which a sequential queue answers so.
+pub fn runs_are_linearizable_on_x86()
+    ensures { RunsAreLinearizableOnX86 }
+{
+    runs_are_linearizable();
 }

@@ -11,6 +11,6 @@ mod litmus_laws;
 
 pub use laws::{
     buffers_are_not_seen, histories_are_legal_on_x86, most_are_fenced,
-    runs_are_those_of_atomic_steps,
+    runs_are_linearizable_on_x86, runs_are_those_of_atomic_steps,
 };
 pub use litmus_laws::{message_passing, store_buffering};
