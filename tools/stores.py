@@ -124,6 +124,31 @@ def check(library: Library, other: bytes) -> int:
     return differences
 
 
+def atomic_loads(module: str) -> dict:
+    """How many atomic loads each function of the compiler's module has."""
+    loads: dict = {}
+    name = ""
+    for line in module.splitlines():
+        if line.startswith("define "):
+            name = re.search(r'@(?:"([^"]*)"|([^(]*))\(', line).expand(r"\1\2")
+            loads[name] = 0
+        elif " load atomic " in line:
+            loads[name] += 1
+    return loads
+
+
+def compare_loads(library: Library, module: str) -> int:
+    """How many loads of shared words there are, if each function has as many atomic loads in the module as the checker finds."""
+    told = atomic_loads(module)
+    found = {checked.function.name: len(checked.shared_loads()) for checked in library.shared}
+    for name, count in found.items():
+        if told.get(name) != count:
+            raise Refused(f"{name}: {count} loads of shared words, and {told.get(name)} in the compiler's module")
+    if not any(found.values()):
+        raise Refused("no load of a shared word was found")
+    return sum(found.values())
+
+
 def main() -> int:
     if sys.argv[1:] in (["-h"], ["--help"]):
         print(__doc__)
@@ -138,8 +163,12 @@ def main() -> int:
             made, count, reasons = relaxed(library)
             second.write_bytes(made)
             print("\n".join(reasons))
-        else:
+        elif task == "check":
             count = check(library, second.read_bytes())
+        else:
+            loads = compare_loads(library, second.read_text())
+            print(f"stores: {loads} loads of shared words, as many in each function as the compiler's module has")
+            return 0
     except Refused as why:
         print(f"stores: refused: {why}", file=sys.stderr)
         return 1

@@ -1,5 +1,5 @@
--- The discipline of plain stores, and its law: a thread that looks at nothing between a plain store and its next locked
--- instruction can't tell store buffers from none, nor can the others. To look is to load a shared word, or to return.
+-- The discipline of plain stores, and its law: if no thread looks at anything between a plain store and its next locked
+-- instruction, then store buffers aren't seen. To look is to load a shared word, or to return.
 use Rattle.std.specs.Prelude.{◌≡◌, ℕ, Bool, true, false, List, [], ◌∷◌}
 use Rattle.cc_x86.specs.Program.{Operation, Load, Store, Outside, Program, State, Turn}
 use Rattle.cc_x86.specs.Sequential.{reached, effects, IsRun}

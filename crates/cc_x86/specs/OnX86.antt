@@ -19,7 +19,7 @@ MayBegin c (Move.Begin p call known ∷ earlier) = MayBegin c earlier × May c (
 MayBegin c (Move.Step p ∷ earlier) = MayBegin c earlier
 MayBegin c (Move.Take p ∷ earlier) = MayBegin c earlier
 
--- the moves of a run with store buffers, each plain store in the place where it leaves its buffer
+-- the moves of a run with store buffers, each plain store at the moment at which it leaves its buffer
 abbrev pub in_order : Setting → (ℕ → Ask) → Plain Stand → List buffers.Move → List Move
 in_order c asks plain moves = moves_of c asks (turns (passes_as_threads c asks) plain (opened c) moves)
 

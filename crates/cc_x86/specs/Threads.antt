@@ -23,7 +23,7 @@ next_at c x own Place.Idle = threads.Outside 0
 next_at c x own (Place.Finished told) = threads.Outside 0
 next_at c x own at = as_thread (operation c x own at)
 
--- What callers may ask: the call of each number, and how much its caller knows.
+-- A call that a caller may ask for, and how much its caller knows. Each is asked for by a number.
 pub record Ask : Type 0 where
   pub call : Call
   pub known : ℕ

@@ -1,9 +1,9 @@
 //! The queue's machine on a processor with store buffers: x86-TSO (Sewell, Sarkar, Owens, Zappa Nardelli and Myreen, CACM 2010).
 //!
-//! There a store by a plain move waits in its thread's buffer, where that thread alone sees it, and a locked instruction first
+//! There a store by a plain move waits in its thread's buffer, which that thread alone reads, and a locked instruction first
 //! lets the buffer drain. If the operation after each plain store is a store or a locked instruction, and neither a load of a
-//! shared word nor a return, then store buffers can't be told from none: the laws here say so of any threads, and of the passes
-//! of the queue.
+//! shared word nor a return, then nothing that a thread reads or returns shows that there are store buffers. The laws here say
+//! so of any threads, and of the passes of the queue.
 #![tactic(auto)]
 
 mod laws;
