@@ -28,8 +28,8 @@
  *
  * No call but the three openings takes memory.
  *
- * Apart from what is proved, the code does this, since each of its steps on shared words is sequentially consistent and sees
- * all steps before it; tests look for it:
+ * Apart from what is proved, the code does this, since its steps on shared words have one order, in which each sees all steps
+ * before it, and since none is pending when a call returns; tests look for it:
  * - A take that begins after a send has returned finds the item, unless another take of its group took it; and a send that
  *   begins after takes have returned finds the room that they made. "After" is by any order that the program has: on one
  *   thread, by a join, a lock or a flag.
