@@ -7,8 +7,7 @@
 # `rt lib` proves and builds what is below crates/cc_binding, and `rattle build`, which `rt lib` calls, that itself. In its
 # archive, and in the toolchain's functions for memory (liblibc_c.a), the three symbols that don't begin with vahepito_ are
 # renamed; all else stays as it was built. That is libvahepito_strict.a. libvahepito.a is made of it by tools/stores.py, which
-# turns locked stores into plain ones; and the loads of shared words, as the checker there finds them, are compared with those of
-# the compiler's own module. PROOF has the sums of the archives and of the sources, and the line by which the library was proved.
+# turns locked stores into plain ones; and the same stores have to be found in the compiler's own module. PROOF has the sums of the archives and of the sources, and the line by which the library was proved.
 #
 # Without python3-capstone nothing can be turned: then --update fails, and else libvahepito.a has to be what was built but for
 # single bytes that make an exchange a move; a line says that nothing more was looked at.
@@ -75,7 +74,7 @@ mkdir -p "$watched/bin" "$made" crates/cc_binding/out
 ln -s "$kit"/toolchain/lib "$watched/" && ln -s "$kit"/toolchain/bin/* "$watched/bin/" && rm "$watched/bin/clang" || exit 1
 cat >"$watched/bin/clang" <<END
 #!/bin/bash
-"$kit/toolchain/bin/clang" "\$@" && "$kit/toolchain/bin/clang" "\$@" -S -emit-llvm -o "$module"
+"$kit/toolchain/bin/clang" "\$@" && "$kit/toolchain/bin/clang" "\${@/#-c/-S}" -emit-llvm -o "$module"
 END
 chmod +x "$watched/bin/clang"
 
@@ -111,7 +110,7 @@ relax() {
         return
     fi
     [ "$status" = 0 ] && tools/stores.py check "$made/libvahepito_strict.a" "$made/libvahepito.a" &&
-        tools/stores.py loads "$made/libvahepito_strict.a" "$module"
+        tools/stores.py compare "$made/libvahepito_strict.a" "$module"
 }
 
 # The toolchain's three names for memory, as the library's own: of the same lengths, so that no other byte changes.

@@ -3,7 +3,7 @@
 
     tools/stores.py relax STRICT OUT          writes the archive STRICT with each such store turned that may be, and says how many
     tools/stores.py check STRICT RELAXED      accepts RELAXED if it is STRICT but for stores that may be plain
-    tools/stores.py loads STRICT MODULE       compares the loads of shared words with the compiler's module, as text
+    tools/stores.py compare STRICT MODULE     finds the same stores in the compiler's module, or refuses
 
 The argument. All of the library's atomic steps are sequentially consistent, so that each store is an `xchg [word], reg`, which
 is locked. `mov [word], reg` has the same length: one byte differs, 0x87 and 0x89. On x86-TSO a plain store differs from a
@@ -17,11 +17,13 @@ pointer comes from (x86/flow.py), from the path by which the function reaches th
 words that is lost sight of, a call, a load by a pointer that isn't the thread's own. Functions that open queues or drop
 handles have the same bytes in both. How many stores may be plain isn't written down anywhere, since another compiler decides otherwise.
 
+`compare` comes to it in another way (x86/module.py): by the compiler's own module, in which loads and stores of shared words are
+marked as atomic. In each function as many loads, and as many stores that may be plain, have to be found there as here.
+
 It reads an archive of one object, or an object. The decoder is Debian's python3-capstone, for Debian's python3; without it the
 exit status is 69. The exit status is 0 if all is well, and 1 if something is refused.
 """
 import pathlib
-import re
 import sys
 
 sys.dont_write_bytecode = True
@@ -29,6 +31,8 @@ try:
     from x86.decode import decode
     from x86.discipline import Checked, is_shared
     from x86.flow import Function
+    from x86.module import counts as module_counts
+    from x86.module import functions as module_functions
     from x86.objects import Object, Refused, object_in
 except ModuleNotFoundError as missing:
     if missing.name != "capstone":
@@ -124,37 +128,27 @@ def check(library: Library, other: bytes) -> int:
     return differences
 
 
-def atomic_loads(module: str) -> dict:
-    """How many atomic loads each function of the compiler's module has."""
-    loads: dict = {}
-    name = ""
-    for line in module.splitlines():
-        if line.startswith("define "):
-            name = re.search(r'@(?:"([^"]*)"|([^(]*))\(', line).expand(r"\1\2")
-            loads[name] = 0
-        elif " load atomic " in line:
-            loads[name] += 1
-    return loads
-
-
-def compare_loads(library: Library, module: str) -> int:
-    """How many loads of shared words there are, if each function has as many atomic loads in the module as the checker finds."""
-    told = atomic_loads(module)
-    found = {checked.function.name: len(checked.shared_loads()) for checked in library.shared}
-    for name, count in found.items():
-        if told.get(name) != count:
-            raise Refused(f"{name}: {count} loads of shared words, and {told.get(name)} in the compiler's module")
-    if not any(found.values()):
-        raise Refused("no load of a shared word was found")
-    return sum(found.values())
+def compare(library: Library, module: str) -> tuple:
+    """The loads of shared words and the stores that may be plain, if each function has as many in the module as here."""
+    told = {name: module_counts(blocks) for name, blocks in module_functions(module).items()}
+    loads = stores = 0
+    for checked in library.shared:
+        name = checked.function.name
+        found = len(checked.shared_loads()), len(may_be_plain(checked)[0])
+        if told.get(name) != found:
+            raise Refused(f"{name}: {found} loads of shared words and plain stores here, {told.get(name)} in the compiler's module")
+        loads, stores = loads + found[0], stores + found[1]
+    if not loads or not stores:
+        raise Refused("no load of a shared word was found, or no store that may be plain")
+    return loads, stores
 
 
 def main() -> int:
     if sys.argv[1:] in (["-h"], ["--help"]):
         print(__doc__)
         return 0
-    if len(sys.argv) != 4 or sys.argv[1] not in ("relax", "check", "loads"):
-        print("usage: tools/stores.py relax STRICT OUT | check STRICT RELAXED | loads STRICT MODULE", file=sys.stderr)
+    if len(sys.argv) != 4 or sys.argv[1] not in ("relax", "check", "compare"):
+        print("usage: tools/stores.py relax STRICT OUT | check STRICT RELAXED | compare STRICT MODULE", file=sys.stderr)
         return 64
     task, first, second = sys.argv[1], *map(pathlib.Path, sys.argv[2:])
     try:
@@ -166,8 +160,8 @@ def main() -> int:
         elif task == "check":
             count = check(library, second.read_bytes())
         else:
-            loads = compare_loads(library, second.read_text())
-            print(f"stores: {loads} loads of shared words, as many in each function as the compiler's module has")
+            loads, plain = compare(library, second.read_text())
+            print(f"stores: {loads} loads of shared words, {plain} plain stores: in each function as many as in the compiler's module")
             return 0
     except Refused as why:
         print(f"stores: refused: {why}", file=sys.stderr)
