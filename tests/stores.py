@@ -6,6 +6,7 @@
 - The archive in the tree is the strict one with all stores turned that may be, and it is accepted.
 - Wrong changes of it are refused: each exchange that stays one, turned too; a plain store of another register or to another
   word, or as a load; each other locked instruction without its lock; and changes of bytes all over the archive.
+- In the MODULES the loads of shared words, and the stores that may be plain, are counted as beside them.
 - Of SMALL functions, in which the first exchange is turned, just those are accepted whose name begins with `right`.
 
 Without python3-capstone or `as` it says so, and does nothing. Exit status 0 if no case failed.
@@ -22,6 +23,7 @@ ARCHIVES = TOP / "bindings/rust/lib/x86_64-unknown-linux-gnu"
 sys.path.insert(0, str(TOP / "tools"))
 try:
     import stores
+    from x86 import module
     from x86.objects import Refused
 except SystemExit:
     print("stores: SKIPPED: python3-capstone is not on this machine")
@@ -80,6 +82,22 @@ SMALL = {
     + FENCE
     + '\n.section .text.vahepito_other,"ax",@progbits\njmp .text.vahepito_it+3',
 }
+
+# Functions of the compiler's module: how many loads of shared words, how many plain stores, and the blocks.
+SET = "  store atomic i64 1, ptr %a seq_cst, align 8\n"
+ADD = "  %n = atomicrmw add ptr %a, i64 1 seq_cst, align 8\n"
+GET = "  %v = load atomic i64, ptr %a seq_cst, align 8\n"
+EITHER, END = "  br i1 %c, label %one, label %other\n", "  ret void\n"
+MODULES = [
+    (0, 1, SET + ADD + END),
+    (0, 1, SET + SET + END),
+    (1, 0, SET + GET + END),
+    (0, 0, SET + "  tail call fastcc void @other()\n" + ADD + END),
+    (0, 1, SET + '  tail call void asm sideeffect "", "~{memory}"()\n' + ADD + END),
+    (1, 0, SET + EITHER + "one:\n" + ADD + END + "other:\n" + GET + END),
+    (1, 1, SET + EITHER + "one:\n" + ADD + END + "other:\n" + ADD + GET + END),
+    (0, 0, SET + "  br label %one\none:\n  switch i64 %s, label %one [\n    i64 0, label %other\n  ]\nother:\n" + END),
+]
 
 
 def is_accepted(strict: bytes, other) -> bool:
@@ -143,6 +161,11 @@ def main() -> int:
             failed.append(f"accepted: {name}")
         except Refused:
             pass
+    for loads, plain, text in MODULES:
+        tried += 1
+        (blocks,) = module.functions(f"define void @it(ptr %a) {{\n{text}}}\n").values()
+        if module.counts(blocks) != (loads, plain):
+            failed.append(f"counted as {module.counts(blocks)}:\n{text}")
     if shutil.which("as"):
         with tempfile.TemporaryDirectory() as room:
             for name, code in SMALL.items():
@@ -152,7 +175,7 @@ def main() -> int:
                     failed.append(f"{name}: {'refused' if name.startswith('right') else 'accepted'}")
     else:
         print("stores: small functions: SKIPPED: as is not on this machine")
-    print("\n".join(failed + [f"stores: {tried} changes tried, {len(failed)} failed"]))
+    print("\n".join(failed + [f"stores: {tried} cases tried, {len(failed)} failed"]))
     return 1 if failed else 0
 
 

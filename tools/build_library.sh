@@ -7,7 +7,8 @@
 # `rt lib` proves and builds what is below crates/cc_binding, and `rattle build`, which `rt lib` calls, that itself. In its
 # archive, and in the toolchain's functions for memory (liblibc_c.a), the three symbols that don't begin with vahepito_ are
 # renamed; all else stays as it was built. That is libvahepito_strict.a. libvahepito.a is made of it by tools/stores.py, which
-# turns locked stores into plain ones; and the same stores have to be found in the compiler's own module. PROOF has the sums of the archives and of the sources, and the line by which the library was proved.
+# turns locked stores into plain ones; the same stores have to be found in the compiler's own module. PROOF has the sums of the
+# archives and of the sources, and the line by which the library was proved.
 #
 # Without python3-capstone nothing can be turned: then --update fails, and else libvahepito.a has to be what was built but for
 # single bytes that make an exchange a move; a line says that nothing more was looked at.
