@@ -101,7 +101,7 @@ begins_self h = record { sends = same h.sends; takes = λ g. same (of_group h g)
     same s = record { calls = ([], sym (append-nil s.calls)); answers = ([], sym (append-nil s.answers)) }
 
 pub stands_self : (v w : Walk) (more : List Entry) → StandsInOne v more w → StandsInOne w [] w
-stands_self v w more s = record { same = (refl, refl, refl); run = s.run; onward = λ first k. k; begins = begins_self (history w); legal = s.legal; fifo = s.fifo; made = sym (append-nil w.made); calls_are = s.calls_are }
+stands_self v w more s = record { same = (refl, refl, refl); run = s.run; onward = λ first k. k; begins = begins_self (history w); legal = s.legal; fifo = s.fifo; linearizable = s.linearizable; made = sym (append-nil w.made); calls_are = s.calls_are }
 
 pub same_name : (v w : Walk) (calls : List Entry) → StandsInOne v calls w → name w ≡ name v
 same_name v w calls s = λ i. pass_at (s.same.1 i).config (s.same.2 i)

@@ -3,9 +3,9 @@ use Rattle.std.specs.Prelude.{◌≡◌, ◌≢◌, ℕ, ◌+◌, ◌<◌, ◌�
 use Rattle.std.specs.List.{slice_get}
 use Rattle.cc_model.specs.Names.{Config, Call, Item, Answer, SendAnswer, CloseAnswer, TakeAnswer}
 
--- What a sequential queue answers to its next call, when it has accepted these items, and is shut or not. The caller's group
--- was handed `handed` of the items, and every group `to_all` of them. Full says that as many items wait as the queue holds,
--- and Empty that the group was handed all of them.
+-- The answer of a sequential queue to its next call, when it has accepted these items, and is shut or not. The caller's group
+-- was handed `handed` of the items, and every group `to_all` of them. So Full says that as many items wait as the queue holds,
+-- and Empty that the group was handed all items.
 abbrev pub Exactly : Config → (items : List Item) → (shut : Bool) → (handed to_all : ℕ) → Call → Answer → Type 0
 Exactly cfg items shut handed to_all (Call.Send body) (Answer.Send SendAnswer.Closed) = shut ≡ true
 Exactly cfg items shut handed to_all (Call.Send body) (Answer.Send SendAnswer.Spent) = (shut ≡ false) × (length items ≡ cfg.life)

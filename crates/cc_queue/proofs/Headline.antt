@@ -11,6 +11,7 @@ use Rattle.cc_runs.proofs.CallsMade.{calls_made}
 use Rattle.cc_runs.proofs.EndAnswered.{calls_end}
 use Rattle.cc_runs.proofs.RunFronts.{fronts_begin}
 use Rattle.cc_runs.proofs.ListRuns.Laws.{history_is_legal, history_is_fifo}
+use Rattle.cc_runs.proofs.Linear.Orders.{linearizable as runs_linearizable}
 use Rattle.cc_steps.specs.Seen.{Onward, GoesOn, stand_in, made_in}
 use Rattle.cc_steps.specs.Topic.{Topic}
 use Rattle.cc_steps.specs.Walk.{Walk, IsOf, IsSameSeat, IsSound, IsPendingIn}
@@ -48,6 +49,7 @@ stands_in_one v w calls s list out same on made_is = record {
   begins = subst (λ (c : Setting). Begins (history_of c v.seen) (history w)) same.1 (begins_on w.setting v.seen w.seen on s.run);
   legal = history_is_legal w.setting w.seen list s.checked s.run;
   fifo = history_is_fifo w.setting w.seen list s.checked s.run;
+  linearizable = runs_linearizable w.setting w.seen list s.checked s.run;
   made = made_is;
   calls_are = calls_in w s out;
 }
@@ -117,6 +119,7 @@ stands_more a b c xs ys f g = record {
   begins = subst (λ (x : Setting). Begins (history_of x a.seen) (history c)) (g.same.1 ∙ f.same.1) (begins_on c.setting a.seen c.seen (λ first k. g.onward first (f.onward first k)) g.run);
   legal = g.legal;
   fifo = g.fifo;
+  linearizable = g.linearizable;
   made = g.made ∙ ap (λ (l : List Entry). l ++ ys) f.made ∙ append_assoc a.made xs ys;
   calls_are = g.calls_are;
 }

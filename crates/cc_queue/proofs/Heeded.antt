@@ -151,6 +151,7 @@ stands_still v w calls s = record {
   begins = begins_on w.setting w.seen w.seen (λ first k. k) s.run;
   legal = s.legal;
   fifo = s.fifo;
+  linearizable = s.linearizable;
   made = sym (append-nil w.made);
   calls_are = s.calls_are;
 }

@@ -8,6 +8,7 @@ use Rattle.cc_model.specs.Fifo.{Fifo}
 use Rattle.cc_queue.specs.Names.{Call, Entry, Pass}
 use Rattle.cc_runs.specs.State.{pass_at}
 use Rattle.cc_runs.specs.Run.{IsRun, history_of, number_of}
+use Rattle.cc_runs.specs.Linearizable.{IsLinearizable}
 use Rattle.cc_steps.specs.Seen.{Onward, known_in}
 use Rattle.cc_steps.specs.Walk.{Walk, IsSameSeat}
 
@@ -33,6 +34,7 @@ pub record StandsInOne (v : Walk) (calls : List Entry) (w : Walk) : Type 0 where
   pub begins : Begins (history v) (history w)
   pub legal : Legal w.setting.config (history w)
   pub fifo : Fifo (history w)
+  pub linearizable : IsLinearizable w.setting w.seen
   pub made : w.made ≡ v.made ++ calls
   pub calls_are : map (λ z. z.0) (calls_of (name w) (history w)) ≡ w.made
 

@@ -42,7 +42,7 @@ side_grows s later b =
     ap (λ (l : List Answer). length (handed_by l)) b.answers.1 ∙ ap (λ (l : List Item). length l) (handed_by-append s.answers b.answers.0) ∙ length-append (handed_by s.answers) (handed_by b.answers.0) in
     omega (arith, is)
 
-known_grow : (h later : Record) (who : Pass) → length h.sends.answers ≤ length h.sends.calls → Begins h later → known_at who h ≤ known_at who later
+pub known_grow : (h later : Record) (who : Pass) → length h.sends.answers ≤ length h.sends.calls → Begins h later → known_at who h ≤ known_at who later
 known_grow h later (Pass.Sender n) order b =
     least_grows (map count h.takes) (map count later.takes) (length-map h.takes count ∙ b.groups ∙ sym (length-map later.takes count))
     (λ k. omega (arith, counts_get h.takes k, counts_get later.takes k, side_grows (of_group h k) (of_group later k) (b.takes k)))

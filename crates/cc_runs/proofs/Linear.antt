@@ -4,6 +4,7 @@ pub mod Scan
 pub mod Full
 pub mod Empty
 pub mod Replay
+pub mod Bounds
 pub mod Insert
 pub mod Decided
 pub mod Orders

@@ -10,10 +10,10 @@ use Rattle.cc_runs.specs.State.{State, appended, noted, chain_of}
 use Rattle.cc_runs.specs.Run.{moved, reached, history_of, IsRun}
 use Rattle.cc_runs.specs.MachineLaws.{FrontsBegin}
 
-front_self : {X : Type 0} (xs : List X) → IsFront xs xs
+pub front_self : {X : Type 0} (xs : List X) → IsFront xs xs
 front_self xs = ([], sym (append-nil xs))
 
-front_more : {X : Type 0} (xs ys zs : List X) → IsFront xs ys → IsFront ys zs → IsFront xs zs
+pub front_more : {X : Type 0} (xs ys zs : List X) → IsFront xs ys → IsFront ys zs → IsFront xs zs
 front_more {X} xs ys zs a b = (a.0 ++ b.0, b.1 ∙ ap (λ (l : List X). l ++ b.0) a.1 ∙ append_assoc xs a.0 b.0)
 
 front_appended : {X : Type 0} (xs : List X) (x : Option X) → IsFront xs (appended xs x)
@@ -46,7 +46,7 @@ past h y x now far = elim (cases_eq x y) [
   | inr ne ↦ group_other h y x now ne
 ]
 
-begins_noted : (x : Chain) (h : Record) (call : Option Entry) (told : Option Answer) → Begins h (noted x h call told)
+pub begins_noted : (x : Chain) (h : Record) (call : Option Entry) (told : Option Answer) → Begins h (noted x h call told)
 begins_noted Chain.Send h call told = record { sends = side_appended h.sends call told; takes = λ y. side_self (of_group h y); groups = refl }
 begins_noted (Chain.Take g) h call told = record {
   sends = side_self h.sends;

@@ -1,5 +1,6 @@
 -- Linearizable runs (Herlihy and Wing, TOPLAS 1990): each answered call takes effect at one move of the run, not before its
--- exchange and not after the step that decides its answer; and in the order of these effects a sequential queue answers so.
+-- exchange and not after the step that decides its answer; and in the order of these effects a sequential queue gives the same
+-- answers.
 use Rattle.std.specs.Prelude.{◌≡◌, ◌⊎◌, ℕ, ◌<◌, ◌≤◌, length, List, [], ◌∷◌, ◌++◌, Some, Ok}
 use Rattle.cc_model.specs.Config.{config_fault}
 use Rattle.cc_model.specs.Record.{Record, empty}
@@ -30,7 +31,7 @@ abbrev pub handed_on : Chain → Record → ℕ
 handed_on Chain.Send h = 0
 handed_on (Chain.Take g) h = length (handed h g)
 
--- a sequential queue answers so after this history, in which each call has its answer
+-- a sequential queue gives this answer after this history, in which each call has its answer
 abbrev pub AnswersAfter : Config → Record → Chain → Call → Answer → Type 0
 AnswersAfter cfg h x call answer = Exactly cfg (accepted h) (is_shut h) (handed_on x h) (handed_to_all h) call answer
 
@@ -39,11 +40,16 @@ abbrev pub IsOfChain : Config → Chain → Entry → Type 0
 IsOfChain cfg Chain.Send e = IsSenders cfg e.pass e.call
 IsOfChain cfg (Chain.Take g) e = IsReceivers cfg g e.pass e.call
 
--- a sequential queue answers these calls so, one after another
+-- a sequential queue gives these answers to these calls, one after another
 abbrev pub IsExact : Config → List Effect → Type 0
 IsExact cfg [] = Unit {0}
 IsExact cfg (e ∷ earlier) =
     IsExact cfg earlier × IsThere cfg e.chain × IsOfChain cfg e.chain e.entry × AnswersAfter cfg (replay cfg.groups earlier) e.chain e.entry.call e.answer
+
+-- after such an order it has exactly one answer to each call
+abbrev pub ExactOrdersGoOn : Type 0
+ExactOrdersGoOn = (cfg : Config) (order : List Effect) → IsExact cfg order → (x : Chain) (call : Call)
+    → (a : Answer) × AnswersAfter cfg (replay cfg.groups order) x call a × ((b : Answer) → AnswersAfter cfg (replay cfg.groups order) x call b → b ≡ a)
 
 -- ---- orders of runs
 
@@ -52,8 +58,8 @@ abbrev pub in_order : List (List Effect) → List Effect
 in_order [] = []
 in_order (now ∷ earlier) = now ++ in_order earlier
 
--- on each chain every call that is answered in the history has taken effect, with that answer, and each that has taken effect is
--- in the history
+-- On each chain every call that is answered in the history has taken effect, with that answer, and each call that has taken
+-- effect is in the history.
 pub record IsOnTime (h effects : Record) : Type 0 where
   pub calls : (x : Chain) → IsFront (calls_on x effects) (calls_on x h)
   pub answers : (x : Chain) → IsFront (answers_on x h) (answers_on x effects)
@@ -80,7 +86,7 @@ RunsAreLinearizable = AfterEveryRun IsLinearizable
 
 -- ---- real time
 
--- a place in the order: before it are all calls that were answered by then, and only calls that had exchanged
+-- a place in the order: the calls before it are all that were answered by then, and only calls that had exchanged
 pub record Cut (c : Setting) (seen : List Move) (order : List Effect) : Type 0 where
   pub after : List Effect
   pub before : List Effect

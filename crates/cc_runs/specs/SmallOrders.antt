@@ -1,4 +1,4 @@
--- Small orders of calls, of a queue that holds one item: a sequential queue answers the first so, and none of the others.
+-- Small orders of calls, of a queue that holds one item: a sequential queue gives the answers of the first two, and of no other.
 use Rattle.std.specs.Prelude.{ℕ, List, [], ◌∷◌}
 use Rattle.cc_model.specs.Body.{body_of}
 use Rattle.cc_runs.specs.Names.{Config, Call, Item, Pass, Answer, SendAnswer, CloseAnswer, TakeAnswer, Chain}
@@ -38,7 +38,7 @@ found_full = a_send 2 1 SendAnswer.Full
 abbrev pub found_none : Effect
 found_none = a_take TakeAnswer.Empty
 
--- no sequential queue answers so
+-- no sequential queue gives these answers
 abbrev pub IsRefused : List Effect → Type 0
 IsRefused order = IsExact small order → ⊥
 

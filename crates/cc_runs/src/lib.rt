@@ -28,8 +28,8 @@ pub use codes::{
 };
 pub use fault::OpenFault;
 pub use linear_laws::{
-    orders_are_real_time, orders_keep_time, orders_of_runs_agree, runs_are_linearizable,
-    small_orders_are_told_apart,
+    exact_orders_go_on, orders_are_real_time, orders_keep_time, orders_of_runs_agree,
+    runs_are_linearizable, small_orders_are_told_apart,
 };
 pub use list_laws::{
     answers_are_told, busy_nodes_are_items, fronts_of_runs_begin, histories_are_fifo,

@@ -1,8 +1,8 @@
-ghost use Rattle.cc_runs.specs.Linearizable.{RunsAreLinearizable, OrdersAgree, OrderKeepsTime, OrderIsRealTime};
+ghost use Rattle.cc_runs.specs.Linearizable.{ExactOrdersGoOn, RunsAreLinearizable, OrdersAgree, OrderKeepsTime, OrderIsRealTime};
 ghost use Rattle.cc_runs.specs.SmallOrders.{SmallOrders};
 
 /// Every run is linearizable (Herlihy and Wing, TOPLAS 1990): all its answered calls have an order in which a sequential queue
-/// answers so, and in which each takes effect between its exchange and the step that decides its answer.
+/// gives the same answers, and in which each takes effect between its exchange and the step that decides its answer.
 #[tactic(auto, using(crate::proofs::Linear::Orders::linearizable))]
 pub fn runs_are_linearizable()
     ensures { RunsAreLinearizable }
@@ -27,9 +27,15 @@ pub fn orders_are_real_time()
     ensures { OrderIsRealTime }
 {}
 
-/// A sequential queue answers some small orders of calls so, and not others: Full comes neither too early nor too late, Empty
-/// only without an item, and Accepted not after Shut.
+/// A sequential queue gives the answers of two small orders of calls, and not those of others: Full comes neither too early
+/// nor too late, Empty only without an item, and Accepted not after Shut.
 #[tactic(auto, using(crate::proofs::Linear::Small::small_orders))]
 pub fn small_orders_are_told_apart()
     ensures { SmallOrders }
+{}
+
+/// After each order of calls whose answers a sequential queue gives, it has exactly one answer to each call.
+#[tactic(auto, using(crate::proofs::Linear::Bounds::exact_orders_go_on))]
+pub fn exact_orders_go_on()
+    ensures { ExactOrdersGoOn }
 {}

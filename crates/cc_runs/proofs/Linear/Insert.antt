@@ -8,10 +8,10 @@ use Rattle.cc_model.proofs.Grows.{get_front}
 use Rattle.cc_runs.specs.Names.{Config, Entry, Answer, Setting, Chain, Move}
 use Rattle.cc_runs.specs.State.{noted}
 use Rattle.cc_runs.specs.Run.{IsRun, history_of}
-use Rattle.cc_runs.proofs.RunFronts.{fronts_begin}
+use Rattle.cc_runs.proofs.RunFronts.{fronts_begin, front_more}
 use Rattle.cc_runs.specs.Linearizable.{Effect, replay, AnswersAfter, IsExact, in_order, IsPart}
 use Rattle.cc_runs.proofs.Linear.Part.{part_self, part_more, part_behind}
-use Rattle.cc_runs.proofs.Linear.Replay.{front_next, front_length, front_more, replay_groups, replay_even, answers_alike, Timed, timed_alike, full, with_full, full_alike}
+use Rattle.cc_runs.proofs.Linear.Replay.{front_next, front_length, replay_groups, replay_even, answers_alike, Timed, timed_alike, full, with_full, full_alike}
 
 -- the effects of a run, at each moment
 abbrev pub AreTimed : Setting → List Move → List (List Effect) → Type 0

@@ -16,7 +16,7 @@ use Rattle.cc_runs.specs.OnChain.{calls_on, answers_on}
 use Rattle.cc_runs.specs.ChainLaws.{ServesNext, served_node}
 use Rattle.cc_runs.specs.Run.{IsRun, reached, history_of}
 use Rattle.cc_runs.proofs.Ranges.{in_range}
-use Rattle.cc_runs.proofs.RunFronts.{fronts_begin}
+use Rattle.cc_runs.proofs.RunFronts.{fronts_begin, front_more, front_self}
 use Rattle.cc_runs.proofs.ChainLaws.{chain_laws}
 use Rattle.cc_runs.proofs.LinkedList.Busy as busy
 use Rattle.cc_runs.proofs.ListRuns.View.{queue_of}
@@ -32,7 +32,7 @@ use Rattle.cc_runs.proofs.Linear.Scan.{Waits, start, begun}
 use Rattle.cc_runs.proofs.Linear.Full as scan
 use Rattle.cc_runs.proofs.Linear.Full.{same_accepted, since}
 use Rattle.cc_runs.proofs.Linear.Empty.{empty}
-use Rattle.cc_runs.proofs.Linear.Replay.{front_more, front_self, front_next, front_length, front_same, replay_groups, replay_even, Alike, answers_alike, Timed, timed_alike, full, with_full}
+use Rattle.cc_runs.proofs.Linear.Replay.{front_next, front_length, front_same, replay_groups, replay_even, Alike, answers_alike, Timed, timed_alike, full, with_full}
 use Rattle.cc_runs.proofs.Linear.Insert.{AreTimed, PutIn, put_in}
 use Rattle.cc_runs.proofs.Linear.Decided.{e_last, d_last, send_exact, full_exact, take_exact, accepts_one, open_of, enters_none, FromNull, IsTakePlace, empty_from, FromScan, IsSendPlace, full_from}
 

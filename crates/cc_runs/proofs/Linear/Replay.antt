@@ -1,5 +1,5 @@
 -- The history of calls that take effect one after another.
-use Rattle.std.proofs.Common.{◌≡◌, ℕ, ◌+◌, ◌<◌, ◌≤◌, Bool, true, false, ◌||◌, List, [], ◌∷◌, ◌++◌, length, Some, inl, inr, refl, sym, ap, ◌∙◌, subst, arith, append-nil, append_assoc, length-append}
+use Rattle.std.proofs.Common.{◌≡◌, ℕ, ◌+◌, ◌<◌, ◌≤◌, Bool, true, false, ◌||◌, List, [], ◌∷◌, ◌++◌, length, Some, inl, inr, refl, sym, ap, ◌∙◌, subst, arith, append-nil, length-append}
 use Rattle.std.proofs.lemmas.Bool.{cases_eq}
 use Rattle.std.proofs.lemmas.List.{length-set, length-replicate}
 use Rattle.std.specs.List.{slice_get, list_any}
@@ -15,12 +15,6 @@ use Rattle.cc_model.specs.Sequential.{Exactly}
 use Rattle.cc_runs.specs.Linearizable.{Effect, replay, handed_on, AnswersAfter}
 
 -- ---- prefixes
-
-pub front_more : {X : Type 0} (xs ys zs : List X) → IsFront xs ys → IsFront ys zs → IsFront xs zs
-front_more {X} xs ys zs a b = (a.0 ++ b.0, b.1 ∙ ap (λ (l : List X). l ++ b.0) a.1 ∙ append_assoc xs a.0 b.0)
-
-pub front_self : {X : Type 0} (xs : List X) → IsFront xs xs
-front_self xs = ([], sym (append-nil xs))
 
 -- the next element
 pub front_next : {X : Type 0} (xs ys : List X) (n : ℕ) (x : X) → IsFront xs ys → n ≡ length xs → slice_get ys n ≡ Some x → IsFront (xs ++ x ∷ []) ys
@@ -113,6 +107,14 @@ pub record Timed (h r : Record) : Type 0 where
   pub take_calls : (g : ℕ) → IsFront (of_group r g).calls (of_group h g).calls
   pub take_answers : (g : ℕ) → (of_group r g).answers ≡ (of_group h g).answers
 
+-- calls after the last answer accept nothing
+pub accepted_by_calls : (answers : List Answer) (calls rest : List Entry) → length calls ≡ length answers → accepted_by (calls ++ rest) answers ≡ accepted_by calls answers
+accepted_by_calls [] [] [] e = refl
+accepted_by_calls [] [] (d ∷ rest) e = refl
+accepted_by_calls [] (d ∷ calls) rest e = absurd (omega (arith, e))
+accepted_by_calls (a ∷ answers) [] rest e = absurd (omega (arith, e))
+accepted_by_calls (a ∷ answers) (d ∷ calls) rest e = ap (λ (l : List Item). accepted_item d a ++ l) (accepted_by_calls answers calls rest (omega (arith, e)))
+
 -- if no send did that isn't answered, all is alike
 pub timed_alike : (m : ℕ) (h r : Record) → Timed h r → length r.sends.answers ≤ length h.sends.answers → length r.sends.calls ≡ length r.sends.answers
     → length h.takes ≡ m + 1 → length r.takes ≡ m + 1 → Alike h r
@@ -122,20 +124,12 @@ timed_alike m h r t less even hn rn =
     record {
       items =
           ap (λ (l : List Answer). accepted_by r.sends.calls l) answers
-          ∙ sym (by_calls h.sends.answers r.sends.calls t.send_calls.0 (omega (arith, even, ap length answers)))
+          ∙ sym (accepted_by_calls h.sends.answers r.sends.calls t.send_calls.0 (omega (arith, even, ap length answers)))
           ∙ ap (λ (l : List Entry). accepted_by l h.sends.answers) (sym t.send_calls.1);
       shut = ap (list_any shuts) answers;
       handed_is = hands;
       to_all = same_least h r m hn rn hands;
     }
-  where
-    -- calls after the last answer accept nothing
-    by_calls : (answers : List Answer) (calls rest : List Entry) → length calls ≡ length answers → accepted_by (calls ++ rest) answers ≡ accepted_by calls answers
-    by_calls [] [] [] e = refl
-    by_calls [] [] (d ∷ rest) e = refl
-    by_calls [] (d ∷ calls) rest e = absurd (omega (arith, e))
-    by_calls (a ∷ answers) [] rest e = absurd (omega (arith, e))
-    by_calls (a ∷ answers) (d ∷ calls) rest e = ap (λ (l : List Item). accepted_item d a ++ l) (by_calls answers calls rest (omega (arith, e)))
 
 -- ---- a send that is Full changes nothing
 

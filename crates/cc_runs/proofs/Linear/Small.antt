@@ -1,4 +1,4 @@
--- Small orders of calls: which of them a sequential queue answers so.
+-- Small orders of calls: a sequential queue gives the answers of two, and not those of the others.
 use Rattle.std.proofs.Common.{◌≡◌, true, false, Some, None, refl, arith}
 use Rattle.cc_runs.specs.Names.{Item}
 use Rattle.cc_runs.specs.SmallOrders.{SmallOrders}
