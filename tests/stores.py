@@ -81,6 +81,9 @@ SMALL = {
     "another function jumps into it": TURNED
     + FENCE
     + '\n.section .text.vahepito_other,"ax",@progbits\njmp .text.vahepito_it+3',
+    "a function that isn't looked at calls it": TURNED
+    + FENCE
+    + '\n.section .text.vahepito_open,"ax",@progbits\ncall vahepito_it\nret',
 }
 
 # Functions of the compiler's module: how many loads of shared words, how many plain stores, and the blocks.
@@ -122,7 +125,8 @@ def with_byte(archive: bytes, at: int, byte: int) -> bytes:
 def small(code: str, room: str) -> bytes:
     """The object of a function."""
     body, more = (code.split("\n.", 1) + [""])[:2]
-    text = f'.intel_syntax noprefix\n.section .text.vahepito_it,"ax",@progbits\nvahepito_it:\n{HEAD}{body}\n' + (f".{more}\n" if more else "")
+    head = '.intel_syntax noprefix\n.section .text.vahepito_it,"ax",@progbits\nvahepito_it:\n'
+    text = f"{head}{HEAD}{body}\n" + (f".{more}\n" if more else "")
     subprocess.run(["as", "--64", "-o", f"{room}/it.o"], input=text, text=True, check=True)
     return pathlib.Path(room, "it.o").read_bytes()
 

@@ -15,7 +15,8 @@ So this is to be shown of each change, on every path through the function behind
 pointer comes from (x86/flow.py), from the path by which the function reaches the shared words, which is told
 (x86/discipline.py). What isn't known to be right is refused: an instruction or a jump that isn't known, a pointer to the
 words that is lost sight of, a call, a load by a pointer that isn't the thread's own. Functions that open queues or drop
-handles have the same bytes in both. How many stores may be plain isn't written down anywhere, since another compiler decides otherwise.
+handles have the same bytes in both. How many stores may be plain isn't written down anywhere, since another compiler decides
+otherwise.
 
 `compare` comes to it in another way (x86/module.py): by the compiler's own module, in which loads and stores of shared words are
 marked as atomic. In each function as many loads, and as many stores that may be plain, have to be found there as here.
@@ -53,6 +54,10 @@ class Library:
         functions = [Function(code) for code in Object(self.object).functions()]
         self.others = {function.name: function for function in functions}
         self.shared = [Checked(function, self.others) for function in functions if is_shared(function.name)]
+        for function in functions:
+            called = {reference.name for reference in function.code.references.values()}
+            if not is_shared(function.name) and any(name in self.others and is_shared(name) for name in called):
+                raise Refused(f"{function.name}: refers to a function that does the steps of calls")
 
     def exchanges(self) -> int:
         return sum(len(checked.exchanges()) for checked in self.shared)
@@ -115,9 +120,10 @@ def changed(checked: Checked, library: Library, other: bytes) -> dict:
 
 def check(library: Library, other: bytes) -> int:
     """How many stores of the other archive are plain; it refuses any other difference, and each store that may not be."""
-    if len(other) != len(library.whole) or other[: library.begin] != library.whole[: library.begin] or other[library.end :] != library.whole[library.end :]:
+    begin, end = library.begin, library.end
+    if len(other) != len(library.whole) or (other[:begin], other[end:]) != (library.whole[:begin], library.whole[end:]):
         raise Refused("the archives differ outside of their object")
-    other = other[library.begin : library.end]
+    other = other[begin:end]
     differences = sum(a != b for a, b in zip(library.object, other))
     plain = [changed(checked, library, other) for checked in library.shared]
     if sum(map(len, plain)) != differences:
@@ -161,7 +167,7 @@ def main() -> int:
             count = check(library, second.read_bytes())
         else:
             loads, plain = compare(library, second.read_text())
-            print(f"stores: {loads} loads of shared words, {plain} plain stores: in each function as many as in the compiler's module")
+            print(f"stores: {loads} loads of shared words, {plain} plain stores, in each function as in the compiler's module")
             return 0
     except Refused as why:
         print(f"stores: refused: {why}", file=sys.stderr)

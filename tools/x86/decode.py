@@ -33,6 +33,10 @@ class Operand:
     memory: Memory | None = None
     number: int = 0
 
+    @property
+    def is_number(self) -> bool:
+        return not self.register and not self.memory
+
 
 @dataclasses.dataclass(frozen=True)
 class Instruction:
@@ -100,7 +104,8 @@ def register(number: int) -> str | None:
 def operand(found) -> Operand:
     if found.type == X86_OP_MEM:
         memory = found.mem
-        return Operand(found.size, memory=Memory(register(memory.base), register(memory.index), memory.scale, memory.disp, bool(memory.segment)))
+        base, index = register(memory.base), register(memory.index)
+        return Operand(found.size, memory=Memory(base, index, memory.scale, memory.disp, bool(memory.segment)))
     if found.type == X86_OP_IMM:
         return Operand(found.size, number=found.imm)
     return Operand(found.size, register=register(found.reg))
@@ -110,8 +115,8 @@ def instruction(found) -> Instruction:
     *prefix, name = found.mnemonic.split()
     reads, writes = ({register(number) for number in numbers} for numbers in found.regs_access())
     operands = tuple(operand(each) for each in found.operands)
-    text = f"{found.mnemonic} {found.op_str}"
-    return Instruction(found.address, bytes(found.bytes), " ".join(prefix), name, text, operands, frozenset(reads), frozenset(writes))
+    text, code = f"{found.mnemonic} {found.op_str}", bytes(found.bytes)
+    return Instruction(found.address, code, " ".join(prefix), name, text, operands, frozenset(reads), frozenset(writes))
 
 
 def decode(name: str, code: bytes) -> list:

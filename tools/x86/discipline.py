@@ -14,7 +14,9 @@ from x86.objects import Refused
 TABLES = {"vahepito_": "rdi[0][0][8]", "cc_queue::turns::": "rdi[0][8]"}
 # These aren't looked at: all of their bytes are the same in both archives. They open queues and drop handles; no function that
 # is looked at calls one.
-UNCHANGED = re.compile(r"vahepito_(open\w*|drop|sizes|version)$|cc_binding::vahepito_open\w*$|cc_handles::|cc_steps::layout::|std_alloc::|core::")
+UNCHANGED = re.compile(
+    r"vahepito_(open\w*|drop|sizes|version)$|cc_binding::vahepito_open\w*$|cc_handles::|cc_steps::layout::|std_alloc::|core::"
+)
 TURNS = "cc_queue::turns::"
 KEPT_BY_A_RETURN = {"rax", "rdx", "rbx", "rbp", "rsp", "r12", "r13", "r14", "r15"}
 

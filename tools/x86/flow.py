@@ -30,7 +30,7 @@ WRITES_NO_REGISTER = {"cmp", "test", "bt", "nop", "ud2", "pause", "mfence"}
 
 @dataclasses.dataclass(frozen=True)
 class State:
-    """What registers and the slots of the stack hold; the slots by their distance from where `rsp` was at the entry, as `height`."""
+    """What registers and the slots of the stack hold: slots by their distance from `rsp` at the entry, as `height`."""
 
     registers: dict
     slots: dict
@@ -170,7 +170,7 @@ class Function:
             return self.value(state, i, operands[1])
         if i.name in MAKES_NUMBERS or (i.name in ("pextrd", "movd") and operands[0].size == 4):
             return NUMBER
-        if i.name in ("add", "sub") and operands[0].register and not operands[1].register and not operands[1].memory and not self.reference(i):
+        if i.name in ("add", "sub") and operands[0].register and operands[1].is_number and not self.reference(i):
             return moved(state.register(operands[0].register), operands[1].number if i.name == "add" else -operands[1].number)
         if i.name in SUMS | {"inc", "dec"}:
             return moved(frozenset().union(*(self.value(state, i, each) for each in operands)), None)
@@ -223,7 +223,7 @@ class Function:
         if i.name == "pop" and first.register and first.register != "rsp" and first.size == 8:
             value = state.slots.get(state.height, UNKNOWN)
             return State(state.registers | {first.register: value}, state.slots, state.height + 8)
-        if i.name in ("add", "sub") and first.register == "rsp" and not others[0].register and not others[0].memory:
+        if i.name in ("add", "sub") and first.register == "rsp" and others[0].is_number:
             return dataclasses.replace(state, height=state.height + (others[0].number if i.name == "add" else -others[0].number))
         raise Refused(f"{self.where(i)}: does not know what {i.text} does to the stack")
 

@@ -11,7 +11,9 @@ from x86.objects import Refused
 
 LOAD, STORE = "load atomic", "store atomic"
 LOOKS = {LOAD, "call", "ret"}
-OPERATION = re.compile(r"\s+(?:%\S+ = )?(?:(?:tail|musttail|notail) )?(load atomic|store atomic|atomicrmw|cmpxchg|fence|call|ret)\b")
+OPERATION = re.compile(
+    r"\s+(?:%\S+ = )?(?:(?:tail|musttail|notail) )?(load atomic|store atomic|atomicrmw|cmpxchg|fence|call|ret)\b"
+)
 # A barrier for the compiler alone, and what LLVM calls by a name of its own, which is no call of a function here.
 NO_CALL = re.compile(r'asm sideeffect "", "~\{memory\}"\(\)|@llvm\.')
 UNKNOWN = re.compile(r"\s+(?:%\S+ = )?(?:invoke|callbr|indirectbr|resume)\b")

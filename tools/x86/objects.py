@@ -96,7 +96,8 @@ class Object:
         if len(tables) != 1:
             raise Refused("an object with one table of symbols is wanted")
         self.symbols = tables[0]
-        self.relocations = {section.info: self.read_relocations(section) for section in self.sections if section.kind == RELOCATIONS}
+        filling = [section for section in self.sections if section.kind == RELOCATIONS]
+        self.relocations = {section.info: self.read_relocations(section) for section in filling}
 
     def fields(self, form: str, at: int) -> tuple:
         return struct.unpack_from("<" + form, self.data, at)
@@ -152,7 +153,8 @@ class Object:
             entries = self.relocations.get(j, [])
             if table.flags & WRITABLE or table.name in tables:
                 raise Refused(f"{table.name}: is no table that stays as it is")
-            if any(r.section != k or r.kind != DISTANCE for r in entries) or {r.at for r in entries} != set(range(0, table.size, 4)):
+            is_whole = {r.at for r in entries} == set(range(0, table.size, 4))
+            if not is_whole or any(r.section != k or r.kind != DISTANCE for r in entries):
                 raise Refused(f"{table.name}: holds more than a jump table")
             tables[table.name] = [r.value + r.addend - r.at for r in entries]
         return tables
