@@ -1,7 +1,8 @@
 #!/bin/bash
 # Tests what stands over the proved static library, with the archives in bindings/rust/lib: the programs in bindings/c by make,
 # the crate in bindings/rust by cargo, also with the feature `unproved`, and a copy of its folder and its package in folders of
-# their own; the first two again under valgrind and the sanitizers. It needs no rt, writes into a folder of its own, and fetches
+# their own; the first two again under valgrind and the sanitizers. All but the package and the copy is done over the relaxed
+# archive, which is linked if nothing is said, and what threads do again over the strict one. It needs no rt, writes into a folder of its own, and fetches
 # nothing.
 #
 # Usage: tools/test_bindings.sh [--quick]
@@ -21,8 +22,12 @@ unset VAHEPITO_LIB VAHEPITO_HEAP
 
 if ! has make || ! has cc; then
     skip 'the programs in C' 'make or cc is not on this machine'
-elif ! make -k -s -C bindings/c "$([ -n "$quick" ] && echo check || echo check-all)" OUT="$room/c" </dev/null; then
-    failed=$((failed + 1))
+else
+    make -k -s -C bindings/c "$([ -n "$quick" ] && echo check || echo check-all)" OUT="$room/c" </dev/null || failed=$((failed + 1))
+    strict=(check)
+    [ -n "$quick" ] || strict+=(check-valgrind check-address check-thread check-boxes-gcc check-boxes-clang)
+    echo "$tests: C: the same over the strict archive"
+    make -k -s -C bindings/c "${strict[@]}" STRICT=yes OUT="$room/strict" </dev/null || failed=$((failed + 1))
 fi
 
 cd bindings/rust || exit 1
@@ -37,6 +42,7 @@ fi
 # Without valgrind and the rest no lines are needed, and a twentieth of the rounds of the long tests is made.
 [ -z "$quick" ] || export VAHEPITO_ROUNDS=5 CARGO_PROFILE_DEV_DEBUG=none
 limit=600 step 'Rust: tests' cargo "${options[@]}" test
+limit=600 step 'Rust: tests with the feature strict' cargo "${options[@]}" test --tests --features strict
 limit=600 step 'Rust: tests with the feature unproved' env VAHEPITO_ROUNDS=5 cargo "${options[@]}" test --features unproved
 step 'Rust: the feature unproved is warned of' bash -c "cargo check --locked --offline --features unproved 2>&1 | grep 'warning: .* nothing is proved'"
 step 'Rust: the thread pool' bash -c "prints '9592 primes below 100000' cargo ${options[*]} run --example thread_pool"
@@ -71,20 +77,26 @@ host=$(rustc -vV | sed -n 's/^host: //p')
 if has valgrind; then
     lost='definite,indirect'
     valgrind="valgrind -q --fair-sched=yes --error-exitcode=99 --leak-check=full --show-leak-kinds=$lost --errors-for-leak-kinds=$lost"
-    limit=600 step 'Rust: under valgrind' env "CARGO_TARGET_$(tr 'a-z-' 'A-Z_' <<<"$host")_RUNNER=$valgrind" VAHEPITO_ROUNDS=2 \
-        cargo "${options[@]}" test --tests -- "${fewer[@]}"
+    for strict in '' strict; do
+        limit=600 step "Rust: under valgrind${strict:+, strict}" env "CARGO_TARGET_$(tr 'a-z-' 'A-Z_' <<<"$host")_RUNNER=$valgrind" \
+            VAHEPITO_ROUNDS=2 cargo "${options[@]}" test --features "$strict" --tests -- "${fewer[@]}"
+    done
 else
     skip 'Rust: under valgrind' 'valgrind is not on this machine'
 fi
 if cargo +nightly --version >/dev/null 2>&1; then
-    limit=600 step 'Rust: sanitizer address' env RUSTFLAGS=-Zsanitizer=address VAHEPITO_ROUNDS=5 cargo +nightly "${options[@]}" test \
-        --target "$host" --tests -- "${fewer[@]}"
+    for strict in '' strict; do
+        limit=600 step "Rust: sanitizer address${strict:+, strict}" env RUSTFLAGS=-Zsanitizer=address VAHEPITO_ROUNDS=5 \
+            cargo +nightly "${options[@]}" test --features "$strict" --target "$host" --tests -- "${fewer[@]}"
+    done
     # Its std isn't built for this sanitizer, which so reports the test runner's own channel.
     thread='-Zsanitizer=thread -Cunsafe-allow-abi-mismatch=sanitizer --cfg vahepito_tsan'
     echo 'race:std::sync::mpmc::list::Channel<test::event::CompletedTest>' >"$room/of_the_runner"
     if echo 'fn main() {}' | rustc +nightly $thread -o "$room/probe" - 2>/dev/null && "$room/probe" 2>/dev/null; then
-        step 'Rust: sanitizer thread' env RUSTFLAGS="$thread" TSAN_OPTIONS="suppressions=$room/of_the_runner" \
-            cargo +nightly "${options[@]}" test --target "$host" --test hand_over -- --test-threads=1
+        for strict in '' strict; do
+            step "Rust: sanitizer thread${strict:+, strict}" env RUSTFLAGS="$thread" TSAN_OPTIONS="suppressions=$room/of_the_runner" \
+                cargo +nightly "${options[@]}" test --features "$strict" --target "$host" --test hand_over -- --test-threads=1
+        done
     else
         skip 'Rust: sanitizer thread' 'the nightly compiler has none that runs here'
     fi

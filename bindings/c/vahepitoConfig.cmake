@@ -1,4 +1,5 @@
-# Gives the target vahepito::vahepito: headers and archives of the folder in which this file lies, wherever that is.
+# Gives the target vahepito::vahepito: headers and archives of the folder in which this file lies, wherever that is. The target
+# vahepito::strict has the library with no plain store in its place, as it was proved and built.
 if(NOT CMAKE_SYSTEM_NAME STREQUAL "Linux" OR NOT CMAKE_SYSTEM_PROCESSOR MATCHES "^(x86_64|AMD64)$" OR NOT CMAKE_SIZEOF_VOID_P EQUAL 8)
   set(vahepito_FOUND FALSE)
   set(vahepito_NOT_FOUND_MESSAGE "its archives are for Linux on x86_64 with 64 bits")
@@ -12,9 +13,11 @@ if(NOT TARGET vahepito::vahepito)
     IMPORTED_LINK_INTERFACE_LANGUAGES C
     IMPORTED_LOCATION "${vahepito_prefix}/lib/libvahepito_heap.a")
   add_library(vahepito::vahepito STATIC IMPORTED)
-  set_target_properties(vahepito::vahepito PROPERTIES
+  add_library(vahepito::strict STATIC IMPORTED)
+  set_target_properties(vahepito::vahepito PROPERTIES IMPORTED_LOCATION "${vahepito_prefix}/lib/libvahepito.a")
+  set_target_properties(vahepito::strict PROPERTIES IMPORTED_LOCATION "${vahepito_prefix}/lib/libvahepito_strict.a")
+  set_target_properties(vahepito::vahepito vahepito::strict PROPERTIES
     IMPORTED_LINK_INTERFACE_LANGUAGES C
-    IMPORTED_LOCATION "${vahepito_prefix}/lib/libvahepito.a"
     INTERFACE_INCLUDE_DIRECTORIES "${vahepito_prefix}/include"
     INTERFACE_LINK_LIBRARIES vahepito::heap)
 endif()

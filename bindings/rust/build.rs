@@ -1,8 +1,8 @@
 //! Links the proved library, and behind it the functions by which it takes memory (they call `malloc`,
 //! `realloc` and `free`).
 //!
-//! Both archives lie in `lib/TARGET/`, with `PROOF`, which has their sums and the line by which they were proved.
-//! `VAHEPITO_LIB` names another library, and `VAHEPITO_HEAP` other functions for memory. A line of
+//! The archives lie in `lib/TARGET/`, with `PROOF`, which has their sums and the line by which they were proved.
+//! With the feature `strict` the library is the one with no plain store, as it was proved and built. `VAHEPITO_LIB` names another library, and `VAHEPITO_HEAP` other functions for memory. A line of
 //! `cargo build -vv` says which archives are linked. With the feature `unproved` none is.
 use std::env;
 use std::path::{Path, PathBuf};
@@ -100,7 +100,12 @@ fn main() {
     }
     let library = named("VAHEPITO_LIB").unwrap_or_else(|| {
         check_processor();
-        archive("libvahepito.a")
+        let is_strict = env::var_os("CARGO_FEATURE_STRICT").is_some();
+        archive(if is_strict {
+            "libvahepito_strict.a"
+        } else {
+            "libvahepito.a"
+        })
     });
     link(&library);
     link(&named("VAHEPITO_HEAP").unwrap_or_else(|| archive("libvahepito_heap.a")));

@@ -17,9 +17,10 @@
 //! again while it stands in line keeps its place, and may look once more.
 //!
 //! **What is used of the queue.** A try that begins after *make* was answered finds what it made,
-//! unless another try took it first: all steps of the queue are sequentially consistent, and each step
-//! sees the longest run there is. So are the accesses to `waiting`; all of them, and the queue's steps,
-//! stand in one order that every thread agrees on.
+//! unless another try took it first: the steps of the queue are those of one run, each step sees the
+//! longest run there is, and when a call returns none of its stores is pending. The accesses to `waiting`
+//! are sequentially consistent; all of them, and the queue's steps, stand in one order that every thread
+//! agrees on.
 //!
 //! **The claim.** When nobody makes a step any more, there isn't at once a waiter in line and something
 //! for its try to take.

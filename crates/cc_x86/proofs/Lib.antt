@@ -1,0 +1,4 @@
+mod Buffers
+mod Litmus
+mod Threads
+mod InTime

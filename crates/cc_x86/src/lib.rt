@@ -1,0 +1,16 @@
+//! The queue's machine on a processor with store buffers: x86-TSO (Sewell, Sarkar, Owens, Zappa Nardelli and Myreen, CACM 2010).
+//!
+//! There a store by a plain move waits in its thread's buffer, which that thread alone reads, and a locked instruction first
+//! lets the buffer drain. If the operation after each plain store is a store or a locked instruction, and neither a load of a
+//! shared word nor a return, then nothing that a thread reads or returns shows that there are store buffers. The laws here say
+//! so of any threads, and of the passes of the queue.
+#![tactic(auto)]
+
+mod laws;
+mod litmus_laws;
+
+pub use laws::{
+    buffers_are_not_seen, histories_are_legal_on_x86, most_are_fenced,
+    runs_are_linearizable_on_x86, runs_are_those_of_atomic_steps,
+};
+pub use litmus_laws::{message_passing, store_buffering};

@@ -1,0 +1,188 @@
+"""The discipline of plain stores, on machine code: what cc_x86 calls `IsFenced`.
+
+A locked exchange whose finding nobody uses may become a plain store if on each path from it a locked instruction comes before
+any look: a load that may be of a shared word, a call, a return, or anything that isn't understood.
+"""
+import re
+
+from x86.decode import Instruction
+from x86.flow import ARGUMENTS, LOST_BY_A_CALL, NUMBER, Function, paths
+from x86.objects import Refused
+
+# What is told, and not found: by which path a function of each kind reaches the words of the table. Before it come the handle and
+# the description of the queue, which stay as they are while threads run. `rdi[0][8]` is what [[rdi]+8] holds.
+TABLES = {"vahepito_": "rdi[0][0][8]", "cc_queue::turns::": "rdi[0][8]"}
+# These aren't looked at: all of their bytes are the same in both archives. They open queues and drop handles; no function that
+# is looked at calls one.
+UNCHANGED = re.compile(
+    r"vahepito_(open\w*|drop|sizes|version)$|cc_binding::vahepito_open\w*$|cc_handles::|cc_steps::layout::|std_alloc::|core::"
+)
+TURNS = "cc_queue::turns::"
+KEPT_BY_A_RETURN = {"rax", "rdx", "rbx", "rbp", "rsp", "r12", "r13", "r14", "r15"}
+
+
+def is_shared(name: str) -> bool:
+    """Whether this function does the steps of calls, so that it is looked at."""
+    return not UNCHANGED.match(name)
+
+
+def table_of(name: str) -> str | None:
+    return next((path for front, path in TABLES.items() if name.startswith(front)), None)
+
+
+class Checked:
+    """A function that is looked at. `others` are all of the object, by their names."""
+
+    def __init__(self, function: Function, others: dict):
+        self.function, self.others = function, others
+        self.table = table_of(function.name)
+        if self.table is None:
+            raise Refused(f"{function.name}: nothing is known of its arguments")
+        function.follow()
+        steps = [k for k, letter in enumerate(self.table) if letter == "["]
+        # What no other thread writes meanwhile: what arguments point to, and what is on the way to the table.
+        self.own = set(ARGUMENTS) | {self.table[:k] for k in steps}
+        self.description = self.table[: steps[-1]]
+        self.check_pointers()
+
+    def reached(self) -> list:
+        """Each instruction that may run, with what is known before it."""
+        return [(self.function.instructions[k], state) for k, state in sorted(self.function.before.items())]
+
+    # ---- pointers
+
+    def check_pointers(self) -> None:
+        """Only locked instructions write to the table, and they write to nothing else; no pointer to it goes where it is lost
+        sight of; and each call passes the seat on."""
+        for i, state in self.reached():
+            here = self.function.where(i)
+            if i.name == "call":
+                self.check_call(here, i, state)
+            if i.operands and (i.operands[0].register or "").startswith(("xmm", "ymm")):
+                if any(self.points(state.register(each.register)) for each in i.operands[1:] if each.register in state.registers):
+                    raise Refused(f"{here}: a pointer in {i.text}")
+            if i.memory is None or i.memory.base == "rsp" or i.name in ("lea", "nop"):
+                continue
+            to = paths(self.function.address(state, i.memory))
+            if i.is_locked and to != {self.table}:
+                raise Refused(f"{here}: a locked instruction outside of the table, by {sorted(to)}")
+            if i.stores and not i.is_locked:
+                self.check_store(here, i, state, to)
+
+    def points(self, value: frozenset) -> bool:
+        """Whether it may be a pointer to the table or to the queue's description."""
+        return bool(paths(value) & {self.table, self.description})
+
+    def check_store(self, here: str, i: Instruction, state, to: set) -> None:
+        if not to or not to <= self.own - {self.description}:
+            raise Refused(f"{here}: a plain store by {sorted(to)}")
+        if any(self.points(state.register(each.register)) for each in i.operands[1:] if each.register):
+            raise Refused(f"{here}: stores a pointer to the table")
+
+    def check_call(self, here: str, i: Instruction, state) -> None:
+        reference = self.function.reference(i)
+        if reference is None or not reference.is_exact or not reference.name.startswith(TURNS):
+            raise Refused(f"{here}: calls {reference.name if reference else i.text}")
+        if state.register("rdi") != {("rdi[0]", 0)} or paths(state.register("rsi")) != {"rdi[0]"}:
+            raise Refused(f"{here}: passes {state.register('rdi')}, {state.register('rsi')}")
+
+    # ---- looks
+
+    def look(self, k: int) -> str | None:
+        """Why this load may be of a shared word; None if it isn't."""
+        i, state = self.function.instructions[k], self.function.before[k]
+        if not i.loads or i.memory.base == "rsp":
+            return None
+        reference = self.function.reference(i)
+        if i.memory.base == "rip" and reference is not None and reference.is_fixed:
+            return None
+        to = paths(self.function.address(state, i.memory))
+        if to and (to <= self.own or to == {"stack"} or all(path.startswith("table ") for path in to)):
+            return None
+        return f"a load by {sorted(to)} that may be shared"
+
+    def shared_loads(self) -> list:
+        """The addresses of the loads that may be of shared words."""
+        loads = [k for k in sorted(self.function.before) if not self.function.instructions[k].is_locked and self.look(k)]
+        return [self.function.instructions[k].address for k in loads]
+
+    # ---- plain stores
+
+    def exchanges(self) -> list:
+        """The numbers of the locked exchanges."""
+        return [k for k, i in enumerate(self.function.instructions) if i.name == "xchg" and i.memory]
+
+    def check_plain(self, k: int, relaxed: set) -> None:
+        """Refuses this plain store, beside those at the other addresses of `relaxed`, unless it shows no difference."""
+        function = self.function
+        i = function.instructions[k]
+        here = function.where(i)
+        place, source = i.operands
+        if not place.memory or not source.register or place.size != 8:
+            raise Refused(f"{here}: no store of a word")
+        if k not in function.before:
+            raise Refused(f"{here}: is never reached")
+        if paths(function.address(function.before[k], place.memory)) != {self.table}:
+            raise Refused(f"{here}: no word of the table")
+        if not is_dead(function, k, source.register, self.others):
+            raise Refused(f"{here}: what it found in {source.register} is used")
+        self.check_fence(k, relaxed)
+
+    def check_fence(self, k: int, relaxed: set) -> None:
+        """On each path from it a locked instruction comes before any look."""
+        function = self.function
+        here = function.where(function.instructions[k])
+        seen, todo = set(), [k]
+        while todo:
+            j = todo.pop()
+            then = function.successors(j)
+            if then is None:
+                raise Refused(f"{here}: the function is left at {function.instructions[j].address:x} before a locked instruction")
+            for n in set(then) - seen:
+                seen.add(n)
+                next_one = function.instructions[n]
+                is_plain = next_one.address in relaxed
+                if next_one.is_locked and not is_plain:
+                    continue
+                if next_one.name in ("call", "ret"):
+                    raise Refused(f"{here}: {next_one.name} at {next_one.address:x} comes before a locked instruction")
+                why = None if is_plain else self.look(n)
+                if why:
+                    raise Refused(f"{here}: {why}, at {next_one.address:x}, comes before a locked instruction")
+                todo.append(n)
+
+
+def is_dead(function: Function, k: int, register: str, others: dict) -> bool:
+    """Whether on each path behind an instruction (-1: the entry) the register is written before it is read."""
+    seen, todo = set(), [0] if k < 0 else list(function.successors(k) or [])
+    while todo:
+        j = todo.pop()
+        if j in seen:
+            continue
+        seen.add(j)
+        i = function.instructions[j]
+        if i.name == "call":
+            reference = function.reference(i)
+            callee = others.get(reference.name) if reference is not None and reference.is_exact else None
+            if callee is None or register not in LOST_BY_A_CALL or not is_dead(callee, -1, register, others):
+                return False
+            continue
+        then = function.successors(j)
+        if i.name == "ret":
+            if register in KEPT_BY_A_RETURN:
+                return False
+            continue
+        if then is None or uses(i, register):
+            return False
+        if register not in i.writes:
+            todo += then
+    return True
+
+
+def uses(i: Instruction, register: str) -> bool:
+    """Whether it reads the register, or writes a part of it alone."""
+    operands = i.operands
+    if i.name == "xor" and operands[0].register and operands[0].register == operands[1].register and operands[0].size >= 4:
+        return False
+    is_whole = any(each.register == register and each.size >= 4 for each in operands[:1]) and not i.name.startswith("cmov")
+    return register in i.reads or (register in i.writes and not is_whole and i.name not in ("mul", "div", "pop"))

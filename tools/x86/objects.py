@@ -1,0 +1,169 @@
+"""Reads an x86-64 ELF object, or the one object of an archive: each function with its bytes, and what the linker will put there.
+
+The compiler gives each function a section of its own, `.text.NAME`, and a function's jump tables the section `.rodata.NAME`.
+What isn't laid out so is refused, as is a reference into the middle of a function.
+"""
+import dataclasses
+import struct
+
+PROGBITS, SYMBOLS, RELOCATIONS = 1, 2, 4
+WRITABLE, CODE = 1, 4
+# How the linker fills a field: with the distance to a place, or to a function's entry.
+DISTANCE, CALL = 2, 4
+
+
+class Refused(Exception):
+    """Why a change of the machine code isn't known to be a right one."""
+
+
+@dataclasses.dataclass(frozen=True)
+class Section:
+    name: str
+    kind: int
+    flags: int
+    start: int
+    size: int
+    link: int
+    info: int
+
+    @property
+    def is_code(self) -> bool:
+        return self.kind == PROGBITS and bool(self.flags & CODE) and self.size > 0
+
+
+@dataclasses.dataclass(frozen=True)
+class Relocation:
+    """A field that the linker fills: `section` and `value` say where its symbol is, and `addend` how far from there."""
+
+    at: int
+    kind: int
+    name: str
+    section: int
+    value: int
+    addend: int
+
+
+@dataclasses.dataclass(frozen=True)
+class Reference:
+    """What a field of an instruction refers to. It is exact if the field leads to the beginning, and fixed if constants are
+    there that nothing writes."""
+
+    name: str
+    is_exact: bool
+    is_fixed: bool
+
+
+@dataclasses.dataclass(frozen=True)
+class Code:
+    """A function: its bytes from `start` of the object on, the references by their place, and the targets of its jump tables by
+    the table's name."""
+
+    name: str
+    start: int
+    bytes: bytes
+    references: dict
+    tables: dict
+
+
+def object_in(data: bytes) -> tuple:
+    """From where to where the one object of an archive is; or the whole, if it is an object."""
+    if not data.startswith(b"!<arch>\n"):
+        return 0, len(data)
+    at, found = 8, []
+    while at < len(data):
+        start, size = at + 60, int(data[at + 48 : at + 58])
+        if data[start : start + 4] == b"\x7fELF":
+            found.append((start, start + size))
+        at = start + size + size % 2
+    if len(found) != 1:
+        raise Refused("an archive of one object is wanted")
+    return found[0]
+
+
+class Object:
+    """The sections of an object, and the relocations of each."""
+
+    def __init__(self, data: bytes):
+        self.data = data
+        if data[:6] != b"\x7fELF\x02\x01" or self.fields("H", 18) != (62,):
+            raise Refused("this is no x86-64 object")
+        (where,) = self.fields("Q", 0x28)
+        size, count, names = self.fields("HHH", 0x3A)
+        heads = [self.fields("IIQQQQII", where + size * k) for k in range(count)]
+        text = heads[names][4]
+        self.sections = [Section(self.text(text + n), k, f, at, s, link, info) for n, k, f, _, at, s, link, info in heads]
+        tables = [section for section in self.sections if section.kind == SYMBOLS]
+        if len(tables) != 1:
+            raise Refused("an object with one table of symbols is wanted")
+        self.symbols = tables[0]
+        filling = [section for section in self.sections if section.kind == RELOCATIONS]
+        self.relocations = {section.info: self.read_relocations(section) for section in filling}
+
+    def fields(self, form: str, at: int) -> tuple:
+        return struct.unpack_from("<" + form, self.data, at)
+
+    def text(self, at: int) -> str:
+        return self.data[at : self.data.index(b"\0", at)].decode()
+
+    def read_relocations(self, section: Section) -> list:
+        found = []
+        for at in range(section.start, section.start + section.size, 24):
+            offset, info, addend = self.fields("QQq", at)
+            name, flags, _, where, value, _ = self.fields("IBBHQQ", self.symbols.start + 24 * (info >> 32))
+            is_section = flags & 15 == 3
+            text = self.sections[where].name if is_section else self.text(self.sections[self.symbols.link].start + name)
+            found.append(Relocation(offset, info & 0xFFFFFFFF, text.removeprefix(".text."), where, value, addend))
+        return found
+
+    def holds(self, relocation: Relocation) -> Section | None:
+        """The section in which the symbol is, if this object has it."""
+        return self.sections[relocation.section] if 0 < relocation.section < len(self.sections) else None
+
+    def functions(self) -> list:
+        self.check_entries()
+        return [self.function(k) for k, section in enumerate(self.sections) if section.is_code]
+
+    def check_entries(self) -> None:
+        """Outside of code and of jump tables, what refers to a function names its beginning, as the tables of unwinding do."""
+        tables = {".rodata." + section.name[6:] for section in self.sections if section.is_code}
+        for k, relocations in self.relocations.items():
+            section = self.sections[k]
+            if section.is_code or section.name.startswith(".debug") or section.name in tables:
+                continue
+            for relocation in relocations:
+                held = self.holds(relocation)
+                if held and held.is_code and relocation.addend + relocation.value:
+                    raise Refused(f"{section.name}+{relocation.at:x}: refers into {relocation.name}")
+
+    def function(self, k: int) -> Code:
+        section = self.sections[k]
+        if not section.name.startswith(".text."):
+            raise Refused(f"{section.name}: is no function's section")
+        tables = self.tables_of(k)
+        references = {r.at: self.reference(section, r, tables) for r in self.relocations.get(k, [])}
+        code = self.data[section.start : section.start + section.size]
+        return Code(section.name[6:].removeprefix("unlikely."), section.start, code, references, tables)
+
+    def tables_of(self, k: int) -> dict:
+        """The jump tables of a function: each entry is how far a target is from the table's beginning."""
+        tables = {}
+        for j, table in enumerate(self.sections):
+            if table.name != ".rodata." + self.sections[k].name[6:]:
+                continue
+            entries = self.relocations.get(j, [])
+            if table.flags & WRITABLE or table.name in tables:
+                raise Refused(f"{table.name}: is no table that stays as it is")
+            is_whole = {r.at for r in entries} == set(range(0, table.size, 4))
+            if not is_whole or any(r.section != k or r.kind != DISTANCE for r in entries):
+                raise Refused(f"{table.name}: holds more than a jump table")
+            tables[table.name] = [r.value + r.addend - r.at for r in entries]
+        return tables
+
+    def reference(self, section: Section, relocation: Relocation, tables: dict) -> Reference:
+        held = self.holds(relocation)
+        is_exact = relocation.kind in (DISTANCE, CALL) and relocation.addend + relocation.value == -4
+        if held and held.is_code and not is_exact:
+            raise Refused(f"{section.name}+{relocation.at:x}: refers into {relocation.name}")
+        is_constant = held is not None and held.kind == PROGBITS and not held.flags & (WRITABLE | CODE)
+        is_fixed = is_constant and relocation.kind == DISTANCE and relocation.name not in tables
+        return Reference(relocation.name, is_exact, is_fixed)
