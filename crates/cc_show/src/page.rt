@@ -81,7 +81,7 @@ kbd { border: 1px solid var(--edge); border-radius: 4px; padding: 0 4px; font: 1
   #event { min-height: 1.45em; }
   #stage { grid-template-columns: minmax(0, 1fr) 436px; grid-template-rows: auto auto auto auto 1fr; }
   #stage > * { grid-column: 1; } #player { grid-column: 1 / -1; }
-  #code { grid-column: 2; grid-row: 2 / span 5; align-self: start; position: sticky; top: calc(var(--bar) + 8px); max-height: calc(100vh - var(--bar) - 16px); overflow: auto; }
+  #code { grid-column: 2; grid-row: 2 / span 5; align-self: start; position: sticky; top: calc(var(--bar) + 8px); max-height: calc(100vh - var(--bar) - 34px); overflow: auto; }
 }
 .top { display: flex; flex-wrap: wrap; gap: 2px 16px; align-items: center; justify-content: space-between; }
 #body { width: 10.5em; }
@@ -140,6 +140,7 @@ td, th { padding: 0 10px 0 0; border: 0; vertical-align: top; white-space: nowra
 .program li span:last-child { color: var(--dim); }
 .program li.lit { background: var(--touch); border-left-color: var(--touch-line); font-weight: 700; } .program li.lit span:last-child { color: var(--ink); }
 .program li.changed { border-left-color: var(--mark); background: var(--was); } .program li.changed.lit { background: var(--touch); }
+#code-head { position: sticky; top: -8px; margin-top: -8px; padding-top: 8px; background: var(--card); }
 #holds { border-bottom: 1px solid var(--line); padding-bottom: 3px; min-height: 7.4em; } #program h3:first-child { margin-top: 5px; }
 .change { font-size: 12.5px; white-space: pre-wrap; overflow-wrap: anywhere; margin: 2px 0; padding: 2px 6px; border-radius: 4px; display: block; text-decoration: none; }
 del.change { background: var(--was); } ins.change { background: var(--is); }
@@ -169,7 +170,7 @@ body.bare header, body.bare #intro, body.bare #choose, body.bare footer { displa
   * { print-color-adjust: exact; -webkit-print-color-adjust: exact; }
   body { font-size: 11pt; }
   nav, #choose, footer, .skip, #player .row, #add, #moments, #lesson .row, .more, #texts, #tip { display: none !important; }
-  #player, #code { position: static; box-shadow: none; max-height: none; overflow: visible; }
+  #player, #code, #code-head { position: static; box-shadow: none; max-height: none; overflow: visible; }
   #lanes, .list, .strip { max-height: none; overflow: visible; }
   .card { break-inside: avoid; }
   #stage { display: block; }
@@ -289,8 +290,7 @@ body.bare header, body.bare #intro, body.bare #choose, body.bare footer { displa
 <p class=\"legend\" id=\"legend\"></p>
 </section>
 <section class=\"card\" id=\"code\" tabindex=\"0\" aria-labelledby=\"code-title\">
-<h2 id=\"code-title\">The program, and the line of this step</h2>
-<div id=\"holds\"></div>
+<div id=\"code-head\"><h2 id=\"code-title\">The program, and the line of this step</h2><div id=\"holds\"></div></div>
 <div id=\"program\"></div>
 </section>
 <section class=\"card\" aria-labelledby=\"list-title\">
@@ -325,16 +325,6 @@ first and the last event, <kbd>Page up</kbd> and <kbd>Page down</kbd> to decisio
 <details><summary>What a step of each kind does</summary><dl id=\"kinds\"></dl></details>
 </footer>
 <div id=\"tip\" role=\"tooltip\" hidden></div>
-<script type=\"text/plain\" id=\"run\">";
-
-/// The text between the run and the report.
-pub const MIDDLE: &[u8] = b"\
-</script>
-<script type=\"text/plain\" id=\"report\">";
-
-/// The text after the report.
-pub const BACK: &[u8] = b"\
-</script>
 <script type=\"application/json\" id=\"lessons\">
 [
 {\"kind\":\"tour\",\"id\":\"lone\",\"title\":\"A lone send\",\"text\":\"One [[pass]], s1, sends the item 7 and no other pass moves. It swaps its [[node]] into the [[tail]] of the send [[chain]], finds that no pass combines, and serves its own call.\",\"plan\":{\"capacity\":2,\"bound\":2,\"life\":10,\"senders\":[[7]],\"receivers\":[1],\"schedule\":[[\"s1\",28]]},\"moments\":[[3,\"Exchange\",\"s1 swaps its own node into the tail and gets node 0. With this step the call enters the [[history]]: its place among all sends is fixed.\"],[6,\"Link\",\"The request is written, and s1 links its node to the one that it put into the tail. Only now can a [[combiner]] serve the request.\"],[7,\"ReadState\",\"State 0: s1 is the combiner. State 1 would mean wait, and state 2 done.\"],[20,\"LinkLast\",\"The list node with the item 7 is linked to the last node. This step is the [[decision]]: accepted 0.\"],[27,\"HandOver\",\"No further request is linked. s1 stores 0 into the state of the node in the tail: the call that gets this node combines next.\"],[28,\"ReadAnswer\",\"s1 reads its answer, and its call returns.\"]]},
@@ -342,7 +332,7 @@ pub const BACK: &[u8] = b"\
 {\"kind\":\"tour\",\"id\":\"bound\",\"title\":\"The hand-over at the bound\",\"text\":\"The [[bound]] is 2: a [[combiner]] serves at most two calls in one [[turn]]. s1 serves s1 and s2, and hands over to s3, so that no pass serves others for ever.\",\"plan\":{\"capacity\":4,\"bound\":2,\"life\":10,\"senders\":[[1],[2],[3]],\"receivers\":[0],\"schedule\":[[\"s1\",6],[\"s2\",6],[\"s3\",8],[\"s1\",39],[\"s3\",22],[\"s2\",2]]},\"moments\":[[57,\"MarkDone\",\"s1 has served two calls, as many as the bound.\"],[58,\"HandOver\",\"[[Hand-over]]: s1 stores 0 into the state of node 2, on which s3 waits.\"],[60,\"ReadState\",\"s3 reads 0, and is the combiner now. At no moment did two passes combine.\"],[73,\"LinkLast\",\"s3 serves its own call: accepted 2.\"]]},
 {\"kind\":\"tour\",\"id\":\"take\",\"title\":\"A take\",\"text\":\"The item 7 is in the list. r1 takes it: the receivers have a [[chain]] of their own, and the list begins with its [[dummy]], the node of the item that was taken last.\",\"plan\":{\"capacity\":2,\"bound\":2,\"life\":10,\"senders\":[[7]],\"receivers\":[1],\"schedule\":[[\"s1\",28],[\"r1\",23]]},\"moments\":[[35,\"ReadObject\",\"r1 combines on the take chain and reads the [[head]]: node 0 is the dummy.\"],[37,\"ReadDummyNext\",\"The next link of the dummy names node 1, so the list has an item.\"],[39,\"ReadItem\",\"r1 reads the word of the item, 7, while node 1 is still in the list.\"],[40,\"WriteObject\",\"The head moves to node 1, which is the dummy from now on.\"],[42,\"AddPassed\",\"r1 adds 1 to the [[passed]] count of node 0. This is the decision, got 0, and it frees node 0 for a later send.\"]]},
 {\"kind\":\"tour\",\"id\":\"empty\",\"title\":\"Empty, and a send in between\",\"text\":\"s1 has prepared a list node and stops one step before the link. A take that runs now returns Empty, and rightly: the send has not taken effect yet.\",\"plan\":{\"capacity\":2,\"bound\":2,\"life\":10,\"senders\":[[7]],\"receivers\":[2],\"schedule\":[[\"s1\",19],[\"r1\",14],[\"s1\",9],[\"r1\",23]]},\"moments\":[[19,\"ReadObject\",\"Node 1 holds the item 7, and no link leads to it.\"],[28,\"ReadDummyNext\",\"r1 reads null in the next link of the dummy. This load decides Empty.\"],[34,\"LinkLast\",\"s1 links node 1: accepted 0. The send takes effect after the take.\"],[56,\"AddPassed\",\"The second take gets the item.\"]]},
-{\"kind\":\"tour\",\"id\":\"full\",\"title\":\"Full, and when it takes effect\",\"text\":\"The [[capacity]] is 1, and the item 5 waits. The send of s2 scans all list nodes for a free one. During the scan r1 takes the item, and the send still returns Full: it takes effect when its scan begins.\",\"plan\":{\"capacity\":1,\"bound\":2,\"life\":10,\"senders\":[[5],[6]],\"receivers\":[1],\"schedule\":[[\"s1\",28],[\"s2\",14],[\"r1\",23],[\"s2\",6]]},\"moments\":[[41,\"ReadObject\",\"s2 reads the [[cursor]], at which its scan begins. Both list nodes are busy at this moment: Full takes effect here.\"],[42,\"ReadPassed\",\"Node 0 is the dummy, and no group has gone past it: it is busy.\"],[56,\"AddPassed\",\"r1 takes the item 5. Node 0 is free from now on, but s2 has read it already.\"],[66,\"ReadPassed\",\"Node 1 is the dummy now, and busy. The scan is over: this load decides Full.\"]],\"opens\":\"order\"},
+{\"kind\":\"tour\",\"id\":\"scan\",\"title\":\"Full, and when it takes effect\",\"text\":\"The [[capacity]] is 1, and the item 5 waits. The send of s2 scans all list nodes for a free one. During the scan r1 takes the item, and the send still returns Full: it takes effect when its scan begins.\",\"plan\":{\"capacity\":1,\"bound\":2,\"life\":10,\"senders\":[[5],[6]],\"receivers\":[1],\"schedule\":[[\"s1\",28],[\"s2\",14],[\"r1\",23],[\"s2\",6]]},\"moments\":[[41,\"ReadObject\",\"s2 reads the [[cursor]], at which its scan begins. Both list nodes are busy at this moment: Full takes effect here.\"],[42,\"ReadPassed\",\"Node 0 is the dummy, and no group has gone past it: it is busy.\"],[56,\"AddPassed\",\"r1 takes the item 5. Node 0 is free from now on, but s2 has read it already.\"],[66,\"ReadPassed\",\"Node 1 is the dummy now, and busy. The scan is over: this load decides Full.\"]],\"opens\":\"order\"},
 {\"kind\":\"tour\",\"id\":\"again\",\"title\":\"A node that is used again\",\"text\":\"The [[capacity]] is 1, so the list has two ordinary nodes. r1 takes the item 5, which frees node 0. The send of s2 uses node 0 again, and no item is lost.\",\"plan\":{\"capacity\":1,\"bound\":2,\"life\":10,\"senders\":[[5],[7]],\"receivers\":[2],\"schedule\":[[\"s1\",28],[\"r1\",23],[\"s2\",28],[\"r1\",23]]},\"moments\":[[42,\"AddPassed\",\"All groups have gone past node 0: it is free.\"],[65,\"ReadPassed\",\"The scan of s2 begins at the cursor and finds node 0 free.\"],[67,\"ResetListNode\",\"s2 clears the passed count and the next link of node 0. The node is out of the list, so no take can read it.\"],[71,\"LinkLast\",\"Node 0 is linked after node 1: accepted 1.\"],[93,\"AddPassed\",\"r1 takes the item 7 and frees node 1.\"]]},
 {\"kind\":\"tour\",\"id\":\"close\",\"title\":\"A close\",\"text\":\"s1 sends 5, closes the queue, and tries to send 6. The [[closing mark]] is a list node of its own, so a close is never Full. Receivers take what is left, and then get Ended.\",\"plan\":{\"capacity\":2,\"bound\":2,\"life\":10,\"senders\":[[5,\"close\",6]],\"receivers\":[2],\"schedule\":[[\"s1\",65],[\"r1\",38]]},\"moments\":[[42,\"LinkLast\",\"The closing mark is linked after the item 5. This step decides the close: shut 1.\"],[44,\"WriteObject\",\"s1 sets the shut word. A send that reads it returns Closed.\"],[60,\"ReadObject\",\"The send of 6 reads 1 and is decided: closed.\"],[79,\"AddPassed\",\"r1 takes the item 5, which was accepted before the close.\"],[98,\"ReadItem\",\"The node after the dummy has the tag 0: it is the mark. The take returns Ended, and so does each later one.\"]]},
 {\"kind\":\"tour\",\"id\":\"groups\",\"title\":\"Two groups\",\"text\":\"Two [[group]]s of receivers read one list: r1 is group 1, and r2 is group 2. Each group has its own [[head]] and gets every item. A node is free when both groups have gone past it.\",\"plan\":{\"version\":2,\"groups\":2,\"capacity\":1,\"bound\":2,\"life\":10,\"senders\":[[[5],[6],[6]]],\"receivers\":[2,2],\"schedule\":[[\"s1\",28],[\"r1\",23],[\"s1\",20],[\"r2\",23],[\"s1\",28],[\"r1\",23],[\"r2\",23]]},\"moments\":[[42,\"AddPassed\",\"Group 1 got the item 5. Node 0 is passed by 1 of 2 groups, and is not free.\"],[66,\"ReadPassed\",\"No node is free, so the send of 6 is Full: the slower group holds the sender back.\"],[85,\"AddPassed\",\"Group 2 got the item 5 too. Both groups have gone past node 0: it is free.\"],[114,\"LinkLast\",\"The next send of 6 uses node 0: accepted 1.\"],[159,\"AddPassed\",\"Each group got 5 and then 6.\"]]},
@@ -357,7 +347,7 @@ pub const BACK: &[u8] = b"\
 {\"kind\":\"example\",\"id\":\"one_item\",\"title\":\"One item\",\"text\":\"One item is sent and taken.\",\"plan\":{\"capacity\":2,\"bound\":2,\"life\":10,\"senders\":[[7]],\"receivers\":[1],\"schedule\":[[\"s1\",100],[\"r1\",100]]},\"moments\":[]},
 {\"kind\":\"broken\",\"id\":\"marked_early\",\"title\":\"Marked done before the next link is read\",\"text\":\"This [[combiner]] marks a node done first, and reads the next link of the node after that. In between, the owner of the node returns, begins another send, and clears the link.\",\"plan\":{\"capacity\":4,\"bound\":4,\"life\":10,\"senders\":[[1],[2,4],[3]],\"receivers\":[3],\"schedule\":[[\"s1\",6],[\"s2\",6],[\"s3\",6],[\"s1\",38],[\"s2\",5],[\"s1\",3],[\"s2\",5],[\"s3\",4],[\"r1\",63],[\"s3\",2]]},\"moments\":[[56,\"MarkDone\",\"s1 marks the node of s2 done, and has not read the next link of that node yet.\"],[59,\"ResetNext\",\"s2 has returned and begins its next send: it clears the next link, which was the way to s3.\"],[63,\"HandOver\",\"s1 finds null and hands over, to the node of s2. The call of s3, which is the first without an answer, is skipped.\"],[70,\"ReadState\",\"s3 waits, and no pass will ever serve it.\"],[130,\"ReadDummyNext\",\"r1 takes 1 and 2, and then the queue is empty. The item 3 was never sent.\"]],\"table\":\"marked_early\",\"breaks\":\"hand\",\"lost\":\"Lost: the item 3 of s3, whose send never returns.\"},
 {\"kind\":\"broken\",\"id\":\"handed_past\",\"title\":\"Handed over past a request\",\"text\":\"At the bound this [[combiner]] reads one link too many, and hands over to the node after the one where it has to stop.\",\"plan\":{\"capacity\":4,\"bound\":1,\"life\":10,\"senders\":[[1],[2],[3]],\"receivers\":[3],\"schedule\":[[\"s1\",6],[\"s2\",6],[\"s3\",6],[\"s1\",22],[\"s3\",22],[\"s2\",4],[\"r1\",60],[\"s2\",2]]},\"moments\":[[37,\"MarkDone\",\"s1 has served one call, as many as the bound. The next request is that of s2.\"],[39,\"HandOver\",\"s1 hands over to the node of s3, past the request of s2.\"],[42,\"ReadNext\",\"s3 serves its own call, and the first call without an answer is that of s2.\"],[62,\"ReadAnswer\",\"s3 returns accepted 1, and by the history this is the answer of s2.\"],[103,\"AddPassed\",\"r1 gets the item 3 in the place of the item 2.\"]],\"table\":\"handed_past\",\"breaks\":\"hand\",\"lost\":\"Lost: the item 2 of s2, whose send never returns.\"},
-{\"kind\":\"broken\",\"id\":\"freed_dummy\",\"title\":\"Freed while the node is the dummy\",\"text\":\"This take adds to the [[passed]] count of the node that it took the item from. But this node is the [[dummy]] from now on, and a send may use it.\",\"plan\":{\"capacity\":1,\"bound\":2,\"life\":10,\"senders\":[[5,6]],\"receivers\":[3],\"schedule\":[[\"s1\",28],[\"r1\",23],[\"s1\",29],[\"r1\",46]]},\"moments\":[[42,\"AddPassed\",\"r1 took the item 5 out of node 1, and frees node 1, which is the dummy.\"],[67,\"ResetListNode\",\"The next send finds node 1 free and clears it, while the head names it.\"],[72,\"LinkLast\",\"Node 1 is linked to itself.\"],[94,\"AddPassed\",\"r1 gets the item 6.\"],[117,\"AddPassed\",\"r1 gets the item 6 again: the link of node 1 leads to node 1.\"]],\"table\":\"freed_dummy\",\"breaks\":\"reset\",\"lost\":\"Got twice: the item 6.\"},
+{\"kind\":\"broken\",\"id\":\"freed_dummy\",\"title\":\"Freed while the node is the dummy\",\"text\":\"This take adds to the [[passed]] count of the node that it took the item from. But this node is the [[dummy]] from now on, and a send may use it.\",\"plan\":{\"capacity\":1,\"bound\":2,\"life\":10,\"senders\":[[5,6]],\"receivers\":[3],\"schedule\":[[\"s1\",28],[\"r1\",23],[\"s1\",29],[\"r1\",46]]},\"moments\":[[42,\"AddPassed\",\"r1 took the item 5 out of node 1, and frees node 1, which is the dummy.\"],[67,\"ResetListNode\",\"The next send finds node 1 free and clears it, while the head names it.\"],[72,\"LinkLast\",\"Node 1 is linked to itself.\"],[94,\"AddPassed\",\"r1 gets the item 6 from node 1.\"],[117,\"AddPassed\",\"r1 gets the item 6 again: the link of node 1 leads to node 1.\"]],\"table\":\"freed_dummy\",\"breaks\":\"reset\",\"lost\":\"Got twice: the item 6.\"},
 {\"kind\":\"broken\",\"id\":\"one_group\",\"title\":\"Freed after one group\",\"text\":\"This send takes a node for free as soon as one [[group]] has gone past it. Another group may still need the node.\",\"plan\":{\"version\":2,\"groups\":2,\"capacity\":2,\"bound\":2,\"life\":10,\"senders\":[[[5],[6],[7]]],\"receivers\":[1,3],\"schedule\":[[\"s1\",56],[\"r1\",23],[\"s1\",28],[\"r2\",42]]},\"moments\":[[70,\"AddPassed\",\"Group 1 has gone past node 0. Node 0 is still the dummy of group 2.\"],[94,\"ResetListNode\",\"The third send takes node 0 for free and clears it.\"],[95,\"ResetListNode\",\"Now the next link of node 0 is null, and group 2 has lost its way to the items 5 and 6.\"],[116,\"ReadDummyNext\",\"r2 reads null after the dummy and returns Empty, while three items wait for group 2.\"]],\"table\":\"one_group\",\"breaks\":\"reset\",\"lost\":\"Lost for group 2: the items 5, 6 and 7.\"},
 {\"kind\":\"broken\",\"id\":\"full_early\",\"title\":\"Full two nodes early\",\"text\":\"This scan ends two nodes early. One node early would be right: the last node of a scan is the one that was linked last, and it is always busy.\",\"plan\":{\"capacity\":3,\"bound\":2,\"life\":10,\"senders\":[[5,6,7,8,9]],\"receivers\":[5],\"schedule\":[[\"s1\",98],[\"r1\",46],[\"s1\",35],[\"r1\",60]]},\"moments\":[[98,\"ReadPassed\",\"The queue is full, and the scan of the send of 8 has read node 0 busy.\"],[135,\"AddPassed\",\"r1 takes 5 and 6, which frees the nodes 0 and 1.\"],[145,\"ReadPassed\",\"The scan goes on and finds node 1 free. Node 0 is free too, and stays outside the list.\"],[174,\"ReadPassed\",\"The scan of the send of 9 has read two busy nodes and ends: Full. Node 0 is free, and only two items wait.\"]],\"table\":\"full_early\",\"breaks\":\"full\",\"lost\":\"Refused: the item 9, although only 2 of 3 items wait.\"}
 ]
@@ -1181,6 +1171,16 @@ return { open, planOfRun, planOfText, CHANGES, LAWS, KINDS, EVENT_LIMIT, number,
   valueOf: Codes_value_of, listReads: Codes_list_reads };
 })();
 </script>
+<script type=\"text/plain\" id=\"run\">";
+
+/// The text between the run and the report.
+pub const MIDDLE: &[u8] = b"\
+</script>
+<script type=\"text/plain\" id=\"report\">";
+
+/// The text after the report.
+pub const BACK: &[u8] = b"\
+</script>
 <script>
 (() => {
 'use strict';
@@ -1331,8 +1331,9 @@ function drawProgram() {
   if (show('program', html) && at) {
     const line = $('program').querySelector('.lit'), card = $('code');
     if (card.scrollHeight > card.clientHeight) {
-      const top = line.offsetTop - card.offsetTop;
-      if (top < card.scrollTop || top + 60 > card.scrollTop + card.clientHeight) card.scrollTop = top - card.clientHeight / 2;
+      const top = line.getBoundingClientRect().top - card.getBoundingClientRect().top + card.scrollTop;
+      const head = $('code-head').offsetHeight;
+      if (top < card.scrollTop + head || top + 40 > card.scrollTop + card.clientHeight) card.scrollTop = top - (card.clientHeight + head) / 2;
     }
   }
   const law = run.variant ? '' : '<b>What holds here:</b> ';
@@ -1822,7 +1823,7 @@ function drawBranches() {
 function drawLesson() {
   const lesson = source.lesson, moments = lesson ? lesson.moments : [];
   $('moment').hidden = !moments.length;
-  if (!moments.length) return;
+  if (!moments.length) { show('moments', ''); return; }
   const at = run.chosen === 0 ? lastUpTo(moments, ([event]) => event > run.now) : -1;
   show('moments', moments.map(([event], k) => '<button data-event=\"' + event + '\" title=\"event ' + event + '\"' + (k === at ? ' class=\"here\" aria-current=\"step\"' : '') + '>' + (k + 1) + '</button>').join(''));
   show('moment-text', run.chosen > 0 ? 'This is your own branch. The list of runs in the player leads back to the run of the plan.'
