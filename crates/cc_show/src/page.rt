@@ -79,7 +79,7 @@ kbd { border: 1px solid var(--edge); border-radius: 4px; padding: 0 4px; font: 1
 #more-toggle { display: none; }
 @media (min-width: 1100px) {
   #event { min-height: 1.45em; }
-  #stage { grid-template-columns: minmax(0, 1fr) 436px; grid-template-rows: auto auto auto auto 1fr; }
+  #stage { grid-template-columns: minmax(0, 1fr) 436px; grid-template-rows: auto auto auto auto auto 1fr; }
   #stage > * { grid-column: 1; } #player { grid-column: 1 / -1; }
   #code { grid-column: 2; grid-row: 2 / span 5; align-self: start; position: sticky; top: calc(var(--bar) + 8px); max-height: calc(100vh - var(--bar) - 34px); overflow: auto; }
 }
@@ -111,6 +111,7 @@ kbd { border: 1px solid var(--edge); border-radius: 4px; padding: 0 4px; font: 1
 .strip { overflow-x: auto; padding-bottom: 3px; }
 .boxes { display: flex; flex-wrap: nowrap; align-items: stretch; list-style: none; margin: 0; padding: 0; width: max-content; }
 .boxes > li { display: flex; align-items: flex-end; }
+.parts { display: flex; flex-wrap: wrap; gap: 4px 36px; align-items: flex-end; } .parts > * { max-width: 100%; min-width: 0; } .outside h3 { margin: 0; }
 .boxes.loose > li { margin-right: 8px; }
 .stack { display: flex; flex-direction: column; justify-content: flex-end; }
 .ends { display: flex; gap: 8px; justify-content: center; min-height: 36px; align-items: flex-end; }
@@ -171,7 +172,8 @@ body.bare header, body.bare #intro, body.bare #choose, body.bare footer { displa
   body { font-size: 11pt; }
   nav, #choose, footer, .skip, #player .row, #add, #moments, #lesson .row, .more, #texts, #tip { display: none !important; }
   #player, #code, #code-head { position: static; box-shadow: none; max-height: none; overflow: visible; }
-  #lanes, .list, .strip { max-height: none; overflow: visible; }
+  #lanes, .list, .strip { max-height: none; overflow: visible; } #cells, #turns { overflow: hidden; }
+  #law button, #law details:not([open]) { display: none; }
   .card { break-inside: avoid; }
   #stage { display: block; }
 }
@@ -191,7 +193,7 @@ body.bare header, body.bare #intro, body.bare #choose, body.bare footer { displa
 <div class=\"intro\">
 <ol>
 <li>CC-Queue is a first-in, first-out queue that many threads use at once: senders append items, and receivers take them.</li>
-<li>Senders don't contend for a lock: each swaps a <dfn class=\"term\" tabindex=\"0\" data-word=\"node\">node</dfn> with its request into a <dfn class=\"term\" tabindex=\"0\" data-word=\"chain\">chain</dfn>, and one of them, the <dfn class=\"term\" tabindex=\"0\" data-word=\"combiner\">combiner</dfn>, serves the requests of all, up to a <dfn class=\"term\" tabindex=\"0\" data-word=\"bound\">bound</dfn>, and then hands over.</li>
+<li>Senders don't contend for a lock: each swaps a <dfn class=\"term\" tabindex=\"0\" data-word=\"node\">node</dfn> into a <dfn class=\"term\" tabindex=\"0\" data-word=\"chain\">chain</dfn> and writes its request there, and one of them, the <dfn class=\"term\" tabindex=\"0\" data-word=\"combiner\">combiner</dfn>, serves the requests of all, up to a <dfn class=\"term\" tabindex=\"0\" data-word=\"bound\">bound</dfn>, and then hands over.</li>
 <li>The items are in a linked list whose first node is a <dfn class=\"term\" tabindex=\"0\" data-word=\"dummy\">dummy</dfn>, so that senders append at one end while receivers, who have chains of their own, take at the other.</li>
 <li>Each <dfn class=\"term\" tabindex=\"0\" data-word=\"step\">step</dfn> of a thread reads or changes one word, the steps of all threads interleave in any order, and for every order it is proved that items leave in the order in which they came.</li>
 <li>On this page you choose the order: follow the tour, make the steps of each <dfn class=\"term\" tabindex=\"0\" data-word=\"pass\">pass</dfn> yourself, and see what broken queues lose.</li>
@@ -300,7 +302,7 @@ body.bare header, body.bare #intro, body.bare #choose, body.bare footer { displa
 <div id=\"rest\">
 <div class=\"two\" id=\"chains\"></div>
 <section class=\"card\" aria-labelledby=\"history-title\">
-<h2 id=\"history-title\">The history so far, in the order of the exchanges</h2>
+<h2 id=\"history-title\">The history so far, in the order of the swaps</h2>
 <div id=\"history\" class=\"columns\"></div>
 </section>
 <details class=\"card\" id=\"order\"><summary>An order of all calls</summary><div id=\"order-text\"></div></details>
@@ -337,7 +339,7 @@ first and the last event, <kbd>Page up</kbd> and <kbd>Page down</kbd> to decisio
 {\"kind\":\"tour\",\"id\":\"close\",\"title\":\"A close\",\"text\":\"s1 sends 5, closes the queue, and tries to send 6. The [[closing mark]] is a list node of its own, so a close is never Full. Receivers take what is left, and then get Ended.\",\"plan\":{\"capacity\":2,\"bound\":2,\"life\":10,\"senders\":[[5,\"close\",6]],\"receivers\":[2],\"schedule\":[[\"s1\",65],[\"r1\",38]]},\"moments\":[[42,\"LinkLast\",\"The closing mark is linked after the item 5. This step decides the close: shut 1.\"],[44,\"WriteObject\",\"s1 sets the shut word. A send that reads it returns Closed.\"],[60,\"ReadObject\",\"The send of 6 reads 1 and is decided: closed.\"],[79,\"AddPassed\",\"r1 takes the item 5, which was accepted before the close.\"],[98,\"ReadItem\",\"The node after the dummy has the tag 0: it is the mark. The take returns Ended, and so does each later one.\"]]},
 {\"kind\":\"tour\",\"id\":\"groups\",\"title\":\"Two groups\",\"text\":\"Two [[group]]s of receivers read one list: r1 is group 1, and r2 is group 2. Each group has its own [[head]] and gets every item. A node is free when both groups have gone past it.\",\"plan\":{\"version\":2,\"groups\":2,\"capacity\":1,\"bound\":2,\"life\":10,\"senders\":[[[5],[6],[6]]],\"receivers\":[2,2],\"schedule\":[[\"s1\",28],[\"r1\",23],[\"s1\",20],[\"r2\",23],[\"s1\",28],[\"r1\",23],[\"r2\",23]]},\"moments\":[[42,\"AddPassed\",\"Group 1 got the item 5. Node 0 is passed by 1 of 2 groups, and is not free.\"],[66,\"ReadPassed\",\"No node is free, so the send of 6 is Full: the slower group holds the sender back.\"],[85,\"AddPassed\",\"Group 2 got the item 5 too. Both groups have gone past node 0: it is free.\"],[114,\"LinkLast\",\"The next send of 6 uses node 0: accepted 1.\"],[159,\"AddPassed\",\"Each group got 5 and then 6.\"]]},
 {\"kind\":\"tour\",\"id\":\"order\",\"title\":\"An order of all calls\",\"text\":\"Calls overlap, and yet there is one order of all calls in which each answer is that of a queue that does one call after another. Each call takes effect between its swap and its [[decision]]. Every run of the algorithm is linearizable in this sense, and that is proved: the law is RunsAreLinearizable in crates/cc_runs. The card \\\"An order of all calls\\\" shows this order for the run on the page.\",\"plan\":{\"capacity\":1,\"bound\":2,\"life\":10,\"senders\":[[5],[6]],\"receivers\":[2],\"schedule\":[[\"s1\",19],[\"r1\",14],[\"s1\",9],[\"s2\",14],[\"r1\",23],[\"s2\",6]]},\"moments\":[[28,\"ReadDummyNext\",\"The take is Empty while the send of 5 is in between: in the order the take comes first.\"],[34,\"LinkLast\",\"The send of 5 takes effect: it comes second.\"],[55,\"ReadObject\",\"The scan of the send of 6 begins. If the send will be Full, it takes effect here.\"],[70,\"AddPassed\",\"The take of 5 takes effect.\"],[80,\"ReadPassed\",\"The send of 6 is decided: Full. In the order it comes before the take of 5, at the load of the cursor.\"]],\"opens\":\"order\"},
-{\"kind\":\"example\",\"id\":\"bodies_of_words\",\"title\":\"Bodies of one to four words\",\"text\":\"Bodies of one to four words. One pass serves the sends of three senders.\",\"plan\":{\"version\":2,\"groups\":1,\"capacity\":4,\"bound\":4,\"life\":10,\"senders\":[[[1],[2,20]],[[3,30,300]],[[4,40,400,4000]]],\"receivers\":[4],\"schedule\":[[\"s3\",9],[\"s2\",8],[\"s1\",6],[\"s3\",200],[\"s1\",200],[\"r1\",200]]},\"moments\":[]},
+{\"kind\":\"example\",\"id\":\"bodies_of_words\",\"title\":\"Items of one to four words\",\"text\":\"Three senders send items of one to four words, and one pass serves them all.\",\"plan\":{\"version\":2,\"groups\":1,\"capacity\":4,\"bound\":4,\"life\":10,\"senders\":[[[1],[2,20]],[[3,30,300]],[[4,40,400,4000]]],\"receivers\":[4],\"schedule\":[[\"s3\",9],[\"s2\",8],[\"s1\",6],[\"s3\",200],[\"s1\",200],[\"r1\",200]]},\"moments\":[]},
 {\"kind\":\"example\",\"id\":\"full\",\"title\":\"A full queue\",\"text\":\"A send finds no free node, and a node that a take freed is used again.\",\"plan\":{\"capacity\":1,\"bound\":2,\"life\":10,\"senders\":[[5,6],[7]],\"receivers\":[1],\"schedule\":[[\"s1\",500],[\"r1\",500],[\"s2\",500]]},\"moments\":[]},
 {\"kind\":\"example\",\"id\":\"close_and_drain\",\"title\":\"Close and drain\",\"text\":\"A close, the answers after it, and takes to the end.\",\"plan\":{\"capacity\":2,\"bound\":2,\"life\":10,\"senders\":[[5,\"close\",6,\"close\"]],\"receivers\":[3],\"schedule\":[[\"s1\",500],[\"r1\",500]]},\"moments\":[]},
 {\"kind\":\"example\",\"id\":\"two_groups\",\"title\":\"Two groups, one slow\",\"text\":\"Two groups take every item, and the slower group holds the sender back.\",\"plan\":{\"version\":2,\"groups\":2,\"capacity\":1,\"bound\":2,\"life\":10,\"senders\":[[[5],[6],[6],[6],\"close\"]],\"receivers\":[3,3],\"schedule\":[[\"s1\",48],[\"r1\",23],[\"s1\",20],[\"r2\",23],[\"s1\",28],[\"r1\",23],[\"s1\",100],[\"r2\",100],[\"r1\",100]]},\"moments\":[]},
@@ -348,7 +350,7 @@ first and the last event, <kbd>Page up</kbd> and <kbd>Page down</kbd> to decisio
 {\"kind\":\"broken\",\"id\":\"marked_early\",\"title\":\"Marked done before the next link is read\",\"text\":\"This [[combiner]] marks a node done first, and reads the next link of the node after that. In between, the owner of the node returns, begins another send, and clears the link.\",\"plan\":{\"capacity\":4,\"bound\":4,\"life\":10,\"senders\":[[1],[2,4],[3]],\"receivers\":[3],\"schedule\":[[\"s1\",6],[\"s2\",6],[\"s3\",6],[\"s1\",38],[\"s2\",5],[\"s1\",3],[\"s2\",5],[\"s3\",4],[\"r1\",63],[\"s3\",2]]},\"moments\":[[56,\"MarkDone\",\"s1 marks the node of s2 done, and has not read the next link of that node yet.\"],[59,\"ResetNext\",\"s2 has returned and begins its next send: it clears the next link, which was the way to s3.\"],[63,\"HandOver\",\"s1 finds null and hands over, to the node of s2. The call of s3, which is the first without an answer, is skipped.\"],[70,\"ReadState\",\"s3 waits, and no pass will ever serve it.\"],[130,\"ReadDummyNext\",\"r1 takes 1 and 2, and then the queue is empty. The item 3 was never sent.\"]],\"table\":\"marked_early\",\"breaks\":\"hand\",\"lost\":\"Lost: the item 3 of s3, whose send never returns.\"},
 {\"kind\":\"broken\",\"id\":\"handed_past\",\"title\":\"Handed over past a request\",\"text\":\"At the bound this [[combiner]] reads one link too many, and hands over to the node after the one where it has to stop.\",\"plan\":{\"capacity\":4,\"bound\":1,\"life\":10,\"senders\":[[1],[2],[3]],\"receivers\":[3],\"schedule\":[[\"s1\",6],[\"s2\",6],[\"s3\",6],[\"s1\",22],[\"s3\",22],[\"s2\",4],[\"r1\",60],[\"s2\",2]]},\"moments\":[[37,\"MarkDone\",\"s1 has served one call, as many as the bound. The next request is that of s2.\"],[39,\"HandOver\",\"s1 hands over to the node of s3, past the request of s2.\"],[42,\"ReadNext\",\"s3 serves its own call, and the first call without an answer is that of s2.\"],[62,\"ReadAnswer\",\"s3 returns accepted 1, and by the history this is the answer of s2.\"],[103,\"AddPassed\",\"r1 gets the item 3 in the place of the item 2.\"]],\"table\":\"handed_past\",\"breaks\":\"hand\",\"lost\":\"Lost: the item 2 of s2, whose send never returns.\"},
 {\"kind\":\"broken\",\"id\":\"freed_dummy\",\"title\":\"Freed while the node is the dummy\",\"text\":\"This take adds to the [[passed]] count of the node that it took the item from. But this node is the [[dummy]] from now on, and a send may use it.\",\"plan\":{\"capacity\":1,\"bound\":2,\"life\":10,\"senders\":[[5,6]],\"receivers\":[3],\"schedule\":[[\"s1\",28],[\"r1\",23],[\"s1\",29],[\"r1\",46]]},\"moments\":[[42,\"AddPassed\",\"r1 took the item 5 out of node 1, and frees node 1, which is the dummy.\"],[67,\"ResetListNode\",\"The next send finds node 1 free and clears it, while the head names it.\"],[72,\"LinkLast\",\"Node 1 is linked to itself.\"],[94,\"AddPassed\",\"r1 gets the item 6 from node 1.\"],[117,\"AddPassed\",\"r1 gets the item 6 again: the link of node 1 leads to node 1.\"]],\"table\":\"freed_dummy\",\"breaks\":\"reset\",\"lost\":\"Got twice: the item 6.\"},
-{\"kind\":\"broken\",\"id\":\"one_group\",\"title\":\"Freed after one group\",\"text\":\"This send takes a node for free as soon as one [[group]] has gone past it. Another group may still need the node.\",\"plan\":{\"version\":2,\"groups\":2,\"capacity\":2,\"bound\":2,\"life\":10,\"senders\":[[[5],[6],[7]]],\"receivers\":[1,3],\"schedule\":[[\"s1\",56],[\"r1\",23],[\"s1\",28],[\"r2\",42]]},\"moments\":[[70,\"AddPassed\",\"Group 1 has gone past node 0. Node 0 is still the dummy of group 2.\"],[94,\"ResetListNode\",\"The third send takes node 0 for free and clears it.\"],[95,\"ResetListNode\",\"Now the next link of node 0 is null, and group 2 has lost its way to the items 5 and 6.\"],[116,\"ReadDummyNext\",\"r2 reads null after the dummy and returns Empty, while three items wait for group 2.\"]],\"table\":\"one_group\",\"breaks\":\"reset\",\"lost\":\"Lost for group 2: the items 5, 6 and 7.\"},
+{\"kind\":\"broken\",\"id\":\"one_group\",\"title\":\"Freed after one group\",\"text\":\"This send uses a node as soon as one [[group]] has gone past it. Another group may still need the node.\",\"plan\":{\"version\":2,\"groups\":2,\"capacity\":2,\"bound\":2,\"life\":10,\"senders\":[[[5],[6],[7]]],\"receivers\":[1,3],\"schedule\":[[\"s1\",56],[\"r1\",23],[\"s1\",28],[\"r2\",42]]},\"moments\":[[70,\"AddPassed\",\"Group 1 has gone past node 0. Node 0 is still the dummy of group 2.\"],[94,\"ResetListNode\",\"The third send uses node 0 and clears it.\"],[95,\"ResetListNode\",\"Now the next link of node 0 is null, and group 2 has lost its way to the items 5 and 6.\"],[116,\"ReadDummyNext\",\"r2 reads null after the dummy and returns Empty, while three items wait for group 2.\"]],\"table\":\"one_group\",\"breaks\":\"reset\",\"lost\":\"Lost for group 2: the items 5, 6 and 7.\"},
 {\"kind\":\"broken\",\"id\":\"full_early\",\"title\":\"Full two nodes early\",\"text\":\"This scan ends two nodes early. One node early would be right: the last node of a scan is the one that was linked last, and it is always busy.\",\"plan\":{\"capacity\":3,\"bound\":2,\"life\":10,\"senders\":[[5,6,7,8,9]],\"receivers\":[5],\"schedule\":[[\"s1\",98],[\"r1\",46],[\"s1\",35],[\"r1\",60]]},\"moments\":[[98,\"ReadPassed\",\"The queue is full, and the scan of the send of 8 has read node 0 busy.\"],[135,\"AddPassed\",\"r1 takes 5 and 6, which frees the nodes 0 and 1.\"],[145,\"ReadPassed\",\"The scan goes on and finds node 1 free. Node 0 is free too, and stays outside the list.\"],[174,\"ReadPassed\",\"The scan of the send of 9 has read two busy nodes and ends: Full. Node 0 is free, and only two items wait.\"]],\"table\":\"full_early\",\"breaks\":\"full\",\"lost\":\"Refused: the item 9, although only 2 of 3 items wait.\"}
 ]
 </script>
@@ -1733,14 +1735,15 @@ function drawList() {
   const list = readList();
   const nodes = [...list.places.keys()];
   const shown = nodes.length > 30 ? nodes.slice(0, 15).concat([-1], nodes.slice(-14)) : nodes;
-  let out = '<div class=\"strip\" tabindex=\"0\" role=\"group\" aria-label=\"nodes of the list\"><ol class=\"boxes\">' + shown.map((i, k) => i < 0 ? '<li><span class=\"arrow\">' + (nodes.length - 29) + ' more' + ACROSS + '</span></li>'
+  let out = '<div class=\"parts\"><div class=\"strip\" tabindex=\"0\" role=\"group\" aria-label=\"nodes of the list\"><ol class=\"boxes\">' + shown.map((i, k) => i < 0 ? '<li><span class=\"arrow\">' + (nodes.length - 29) + ' more' + ACROSS + '</span></li>'
     : '<li>' + itemBox(list, i) + (k + 1 < shown.length || list.end < 0 ? '<span class=\"arrow\">' + ACROSS + '</span>' : '<span class=\"arrow wrong\">' + ACROSS + 'to node ' + list.end + '</span>') + '</li>').join('')
     + (list.end < 0 ? '<li><span class=\"arrow\" style=\"margin-bottom:18px\">null</span></li>' : '') + '</ol></div>';
   const free = [];
   for (let i = 0; i <= capacity && free.length < 24; i++) if (!list.places.has(i)) free.push(i);
   const others = capacity + 1 - nodes.filter(i => i <= capacity).length;
-  if (free.length) out += '<h3>' + plural(others, 'node') + ' outside the list</h3><div class=\"strip\"><ol class=\"boxes loose\">' + free.map(i => '<li>' + itemBox(list, i) + '</li>').join('')
-    + (others > 24 ? '<li class=\"dim\">and ' + (others - 24) + ' more</li>' : '') + '</ol></div>';
+  if (free.length) out += '<div class=\"outside\"><h3>' + plural(others, 'node') + ' outside the list</h3><div class=\"strip\"><ol class=\"boxes loose\">' + free.map(i => '<li>' + itemBox(list, i) + '</li>').join('')
+    + (others > 24 ? '<li class=\"dim\">and ' + (others - 24) + ' more</li>' : '') + '</ol></div></div>';
+  out += '</div>';
   const w = touched();
   const word = (name, ww) => '<span class=\"word' + (w && keyOf(w) === keyOf(ww) ? ' touch' : '') + '\">' + name + ' <b>' + valueText(ww, read(ww)) + '</b></span>';
   out += '<div class=\"words\">' + word('last', object('last')) + word('cursor', object('cursor')) + word('count', object('count')) + word('shut', object('shut'))
@@ -1975,7 +1978,10 @@ function openRun(opened, from, event) {
     link.classList.toggle('here', !!here);
     if (here) link.setAttribute('aria-current', 'true'); else link.removeAttribute('aria-current');
   }
-  $('order').open = !!(lesson && lesson.opens === 'order');
+  // the order of all calls is up here in a lesson about it
+  const about_order = !!(lesson && lesson.opens === 'order');
+  if (about_order) $('lesson').after($('order')); else $('rest').insertBefore($('order'), $('texts'));
+  $('order').open = about_order;
   $('alarm').innerHTML = '';
   if (run.faults.length) {
     $('alarm').innerHTML = '<p class=\"bad\">' + (from.is_own ? 'This page and the program disagree. ' : '') + run.faults.map(() => '<span></span>').join(' ') + '</p>';
