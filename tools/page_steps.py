@@ -1,6 +1,7 @@
 #!/usr/bin/env python3
 """The machine in the page of ccq_show, as JavaScript, written from the definitions in crates/cc_runs/specs: the table of
-steps (`line` of Lines, which names SendLines, TakeLines and CountLines), and all definitions that it names.
+steps (`line` of Lines, which names SendLines, TakeLines and CountLines), and all definitions that it names; and the broken
+tables of VARIANTS, each of which is that table with some lines changed.
 
     tools/page_steps.py            compares the page with the definitions; exit status 0 if it has their machine
     tools/page_steps.py --write    writes the machine into the page
@@ -8,6 +9,8 @@ steps (`line` of Lines, which names SendLines, TakeLines and CountLines), and al
 A number is a BigInt, a list an array, a record an object, and a value of an enum an object with its variant's name in `is`
 and what the variant holds by the names of its fields, or by 0, 1 and so on.
 """
+import copy
+import json
 import re
 import sys
 
@@ -16,9 +19,10 @@ from sources import TOP, Unreadable, read_files
 from statements import Reach
 from written import Part
 
-PAGE = Part(TOP / "crates/cc_show/page/page.html", "// <steps>\n", "// </steps>\n")
+PAGE = Part(TOP / "docs/pages/index.html", "// <steps>\n", "// </steps>\n")
 HEAD = """\
-// The machine, by tools/page_steps.py: the table of steps of crates/cc_runs/specs, and the definitions that it names.
+// The machine, by tools/page_steps.py: the table of steps of crates/cc_runs/specs, and the definitions that it names. Each of
+// CHANGES makes a broken table of it, by its name.
 const minus = (a, b) => a > b ? a - b : 0n;
 """
 # What the page calls, each by its crate, its file and its name.
@@ -28,9 +32,31 @@ WANTED = [
     ("cc_runs", "Codes", "further_words"),
     ("cc_runs", "Codes", "tag_sender"),
     ("cc_runs", "Codes", "tag_number"),
+    ("cc_runs", "Codes", "code_of"),
+    ("cc_runs", "Codes", "value_of"),
     ("cc_model", "Body", "body_of"),
     ("cc_model", "Body", "words_of"),
 ]
+# Broken tables: a name, and each changed definition with the text that is in one of its lines and the text in its place.
+VARIANTS = {
+    "marked_early": [
+        ("Lines", "line", "(after_done c.config.bound job)", "(Place.FollowNext job)"),
+        ("Lines", "line", "line (Place.HandOver at) _ =",
+         "line (Place.FollowNext was) next = load Kind.ReadNext (Word.Node x was.round.at NodeField.Next) (if next == 0 then Place.HandOver "
+         "was.round.at else after_done c.config.bound (record was { next = next - 1 }))\nline (Place.HandOver at) _ ="),
+    ],
+    "handed_past": [
+        ("Lines", "after_done", "if job.round.served + 1 == bound then Place.HandOver job.next else Place.ReadNext", "Place.ReadNext"),
+        ("Lines", "line", "(after_next c.served x round next)",
+         "(if round.served == c.config.bound then (if next == 0 then Place.HandOver round.at else Place.HandOver (next - 1)) else "
+         "after_next c.served x round next)"),
+    ],
+    "freed_dummy": [("TakeLines", "line", "(On (WriteTaken dummy parcel))", "(On (WriteTaken at parcel))")],
+    "one_group": [("SendLines", "by_passed", "if passed == groups c", "if nat_lt 0 passed")],
+    "full_early": [("SendLines", "by_passed", "reads == c.capacity + 1", "reads + 1 == c.capacity")],
+}
+# The places that only broken tables have, with the names of what they hold.
+FURTHER_PLACES = {"FollowNext": ("was",)}
 # Functions of the library of the definitions, in JavaScript.
 LIBRARY = {
     "suc": "({} + 1n)",
@@ -55,6 +81,10 @@ class Names:
         self.reach = Reach(read_files())
 
     def meaning(self, crate, module, words):
+        if words[-1] in FURTHER_PLACES:
+            return "constructor", words[-1], FURTHER_PLACES[words[-1]]
+        if words[0] in LIBRARY:
+            return "library", words[0]
         file = self.reach.crates[crate].specs[module]
         mine = file.known.get(words[0])
         if mine:
@@ -271,14 +301,14 @@ def parameters(lines):
     return names
 
 
-def function(names, place):
-    """A definition as a function of JavaScript, and the definitions that it names."""
-    definition = names.reach.crates[place[0]].specs[place[1]].definitions[place[2]]
+def function(names, place, definition=None):
+    """A definition, or one that is changed, as a function of JavaScript, and the definitions that it names."""
+    definition = definition or names.reach.crates[place[0]].specs[place[1]].definitions[place[2]]
     given, lines = given_by(definition), equations(definition)
     if not lines:
         raise Unreadable(f"{'/'.join(place)} has no equations")
     own = parameters(lines)
-    head = f"const {place[1]}_{place[2]} = ({', '.join(given + own)}) =>"
+    head = f"({', '.join(given + own)}) =>"
     cases, named = [], []
     for line in lines:
         text = Text(line, names, place, {name: name for name in given})
@@ -293,9 +323,33 @@ def function(names, place):
         named += text.named
     if cases[0][0]:
         returns = [(f"if ({' && '.join(tests)}) " if tests else "") + f"return {value};" for tests, value in cases]
-        return head + " {\n  " + "\n  ".join(returns) + "\n};\n", named
+        return head + " {\n  " + "\n  ".join(returns) + "\n}", named
     value = cases[0][1]
-    return head + (f" ({value});\n" if value.startswith("{") else f" {value};\n"), named
+    return head + (f" ({value})" if value.startswith("{") else f" {value}"), named
+
+
+def changed(names):
+    """The changed definitions, by the place of each and the name of its broken table; and of each table its lines before and after."""
+    found, shows = {}, {}
+    for variant, edits in VARIANTS.items():
+        for module, name, old, new in edits:
+            place = ("cc_runs", module, name)
+            if (place, variant) not in found:
+                found[place, variant] = copy.copy(names.reach.crates[place[0]].specs[module].definitions[name])
+            definition = found[place, variant]
+            at = [k for k, line in enumerate(definition.lines) if old in line]
+            if len(at) != 1:
+                raise Unreadable(f"{variant}: {old} isn't in one line of {module}.{name}")
+            was, now = definition.lines[at[0]], definition.lines[at[0]].replace(old, new)
+            definition.lines = [*definition.lines[:at[0]], *now.split("\n"), *definition.lines[at[0] + 1:]]
+            further = [line for line in now.split("\n") if line != was]
+            shows.setdefault(variant, []).append({"in": f"{module}.{name}", "was": "" if was in now.split("\n") else shown(was), "is": shown("\n".join(further))})
+    return found, shows
+
+
+def shown(text):
+    """A text of the definitions as docs/ALGORITHM.md shows it: without the enums of its variants."""
+    return re.sub(r"\b(?:Place|Kind|Word|NodeField|ItemField|Object|Answer|SendAnswer|TakeAnswer)\.", "", text)
 
 
 def machine():
@@ -305,7 +359,16 @@ def machine():
         if place not in functions:
             functions[place], named = function(names, place)
             left += named
-    return HEAD + "".join(text for _, text in sorted(functions.items()))
+    changes, shows = changed(names)
+    for (place, variant), definition in changes.items():
+        text, named = function(names, place, definition)
+        if any(other not in functions for other in named):
+            raise Unreadable(f"{variant} names a definition that the table doesn't")
+        functions[place] = f"variant === '{variant}' ? {text} : {functions[place]}"
+    table = "".join(f"const {place[1]}_{place[2]} = {text};\n" for place, text in sorted(functions.items()))
+    wanted = ", ".join(f"{module}_{name}" for _, module, name in WANTED)
+    return (HEAD + "const CHANGES = " + json.dumps(shows, indent=1) + ";\nconst tableOf = variant => {\n" + table
+            + f"return {{ {wanted} }};\n}};\n")
 
 
 if __name__ == "__main__":

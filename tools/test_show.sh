@@ -1,7 +1,8 @@
 #!/bin/bash
-# Tests ccq_show: its traces are what tests/derive.py derives; the page in docs/pages is what the program writes; random steps
-# by hand lead to the plan and the report of the page; and in a browser without a window, Chromium, each page is stepped
-# through, driven and looked at (tools/show/pages.py says how).
+# Tests ccq_show: its traces are what tests/derive.py derives; the page in docs/pages is what the program writes of its stored
+# plan; the page reads plans as `ccq play` does; its tour, scenarios and broken queues are what they say; random steps by hand lead to
+# the plan and the report of the page; and in a browser without a window, Chromium, each page is stepped through, driven and
+# looked at (tools/show/pages.py says how).
 #
 # Usage: tools/test_show.sh
 #
@@ -17,7 +18,8 @@ esac
 tests=show
 . tools/steps.sh
 
-step 'the page is the text of the program' tools/page_text.sh
+step 'the page is the text of the program' tools/page_text.py
+if has node; then step 'the plans of tests/corpus, read by the page' tools/show/pages.py plans; fi
 for program in crates/ccq_show/out/ccq_show crates/ccq/out/ccq; do
     if [ ! -x "$program" ]; then
         skip 'traces and pages' "$program isn't there"
@@ -25,12 +27,13 @@ for program in crates/ccq_show/out/ccq_show crates/ccq/out/ccq; do
     fi
 done
 step 'traces of examples/ and of tests/corpus' tests/trace.py
-is_page() { crates/ccq_show/out/ccq_show <examples/bodies_of_words.json | cmp - docs/pages/bodies_of_words.html; }
+is_page() { crates/ccq_show/out/ccq_show <crates/ccq_show/stdin | cmp - docs/pages/index.html; }
 export -f is_page
 step 'docs/pages has the page that the program writes' bash -c is_page
 
 if has node; then
     step '1,000 steps by hand of the machine alone' tools/show/pages.py by_node
+    step 'the tour, the scenarios and the broken queues' tools/show/pages.py lessons
 else
     skip 'steps by hand of the machine alone' "node isn't on this machine"
 fi
@@ -42,6 +45,7 @@ if [ -z "$browser" ]; then
 fi
 step 'the pages of examples/, step by step' tools/show/pages.py walks
 step '1,000 steps by hand' tools/show/pages.py by_hand
-step 'views, keys and contrasts' tools/show/pages.py looks
+step 'lessons, own plans, links and keys' tools/show/pages.py learns
+step 'views, keys, sizes and contrasts' tools/show/pages.py looks
 step '20,000 events' tools/show/pages.py many
 end_steps

@@ -4,11 +4,15 @@
     tools/show/pages.py walks        the page of each plan in examples/, stepped to its end by keys and back
     tools/show/pages.py many         a page of 20,000 events: the median of its steps takes at most 20 ms
     tools/show/pages.py by_hand      1,000 random steps by clicks, on pages of ten plans without events
-    tools/show/pages.py by_node      the same steps of the pages' machine alone, by node
-    tools/show/pages.py looks        buttons, keys and turns; what is in view; a phone; contrasts in both schemes
+    tools/show/pages.py by_node      the same steps of the pages' machine alone, by node, with the laws
+    tools/show/pages.py lessons      the tour, scenarios and broken queues of docs/pages/index.html, by node
+    tools/show/pages.py plans        each plan of tests/corpus is read or refused as by `ccq play`, by node
+    tools/show/pages.py learns       the index: each lesson by clicks and keys, a queue of one's own, plans, links, keys
+    tools/show/pages.py looks        buttons, keys and turns; what is in view; a phone; sizes; contrasts in both schemes
 
-All but by_node need Chromium, whose name is in the environment variable `browser`. After steps by hand the plan that the page
-exports is played by `ccq`, and its report has to be that of the page, byte for byte. Exit status 0 if all is as it should be.
+All but by_node, lessons and plans need Chromium, whose name is in the environment variable `browser`. After steps by hand the
+plan that the page exports is played by `ccq`, and its report has to be that of the page, byte for byte. Exit status 0 if all is
+as it should be.
 """
 import difflib
 import json
@@ -23,6 +27,7 @@ from http.server import BaseHTTPRequestHandler, ThreadingHTTPServer
 
 HERE = pathlib.Path(__file__).resolve().parent
 TOP = HERE.parent.parent
+INDEX = TOP / "docs/pages/index.html"
 SHOW = TOP / "crates/ccq_show/out/ccq_show"
 PLAY = TOP / "crates/ccq/out/ccq"
 PLANS = sorted(path for path in (TOP / "examples").glob("*.json") if not path.name.startswith("receipts"))
@@ -66,7 +71,7 @@ def plan_of_many_events():
 def in_browser(jobs, dark=False):
     """What the test of each of these jobs returns, in one browser without a window. Ends if that fails or has a console's line."""
     files = {"/": '<!DOCTYPE html><meta charset="utf-8"><body>' + "".join(f'<script src="{name}"></script>' for name in ("jobs.js", "hands.js", "tests.js")),
-             "/jobs.js": "const jobs = " + json.dumps(jobs), **{f"/{name}": (HERE / name).read_text() for name in ("hands.js", "tests.js")}}
+             "/index.html": INDEX.read_text(), "/jobs.js": "const jobs = " + json.dumps(jobs), **{f"/{name}": (HERE / name).read_text() for name in ("hands.js", "tests.js")}}
     answers = queue.Queue()
 
     class Harness(BaseHTTPRequestHandler):
@@ -168,17 +173,60 @@ def by_node():
             path = os.path.join(room, f"{seed}.html")
             pathlib.Path(path).write_text(page_of(plan_without_events(*of)))
             words += [path, str(seed), str(STEPS), str(of[-1])]
-        return driven([json.loads(line) for line in output("node", HERE / "alone.js", *words).splitlines()])
+        return driven([json.loads(line) for line in output("node", HERE / "alone.js", "steps", *words).splitlines()])
+
+
+def lessons():
+    """The plans of the lessons: those of examples/ are its files, and each has the report of `ccq play`."""
+    right = True
+    for line in output("node", HERE / "alone.js", "lessons", INDEX).splitlines():
+        lesson = json.loads(line)
+        if lesson["kind"] == "example" and lesson["given"] != json.loads((TOP / "examples" / f"{lesson['id']}.json").read_text()):
+            print(f"{lesson['id']}: the plan isn't that of examples/")
+            right = False
+        right &= is_report_of(lesson["id"], lesson)
+    return right
+
+
+def plans():
+    """The plans of tests/corpus: tools/rows.py says how NAME.expect is written."""
+    rows = []
+    for path in sorted((TOP / "tests/corpus").glob("*.in")):
+        first, _, out = path.with_suffix(".expect").read_text().split("\n", 2)
+        if first.startswith("play "):
+            rows.append((path, first == "play 0", out))
+    answers = output("node", HERE / "alone.js", "plans", INDEX, *[path for path, _, _ in rows]).splitlines()
+    wrong = 0
+    for (path, is_plan, out), line in zip(rows, answers):
+        answer = json.loads(line)
+        if (answer["refused"] == "") != is_plan or is_plan and not answer["is_long"] and answer["report"] != out:
+            print(f"{path.name}: {answer['refused'] or 'the page reads it as a plan, with another answer'}")
+            wrong += 1
+    return not wrong and len(answers) == len(rows) > 700
+
+
+def learns():
+    index = {"src": "/index.html", **LAPTOP}
+    jobs = [{"test": "lessons", **index}, {"test": "own", **index}, {"test": "keys", **index},
+            *({"test": "link", "text": plan.read_text(), **index} for plan in PLANS)]
+    right = True
+    for job, answer in zip(jobs, in_browser(jobs)):
+        right &= not failed(job["test"], answer) and (job["test"] != "own" or all(is_report_of("a queue of one's own", one) for one in answer))
+    return right
 
 
 def looks():
     pages = {plan.stem: page_of(plan.read_bytes()) for plan in PLANS}
     empty = page_of(plan_without_events(*CONFIGURATIONS[1]))
     large = page_of(plan_of_many_events())
-    light = [{"test": "hands", "page": empty, **LAPTOP}, {"test": "player", "page": pages["bodies_of_words"], **LAPTOP},
+    turns = page_of(json.dumps({"capacity": 2, "bound": 2, "life": 10, "senders": [[1, 2, 3]], "receivers": [2], "schedule": []}).encode())
+    index = {"src": "/index.html"}
+    light = [{"test": "hands", "page": empty, **LAPTOP}, {"test": "player", "page": pages["bodies_of_words"], **LAPTOP}, {"test": "turns", "page": turns, **LAPTOP},
+             {"test": "sizes", **index, **LAPTOP}, {"test": "sizes", **index, **PHONE}, {"test": "phone", **index, **PHONE},
              *({"test": "in_view", "page": page, **LAPTOP} for page in [*pages.values(), large]),
              *({"test": "phone", "page": page, **PHONE} for page in pages.values())]
-    colours = [{"test": "contrasts", "page": pages[name], **size} for name in ("bodies_of_words", "two_groups", "full") for size in (LAPTOP, PHONE)]
+    colours = [{"test": "contrasts", **page, **size} for page in ({"page": pages["bodies_of_words"]}, {"page": pages["two_groups"]}, {"src": "/index.html#lesson=handed_past"})
+               for size in (LAPTOP, PHONE)]
     wrong = 0
     for dark, jobs in ((False, light + colours), (True, colours)):
         jobs = [{**job, "dark": dark} for job in jobs]
@@ -188,7 +236,7 @@ def looks():
 
 
 def main(words):
-    tasks = {task.__name__: task for task in (walks, many, by_hand, by_node, looks)}
+    tasks = {task.__name__: task for task in (walks, many, by_hand, by_node, lessons, plans, learns, looks)}
     if len(words) != 1 or words[0] not in tasks:
         print(f"usage: tools/show/pages.py {' | '.join(tasks)}", file=sys.stderr)
         return 64

@@ -113,15 +113,25 @@ fn write_fails<R: Abort>(rt: &R, alloc: Global, page: &str, takes: usize) {
     holds(rt, takes, sink.has_failed_once());
 }
 
-/// A write fails after every thousandth byte of a page, within its front, its run, its report and its script.
+/// A write fails before the first of these words of a page.
+fn write_fails_before<R: Abort>(rt: &R, alloc: Global, page: &str, words: &str) {
+    match page.split_once(words) {
+        Some((front, _)) => write_fails(rt, alloc, page, front.len()),
+        None => holds(rt, 0, false),
+    }
+}
+
+/// A write fails after every two thousandth byte of a page, and within its run and its report.
 #[test]
 fn writes_of_a_page_fail(rt: HostRuntime) {
     let whole = shown(rt.alloc(), FIRST);
     let page = page_of(&whole);
     assert!(rt; page.len() > 30_000);
-    for thousands in 0..page.len() / 1000 {
-        write_fails(&rt, rt.alloc(), page, thousands * 1000);
+    for part in 0..page.len() / 2000 {
+        write_fails(&rt, rt.alloc(), page, part * 2000);
     }
+    write_fails_before(&rt, rt.alloc(), page, " 7 1 1 1 2 1 9");
+    write_fails_before(&rt, rt.alloc(), page, "r1 take -> got 0 s1 1 7\naudit");
 }
 
 /// The title of an input, its status, what is reported, and the input.

@@ -1,4 +1,4 @@
-//! The fixed text of the page. It is written from page/page.html by tools/page_text.sh.
+//! The fixed text of the page. It is written from docs/pages/index.html by tools/page_text.py.
 
 /// The text before the run.
 pub const FRONT: &[u8] = b"\
@@ -7,194 +7,356 @@ pub const FRONT: &[u8] = b"\
 <head>
 <meta charset=\"utf-8\">
 <meta name=\"viewport\" content=\"width=device-width, initial-scale=1\">
-<title>CC-Queue, event by event</title>
+<title>CC-Queue, step by step</title>
 <style>
 :root {
   color-scheme: light dark;
-  --back: #f6f7f9; --card: #ffffff; --ink: #1a2130; --dim: #566075; --line: #cfd5df; --mark: #b3261e;
+  --back: #f6f7f9; --card: #ffffff; --ink: #1a2130; --dim: #566075; --line: #cfd5df; --edge: #7c8698; --mark: #b3261e;
   --enter: #2a66c4; --wait: #9a5c00; --serve: #1a7548; --hand: #8a3fb8; --answer: #0a7380; --rest: #667085;
-  --touch: #fff0b8; --touch-line: #b98900; --turn: #dcefe4;
-  --names: 268px;
+  --touch: #fff0b8; --touch-line: #b98900; --turn: #dcefe4; --was: #fbe4e2; --is: #dff2e6;
+  --names: 250px; --bar: 100px;
 }
 @media (prefers-color-scheme: dark) {
   :root {
-    --back: #12161d; --card: #1b212b; --ink: #e7ebf2; --dim: #a8b2c3; --line: #39424f; --mark: #ff8a80;
+    --back: #12161d; --card: #1b212b; --ink: #e7ebf2; --dim: #a8b2c3; --line: #39424f; --edge: #7b8799; --mark: #ff8a80;
     --enter: #7fb0ff; --wait: #f0b35a; --serve: #6bd19b; --hand: #d79bff; --answer: #67d3de; --rest: #97a1b2;
-    --touch: #4a3d10; --touch-line: #e3bd4d; --turn: #1d3a2b;
+    --touch: #4a3d10; --touch-line: #e3bd4d; --turn: #1d3a2b; --was: #4a2422; --is: #1d3a2b;
   }
 }
 * { box-sizing: border-box; }
-body { margin: 0; background: var(--back); color: var(--ink); font: 14px/1.4 system-ui, sans-serif; }
+html { scroll-padding-top: 8px; }
+body { margin: 0; background: var(--back); color: var(--ink); font: 14px/1.45 system-ui, sans-serif; }
 header, main, footer { max-width: 1680px; margin: 0 auto; padding: 0 14px; }
-header { display: flex; flex-wrap: wrap; gap: 0 14px; align-items: baseline; padding-top: 6px; }
-h1 { font-size: 17px; margin: 0; }
-#config { font-size: 12.5px; }
-h2 { font-size: 14px; margin: 0 0 4px; }
-h3 { font-size: 12.5px; margin: 6px 0 3px; color: var(--dim); font-weight: 600; }
-p { margin: 0 0 4px; }
+header { display: flex; flex-wrap: wrap; gap: 2px 18px; align-items: center; padding-top: 6px; padding-bottom: 4px; }
+h1 { font-size: 18px; margin: 0; }
+h2 { font-size: 15px; margin: 0 0 4px; }
+h3 { font-size: 13px; margin: 8px 0 3px; color: var(--dim); font-weight: 600; }
+p { margin: 0 0 5px; }
+a { color: var(--enter); }
+nav { display: flex; flex-wrap: wrap; gap: 0 4px; }
+nav a, .pick { display: inline-flex; align-items: center; min-height: 32px; padding: 0 8px; }
+.skip { position: absolute; left: -999px; }
+.skip:focus { left: 8px; top: 4px; background: var(--card); padding: 8px; z-index: 9; }
 .dim { color: var(--dim); }
-.card { background: var(--card); border: 1px solid var(--line); border-radius: 8px; padding: 7px 10px; margin: 0 0 8px; overflow: hidden; }
-.two { display: grid; grid-template-columns: repeat(auto-fit, minmax(min(100%, 420px), 1fr)); gap: 0 8px; align-items: start; }
+.card { background: var(--card); border: 1px solid var(--line); border-radius: 8px; padding: 8px 11px; margin: 0 0 8px; min-width: 0; }
 code, .mono { font-family: ui-monospace, \"DejaVu Sans Mono\", Menlo, monospace; font-size: 12.5px; }
-.row { display: flex; flex-wrap: wrap; gap: 4px 5px; align-items: center; }
-#player { position: sticky; top: 0; z-index: 2; }
-button, select, input { font: inherit; color: inherit; background: var(--back); border: 1px solid var(--line); border-radius: 6px; padding: 2px 8px; }
-button, select { cursor: pointer; }
+.row { display: flex; flex-wrap: wrap; gap: 5px 6px; align-items: center; }
+button, select, input, textarea { font: inherit; color: inherit; background: var(--back); border: 1px solid var(--edge); border-radius: 6px; }
+button, select, input:not([type=checkbox]):not([type=range]) { padding: 2px 10px; min-height: 32px; }
+button { min-width: 32px; }
+button, select, summary, label.file { cursor: pointer; }
 button:hover, select:hover { border-color: var(--ink); }
 button:disabled { color: var(--dim); cursor: default; border-style: dashed; }
-:focus-visible { outline: 2px solid var(--enter); outline-offset: 1px; }
+button.here, .pick.here { background: var(--touch); border-color: var(--touch-line); color: var(--ink); }
+:focus-visible { outline: 3px solid var(--enter); outline-offset: 1px; }
 ::placeholder { color: var(--dim); opacity: 1; }
-#slider { flex: 1 1 160px; min-width: 100px; padding: 0; accent-color: var(--enter); }
-#where { font-variant-numeric: tabular-nums; }
-#event { margin: 5px 0 0; min-height: 2.8em; }
-#event b { font-weight: 650; }
+input[type=checkbox] { width: 20px; height: 20px; margin: 6px; vertical-align: middle; }
+summary { font-weight: 600; min-height: 32px; padding: 5px 0; }
+kbd { border: 1px solid var(--edge); border-radius: 4px; padding: 0 4px; font: 12.5px ui-monospace, monospace; }
+.term { border-bottom: 1px dotted currentColor; font-style: normal; cursor: help; }
+#tip { position: absolute; z-index: 20; max-width: 320px; background: var(--ink); color: var(--card); border-radius: 6px; padding: 6px 10px; font-size: 13px; }
 .bad { background: var(--mark); color: var(--card); padding: 8px 12px; border-radius: 8px; margin: 0 0 8px; font-weight: 600; }
 .good { color: var(--serve); font-weight: 600; }
-.top { display: flex; flex-wrap: wrap; gap: 2px 16px; align-items: baseline; justify-content: space-between; }
-#body { width: 11.5em; }
+.intro { display: grid; grid-template-columns: minmax(280px, 5fr) minmax(300px, 6fr); gap: 6px 24px; align-items: center; }
+.intro ol { margin: 0 0 8px; padding-left: 20px; } .intro li { margin-bottom: 5px; }
+.picture { overflow-x: auto; } .intro svg { width: 100%; min-width: 600px; max-height: 290px; height: auto; }
+.intro svg text, #turns text, #lanes text { fill: var(--ink); font: 13px system-ui, sans-serif; }
+.intro svg .node { fill: var(--back); stroke: var(--edge); stroke-width: 1.5; } .intro svg .busy { fill: var(--turn); stroke: var(--serve); }
+.intro svg .small { font-size: 13px; fill: var(--dim); }
+.link { stroke: var(--ink); stroke-width: 1.6; fill: none; } .tip-of-link { fill: var(--ink); stroke: none; }
+.choose { display: grid; grid-template-columns: 10fr 8fr 6fr; gap: 4px 20px; }
+#tour, #examples { columns: 2; column-gap: 30px; } .choose li { break-inside: avoid; }
+.choose ol, .choose ul { margin: 0; padding: 0 0 0 22px; } .choose ul { list-style: none; padding-left: 0; }
+.own { display: grid; grid-template-columns: repeat(auto-fit, minmax(150px, 1fr)); gap: 6px 12px; align-items: end; }
+.own label { display: block; font-size: 13px; } .own input, .own select { display: block; width: 100%; }
+#stage { display: grid; grid-template-columns: minmax(0, 1fr); gap: 0 8px; }
+#player { position: sticky; top: 0; z-index: 3; box-shadow: 0 3px 8px rgb(0 0 0 / 12%); }
+#stage:focus, #player:focus { outline: none; }
+#slider { flex: 1 1 120px; min-width: 90px; height: 32px; margin: 0; padding: 0; accent-color: var(--enter); }
+#where { font-variant-numeric: tabular-nums; }
+#event { margin: 5px 0 0; min-height: 2.9em; }
+#breaks:not(:empty) { background: var(--mark); color: var(--card); border-radius: 6px; padding: 4px 10px; margin-top: 4px; font-weight: 600; }
+#more-toggle { display: none; }
+@media (min-width: 1100px) {
+  #event { min-height: 1.45em; }
+  #stage { grid-template-columns: minmax(0, 1fr) 436px; grid-template-rows: auto auto auto auto auto 1fr; }
+  #stage > * { grid-column: 1; } #player { grid-column: 1 / -1; }
+  #code { grid-column: 2; grid-row: 2 / span 5; align-self: start; position: sticky; top: calc(var(--bar) + 8px); max-height: calc(100vh - var(--bar) - 34px); overflow: auto; }
+}
+.top { display: flex; flex-wrap: wrap; gap: 2px 16px; align-items: center; justify-content: space-between; }
+#body { width: 10.5em; }
 #hint { color: var(--wait); font-weight: 600; }
-#turns { max-height: 74px; overflow: auto; }
-#list, #history { max-height: max(190px, calc(100vh - 508px)); overflow: auto; }
-#lanes { display: grid; grid-template-columns: var(--names) 1fr; overflow: auto; max-height: max(150px, calc(100vh - 620px)); position: relative; }
+.moment { display: grid; grid-template-columns: auto 1fr; gap: 8px; align-items: start; margin-top: 4px; }
+#moments { display: flex; flex-wrap: wrap; gap: 4px; }
+#lanes { display: grid; grid-template-columns: var(--names) minmax(0, 1fr); overflow: auto; max-height: max(178px, calc(100vh - 500px)); position: relative; }
 #turns svg, #lanes svg { display: block; }
-#turns text, #lanes text { fill: var(--ink); font: 11.5px system-ui, sans-serif; }
-#lanes .code { font: 10.5px ui-monospace, \"DejaVu Sans Mono\", monospace; fill: var(--card); text-anchor: middle; }
+#lanes .code { font: 600 12px ui-monospace, \"DejaVu Sans Mono\", monospace; fill: var(--card); text-anchor: middle; }
 #lanes .later .code { fill: var(--ink); }
-#lanes text.tick, #turns text.side { fill: var(--dim); }
+#lanes text.tick, #turns text.side { fill: var(--dim); font-size: 12px; }
 #lanes .lane { stroke: var(--line); }
 #lanes .cell, #turns .turn { cursor: pointer; }
-#lanes .now { fill: none; stroke: var(--ink); stroke-width: 2; }
-#turns .turn rect { fill: var(--turn); stroke: var(--serve); }
+#lanes .now { fill: none; stroke: var(--ink); stroke-width: 2.5; }
+#turns .turn rect { fill: var(--turn); stroke: var(--serve); } #turns .turn rect.later { fill: none; stroke-dasharray: 3 3; }
 #turns .now { stroke: var(--ink); stroke-width: 2; }
-#turns .window { fill: none; stroke: var(--dim); stroke-dasharray: 2 3; }
-.pass { display: flex; height: 24px; padding: 1px 6px 1px 0; gap: 3px; }
-.pass button { padding: 0 5px; line-height: 20px; white-space: nowrap; overflow: hidden; }
+#turns .turn text { font-size: 12.5px; }
+.pass { display: flex; height: 36px; padding: 2px 6px 2px 0; gap: 4px; }
+.pass button { padding: 0 6px; white-space: nowrap; overflow: hidden; }
 .pass .step { flex: 1; min-width: 0; display: flex; gap: 6px; align-items: center; text-align: left; }
-.pass .step span { flex: 1; overflow: hidden; text-overflow: ellipsis; color: var(--dim); font-size: 12px; }
+.pass .step span { flex: 1; overflow: hidden; text-overflow: ellipsis; color: var(--dim); font-size: 12.5px; }
 .pass .step b { min-width: 22px; }
-.pass .step code { font-size: 11px; }
-.pass.moved .step { border-color: var(--ink); }
-.dot { display: inline-block; flex: none; width: 10px; height: 10px; border-radius: 3px; margin-right: 2px; }
-.legend { font-size: 11.5px; line-height: 1.5; margin: 3px 0 0; }
-.legend span { display: inline-block; margin-right: 7px; }
-.legend code { font-size: 10.5px; font-weight: 700; }
-.boxes { display: flex; flex-wrap: wrap; align-items: stretch; gap: 4px 0; list-style: none; margin: 0; padding: 0; }
-.boxes li { display: flex; align-items: center; }
-.box { border: 1.5px solid var(--line); border-radius: 6px; padding: 1px 6px; font-size: 12px; line-height: 1.3; background: var(--back); min-width: 70px; }
+.pass .step code { font-size: 12px; font-weight: 700; }
+.pass.moved .step { border-color: var(--ink); border-width: 2px; }
+.dot { display: inline-block; flex: none; width: 11px; height: 11px; border-radius: 3px; margin-right: 3px; }
+.legend { font-size: 12.5px; margin: 4px 0 0; } .legend span { display: inline-block; margin-right: 10px; }
+.strip { overflow-x: auto; padding-bottom: 3px; }
+.boxes { display: flex; flex-wrap: nowrap; align-items: stretch; list-style: none; margin: 0; padding: 0; width: max-content; }
+.boxes > li { display: flex; align-items: flex-end; }
+.parts { display: flex; flex-wrap: wrap; gap: 4px 36px; align-items: flex-end; } .parts > * { max-width: 100%; min-width: 0; } .outside h3 { margin: 0; }
+.boxes.loose > li { margin-right: 8px; }
+.stack { display: flex; flex-direction: column; justify-content: flex-end; }
+.ends { display: flex; gap: 8px; justify-content: center; min-height: 36px; align-items: flex-end; }
+.end { display: flex; flex-direction: column; align-items: center; font-size: 12.5px; line-height: 1.2; font-weight: 600; color: var(--enter); white-space: nowrap; }
+.end.tail { color: var(--answer); } .end.cursor { color: var(--hand); } .end.looks { color: var(--wait); } .end.serves { color: var(--serve); }
+.end.touch { background: var(--touch); color: var(--ink); border-radius: 4px 4px 0 0; padding: 0 4px; }
+.end svg path { stroke: currentColor; stroke-width: 2; fill: none; } .end svg .tip-of-link { fill: currentColor; stroke: none; }
+.box { display: block; border: 1.5px solid var(--edge); border-radius: 6px; padding: 2px 8px; font-size: 12.5px; line-height: 1.35; background: var(--back); min-width: 84px; white-space: nowrap; }
 .box.touch, tr.touch td, .word.touch { background: var(--touch); border-color: var(--touch-line); }
-.box.serve { border-color: var(--serve); border-width: 2px; }
-.box.wait { border-color: var(--wait); }
-.box.done, .box.dummy { border-style: dashed; }
-.box.free { border-style: dotted; color: var(--dim); }
-.box.prepare { border-color: var(--hand); border-style: dashed; }
+.box.touch .dim, tr.touch .pending { color: var(--ink); }
+.box.serve { border-color: var(--serve); border-width: 2.5px; } .box.wait { border-color: var(--wait); }
+.box.done, .box.dummy { border-style: dashed; } .box.free { border-style: dotted; color: var(--dim); } .box.prepare { border-color: var(--hand); border-style: dashed; border-width: 2px; }
 .tagline { display: block; }
-.badge { display: inline-block; border-radius: 4px; padding: 0 4px; margin: 1px 2px 0 0; font-size: 11px; border: 1px solid currentColor; color: var(--enter); }
-.badge.tail { color: var(--answer); } .badge.cursor { color: var(--hand); } .badge.looks { color: var(--wait); } .badge.serves { color: var(--serve); }
-.touch .badge { color: var(--ink); }
-.arrow { padding: 0 4px; color: var(--dim); white-space: nowrap; font-size: 12.5px; }
-.arrow.none { color: var(--wait); }
+.arrow { flex: none; align-self: flex-end; padding: 0 3px; margin-bottom: 20px; color: var(--dim); font-size: 12.5px; white-space: nowrap; display: flex; flex-direction: column; align-items: center; }
+.arrow svg { display: block; } .arrow.none { color: var(--wait); } .arrow.none .link { stroke: var(--wait); stroke-dasharray: 3 3; }
+.arrow.wrong { color: var(--mark); font-weight: 600; }
 .words { display: flex; flex-wrap: wrap; gap: 3px 5px; margin-top: 6px; }
-.word { border: 1px solid var(--line); border-radius: 5px; padding: 0 5px; font-size: 12px; }
-table { border-collapse: collapse; width: 100%; font-size: 12px; }
-td { padding: 0 7px 0 0; border: 0; vertical-align: top; white-space: nowrap; }
-#history table { font-size: 11.5px; }
-.columns { display: grid; grid-template-columns: repeat(auto-fit, minmax(min(100%, 210px), 1fr)); gap: 0 12px; }
-@media (min-width: 1100px) { .two.wide { grid-template-columns: 5fr 6fr; } }
+.word { border: 1px solid var(--line); border-radius: 5px; padding: 1px 6px; font-size: 12.5px; }
+table { border-collapse: collapse; width: 100%; font-size: 12.5px; }
+td, th { padding: 0 10px 0 0; border: 0; vertical-align: top; white-space: nowrap; text-align: left; font-weight: inherit; }
+.two { display: grid; grid-template-columns: repeat(auto-fit, minmax(min(100%, 400px), 1fr)); gap: 0 8px; align-items: start; }
+.columns { display: grid; grid-template-columns: repeat(auto-fit, minmax(min(100%, 230px), 1fr)); gap: 0 12px; }
 .list { position: relative; max-height: 190px; overflow: auto; }
 .pending { color: var(--wait); }
-pre, textarea { margin: 0; max-height: 320px; overflow: auto; white-space: pre-wrap; }
-textarea { display: block; width: 100%; height: 8em; color: inherit; background: var(--back); border: 1px solid var(--line); border-radius: 6px; }
-summary { cursor: pointer; font-weight: 600; }
-dl { display: grid; grid-template-columns: auto 1fr; gap: 1px 12px; margin: 0; font-size: 12.5px; }
+.program { list-style: none; margin: 0; padding: 0; font: 12.5px/1.5 ui-monospace, \"DejaVu Sans Mono\", Menlo, monospace; }
+.program li { display: flex; justify-content: space-between; gap: 8px; padding: 0 6px; border-left: 4px solid transparent; white-space: pre; }
+.program li span:last-child { color: var(--dim); }
+.program li.lit { background: var(--touch); border-left-color: var(--touch-line); font-weight: 700; } .program li.lit span:last-child { color: var(--ink); }
+.program li.changed { border-left-color: var(--mark); background: var(--was); } .program li.changed.lit { background: var(--touch); }
+#code-head { position: sticky; top: -8px; margin-top: -8px; padding-top: 8px; background: var(--card); }
+#holds { border-bottom: 1px solid var(--line); padding-bottom: 3px; min-height: 7.4em; } .part:first-child h3 { margin-top: 5px; }
+.change { font-size: 12.5px; white-space: pre-wrap; overflow-wrap: anywhere; margin: 2px 0; padding: 2px 6px; border-radius: 4px; display: block; text-decoration: none; }
+del.change { background: var(--was); } ins.change { background: var(--is); }
+pre, textarea { margin: 0; max-height: 320px; overflow: auto; white-space: pre-wrap; overflow-wrap: anywhere; }
+textarea { display: block; width: 100%; height: 7em; padding: 4px 8px; }
+dl { display: grid; grid-template-columns: auto 1fr; gap: 2px 14px; margin: 0; font-size: 13px; }
 dt { font-weight: 600; } dd { margin: 0; color: var(--dim); }
-footer { padding-bottom: 20px; font-size: 13px; }
-kbd { border: 1px solid var(--line); border-radius: 4px; padding: 0 4px; font: 12px ui-monospace, monospace; }
+footer { padding-bottom: 24px; font-size: 13px; }
+body.bare header, body.bare #intro, body.bare #choose, body.bare footer { display: none; } body.bare main { padding-top: 8px; }
+@media (max-width: 1180px) { .intro { grid-template-columns: minmax(0, 1fr); } }
+@media (max-width: 900px) { .choose { grid-template-columns: minmax(0, 1fr); } #tour, #examples { columns: auto 220px; } .choose li { margin: 2px 0; } }
 @media (max-width: 640px) {
-  :root { --names: 84px; }
+  :root { --names: 96px; }
   header, main, footer { padding-left: 8px; padding-right: 8px; }
-  .card { padding: 6px 7px; }
+  .card { padding: 7px 8px; }
   .pass .step span, .pass .step code { display: none; }
-  #player { position: static; }
+  .moment { grid-template-columns: 1fr; }
+  #more-toggle { display: inline-block; } #player:not(.open) #more { display: none; }
+  #more { width: 100%; }
+  #event { font-size: 13px; max-height: 8.4em; overflow: auto; }
+  #event .dim { display: none; }
+  dl { grid-template-columns: 1fr; } dd { margin-bottom: 6px; }
+  .program { font-size: 12px; }
 }
 @media (prefers-reduced-motion: no-preference) { .box, .word { transition: background-color .12s; } }
+@media print {
+  :root { color-scheme: light; --back: #fff; --card: #fff; --ink: #000; --dim: #444; --line: #999; --edge: #555; --mark: #8c1d18; --enter: #1d4f9e; --wait: #7a4900; --serve: #125c38; --hand: #6b2d92; --answer: #075b66; --rest: #555; --touch: #fff0b8; --touch-line: #8a6700; --turn: #dcefe4; --was: #fbe4e2; --is: #dff2e6; }
+  * { print-color-adjust: exact; -webkit-print-color-adjust: exact; }
+  body { font-size: 10pt; } #program { columns: 2; } .part { break-inside: avoid; } .intro svg { min-width: 0; }
+  nav, #choose, footer, .skip, #player .row, #add, #moments, #lesson .row, .more, #texts, #tip { display: none !important; }
+  #player, #code, #code-head { position: static; box-shadow: none; max-height: none; overflow: visible; }
+  #lanes, .list, .strip { max-height: none; overflow: visible; } #cells, #turns { overflow: hidden; }
+  #law button, #law details:not([open]) { display: none; }
+  .card { break-inside: avoid; }
+  #stage { display: block; }
+}
 </style>
 </head>
 <body>
+<a class=\"skip\" href=\"#stage\">To the run</a>
 <header>
-<h1>CC-Queue, event by event</h1>
-<p class=\"dim\" id=\"config\"></p>
+<h1>CC-Queue, step by step</h1>
+<nav aria-label=\"Parts of this page\"><a href=\"#choose\">Tour and scenarios</a><a href=\"#stage\">The run</a><a href=\"#own\">Your own queue</a><a href=\"#glossary\">Words</a><a href=\"#keys\">Keys</a></nav>
 </header>
 <main>
 <noscript><p class=\"bad\">The pictures are drawn by the script of this page, which is turned off. The events and the report are in its source.</p></noscript>
 <div id=\"alarm\" role=\"alert\"></div>
-<section class=\"card\" id=\"player\" tabindex=\"-1\" aria-label=\"Player\">
+<section class=\"card\" id=\"intro\" aria-labelledby=\"intro-title\">
+<h2 id=\"intro-title\">The algorithm in five sentences</h2>
+<div class=\"intro\">
+<ol>
+<li>CC-Queue is a first-in, first-out queue that many threads use at once: senders append items, and receivers take them.</li>
+<li>Senders don't contend for a lock: each swaps a <dfn class=\"term\" tabindex=\"0\" data-word=\"node\">node</dfn> into a <dfn class=\"term\" tabindex=\"0\" data-word=\"chain\">chain</dfn> and writes its request there, and one of them, the <dfn class=\"term\" tabindex=\"0\" data-word=\"combiner\">combiner</dfn>, serves the requests of all, up to a <dfn class=\"term\" tabindex=\"0\" data-word=\"bound\">bound</dfn>, and then hands over.</li>
+<li>The items are in a linked list whose first node is a <dfn class=\"term\" tabindex=\"0\" data-word=\"dummy\">dummy</dfn>, so that senders append at one end while receivers, who have chains of their own, take at the other.</li>
+<li>Each <dfn class=\"term\" tabindex=\"0\" data-word=\"step\">step</dfn> of a thread reads or changes one word, the steps of all threads interleave in any order, and for every order it is proved that items leave in the order in which they came.</li>
+<li>On this page you choose the order: follow the tour, make the steps of each <dfn class=\"term\" tabindex=\"0\" data-word=\"pass\">pass</dfn> yourself, and see what broken queues lose.</li>
+</ol>
+<div class=\"picture\" tabindex=\"0\" role=\"group\" aria-label=\"picture of the chains and the list\"><svg viewBox=\"0 0 620 250\" role=\"img\" aria-label=\"Three senders on their chain, of which the first combines and appends to the list; a receiver combines on its own chain and takes from the other end of the list.\">
+<defs><marker id=\"tip-of-arrow\" viewBox=\"0 0 10 10\" refX=\"9\" refY=\"5\" markerWidth=\"7\" markerHeight=\"7\" orient=\"auto\"><path class=\"tip-of-link\" d=\"M0 0L10 5L0 10z\"/></marker></defs>
+<text x=\"8\" y=\"18\">The chain of the senders</text><text x=\"430\" y=\"18\">The chain of the receivers</text>
+<rect class=\"node busy\" x=\"8\" y=\"28\" width=\"74\" height=\"42\" rx=\"6\"/><text x=\"18\" y=\"46\">s1: 7</text><text class=\"small\" x=\"18\" y=\"63\">serves</text>
+<rect class=\"node\" x=\"112\" y=\"28\" width=\"74\" height=\"42\" rx=\"6\"/><text x=\"122\" y=\"46\">s2: 8</text><text class=\"small\" x=\"122\" y=\"63\">waits</text>
+<rect class=\"node\" x=\"216\" y=\"28\" width=\"74\" height=\"42\" rx=\"6\"/><text x=\"226\" y=\"46\">s3: 9</text><text class=\"small\" x=\"226\" y=\"63\">waits</text>
+<path class=\"link\" d=\"M82 49H110\" marker-end=\"url(#tip-of-arrow)\"/><path class=\"link\" d=\"M186 49H214\" marker-end=\"url(#tip-of-arrow)\"/>
+<rect class=\"node busy\" x=\"430\" y=\"28\" width=\"74\" height=\"42\" rx=\"6\"/><text x=\"440\" y=\"46\">r1: take</text><text class=\"small\" x=\"440\" y=\"63\">serves</text>
+<rect class=\"node\" x=\"534\" y=\"28\" width=\"74\" height=\"42\" rx=\"6\"/><text x=\"544\" y=\"46\">r2: take</text><text class=\"small\" x=\"544\" y=\"63\">waits</text>
+<path class=\"link\" d=\"M504 49H532\" marker-end=\"url(#tip-of-arrow)\"/>
+<text x=\"8\" y=\"195\">The list</text>
+<rect class=\"node\" x=\"70\" y=\"170\" width=\"92\" height=\"40\" rx=\"6\" stroke-dasharray=\"5 4\"/><text x=\"84\" y=\"195\">dummy</text>
+<rect class=\"node\" x=\"200\" y=\"170\" width=\"92\" height=\"40\" rx=\"6\"/><text x=\"214\" y=\"195\">item 4</text>
+<rect class=\"node\" x=\"330\" y=\"170\" width=\"92\" height=\"40\" rx=\"6\"/><text x=\"344\" y=\"195\">item 5</text>
+<rect class=\"node\" x=\"460\" y=\"170\" width=\"92\" height=\"40\" rx=\"6\"/><text x=\"474\" y=\"195\">item 6</text>
+<path class=\"link\" d=\"M162 190H198\" marker-end=\"url(#tip-of-arrow)\"/><path class=\"link\" d=\"M292 190H328\" marker-end=\"url(#tip-of-arrow)\"/><path class=\"link\" d=\"M422 190H458\" marker-end=\"url(#tip-of-arrow)\"/>
+<path class=\"link\" d=\"M45 70C45 130 506 90 506 168\" marker-end=\"url(#tip-of-arrow)\"/><text x=\"112\" y=\"86\">s1 appends 7, 8 and 9</text>
+<path class=\"link\" d=\"M467 70C467 120 116 110 116 168\" marker-end=\"url(#tip-of-arrow)\"/><text x=\"210\" y=\"152\">r1 takes 4, the oldest item</text>
+<text class=\"small\" x=\"92\" y=\"226\">head</text><text class=\"small\" x=\"494\" y=\"226\">last</text>
+</svg></div>
+</div>
+</section>
+<section class=\"card\" id=\"choose\" aria-labelledby=\"choose-title\">
+<h2 id=\"choose-title\">Tour and scenarios: each opens a run that you can drive on</h2>
+<div class=\"choose\">
+<div><h3>Guided tour</h3><ol id=\"tour\"></ol></div>
+<div><h3>Scenarios</h3><ul id=\"examples\"></ul></div>
+<div><h3>Broken queues: what goes wrong, and the law that breaks</h3><ul id=\"broken\"></ul></div>
+</div>
+<details id=\"own\"><summary>Your own queue, or a plan</summary>
+<form id=\"own-form\" class=\"own\">
+<label>senders<input name=\"senders\" type=\"number\" min=\"1\" max=\"64\" value=\"2\"></label>
+<label>receivers of a group<input name=\"receivers\" type=\"number\" min=\"1\" max=\"64\" value=\"1\"></label>
+<label>groups<input name=\"groups\" type=\"number\" min=\"1\" max=\"8\" value=\"1\"></label>
+<label>capacity<input name=\"capacity\" type=\"number\" min=\"1\" max=\"4096\" value=\"2\"></label>
+<label>bound<input name=\"bound\" type=\"number\" min=\"1\" max=\"1024\" value=\"2\"></label>
+<label>life (items ever accepted)<input name=\"life\" type=\"number\" min=\"1\" max=\"281474976710656\" value=\"100\"></label>
+<label>sends of each sender<input name=\"sends\" type=\"number\" min=\"0\" max=\"1000\" value=\"2\"></label>
+<label>words of an item<input name=\"words\" type=\"number\" min=\"1\" max=\"4\" value=\"1\"></label>
+<label>takes of each receiver<input name=\"takes\" type=\"number\" min=\"0\" max=\"1000\" value=\"4\"></label>
+<label>table of steps<select name=\"table\" class=\"tables\"></select></label>
+<button>open this queue</button>
+</form>
+<h3>Open a plan: paste its JSON, or choose a file</h3>
+<textarea id=\"import\" class=\"mono\" aria-label=\"a plan in JSON\" placeholder='{\"capacity\":2,\"bound\":2,\"life\":10,\"senders\":<dfn class=\"term\" tabindex=\"0\" data-word=\"7\">7</dfn>,\"receivers\":[1],\"schedule\":[[\"s1\",100],[\"r1\",100]]}'></textarea>
+<div class=\"row\" style=\"margin-top:5px\"><button id=\"open-plan\" type=\"button\">open this plan</button><input id=\"file\" type=\"file\" accept=\".json,application/json\" aria-label=\"a file with a plan\"></div>
+<p id=\"import-hint\" role=\"status\"></p>
+</details>
+</section>
+<section id=\"stage\" tabindex=\"-1\" aria-label=\"The run\">
+<div class=\"card\" id=\"player\" tabindex=\"-1\" role=\"group\" aria-label=\"Player\">
 <div class=\"row\">
-<button id=\"first\" title=\"to the opening (Home)\">first</button>
-<button id=\"before\" title=\"to the decision before this event (Page up)\">&#171; decision</button>
 <button id=\"back\" title=\"one event back (left arrow)\">&#8592; back</button>
 <button id=\"play\" title=\"plays event by event (space)\" aria-pressed=\"false\">play</button>
 <button id=\"next\" title=\"one event on (right arrow)\">next &#8594;</button>
-<button id=\"after\" title=\"to the next decision (Page down)\">decision &#187;</button>
-<button id=\"last\" title=\"to the last event (End)\">last</button>
 <input id=\"slider\" type=\"range\" min=\"0\" value=\"0\" step=\"1\" aria-label=\"event\">
 <span id=\"where\"></span>
+<button id=\"more-toggle\" aria-expanded=\"false\" aria-controls=\"more\">more</button>
+<div class=\"row\" id=\"more\">
+<button id=\"first\" title=\"to the opening (Home)\">first</button>
+<button id=\"before\" title=\"to the decision before this event (D)\">&#171; decision</button>
+<button id=\"after\" title=\"to the next decision (d)\">decision &#187;</button>
+<button id=\"last\" title=\"to the last event (End)\">last</button>
 <select id=\"speed\" aria-label=\"speed of play\"><option value=\"1000\">1 a second</option><option value=\"333\" selected>3 a second</option><option value=\"100\">10 a second</option><option value=\"33\">30 a second</option></select>
 <select id=\"branches\" aria-label=\"which run\"></select>
-<button id=\"export\" title=\"the plan whose run is this one, up to this event\">export plan</button>
+<button id=\"export\" title=\"the plan whose run is this one, up to this event, and a link to it\">export plan</button>
 </div>
-<div id=\"event\" aria-live=\"polite\"></div>
+</div>
+<div id=\"event\" role=\"status\" aria-live=\"polite\" aria-atomic=\"true\"></div>
+<div id=\"breaks\" role=\"alert\"></div>
+</div>
+<section class=\"card\" id=\"lesson\" aria-labelledby=\"lesson-title\">
+<div class=\"top\"><h2 id=\"lesson-title\"></h2><div class=\"row\"><button id=\"stop-before\" title=\"the stop before (p)\">&#171; stop</button><button id=\"stop-next\" title=\"the next stop (n)\">next stop &#187;</button></div></div>
+<p id=\"lesson-text\"></p>
+<div class=\"moment\" id=\"moment\"><div id=\"moments\" role=\"group\" aria-label=\"moments of this run\"></div><div id=\"moment-text\"></div></div>
+<p class=\"dim\" id=\"config\"></p>
+<div id=\"law\"></div>
 </section>
-<section class=\"card\" aria-labelledby=\"lanes-title\">
+<section class=\"card\" id=\"passes\" aria-labelledby=\"lanes-title\">
 <div class=\"top\">
-<h2 id=\"lanes-title\">The passes: a click on one makes its next step</h2>
+<h2 id=\"lanes-title\">The passes: press one to step</h2>
 <form id=\"add\" class=\"row\">
 <select id=\"caller\" aria-label=\"the pass that gets a further call\"></select>
-<input id=\"body\" aria-label=\"the words of the body\" placeholder=\"one to four words\" autocomplete=\"off\" inputmode=\"numeric\">
+<input id=\"body\" aria-label=\"the words of the item\" placeholder=\"one to four words\" autocomplete=\"off\" inputmode=\"numeric\">
 <button id=\"add-send\">add send</button><button id=\"add-close\" type=\"button\">add close</button><button id=\"add-take\" type=\"button\">add take</button>
 <label id=\"all-label\"><input id=\"all\" type=\"checkbox\"> all passes</label>
 </form>
 </div>
 <p id=\"hint\" role=\"status\" hidden></p>
 <div id=\"turns\"></div>
-<div id=\"lanes\" tabindex=\"0\" aria-label=\"lanes of the passes\"><div id=\"names\"></div><div id=\"cells\"></div></div>
+<div id=\"lanes\" tabindex=\"0\" role=\"group\" aria-label=\"lanes of the passes\"><div id=\"names\"></div><div id=\"cells\"></div></div>
 <p class=\"legend\" id=\"legend\"></p>
 </section>
-<div class=\"two wide\">
+<section class=\"card\" id=\"code\" tabindex=\"0\" aria-labelledby=\"code-title\">
+<div id=\"code-head\"><h2 id=\"code-title\">The program, and the line of this step</h2><div id=\"holds\"></div></div>
+<div id=\"program\"></div>
+</section>
 <section class=\"card\" aria-labelledby=\"list-title\">
 <h2 id=\"list-title\">The list</h2>
 <div id=\"list\"></div>
 </section>
+<div id=\"rest\">
+<div class=\"two\" id=\"chains\"></div>
 <section class=\"card\" aria-labelledby=\"history-title\">
-<h2 id=\"history-title\">The history so far, in the order of the exchanges</h2>
+<h2 id=\"history-title\">The history so far, in the order of the swaps</h2>
 <div id=\"history\" class=\"columns\"></div>
 </section>
-</div>
-<div class=\"two\" id=\"chains\"></div>
-<details class=\"card\" id=\"texts\"><summary>The plan up to this event, and its report</summary>
+<details class=\"card\" id=\"order\"><summary>An order of all calls</summary><div id=\"order-text\"></div></details>
+<details class=\"card\" id=\"texts\"><summary>The plan up to this event, its link, and its report</summary>
 <div class=\"two\">
-<div><h3>plan</h3><textarea id=\"plan\" class=\"mono\" readonly aria-label=\"plan\"></textarea><p><a id=\"save\" download=\"plan.json\">plan.json</a></p></div>
+<div><h3>plan</h3><textarea id=\"plan\" class=\"mono\" readonly aria-label=\"plan\"></textarea>
+<div class=\"row\" style=\"margin-top:5px\"><a id=\"save\" class=\"pick\" download=\"plan.json\">save plan.json</a><button id=\"copy\" type=\"button\">copy the link</button></div>
+<input id=\"link\" class=\"mono\" readonly aria-label=\"link to this run\" style=\"width:100%\"></div>
 <div><h3>report, as <code>ccq play</code> writes it</h3><pre class=\"mono\" id=\"whole\" tabindex=\"0\"></pre></div>
 </div>
 </details>
+</div>
+</section>
 </main>
 <footer>
-<p class=\"dim\">Keys: <kbd>&#8592;</kbd> <kbd>&#8594;</kbd> one event. If the focus is in the player: <kbd>Page up</kbd> <kbd>Page down</kbd>
-to the decision before and the next one, <kbd>Home</kbd> <kbd>End</kbd>, <kbd>space</kbd> plays. A step that the run doesn't have next begins a
-branch. The address of this page with <code>#event=17</code> opens it after event 17.</p>
+<section id=\"keys\"><h2>Keys</h2>
+<p><kbd>&#8592;</kbd> <kbd>&#8594;</kbd> one event; <kbd>space</kbd> plays and stops, except in a field for text, and <kbd>Enter</kbd> presses a button; <kbd>d</kbd> <kbd>D</kbd> the next
+decision, and the one before; <kbd>1</kbd> to <kbd>9</kbd> a step of the first to ninth pass; <kbd>n</kbd> <kbd>p</kbd> the next stop, and the one before;
+<kbd>m</kbd> <kbd>M</kbd> the next moment of a stop, and the one before; <kbd>Esc</kbd> hides the explanation of a word. In the player <kbd>Home</kbd> and <kbd>End</kbd> go to the
+first and the last event, <kbd>Page up</kbd> and <kbd>Page down</kbd> to decisions. A step that the run doesn't have next begins a branch.</p></section>
+<section id=\"glossary\"><h2>Words</h2><dl id=\"words\"></dl></section>
 <details><summary>What a step of each kind does</summary><dl id=\"kinds\"></dl></details>
 </footer>
-<script type=\"text/plain\" id=\"run\">";
-
-/// The text between the run and the report.
-pub const MIDDLE: &[u8] = b"\
-</script>
-<script type=\"text/plain\" id=\"report\">";
-
-/// The text after the report.
-pub const BACK: &[u8] = b"\
+<div id=\"tip\" role=\"tooltip\" hidden></div>
+<script type=\"application/json\" id=\"lessons\">
+[
+{\"kind\":\"tour\",\"id\":\"lone\",\"title\":\"A lone send\",\"text\":\"One [[pass]], s1, sends the item 7 and no other pass moves. It swaps its [[node]] into the [[tail]] of the send [[chain]], finds that no pass combines, and serves its own call.\",\"plan\":{\"capacity\":2,\"bound\":2,\"life\":10,\"senders\":[[7]],\"receivers\":[1],\"schedule\":[[\"s1\",28]]},\"moments\":[[3,\"Exchange\",\"s1 swaps its own node into the tail and gets node 0. With this step the call enters the [[history]]: its place among all sends is fixed.\"],[6,\"Link\",\"The request is written, and s1 links its node to the one that it put into the tail. Only now can a [[combiner]] serve the request.\"],[7,\"ReadState\",\"State 0: s1 is the combiner. State 1 would mean wait, and state 2 done.\"],[20,\"LinkLast\",\"The list node with the item 7 is linked to the last node. This step is the [[decision]]: accepted 0.\"],[27,\"HandOver\",\"No further request is linked. s1 stores 0 into the state of the node in the tail: the call that gets this node combines next.\"],[28,\"ReadAnswer\",\"s1 reads its answer, and its call returns.\"]]},
+{\"kind\":\"tour\",\"id\":\"three\",\"title\":\"Three sends that one serves\",\"text\":\"Three senders have linked their requests before any is served. s1 is the [[combiner]]: it serves all three in one [[turn]], in the order of their swaps, while s2 and s3 only read their own states.\",\"plan\":{\"capacity\":4,\"bound\":4,\"life\":10,\"senders\":[[1],[2],[3]],\"receivers\":[0],\"schedule\":[[\"s1\",6],[\"s2\",6],[\"s3\",6],[\"s2\",2],[\"s3\",2],[\"s1\",58],[\"s2\",2],[\"s3\",2]]},\"moments\":[[18,\"Link\",\"Three requests are linked: node 0 of s1, node 1 of s2, node 2 of s3. The tail names node 3, which has no request yet.\"],[19,\"ReadState\",\"s2 reads state 1 and waits. It reads its own node alone, so it disturbs no other pass.\"],[42,\"ReadNext\",\"s1 reads the next link before it serves: node 1 has a successor, so its request is complete.\"],[59,\"MarkDone\",\"s1 has written the answer of s2 and marks node 1 done. s2 may return from now on.\"],[79,\"HandOver\",\"All three are served. s1 hands over to node 3, the node in the tail.\"],[84,\"ReadAnswer\",\"s3 returns, and has not touched the list at all.\"]]},
+{\"kind\":\"tour\",\"id\":\"bound\",\"title\":\"The hand-over at the bound\",\"text\":\"The [[bound]] is 2: a [[combiner]] serves at most two calls in one [[turn]]. s1 serves s1 and s2, and hands over to s3, so that no pass serves others for ever.\",\"plan\":{\"capacity\":4,\"bound\":2,\"life\":10,\"senders\":[[1],[2],[3]],\"receivers\":[0],\"schedule\":[[\"s1\",6],[\"s2\",6],[\"s3\",8],[\"s1\",39],[\"s3\",22],[\"s2\",2]]},\"moments\":[[57,\"MarkDone\",\"s1 has served two calls, as many as the bound.\"],[58,\"HandOver\",\"[[Hand-over]]: s1 stores 0 into the state of node 2, on which s3 waits.\"],[60,\"ReadState\",\"s3 reads 0, and is the combiner now. At no moment did two passes combine.\"],[73,\"LinkLast\",\"s3 serves its own call: accepted 2.\"]]},
+{\"kind\":\"tour\",\"id\":\"take\",\"title\":\"A take\",\"text\":\"The item 7 is in the list. r1 takes it: the receivers have a [[chain]] of their own, and the list begins with its [[dummy]], the node of the item that was taken last.\",\"plan\":{\"capacity\":2,\"bound\":2,\"life\":10,\"senders\":[[7]],\"receivers\":[1],\"schedule\":[[\"s1\",28],[\"r1\",23]]},\"moments\":[[35,\"ReadObject\",\"r1 combines on the take chain and reads the [[head]]: node 0 is the dummy.\"],[37,\"ReadDummyNext\",\"The next link of the dummy names node 1, so the list has an item.\"],[39,\"ReadItem\",\"r1 reads the word of the item, 7, while node 1 is still in the list.\"],[40,\"WriteObject\",\"The head moves to node 1, which is the dummy from now on.\"],[42,\"AddPassed\",\"r1 adds 1 to the [[passed]] count of node 0. This is the decision, got 0, and it frees node 0 for a later send.\"]]},
+{\"kind\":\"tour\",\"id\":\"empty\",\"title\":\"Empty, and a send in between\",\"text\":\"s1 has prepared a list node and stops one step before the link. A take that runs now returns Empty, and rightly: the send has not taken effect yet.\",\"plan\":{\"capacity\":2,\"bound\":2,\"life\":10,\"senders\":[[7]],\"receivers\":[2],\"schedule\":[[\"s1\",19],[\"r1\",14],[\"s1\",9],[\"r1\",23]]},\"moments\":[[19,\"ReadObject\",\"Node 1 holds the item 7, and no link leads to it.\"],[28,\"ReadDummyNext\",\"r1 reads null in the next link of the dummy. This load decides Empty.\"],[34,\"LinkLast\",\"s1 links node 1: accepted 0. The send takes effect after the take.\"],[56,\"AddPassed\",\"The second take gets the item.\"]]},
+{\"kind\":\"tour\",\"id\":\"scan\",\"title\":\"Full, and when it takes effect\",\"text\":\"The [[capacity]] is 1, and the item 5 waits. The send of s2 scans all list nodes for a free one. During the scan r1 takes the item, and the send still returns Full: it takes effect when its scan begins.\",\"plan\":{\"capacity\":1,\"bound\":2,\"life\":10,\"senders\":[[5],[6]],\"receivers\":[1],\"schedule\":[[\"s1\",28],[\"s2\",14],[\"r1\",23],[\"s2\",6]]},\"moments\":[[41,\"ReadObject\",\"s2 reads the [[cursor]], at which its scan begins. Both list nodes are busy at this moment: Full takes effect here.\"],[42,\"ReadPassed\",\"Node 0 is the dummy, and no group has gone past it: it is busy.\"],[56,\"AddPassed\",\"r1 takes the item 5. Node 0 is free from now on, but s2 has read it already.\"],[66,\"ReadPassed\",\"Node 1 is the dummy now, and busy. The scan is over: this load decides Full.\"]],\"opens\":\"order\"},
+{\"kind\":\"tour\",\"id\":\"again\",\"title\":\"A node that is used again\",\"text\":\"The [[capacity]] is 1, so the list has two ordinary nodes. r1 takes the item 5, which frees node 0. The send of s2 uses node 0 again, and no item is lost.\",\"plan\":{\"capacity\":1,\"bound\":2,\"life\":10,\"senders\":[[5],[7]],\"receivers\":[2],\"schedule\":[[\"s1\",28],[\"r1\",23],[\"s2\",28],[\"r1\",23]]},\"moments\":[[42,\"AddPassed\",\"All groups have gone past node 0: it is free.\"],[65,\"ReadPassed\",\"The scan of s2 begins at the cursor and finds node 0 free.\"],[67,\"ResetListNode\",\"s2 clears the passed count and the next link of node 0. The node is out of the list, so no take can read it.\"],[71,\"LinkLast\",\"Node 0 is linked after node 1: accepted 1.\"],[93,\"AddPassed\",\"r1 takes the item 7 and frees node 1.\"]]},
+{\"kind\":\"tour\",\"id\":\"close\",\"title\":\"A close\",\"text\":\"s1 sends 5, closes the queue, and tries to send 6. The [[closing mark]] is a list node of its own, so a close is never Full. Receivers take what is left, and then get Ended.\",\"plan\":{\"capacity\":2,\"bound\":2,\"life\":10,\"senders\":[[5,\"close\",6]],\"receivers\":[2],\"schedule\":[[\"s1\",65],[\"r1\",38]]},\"moments\":[[42,\"LinkLast\",\"The closing mark is linked after the item 5. This step decides the close: shut 1.\"],[44,\"WriteObject\",\"s1 sets the shut word. A send that reads it returns Closed.\"],[60,\"ReadObject\",\"The send of 6 reads 1 and is decided: closed.\"],[79,\"AddPassed\",\"r1 takes the item 5, which was accepted before the close.\"],[98,\"ReadItem\",\"The node after the dummy has the tag 0: it is the mark. The take returns Ended, and so does each later one.\"]]},
+{\"kind\":\"tour\",\"id\":\"groups\",\"title\":\"Two groups\",\"text\":\"Two [[group]]s of receivers read one list: r1 is group 1, and r2 is group 2. Each group has its own [[head]] and gets every item. A node is free when both groups have gone past it.\",\"plan\":{\"version\":2,\"groups\":2,\"capacity\":1,\"bound\":2,\"life\":10,\"senders\":[[[5],[6],[6]]],\"receivers\":[2,2],\"schedule\":[[\"s1\",28],[\"r1\",23],[\"s1\",20],[\"r2\",23],[\"s1\",28],[\"r1\",23],[\"r2\",23]]},\"moments\":[[42,\"AddPassed\",\"Group 1 got the item 5. Node 0 is passed by 1 of 2 groups, and is not free.\"],[66,\"ReadPassed\",\"No node is free, so the send of 6 is Full: the slower group holds the sender back.\"],[85,\"AddPassed\",\"Group 2 got the item 5 too. Both groups have gone past node 0: it is free.\"],[114,\"LinkLast\",\"The next send of 6 uses node 0: accepted 1.\"],[159,\"AddPassed\",\"Each group got 5 and then 6.\"]]},
+{\"kind\":\"tour\",\"id\":\"order\",\"title\":\"An order of all calls\",\"text\":\"Calls overlap, and yet there is one order of all calls in which each answer is that of a queue that does one call after another. Each call takes effect between its swap and its [[decision]]. Every run of the algorithm is linearizable in this sense, and that is proved: the law is RunsAreLinearizable in crates/cc_runs. The card \\\"An order of all calls\\\" shows this order for the run on the page.\",\"plan\":{\"capacity\":1,\"bound\":2,\"life\":10,\"senders\":[[5],[6]],\"receivers\":[2],\"schedule\":[[\"s1\",19],[\"r1\",14],[\"s1\",9],[\"s2\",14],[\"r1\",23],[\"s2\",6]]},\"moments\":[[28,\"ReadDummyNext\",\"The take is Empty while the send of 5 is in between: in the order the take comes first.\"],[34,\"LinkLast\",\"The send of 5 takes effect: it comes second.\"],[55,\"ReadObject\",\"The scan of the send of 6 begins. If the send will be Full, it takes effect here.\"],[70,\"AddPassed\",\"The take of 5 takes effect.\"],[80,\"ReadPassed\",\"The send of 6 is decided: Full. In the order it comes before the take of 5, at the load of the cursor.\"]],\"opens\":\"order\"},
+{\"kind\":\"example\",\"id\":\"bodies_of_words\",\"title\":\"Items of one to four words\",\"text\":\"Three senders send items of one to four words, and one pass serves them all.\",\"plan\":{\"version\":2,\"groups\":1,\"capacity\":4,\"bound\":4,\"life\":10,\"senders\":[[[1],[2,20]],[[3,30,300]],[[4,40,400,4000]]],\"receivers\":[4],\"schedule\":[[\"s3\",9],[\"s2\",8],[\"s1\",6],[\"s3\",200],[\"s1\",200],[\"r1\",200]]},\"moments\":[]},
+{\"kind\":\"example\",\"id\":\"full\",\"title\":\"A full queue\",\"text\":\"A send finds no free node, and a node that a take freed is used again.\",\"plan\":{\"capacity\":1,\"bound\":2,\"life\":10,\"senders\":[[5,6],[7]],\"receivers\":[1],\"schedule\":[[\"s1\",500],[\"r1\",500],[\"s2\",500]]},\"moments\":[]},
+{\"kind\":\"example\",\"id\":\"close_and_drain\",\"title\":\"Close and drain\",\"text\":\"A close, the answers after it, and takes to the end.\",\"plan\":{\"capacity\":2,\"bound\":2,\"life\":10,\"senders\":[[5,\"close\",6,\"close\"]],\"receivers\":[3],\"schedule\":[[\"s1\",500],[\"r1\",500]]},\"moments\":[]},
+{\"kind\":\"example\",\"id\":\"two_groups\",\"title\":\"Two groups, one slow\",\"text\":\"Two groups take every item, and the slower group holds the sender back.\",\"plan\":{\"version\":2,\"groups\":2,\"capacity\":1,\"bound\":2,\"life\":10,\"senders\":[[[5],[6],[6],[6],\"close\"]],\"receivers\":[3,3],\"schedule\":[[\"s1\",48],[\"r1\",23],[\"s1\",20],[\"r2\",23],[\"s1\",28],[\"r1\",23],[\"s1\",100],[\"r2\",100],[\"r1\",100]]},\"moments\":[]},
+{\"kind\":\"example\",\"id\":\"two_sends_combined\",\"title\":\"Two sends, one combiner\",\"text\":\"Two sends swap, and the pass of the first send serves both.\",\"plan\":{\"capacity\":2,\"bound\":2,\"life\":10,\"senders\":[[7],[9]],\"receivers\":[0],\"schedule\":[[\"s1\",3],[\"s2\",100],[\"s1\",100]]},\"moments\":[]},
+{\"kind\":\"example\",\"id\":\"bound_one\",\"title\":\"Bound 1\",\"text\":\"The combiner hands over after one call, and the second send is pending.\",\"plan\":{\"capacity\":2,\"bound\":1,\"life\":10,\"senders\":[[7],[9]],\"receivers\":[0],\"schedule\":[[\"s1\",3],[\"s2\",100],[\"s1\",100]]},\"moments\":[]},
+{\"kind\":\"example\",\"id\":\"cut_before_the_link\",\"title\":\"Cut before the link\",\"text\":\"A send that stops one step before its decision is pending.\",\"plan\":{\"capacity\":2,\"bound\":2,\"life\":10,\"senders\":[[7]],\"receivers\":[1],\"schedule\":[[\"s1\",19]]},\"moments\":[]},
+{\"kind\":\"example\",\"id\":\"one_item\",\"title\":\"One item\",\"text\":\"One item is sent and taken.\",\"plan\":{\"capacity\":2,\"bound\":2,\"life\":10,\"senders\":[[7]],\"receivers\":[1],\"schedule\":[[\"s1\",100],[\"r1\",100]]},\"moments\":[]},
+{\"kind\":\"broken\",\"id\":\"marked_early\",\"title\":\"Marked done before the next link is read\",\"text\":\"This [[combiner]] marks a node done first, and reads the next link of the node after that. In between, the owner of the node returns, begins another send, and clears the link.\",\"plan\":{\"capacity\":4,\"bound\":4,\"life\":10,\"senders\":[[1],[2,4],[3]],\"receivers\":[3],\"schedule\":[[\"s1\",6],[\"s2\",6],[\"s3\",6],[\"s1\",38],[\"s2\",5],[\"s1\",3],[\"s2\",5],[\"s3\",4],[\"r1\",63],[\"s3\",2]]},\"moments\":[[56,\"MarkDone\",\"s1 marks the node of s2 done, and has not read the next link of that node yet.\"],[59,\"ResetNext\",\"s2 has returned and begins its next send: it clears the next link, which was the way to s3.\"],[63,\"HandOver\",\"s1 finds null and hands over, to the node of s2. The call of s3, which is the first without an answer, is skipped.\"],[70,\"ReadState\",\"s3 waits, and no pass will ever serve it.\"],[130,\"ReadDummyNext\",\"r1 takes 1 and 2, and then the queue is empty. The item 3 was never sent.\"]],\"table\":\"marked_early\",\"breaks\":\"hand\",\"lost\":\"Lost: the item 3 of s3, whose send never returns.\"},
+{\"kind\":\"broken\",\"id\":\"handed_past\",\"title\":\"Handed over past a request\",\"text\":\"At the bound this [[combiner]] reads one link too many, and hands over to the node after the one where it has to stop.\",\"plan\":{\"capacity\":4,\"bound\":1,\"life\":10,\"senders\":[[1],[2],[3]],\"receivers\":[3],\"schedule\":[[\"s1\",6],[\"s2\",6],[\"s3\",6],[\"s1\",22],[\"s3\",22],[\"s2\",4],[\"r1\",60],[\"s2\",2]]},\"moments\":[[37,\"MarkDone\",\"s1 has served one call, as many as the bound. The next request is that of s2.\"],[39,\"HandOver\",\"s1 hands over to the node of s3, past the request of s2.\"],[42,\"ReadNext\",\"s3 serves its own call, and the first call without an answer is that of s2.\"],[62,\"ReadAnswer\",\"s3 returns accepted 1, and by the history this is the answer of s2.\"],[103,\"AddPassed\",\"r1 gets the item 3 in the place of the item 2.\"]],\"table\":\"handed_past\",\"breaks\":\"hand\",\"lost\":\"Lost: the item 2 of s2, whose send never returns.\"},
+{\"kind\":\"broken\",\"id\":\"freed_dummy\",\"title\":\"Freed while the node is the dummy\",\"text\":\"This take adds to the [[passed]] count of the node that it took the item from. But this node is the [[dummy]] from now on, and a send may use it.\",\"plan\":{\"capacity\":1,\"bound\":2,\"life\":10,\"senders\":[[5,6]],\"receivers\":[3],\"schedule\":[[\"s1\",28],[\"r1\",23],[\"s1\",29],[\"r1\",46]]},\"moments\":[[42,\"AddPassed\",\"r1 took the item 5 out of node 1, and frees node 1, which is the dummy.\"],[67,\"ResetListNode\",\"The next send finds node 1 free and clears it, while the head names it.\"],[72,\"LinkLast\",\"Node 1 is linked to itself.\"],[94,\"AddPassed\",\"r1 gets the item 6 from node 1.\"],[117,\"AddPassed\",\"r1 gets the item 6 again: the link of node 1 leads to node 1.\"]],\"table\":\"freed_dummy\",\"breaks\":\"reset\",\"lost\":\"Got twice: the item 6.\"},
+{\"kind\":\"broken\",\"id\":\"one_group\",\"title\":\"Freed after one group\",\"text\":\"This send uses a node as soon as one [[group]] has gone past it. Another group may still need the node.\",\"plan\":{\"version\":2,\"groups\":2,\"capacity\":2,\"bound\":2,\"life\":10,\"senders\":[[[5],[6],[7]]],\"receivers\":[1,3],\"schedule\":[[\"s1\",56],[\"r1\",23],[\"s1\",28],[\"r2\",42]]},\"moments\":[[70,\"AddPassed\",\"Group 1 has gone past node 0. Node 0 is still the dummy of group 2.\"],[94,\"ResetListNode\",\"The third send uses node 0 and clears it.\"],[95,\"ResetListNode\",\"Now the next link of node 0 is null, and group 2 has lost its way to the items 5 and 6.\"],[116,\"ReadDummyNext\",\"r2 reads null after the dummy and returns Empty, while three items wait for group 2.\"]],\"table\":\"one_group\",\"breaks\":\"reset\",\"lost\":\"Lost for group 2: the items 5, 6 and 7.\"},
+{\"kind\":\"broken\",\"id\":\"full_early\",\"title\":\"Full two nodes early\",\"text\":\"This scan ends two nodes early. One node early would be right: the last node of a scan is the one that was linked last, and it is always busy.\",\"plan\":{\"capacity\":3,\"bound\":2,\"life\":10,\"senders\":[[5,6,7,8,9]],\"receivers\":[5],\"schedule\":[[\"s1\",98],[\"r1\",46],[\"s1\",35],[\"r1\",60]]},\"moments\":[[98,\"ReadPassed\",\"The queue is full, and the scan of the send of 8 has read node 0 busy.\"],[135,\"AddPassed\",\"r1 takes 5 and 6, which frees the nodes 0 and 1.\"],[145,\"ReadPassed\",\"The scan goes on and finds node 1 free. Node 0 is free too, and stays outside the list.\"],[174,\"ReadPassed\",\"The scan of the send of 9 has read two busy nodes and ends: Full. Node 0 is free, and only two items wait.\"]],\"table\":\"full_early\",\"breaks\":\"full\",\"lost\":\"Refused: the item 9, although only 2 of 3 items wait.\"}
+]
 </script>
 <script id=\"machine\">
-// The run without its pictures: what the program wrote, played by the machine of the definitions, and further steps by hand.
+// Runs without pictures: a plan, or what the program wrote, played by the machine of the definitions, and further steps by hand.
 const Machine = (() => {
 'use strict';
 
@@ -241,8 +403,57 @@ const keyOf = w => [w.at, w.x, w.i, w.field, w.n, w.g].join(' ');
 const callText = call => call.take ? 'take' : call.close ? 'close' : 'send ' + call.send.join(' ');
 
 // <steps>
-// The machine, by tools/page_steps.py: the table of steps of crates/cc_runs/specs, and the definitions that it names.
+// The machine, by tools/page_steps.py: the table of steps of crates/cc_runs/specs, and the definitions that it names. Each of
+// CHANGES makes a broken table of it, by its name.
 const minus = (a, b) => a > b ? a - b : 0n;
+const CHANGES = {
+ \"marked_early\": [
+  {
+   \"in\": \"Lines.line\",
+   \"was\": \"line (MarkDone job) _ = store MarkDone (Node x job.round.at State) 2 (after_done c.config.bound job)\",
+   \"is\": \"line (MarkDone job) _ = store MarkDone (Node x job.round.at State) 2 (FollowNext job)\"
+  },
+  {
+   \"in\": \"Lines.line\",
+   \"was\": \"\",
+   \"is\": \"line (FollowNext was) next = load ReadNext (Node x was.round.at Next) (if next == 0 then HandOver was.round.at else after_done c.config.bound (record was { next = next - 1 }))\"
+  }
+ ],
+ \"handed_past\": [
+  {
+   \"in\": \"Lines.after_done\",
+   \"was\": \"after_done bound job = if job.round.served + 1 == bound then HandOver job.next else ReadNext record { at = job.next; served = job.round.served + 1 }\",
+   \"is\": \"after_done bound job = ReadNext record { at = job.next; served = job.round.served + 1 }\"
+  },
+  {
+   \"in\": \"Lines.line\",
+   \"was\": \"line (ReadNext round) next = load ReadNext (Node x round.at Next) (after_next c.served x round next)\",
+   \"is\": \"line (ReadNext round) next = load ReadNext (Node x round.at Next) (if round.served == c.config.bound then (if next == 0 then HandOver round.at else HandOver (next - 1)) else after_next c.served x round next)\"
+  }
+ ],
+ \"freed_dummy\": [
+  {
+   \"in\": \"TakeLines.line\",
+   \"was\": \"line g (WriteHead dummy at parcel) _ = store WriteObject (Object (Head g)) (at + 1) (On (WriteTaken dummy parcel))\",
+   \"is\": \"line g (WriteHead dummy at parcel) _ = store WriteObject (Object (Head g)) (at + 1) (On (WriteTaken at parcel))\"
+  }
+ ],
+ \"one_group\": [
+  {
+   \"in\": \"SendLines.by_passed\",
+   \"was\": \"by_passed c parcel at reads passed = if passed == groups c then On (ResetPassed parcel at) else if reads == c.capacity + 1 then Decides (Send Full) else On (ReadPassed parcel (after c at) (reads + 1))\",
+   \"is\": \"by_passed c parcel at reads passed = if nat_lt 0 passed then On (ResetPassed parcel at) else if reads == c.capacity + 1 then Decides (Send Full) else On (ReadPassed parcel (after c at) (reads + 1))\"
+  }
+ ],
+ \"full_early\": [
+  {
+   \"in\": \"SendLines.by_passed\",
+   \"was\": \"by_passed c parcel at reads passed = if passed == groups c then On (ResetPassed parcel at) else if reads == c.capacity + 1 then Decides (Send Full) else On (ReadPassed parcel (after c at) (reads + 1))\",
+   \"is\": \"by_passed c parcel at reads passed = if passed == groups c then On (ResetPassed parcel at) else if reads + 1 == c.capacity then Decides (Send Full) else On (ReadPassed parcel (after c at) (reads + 1))\"
+  }
+ ]
+};
+const tableOf = variant => {
 const Body_body_of = (words) => {
   if (words.length > 0 && words.slice(1).length === 0) return { words: { is: 'One', 0: [words[0]] } };
   if (words.length > 0 && words.slice(1).length > 0 && words.slice(1).slice(1).length === 0) return { words: { is: 'Two', 0: [words[0], words.slice(1)[0]] } };
@@ -340,7 +551,7 @@ const Lines_after_answer = (job, v1) => {
   if (v1.is === 'Take' && v1[0].is === 'Got') return { is: 'WriteAnswerTag', job, item: v1[0][0] };
   return { is: 'MarkDone', job };
 };
-const Lines_after_done = (bound, job) => ((job.round.served + 1n) === bound) ? { is: 'HandOver', at: job.next } : { is: 'ReadNext', round: { at: job.next, served: (job.round.served + 1n) } };
+const Lines_after_done = variant === 'handed_past' ? (bound, job) => ({ is: 'ReadNext', round: { at: job.next, served: (job.round.served + 1n) } }) : (bound, job) => ((job.round.served + 1n) === bound) ? { is: 'HandOver', at: job.next } : { is: 'ReadNext', round: { at: job.next, served: (job.round.served + 1n) } };
 const Lines_after_exchange = (v0, own, call) => {
   if (v0.is === 'Send') return { is: 'WriteTag', put: own, request: Codes_request_in(call) };
   if (v0.is === 'Take') return { is: 'Link', put: own };
@@ -362,7 +573,52 @@ const Lines_group_of = (v0) => {
   if (v0.is === 'Send') return 0n;
   if (v0.is === 'Take') return v0[0];
 };
-const Lines_line = (c, x, own, v0, v1) => {
+const Lines_line = variant === 'handed_past' ? (c, x, own, v0, v1) => {
+  if (v0.is === 'Idle') return Lines_none(c, x, own, { is: 'Idle' });
+  if (v0.is === 'ResetNext') return Lines_store(c, x, own, { is: 'ResetNext' }, { is: 'Node', 0: x, 1: own, 2: { is: 'Next' } }, 0n, { is: 'ResetState', call: v0.call });
+  if (v0.is === 'ResetState') return Lines_store(c, x, own, { is: 'ResetState' }, { is: 'Node', 0: x, 1: own, 2: { is: 'State' } }, 1n, { is: 'Exchange', call: v0.call });
+  if (v0.is === 'Exchange') return Lines_swap(c, x, own, { is: 'Exchange' }, { is: 'Tail', 0: x }, (own + 1n), v0.call, minus(v1, 1n), Lines_after_exchange(x, own, v0.call));
+  if (v0.is === 'WriteTag') return Lines_store(c, x, own, { is: 'WriteRequest' }, { is: 'Node', 0: x, 1: own, 2: { is: 'Tag' } }, v0.request.tag, { is: 'WriteBody', put: v0.put, request: v0.request, index: 0n });
+  if (v0.is === 'WriteBody') return Lines_store(c, x, own, { is: 'WriteRequest' }, { is: 'Node', 0: x, 1: own, 2: { is: 'Body', 0: v0.index } }, Codes_word(v0.request.body, v0.index), Codes_behind(Codes_further_words(v0.request.tag), v0.index, { is: 'WriteBody', put: v0.put, request: v0.request, index: (v0.index + 1n) }, { is: 'Link', put: v0.put }));
+  if (v0.is === 'Link') return Lines_store(c, x, own, { is: 'Link' }, { is: 'Node', 0: x, 1: own, 2: { is: 'Next' } }, (v0.put + 1n), { is: 'ReadState' });
+  if (v0.is === 'ReadState') return Lines_load(c, x, own, { is: 'ReadState' }, { is: 'Node', 0: x, 1: own, 2: { is: 'State' } }, Lines_after_state(own, v1));
+  if (v0.is === 'ReadNext') return Lines_load(c, x, own, { is: 'ReadNext' }, { is: 'Node', 0: x, 1: v0.round.at, 2: { is: 'Next' } }, ((v0.round.served === c.config.bound) ? ((v1 === 0n) ? { is: 'HandOver', at: v0.round.at } : { is: 'HandOver', at: minus(v1, 1n) }) : Lines_after_next(c.served, x, v0.round, v1)));
+  if (v0.is === 'Counting') return { ...Lines_step(c, x, own, CountLines_kind_of(v0.service), CountLines_operation(v0.job.round.at, v0.service), CountLines_goes(v0.job, v0.service, v1)), decides: CountLines_decides(v0.service, v1) };
+  if (v0.is === 'Sending') return { ...Lines_step(c, x, own, SendLines_kind_of(v0.service), SendLines_operation(c.config, v0.job.round.at, v0.service), SendLines_goes(c.config, v0.job, v0.service, v1)), decides: SendLines_decides(c.config, v0.service, v1) };
+  if (v0.is === 'Taking') return { ...Lines_step(c, x, own, TakeLines_kind_of(v0.service), TakeLines_operation(Lines_group_of(x), v0.service), TakeLines_goes(v0.job, v0.service, v1)), decides: TakeLines_decides(v0.service, v1) };
+  if (v0.is === 'WriteAnswer') return Lines_store(c, x, own, { is: 'WriteAnswer' }, { is: 'Node', 0: x, 1: v0.job.round.at, 2: { is: 'Ret' } }, Codes_ret_of(c.served, v0.answer), Lines_after_answer(v0.job, v0.answer));
+  if (v0.is === 'WriteAnswerTag') return Lines_store(c, x, own, { is: 'WriteAnswer' }, { is: 'Node', 0: x, 1: v0.job.round.at, 2: { is: 'Tag' } }, Codes_tag_of(v0.item), { is: 'WriteAnswerBody', job: v0.job, item: v0.item, index: 0n });
+  if (v0.is === 'WriteAnswerBody') return Lines_store(c, x, own, { is: 'WriteAnswer' }, { is: 'Node', 0: x, 1: v0.job.round.at, 2: { is: 'Body', 0: v0.index } }, Codes_word(Codes_body_words(v0.item), v0.index), Codes_behind(Codes_further_words(Codes_tag_of(v0.item)), v0.index, { is: 'WriteAnswerBody', job: v0.job, item: v0.item, index: (v0.index + 1n) }, { is: 'MarkDone', job: v0.job }));
+  if (v0.is === 'MarkDone') return Lines_store(c, x, own, { is: 'MarkDone' }, { is: 'Node', 0: x, 1: v0.job.round.at, 2: { is: 'State' } }, 2n, Lines_after_done(c.config.bound, v0.job));
+  if (v0.is === 'HandOver') return Lines_store(c, x, own, { is: 'HandOver' }, { is: 'Node', 0: x, 1: v0.at, 2: { is: 'State' } }, 0n, { is: 'ReadAnswer' });
+  if (v0.is === 'ReadAnswer') return Lines_load(c, x, own, { is: 'ReadAnswer' }, { is: 'Node', 0: x, 1: own, 2: { is: 'Ret' } }, Lines_after_ret(c.served, x, v1));
+  if (v0.is === 'ReadAnswerTag') return Lines_load(c, x, own, { is: 'ReadAnswer' }, { is: 'Node', 0: x, 1: own, 2: { is: 'Tag' } }, { is: 'ReadAnswerBody', parcel: Codes_parcel(v0.place, v1, Codes_no_words()), index: 0n });
+  if (v0.is === 'ReadAnswerBody') return Lines_load(c, x, own, { is: 'ReadAnswer' }, { is: 'Node', 0: x, 1: own, 2: { is: 'Body', 0: v0.index } }, Codes_behind(Codes_further_words(v0.parcel.tag), v0.index, { is: 'ReadAnswerBody', parcel: Codes_with_read(v0.parcel, v0.index, v1), index: (v0.index + 1n) }, { is: 'Finished', answer: { is: 'Take', 0: { is: 'Got', 0: Codes_item_in(Codes_with_read(v0.parcel, v0.index, v1)) } } }));
+  if (v0.is === 'Finished') return Lines_none(c, x, own, { is: 'Finished', answer: v0.answer });
+} : variant === 'marked_early' ? (c, x, own, v0, v1) => {
+  if (v0.is === 'Idle') return Lines_none(c, x, own, { is: 'Idle' });
+  if (v0.is === 'ResetNext') return Lines_store(c, x, own, { is: 'ResetNext' }, { is: 'Node', 0: x, 1: own, 2: { is: 'Next' } }, 0n, { is: 'ResetState', call: v0.call });
+  if (v0.is === 'ResetState') return Lines_store(c, x, own, { is: 'ResetState' }, { is: 'Node', 0: x, 1: own, 2: { is: 'State' } }, 1n, { is: 'Exchange', call: v0.call });
+  if (v0.is === 'Exchange') return Lines_swap(c, x, own, { is: 'Exchange' }, { is: 'Tail', 0: x }, (own + 1n), v0.call, minus(v1, 1n), Lines_after_exchange(x, own, v0.call));
+  if (v0.is === 'WriteTag') return Lines_store(c, x, own, { is: 'WriteRequest' }, { is: 'Node', 0: x, 1: own, 2: { is: 'Tag' } }, v0.request.tag, { is: 'WriteBody', put: v0.put, request: v0.request, index: 0n });
+  if (v0.is === 'WriteBody') return Lines_store(c, x, own, { is: 'WriteRequest' }, { is: 'Node', 0: x, 1: own, 2: { is: 'Body', 0: v0.index } }, Codes_word(v0.request.body, v0.index), Codes_behind(Codes_further_words(v0.request.tag), v0.index, { is: 'WriteBody', put: v0.put, request: v0.request, index: (v0.index + 1n) }, { is: 'Link', put: v0.put }));
+  if (v0.is === 'Link') return Lines_store(c, x, own, { is: 'Link' }, { is: 'Node', 0: x, 1: own, 2: { is: 'Next' } }, (v0.put + 1n), { is: 'ReadState' });
+  if (v0.is === 'ReadState') return Lines_load(c, x, own, { is: 'ReadState' }, { is: 'Node', 0: x, 1: own, 2: { is: 'State' } }, Lines_after_state(own, v1));
+  if (v0.is === 'ReadNext') return Lines_load(c, x, own, { is: 'ReadNext' }, { is: 'Node', 0: x, 1: v0.round.at, 2: { is: 'Next' } }, Lines_after_next(c.served, x, v0.round, v1));
+  if (v0.is === 'Counting') return { ...Lines_step(c, x, own, CountLines_kind_of(v0.service), CountLines_operation(v0.job.round.at, v0.service), CountLines_goes(v0.job, v0.service, v1)), decides: CountLines_decides(v0.service, v1) };
+  if (v0.is === 'Sending') return { ...Lines_step(c, x, own, SendLines_kind_of(v0.service), SendLines_operation(c.config, v0.job.round.at, v0.service), SendLines_goes(c.config, v0.job, v0.service, v1)), decides: SendLines_decides(c.config, v0.service, v1) };
+  if (v0.is === 'Taking') return { ...Lines_step(c, x, own, TakeLines_kind_of(v0.service), TakeLines_operation(Lines_group_of(x), v0.service), TakeLines_goes(v0.job, v0.service, v1)), decides: TakeLines_decides(v0.service, v1) };
+  if (v0.is === 'WriteAnswer') return Lines_store(c, x, own, { is: 'WriteAnswer' }, { is: 'Node', 0: x, 1: v0.job.round.at, 2: { is: 'Ret' } }, Codes_ret_of(c.served, v0.answer), Lines_after_answer(v0.job, v0.answer));
+  if (v0.is === 'WriteAnswerTag') return Lines_store(c, x, own, { is: 'WriteAnswer' }, { is: 'Node', 0: x, 1: v0.job.round.at, 2: { is: 'Tag' } }, Codes_tag_of(v0.item), { is: 'WriteAnswerBody', job: v0.job, item: v0.item, index: 0n });
+  if (v0.is === 'WriteAnswerBody') return Lines_store(c, x, own, { is: 'WriteAnswer' }, { is: 'Node', 0: x, 1: v0.job.round.at, 2: { is: 'Body', 0: v0.index } }, Codes_word(Codes_body_words(v0.item), v0.index), Codes_behind(Codes_further_words(Codes_tag_of(v0.item)), v0.index, { is: 'WriteAnswerBody', job: v0.job, item: v0.item, index: (v0.index + 1n) }, { is: 'MarkDone', job: v0.job }));
+  if (v0.is === 'MarkDone') return Lines_store(c, x, own, { is: 'MarkDone' }, { is: 'Node', 0: x, 1: v0.job.round.at, 2: { is: 'State' } }, 2n, { is: 'FollowNext', was: v0.job });
+  if (v0.is === 'FollowNext') return Lines_load(c, x, own, { is: 'ReadNext' }, { is: 'Node', 0: x, 1: v0.was.round.at, 2: { is: 'Next' } }, ((v1 === 0n) ? { is: 'HandOver', at: v0.was.round.at } : Lines_after_done(c.config.bound, { ...v0.was, next: minus(v1, 1n) })));
+  if (v0.is === 'HandOver') return Lines_store(c, x, own, { is: 'HandOver' }, { is: 'Node', 0: x, 1: v0.at, 2: { is: 'State' } }, 0n, { is: 'ReadAnswer' });
+  if (v0.is === 'ReadAnswer') return Lines_load(c, x, own, { is: 'ReadAnswer' }, { is: 'Node', 0: x, 1: own, 2: { is: 'Ret' } }, Lines_after_ret(c.served, x, v1));
+  if (v0.is === 'ReadAnswerTag') return Lines_load(c, x, own, { is: 'ReadAnswer' }, { is: 'Node', 0: x, 1: own, 2: { is: 'Tag' } }, { is: 'ReadAnswerBody', parcel: Codes_parcel(v0.place, v1, Codes_no_words()), index: 0n });
+  if (v0.is === 'ReadAnswerBody') return Lines_load(c, x, own, { is: 'ReadAnswer' }, { is: 'Node', 0: x, 1: own, 2: { is: 'Body', 0: v0.index } }, Codes_behind(Codes_further_words(v0.parcel.tag), v0.index, { is: 'ReadAnswerBody', parcel: Codes_with_read(v0.parcel, v0.index, v1), index: (v0.index + 1n) }, { is: 'Finished', answer: { is: 'Take', 0: { is: 'Got', 0: Codes_item_in(Codes_with_read(v0.parcel, v0.index, v1)) } } }));
+  if (v0.is === 'Finished') return Lines_none(c, x, own, { is: 'Finished', answer: v0.answer });
+} : (c, x, own, v0, v1) => {
   if (v0.is === 'Idle') return Lines_none(c, x, own, { is: 'Idle' });
   if (v0.is === 'ResetNext') return Lines_store(c, x, own, { is: 'ResetNext' }, { is: 'Node', 0: x, 1: own, 2: { is: 'Next' } }, 0n, { is: 'ResetState', call: v0.call });
   if (v0.is === 'ResetState') return Lines_store(c, x, own, { is: 'ResetState' }, { is: 'Node', 0: x, 1: own, 2: { is: 'State' } }, 1n, { is: 'Exchange', call: v0.call });
@@ -398,7 +654,7 @@ const Lines_swap = (c, x, own, what, word, value, call, node, to) => ({ ...Lines
 const SendLines_after = (c, at) => ((at + 1n) % (c.capacity + 1n));
 const SendLines_any_config = () => ({ senders: 0n, receivers: 0n, capacity: 0n, bound: 0n, life: 0n, per_sender: 0n, groups: 0n });
 const SendLines_by_count = (c, request, count) => (request.tag === 0n) ? { is: 'On', 0: { is: 'ReadLastToClose', total: count } } : ((count === c.life) ? { is: 'Decides', 0: { is: 'Send', 0: { is: 'Spent' } } } : { is: 'On', 0: { is: 'ReadCursor', parcel: { place: count, tag: request.tag, body: request.body } } });
-const SendLines_by_passed = (c, parcel, at, reads, passed) => (passed === Words_groups(c)) ? { is: 'On', 0: { is: 'ResetPassed', parcel, node: at } } : ((reads === (c.capacity + 1n)) ? { is: 'Decides', 0: { is: 'Send', 0: { is: 'Full' } } } : { is: 'On', 0: { is: 'ReadPassed', parcel, node: SendLines_after(c, at), reads: (reads + 1n) } });
+const SendLines_by_passed = variant === 'full_early' ? (c, parcel, at, reads, passed) => (passed === Words_groups(c)) ? { is: 'On', 0: { is: 'ResetPassed', parcel, node: at } } : (((reads + 1n) === c.capacity) ? { is: 'Decides', 0: { is: 'Send', 0: { is: 'Full' } } } : { is: 'On', 0: { is: 'ReadPassed', parcel, node: SendLines_after(c, at), reads: (reads + 1n) } }) : variant === 'one_group' ? (c, parcel, at, reads, passed) => (0n < passed) ? { is: 'On', 0: { is: 'ResetPassed', parcel, node: at } } : ((reads === (c.capacity + 1n)) ? { is: 'Decides', 0: { is: 'Send', 0: { is: 'Full' } } } : { is: 'On', 0: { is: 'ReadPassed', parcel, node: SendLines_after(c, at), reads: (reads + 1n) } }) : (c, parcel, at, reads, passed) => (passed === Words_groups(c)) ? { is: 'On', 0: { is: 'ResetPassed', parcel, node: at } } : ((reads === (c.capacity + 1n)) ? { is: 'Decides', 0: { is: 'Send', 0: { is: 'Full' } } } : { is: 'On', 0: { is: 'ReadPassed', parcel, node: SendLines_after(c, at), reads: (reads + 1n) } });
 const SendLines_by_shut = (request, v1) => {
   if (v1 === 0n) return { is: 'On', 0: { is: 'ReadCount', request } };
   if (v1 >= 1n) return (request.tag === 0n) ? { is: 'On', 0: { is: 'ReadTotal' } } : { is: 'Decides', 0: { is: 'Send', 0: { is: 'Closed' } } };
@@ -458,7 +714,16 @@ const TakeLines_decides = (service, found) => ServiceLine_answer_of(TakeLines_li
 const TakeLines_goes = (job, service, found) => ServiceLine_place_of(TakeLines_in_service, job, TakeLines_line(0n, service, found).next);
 const TakeLines_in_service = (job, service) => ({ is: 'Taking', job, service });
 const TakeLines_kind_of = (service) => TakeLines_line(0n, service, 0n).kind;
-const TakeLines_line = (g, v1, v2) => {
+const TakeLines_line = variant === 'freed_dummy' ? (g, v1, v2) => {
+  if (v1.is === 'ReadHead') return ServiceLine_load({ is: 'ReadObject' }, { is: 'Object', 0: { is: 'Head', 0: g } }, { is: 'On', 0: { is: 'ReadTaken', dummy: minus(v2, 1n) } });
+  if (v1.is === 'ReadTaken') return ServiceLine_load({ is: 'ReadObject' }, { is: 'Object', 0: { is: 'Taken', 0: g } }, { is: 'On', 0: { is: 'ReadDummyNext', dummy: v1.dummy, taken: v2 } });
+  if (v1.is === 'ReadDummyNext') return ServiceLine_load({ is: 'ReadDummyNext' }, { is: 'Item', 0: v1.dummy, 1: { is: 'Next' } }, TakeLines_by_next(v1.dummy, v1.taken, v2));
+  if (v1.is === 'ReadItemTag') return ServiceLine_load({ is: 'ReadItem' }, { is: 'Item', 0: v1.node, 1: { is: 'Tag' } }, TakeLines_by_tag(v1.dummy, v1.taken, v1.node, v2));
+  if (v1.is === 'ReadItemBody') return ServiceLine_load({ is: 'ReadItem' }, { is: 'Item', 0: v1.node, 1: { is: 'Body', 0: v1.index } }, { is: 'On', 0: Codes_behind(Codes_further_words(v1.parcel.tag), v1.index, { is: 'ReadItemBody', dummy: v1.dummy, node: v1.node, parcel: Codes_with_read(v1.parcel, v1.index, v2), index: (v1.index + 1n) }, { is: 'WriteHead', dummy: v1.dummy, node: v1.node, parcel: Codes_with_read(v1.parcel, v1.index, v2) }) });
+  if (v1.is === 'WriteHead') return ServiceLine_store({ is: 'WriteObject' }, { is: 'Object', 0: { is: 'Head', 0: g } }, (v1.node + 1n), { is: 'On', 0: { is: 'WriteTaken', dummy: v1.node, parcel: v1.parcel } });
+  if (v1.is === 'WriteTaken') return ServiceLine_store({ is: 'WriteObject' }, { is: 'Object', 0: { is: 'Taken', 0: g } }, (v1.parcel.place + 1n), { is: 'On', 0: { is: 'AddPassed', dummy: v1.dummy, parcel: v1.parcel } });
+  if (v1.is === 'AddPassed') return ServiceLine_add({ is: 'AddPassed' }, { is: 'Item', 0: v1.dummy, 1: { is: 'Passed' } }, 1n, { is: 'Decides', 0: { is: 'Take', 0: { is: 'Got', 0: Codes_item_in(v1.parcel) } } });
+} : (g, v1, v2) => {
   if (v1.is === 'ReadHead') return ServiceLine_load({ is: 'ReadObject' }, { is: 'Object', 0: { is: 'Head', 0: g } }, { is: 'On', 0: { is: 'ReadTaken', dummy: minus(v2, 1n) } });
   if (v1.is === 'ReadTaken') return ServiceLine_load({ is: 'ReadObject' }, { is: 'Object', 0: { is: 'Taken', 0: g } }, { is: 'On', 0: { is: 'ReadDummyNext', dummy: v1.dummy, taken: v2 } });
   if (v1.is === 'ReadDummyNext') return ServiceLine_load({ is: 'ReadDummyNext' }, { is: 'Item', 0: v1.dummy, 1: { is: 'Next' } }, TakeLines_by_next(v1.dummy, v1.taken, v2));
@@ -470,7 +735,16 @@ const TakeLines_line = (g, v1, v2) => {
 };
 const TakeLines_operation = (g, service) => TakeLines_line(g, service, 0n).does;
 const Words_groups = (c) => c.groups;
+return { Lines_line, Codes_list_reads, Codes_further_words, Codes_tag_sender, Codes_tag_number, Codes_code_of, Codes_value_of, Body_body_of, Body_words_of };
+};
 // </steps>
+
+const TABLES = new Map();
+function table(variant) {
+  if (!TABLES.has(variant)) TABLES.set(variant, tableOf(variant));
+  return TABLES.get(variant);
+}
+const { Codes_list_reads, Codes_further_words, Codes_tag_sender, Codes_tag_number, Codes_code_of, Codes_value_of, Body_body_of, Body_words_of } = table('');
 
 const chainAt = x => x < 0 ? { is: 'Send' } : { is: 'Take', 0: BigInt(x) };
 const chainNumber = chain => chain.is === 'Send' ? -1 : Number(chain[0]);
@@ -491,6 +765,8 @@ function answerText(answer) {
   return n === undefined ? name : name + ' ' + n;
 }
 
+// ---- Plans.
+
 // \" s 7 8 c\": a send of a body of two words, and a close
 function callsOf(line) {
   const calls = [];
@@ -502,18 +778,89 @@ function callsOf(line) {
   return calls;
 }
 
-// Opens the queue of the run in these two texts of the page, and plays its events to the last one.
-function open(text, report) {
+// What the program wrote: the configuration and the calls, with the row and the kind of each event.
+function planOfRun(text) {
   const lines = text.split('\\n');
-  const [plan_version, capacity, bound, life, groups, senders, receivers] = lines[0].trim().split(' ').map(Number);
-  let version = plan_version;
-  const rows = senders + groups * receivers;
-  const setting = { served: { is: 'List' }, config: { capacity: BigInt(capacity), bound: BigInt(bound), life: BigInt(life), groups: BigInt(groups) } };
-  const calls = lines.slice(1, 1 + senders).map(callsOf);
-  const takes = lines[1 + senders].trim().split(' ').map(Number);
+  const [version, capacity, bound, life, groups, senders] = lines[0].trim().split(' ').map(Number);
   const numbers = lines[2 + senders].trim().split(' ').filter(word => word !== '').map(Number);
   const written = [];
   for (let i = 0; i + 1 < numbers.length; i += 2) written.push({ row: numbers[i], kind: numbers[i + 1] });
+  return { version, capacity, bound, life, groups, calls: lines.slice(1, 1 + senders).map(callsOf),
+    takes: lines[1 + senders].trim().split(' ').map(Number), written, schedule: [] };
+}
+
+const LARGEST = 2n ** 64n;
+const LIMITS = { capacity: [1, 4096], bound: [1, 1024], life: [1, 2 ** 48], groups: [1, 8] };
+
+// A plan in JSON, as docs/FORMATS.md has it. Throws a line that says what is wrong.
+function planOfText(text) {
+  try { JSON.parse(text); } catch (fault) { throw new Error('This is not JSON: ' + fault.message); }
+  // a number keeps all its digits: as a text that begins with #, and a text begins with a quote
+  const tree = JSON.parse(text.replace(/\"(?:[^\"\\\\]|\\\\.)*\"|-?\\d[\\d.eE+-]*/g, token => token[0] === '\"' ? '\"\\'' + token.slice(1) : '\"#' + token + '\"'));
+  const isObject = tree !== null && typeof tree === 'object' && !Array.isArray(tree);
+  if (!isObject) throw new Error('A plan is an object of JSON, which begins with {.');
+  const value = key => tree[\"'\" + key];
+  const whole = (of, what, least, most) => {
+    if (typeof of !== 'string' || !/^#\\d+$/.test(of) || BigInt(of.slice(1)) < BigInt(least) || BigInt(of.slice(1)) > BigInt(most)) {
+      throw new Error(what + ' is a whole number from ' + least + ' to ' + most + '.');
+    }
+    return BigInt(of.slice(1));
+  };
+  const list = (of, what) => { if (!Array.isArray(of)) throw new Error(what + ' is a list.'); return of; };
+  const second = value('version') === '#2';
+  const keys = ['capacity', 'bound', 'life', 'senders', 'receivers', 'schedule', ...(second ? ['groups'] : [])];
+  for (const key of keys) if (value(key) === undefined) throw new Error('The plan has no key \"' + key + '\".');
+  for (const key of Object.keys(tree)) if (![...keys, 'version'].includes(key.slice(1))) throw new Error('A plan has no key \"' + key.slice(1) + '\".');
+  const version = value('version') === undefined ? 1 : Number(whole(value('version'), '\"version\"', 1, 2));
+  const number = key => Number(whole(value(key), '\"' + key + '\"', ...LIMITS[key]));
+  const plan = { version, capacity: number('capacity'), bound: number('bound'), life: number('life'), groups: second ? number('groups') : 1 };
+  const sends = list(value('senders'), '\"senders\"');
+  if (sends.length < 1 || sends.length > 64) throw new Error('A plan has 1 to 64 senders.');
+  plan.calls = sends.map((mine, k) => list(mine, 'Sender ' + (k + 1)).map(call => {
+    if (call === \"'close\") return { close: true };
+    const words = second ? list(call, 'Each send of sender ' + (k + 1)) : [call];
+    if (words.length < 1 || words.length > 4) throw new Error('A body has one to four words.');
+    return { send: words.map(word => whole(word, 'A word of sender ' + (k + 1), 0, LARGEST - 1n)) };
+  }));
+  const takes = list(value('receivers'), '\"receivers\"');
+  plan.takes = takes.map(often => Number(whole(often, 'How often a receiver takes', 0, CALL_LIMIT)));
+  if (takes.length < plan.groups || takes.length > 64 * plan.groups || takes.length % plan.groups) throw new Error('Each group has the same number of receivers, 1 to 64.');
+  if (plan.calls.some(mine => mine.length > CALL_LIMIT)) throw new Error('A sender has at most ' + CALL_LIMIT + ' calls.');
+  plan.schedule = list(value('schedule'), '\"schedule\"').map((entry, k) => {
+    if (!Array.isArray(entry) || entry.length !== 2 || !/^'[sr][1-9]\\d{0,9}$/.test(entry[0])) throw new Error('Entry ' + k + ' of the schedule is a pass and a number, as [\"s1\",100].');
+    const at = Number(entry[0].slice(2)), steps = Number(whole(entry[1], 'The number of entry ' + k + ' of the schedule', 1, 100000));
+    if (at > (entry[0][1] === 's' ? plan.calls : plan.takes).length) throw new Error('Entry ' + k + ' of the schedule names ' + entry[0].slice(1) + ', and the plan has no such pass.');
+    return { row: entry[0][1] === 's' ? at - 1 : plan.calls.length + at - 1, steps };
+  });
+  return plan;
+}
+
+// ---- Laws: what is proved of every run of the table, and what a run of a broken table breaks.
+
+const LAWS = {
+  one: ['At most one pass of a chain combines.', 'laws_of_chains'],
+  first: ['A combiner serves the first call that has no answer.', 'laws_of_chains'],
+  hand: ['A hand-over reaches the first call that has no answer.', 'laws_of_chains'],
+  reset: ['A list node is used again only after every group has gone past it.', 'nodes_are_reset_after_their_take'],
+  fifo: ['First in, first out: take k of a group gets the item that was accepted as k.', 'histories_are_fifo'],
+  full: ['Full means that as many items wait as the capacity, by what the call can know.', 'histories_are_legal'],
+  empty: ['Empty means that the group took every item that the call can know of.', 'histories_are_legal'],
+  ended: ['Ended means that the queue is shut and the group took every item.', 'histories_are_legal'],
+  places: ['The accepted items are numbered 0, 1, 2 and so on.', 'histories_are_legal'],
+  answer: ['What a call reads is its own answer in the history.', 'answers_are_told'],
+};
+
+// Opens the queue of a plan and plays its events to the last one; by a broken table, if `variant` names it. `report` is what
+// the program wrote of the run.
+function open(plan, variant = '', report = null) {
+  const { capacity, bound, life, groups } = plan;
+  const { Lines_line } = table(variant);
+  const calls = plan.calls.map(mine => mine.slice());
+  const takes = plan.takes.slice();
+  const senders = calls.length, receivers = takes.length / groups;
+  let version = plan.version;
+  const rows = senders + groups * receivers;
+  const setting = { served: { is: 'List' }, config: { capacity: BigInt(capacity), bound: BigInt(bound), life: BigInt(life), groups: BigInt(groups) } };
 
   const passName = row => row < senders ? 's' + (row + 1) : 'r' + (row - senders + 1);
   const chainOf = row => row < senders ? -1 : Math.floor((row - senders) / receivers);
@@ -527,11 +874,14 @@ function open(text, report) {
   const side = x => history[x + 1];
   const turns = [];           // of each chain: the newest turn, with the calls that its combiner served
   const turnOf = x => turns[x + 1];
+  const accepted = [];        // the calls whose items are accepted, by their places
+  const got = [];             // how many items each group got
+  let shut = false;
   for (let x = -1; x < groups; x++) {
     write(tail(x), 1n);
     history.push({ calls: [], answers: [], marked: 0 });
     turns.push(null);
-    if (x >= 0) write(object('head', x), 1n);
+    if (x >= 0) { write(object('head', x), 1n); got.push(0); }
   }
   write(object('last'), 1n);
   write(object('cursor'), 1n);
@@ -569,15 +919,58 @@ function open(text, report) {
     const value = does.is === 'Load' ? found : does.is === 'Add' ? found + does[1] : does[1];
     const at = stand.place;
     const ends = step.goes.is === 'Finished';
-    const after = { made: stand.made, sends: stand.sends, node: Number(step.node), call: ends ? null : stand.call, place: ends ? { is: 'Idle' } : step.goes };
+    // a call that enters the history keeps its place in it, and what it can know by then
+    const enters = step.enters[0] && Object.assign({}, stand.call, { entered: side(x).calls.length, knows: { accepted: accepted.length, least: Math.min(...got), shut } });
+    const after = { made: stand.made, sends: stand.sends, node: Number(step.node), call: ends ? null : enters || stand.call, place: ends ? { is: 'Idle' } : step.goes };
     const serves = at.job ? side(x).calls[side(x).marked] : null;
     let turn;
     if (kind === 'ReadState' && found === 0n) turn = { row, served: [], runs: true };
-    if (kind === 'MarkDone') turn = { row, served: turnOf(x).served.concat([serves]), runs: true };
-    if (kind === 'HandOver') turn = { row, served: turnOf(x).served, runs: false };
-    return { row, x, serves, kind, w, does: DOES[does.is], found, value, before, after, call: stand.call, begins: stand !== before,
-      waits: kind === 'ReadState' && found === 1n, enters: step.enters[0], decides: step.decides[0], marks: kind === 'MarkDone',
+    if (kind === 'MarkDone') turn = { row, served: (turnOf(x) || { served: [] }).served.concat(serves ? [serves] : []), runs: true };
+    if (kind === 'HandOver') turn = { row, served: (turnOf(x) || { served: [] }).served, runs: false };
+    return { row, x, serves, kind, w, does: DOES[does.is], found, value, before, after, call: stand.call, begins: stand !== before, place: at,
+      waits: kind === 'ReadState' && found === 1n, enters, decides: step.decides[0], marks: kind === 'MarkDone',
       answer: ends ? step.goes.answer : null, turn, turn_before: turnOf(x) };
+  }
+
+  // The node of the call that is the first one without an answer, or of the tail.
+  function firstNode(x) {
+    const call = side(x).calls[side(x).marked];
+    return call ? (stands[call.row].call === call ? stands[call.row].node : -1) : Number(read(tail(x))) - 1;
+  }
+
+  // Whether a list node can be reached from the head of a group.
+  function isInList(i) {
+    for (let g = 0; g < groups; g++) {
+      for (let at = Number(read(object('head', g))) - 1, k = 0; at >= 0 && k <= capacity + 1; at = Number(read(item(at, 'next'))) - 1, k++) if (at === i) return true;
+    }
+    return false;
+  }
+
+  // The laws that an event breaks, before it is done.
+  function brokenBy(e) {
+    const found = [];
+    const s = side(e.x);
+    if (e.kind === 'ReadState' && e.found === 0n && turnOf(e.x) && turnOf(e.x).runs) found.push('one');
+    if (e.kind === 'ReadNext' && ['Sending', 'Taking'].includes(e.after.place.is) && firstNode(e.x) !== e.w.i) found.push('first');
+    if (e.kind === 'HandOver' && firstNode(e.x) !== e.w.i) found.push('hand');
+    if (e.kind === 'ResetListNode' && e.w.field === 'passed' && isInList(e.w.i)) found.push('reset');
+    if (e.decides) {
+      const a = e.decides[0], call = s.calls[s.answers.length];
+      const knows = call ? call.knows : { accepted: 0, least: 0, shut: false };
+      if (a.is === 'Accepted' && Number(a.place) !== accepted.length) found.push('places');
+      if (a.is === 'Full' && accepted.length - knows.least < capacity) found.push('full');
+      if (a.is === 'Empty' && (got[e.x] < knows.accepted || knows.shut)) found.push('empty');
+      if (a.is === 'Ended' && (!shut || got[e.x] !== accepted.length)) found.push('ended');
+      if (a.is === 'Got') {
+        const sent = accepted[got[e.x]], item = a[0];
+        if (!sent || Number(item.place) !== got[e.x] || Number(item.sender) !== sent.row + 1 || item.number !== sent.number || Body_words_of(item.body).join() !== sent.send.join()) found.push('fifo');
+      }
+    }
+    if (e.answer) {
+      const mine = s.answers[e.call.entered];
+      if (!mine || answerText(mine) !== answerText(e.answer)) found.push('answer');
+    }
+    return found;
   }
 
   function redo(e) {
@@ -585,7 +978,13 @@ function open(text, report) {
     stands[e.row] = e.after;
     const s = side(e.x);
     if (e.enters) s.calls.push(e.enters);
-    if (e.decides) s.answers.push(e.decides);
+    if (e.decides) {
+      const a = e.decides[0];
+      if (a.is === 'Accepted') accepted.push(s.calls[s.answers.length]);
+      if (a.is === 'Got') got[e.x]++;
+      if (a.is === 'Shut') shut = true;
+      s.answers.push(e.decides);
+    }
     if (e.marks) s.marked++;
     if (e.turn) turns[e.x + 1] = e.turn;
   }
@@ -595,7 +994,13 @@ function open(text, report) {
     stands[e.row] = e.before;
     const s = side(e.x);
     if (e.enters) s.calls.pop();
-    if (e.decides) s.answers.pop();
+    if (e.decides) {
+      const a = e.decides[0];
+      if (a.is === 'Accepted') accepted.pop();
+      if (a.is === 'Got') got[e.x]--;
+      if (a.is === 'Shut') shut = false;
+      s.answers.pop();
+    }
     if (e.marks) s.marked--;
     turns[e.x + 1] = e.turn_before;
   }
@@ -603,6 +1008,13 @@ function open(text, report) {
   // The runs: that of the plan, and branches made by hand, which differ from another run after the event `from`.
   const branches = [{ from: 0, events: [] }];
   let chosen = 0, events = branches[0].events, now = 0;
+
+  function make(e) {
+    e.breaks = brokenBy(e);
+    events.push(e);
+    redo(e);
+    now = events.length;
+  }
 
   function goTo(n) {
     n = Math.max(0, Math.min(events.length, n));
@@ -623,9 +1035,7 @@ function open(text, report) {
     const e = now < EVENT_LIMIT ? nextEvent(row) : null;
     if (!e) return false;
     if (chosen === 0 || now < events.length) branch();
-    events.push(e);
-    redo(e);
-    now++;
+    make(e);
     return true;
   }
 
@@ -654,11 +1064,11 @@ function open(text, report) {
     return '';
   }
 
-  // The plan of which the events up to now are the run.
-  function planText() {
+  // The plan of which the events up to `upTo` are the run.
+  function planText(upTo = now) {
     const body = words => version === 2 ? '[' + words.join(',') + ']' : words[0];
     const schedule = [];
-    for (const e of events.slice(0, now)) {
+    for (const e of events.slice(0, upTo)) {
       const newest = schedule[schedule.length - 1];
       if (newest && newest.row === e.row) newest.steps++;
       else schedule.push({ row: e.row, steps: 1 });
@@ -676,65 +1086,268 @@ function open(text, report) {
     history.forEach((s, x) => s.calls.forEach((call, k) => {
       out += front(x) + k + ' ' + passName(call.row) + ' ' + callText(call) + ' -> ' + answerText(s.answers[k]) + '\\n';
     }));
-    return out + CLEAN + '\\n';
+    return out + (variant ? '' : CLEAN + '\\n');
   }
 
-  // The whole run, once, compared with what the program wrote.
+  // An order of all decided calls, each at the event at which it takes effect: where it is decided, but Full at the load of the
+  // cursor. `fault` is the first one whose answer isn't that of a queue that does one call after another.
+  function order() {
+    const effects = [], at = history.map(() => 0);
+    let scan = 0;
+    events.slice(0, now).forEach((e, i) => {
+      if (e.place.service && e.place.service.is === 'ReadCursor') scan = i;
+      if (!e.decides) return;
+      const call = history[e.x + 1].calls[at[e.x + 1]++];
+      effects.push({ x: e.x, call, answer: e.decides, decided: i, effect: e.decides[0].is === 'Full' ? scan : i });
+    });
+    effects.sort((a, b) => a.effect - b.effect);
+    const queue = { items: [], got: got.map(() => 0), shut: false };
+    let fault = null;
+    for (const one of effects) {
+      const wanted = one.call ? alone(queue, one) : 'nothing';
+      if (answerText(one.answer) !== wanted && !fault) fault = { ...one, wanted };
+    }
+    return { effects, fault };
+  }
+
+  // What a queue answers that does one call after another, and changes it.
+  function alone(queue, { x, call }) {
+    const total = queue.items.length;
+    if (call.close) {
+      if (queue.shut) return 'already ' + total;
+      queue.shut = true;
+      return 'shut ' + total;
+    }
+    if (call.send) {
+      if (queue.shut) return 'closed';
+      if (total === life) return 'spent';
+      if (total - Math.min(...queue.got) === capacity) return 'full';
+      queue.items.push(call);
+      return 'accepted ' + total;
+    }
+    const k = queue.got[x];
+    if (k === total) return queue.shut ? 'ended ' + total : 'empty';
+    queue.got[x]++;
+    return 'got ' + k + ' s' + (queue.items[k].row + 1) + ' ' + queue.items[k].number + ' ' + queue.items[k].send.join(' ');
+  }
+
+  // The whole run, once: by the schedule, or as the program wrote it and compared with that.
   const faults = [];
-  for (const { row, kind } of written) {
+  let is_long = false;
+  for (const { row, steps } of plan.schedule) {
+    for (let k = 0; k < steps && !is_long; k++) {
+      const e = nextEvent(row);
+      if (!e) break;
+      is_long = events.length >= EVENT_LIMIT;
+      if (!is_long) make(e);
+    }
+  }
+  if (is_long) faults.push('The run has more than ' + EVENT_LIMIT + ' events, and the first ' + EVENT_LIMIT + ' are here.');
+  for (const { row, kind } of plan.written || []) {
     const e = nextEvent(row);
     if (!e) { faults.push('Event ' + (events.length + 1) + ' is of ' + passName(row) + ', which has no call to make.'); break; }
     if (number[e.kind] !== kind && faults.length === 0) {
       faults.push('Event ' + (events.length + 1) + ' of ' + passName(row) + ' is ' + (KINDS[kind] || ['of no kind'])[0] + ' by the program, and ' + e.kind + ' by this page.');
     }
-    events.push(e);
-    redo(e);
+    make(e);
   }
-  now = events.length;
-  const reported = report.split('\\n'), mine = reportText().split('\\n');
-  const differs = mine.findIndex((line, i) => line !== reported[i]);
-  if (differs >= 0 || reported.length > mine.length) {
-    const i = differs >= 0 ? differs : mine.length;
-    faults.push('Line ' + (i + 1) + ' of the report is \"' + (reported[i] ?? '') + '\" by the program, and \"' + (mine[i] ?? '') + '\" by this page.');
+  if (report !== null) {
+    const reported = report.split('\\n'), mine = reportText().split('\\n');
+    const differs = mine.findIndex((line, i) => line !== reported[i]);
+    if (differs >= 0 || reported.length > mine.length) {
+      const i = differs >= 0 ? differs : mine.length;
+      faults.push('Line ' + (i + 1) + ' of the report is \"' + (reported[i] ?? '') + '\" by the program, and \"' + (mine[i] ?? '') + '\" by this page.');
+    }
   }
 
   return {
-    capacity, bound, life, groups, senders, receivers, rows, takes, faults, branches, history, stands,
+    capacity, bound, life, groups, senders, receivers, rows, takes, faults, branches, history, stands, variant, got, accepted,
     get version() { return version; }, get events() { return events; }, get now() { return now; }, get chosen() { return chosen; },
-    passName, chainOf, read, side, turnOf, nextCall, nextEvent, goTo, step, choose, add, planText, reportText, front,
+    passName, chainOf, read, side, turnOf, nextCall, nextEvent, goTo, step, choose, add, planText, reportText, front, order,
   };
 }
 
 const further = tag => Number(Codes_further_words(tag));
 const tagText = tag => 's' + Codes_tag_sender(tag) + ' send ' + Codes_tag_number(tag);
 const codeOf = ret => Number(Codes_code_of(ret));
-return { open, KINDS, EVENT_LIMIT, number, tail, node, item, object, keyOf, callText, answerText, further, tagText, codeOf,
+return { open, planOfRun, planOfText, CHANGES, LAWS, KINDS, EVENT_LIMIT, number, tail, node, item, object, keyOf, callText, answerText, further, tagText, codeOf,
   valueOf: Codes_value_of, listReads: Codes_list_reads };
 })();
+</script>
+<script type=\"text/plain\" id=\"run\">";
+
+/// The text between the run and the report.
+pub const MIDDLE: &[u8] = b"\
+</script>
+<script type=\"text/plain\" id=\"report\">";
+
+/// The text after the report.
+pub const BACK: &[u8] = b"\
 </script>
 <script>
 (() => {
 'use strict';
 
-const { KINDS, EVENT_LIMIT, number, tail, node, item, object, keyOf, callText, answerText, further, tagText, codeOf, valueOf, listReads } = Machine;
-const run = Machine.open(document.getElementById('run').textContent, document.getElementById('report').textContent);
-const { capacity, bound, life, groups, senders, receivers, rows, passName, chainOf, read, side, turnOf, stands, history } = run;
-
+const { CHANGES, LAWS, KINDS, EVENT_LIMIT, number, tail, node, item, object, keyOf, callText, answerText, further, tagText, codeOf, valueOf, listReads } = Machine;
 const GROUPS_OF_KINDS = { enter: 'enters its chain', wait: 'reads its state', serve: 'serves', hand: 'marks done, hands over', answer: 'reads its answer' };
 const $ = id => document.getElementById(id);
 const plural = (n, word) => n + ' ' + word + (n === 1 ? '' : /s$/.test(word) ? 'es' : 's');
-const drawn = {};             // what the parts of the page were drawn from, which are drawn again only if that changed
+const LESSONS = JSON.parse($('lessons').textContent);
+const TOUR = LESSONS.filter(lesson => lesson.kind === 'tour');
+
+// The run that is shown, and what of it doesn't change.
+let run, capacity, bound, life, groups, senders, receivers, rows, passName, chainOf, read, side, turnOf, stands, history;
+let source = {};              // the lesson, the plan or the program's text that the run is of
+function use(opened) {
+  run = opened;
+  ({ capacity, bound, life, groups, senders, receivers, rows, passName, chainOf, read, side, turnOf, stands, history } = run);
+}
+
+let drawn = {};               // what the parts of the page were drawn from, which are drawn again only if that changed
 function show(id, html) {
-  if (drawn[id] === html) return;
+  if (drawn[id] === html) return false;
   drawn[id] = html;
   $(id).innerHTML = html;
+  return true;
 }
 const chainName = x => x < 0 ? 'send chain' : groups > 1 ? 'take chain of group ' + (x + 1) : 'take chain';
 
-// ---- Words.
+// ---- The glossary.
+
+const WORDS = {
+  step: 'One read, write, swap or add of one word. Between two steps of a pass any steps of other passes may come.',
+  pass: 'One thread at the queue: s1, s2 and so on send, r1, r2 and so on take.',
+  chain: 'A linked list of requests. The senders have one chain, and each group of receivers has one.',
+  node: 'A record in a chain with a request, an answer, a state and a next link; or a record in the list with one item.',
+  tail: 'The word that names the last node of a chain. The swap of the tail gives a call its place.',
+  combiner: 'The pass that serves the requests of its chain at the moment. Each chain has at most one.',
+  turn: 'The time in which one pass combines, from the state 0 that it reads to its hand-over.',
+  bound: 'The greatest number of calls that a combiner serves in one turn.',
+  'hand-over': 'The store of 0 into the state of the node where the combiner stops: the call that has this node combines next.',
+  decision: 'The step that fixes the answer of a call.',
+  history: 'All calls of a side in the order of their swaps, each with its answer or pending.',
+  dummy: 'The first node of the list. Its item was taken before: the first item that waits is in the node after it.',
+  head: 'The word that names the dummy. Each group of receivers has its own.',
+  last: 'The word that names the last node of the list.',
+  cursor: 'The list node at which the next send begins to look for a free one.',
+  capacity: 'How many items may wait. The list has one ordinary node more, for the dummy.',
+  passed: 'The number of groups that have gone past a list node. The node is free if all groups have.',
+  group: 'Receivers that share the items. Each group gets every item once.',
+  life: 'The number of items that the queue ever accepts.',
+  'closing mark': 'The list node that a close links. It follows the last item.',
+};
+const LOWER = Object.fromEntries(Object.keys(WORDS).map(word => [word, word]));
+const termed = text => text.replace(/\\[\\[([^\\]]+)\\]\\](s?)/g, (_, word, s) => '<dfn class=\"term\" tabindex=\"0\" data-word=\"' + (LOWER[word.toLowerCase()] || word) + '\">' + word + s + '</dfn>');
+
+function explain(term) {
+  const tip = $('tip');
+  tip.textContent = WORDS[term.dataset.word];
+  tip.hidden = false;
+  const at = term.getBoundingClientRect();
+  tip.style.left = Math.max(4, Math.min(at.left, document.documentElement.clientWidth - tip.offsetWidth - 8)) + window.scrollX + 'px';
+  tip.style.top = (at.bottom + tip.offsetHeight + 8 > window.innerHeight ? at.top - tip.offsetHeight - 6 : at.bottom + 6) + window.scrollY + 'px';
+  term.setAttribute('aria-describedby', 'tip');
+}
+const hideTip = () => { $('tip').hidden = true; };
+
+// ---- The program: its lines with the places of the table that belong to each, and what holds there.
+
+const PROGRAM = {
+  call: ['A call', [
+    ['own.next \\u2190 null; own.state \\u2190 1', ['ResetNext', 'ResetState'], 'No other pass reads or writes the own node: it is in no chain.'],
+    ['node \\u2190 swap(tail, own)', ['Exchange'], 'All nodes that passes own and the node in the tail are different, and a swap exchanges two of them. The order of the swaps is the order of the calls.'],
+    ['node.request \\u2190 request', ['WriteTag', 'WriteBody'], 'The next link of the node is still null, so no combiner reads the request before it is whole.'],
+    ['node.next \\u2190 own', ['Link'], 'A link that is not null says: the request before it is complete.'],
+    ['repeat state \\u2190 node.state', ['ReadState'], 'At most one pass of the chain reads 0, and only while no pass combines.'],
+    ['until state \\u2260 1', [], ''],
+    ['if state = 0: combine', [], ''],
+    ['return node.answer', ['ReadAnswer', 'ReadAnswerTag', 'ReadAnswerBody'], 'The answer in the node is the answer of this call in the history.'],
+  ]],
+  combine: ['Combine', [
+    ['at \\u2190 node; served \\u2190 0', [], ''],
+    ['until served = bound:', [], ''],
+    ['  next \\u2190 at.next; if null: stop', ['ReadNext'], 'The combiner stands at the first call that has no answer. The next link is read before that node is marked done: afterwards its owner may clear it.'],
+    ['  serve at.request', [], ''],
+    ['  at.answer \\u2190 answer', ['WriteAnswer', 'WriteAnswerTag', 'WriteAnswerBody'], 'The state of the node is not 2 yet, so its owner does not read the answer.'],
+    ['  at.state \\u2190 2', ['MarkDone'], 'All calls before this one are marked done, and no call after it.'],
+    ['  at \\u2190 next; served \\u2190 served + 1', [], ''],
+    ['at.state \\u2190 0', ['HandOver'], 'The hand-over goes to the first call that has no answer, or to the node in the tail. From here on this pass does not combine.'],
+  ]],
+  send: ['Serve a send', [
+    ['request \\u2190 at.request', ['Sending.ReadTag', 'Sending.ReadBody'], 'The request is whole: its link was written after it.'],
+    ['if shut: return Closed', ['Sending.ReadShut', 'Sending.ReadTotal'], 'Only the combiner of the send chain writes shut, so it cannot change during this service.'],
+    ['if count = life: return Spent', ['Sending.ReadCount'], 'The count is the number of accepted items.'],
+    ['i \\u2190 cursor', ['Sending.ReadCursor'], 'If the send will be Full, it takes effect here: all ordinary nodes are busy, and only this combiner makes nodes busy.'],
+    ['while passed[i] < groups: i \\u2190 i+1, or Full', ['Sending.ReadPassed'], 'A node is free if every group has gone past it. Each ordinary node is read once at most; if all were busy, the answer is Full.'],
+    ['passed[i] \\u2190 0; next[i] \\u2190 null', ['Sending.ResetPassed', 'Sending.ResetItemNext'], 'No link and no head names node i, so no take can read it.'],
+    ['item[i] \\u2190 request', ['Sending.WriteItemTag', 'Sending.WriteItemBody'], 'Node i is not in the list yet: the item is written before the link to it.'],
+    ['next[last] \\u2190 i', ['Sending.ReadLast', 'Sending.LinkItem'], 'This link appends the item: the send is accepted. The places in the list are the numbers of the accepted items.'],
+    ['last, count, cursor \\u2190 i, +1, i + 1', ['Sending.WriteLast', 'Sending.WriteCount', 'Sending.WriteCursor'], 'Only the combiner of the send chain reads and writes these three words.'],
+  ]],
+  close: ['Serve a close', [
+    ['if shut: return Already', ['Closing.ReadTag', 'Closing.ReadBody', 'Closing.ReadShut', 'Closing.ReadTotal'], 'A queue that is shut stays shut.'],
+    ['next[last] \\u2190 mark', ['Closing.ReadCount', 'Closing.ReadLastToClose', 'Closing.LinkMark'], 'The mark has a node of its own, so a close is never Full. This link shuts the queue.'],
+    ['last \\u2190 mark; shut \\u2190 1', ['Closing.WriteLastMark', 'Closing.WriteShut'], 'No item is linked after the mark.'],
+  ]],
+  take: ['Serve a take', [
+    ['dummy, k \\u2190 head, taken', ['Taking.ReadHead', 'Taking.ReadTaken'], 'Only the combiner of this group writes its head. The group has taken k items, and the dummy is the node of the last of them.'],
+    ['i \\u2190 next[dummy]; if null: return Empty', ['Taking.ReadDummyNext'], 'A null link after the dummy means that the group took every accepted item, and that the queue is not shut.'],
+    ['if tag[i] = 0: return Ended', ['Taking.ReadItemTag'], 'Only the mark has the tag 0. Node i holds item k.'],
+    ['item \\u2190 item[i]', ['Taking.ReadItemBody'], 'Node i is not free: this group has not gone past it.'],
+    ['head, taken \\u2190 i, k + 1', ['Taking.WriteHead', 'Taking.WriteTaken'], 'Node i is the dummy from now on, and stays in the list.'],
+    ['passed[dummy] \\u2190 passed[dummy] + 1', ['Taking.AddPassed'], 'The group has gone past the old dummy and never reads it again. The last group to add makes the node free.'],
+  ]],
+};
+// The lines that a broken table changes.
+const BROKEN_LINES = {
+  marked_early: { combine: { 2: '  if at.next is null: stop', 6: '  at \\u2190 at.next; served \\u2190 served + 1' } },
+  handed_past: { combine: { 1: 'until served = bound: then at \\u2190 at.next' } },
+  freed_dummy: { take: { 5: 'passed[i] \\u2190 passed[i] + 1' } },
+  one_group: { send: { 4: 'while passed[i] = 0: i \\u2190 i+1, or Full' } },
+  full_early: { send: { 4: 'while passed[i] < groups: i+1, or Full 2 early' } },
+};
+const LINE_OF = new Map();    // by the name of a place
+for (const [part, [, lines]] of Object.entries(PROGRAM)) lines.forEach(([, places], k) => places.forEach(place => LINE_OF.set(place, { part, k })));
+const CODES_OF = { ResetNext: 'Rn', ResetState: 'Rs', Exchange: 'Ex', WriteTag: 'Wq', Link: 'Lk', ReadState: 'St', ReadAnswer: 'An', ReadNext: 'Nx', WriteAnswer: 'Wa', MarkDone: 'Dn', HandOver: 'Ho',
+  'Sending.ReadTag': 'Rq', 'Sending.ReadShut': 'Or', 'Sending.ReadCount': 'Or', 'Sending.ReadCursor': 'Or', 'Sending.ReadPassed': 'Ps', 'Sending.ResetPassed': 'Rl', 'Sending.WriteItemTag': 'Wi', 'Sending.LinkItem': 'Or Ll', 'Sending.WriteLast': 'Ow',
+  'Closing.ReadTag': 'Rq Or', 'Closing.LinkMark': 'Or Ll', 'Closing.WriteShut': 'Ow', 'Taking.ReadHead': 'Or', 'Taking.ReadDummyNext': 'Dx', 'Taking.ReadItemTag': 'Ri', 'Taking.ReadItemBody': 'Ri', 'Taking.WriteHead': 'Ow', 'Taking.AddPassed': 'Ap' };
+// The place of a step in the program: that of a close, whose tag is 0, has its own lines.
+function placeOf(e) {
+  if (!e.place.service) return e.place.is;
+  return (e.x >= 0 ? 'Taking.' : e.serves && e.serves.close ? 'Closing.' : 'Sending.') + e.place.service.is;
+}
+
+function drawProgram() {
+  const e = run.now > 0 ? run.events[run.now - 1] : null;
+  // the next link that is read after a node is marked done is a line of its own
+  const at = e && (e.place.is === 'FollowNext' ? { part: 'combine', k: 6 } : LINE_OF.get(placeOf(e)));
+  const broken = BROKEN_LINES[run.variant] || {};
+  const service = e && e.x >= 0 ? ['take'] : e && e.serves && e.serves.close ? ['close'] : e ? ['send'] : ['send', 'take'];
+  const html = ['call', 'combine', ...service].map(part => {
+    const [title, lines] = PROGRAM[part];
+    return '<div class=\"part\"><h3>' + title + '</h3><ol class=\"program\">' + lines.map(([text, places], k) => {
+      const lit = at && at.part === part && at.k === k;
+      const changed = (broken[part] || {})[k];
+      return '<li class=\"' + (lit ? 'lit ' : '') + (changed ? 'changed' : '') + '\"' + (lit ? ' aria-current=\"step\"' : '') + (changed ? ' title=\"this line is changed\"' : '') + '><span>' + (changed || text) + '</span><span>' + places.map(place => CODES_OF[place]).filter(code => code).join(' ') + '</span></li>';
+    }).join('') + '</ol></div>';
+  }).join('');
+  if (show('program', html) && at) {
+    const line = $('program').querySelector('.lit'), card = $('code');
+    if (card.scrollHeight > card.clientHeight) {
+      const top = line.getBoundingClientRect().top - card.getBoundingClientRect().top + card.scrollTop;
+      const head = $('code-head').offsetHeight;
+      if (top < card.scrollTop + head || top + 40 > card.scrollTop + card.clientHeight) card.scrollTop = top - (card.clientHeight + head) / 2;
+    }
+  }
+  const law = run.variant ? '' : '<b>What holds here:</b> ';
+  show('holds', at ? '<p>' + (law || '<b>What holds of the right queue:</b> ') + (PROGRAM[at.part][1][at.k][2] || PROGRAM.combine[1][2][2]) + '</p><p class=\"dim\">' + passName(e.row) + ' ' + KINDS[number[e.kind]][3] + '.</p>'
+    : '<p class=\"dim\">Each line is lit when a step does it, with what holds at that moment. At the end of a line are the codes of its steps, as the lanes have them.</p>');
+}
+
+// ---- Words of the table.
 
 function valueText(w, v) {
-  const link = n => n === 0n ? 'null' : 'node ' + (n - 1n);
+  const link = n => n === 0n ? 'null' : n - 1n === BigInt(capacity + 1) && w.at !== 'tail' && w.at !== 'node' ? 'the mark' : 'node ' + (n - 1n);
   if (w.at === 'tail' || w.field === 'next' || w.field === 'head' || w.field === 'last') return link(v);
   if (w.field === 'cursor') return 'node ' + v;
   if (w.field === 'state') return v + ' (' + ['serve', 'wait', 'done'][Number(v)] + ')';
@@ -745,13 +1358,13 @@ function valueText(w, v) {
   return String(v);
 }
 
-const FIELDS = { next: 'next link', ret: 'answer', passed: 'passed count', shut: 'shut mark' };
+const FIELDS = { next: 'next link', ret: 'answer', passed: 'passed count', shut: 'shut word' };
 function wordText(w) {
-  const field = w.field === 'body' ? 'word ' + (w.n + 1) + ' of the body' : FIELDS[w.field] || w.field;
+  const field = w.field === 'body' ? 'word ' + (w.n + 1) + ' of the item' : FIELDS[w.field] || w.field;
   if (w.at === 'tail') return 'tail of the ' + chainName(w.x);
   if (w.at === 'node') return field + ' of node ' + w.i + ' in the ' + chainName(w.x);
   if (w.at === 'item') return field + ' of ' + (w.i === capacity + 1 ? 'the closing mark' : 'list node ' + w.i);
-  return field + (w.g === undefined ? '' : ' of group ' + (w.g + 1)) + ' of the list';
+  return field + (w.g === undefined || groups === 1 ? '' : ' of group ' + (w.g + 1)) + ' of the list';
 }
 
 const HEAD_PLACES = new Set(['ResetNext', 'ResetState', 'Exchange', 'WriteTag', 'WriteBody', 'Link']);
@@ -774,20 +1387,29 @@ function statusOf(row) {
 }
 
 function eventText() {
-  if (run.now === 0) return '<b>The opening.</b> Every pass is idle, each tail names node 0 of its chain, and the list is its dummy alone.';
-  const e = run.events[run.now - 1];
-  const change = e.does === 'reads' ? 'reads <b>' + valueText(e.w, e.found) + '</b> in the'
-    : e.does === 'swaps' ? 'swaps <b>' + valueText(e.w, e.value) + '</b> for <b>' + valueText(e.w, e.found) + '</b> in the'
-    : 'changes <b>' + valueText(e.w, e.found) + '</b> to <b>' + valueText(e.w, e.value) + '</b> in the';
+  if (run.now === 0) return '<b>The opening.</b> Every pass is idle, each tail names node 0 of its chain, and the list is its dummy alone. Press <b>next</b>, <b>play</b>, or a pass.';
+  const e = run.events[run.now - 1], word = wordText(e.w);
+  const change = e.does === 'reads' ? 'reads <b>' + valueText(e.w, e.found) + '</b> in the ' + word
+    : e.does === 'swaps' ? 'swaps <b>' + valueText(e.w, e.value) + '</b> into the ' + word + ' and gets <b>' + valueText(e.w, e.found) + '</b>'
+    : e.does === 'adds' ? 'adds 1 to the ' + word + ', which is <b>' + valueText(e.w, e.value) + '</b> now'
+    : e.value === e.found ? 'writes <b>' + valueText(e.w, e.value) + '</b> into the ' + word + ', which had this value'
+    : 'changes the ' + word + ' from <b>' + valueText(e.w, e.found) + '</b> to <b>' + valueText(e.w, e.value) + '</b>';
   let more = '';
   if (e.serves) more += ' It serves ' + (e.serves.row === e.row ? 'its own call' : 'the call of ' + passName(e.serves.row)) + ', ' + callText(e.serves) + '.';
-  if (e.begins) more += ' With it begins ' + callText(e.call) + '.';
+  if (e.begins) more += ' With this step begins ' + callText(e.call) + '.';
   if (e.waits) more += ' It waits: nothing is changed.';
   if (e.enters) more += ' <b>The call enters the history.</b>';
   if (e.decides) more += ' <b>Decided: ' + answerText(e.decides) + '.</b>';
   if (e.answer) more += ' <b>The call returns: ' + answerText(e.answer) + '.</b>';
-  return '<b>' + passName(e.row) + ' ' + e.kind + '</b> &#183; ' + change + ' ' + wordText(e.w) + '.' + more
-    + '<br><span class=\"dim\">' + passName(e.row) + ' ' + KINDS[number[e.kind]][3] + '.</span>';
+  return '<b>' + passName(e.row) + '</b> ' + change + '.' + more + ' <span class=\"dim\">(' + KINDS[number[e.kind]][1] + ' ' + e.kind + ')</span>';
+}
+
+// The laws that steps up to now have broken.
+function breaksText() {
+  if (!run.variant) return '';
+  const found = [];
+  for (let i = 0; i < run.now; i++) for (const law of run.events[i].breaks) if (!found.some(one => one.law === law)) found.push({ law, i });
+  return found.length ? 'Broken: ' + found.map(({ law, i }) => LAWS[law][0] + ' (event ' + (i + 1) + ')').join(' ') : '';
 }
 
 // ---- The columns of the lanes, and the turns: of the run as it stands, to its last event.
@@ -814,18 +1436,23 @@ function layOut() {
     }
     laid.column.push(laid.first.length - 1);
     if (e.turn && e.kind === 'ReadState') {
-      const turn = { x: e.x, row: e.row, from: i, to: i, served: [] };
+      const turn = { x: e.x, row: e.row, from: i, to: i, served: [], is_over: false };
       laid.open.set(e.x, turn);
       laid.turns.push(turn);
     }
     const turn = laid.open.get(e.x);
     if (turn && turn.row === e.row) {
       turn.to = i;
-      if (e.marks) turn.served.push(e.turn.served[e.turn.served.length - 1]);
-      if (e.kind === 'HandOver') laid.open.delete(e.x);
+      if (e.marks) turn.served.push([i, e.turn.served[e.turn.served.length - 1]]);
+      if (e.kind === 'HandOver') {
+        turn.is_over = true;
+        laid.open.delete(e.x);
+      }
     }
   }
   laid.length = events.length;
+  // a turn that isn't over reaches to the last event
+  for (const turn of laid.open.values()) turn.to = events.length - 1;
   return laid;
 }
 
@@ -839,7 +1466,7 @@ function lastUpTo(list, is_above) {
   return lo - 1;
 }
 
-const LANE = 24;
+const LANE = 36, TURN = 24;
 let shown_rows = [], drawn_at = -1;
 
 // What is read of the layout: once, and if it has changed. A read in each step would lay the page out again and again.
@@ -847,6 +1474,7 @@ const sizes = {};
 function measure() {
   const before = JSON.stringify(sizes);
   Object.assign(sizes, { narrow: window.innerWidth <= 640, turns: $('turns').clientWidth, names: $('names').offsetWidth, cells: $('cells').clientWidth, lanes: $('lanes').clientHeight });
+  document.documentElement.style.setProperty('--bar', $('player').offsetHeight + 'px');
   return JSON.stringify(sizes) !== before;
 }
 
@@ -881,44 +1509,45 @@ function drawNames() {
   });
 }
 
-// The turns of each chain over the events: the combiner's name, and the passes whose calls it served.
-function drawTurns() {
-  const { turns, first } = layOut();
-  const left = sizes.names, width = sizes.turns, inner = width - left - 4;
-  const of = Math.max(run.events.length, 1);
-  const scale = Math.max(inner / of, 3);
-  const fits = Math.min(of, Math.floor(inner / scale));
-  const lo = Math.max(0, Math.min(run.now - Math.ceil(fits * 0.6), of - fits));
-  const at = i => left + (i - lo) * scale;
-  let s = '<svg width=\"' + width + '\" height=\"' + (groups + 1) * 18 + '\" role=\"img\" aria-label=\"the turns of the combiners\">';
-  for (let x = -1; x < groups; x++) s += '<text class=\"side\" x=\"2\" y=\"' + ((x + 1) * 18 + 13) + '\">' + (sizes.narrow ? (x < 0 ? 'sends' : groups > 1 ? 'takes ' + (x + 1) : 'takes') : 'turns in the ' + chainName(x)) + '</text>';
-  for (let k = lastUpTo(turns, turn => turn.from >= lo + fits); k >= 0; k--) {
-    const turn = turns[k];
-    if (turn.to < lo) {
-      if (turn.from < lo - EVENT_LIMIT || turns.length - k > 2000) break;
-      continue;
-    }
-    const from = Math.max(at(turn.from), left), to = Math.min(at(turn.to + 1), width - 2), y = (turn.x + 1) * 18;
-    const whole = passName(turn.row) + ' for ' + (turn.served.map(call => passName(call.row)).join(', ') || 'no call yet');
-    const room = Math.floor((to - from - 6) / 6.3);
-    const text = whole.length <= room ? whole : room >= 12 ? whole.slice(0, room - 1) + '\\u2026' : room >= passName(turn.row).length ? passName(turn.row) : '';
-    s += '<g class=\"turn\" data-event=\"' + (turn.from + 1) + '\"><title>' + passName(turn.row) + ' combines from event ' + (turn.from + 1) + ' to ' + (turn.to + 1) + ', and serves '
-      + (turn.served.map(call => passName(call.row) + ' ' + callText(call)).join(', ') || 'no call yet') + '</title><rect x=\"' + from.toFixed(1) + '\" y=\"' + (y + 1) + '\" width=\"'
-      + Math.max(to - from, 2).toFixed(1) + '\" height=\"15\" rx=\"3\"/><text x=\"' + (from + 4).toFixed(1) + '\" y=\"' + (y + 12.5) + '\">' + text + '</text></g>';
-  }
-  if (run.now > lo) s += '<line class=\"now\" x1=\"' + at(run.now - 0.5).toFixed(1) + '\" x2=\"' + at(run.now - 0.5).toFixed(1) + '\" y1=\"0\" y2=\"' + (groups + 1) * 18 + '\"/>';
-  show('turns', s + '</svg>');
-}
-
 // What the lanes show: the columns from `lo` up to `hi`, the one of the newest event, and the lane of each row.
 function viewOfLanes() {
   const { column, first } = layOut();
-  const cell = sizes.narrow ? 22 : 27;
+  const cell = sizes.narrow ? 29 : 34;
   const width = Math.max(sizes.cells, 4 * cell);
   const fits = Math.floor(width / cell);
   const here = run.now > 0 ? column[run.now - 1] : 0;
   const lo = Math.max(0, Math.min(here + 1 - Math.ceil(fits * 0.7), first.length - fits));
-  return { cell, width, here, lo, hi: Math.min(first.length, lo + fits), height: shown_rows.length * LANE + 14, laneOf: new Map(shown_rows.map((row, k) => [row, k])) };
+  return { cell, width, here, lo, hi: Math.min(first.length, lo + fits), height: shown_rows.length * LANE + 16, laneOf: new Map(shown_rows.map((row, k) => [row, k])) };
+}
+
+// The turns of each chain over the columns of the lanes: the combiner's name, and the passes whose calls it served. What is
+// still to come of a turn is outlined.
+function drawTurns(view) {
+  const { turns, column } = layOut();
+  const left = sizes.names, width = left + view.width;
+  const at = c => left + (Math.max(view.lo, Math.min(c, view.lo + Math.floor(view.width / view.cell))) - view.lo) * view.cell;
+  let s = '<svg width=\"' + width + '\" height=\"' + (groups + 1) * TURN + '\" role=\"img\" aria-label=\"the turns of the combiners, over the events of the lanes\">';
+  for (let x = -1; x < groups; x++) s += '<text class=\"side\" x=\"2\" y=\"' + ((x + 1) * TURN + 16) + '\">' + (sizes.narrow ? (x < 0 ? 'sends' : groups > 1 ? 'takes ' + (x + 1) : 'takes') : 'turns in the ' + chainName(x)) + '</text>';
+  for (let k = lastUpTo(turns, turn => column[turn.from] >= view.hi); k >= 0; k--) {
+    const turn = turns[k];
+    if (column[turn.to] < view.lo) {
+      if (turns.length - k > 2000) break;
+      continue;
+    }
+    const from = at(column[turn.from]), to = at(column[turn.to] + 1), y = (turn.x + 1) * TURN + 2;
+    // the bar is solid up to the newest event, and to the end of its column
+    const done = turn.from >= run.now ? from : turn.to < run.now ? to : Math.max(from, Math.min(to, at(view.here + 1)));
+    const names = turn.served.filter(([i]) => i < run.now).map(([, call]) => call);
+    const whole = passName(turn.row) + (names.length ? ' for ' + names.map(call => passName(call.row)).join(', ') : '');
+    const room = Math.floor((to - from - 8) / 6.6);
+    const text = whole.length <= room ? whole : room >= 12 ? whole.slice(0, room - 1) + '\\u2026' : room >= passName(turn.row).length ? passName(turn.row) : '';
+    const bar = (a, b, kind) => b - a < 1 ? '' : '<rect' + kind + ' x=\"' + (a + 0.5).toFixed(1) + '\" y=\"' + (y + 0.5) + '\" width=\"' + (b - a - 2).toFixed(1) + '\" height=\"19\" rx=\"3\"/>';
+    s += '<g class=\"turn\" data-event=\"' + (turn.from + 1) + '\"><title>' + passName(turn.row) + ' combines from event ' + (turn.from + 1) + (turn.is_over ? ' to ' + (turn.to + 1) : ' on') + ', and serves '
+      + (turn.served.map(([, call]) => passName(call.row) + ' ' + callText(call)).join(', ') || 'no call yet') + '</title>' + bar(from, done, '') + bar(done, to, ' class=\"later\"')
+      + '<text x=\"' + (from + 5).toFixed(1) + '\" y=\"' + (y + 14.5) + '\">' + text + '</text></g>';
+  }
+  if (run.now > 0) s += '<line class=\"now\" x1=\"' + (at(view.here + 1) - 1) + '\" x2=\"' + (at(view.here + 1) - 1) + '\" y1=\"0\" y2=\"' + (groups + 1) * TURN + '\"/>';
+  show('turns', s + '</svg>');
 }
 
 // A cell over some columns, which begins with event i: outlined if that is still to come, and framed if it has the newest event.
@@ -927,33 +1556,32 @@ function cellText(view, i, c, wide, high, text, title, role, is_now) {
   const frame = '<rect class=\"now\" x=\"' + Math.max(x - 0.5, 1) + '\" y=\"' + (y - 0.5) + '\" width=\"' + (wide * view.cell - 1) + '\" height=\"' + (high + 2) + '\" rx=\"5\"/>';
   return '<g class=\"cell' + (later ? ' later' : '') + '\" data-event=\"' + (i + 1) + '\"><title>' + title + '</title><rect x=\"' + (x + 0.5) + '\" y=\"' + (y + 0.5) + '\" width=\"' + (wide * view.cell - 3)
     + '\" height=\"' + high + '\" rx=\"4\" fill=\"' + (later ? 'none' : 'var(--' + role + ')') + '\" stroke=\"var(--' + role + ')\"/><text class=\"code\" x=\"' + (x + Math.min(wide, 3) * view.cell / 2 - 1) + '\" y=\"'
-    + (y + high / 2 + 4) + '\">' + text + '</text></g>' + (is_now ? frame : '');
+    + (y + high / 2 + 5) + '\">' + text + '</text></g>' + (is_now ? frame : '');
 }
 
 function waitText(view, one) {
   const from = Math.max(one.from, view.lo), wide = Math.min(one.to, view.hi - 1) - from + 1;
   const times = one.reads + '\\u00d7';
-  const text = one.reads === 1 ? 'St' : wide > 1 ? 'St ' + times : one.reads < 10 ? times + 'St' : times;
+  const text = one.reads === 1 ? 'St' : wide > 1 ? 'St ' + times : one.reads < 10 && !sizes.narrow ? times + 'St' : times;
   const title = passName(one.row) + ' waits: it reads its state ' + plural(one.reads, 'time') + ' from event ' + (one.event + 1) + ' on';
   const newest = run.now > 0 && run.events[run.now - 1];
   const is_now = newest && newest.waits && newest.row === one.row && one.event < run.now && view.here >= one.from && view.here <= one.to;
-  return cellText(view, one.event, from, wide, 15, text, title, 'wait', is_now);
+  return cellText(view, one.event, from, wide, 22, text, title, 'wait', is_now);
 }
 
 // The event of a column, if it isn't a wait; the bar of a pass whose call it serves; and the event's number.
 function columnText(view, c) {
   const i = layOut().first[c], e = run.events[i], x = (c - view.lo) * view.cell, kind = KINDS[number[e.kind]];
-  if (!view.laneOf.has(e.row)) return '';
-  let s = e.waits ? '' : cellText(view, i, c, 1, 19, kind[1], (i + 1) + ': ' + passName(e.row) + ' ' + e.kind, kind[2], i === run.now - 1);
+  let s = view.laneOf.has(e.row) && !e.waits ? cellText(view, i, c, 1, 28, kind[1], (i + 1) + ': ' + passName(e.row) + ' ' + e.kind, kind[2], i === run.now - 1) : '';
   if (e.serves && e.serves.row !== e.row && view.laneOf.has(e.serves.row)) {
-    s += '<rect x=\"' + x + '\" y=\"' + (view.laneOf.get(e.serves.row) * LANE + 19) + '\" width=\"' + (view.cell - 2) + '\" height=\"3\" rx=\"1.5\" fill=\"var(--serve)\"' + (i >= run.now ? ' opacity=\".45\"' : '') + '/>';
+    s += '<rect x=\"' + x + '\" y=\"' + (view.laneOf.get(e.serves.row) * LANE + 28) + '\" width=\"' + (view.cell - 2) + '\" height=\"4\" rx=\"2\" fill=\"var(--serve)\"' + (i >= run.now ? ' opacity=\".45\"' : '') + '/>';
   }
-  return s + ((c + 1) % 5 === 0 ? '<text class=\"tick\" x=\"' + x + '\" y=\"' + (view.height - 2) + '\">' + (i + 1) + '</text>' : '');
+  return s + ((i + 1) % 5 === 0 ? '<text class=\"tick\" x=\"' + x + '\" y=\"' + (view.height - 3) + '\">' + (i + 1) + '</text>' : '');
 }
 
-function drawCells() {
+function drawCells(view) {
   const { first, waits } = layOut();
-  const view = viewOfLanes(), { lo, hi } = view;
+  const { lo, hi } = view;
   const end = hi < first.length ? first[hi] : run.events.length;
   let s = '<svg width=\"' + view.width + '\" height=\"' + view.height + '\" role=\"img\" aria-label=\"' + plural(shown_rows.length, 'lane') + ', events ' + ((first[lo] ?? 0) + 1) + ' to ' + end + '\">';
   shown_rows.forEach((row, k) => { s += '<line class=\"lane\" x1=\"0\" x2=\"' + view.width + '\" y1=\"' + (k * LANE + LANE - 0.5) + '\" y2=\"' + (k * LANE + LANE - 0.5) + '\"/>'; });
@@ -966,13 +1594,24 @@ function drawCells() {
   followLane(view);
 }
 
-// Scrolls the lanes to that of the newest event.
+// Scrolls the lanes to that of the newest event, and the page if the player or the screen's end hides that lane.
 function followLane({ height, laneOf }) {
   const row = run.now > 0 && drawn_at !== run.now ? run.events[run.now - 1].row : -1;
   drawn_at = run.now;
-  if (height <= sizes.lanes || !laneOf.has(row)) return;
-  const y = laneOf.get(row) * LANE, top = $('lanes').scrollTop;
-  if (y < top || y + LANE > top + sizes.lanes) $('lanes').scrollTop = Math.max(0, y - sizes.lanes / 2);
+  if (!laneOf.has(row)) return;
+  const y = laneOf.get(row) * LANE;
+  if (height > sizes.lanes) {
+    const top = $('lanes').scrollTop;
+    if (y < top || y + LANE > top + sizes.lanes) $('lanes').scrollTop = Math.max(0, y - sizes.lanes / 2);
+  }
+}
+function keepLaneInView() {
+  const lane = $('names').querySelector('.pass.moved');
+  if (!lane) return;
+  const card = $('passes').getBoundingClientRect(), at = lane.getBoundingClientRect(), bar = $('player').getBoundingClientRect().bottom;
+  if (card.bottom < bar || card.top > window.innerHeight) return;
+  if (at.top < bar + 4) window.scrollBy(0, at.top - bar - 40);
+  else if (at.bottom > window.innerHeight - 4) window.scrollBy(0, at.bottom - window.innerHeight + 40);
 }
 
 // ---- The chains, the list and the history.
@@ -983,18 +1622,25 @@ function touches(at, x, i) {
   return w && w.at === at && w.i === i && (at === 'item' || w.x === x);
 }
 
-function nodeBox(x, i, who, call, role, badges) {
+const DOWN = '<svg width=\"14\" height=\"14\" viewBox=\"0 0 14 14\" aria-hidden=\"true\"><path d=\"M7 0V9\"/><path class=\"tip-of-link\" d=\"M2 7L7 14L12 7z\"/></svg>';
+const ACROSS = '<svg width=\"38\" height=\"14\" viewBox=\"0 0 38 14\" aria-hidden=\"true\"><path class=\"link\" d=\"M0 7H30\"/><path class=\"tip-of-link\" d=\"M28 2L38 7L28 12z\"/></svg>';
+const GAP = '<svg width=\"38\" height=\"14\" viewBox=\"0 0 38 14\" aria-hidden=\"true\"><path class=\"link\" d=\"M0 7H36\"/></svg>';
+// A word that names a node, as an arrow down to it.
+const pointer = (kind, name, is_touched) => '<span class=\"end ' + kind + (is_touched ? ' touch' : '') + '\">' + name + DOWN + '</span>';
+const stack = (ends, box) => '<span class=\"stack\"><span class=\"ends\">' + ends + '</span>' + box + '</span>';
+
+function nodeBox(x, i, who, call, role, ends) {
   const state = Number(read(node(x, i, 'state')));
   const ret = read(node(x, i, 'ret'));
-  return '<span class=\"box ' + role + (touches('node', x, i) ? ' touch' : '') + '\"><b>node ' + i + '</b> ' + badges
+  return stack(ends, '<span class=\"box ' + role + (touches('node', x, i) ? ' touch' : '') + '\"><b>node ' + i + '</b>'
     + '<span class=\"tagline\">' + (who === null ? 'of no call yet' : passName(who) + (call ? ' ' + callText(call) : '')) + '</span>'
-    + '<span class=\"tagline dim\">state ' + state + ' ' + ['serve', 'wait', 'done'][state] + (state === 2 ? ': ' + valueText(node(x, i, 'ret'), ret) : '') + '</span></span>';
+    + '<span class=\"tagline dim\">state ' + state + ' ' + ['serve', 'wait', 'done'][state] + (state === 2 ? ': ' + valueText(node(x, i, 'ret'), ret) : '') + '</span></span>');
 }
 
 // The node that a combiner stands at.
 function combinerAt(row) {
   const p = stands[row].place;
-  const at = p.round ? p.round.at : p.job ? p.job.round.at : p.at;
+  const at = p.round ? p.round.at : p.job ? p.job.round.at : p.was ? p.was.round.at : p.at;
   return at === undefined ? -1 : Number(at);
 }
 
@@ -1003,6 +1649,13 @@ function turnText(turn) {
   const served = turn.served.length ? ': ' + (turn.served.length > 6 ? '.., ' : '') + turn.served.slice(-6).map(c => passName(c.row) + ' ' + callText(c)).join(', ') : '';
   return turn.runs ? '<span class=\"dot\" style=\"background:var(--serve)\"></span>' + passName(turn.row) + ' combines; in this turn it served ' + turn.served.length + ' of at most ' + plural(bound, 'call') + served
     : 'no pass combines; in the last turn ' + passName(turn.row) + ' served ' + plural(turn.served.length, 'call') + served;
+}
+
+// The arrow from a node to the one that is drawn next.
+function linkText(next, wanted, name) {
+  if (next === 0n) return '<span class=\"arrow none\">' + GAP + name + '</span>';
+  if (next - 1n === BigInt(wanted)) return '<span class=\"arrow\">' + ACROSS + '</span>';
+  return '<span class=\"arrow wrong\">' + ACROSS + 'to node ' + (next - 1n) + '</span>';
 }
 
 function chainText(x) {
@@ -1027,18 +1680,17 @@ function chainText(x) {
   done.sort((a, b) => a[0] - b[0]);
   waiting.sort((a, b) => a[0] - b[0]);
   const at = turn && turn.runs ? combinerAt(turn.row) : -1;
-  let out = '<h3>' + turnText(turn) + '</h3><ol class=\"boxes\">';
+  let out = '<h3>' + turnText(turn) + '</h3><div class=\"strip\" tabindex=\"0\" role=\"group\" aria-label=\"nodes of the ' + chainName(x) + '\"><ol class=\"boxes\">';
   const shown = waiting.slice(0, 24);
-  for (const [, i, row] of shown) {
-    const next = read(node(x, i, 'next'));
-    out += '<li>' + nodeBox(x, i, row, stands[row].call, i === at ? 'serve' : 'wait', i === at ? '<span class=\"badge serves\">being served</span>' : '')
-      + (next === 0n ? '<span class=\"arrow none\" title=\"not linked yet\">&#8943; not linked</span>' : '<span class=\"arrow\">&#8594;</span>') + '</li>';
-  }
-  if (waiting.length > shown.length) out += '<li><span class=\"arrow\">' + (waiting.length - shown.length) + ' more &#8594;</span></li>';
+  shown.forEach(([, i, row], k) => {
+    const next = read(node(x, i, 'next')), wanted = k + 1 < shown.length ? shown[k + 1][1] : waiting.length > shown.length ? Number(next) - 1 : last;
+    out += '<li>' + nodeBox(x, i, row, stands[row].call, i === at ? 'serve' : 'wait', i === at ? pointer('serves', 'served') : '') + linkText(next, wanted, 'not linked') + '</li>';
+  });
+  if (waiting.length > shown.length) out += '<li><span class=\"arrow\">' + (waiting.length - shown.length) + ' more' + ACROSS + '</span></li>';
   const w = touched();
-  out += '<li>' + nodeBox(x, last, null, null, 'free', '<span class=\"badge tail' + (w && w.at === 'tail' && w.x === x ? ' word touch' : '') + '\">tail</span>' + (last === at ? '<span class=\"badge serves\">next to serve</span>' : '')) + '</li></ol>';
+  out += '<li>' + nodeBox(x, last, null, null, 'free', pointer('tail', 'tail', w && w.at === 'tail' && w.x === x) + (last === at ? pointer('serves', 'next to serve') : '')) + '</li></ol></div>';
   if (done.length) {
-    out += '<h3>served, and the answer not read yet</h3><ol class=\"boxes\">' + done.slice(0, 24).map(([, i, row]) => '<li>' + nodeBox(x, i, row, stands[row].call, 'done', '') + '<span class=\"arrow\"> </span></li>').join('') + '</ol>';
+    out += '<h3>served, and the answer not read yet</h3><div class=\"strip\"><ol class=\"boxes loose\">' + done.slice(0, 24).map(([, i, row]) => '<li>' + nodeBox(x, i, row, stands[row].call, 'done', '') + '</li>').join('') + '</ol></div>';
   }
   const own = spare.slice(0, 24).map(([row, st]) => '<span class=\"word' + (touches('node', x, st.node) ? ' touch' : '') + '\">' + passName(row) + ': node ' + st.node + '</span>').join('');
   if (own) out += '<h3>nodes of passes that are in no chain</h3><div class=\"words\" style=\"margin:0\">' + own + (spare.length > 24 ? '<span class=\"dim\">and ' + (spare.length - 24) + ' more</span>' : '') + '</div>';
@@ -1053,10 +1705,11 @@ function readList() {
   const linked = new Set(ends.map(e => Number(read(item(e.head, 'next'))) - 1));
   const begin = (ends.find(e => e.taken === least.taken && !linked.has(e.head)) || least).head;
   const places = new Map();
-  for (let i = begin; i >= 0 && !places.has(i); i = Number(read(item(i, 'next'))) - 1) places.set(i, places.size);
+  let end = begin;
+  for (; end >= 0 && !places.has(end); end = Number(read(item(end, 'next'))) - 1) places.set(end, places.size);
   const serving = turnOf(-1) && turnOf(-1).runs ? stands[turnOf(-1).row].place.service : null;
   const at = kinds => serving && kinds.includes(serving.is) ? Number(serving.node) : -1;
-  return { ends, places, mark: capacity + 1, last: Number(read(object('last'))) - 1, cursor: Number(read(object('cursor'))), furthest: ends.map(e => places.get(e.head) ?? -1),
+  return { ends, places, end, mark: capacity + 1, last: Number(read(object('last'))) - 1, cursor: Number(read(object('cursor'))), furthest: ends.map(e => places.get(e.head) ?? -1),
     prepared: at(['ResetItemNext', 'WriteItemTag', 'WriteItemBody', 'ReadLast', 'LinkItem']), scanned: at(['ReadPassed']) };
 }
 
@@ -1064,46 +1717,58 @@ function itemBox(list, i) {
   const place = list.places.get(i) ?? -1, tag = read(item(i, 'tag')), is_mark = i === list.mark;
   const is_out = place < 0 || !is_mark && read(item(i, 'passed')) === BigInt(groups);
   const is_dummy = place >= 0 && list.furthest.every(at => at >= place);
-  let badges = list.ends.filter(e => e.head === i).map(e => '<span class=\"badge\">head' + (groups > 1 ? ' of group ' + (e.g + 1) : '') + '</span>').join('');
-  if (i === list.last) badges += '<span class=\"badge tail\">last</span>';
-  if (i === list.cursor) badges += '<span class=\"badge cursor\">cursor</span>';
-  if (i === list.scanned) badges += '<span class=\"badge looks\">looks here</span>';
+  const w = touched();
+  const points = field => w && w.at === 'object' && w.field === field;
+  let ends = list.ends.filter(e => e.head === i).map(e => pointer('', 'head' + (groups > 1 ? ' ' + (e.g + 1) : ''), points('head') && w.g === e.g)).join('');
+  if (i === list.last) ends += pointer('tail', 'last', points('last'));
+  if (i === list.cursor) ends += pointer('cursor', 'cursor', points('cursor'));
+  if (i === list.scanned) ends += pointer('looks', 'looks here');
   const words = [];
   if (tag !== 0n) for (let n = 0; n <= further(tag); n++) words.push(read(item(i, 'body', n)));
   const role = i === list.prepared ? 'prepare' : is_out ? 'free' : is_dummy ? 'dummy' : 'wait';
-  const what = is_mark ? 'the closing mark' : { prepare: 'is prepared', free: '', dummy: 'dummy: no item to take', wait: tagText(tag) + ': ' + words.join(' ') }[role];
+  const what = is_mark ? 'the closing mark' : { prepare: 'is prepared: ' + (words.join(' ') || 'no item yet'), free: '', dummy: 'dummy: no item to take', wait: tagText(tag) + ': ' + words.join(' ') }[role];
   const passed = is_mark ? '' : (role === 'free' ? 'free, ' : '') + 'passed by ' + read(item(i, 'passed')) + ' of ' + groups;
-  return '<span class=\"box ' + role + (touches('item', 0, i) ? ' touch' : '') + '\"><b>node ' + i + '</b> ' + badges + (what && '<span class=\"tagline\">' + what + '</span>')
-    + (passed && '<span class=\"tagline dim\">' + passed + '</span>') + '</span>';
+  return stack(ends, '<span class=\"box ' + role + (touches('item', 0, i) ? ' touch' : '') + '\"><b>node ' + i + '</b>' + (what && '<span class=\"tagline\">' + what + '</span>')
+    + (passed && '<span class=\"tagline dim\">' + passed + '</span>') + '</span>');
 }
 
 function drawList() {
   const list = readList();
   const nodes = [...list.places.keys()];
   const shown = nodes.length > 30 ? nodes.slice(0, 15).concat([-1], nodes.slice(-14)) : nodes;
-  let out = '<ol class=\"boxes\">' + shown.map(i => i < 0 ? '<li><span class=\"arrow\">' + (nodes.length - 29) + ' more &#8594;</span></li>'
-    : '<li>' + itemBox(list, i) + '<span class=\"arrow\">&#8594;</span></li>').join('') + '<li><span class=\"arrow\">null</span></li></ol>';
+  let out = '<div class=\"parts\"><div class=\"strip\" tabindex=\"0\" role=\"group\" aria-label=\"nodes of the list\"><ol class=\"boxes\">' + shown.map((i, k) => i < 0 ? '<li><span class=\"arrow\">' + (nodes.length - 29) + ' more' + ACROSS + '</span></li>'
+    : '<li>' + itemBox(list, i) + (k + 1 < shown.length || list.end < 0 ? '<span class=\"arrow\">' + ACROSS + '</span>' : '<span class=\"arrow wrong\">' + ACROSS + 'to node ' + list.end + '</span>') + '</li>').join('')
+    + (list.end < 0 ? '<li><span class=\"arrow\" style=\"margin-bottom:18px\">null</span></li>' : '') + '</ol></div>';
   const free = [];
   for (let i = 0; i <= capacity && free.length < 24; i++) if (!list.places.has(i)) free.push(i);
   const others = capacity + 1 - nodes.filter(i => i <= capacity).length;
-  if (free.length) out += '<h3>' + plural(others, 'node') + ' outside the list</h3><ol class=\"boxes\">' + free.map(i => '<li>' + itemBox(list, i) + '<span class=\"arrow\"> </span></li>').join('')
-    + (others > 24 ? '<li class=\"dim\">and ' + (others - 24) + ' more</li>' : '') + '</ol>';
+  if (free.length) out += '<div class=\"outside\"><h3>' + plural(others, 'node') + ' outside the list</h3><div class=\"strip\"><ol class=\"boxes loose\">' + free.map(i => '<li>' + itemBox(list, i) + '</li>').join('')
+    + (others > 24 ? '<li class=\"dim\">and ' + (others - 24) + ' more</li>' : '') + '</ol></div></div>';
+  out += '</div>';
   const w = touched();
   const word = (name, ww) => '<span class=\"word' + (w && keyOf(w) === keyOf(ww) ? ' touch' : '') + '\">' + name + ' <b>' + valueText(ww, read(ww)) + '</b></span>';
   out += '<div class=\"words\">' + word('last', object('last')) + word('cursor', object('cursor')) + word('count', object('count')) + word('shut', object('shut'))
     + list.ends.map(e => word('head' + (groups > 1 ? ' of group ' + (e.g + 1) : ''), object('head', e.g)) + word('taken' + (groups > 1 ? ' by group ' + (e.g + 1) : ''), object('taken', e.g))).join('') + '</div>';
-  show('list', out);
+  if (show('list', out)) showTouched('list');
+}
+
+// Scrolls the row of boxes that has the touched one to it.
+function showTouched(id) {
+  const box = $(id).querySelector('.strip .box.touch');
+  const strip = box && box.closest('.strip');
+  if (!strip || strip.scrollWidth <= strip.clientWidth) return;
+  const at = box.getBoundingClientRect(), of = strip.getBoundingClientRect();
+  if (at.left < of.left || at.right > of.right) strip.scrollLeft += at.left - of.left - of.width / 3;
 }
 
 // The newest calls of each side, in a column that scrolls.
 const HISTORY_LINES = 40;
-let drawn_history = '';
 function drawHistory() {
   const e = run.now > 0 ? run.events[run.now - 1] : null;
   const fresh = x => !e || e.x !== x - 1 ? -1 : e.enters ? history[x].calls.length - 1 : e.decides ? history[x].answers.length - 1 : -1;
   const key = history.map((s, x) => s.calls.length + ' ' + s.answers.length + ' ' + fresh(x)).join() + ' ' + run.chosen + ' ' + run.version;
-  if (key === drawn_history) return;
-  drawn_history = key;
+  if (key === drawn.history) return;
+  drawn.history = key;
   $('history').innerHTML = history.map((s, x) => {
     const from = Math.max(0, Math.min(s.answers.length - HISTORY_LINES / 2, s.calls.length - HISTORY_LINES));
     const head = '<h3>' + (x === 0 ? 'sends and closes' : groups > 1 ? 'takes of group ' + x : 'takes') + (from ? ' from ' + from + ' on' : '') + '</h3>';
@@ -1119,6 +1784,25 @@ function drawHistory() {
   }
 }
 
+// An order of all calls that are decided, by the events at which they take effect.
+function drawOrder() {
+  if (!$('order').open) return;
+  const { effects, fault } = run.order(), from = Math.max(0, effects.length - HISTORY_LINES);
+  show('order-text', '<p>Each call takes effect at one event between its swap and its decision: where it is decided, and a Full at the load of the cursor, with which its scan begins. '
+    + (run.variant ? fault ? '<b class=\"pending\">In this order ' + passName(fault.call ? fault.call.row : 0) + ' ' + (fault.call ? callText(fault.call) : '') + ' returns ' + answerText(fault.answer) + ', and a queue that does one call after another returns ' + fault.wanted + '.</b>' : 'So far each answer is that of a queue that does one call after another.'
+      : 'In this order each answer is that of a queue that does one call after another: every run is linearizable, and that is proved.') + '</p>'
+    + (effects.length ? '<div class=\"list\"><table class=\"mono\"><tr><th>order</th><th>takes effect</th><th>decided</th><th>call</th><th>answer</th></tr>' + effects.slice(from).map((one, k) => '<tr' + (one.decided === run.now - 1 ? ' class=\"touch\"' : '') + '><td>' + (from + k + 1) + '</td><td>event ' + (one.effect + 1)
+      + '</td><td>event ' + (one.decided + 1) + '</td><td>' + (one.call ? passName(one.call.row) + ' ' + callText(one.call) : '') + '</td><td>' + answerText(one.answer) + '</td></tr>').join('') + '</table></div>' : '<p class=\"dim\">No call is decided yet.</p>'));
+}
+
+// The address of the run up to this event: of its lesson, of the program's text, or of a plan.
+function placeText() {
+  const table = run.variant ? '&table=' + run.variant : '';
+  if (source.lesson && run.chosen === 0) return '#lesson=' + source.lesson.id + (source.lesson.table && !run.variant ? '&table=right' : '') + '&event=' + run.now;
+  if (source.is_own && run.chosen === 0) return '#event=' + run.now;
+  return '#plan=' + encodeURIComponent(run.planText(run.events.length).replace(/\\s+/g, '')) + table + '&event=' + run.now;
+}
+
 let address = '';
 function drawTexts() {
   if (!$('texts').open) return;
@@ -1128,6 +1812,7 @@ function drawTexts() {
   if (address) URL.revokeObjectURL(address);
   address = URL.createObjectURL(new Blob([plan], { type: 'application/json' }));
   $('save').href = address;
+  $('link').value = location.href.replace(/#.*/, '') + '#plan=' + encodeURIComponent(plan.replace(/\\s+/g, '')) + (run.variant ? '&table=' + run.variant : '') + '&event=' + run.now;
 }
 
 function drawBranches() {
@@ -1138,6 +1823,35 @@ function drawBranches() {
   $('slider').max = run.events.length;
 }
 
+// The lesson of the run, with the moment that was reached last.
+function drawLesson() {
+  const lesson = source.lesson, moments = lesson ? lesson.moments : [];
+  $('moment').hidden = !moments.length;
+  if (!moments.length) { show('moments', ''); return; }
+  const at = run.chosen === 0 ? lastUpTo(moments, ([event]) => event > run.now) : -1;
+  show('moments', moments.map(([event], k) => '<button data-event=\"' + event + '\" title=\"event ' + event + '\"' + (k === at ? ' class=\"here\" aria-current=\"step\"' : '') + '>' + (k + 1) + '</button>').join(''));
+  show('moment-text', run.chosen > 0 ? 'This is your own branch. The list of runs in the player leads back to the run of the plan.'
+    : at < 0 ? 'Moments of this run: press 1, or <b>m</b>.' : (moments[at][0] === run.now ? '' : '<span class=\"dim\">Event ' + moments[at][0] + ':</span> ') + termed(moments[at][2]));
+}
+
+// The law that a broken table breaks, and how the table was changed.
+function drawLaw() {
+  if (!run.variant && !(source.lesson && source.lesson.table)) { show('law', ''); return; }
+  const variant = run.variant || source.lesson.table;
+  let html = '';
+  if (run.variant) {
+    const found = [];
+    run.events.forEach((e, i) => e.breaks.forEach(law => { if (!found.some(one => one.law === law)) found.push({ law, i }); }));
+    html += found.length ? '<ul style=\"margin:4px 0;padding-left:0;list-style:none\">' + found.map(({ law, i }) => '<li class=\"row\"><button data-event=\"' + (i + 1) + '\">event ' + (i + 1) + '</button><span>breaks the law: <b>' + LAWS[law][0] + '</b> <span class=\"dim\">(' + LAWS[law][1] + ')</span></span></li>').join('') + '</ul>' : '<p>This run breaks no law yet.</p>';
+    if (source.lesson && source.lesson.lost) html += '<p><b>' + source.lesson.lost + '</b></p>';
+  } else html += '<p class=\"good\">The right table, with the same schedule: no law is broken.</p>';
+  html += '<details' + (law_open ? ' open' : '') + '><summary>The change of the table of steps</summary>' + CHANGES[variant].map(change => '<code>' + change.in + '</code>' + (change.was ? '<del class=\"change mono\">' + escape(change.was) + '</del>' : '') + '<ins class=\"change mono\">' + escape(change.is) + '</ins>').join('') + '</details>';
+  if (source.lesson) html += '<p><button id=\"compare\">' + (run.variant ? 'the right table, with the same schedule' : 'the broken table') + '</button></p>';
+  show('law', html);
+}
+let law_open = false;
+const escape = text => text.replace(/[&<>\"]/g, sign => '&#' + sign.charCodeAt(0) + ';');
+
 function draw() {
   const where = 'event ' + run.now + ' of ' + run.events.length;
   drawBranches();
@@ -1145,13 +1859,19 @@ function draw() {
   $('slider').value = run.now;
   $('slider').setAttribute('aria-valuetext', where);
   show('event', eventText());
+  show('breaks', breaksText());
   drawNames();
-  drawTurns();
-  drawCells();
-  for (let x = -1; x < groups; x++) show('chain' + x, chainText(x));
+  const view = viewOfLanes();
+  drawTurns(view);
+  drawCells(view);
+  for (let x = -1; x < groups; x++) if (show('chain' + x, chainText(x))) showTouched('chain' + x);
   drawList();
+  drawProgram();
   drawHistory();
+  drawOrder();
   drawTexts();
+  drawLesson();
+  drawLaw();
 }
 
 // ---- Moves.
@@ -1160,7 +1880,10 @@ function goTo(n, quiet) {
   run.goTo(n);
   say('');
   draw();
-  if (!quiet) keepPlace();
+  if (!quiet) {
+    keepPlace();
+    keepLaneInView();
+  }
 }
 
 function say(text) {
@@ -1168,11 +1891,15 @@ function say(text) {
   $('hint').hidden = text === '';
 }
 
-// the place in the address, a moment after the last step
-let place_timer = 0;
+// the place in the address, a moment after the last step, if it isn't too long
+let place_timer = 0, place = '';
 function keepPlace() {
   clearTimeout(place_timer);
-  place_timer = setTimeout(() => { try { window.history.replaceState(null, '', '#event=' + run.now); } catch (e) { /* an address that can't be changed */ } }, 200);
+  place_timer = setTimeout(() => {
+    place = placeText();
+    if (place.length > 8000) place = '#event=' + run.now;
+    try { window.history.replaceState(null, '', place); } catch (e) { /* an address that can't be changed */ }
+  }, 200);
 }
 
 function nextDecision(from, step) {
@@ -1186,6 +1913,8 @@ function play(on) {
   playing = on ? setInterval(() => { if (run.now === run.events.length) play(false); else goTo(run.now + 1); }, Number($('speed').value)) : 0;
   $('play').textContent = on ? 'stop' : 'play';
   $('play').setAttribute('aria-pressed', on ? 'true' : 'false');
+  // a fast play isn't read out event by event
+  $('event').setAttribute('aria-live', on && Number($('speed').value) < 1000 ? 'off' : 'polite');
 }
 
 // Stops the play, and goes to an event.
@@ -1200,6 +1929,10 @@ function stepOf(row) {
   say(done ? '' : run.now >= EVENT_LIMIT ? 'A run on a page has at most ' + EVENT_LIMIT + ' events.' : passName(row) + ' has no call left: add one.');
   draw();
   if (!done) choosePass(row);
+  else {
+    keepPlace();
+    keepLaneInView();
+  }
 }
 
 function choosePass(row) {
@@ -1214,53 +1947,161 @@ function addCall(row, words) {
   say(wrong);
 }
 
+// ---- Opening a run.
+
+// Shows a run from an event on. `from` says what it is of: a lesson, the program's text, or a plan.
+function openRun(opened, from, event) {
+  play(false);
+  use(opened);
+  source = from;
+  drawn = {};
+  shown_rows = [];
+  drawn_at = -1;
+  laid = { events: null, length: -1 };
+  $('chains').innerHTML = '';
+  for (let x = -1; x < groups; x++) {
+    const card = document.createElement('section');
+    card.className = 'card';
+    card.innerHTML = '<h2>The ' + chainName(x) + '</h2><div id=\"chain' + x + '\"></div>';
+    $('chains').appendChild(card);
+  }
+  $('caller').innerHTML = [...Array(rows).keys()].map(row => '<option value=\"' + row + '\">' + passName(row) + '</option>').join('');
+  $('all-label').hidden = rows <= 24;
+  choosePass(0);
+  const lesson = from.lesson;
+  $('lesson-title').textContent = lesson ? (lesson.kind === 'tour' ? 'Stop ' + (TOUR.indexOf(lesson) + 1) + ' of ' + TOUR.length + ': ' : lesson.kind === 'broken' ? 'Broken: ' : '') + lesson.title : from.title;
+  $('lesson-text').innerHTML = lesson ? termed(lesson.text) : '';
+  $('stop-before').hidden = $('stop-next').hidden = !(lesson && lesson.kind === 'tour');
+  $('config').textContent = 'Capacity ' + capacity + ', bound ' + bound + ', life ' + life + '; ' + plural(senders, 'sender') + ', '
+    + (groups > 1 ? groups + ' groups of ' : '') + plural(receivers, 'receiver') + '; ' + plural(run.events.length, 'event') + '.';
+  for (const link of document.querySelectorAll('#choose a[data-id]')) {
+    const here = lesson && link.dataset.id === lesson.id;
+    link.classList.toggle('here', !!here);
+    if (here) link.setAttribute('aria-current', 'true'); else link.removeAttribute('aria-current');
+  }
+  // the order of all calls is up here in a lesson about it
+  const about_order = !!(lesson && lesson.opens === 'order');
+  if (about_order) $('lesson').after($('order')); else $('rest').insertBefore($('order'), $('texts'));
+  $('order').open = about_order;
+  $('alarm').innerHTML = '';
+  if (run.faults.length) {
+    $('alarm').innerHTML = '<p class=\"bad\">' + (from.is_own ? 'This page and the program disagree. ' : '') + run.faults.map(() => '<span></span>').join(' ') + '</p>';
+    $('alarm').querySelectorAll('span').forEach((span, i) => { span.textContent = run.faults[i]; });
+  } else if (from.is_own) {
+    $('config').innerHTML += ' <span class=\"good\">The kind of each event, and each line of the report, is that of the program.</span>';
+  }
+  drawNames();
+  measure();
+  run.goTo(event);
+  draw();
+  if (measure()) draw();
+}
+
+const OWN = { is_own: true, title: 'The run that the program wrote' };
+const openOwn = event => openRun(Machine.open(Machine.planOfRun($('run').textContent), '', $('report').textContent), OWN, event);
+function openLesson(id, event, table) {
+  const lesson = LESSONS.find(one => one.id === id);
+  if (!lesson) return false;
+  openRun(Machine.open(Machine.planOfText(JSON.stringify(lesson.plan)), table === 'right' ? '' : lesson.table || ''), { lesson }, event);
+  return true;
+}
+// Opens a plan in JSON, and says what is wrong with it, or nothing.
+function openPlan(text, event, table, title) {
+  let opened;
+  try {
+    opened = Machine.open(Machine.planOfText(text), table || '');
+  } catch (fault) {
+    return fault.message;
+  }
+  openRun(opened, { title }, event === null ? 0 : event);
+  return '';
+}
+
+// Opens what the address names. Says whether it names a run.
 function fromAddress() {
-  const m = /^#event=(\\d+)$/.exec(location.hash);
-  return m ? Number(m[1]) : null;
+  const words = new Map(location.hash.slice(1).split('&').map(part => [part.split('=')[0], part.split('=').slice(1).join('=')]));
+  const event = /^\\d+$/.test(words.get('event') || '') ? Number(words.get('event')) : null;
+  const table = words.get('table');
+  document.body.classList.toggle('bare', words.get('view') === 'run');
+  if (words.has('lesson') && openLesson(words.get('lesson'), event === null ? 0 : event, table)) return true;
+  if (words.has('plan')) {
+    let text = '';
+    try { text = decodeURIComponent(words.get('plan')); } catch (fault) { /* said below */ }
+    const wrong = openPlan(text, event, CHANGES[table] ? table : '', 'A plan from a link');
+    if (!wrong) return true;
+    openOwn(0);
+    $('alarm').innerHTML = '<p class=\"bad\">The link holds no plan. <span></span></p>';
+    $('alarm').querySelector('span').textContent = wrong;
+    return false;
+  }
+  if (event === null) return false;
+  if (source.is_own) goTo(event, true); else openOwn(event);
+  return true;
+}
+
+function toStage() {
+  $('stage').scrollIntoView();
+  $('stage').focus({ preventScroll: true });
+}
+
+function toStop(step) {
+  const at = TOUR.indexOf(source.lesson), next = at < 0 ? (step > 0 ? 0 : TOUR.length - 1) : at + step;
+  if (next < 0 || next >= TOUR.length) return;
+  openLesson(TOUR[next].id, 0);
+  keepPlace();
+  toStage();
+}
+
+function toMoment(step) {
+  const moments = source.lesson ? source.lesson.moments : [];
+  const next = step > 0 ? moments.find(([event]) => event > run.now) : moments.filter(([event]) => event < run.now).pop();
+  if (next) { if (run.chosen > 0) run.choose(0); seek(next[0]); }
 }
 
 // ---- Once, at the beginning.
 
-$('config').textContent = 'Capacity ' + capacity + ', bound ' + bound + ', life ' + life + '; ' + plural(senders, 'sender') + ', '
-  + (groups > 1 ? groups + ' groups of ' : '') + plural(receivers, 'receiver') + '; ' + plural(run.events.length, 'event') + '.';
-if (run.faults.length) {
-  $('alarm').innerHTML = '<p class=\"bad\">This page and the program disagree. ' + run.faults.map(() => '<span></span>').join(' ') + '</p>';
-  $('alarm').querySelectorAll('span').forEach((span, i) => { span.textContent = run.faults[i]; });
-} else {
-  $('config').innerHTML += ' <span class=\"good\">The kind of each event, and each line of the report, is that of the program.</span>';
+for (const [id, kind] of [['tour', 'tour'], ['examples', 'example'], ['broken', 'broken']]) {
+  $(id).innerHTML = LESSONS.filter(lesson => lesson.kind === kind).map(lesson => '<li><a class=\"pick\" data-id=\"' + lesson.id + '\" href=\"#lesson=' + lesson.id + '\">' + lesson.title + '</a></li>').join('');
 }
-document.body.dataset.check = run.faults.length ? 'disagrees' : 'agrees';
-for (let x = -1; x < groups; x++) {
-  const card = document.createElement('section');
-  card.className = 'card';
-  card.innerHTML = '<h2>The ' + chainName(x) + '</h2><div id=\"chain' + x + '\"></div>';
-  $('chains').appendChild(card);
-}
-$('legend').innerHTML = Object.keys(GROUPS_OF_KINDS).map(group => '<span><i class=\"dot\" style=\"background:var(--' + group + ')\"></i>' + GROUPS_OF_KINDS[group] + ':</span>'
-  + KINDS.slice(1).filter(kind => kind[2] === group).map(kind => '<span title=\"' + kind[3] + '\"><code>' + kind[1] + '</code> ' + kind[0] + '</span>').join('')).join('')
-  + '<span><i class=\"dot\" style=\"background:var(--serve);height:3px;vertical-align:middle\"></i>its call is being served</span><span><code>3&#215;St</code> it waits, and read its state three times</span><span>Outlined: still to come.</span>';
+$('words').innerHTML = Object.entries(WORDS).map(([word, text]) => '<dt>' + word + '</dt><dd>' + text + '</dd>').join('');
+$('legend').innerHTML = Object.keys(GROUPS_OF_KINDS).map(group => '<span><i class=\"dot\" style=\"background:var(--' + group + ')\"></i>' + GROUPS_OF_KINDS[group] + '</span>').join('')
+  + '<span><i class=\"dot\" style=\"background:var(--serve);height:4px;vertical-align:middle\"></i>its call is being served</span><span><code>3&#215;St</code> three reads of a state in a row</span><span>outlined: still to come</span>';
 $('kinds').innerHTML = KINDS.slice(1).map(kind => '<dt><code>' + kind[1] + '</code> ' + kind[0] + '</dt><dd>' + kind[3] + '</dd>').join('');
-$('caller').innerHTML = [...Array(rows).keys()].map(row => '<option value=\"' + row + '\">' + passName(row) + '</option>').join('');
-$('all-label').hidden = rows <= 24;
-choosePass(0);
+document.querySelector('.tables').innerHTML = '<option value=\"\">the right one</option>' + LESSONS.filter(lesson => lesson.table).map(lesson => '<option value=\"' + lesson.table + '\">' + lesson.title + '</option>').join('');
+
 $('slider').addEventListener('input', () => seek(Number($('slider').value)));
 const MOVES = { first: () => 0, before: () => nextDecision(run.now, -1), back: () => run.now - 1, next: () => run.now + 1, after: () => nextDecision(run.now, 1), last: () => run.events.length };
 for (const [id, to] of Object.entries(MOVES)) $(id).addEventListener('click', () => seek(to()));
 $('play').addEventListener('click', () => play(!playing));
+$('more-toggle').addEventListener('click', () => {
+  const open = $('player').classList.toggle('open');
+  $('more-toggle').setAttribute('aria-expanded', open ? 'true' : 'false');
+});
 $('speed').addEventListener('change', () => { if (playing) play(true); });
-$('branches').addEventListener('change', () => { play(false); run.choose(Number($('branches').value)); draw(); });
-for (const id of ['cells', 'turns']) $(id).addEventListener('click', click => {
+$('branches').addEventListener('change', () => { play(false); run.choose(Number($('branches').value)); draw(); keepPlace(); });
+for (const id of ['cells', 'turns', 'moments', 'law']) $(id).addEventListener('click', click => {
   const cell = click.target.closest('[data-event]');
+  if (cell && id === 'moments' && run.chosen > 0) run.choose(0);
   if (cell) seek(Number(cell.dataset.event));
 });
+$('law').addEventListener('click', click => {
+  if (click.target.id !== 'compare') return;
+  const { lesson } = source, event = run.now;
+  openLesson(lesson.id, run.variant ? 0 : event, run.variant ? 'right' : undefined);
+  keepPlace();
+  $('compare').focus();
+});
+$('law').addEventListener('toggle', toggle => { if (toggle.target.tagName === 'DETAILS') { law_open = toggle.target.open; delete drawn.law; } }, true);
 $('names').addEventListener('click', click => {
   const button = click.target.closest('button');
   if (!button) return;
   const row = Number(button.dataset.row);
   if (button.className === 'step') stepOf(row);
   else if (row >= senders) addCall(row);
-  else { choosePass(row); say('The words of the body of a further send of ' + passName(row) + ', or a close.'); $('body').focus(); $('body').select(); }
+  else { choosePass(row); say('The words of the item of a further send of ' + passName(row) + ', or a close.'); $('body').focus(); $('body').select(); }
 });
+$('stop-before').addEventListener('click', () => toStop(-1));
+$('stop-next').addEventListener('click', () => toStop(1));
 $('caller').addEventListener('change', () => choosePass(Number($('caller').value)));
 $('add').addEventListener('submit', submit => {
   submit.preventDefault();
@@ -1271,23 +2112,89 @@ $('add-close').addEventListener('click', () => addCall(Number($('caller').value)
 $('add-take').addEventListener('click', () => addCall(Number($('caller').value)));
 $('all').addEventListener('change', draw);
 $('texts').addEventListener('toggle', drawTexts);
+$('order').addEventListener('toggle', drawOrder);
 $('export').addEventListener('click', () => { $('texts').open = true; drawTexts(); $('plan').focus(); $('plan').select(); });
-document.addEventListener('keydown', key => {
-  if (key.ctrlKey || key.metaKey || key.altKey || !key.target.closest || key.target.closest('#add, select, textarea, pre')) return;
-  const moves = { ArrowRight: 'next', ArrowLeft: 'back' };
-  const on_button = key.target.tagName === 'BUTTON';
-  if (key.target.closest('#player')) Object.assign(moves, { PageDown: 'after', PageUp: 'before', Home: 'first', End: 'last' }, on_button ? {} : { ' ': 'play' });
-  const move = moves[key.key];
-  if (!move) return;
-  key.preventDefault();
-  if (move === 'play') play(!playing); else seek(MOVES[move]());
+$('copy').addEventListener('click', () => {
+  $('link').select();
+  if (navigator.clipboard) navigator.clipboard.writeText($('link').value).catch(() => {});
 });
-window.addEventListener('hashchange', () => { if (fromAddress() !== null && fromAddress() !== run.now) goTo(fromAddress(), true); });
+// A queue of the reader's own: the items of sender 1 are 101, 102 and so on, and a further word is ten times the one before.
+$('own-form').addEventListener('submit', submit => {
+  submit.preventDefault();
+  const form = $('own-form').elements, of = name => Number(form[name].value);
+  const body = (s, k) => { const first = 100 * (s + 1) + k + 1, words = [...Array(of('words')).keys()].map(n => first * 10 ** n); return second ? words : words[0]; };
+  const second = of('groups') > 1 || of('words') > 1;
+  const plan = { ...(second ? { version: 2, groups: of('groups') } : {}), capacity: of('capacity'), bound: of('bound'), life: of('life'),
+    senders: [...Array(of('senders')).keys()].map(s => [...Array(of('sends')).keys()].map(k => body(s, k))), receivers: Array(of('groups') * of('receivers')).fill(of('takes')), schedule: [] };
+  const wrong = openPlan(JSON.stringify(plan), 0, form.table.value, 'Your own queue');
+  $('import-hint').textContent = wrong;
+  if (!wrong) { keepPlace(); toStage(); }
+});
+function importPlan(text) {
+  const wrong = openPlan(text, 0, $('own-form').elements.table.value, 'Your plan');
+  $('import-hint').textContent = wrong;
+  if (!wrong) { keepPlace(); toStage(); }
+}
+$('open-plan').addEventListener('click', () => importPlan($('import').value || $('import').placeholder));
+$('file').addEventListener('change', async () => {
+  const [file] = $('file').files;
+  if (!file) return;
+  $('import').value = await file.text();
+  importPlan($('import').value);
+});
+document.querySelector('nav').addEventListener('click', click => {
+  const id = click.target.hash && click.target.hash.slice(1);
+  if (!$(id)) return;
+  click.preventDefault();
+  if (id === 'own') $('own').open = true;
+  $(id).scrollIntoView();
+  $(id).setAttribute('tabindex', '-1');
+  $(id).focus({ preventScroll: true });
+});
+document.querySelector('.skip').addEventListener('click', click => { click.preventDefault(); toStage(); });
+$('choose').addEventListener('click', click => {
+  const link = click.target.closest('a[data-id]');
+  if (!link || click.ctrlKey || click.metaKey || click.shiftKey) return;
+  click.preventDefault();
+  openLesson(link.dataset.id, 0);
+  keepPlace();
+  toStage();
+});
+for (const [event, does] of [['mouseover', explain], ['focusin', explain], ['mouseout', hideTip], ['focusout', hideTip]]) {
+  document.addEventListener(event, from => { const term = from.target.closest && from.target.closest('.term'); if (term) does(term); });
+}
+
+// Whether a key belongs to what has the focus: a field for text, or another that uses the key itself.
+function isTyped(target, name) {
+  if (target.closest('textarea, pre, input:not([type=range]):not([type=checkbox]):not([type=file])')) return true;
+  if (target.closest('select')) return name !== ' ';
+  return name === ' ' && target.closest('input[type=checkbox], input[type=file]');
+}
+document.addEventListener('keydown', key => {
+  if (key.key === 'Escape') hideTip();
+  if (key.ctrlKey || key.metaKey || key.altKey || !key.target.closest || isTyped(key.target, key.key)) return;
+  const moves = { ArrowRight: 'next', ArrowLeft: 'back', d: 'after', D: 'before' };
+  if (key.target.closest('#player')) Object.assign(moves, { PageDown: 'after', PageUp: 'before', Home: 'first', End: 'last' });
+  const others = { ' ': () => play(!playing), n: () => toStop(1), p: () => toStop(-1), m: () => toMoment(1), M: () => toMoment(-1) };
+  if (/^[1-9]$/.test(key.key) && Number(key.key) <= rows) others[key.key] = () => stepOf(Number(key.key) - 1);
+  // a row of boxes that is wider than its card scrolls by the arrows
+  const strip = key.target.closest('.strip');
+  if (strip && key.key.startsWith('Arrow') && strip.scrollWidth > strip.clientWidth) return;
+  if (!moves[key.key] && !others[key.key]) return;
+  key.preventDefault();
+  if (others[key.key]) others[key.key](); else seek(MOVES[moves[key.key]]());
+});
+// space plays: it doesn't press the button that has the focus too
+document.addEventListener('keyup', key => { if (key.key === ' ' && key.target.closest && !isTyped(key.target, ' ')) key.preventDefault(); });
+window.addEventListener('hashchange', () => { if (location.hash !== place && fromAddress()) $('stage').scrollIntoView(); });
+openOwn(0);
+document.body.dataset.check = run.faults.length ? 'disagrees' : 'agrees';
+if (fromAddress() && !document.body.classList.contains('bare')) $('stage').scrollIntoView();
 new ResizeObserver(() => { if (measure()) draw(); }).observe($('cells'));
+new ResizeObserver(() => measure()).observe($('player'));
 window.addEventListener('resize', () => { if (measure()) draw(); });
-drawNames();
 measure();
-goTo(fromAddress() === null ? 0 : fromAddress(), true);
+draw();
 })();
 </script>
 </body>
