@@ -565,3 +565,64 @@ fn a_select_that_waits_is_parked() {
     assert_eq!(told, Ok(5));
     assert!(ticks < 10, "it had {ticks} ticks while it waited");
 }
+
+/// A select goes to other threads, and many threads share and clone one.
+#[test]
+fn a_select_goes_where_it_likes() {
+    fn goes<T: Send + Sync>(it: T) -> T {
+        it
+    }
+    for capacity in [0, 1, 4] {
+        // Items that aren't `Sync`.
+        let (sender, receiver) = open::<std::cell::Cell<u64>>(capacity);
+        let mut shared = goes(Select::new());
+        let (take, send) = (shared.recv(&receiver), shared.send(&sender));
+        let (done, count) = (AtomicUsize::new(0), 10 * rounds(100) as usize);
+        let sums = thread::scope(|scope| {
+            let all = [1; 8].map(|number| {
+                let (shared, done, sender, receiver) = (&shared, &done, &sender, &receiver);
+                scope.spawn(move || {
+                    let (mut select, mut sent, mut taken) = (shared.clone(), 0, 0);
+                    loop {
+                        let operation = select.select();
+                        if operation.index() == take {
+                            let Ok(item) = operation.recv(receiver) else {
+                                return (sent, taken);
+                            };
+                            taken += item.get();
+                        } else {
+                            assert_eq!(operation.index(), send);
+                            if operation.send(sender, number.into()).is_err() {
+                                return (sent, taken);
+                            }
+                            sent += number;
+                        }
+                        if done.fetch_add(1, Ordering::SeqCst) == count {
+                            sender.close();
+                        }
+                    }
+                })
+            });
+            all.map(|it| it.join().unwrap())
+        });
+        let sent: u64 = sums.iter().map(|it| it.0).sum();
+        let taken: u64 = sums.iter().map(|it| it.1).sum();
+        let left: u64 = receiver.try_iter().map(|it| it.get()).sum();
+        assert_eq!(sent, taken + left, "capacity {capacity}");
+    }
+}
+
+/// The macros take items that stay on their thread.
+#[test]
+fn items_of_one_thread_are_selected() {
+    let (sender, receiver) = open(1);
+    select! {
+        send(sender, std::rc::Rc::new(7)) -> sent => sent.unwrap(),
+        recv(receiver) -> _ => unreachable!("there is none"),
+    }
+    let told = select_biased! {
+        recv(receiver) -> item => *item.unwrap(),
+        default => 0,
+    };
+    assert_eq!(told, 7);
+}

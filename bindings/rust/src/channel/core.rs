@@ -13,14 +13,15 @@ use super::event::{AT_A_RING, Event, Panic, Try, first_of, let_be, lock, run_eac
 use super::meeting::Meeting;
 use super::pool::{Held, Pass, Pool};
 use super::select::Selected;
+use super::side::Shared;
 use super::special::Special;
 use crate::words::backoff::turn_until;
 use crate::words::handle::{self, Handle, code, hands_over, has_taken, unexpected};
 use crate::words::{Config, OpenError};
 use std::iter;
 use std::panic::resume_unwind;
-use std::sync::Mutex;
 use std::sync::atomic::{AtomicBool, AtomicUsize, Ordering};
+use std::sync::{Mutex, OnceLock, Weak};
 use std::thread::panicking;
 
 /// A side of the channel: its senders, or a group of receivers.
@@ -53,6 +54,8 @@ pub struct Core<T> {
     pub special: Option<Special<T>>,
     pub senders: Side,
     pub groups: Box<[Side]>,
+    /// What the handles of each side share, once it has a first one.
+    pub handles: Box<[OnceLock<Weak<Shared<T>>>]>,
     closed: AtomicBool,
     /// How many groups the queue has. It changes while all seats are taken.
     pub shares: AtomicUsize,
@@ -94,6 +97,7 @@ impl<T> Core<T> {
             copies,
             special: None,
             senders,
+            handles: (0..=groups.len()).map(|_| OnceLock::new()).collect(),
             closed: AtomicBool::new(false),
             shares: AtomicUsize::new(groups.len()),
             in_queue: Mutex::new((1..=groups.len()).collect()),

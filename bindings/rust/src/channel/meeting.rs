@@ -24,7 +24,8 @@
 //! **Order of locks**: the lines, by their address; the pairs; a waiter.
 use super::body::Parcel;
 use super::event::{AT_A_RING, Panic, Parker, TRIES, Try, let_be, lock, run_each};
-use super::select::{Begun, Select};
+use super::select::{Begun, LocalSelect};
+use super::side::Handle;
 use super::{Receiver, RecvTimeoutError, SendError, SendTimeoutError, Sender, TrySendError};
 use crate::words::backoff::Backoff;
 use std::collections::VecDeque;
@@ -384,7 +385,7 @@ impl<T> Receiver<T> {
     #[cold]
     pub(super) fn meet_until(&self, until: Option<Instant>) -> Result<T, RecvTimeoutError> {
         loop {
-            let mut select = Select::new();
+            let mut select = LocalSelect::new(false);
             select.recv(self);
             let begun = select.begin_until(until).ok_or(RecvTimeoutError::Timeout)?;
             if let Some(item) = self.completed(begun) {
@@ -394,7 +395,7 @@ impl<T> Receiver<T> {
     }
 }
 
-impl<T> Sender<T> {
+impl<T> Handle<T> {
     /// One poll of a send: posts the item of this parcel, and then looks whether it was taken.
     pub(super) fn poll_posted(
         &self,
@@ -415,14 +416,16 @@ impl<T> Sender<T> {
                 }
             };
         };
-        if !self.is_closed() && meeting.stays(number, waker) {
+        if !self.core().is_closed() && meeting.stays(number, waker) {
             return Poll::Pending;
         }
         *posted = None;
         let left = meeting.withdraw(number);
         Poll::Ready(left.map_or(Ok(()), |it| Err(SendError(it))))
     }
+}
 
+impl<T> Sender<T> {
     /// Sends to one that takes, and waits for one until this moment.
     #[cold]
     pub(super) fn meet_until(

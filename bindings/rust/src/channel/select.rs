@@ -24,9 +24,14 @@
 use super::event::{Event, Parker, TRIES, Ticket, Try, lock};
 use super::meeting::{Meets, SENDS, TAKES, Waiter, meet_or_post, try_meet};
 use super::special::Special;
-use super::{Receiver, RecvError, SendError, Sender};
+use super::{
+    ReadyTimeoutError, Receiver, RecvError, SelectTimeoutError, SendError, Sender, TryReadyError,
+    TrySelectError,
+};
 use crate::words::backoff::Backoff;
 use std::cell::Cell;
+use std::fmt;
+use std::ops::Deref;
 use std::ptr::addr_eq;
 use std::sync::atomic::{AtomicU64, AtomicUsize, Ordering};
 use std::sync::{Arc, Mutex};
@@ -249,15 +254,19 @@ impl Drop for Place<'_> {
     }
 }
 
+/// An operation by reference: `&dyn Case`, or one that goes to other threads.
 #[derive(Clone, Copy)]
-struct Entry<'a> {
+struct Entry<R> {
     index: usize,
-    case: &'a dyn Case,
+    case: R,
 }
 
 /// Tries each of these once: begins it, or only looks. Gives the place of the first that is done; if none is,
 /// when to try again though nobody rings.
-fn try_each(entries: &[Entry], begins: bool) -> Result<(usize, Begun), Option<Instant>> {
+fn try_each<R: Deref<Target: Case>>(
+    entries: &[Entry<R>],
+    begins: bool,
+) -> Result<(usize, Begun), Option<Instant>> {
     let mut moment = None;
     for (place, Entry { case, .. }) in entries.iter().enumerate() {
         let tried = match begins {
@@ -302,6 +311,9 @@ fn by_chance(limit: usize) -> usize {
 /// If several are ready, chance decides, unless the select [is biased](Select::new_biased). One with no
 /// operation waits until its time is over.
 ///
+/// A select may go to another thread, so the items are `Send`. The macros have a select of their own, which stays
+/// on its thread and takes items of any type.
+///
 /// ```
 /// use vahepito::{Select, channel};
 ///
@@ -324,44 +336,72 @@ fn by_chance(limit: usize) -> usize {
 /// ```
 #[derive(Clone)]
 pub struct Select<'a> {
-    entries: Vec<Entry<'a>>,
-    next: usize,
-    is_biased: bool,
+    cases: Cases<&'a (dyn Case + Sync)>,
 }
 
 impl<'a> Select<'a> {
     /// One without operations.
+    ///
+    /// ```
+    /// let mut select = vahepito::Select::new();
+    /// assert!(select.try_ready().is_err());
+    /// ```
+    #[must_use]
     pub fn new() -> Select<'a> {
-        Select {
-            entries: vec![],
-            next: 0,
-            is_biased: false,
-        }
+        let cases = Cases::new(false);
+        Select { cases }
     }
 
     /// One that prefers the operation with the lowest index.
+    ///
+    /// ```
+    /// use vahepito::{Select, channel};
+    ///
+    /// let (urgent, others) = (channel(1)?, channel(1)?);
+    /// others.0.send(2).unwrap();
+    /// urgent.0.send(1).unwrap();
+    /// let mut select = Select::new_biased();
+    /// let first = select.recv(&urgent.1);
+    /// select.recv(&others.1);
+    /// assert_eq!(select.ready(), first);
+    /// # Ok::<(), vahepito::OpenError>(())
+    /// ```
+    #[must_use]
     pub fn new_biased() -> Select<'a> {
-        Select {
-            is_biased: true,
-            ..Select::new()
-        }
-    }
-
-    fn add(&mut self, case: &'a dyn Case) -> usize {
-        let index = self.next;
-        self.next += 1;
-        self.entries.push(Entry { index, case });
-        index
+        let cases = Cases::new(true);
+        Select { cases }
     }
 
     /// Adds a send, and returns its index.
-    pub fn send<T>(&mut self, sender: &'a Sender<T>) -> usize {
-        self.add(sender)
+    ///
+    /// ```
+    /// use vahepito::{Select, channel};
+    ///
+    /// let (sender, receiver) = channel(1)?;
+    /// let mut select = Select::new();
+    /// assert_eq!(select.send(&sender), 0);
+    /// select.select().send(&sender, 'a').unwrap();
+    /// assert_eq!(receiver.recv(), Ok('a'));
+    /// # Ok::<(), vahepito::OpenError>(())
+    /// ```
+    pub fn send<T: Send>(&mut self, sender: &'a Sender<T>) -> usize {
+        self.cases.add(sender)
     }
 
     /// Adds a take, and returns its index.
-    pub fn recv<T>(&mut self, receiver: &'a Receiver<T>) -> usize {
-        self.add(receiver)
+    ///
+    /// ```
+    /// use vahepito::{Select, channel};
+    ///
+    /// let (sender, receiver) = channel(1)?;
+    /// sender.send('a').unwrap();
+    /// let mut select = Select::new();
+    /// assert_eq!(select.recv(&receiver), 0);
+    /// assert_eq!(select.select().recv(&receiver), Ok('a'));
+    /// # Ok::<(), vahepito::OpenError>(())
+    /// ```
+    pub fn recv<T: Send>(&mut self, receiver: &'a Receiver<T>) -> usize {
+        self.cases.add(receiver)
     }
 
     /// Removes an operation. The others keep their indices.
@@ -369,14 +409,51 @@ impl<'a> Select<'a> {
     /// # Panics
     ///
     /// It has no operation with this index.
+    ///
+    /// ```
+    /// use vahepito::{Select, channel};
+    ///
+    /// let (one, two) = (channel::<u8>(1)?, channel::<u8>(1)?);
+    /// let mut select = Select::new();
+    /// let (first, second) = (select.recv(&one.1), select.recv(&two.1));
+    /// drop((one.0, two.0)); // both takes are ready, since they give an error
+    /// select.remove(first);
+    /// assert_eq!(select.ready(), second);
+    /// # Ok::<(), vahepito::OpenError>(())
+    /// ```
     pub fn remove(&mut self, index: usize) {
-        let place = self.entries.iter().position(|it| it.index == index);
-        self.entries
-            .remove(place.expect("the select has an operation with this index"));
+        let entries = &mut self.cases.entries;
+        let place = entries.iter().position(|it| it.index == index);
+        entries.remove(place.expect("the select has an operation with this index"));
+    }
+}
+
+/// The operations of a select.
+#[derive(Clone)]
+struct Cases<R> {
+    entries: Vec<Entry<R>>,
+    next: usize,
+    is_biased: bool,
+}
+
+impl<R: Copy + Deref<Target: Case>> Cases<R> {
+    fn new(is_biased: bool) -> Cases<R> {
+        Cases {
+            entries: vec![],
+            next: 0,
+            is_biased,
+        }
+    }
+
+    fn add(&mut self, case: R) -> usize {
+        let index = self.next;
+        self.next += 1;
+        self.entries.push(Entry { index, case });
+        index
     }
 
     /// Tries each until one is done, or until this moment: begins it, or only looks.
-    fn wait(&mut self, until: Option<Instant>, begins: bool) -> Option<(Entry<'a>, Begun)> {
+    fn wait(&mut self, until: Option<Instant>, begins: bool) -> Option<(Entry<R>, Begun)> {
         self.mix();
         let is_over = || until.is_some_and(|until| until <= Instant::now());
         // Those that may meet another are posted at once, so that the other finds them.
@@ -417,9 +494,11 @@ impl<'a> Select<'a> {
         parker: &Arc<Parker>,
     ) -> Result<(usize, Begun), bool> {
         let is_over = until.is_some_and(|until| until <= Instant::now());
-        let is_posted = |it: &Entry| begins && it.case.meeting().is_some();
-        let stand = |it: &Entry<'a>| (!is_posted(it)).then(|| Place::stand(it.case.line(), parker));
-        let mut places: Vec<_> = self.entries.iter().map(stand).collect();
+        let is_posted = |it: &Entry<R>| begins && it.case.meeting().is_some();
+        let standing = self.entries.iter();
+        let standing =
+            standing.map(|it| (!is_posted(it)).then(|| Place::stand(it.case.line(), parker)));
+        let mut places: Vec<_> = standing.collect();
         let moment = match try_each(&self.entries, begins) {
             Ok(done) => return Ok(done),
             Err(moment) => moment,
@@ -461,16 +540,11 @@ impl<'a> Select<'a> {
     /// Posts the operations of channels of capacity 0, parks, and takes them off. Gives the one that has met
     /// another.
     fn meet(&self, until: Option<Instant>, parker: &Arc<Parker>) -> Option<(usize, Begun)> {
-        let meeting = |(place, it): (usize, &Entry<'a>)| {
+        let cases = self.entries.iter().enumerate().filter_map(|(place, it)| {
             let (channel, side) = it.case.meeting()?;
             Some((place, channel, side))
-        };
-        let cases: Vec<_> = self
-            .entries
-            .iter()
-            .enumerate()
-            .filter_map(meeting)
-            .collect();
+        });
+        let cases: Vec<_> = cases.collect();
         let waiter = Waiter::new(parker);
         let met = meet_or_post(&cases, &waiter);
         if met.is_none() {
@@ -495,15 +569,12 @@ impl<'a> Select<'a> {
             self.entries.swap(last, by_chance(last + 1));
         }
     }
+}
 
+impl<'a> Select<'a> {
     fn select_until(&mut self, until: Option<Instant>) -> Option<SelectedOperation<'a>> {
-        let (entry, begun) = self.wait(until, true)?;
-        Some(SelectedOperation::new(entry, begun))
-    }
-
-    /// Waits until one is ready, and begins it.
-    pub(super) fn begin_until(&mut self, until: Option<Instant>) -> Option<Begun> {
-        Some(self.wait(until, true)?.1)
+        let (Entry { index, case }, begun) = self.cases.wait(until, true)?;
+        Some(SelectedOperation::new(Entry { index, case }, begun))
     }
 
     /// Begins an operation, if one is ready.
@@ -511,12 +582,40 @@ impl<'a> Select<'a> {
     /// # Errors
     ///
     /// None is ready.
+    ///
+    /// ```
+    /// use vahepito::{Select, channel};
+    ///
+    /// let (sender, receiver) = channel(1)?;
+    /// let mut select = Select::new();
+    /// select.recv(&receiver);
+    /// assert!(select.try_select().is_err());
+    /// sender.send('a').unwrap();
+    /// let operation = select.try_select().expect("there is an item");
+    /// assert_eq!(operation.recv(&receiver), Ok('a'));
+    /// # Ok::<(), vahepito::OpenError>(())
+    /// ```
     pub fn try_select(&mut self) -> Result<SelectedOperation<'a>, TrySelectError> {
         let now = Some(Instant::now());
         self.select_until(now).ok_or(TrySelectError)
     }
 
     /// Waits until an operation is ready, and begins it.
+    ///
+    /// ```
+    /// use std::thread;
+    /// use vahepito::{Select, channel};
+    ///
+    /// let (one, two) = (channel(1)?, channel(1)?);
+    /// thread::spawn(move || two.0.send('b'));
+    /// let mut select = Select::new();
+    /// select.recv(&one.1);
+    /// let second = select.recv(&two.1);
+    /// let operation = select.select();
+    /// assert_eq!(operation.index(), second);
+    /// assert_eq!(operation.recv(&two.1), Ok('b'));
+    /// # Ok::<(), vahepito::OpenError>(())
+    /// ```
     pub fn select(&mut self) -> SelectedOperation<'a> {
         loop {
             if let Some(operation) = self.select_until(None) {
@@ -525,11 +624,23 @@ impl<'a> Select<'a> {
         }
     }
 
-    /// The same, but waits no longer than this.
+    /// Waits until an operation is ready, but not longer than this, and begins it.
     ///
     /// # Errors
     ///
     /// None was ready in that time.
+    ///
+    /// ```
+    /// use std::time::Duration;
+    /// use vahepito::{Select, SelectTimeoutError, channel};
+    ///
+    /// let (_sender, receiver) = channel::<u8>(1)?;
+    /// let mut select = Select::new();
+    /// select.recv(&receiver);
+    /// let told = select.select_timeout(Duration::from_millis(5));
+    /// assert_eq!(told.err(), Some(SelectTimeoutError));
+    /// # Ok::<(), vahepito::OpenError>(())
+    /// ```
     pub fn select_timeout(
         &mut self,
         time: Duration,
@@ -539,11 +650,24 @@ impl<'a> Select<'a> {
         self.select_until(until).ok_or(SelectTimeoutError)
     }
 
-    /// The same, but doesn't wait beyond this moment.
+    /// Waits until an operation is ready, but not beyond this moment, and begins it.
     ///
     /// # Errors
     ///
     /// None was ready in that time.
+    ///
+    /// ```
+    /// use std::time::{Duration, Instant};
+    /// use vahepito::{Select, channel};
+    ///
+    /// let (sender, _receiver) = channel(1)?;
+    /// sender.send('a').unwrap();
+    /// let mut select = Select::new();
+    /// select.send(&sender);
+    /// let soon = Instant::now() + Duration::from_millis(5);
+    /// assert!(select.select_deadline(soon).is_err()); // there is no room
+    /// # Ok::<(), vahepito::OpenError>(())
+    /// ```
     pub fn select_deadline(
         &mut self,
         until: Instant,
@@ -552,7 +676,7 @@ impl<'a> Select<'a> {
     }
 
     fn ready_until(&mut self, until: Option<Instant>) -> Option<usize> {
-        Some(self.wait(until, false)?.0.index)
+        Some(self.cases.wait(until, false)?.0.index)
     }
 
     /// Returns the index of an operation that is ready, if there is one. Another thread may make it
@@ -561,12 +685,41 @@ impl<'a> Select<'a> {
     /// # Errors
     ///
     /// None is ready.
+    ///
+    /// ```
+    /// use vahepito::{Select, channel};
+    ///
+    /// let (sender, receiver) = channel(1)?;
+    /// let mut select = Select::new();
+    /// let take = select.recv(&receiver);
+    /// assert!(select.try_ready().is_err());
+    /// sender.send('a').unwrap();
+    /// assert_eq!(select.try_ready(), Ok(take));
+    /// assert_eq!(receiver.try_recv(), Ok('a')); // the item is still there
+    /// # Ok::<(), vahepito::OpenError>(())
+    /// ```
     pub fn try_ready(&mut self) -> Result<usize, TryReadyError> {
         let now = Some(Instant::now());
         self.ready_until(now).ok_or(TryReadyError)
     }
 
     /// Waits until an operation is ready, and returns its index, as [`try_ready`](Select::try_ready).
+    ///
+    /// ```
+    /// use vahepito::{Select, channel};
+    ///
+    /// let (numbers, words) = (channel::<u32>(1)?, channel(1)?);
+    /// words.0.send("hello").unwrap();
+    /// let mut select = Select::new();
+    /// let number = select.recv(&numbers.1);
+    /// let word = select.recv(&words.1);
+    /// match select.ready() {
+    ///     it if it == number => println!("{:?}", numbers.1.try_recv()),
+    ///     it if it == word => assert_eq!(words.1.try_recv(), Ok("hello")),
+    ///     _ => unreachable!(),
+    /// }
+    /// # Ok::<(), vahepito::OpenError>(())
+    /// ```
     pub fn ready(&mut self) -> usize {
         loop {
             if let Some(index) = self.ready_until(None) {
@@ -575,29 +728,95 @@ impl<'a> Select<'a> {
         }
     }
 
-    /// The same, but waits no longer than this.
+    /// Waits until an operation is ready, but not longer than this, and returns its index.
     ///
     /// # Errors
     ///
     /// None was ready in that time.
+    ///
+    /// ```
+    /// use std::time::Duration;
+    /// use vahepito::{ReadyTimeoutError, Select, channel};
+    ///
+    /// let (_sender, receiver) = channel::<u8>(1)?;
+    /// let mut select = Select::new();
+    /// select.recv(&receiver);
+    /// let told = select.ready_timeout(Duration::from_millis(5));
+    /// assert_eq!(told, Err(ReadyTimeoutError));
+    /// # Ok::<(), vahepito::OpenError>(())
+    /// ```
     pub fn ready_timeout(&mut self, time: Duration) -> Result<usize, ReadyTimeoutError> {
         let until = Instant::now().checked_add(time);
         self.ready_until(until).ok_or(ReadyTimeoutError)
     }
 
-    /// The same, but doesn't wait beyond this moment.
+    /// Waits until an operation is ready, but not beyond this moment, and returns its index.
     ///
     /// # Errors
     ///
     /// None was ready in that time.
+    ///
+    /// ```
+    /// use std::time::{Duration, Instant};
+    /// use vahepito::{Select, channel};
+    ///
+    /// let (sender, _receiver) = channel::<u8>(1)?;
+    /// let mut select = Select::new();
+    /// let room = select.send(&sender);
+    /// let soon = Instant::now() + Duration::from_millis(5);
+    /// assert_eq!(select.ready_deadline(soon), Ok(room));
+    /// # Ok::<(), vahepito::OpenError>(())
+    /// ```
     pub fn ready_deadline(&mut self, until: Instant) -> Result<usize, ReadyTimeoutError> {
         self.ready_until(Some(until)).ok_or(ReadyTimeoutError)
     }
 }
 
-shows! {
-    Debug [] Select<'_>: _ => "Select { .. }";
-    Debug [] SelectedOperation<'_>: _ => "SelectedOperation { .. }";
+/// The select of the macros, which stays on its thread: so it takes items of any type.
+#[doc(hidden)]
+pub struct LocalSelect<'a> {
+    cases: Cases<&'a dyn Case>,
+}
+
+impl<'a> LocalSelect<'a> {
+    #[must_use]
+    pub fn new(is_biased: bool) -> LocalSelect<'a> {
+        let cases = Cases::new(is_biased);
+        LocalSelect { cases }
+    }
+
+    pub fn send<T>(&mut self, sender: &'a Sender<T>) -> usize {
+        self.cases.add(sender)
+    }
+
+    pub fn recv<T>(&mut self, receiver: &'a Receiver<T>) -> usize {
+        self.cases.add(receiver)
+    }
+
+    pub fn select(mut self) -> SelectedOperation<'a> {
+        loop {
+            if let Some((entry, begun)) = self.cases.wait(None, true) {
+                return SelectedOperation::new(entry, begun);
+            }
+        }
+    }
+
+    pub fn select_timeout(mut self, time: Duration) -> Option<SelectedOperation<'a>> {
+        // A moment beyond the clock's range never comes.
+        let until = Instant::now().checked_add(time);
+        let (entry, begun) = self.cases.wait(until, true)?;
+        Some(SelectedOperation::new(entry, begun))
+    }
+
+    pub(super) fn begin_until(&mut self, until: Option<Instant>) -> Option<Begun> {
+        Some(self.cases.wait(until, true)?.1)
+    }
+}
+
+impl fmt::Debug for Select<'_> {
+    fn fmt(&self, f: &mut fmt::Formatter<'_>) -> fmt::Result {
+        f.pad("Select { .. }")
+    }
 }
 
 impl Default for Select<'_> {
@@ -614,18 +833,37 @@ impl Default for Select<'_> {
 /// waits until this one is completed; if either is dropped, the other one waits for a further one.
 #[must_use = "complete it by `recv` or `send`"]
 pub struct SelectedOperation<'a> {
-    entry: Entry<'a>,
+    entry: Entry<&'a dyn Case>,
     /// Until it is completed.
     pub(super) begun: Option<Begun>,
 }
 
 impl<'a> SelectedOperation<'a> {
-    fn new(entry: Entry<'a>, begun: Begun) -> SelectedOperation<'a> {
+    fn new(entry: Entry<&'a dyn Case>, begun: Begun) -> SelectedOperation<'a> {
         let begun = Some(begun);
         SelectedOperation { entry, begun }
     }
 
-    /// The index of the operation.
+    /// The index of the operation, as it was given when the operation was added.
+    ///
+    /// ```
+    /// use vahepito::{Select, channel};
+    ///
+    /// let (one, two) = (channel(1)?, channel(1)?);
+    /// two.0.send('b').unwrap();
+    /// let mut select = Select::new();
+    /// let first = select.recv(&one.1);
+    /// let second = select.recv(&two.1);
+    /// let operation = select.select();
+    /// let told = match operation.index() {
+    ///     it if it == first => operation.recv(&one.1),
+    ///     it if it == second => operation.recv(&two.1),
+    ///     _ => unreachable!(),
+    /// };
+    /// assert_eq!(told, Ok('b'));
+    /// # Ok::<(), vahepito::OpenError>(())
+    /// ```
+    #[must_use]
     pub fn index(&self) -> usize {
         self.entry.index
     }
@@ -648,6 +886,17 @@ impl<'a> SelectedOperation<'a> {
     /// # Panics
     ///
     /// This isn't the receiver that was added: `&receiver` is to be the same reference.
+    ///
+    /// ```
+    /// use vahepito::{RecvError, Select, channel};
+    ///
+    /// let (sender, receiver) = channel::<u8>(1)?;
+    /// drop(sender);
+    /// let mut select = Select::new();
+    /// select.recv(&receiver);
+    /// assert_eq!(select.select().recv(&receiver), Err(RecvError));
+    /// # Ok::<(), vahepito::OpenError>(())
+    /// ```
     pub fn recv<T>(mut self, receiver: &Receiver<T>) -> Result<T, RecvError> {
         let told = receiver.completed(self.begun_of(receiver));
         // If the sender that it met gave it up, it waits for another one.
@@ -663,6 +912,18 @@ impl<'a> SelectedOperation<'a> {
     /// # Panics
     ///
     /// This isn't the sender that was added: `&sender` is to be the same reference.
+    ///
+    /// ```
+    /// use vahepito::{Select, channel};
+    ///
+    /// let (sender, receiver) = channel(1)?;
+    /// let mut select = Select::new();
+    /// select.send(&sender);
+    /// let operation = select.select();
+    /// operation.send(&sender, "made once there is room".to_string()).unwrap();
+    /// assert_eq!(receiver.recv().unwrap(), "made once there is room");
+    /// # Ok::<(), vahepito::OpenError>(())
+    /// ```
     pub fn send<T>(mut self, sender: &Sender<T>, item: T) -> Result<(), SendError<T>> {
         sender.complete(self.begun_of(sender), item)
     }
@@ -676,28 +937,8 @@ impl Drop for SelectedOperation<'_> {
     }
 }
 
-/// Errors of a select without anything in them.
-macro_rules! errors {
-    ($($(#[$docs:meta])+ $name:ident: $text:literal;)+) => {$(
-        $(#[$docs])+
-        #[derive(Clone, Copy, Debug, PartialEq, Eq, Hash)]
-        pub struct $name;
-
-        shows! { Display [] $name: _ => $text; }
-
-        impl std::error::Error for $name {}
-    )+};
-}
-
-errors! {
-    /// Why [`try_select`](Select::try_select) began nothing.
-    TrySelectError: "no operation of the select is ready";
-    /// Why [`select_timeout`](Select::select_timeout) or [`select_deadline`](Select::select_deadline)
-    /// began nothing.
-    SelectTimeoutError: "no operation of the select was ready in time";
-    /// Why [`try_ready`](Select::try_ready) has no index.
-    TryReadyError: "no operation of the select is ready";
-    /// Why [`ready_timeout`](Select::ready_timeout) or [`ready_deadline`](Select::ready_deadline) has no
-    /// index.
-    ReadyTimeoutError: "no operation of the select was ready in time";
+impl fmt::Debug for SelectedOperation<'_> {
+    fn fmt(&self, f: &mut fmt::Formatter<'_>) -> fmt::Result {
+        f.pad("SelectedOperation { .. }")
+    }
 }

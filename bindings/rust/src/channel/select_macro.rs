@@ -41,7 +41,7 @@
 #[macro_export]
 macro_rules! select {
     ($($arms:tt)*) => {
-        $crate::__select!(@read new [] [] $($arms)*)
+        $crate::__select!(@read false [] [] $($arms)*)
     };
 }
 
@@ -63,7 +63,7 @@ macro_rules! select {
 #[macro_export]
 macro_rules! select_biased {
     ($($arms:tt)*) => {
-        $crate::__select!(@read new_biased [] [] $($arms)*)
+        $crate::__select!(@read true [] [] $($arms)*)
     };
 }
 
@@ -72,47 +72,47 @@ macro_rules! select_biased {
 #[doc(hidden)]
 #[macro_export]
 macro_rules! __select {
-    (@read $new:ident [$($arms:tt)*] [$($default:tt)*]) => {{
-        let mut select = $crate::Select::$new();
+    (@read $biased:literal [$($arms:tt)*] [$($default:tt)*]) => {{
+        let mut select = $crate::LocalSelect::new($biased);
         $crate::__select!(@add select [] [$($default)*] $($arms)*)
     }};
-    (@read $new:ident $arms:tt $default:tt default => $($rest:tt)*) => {
-        $crate::__select!(@read $new $arms $default default() => $($rest)*)
+    (@read $biased:literal $arms:tt $default:tt default => $($rest:tt)*) => {
+        $crate::__select!(@read $biased $arms $default default() => $($rest)*)
     };
-    (@read $new:ident $arms:tt $default:tt
+    (@read $biased:literal $arms:tt $default:tt
         $kind:ident $of:tt $(-> $told:pat)? => $body:expr, $($rest:tt)*) => {
-        $crate::__select!(@sort $new $arms $default [$kind $of ($($told)?) $body] $($rest)*)
+        $crate::__select!(@sort $biased $arms $default [$kind $of ($($told)?) $body] $($rest)*)
     };
-    (@read $new:ident $arms:tt $default:tt
+    (@read $biased:literal $arms:tt $default:tt
         $kind:ident $of:tt $(-> $told:pat)? => $body:block $($rest:tt)*) => {
-        $crate::__select!(@sort $new $arms $default [$kind $of ($($told)?) $body] $($rest)*)
+        $crate::__select!(@sort $biased $arms $default [$kind $of ($($told)?) $body] $($rest)*)
     };
-    (@read $new:ident $arms:tt $default:tt
+    (@read $biased:literal $arms:tt $default:tt
         $kind:ident $of:tt $(-> $told:pat)? => $body:expr) => {
-        $crate::__select!(@sort $new $arms $default [$kind $of ($($told)?) $body])
+        $crate::__select!(@sort $biased $arms $default [$kind $of ($($told)?) $body])
     };
-    (@read $new:ident $arms:tt $default:tt $($wrong:tt)+) => {
+    (@read $biased:literal $arms:tt $default:tt $($wrong:tt)+) => {
         ::core::compile_error!(::core::concat!(
             "expected `recv(receiver) -> item => expression,`, `send(sender, item) -> sent => expression,`, ",
             "`default => expression,` or `default(time) => expression,`; found `",
             ::core::stringify!($($wrong)+), "`"))
     };
 
-    (@sort $new:ident [$($arms:tt)*] $default:tt
+    (@sort $biased:literal [$($arms:tt)*] $default:tt
         [recv ($of:expr $(,)?) ($told:pat) $body:expr] $($rest:tt)*) => {
-        $crate::__select!(@read $new [$($arms)* [recv ($of) ($told) $body]] $default $($rest)*)
+        $crate::__select!(@read $biased [$($arms)* [recv ($of) ($told) $body]] $default $($rest)*)
     };
-    (@sort $new:ident [$($arms:tt)*] $default:tt
+    (@sort $biased:literal [$($arms:tt)*] $default:tt
         [send ($of:expr, $item:expr $(,)?) ($told:pat) $body:expr] $($rest:tt)*) => {
-        $crate::__select!(@read $new [$($arms)* [send ($of, $item) ($told) $body]] $default $($rest)*)
+        $crate::__select!(@read $biased [$($arms)* [send ($of, $item) ($told) $body]] $default $($rest)*)
     };
-    (@sort $new:ident $arms:tt [] [default ($($time:expr $(,)?)?) () $body:expr] $($rest:tt)*) => {
-        $crate::__select!(@read $new $arms [($($time)?) $body] $($rest)*)
+    (@sort $biased:literal $arms:tt [] [default ($($time:expr $(,)?)?) () $body:expr] $($rest:tt)*) => {
+        $crate::__select!(@read $biased $arms [($($time)?) $body] $($rest)*)
     };
-    (@sort $new:ident $arms:tt [$($twice:tt)+] [default $($wrong:tt)*] $($rest:tt)*) => {
+    (@sort $biased:literal $arms:tt [$($twice:tt)+] [default $($wrong:tt)*] $($rest:tt)*) => {
         ::core::compile_error!("a select has one `default` arm at most")
     };
-    (@sort $new:ident $arms:tt $default:tt [$kind:ident $of:tt $($wrong:tt)*] $($rest:tt)*) => {
+    (@sort $biased:literal $arms:tt $default:tt [$kind:ident $of:tt $($wrong:tt)*] $($rest:tt)*) => {
         ::core::compile_error!(::core::concat!(
             "expected `recv(receiver) -> item`, `send(sender, item) -> sent`, `default` or ",
             "`default(time)`; found `", ::core::stringify!($kind $of), "`"))
@@ -142,31 +142,20 @@ macro_rules! __select {
     };
     (@add $select:ident [$($made:tt)*] []) => {{
         let operation = $select.select();
-        ::core::mem::drop($select);
         $crate::__select!(@make operation $($made)*)
     }};
-    (@add $select:ident [$($made:tt)*] [() $body:expr]) => {{
-        let operation = $select.try_select();
-        ::core::mem::drop($select);
-        match operation {
-            ::core::result::Result::Ok(operation) => $crate::__select!(@make operation $($made)*),
-            ::core::result::Result::Err(_) => $body,
+    (@add $select:ident $made:tt [() $body:expr]) => {
+        $crate::__select!(@add $select $made [(::core::time::Duration::ZERO) $body])
+    };
+    (@add $select:ident [$($made:tt)*] [($time:expr) $body:expr]) => {
+        match $select.select_timeout($time) {
+            ::core::option::Option::Some(operation) => $crate::__select!(@make operation $($made)*),
+            ::core::option::Option::None => $body,
         }
-    }};
-    (@add $select:ident [$($made:tt)*] [($time:expr) $body:expr]) => {{
-        let operation = $select.select_timeout($time);
-        ::core::mem::drop($select);
-        match operation {
-            ::core::result::Result::Ok(operation) => $crate::__select!(@make operation $($made)*),
-            ::core::result::Result::Err(_) => $body,
-        }
-    }};
+    };
 
-    // No other operation is selected: nothing comes here.
     (@make $operation:ident) => {
-        loop {
-            ::std::thread::park();
-        }
+        ::core::unreachable!("another operation is selected")
     };
     (@make $operation:ident
         [$index:ident ($told:pat) ($call:ident($($with:tt)*)) $body:expr] $($others:tt)*) => {

@@ -1,7 +1,6 @@
 //! Receivers of moments, and of nothing. None has a thread: who waits for it parks until the moment.
 use super::core::Core;
 use super::event::{AT_A_RING, Try, lock};
-use super::side::Handle;
 use super::special::Special;
 use super::{Receiver, config};
 use std::sync::{Arc, Mutex};
@@ -59,7 +58,7 @@ fn timer<T>(
     let due = Mutex::new(due);
     let timer = Timer { due, every, item };
     let core = Core::special(config(capacity), Special::Timer(timer));
-    Handle::new(Arc::new(core), 1)
+    Receiver::new(Arc::new(core), 1)
 }
 
 /// A receiver with one item, which is there at this moment, and is the moment. Then it is empty for ever.
@@ -75,6 +74,7 @@ fn timer<T>(
 /// assert_eq!(receiver.recv(), Ok(soon));
 /// assert!(Instant::now() >= soon);
 /// ```
+#[must_use]
 pub fn at(moment: Instant) -> Receiver<Instant> {
     timer(Some(moment), None, Some(|moment| moment))
 }
@@ -94,6 +94,7 @@ pub fn at(moment: Instant) -> Receiver<Instant> {
 /// assert_eq!(told, None);
 /// # Ok::<(), vahepito::OpenError>(())
 /// ```
+#[must_use]
 pub fn after(time: Duration) -> Receiver<Instant> {
     // A moment beyond the clock's range never comes.
     timer(
@@ -116,6 +117,7 @@ pub fn after(time: Duration) -> Receiver<Instant> {
 /// assert!(ticks.recv().unwrap() >= start + period);
 /// assert!(ticks.recv().unwrap() >= start + 2 * period);
 /// ```
+#[must_use]
 pub fn tick(period: Duration) -> Receiver<Instant> {
     let first = Instant::now().checked_add(period);
     timer(first, Some(period), Some(|moment| moment))
@@ -138,6 +140,7 @@ pub fn tick(period: Duration) -> Receiver<Instant> {
 /// }
 /// # Ok::<(), vahepito::OpenError>(())
 /// ```
+#[must_use]
 pub fn never<T>() -> Receiver<T> {
     timer(None, None, None)
 }
