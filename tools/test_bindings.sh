@@ -38,6 +38,7 @@ fi
 limit=600 step 'Rust: tests' cargo "${options[@]}" test
 step 'Rust: the thread pool' bash -c "prints '9592 primes below 100000' cargo ${options[*]} run --example thread_pool"
 step 'Rust: the pipeline' bash -c "prints '77031 takes 350 steps' cargo ${options[*]} run --example pipeline"
+step 'Rust: the tasks' bash -c "prints 'the sum of the squares up to 10000 is 333383335000' cargo ${options[*]} run --example tasks"
 step 'Rust: the log' bash -c "prints '40000 events in the archive, 4000 alarms' cargo ${options[*]} run --example log"
 for archive in "$room"/c/*/libvahepito.a; do
     [ -f "$archive" ] || continue

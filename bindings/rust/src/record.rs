@@ -122,7 +122,11 @@ impl Recorder {
 }
 
 /// Writes the calls of all threads as one log, a JSON object a line (`docs/FORMATS.md`, "Logs of calls"); a thread's name
-/// is the place of its recorder. The error is that of `out`.
+/// is the place of its recorder.
+///
+/// # Errors
+///
+/// That of `out`.
 pub fn write(recorders: &[Recorder], out: &mut impl Write) -> io::Result<()> {
     for (thread, recorder) in recorders.iter().enumerate() {
         for Entry { begin, end, call } in &recorder.calls {

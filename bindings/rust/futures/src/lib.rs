@@ -21,14 +21,17 @@ use vahepito::{Receiver, RecvFuture, SendError, SendFuture, Sender};
 #[derive(Debug)]
 #[must_use = "a stream does nothing unless it is polled"]
 pub struct RecvStream<T: 'static> {
-    takes: RecvFuture<'static, T>,
+    receiver: Receiver<T>,
+    /// The take that waits. It takes one item.
+    takes: Option<RecvFuture<'static, T>>,
     ended: bool,
 }
 
 impl<T: 'static> From<Receiver<T>> for RecvStream<T> {
     fn from(receiver: Receiver<T>) -> RecvStream<T> {
         RecvStream {
-            takes: receiver.into_recv_async(),
+            receiver,
+            takes: None,
             ended: false,
         }
     }
@@ -38,9 +41,11 @@ impl<T: 'static> Stream for RecvStream<T> {
     type Item = T;
 
     fn poll_next(mut self: Pin<&mut Self>, context: &mut Context<'_>) -> Poll<Option<T>> {
-        // A future that took an item takes a further one.
-        let taken = ready!(Pin::new(&mut self.takes).poll(context));
-        self.ended |= taken.is_err();
+        let this = &mut *self;
+        let takes = || this.receiver.clone().into_recv_async();
+        let taken = ready!(Pin::new(this.takes.get_or_insert_with(takes)).poll(context));
+        this.takes = None;
+        this.ended |= taken.is_err();
         Poll::Ready(taken.ok())
     }
 }

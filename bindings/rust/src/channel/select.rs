@@ -606,7 +606,7 @@ impl<'a> Select<'a> {
     /// use std::thread;
     /// use vahepito::{Select, channel};
     ///
-    /// let (one, two) = (channel(1)?, channel(1)?);
+    /// let (one, two) = (channel::<u8>(1)?, channel(1)?);
     /// thread::spawn(move || two.0.send('b'));
     /// let mut select = Select::new();
     /// select.recv(&one.1);
