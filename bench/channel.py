@@ -5,7 +5,7 @@
 
 One command, in some N seconds (330 if no number is given) after the build. The crate of the commit is taken by git
 archive into bench/channel/out. Its own library and functions for memory are named by --archives; without that it is
-linked with the archives in bindings/lib, as this crate is. crossbeam's channel is Debian's
+linked with the archives in bindings/rust/lib, as this crate is. crossbeam's channel is Debian's
 librust-crossbeam-channel-dev; the run goes on without it.
 
 A round runs each burst once, in a random order, each in a process of its own: half of the rounds with nothing beside it,
@@ -32,7 +32,7 @@ HERE = os.path.dirname(os.path.abspath(__file__))
 TOP = os.path.dirname(HERE)
 OUT = os.path.join(HERE, "channel", "out")
 REGISTRY = "/usr/share/cargo/registry"
-LIBRARY = os.path.join(TOP, "bindings", "lib", "x86_64-unknown-linux-gnu")
+LIBRARY = os.path.join(TOP, "bindings", "rust", "lib", "x86_64-unknown-linux-gnu")
 ARCHIVES = {"VAHEPITO_LIB": os.path.join(LIBRARY, "libvahepito.a"), "VAHEPITO_HEAP": os.path.join(LIBRARY, "libvahepito_heap.a")}
 
 VERSION = r'(?m)(?<=^version = ")\d+\.\d+\.\d+(?="$)'
@@ -93,7 +93,7 @@ def change(path, pattern, text):
 
 
 def crate_at(commit, is_linked_with_its_own):
-    """The crate of this commit. If it is linked with the archives in bindings/lib, it takes them for those of its version."""
+    """The crate of this commit. If it is linked with the archives in bindings/rust/lib, it takes them for those of its version."""
     room = os.path.join(OUT, "tree")
     shutil.rmtree(room, ignore_errors=True)
     os.makedirs(room)
@@ -107,7 +107,7 @@ def crate_at(commit, is_linked_with_its_own):
         change(os.path.join(crate, name), VERSION, version)
     # It compares three sizes, where the library tells four.
     handle = os.path.join(crate, "src", "words", "handle.rs")
-    if "words_item: &mut usize" not in read(handle):
+    if os.path.exists(handle) and "words_item: &mut usize" not in read(handle):
         change(handle, r"(?<=fn vahepito_sizes\(config: &mut usize, pass: &mut usize, item: &mut usize)(?=\);)", ", _: &mut usize")
         change(handle, r"(?<=vahepito_sizes\(&mut config, &mut pass, &mut item)(?=\);)", ", &mut 0")
     return crate

@@ -1,5 +1,5 @@
 #!/bin/bash
-# Proves and builds the static library from the sources, and compares it with the archives in bindings/lib, byte for byte.
+# Proves and builds the static library from the sources, and compares it with the archives in bindings/rust/lib, byte for byte.
 #
 # Usage: tools/build_library.sh [--over-gate] [--update]
 #        tools/build_library.sh --sums
@@ -10,16 +10,16 @@
 #
 # --over-gate takes the libraries below cc_binding as `rt ci` left them in this folder a moment ago: `rt lib` would prove them
 # once more. Both ways give the same bytes.
-# --update writes what was built into bindings/lib.
+# --update writes what was built into bindings/rust/lib.
 # --sums builds nothing: it compares the sums in PROOF with the archives and the sources as they stand.
-# Exit status 0 if bindings/lib is what was built.
+# Exit status 0 if bindings/rust/lib is what was built.
 set -u
 top=$(cd "$(dirname "$0")/.." && pwd) || exit 1
 name=library
 . "$top/tools/building.sh"
 cd "$top" || exit 1
 target=x86_64-unknown-linux-gnu
-kept=bindings/lib/$target
+kept=bindings/rust/lib/$target
 made=out/lib/$target
 build=rt_lib update=
 mapfile -t crates < <(crates_of cc_binding)

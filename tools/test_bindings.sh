@@ -1,11 +1,12 @@
 #!/bin/bash
-# Tests what stands over the proved static library, with the archives in bindings/lib: the programs in bindings/c by make, the
-# crate in bindings/rust by cargo, and its package in a folder of its own; all but the last again under valgrind and the
-# sanitizers. It needs no rt, writes into a folder of its own, and fetches nothing.
+# Tests what stands over the proved static library, with the archives in bindings/rust/lib: the programs in bindings/c by make,
+# the crate in bindings/rust by cargo, also with the feature `unproved`, and a copy of its folder and its package in folders of
+# their own; the first two again under valgrind and the sanitizers. It needs no rt, writes into a folder of its own, and fetches
+# nothing.
 #
 # Usage: tools/test_bindings.sh [--quick]
 #
-# With --quick it leaves out valgrind, the sanitizers, and the package. Prints a line for each step. A step for which something
+# With --quick it leaves out valgrind, the sanitizers, the copy and the package. Prints a line for each step. A step for which something
 # isn't on the machine is skipped, and its line says so. Exit status 0 if no step failed.
 set -u
 cd "$(dirname "$0")/.." || exit 1
@@ -36,6 +37,7 @@ fi
 # Without valgrind and the rest no lines are needed, and a twentieth of the rounds of the long tests is made.
 [ -z "$quick" ] || export VAHEPITO_ROUNDS=5 CARGO_PROFILE_DEV_DEBUG=none
 limit=600 step 'Rust: tests' cargo "${options[@]}" test
+limit=600 step 'Rust: tests with the feature unproved' env VAHEPITO_ROUNDS=5 cargo "${options[@]}" test --features unproved
 step 'Rust: the thread pool' bash -c "prints '9592 primes below 100000' cargo ${options[*]} run --example thread_pool"
 step 'Rust: the pipeline' bash -c "prints '77031 takes 350 steps' cargo ${options[*]} run --example pipeline"
 step 'Rust: the tasks' bash -c "prints 'the sum of the squares up to 10000 is 333383335000' cargo ${options[*]} run --example tasks"
@@ -90,17 +92,21 @@ else
     skip 'Rust: the sanitizers' 'there is no nightly cargo on this machine'
 fi
 
-# The package as a stranger uses it, also within a workspace, and the repository as a dependency by git: the mains of both
-# READMEs run.
-step 'Rust: the package is made, and compiles' "$top/tools/package_crate.sh" "$room"
-package=$(echo "$room"/vahepito-*.crate)
+# The crate as a stranger has it: a copy of its folder, its package, and the repository as a dependency by git.
+mkdir "$room/copy" && tar c --exclude=./target . | tar x -C "$room/copy"
+step 'Rust: the package is made, and compiles' cargo "${options[@]}" package --allow-dirty
+package=$(echo "$CARGO_TARGET_DIR"/package/vahepito-*.crate)
 tar xzf "$package" -C "$room"
 package=$room/$(basename "$package" .crate)
 export CARGO_TARGET_DIR=$room/of_package
-limit=600 step 'Rust: the tests of the package' bash -c "cd '$package' && VAHEPITO_ROUNDS=5 cargo test --quiet --offline"
+for folder in "$room/copy" "$package"; do
+    limit=600 step "Rust: the tests of the $([ "$folder" = "$package" ] && echo package || echo copy)" bash -c \
+        "cd '$folder' && VAHEPITO_ROUNDS=2 cargo ${options[*]} test"
+done
 cargo clippy --version >/dev/null 2>&1 &&
     step 'Rust: clippy on the package' bash -c "cd '$package' && cargo clippy --quiet --offline --all-targets -- -D warnings"
-(cp -r "$top/bindings" "$room/repository" && cd "$room/repository" && git init -q . && git add . &&
+mkdir -p "$room/repository/bindings" && cp -r "$room/copy" "$room/repository/bindings/rust"
+(cd "$room/repository" && git init -q . && git add . &&
     git -c user.name=test -c user.email=test@localhost commit -qm bindings) || failed=$((failed + 1))
 
 # The main that a README shows, with the lines that it uses, from the margin on.
@@ -109,7 +115,7 @@ main_of() {
         /^use .*;$/ || shown { print substr($0, length(margin) + 1) }
         shown && $0 == margin "}" { exit }' "$1"
 }
-for source in "path = '$package'" "path = 'within'" "git = 'file://$room/repository'"; do
+for source in "path = '$package'" "path = 'within'" "path = '$room/copy'" "git = 'file://$room/repository'"; do
     rm -rf "$room/trial"
     cargo new --quiet --vcs none "$room/trial" 2>/dev/null
     [[ $source != *within* ]] || cp -r "$package" "$room/trial/within"
@@ -117,9 +123,13 @@ for source in "path = '$package'" "path = 'within'" "git = 'file://$room/reposit
     for readme in README.md "$top/README.md"; do
         main_of "$readme" >"$room/trial/src/main.rs"
         due=$([ "$readme" != README.md ] || seq -f 'line %g' 0 9)
-        step "Rust: the main of $readme, by ${source:0:14}" bash -c "cd '$room/trial' && prints '$due' cargo run --quiet"
+        step "Rust: the main of $readme, by ${source//$room\//}" bash -c "cd '$room/trial' && prints '$due' cargo run --quiet"
     done
 done
-step 'Rust: another target is refused' bash -c "cd '$room/trial' && ! cargo check --offline --target aarch64-unknown-linux-gnu 2>'$room/said' &&
-    grep -F 'is built for x86_64-unknown-linux-gnu, and the target is aarch64' '$room/said'"
+# The last of these, by git, again from what cargo has vendored.
+step 'Rust: the dependency by git, vendored' bash -c "cd '$room/trial' && mkdir .cargo && cargo vendor --quiet --offline >.cargo/config.toml &&
+    rm -rf '$room/repository' && cargo run --quiet --offline"
+target=aarch64-unknown-linux-gnu
+step 'Rust: another target is refused' bash -c "cd '$room/copy' && ! cargo check --offline --target $target 2>'$room/said' &&
+    grep -F 'is built for x86_64-unknown-linux-gnu alone, and the target is $target' '$room/said' && grep -F 'feature \`unproved\`' '$room/said'"
 end_steps

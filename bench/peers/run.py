@@ -5,7 +5,7 @@
 
 One command, in some N seconds (420 where no number is given; 120 are a short form, and 20 a trial), after the build. It
 takes crossbeam's, flume's and smol's queues from Debian's packages: those that aren't there it installs, where it is root
-and there is apt-get, and goes on without those that it can't have. The proved queue is linked from bindings/lib.
+and there is apt-get, and goes on without those that it can't have. The proved queue is linked from bindings/rust/lib.
 
 A run is some rounds of bursts: each round runs each queue in each shape once, all of them in a random order, each in a
 process of its own. The medians of the rounds are told, and their quartiles. What others took of the processors
@@ -193,7 +193,7 @@ def tables(queues):
          "`try_send` on one thread, again and again.",
          {q: {str(c): (cell("full", q, shape(1, 1, c), 0.2), 0) for c in CAPACITIES} for q in queues}),
         ("bounds", "The bound, by threads", True, "ns an item",
-         "Queues of words with capacity 64 and bounds of 4 to 1,024; the crate's own is 64.",
+         "The exports with capacity 64 and bounds of 4 to 1,024; the crate's own is 64.",
          {f"bound {b}": {at(n): (cell("pass", "words", shape(*n, 64, b)), 0) for n in PAIRS[2:]} for b in BOUNDS}),
     ]
 
@@ -260,7 +260,7 @@ def text_of(machine, length, versions, all_tables, numbers):
         + ("the machine was idle otherwise: " if idle else "**others ran meanwhile, so compare within a column alone**: ")
         + f"other processes had {machine['others']:.2f} processors in the mean and {machine['worst']:.2f} in the worst round "
         f"({busiest}), and the host took {machine['stolen']:.2f}."), "", wrapped(
-        f"*words* are the proved queues of words and *typed* the channel of any type, both of `bindings/rust`, with a bound of {BOUND}; "
+        f"*words* are the exports of the proved library, with bodies of one word, and *typed* the channel of any type of `bindings/rust`, with a bound of {BOUND}; "
         f"the peers are {queues}std's `sync_channel`, whose one receiver is shared under a lock, and std's `Mutex` with two "
         "`Condvar`s round a `VecDeque`. ArrayQueue and concurrent-queue have no calls that wait: they are tried again, first with "
         "spinning between two tries and then with yields. Cells have the medians of the rounds, the pictures the quartiles too."), "",

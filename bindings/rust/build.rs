@@ -1,12 +1,15 @@
 //! Links the proved library, and behind it the functions by which it takes memory (they call `malloc`,
 //! `realloc` and `free`).
 //!
-//! Both archives lie in `lib/TARGET/` beside the crate's folder, and in the package in it, with `PROOF`, which has
-//! their sums and the line by which they were proved. `VAHEPITO_LIB` names another library, and `VAHEPITO_HEAP` other functions for memory. A line of
-//! `cargo build -vv` says which archives are linked.
+//! Both archives lie in `lib/TARGET/`, with `PROOF`, which has their sums and the line by which they were proved.
+//! `VAHEPITO_LIB` names another library, and `VAHEPITO_HEAP` other functions for memory. A line of
+//! `cargo build -vv` says which archives are linked. With the feature `unproved` none is.
 use std::env;
 use std::path::{Path, PathBuf};
 use std::process::exit;
+
+/// The target that the archives are built for.
+const SUPPORTED: &str = "x86_64-unknown-linux-gnu";
 
 fn stop(lines: &[&str]) -> ! {
     for line in lines {
@@ -31,28 +34,25 @@ fn named(variable: &str) -> Option<PathBuf> {
     }
 }
 
-/// The path of a file in the package, or if it isn't there, in the repository.
-fn packed(in_package: &Path, in_repository: &Path) -> PathBuf {
-    let root = PathBuf::from(env::var_os("CARGO_MANIFEST_DIR").expect("cargo sets it"));
-    let path = root.join(in_package);
-    path.canonicalize()
-        .or_else(|_| root.join(in_repository).canonicalize())
-        .unwrap_or(path)
-}
-
 /// The archive of this name.
 fn archive(name: &str) -> PathBuf {
     let target = env::var("TARGET").expect("cargo sets it");
-    let place = Path::new("lib").join(&target).join(name);
-    let path = packed(&place, &Path::new("..").join(&place));
-    if !path.is_file() {
+    if target != SUPPORTED {
         stop(&[
             &format!(
-                "vahepito is built for x86_64-unknown-linux-gnu, and the target is {target}: there is no {}",
-                path.display()
+                "the proved queue of vahepito is built for {SUPPORTED} alone, and the target is {target}"
             ),
-            "VAHEPITO_LIB and VAHEPITO_HEAP name archives that were built for it",
+            "on any other target use the feature `unproved`: a lock stands in the place of the proved queue, and nothing is proved",
+            "or name archives that were built for this target by VAHEPITO_LIB and VAHEPITO_HEAP",
         ]);
+    }
+    let root = PathBuf::from(env::var_os("CARGO_MANIFEST_DIR").expect("cargo sets it"));
+    let path = root.join("lib").join(SUPPORTED).join(name);
+    if !path.is_file() {
+        stop(&[&format!(
+            "{} is missing in the crate's folder",
+            path.display()
+        )]);
     }
     path
 }
@@ -92,13 +92,16 @@ fn link(archive: &Path) {
 
 fn main() {
     println!("cargo::rerun-if-changed=build.rs");
+    if env::var_os("CARGO_FEATURE_UNPROVED").is_some() {
+        println!(
+            "cargo::warning=the feature `unproved` is on: a lock stands in the place of the proved queue, and nothing is proved"
+        );
+        return;
+    }
     let library = named("VAHEPITO_LIB").unwrap_or_else(|| {
         check_processor();
         archive("libvahepito.a")
     });
     link(&library);
     link(&named("VAHEPITO_HEAP").unwrap_or_else(|| archive("libvahepito_heap.a")));
-    // A test compares the crate's codes with those of the header.
-    let header = packed(Path::new("vahepito.h"), Path::new("../c/vahepito.h"));
-    println!("cargo::rustc-env=VAHEPITO_HEADER={}", header.display());
 }

@@ -2,6 +2,7 @@
 //! has the words for what the numbers are that each mode prints.
 #[path = "../../clock.rs"]
 mod clock;
+mod exports;
 #[cfg(any(feature = "crossbeam-queue", feature = "concurrent-queue"))]
 mod polled;
 mod queues;

@@ -1,7 +1,7 @@
 //! The competitors: bounded queues of words, each by its own blocking calls, and by those that don't wait.
+use crate::exports;
 use std::collections::VecDeque;
 use std::sync::{Arc, Condvar, Mutex, mpsc};
-use vahepito::words;
 
 /// The senders and the receivers of a queue.
 pub type Ends<Q> = (Vec<<Q as Queue>::Sender>, Vec<<Q as Queue>::Receiver>);
@@ -19,27 +19,27 @@ pub trait Queue: Sized {
     fn try_recv(receiver: &mut Self::Receiver) -> Option<u64>;
 }
 
-/// The proved queue, by its queues of words.
+/// The proved queue, by the exports of its library.
 pub struct Words;
 
 impl Queue for Words {
-    type Sender = words::Sender;
-    type Receiver = words::Receiver;
+    type Sender = exports::Sender;
+    type Receiver = exports::Receiver;
     fn open(senders: usize, receivers: usize, capacity: usize, bound: u32) -> Ends<Self> {
-        let config = words::Config::new(senders as u32, receivers as u32, capacity as u32);
-        words::open(words::Config { bound, ..config }).unwrap()
+        let config = exports::Config::new(senders, receivers, capacity, bound);
+        exports::open(config, 1)
     }
-    fn send(sender: &mut words::Sender, body: u64) {
-        sender.send(body).unwrap();
+    fn send(sender: &mut exports::Sender, body: u64) {
+        sender.send(body);
     }
-    fn recv(receiver: &mut words::Receiver) -> Option<u64> {
-        receiver.recv().ok().map(|item| item.body)
+    fn recv(receiver: &mut exports::Receiver) -> Option<u64> {
+        receiver.recv()
     }
-    fn try_send(sender: &mut words::Sender, body: u64) -> bool {
-        sender.try_send(body).is_ok()
+    fn try_send(sender: &mut exports::Sender, body: u64) -> bool {
+        sender.try_send(body)
     }
-    fn try_recv(receiver: &mut words::Receiver) -> Option<u64> {
-        receiver.try_recv().ok().map(|item| item.body)
+    fn try_recv(receiver: &mut exports::Receiver) -> Option<u64> {
+        receiver.try_recv()
     }
 }
 

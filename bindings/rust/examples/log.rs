@@ -4,7 +4,7 @@
 //! ```text
 //!                                     .-->  r1  r2    the archive
 //!  w1  w2  w3  w4  -->  event event --|
-//!                                     '-->  r3  r4    the alarm
+//!                                     '-->  r3        the alarm
 //! ```
 //!
 //!     cargo run --release --example log [EVENTS]
@@ -12,35 +12,32 @@
 //! prints how many events were archived, and how many alarms there were, when each thread writes
 //! this number of events (10,000). Each service is a group of receivers: it gets every event once.
 use std::thread;
-use vahepito::words::{Config, Item, OpenError, open_groups};
+use vahepito::{OpenError, groups};
 
-/// How severe an event is, 0 to 9: the last digit of its one word.
-fn severity(event: &Item) -> u64 {
-    event.body % 10
+/// How severe an event is, 0 to 9: its last digit.
+fn severity(event: u64) -> u64 {
+    event % 10
 }
 
 fn main() -> Result<(), OpenError> {
     let events: u64 = std::env::args()
         .nth(1)
         .map_or(10_000, |word| word.parse().expect("a number"));
-    let (writers, mut services) = open_groups(Config::new(4, 2, 64), 2)?;
-    let (archive, mut alarm) = (services.remove(0), services.remove(0));
-    // One thread is enough for the alarm, so its group is left with one receiver, which gets it all.
-    alarm.truncate(1);
+    let (writer, mut services) = groups(64, 2)?;
+    let (archive, alarm) = (services.remove(0), services.remove(0));
     let (archived, alarms) = thread::scope(|scope| {
-        for mut writer in writers {
+        for writer in vec![writer; 4] {
             scope.spawn(move || {
                 for event in 0..events {
                     writer.send(event).expect("both services read to the end");
                 }
             });
         } // the last writer that is dropped closes the log
-        let archive: Vec<_> = archive
-            .into_iter()
+        let readers = vec![archive; 2].into_iter();
+        let archive: Vec<_> = readers
             .map(|reader| scope.spawn(|| reader.into_iter().count()))
             .collect();
-        let events = alarm.into_iter().flatten();
-        let alarms = events.filter(|event| severity(event) == 9).count();
+        let alarms = alarm.iter().filter(|event| severity(*event) == 9).count();
         let archived = archive.into_iter().map(|thread| thread.join().unwrap());
         (archived.sum::<usize>(), alarms)
     });

@@ -4,9 +4,9 @@
 //!     cargo run --release --example pipeline [LIMIT]
 //!
 //! prints the number below LIMIT (100,000) that takes the most steps. Each stage ends when the one
-//! before it has ended: its last sender is dropped, and that closes the queue.
+//! before it has ended: its last sender is dropped, and that closes the channel.
 use std::thread;
-use vahepito::words::{Config, OpenError, open};
+use vahepito::{OpenError, channel};
 
 fn steps_to_one(mut n: u64) -> u64 {
     let mut steps = 0;
@@ -25,36 +25,30 @@ fn main() -> Result<(), OpenError> {
     let limit: u32 = std::env::args()
         .nth(1)
         .map_or(100_000, |word| word.parse().expect("a number"));
-    let (givers, numbers) = open(Config::new(1, 4, 64))?;
-    let (counters, counts) = open(Config::new(4, 1, 64))?;
+    let (giver, numbers) = channel(64)?;
+    let (counter, counts) = channel(64)?;
     let most = thread::scope(|scope| {
-        for mut giver in givers {
+        scope.spawn(move || {
+            for n in 1..u64::from(limit) {
+                giver.send(n).expect("the next stage goes on to the end");
+            }
+        });
+        for (numbers, counter) in vec![(numbers, counter); 4] {
             scope.spawn(move || {
-                for n in 1..u64::from(limit) {
-                    giver.send(n).expect("the next stage goes on to the end");
-                }
-            });
-        }
-        for (numbers, mut counter) in numbers.into_iter().zip(counters) {
-            scope.spawn(move || {
-                for item in numbers {
-                    // A body is one word: the count, and below it the number, turned so that the
-                    // least one is the greatest.
-                    let body = steps_to_one(item.body) << 32 | (u64::from(u32::MAX) - item.body);
+                for n in numbers {
                     counter
-                        .send(body)
+                        .send((steps_to_one(n), n))
                         .expect("the last stage goes on to the end");
                 }
             });
         }
-        counts.into_iter().flatten().map(|item| item.body).max()
+        // Of those with the most steps, the least number.
+        counts
+            .into_iter()
+            .max_by_key(|&(steps, n)| (steps, u64::MAX - n))
     });
     match most {
-        Some(body) => println!(
-            "{} takes {} steps",
-            u64::from(u32::MAX) - body % (1 << 32),
-            body >> 32
-        ),
+        Some((steps, n)) => println!("{n} takes {steps} steps"),
         None => println!("there is no number"),
     }
     Ok(())

@@ -3,175 +3,117 @@
 mod rounds;
 
 use rounds::rounds;
+use std::cell::RefCell;
 use std::collections::BTreeMap;
 use std::sync::Barrier;
 use std::thread::{self, ScopedJoinHandle};
-use vahepito::words::{Config, Item, RecvError, SendError, open, open_groups};
+use vahepito::{Receiver, Sender, channel, groups};
 
-/// What each sender was told of its accepted sends, as (place, body), and each receiver of its
-/// takes.
-type Told = (Vec<Vec<(u64, u64)>>, Vec<Vec<Item>>);
+/// Which of its sender's items it is, from 0, behind the number of the sender.
+type Item = (usize, u64);
 
-/// Each item was taken once, as it was sent, and each sender's and each receiver's places rise.
-fn audit((sent, got): &Told, total: u64) {
-    let mut accepted = BTreeMap::new();
-    for (sender, told) in (1..).zip(sent) {
-        assert!(told.is_sorted_by(|a, b| a.0 < b.0), "sender {sender}");
-        for &(place, body) in told {
-            assert_eq!(
-                accepted.insert(place, (sender, body)),
-                None,
-                "place {place} was given twice"
-            );
+/// How many items each sender sent, and what each receiver of a group took: each item once, and each sender's
+/// in its order.
+fn audit(sent: &[u64], taken: &[Vec<Item>]) {
+    for items in taken {
+        let mut last = BTreeMap::new();
+        for (sender, number) in items {
+            assert!(last.insert(sender, number) < Some(number), "{sender}");
         }
     }
-    assert!(
-        accepted.keys().copied().eq(0..total),
-        "the places aren't 0 to {total}"
-    );
-    let mut numbers = BTreeMap::new();
-    for (receiver, items) in (1..).zip(got) {
-        assert!(
-            items.is_sorted_by(|a, b| a.place < b.place),
-            "receiver {receiver}"
-        );
-        for item in items {
-            assert_eq!(
-                accepted.get(&item.place),
-                Some(&(item.sender, item.body)),
-                "{item:?}"
-            );
-            assert_eq!(
-                numbers.insert(item.place, (item.sender, item.number)),
-                None,
-                "{item:?} was taken twice"
-            );
-        }
-    }
-    assert!(numbers.keys().copied().eq(0..total), "an item wasn't taken");
-    // The numbers of each sender's sends rise with their places.
-    let mut last = BTreeMap::new();
-    for (sender, number) in numbers.values() {
-        assert!(
-            last.insert(sender, number) < Some(number),
-            "sender {sender}"
-        );
-    }
+    let mut all: Vec<Item> = taken.iter().flatten().copied().collect();
+    all.sort();
+    let numbers = |(sender, count): (usize, &u64)| (0..*count).map(move |number| (sender, number));
+    let due = sent.iter().enumerate().flat_map(numbers);
+    assert!(due.eq(all), "an item is lost, or was taken twice");
 }
 
 /// What each of these threads gives at its end.
 fn joined<T>(threads: Vec<ScopedJoinHandle<'_, T>>) -> Vec<T> {
-    threads
-        .into_iter()
-        .map(|thread| thread.join().unwrap())
-        .collect()
+    let given = threads.into_iter().map(|thread| thread.join().unwrap());
+    given.collect()
 }
 
-/// Each sender sends so many items, and each receiver takes until the end: each group gets them all.
-fn pass(config: Config, groups: u32, items: u64) {
-    let (senders, groups) = open_groups(config, groups).unwrap();
-    let told: Vec<Told> = thread::scope(|scope| {
-        let sending = senders.into_iter().map(|mut sender| {
-            scope.spawn(move || {
-                let body = |n| u64::from(sender.number()) << 32 | n;
-                let bodies: Vec<u64> = (0..items).map(body).collect();
-                bodies
-                    .into_iter()
-                    .map(|body| (sender.send(body).unwrap(), body))
-                    .collect()
-            })
-        });
-        let sending: Vec<_> = sending.collect();
-        let taking = groups.into_iter().map(|group| {
-            group
-                .into_iter()
-                .map(|receiver| scope.spawn(|| receiver.into_iter().collect()))
-                .collect()
-        });
-        let taking: Vec<Vec<_>> = taking.collect();
-        let sent: Vec<_> = joined(sending);
-        let told = |group| (sent.clone(), joined(group));
-        taking.into_iter().map(told).collect()
+/// A channel of this number of groups, and the first receiver of each.
+fn open(capacity: usize, count: usize) -> (Sender<Item>, Vec<Receiver<Item>>) {
+    if count > 1 {
+        return groups(capacity, count).unwrap();
+    }
+    let (sender, receiver) = channel(capacity).unwrap();
+    (sender, vec![receiver])
+}
+
+/// Each of these senders sends so many items, and each receiver of each group takes until the end.
+fn pass(senders: usize, groups: usize, receivers: usize, capacity: usize, items: u64) {
+    let (sender, firsts) = open(capacity, groups);
+    let taken: Vec<Vec<Vec<Item>>> = thread::scope(|scope| {
+        for number in 0..senders {
+            let sender = sender.clone();
+            scope.spawn(move || (0..items).for_each(|n| sender.send((number, n)).unwrap()));
+        }
+        drop(sender);
+        let group = |first: Receiver<Item>| {
+            let taking = vec![first; receivers].into_iter();
+            let taking = taking.map(|it| scope.spawn(|| it.into_iter().collect()));
+            taking.collect::<Vec<_>>()
+        };
+        let taking: Vec<_> = firsts.into_iter().map(group).collect();
+        taking.into_iter().map(joined).collect()
     });
-    for group in &told {
-        audit(group, u64::from(config.senders) * items);
+    for group in &taken {
+        audit(&vec![items; senders], group);
+        // Groups of one receiver get all items in one order.
+        assert!(receivers > 1 || group == &taken[0]);
     }
 }
 
 #[test]
 fn eight_and_eight_threads() {
-    for (capacity, bound) in [(1, 1), (64, 8), (64, 1024), (4096, 8)] {
-        let config = Config {
-            bound,
-            ..Config::new(8, 8, capacity)
-        };
-        pass(config, 1, rounds(2_000));
+    for capacity in [1, 64, 4096] {
+        pass(8, 1, 8, capacity, rounds(2_000));
     }
 }
 
 #[test]
 fn other_numbers_of_threads() {
     for (senders, receivers) in [(1, 1), (1, 8), (8, 1), (64, 64)] {
-        pass(Config::new(senders, receivers, 16), 1, rounds(100));
+        pass(senders, 1, receivers, 16, rounds(100));
     }
 }
 
-/// Two groups of two threads: each group gets all items of one sender, each item once and in order.
 #[test]
-fn groups_threads() {
-    pass(Config::new(1, 2, 4), 2, rounds(1_000));
-}
-
-#[test]
-fn other_numbers_of_groups() {
-    for (senders, groups, receivers, capacity) in [(1, 8, 1, 1), (4, 3, 2, 16), (2, 8, 4, 64)] {
-        pass(
-            Config::new(senders, receivers, capacity),
-            groups,
-            rounds(200),
-        );
+fn numbers_of_groups() {
+    pass(1, 2, 2, 4, rounds(1_000));
+    for (senders, groups, receivers, capacity) in
+        [(1, 8, 1, 1), (3, 3, 1, 4), (4, 3, 2, 16), (2, 8, 4, 64)]
+    {
+        pass(senders, groups, receivers, capacity, rounds(200));
     }
 }
 
-/// Eight senders wait, since the queue is full, and the ninth closes it: each of the eight is told
-/// so.
+/// Eight senders wait, since the channel is full, and a ninth closes it: none of their items is taken.
 #[test]
 fn a_close_while_senders_wait() {
     for _ in 0..rounds(20) {
-        let (mut senders, receivers) = open(Config::new(9, 2, 4)).unwrap();
-        let mut closer = senders.pop().unwrap();
-        let full = Barrier::new(9);
-        let (total, told) = thread::scope(|scope| {
-            let full = &full;
-            let sending = senders.into_iter().map(|mut sender| {
+        let ((closer, receivers), full) = (open(4, 1), Barrier::new(9));
+        let sent = thread::scope(|scope| {
+            let send_all = |number| {
+                let (sender, full) = (closer.clone(), &full);
                 scope.spawn(move || {
-                    let mut accepted = vec![];
-                    while let Ok(place) = sender.try_send(accepted.len() as u64) {
-                        accepted.push((place, accepted.len() as u64));
-                    }
+                    let sent = (0..).find(|n| sender.try_send((number, *n)).is_err());
                     full.wait();
-                    assert_eq!(sender.send(99), Err(SendError::Closed));
-                    accepted
+                    assert!(sender.send((number, 99)).is_err());
+                    sent.unwrap()
                 })
-            });
-            let sending: Vec<_> = sending.collect();
+            };
+            let sending = (0..8).map(send_all).collect();
             full.wait();
             thread::yield_now();
-            let total = closer.close().total;
-            let sent = joined(sending);
-            (
-                total,
-                (
-                    sent,
-                    receivers
-                        .into_iter()
-                        .map(|receiver| receiver.into_iter().collect())
-                        .collect(),
-                ),
-            )
+            assert!(closer.close());
+            joined(sending)
         });
-        assert_eq!(total, 4);
-        audit(&told, 4);
+        assert_eq!(sent.iter().sum::<u64>(), 4);
+        audit(&sent, &[receivers[0].iter().collect()]);
     }
 }
 
@@ -179,105 +121,104 @@ fn a_close_while_senders_wait() {
 #[test]
 fn a_close_while_senders_send() {
     for round in 0..5.max(rounds(50)) {
-        let (mut senders, receivers) = open(Config::new(5, 3, 64)).unwrap();
-        let mut closer = senders.pop().unwrap();
-        let (total, told) = thread::scope(|scope| {
-            let sending = senders.into_iter().map(|mut sender| {
-                scope.spawn(move || {
-                    let mut accepted = vec![];
-                    loop {
-                        let body = accepted.len() as u64;
-                        match sender.send(body) {
-                            Ok(place) => accepted.push((place, body)),
-                            Err(error) => {
-                                assert_eq!(error, SendError::Closed);
-                                return accepted;
-                            }
-                        }
-                    }
-                })
-            });
-            let sending: Vec<_> = sending.collect();
-            let taking: Vec<_> = receivers
-                .into_iter()
-                .map(|receiver| scope.spawn(|| receiver.into_iter().collect()))
-                .collect();
+        let (closer, receivers) = open(64, 1);
+        let (sent, taken) = thread::scope(|scope| {
+            let send_all = |number| {
+                let sender = closer.clone();
+                let sent = move || (0..).find(|n| sender.send((number, *n)).is_err());
+                scope.spawn(move || sent().unwrap())
+            };
+            let sending = (0..4).map(send_all).collect();
+            let take_all = |receiver| scope.spawn(|| Receiver::into_iter(receiver).collect());
+            let taking = vec![receivers[0].clone(); 3].into_iter().map(take_all);
+            let taking = taking.collect();
             (0..round * 20).for_each(|_| std::hint::spin_loop());
-            let total = closer.close().total;
-            let sent = joined(sending);
-            (total, (sent, joined(taking)))
+            assert!(closer.close());
+            (joined(sending), joined(taking))
         });
-        audit(&told, total);
+        audit(&sent, &taken);
     }
 }
 
-/// A sender that waits because the queue is full is told when the last receiver goes.
-#[test]
-fn the_last_receiver_goes_while_senders_wait() {
-    let (senders, receivers) = open(Config::new(4, 2, 2)).unwrap();
-    thread::scope(|scope| {
-        for mut sender in senders {
-            scope.spawn(move || {
-                let told = (0..).map(|body| sender.send(body)).find_map(Result::err);
-                assert_eq!(told, Some(SendError::Disconnected));
-                assert_eq!(sender.try_send(0), Err(SendError::Full));
-            });
-        }
-        for mut receiver in receivers {
-            scope.spawn(move || assert_eq!(receiver.by_ref().take(100).count(), 100));
-        }
-    });
-}
-
-/// And when the last receiver of a group goes, though another group goes on to take all there is.
+/// A group goes while senders wait, and another one gets all there is.
 #[test]
 fn a_group_goes_while_senders_wait() {
-    let (senders, mut groups) = open_groups(Config::new(4, 2, 2), 2).unwrap();
-    let (stays, goes) = (groups.remove(0), groups.remove(0));
-    thread::scope(|scope| {
-        for mut sender in senders {
-            scope.spawn(move || {
-                let told = (0..).map(|body| sender.send(body)).find_map(Result::err);
-                assert_eq!(told, Some(SendError::Disconnected));
-            });
+    let (sender, mut receivers) = open(2, 2);
+    let (goes, stays) = (receivers.remove(1), receivers.remove(0));
+    let taken = thread::scope(|scope| {
+        for number in 0..4 {
+            let sender = sender.clone();
+            scope.spawn(move || (0..100).for_each(|n| sender.send((number, n)).unwrap()));
         }
-        for mut receiver in goes {
-            scope.spawn(move || assert_eq!(receiver.by_ref().take(100).count(), 100));
-        }
-        let taking = stays
-            .into_iter()
-            .map(|receiver| scope.spawn(|| receiver.into_iter().count()));
-        let taking: Vec<_> = taking.collect();
-        // Those that went had 200, and there was room for two more.
-        let taken: usize = joined(taking).into_iter().sum();
-        assert!((200..=202).contains(&taken), "{taken}");
+        drop(sender);
+        scope.spawn(move || assert_eq!(goes.iter().take(50).count(), 50));
+        let taking = vec![stays; 2].into_iter();
+        joined(
+            taking
+                .map(|it| scope.spawn(|| it.into_iter().collect()))
+                .collect(),
+        )
     });
+    audit(&[100; 4], &taken);
 }
 
 /// A receiver that waits sees the end, although the senders ended by a panic.
 #[test]
-fn a_panic_of_the_senders_ends_the_queue() {
-    let (senders, mut receivers) = open(Config::new(4, 2, 2)).unwrap();
-    let mut last = receivers.pop().unwrap();
-    let ended = thread::scope(|scope| {
-        let taking: Vec<_> = receivers
-            .into_iter()
-            .map(|receiver| scope.spawn(|| receiver.into_iter().count()))
-            .collect();
-        let sending = senders.into_iter().map(|mut sender| {
+fn a_panic_of_the_senders_ends_the_channel() {
+    let (sender, receivers) = open(2, 1);
+    let taken: Vec<Item> = thread::scope(|scope| {
+        let taking = scope.spawn(|| receivers[0].iter().collect());
+        let send_one = |number| {
+            let sender = sender.clone();
             scope.spawn(move || {
-                sender.send(1).unwrap();
-                let _pending = sender.begin(2).unwrap();
+                sender.send((number, 0)).unwrap();
                 std::panic::resume_unwind(Box::new("a sender ends"));
             })
-        });
-        let sending: Vec<_> = sending.collect();
+        };
+        let sending: Vec<_> = (0..4).map(send_one).collect();
+        drop(sender);
         assert!(sending.into_iter().all(|thread| thread.join().is_err()));
-        let got: usize = joined(taking).into_iter().sum();
-        (got as u64, last.try_recv())
+        taking.join().unwrap()
     });
-    let (got, Err(RecvError::Ended { total })) = ended else {
-        panic!("{ended:?}")
-    };
-    assert_eq!(got, total);
+    audit(&[1; 4], &[taken]);
+}
+
+/// A sender lies in a variable of its thread, and goes with it.
+#[test]
+fn a_sender_in_a_thread_local() {
+    thread_local! {
+        static SENDER: RefCell<Option<Sender<Item>>> = const { RefCell::new(None) };
+    }
+    let (sender, receivers) = open(4, 1);
+    let sends = move || SENDER.with(|it| it.borrow_mut().insert(sender).send((0, 0)));
+    assert_eq!(thread::spawn(sends).join().unwrap(), Ok(()));
+    audit(&[1], &[receivers[0].iter().collect()]);
+}
+
+/// The pages that this process has in memory.
+fn resident() -> usize {
+    let pages = std::fs::read_to_string("/proc/self/statm").unwrap_or_default();
+    let pages = pages.split(' ').nth(1).and_then(|it| it.parse().ok());
+    pages.unwrap_or(0)
+}
+
+/// The last handle that is dropped frees the queue: 1,000 queues of 270 KB, one after another, take
+/// the memory of a few.
+#[test]
+fn the_last_handle_frees_the_queue() {
+    let before = resident();
+    for number in 0..1000 {
+        let (sender, receivers) = open(4096, 1);
+        sender.send((0, number)).unwrap();
+        assert_eq!(receivers[0].recv(), Ok((0, number)));
+        if number % 2 == 0 {
+            drop(sender);
+            drop(receivers);
+        } else {
+            thread::spawn(move || drop(receivers)).join().unwrap();
+            thread::spawn(move || drop(sender)).join().unwrap();
+        }
+    }
+    let grown = resident().saturating_sub(before);
+    assert!(grown < 20_000, "{grown} pages more than before");
 }

@@ -5,7 +5,7 @@
 //! get: its body is sent once, and taken once by each group.
 #![allow(unsafe_code)]
 
-use crate::words::handle::Words;
+use crate::queue::handle::Words;
 use std::marker::PhantomData;
 use std::mem::{ManuallyDrop, MaybeUninit, forget, size_of};
 use std::sync::atomic::{AtomicUsize, Ordering};

@@ -60,7 +60,7 @@
 //!
 //! `tests/wakeups.rs` searches all interleavings of these steps in small models, and finds the lost wake-up
 //! if one of them is left out.
-use crate::words::backoff::Backoff;
+use crate::backoff::Backoff;
 use std::any::Any;
 use std::cell::RefCell;
 use std::collections::VecDeque;

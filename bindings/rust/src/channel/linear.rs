@@ -5,7 +5,7 @@
 use super::rounds::rounds;
 use super::select::Begun;
 use super::*;
-use crate::words::backoff::Backoff;
+use crate::backoff::Backoff;
 use std::collections::{HashSet, VecDeque};
 use std::sync::atomic::{AtomicU64, AtomicUsize, Ordering};
 use std::thread;

@@ -27,7 +27,7 @@ use super::event::{AT_A_RING, Panic, Parker, TRIES, Try, let_be, lock, run_each}
 use super::select::{Begun, LocalSelect};
 use super::side::Handle;
 use super::{Receiver, RecvTimeoutError, SendError, SendTimeoutError, Sender, TrySendError};
-use crate::words::backoff::Backoff;
+use crate::backoff::Backoff;
 use std::collections::VecDeque;
 use std::mem::{replace, swap};
 use std::sync::atomic::{AtomicBool, Ordering};

@@ -38,7 +38,7 @@ use self::body::Copies;
 use self::core::Core;
 use self::meeting::Meeting;
 use self::special::Special;
-use crate::words::{Config, OpenError};
+use crate::queue::{Config, OpenError};
 use std::sync::Arc;
 
 /// The configuration of the queues of a channel.

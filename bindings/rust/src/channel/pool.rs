@@ -6,8 +6,8 @@
 #![allow(unsafe_code)]
 
 use super::event::{Event, soon, wait};
-use crate::words::backoff::turn_until;
-use crate::words::handle::Handle;
+use crate::backoff::turn_until;
+use crate::queue::handle::Handle;
 use std::cell::{Cell, UnsafeCell};
 use std::sync::OnceLock;
 use std::sync::atomic::{AtomicBool, AtomicU64, AtomicUsize, Ordering};

@@ -2,7 +2,7 @@
 use super::body::{Parcel, words_of};
 use super::core::Core;
 use super::pool::Pass;
-use crate::words::handle::{self, Handle, code, unexpected};
+use crate::queue::handle::{self, Handle, code, unexpected};
 use std::iter;
 use std::sync::atomic::Ordering;
 

@@ -3,7 +3,7 @@ use super::body::Parcel;
 use super::core::{Core, Side};
 use super::event::{AT_A_RING, Try, lock};
 use super::pool::Pool;
-use crate::words::backoff::Backoff;
+use crate::backoff::Backoff;
 use std::sync::atomic::Ordering;
 
 /// Waits until whoever has a seat has counted what went through it.

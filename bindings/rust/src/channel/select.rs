@@ -28,7 +28,7 @@ use super::{
     ReadyTimeoutError, Receiver, RecvError, SelectTimeoutError, SendError, Sender, TryReadyError,
     TrySelectError,
 };
-use crate::words::backoff::Backoff;
+use crate::backoff::Backoff;
 use std::cell::Cell;
 use std::fmt;
 use std::ops::Deref;

@@ -1,7 +1,7 @@
 //! What the handles of both sides have in common: their count, the end of a side, and the wait.
 use super::core::{Core, Side};
 use super::event::{Event, Try, wait};
-use crate::words::backoff::let_ahead;
+use crate::backoff::let_ahead;
 use std::panic::{RefUnwindSafe, UnwindSafe};
 use std::sync::{Arc, Weak};
 use std::time::Instant;

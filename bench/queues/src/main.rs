@@ -1,25 +1,27 @@
-//! The crate beside other queues, interleaved in one run: each round passes the items through each
-//! queue once, and the medians of the rounds are told, in nanoseconds an item of the clock, and in
-//! brackets of all processors.
+//! The crate and the library with other queues, interleaved in one run: each round passes the items
+//! through each queue once, and the medians of the rounds are printed, in nanoseconds an item of the clock,
+//! and in brackets of all processors.
 //!
-//!     cargo bench --offline [-- --rounds N] [--items N]
+//!     cargo run --release --offline [-- --rounds N] [--items N]
 //!
-//! `vahepito` are its queues of words and `typed` its channel of any type, here of words too. `steps`
+//! `vahepito` are the exports of the library and `typed` the crate's channel of any type. `steps`
 //! are the queue's atomic steps by hand in plain Rust, `mutex` std's `Mutex` with two
 //! `Condvar`s round a `VecDeque`, and `channel` std's `sync_channel`, whose one receiver is shared
 //! under a lock: all three are those of `bench/plain`. A second table has groups of receivers: one
-//! queue with so many groups of one receiver beside as many queues with one receiver each, to all of
+//! queue with a number of groups of one receiver, and as many queues with one receiver each, to all of
 //! which the same senders send each item.
-#[path = "../../../bench/clock.rs"]
+#[path = "../../clock.rs"]
 mod clock;
-#[path = "../../../bench/plain/src/queues.rs"]
+#[path = "../../peers/src/exports.rs"]
+mod exports;
+#[path = "../../plain/src/queues.rs"]
 mod plain;
 
 use clock::processors;
+use exports::{Config, open};
 use std::sync::atomic::{AtomicU64, Ordering};
 use std::thread;
 use std::time::Instant;
-use vahepito::words::{self, Config, open, open_groups};
 use vahepito::{Receiver, Sender, channel};
 
 /// The numbers of senders and receivers, the capacity, and how many items pass.
@@ -56,37 +58,45 @@ const SHARED: [Queue; 5] = [
 /// The receivers are as many groups of one, or on a queue each.
 const IN_GROUPS: [Queue; 2] = [("groups", groups), ("queues", queues)];
 
+/// The bound of the crate.
+const BOUND: u32 = 64;
+
 fn config(it: Shape) -> Config {
-    Config::new(it.senders as u32, it.receivers as u32, it.capacity as u32)
+    Config::new(it.senders, it.receivers, it.capacity, BOUND)
+}
+
+/// With one receiver in each group.
+fn one_each(it: Shape) -> Config {
+    Config::new(it.senders, 1, it.capacity, BOUND)
 }
 
 /// One thread sends an item and takes it, again and again.
 fn alone(it: Shape) -> u64 {
-    let (mut senders, mut receivers) = open(config(it)).unwrap();
+    let (mut senders, mut receivers) = open(config(it), 1);
     let (sender, receiver) = (&mut senders[0], &mut receivers[0]);
     let mut bodies = 0..it.items;
     plain::take_all(|| {
-        sender.try_send(bodies.next()?).unwrap();
-        Some(receiver.try_recv().unwrap().body)
+        assert!(sender.try_send(bodies.next()?));
+        receiver.try_recv()
     })
 }
 
 /// All senders and receivers at work, each on a thread of its own.
 fn shared(it: Shape) -> u64 {
-    let (senders, receivers) = open(config(it)).unwrap();
+    let (senders, receivers) = open(config(it), 1);
     let passed = AtomicU64::new(0);
     thread::scope(|scope| {
         for mut receiver in receivers {
             let passed = &passed;
             scope.spawn(move || {
-                let got = plain::take_all(|| receiver.recv().ok().map(|item| item.body));
+                let got = plain::take_all(|| receiver.recv());
                 passed.fetch_add(got, Ordering::SeqCst);
             });
         }
         for mut sender in senders {
             scope.spawn(move || {
                 for body in 0..it.items / it.senders as u64 {
-                    sender.send(body).unwrap();
+                    sender.send(body);
                 }
             });
         }
@@ -96,19 +106,17 @@ fn shared(it: Shape) -> u64 {
 
 /// Each item to every group of one queue; how many items each of them got.
 fn groups(it: Shape) -> u64 {
-    let one_each = Config::new(it.senders as u32, 1, it.capacity as u32);
-    let (senders, groups) = open_groups(one_each, it.receivers as u32).unwrap();
+    let (senders, receivers) = open(one_each(it), it.receivers);
     let senders = senders.into_iter().map(|sender| vec![sender]).collect();
-    copied(it, senders, groups.into_iter().flatten().collect())
+    copied(it, senders, receivers)
 }
 
 /// Each item to every queue; how many items each of them passed.
 fn queues(it: Shape) -> u64 {
-    let mut senders: Vec<Vec<words::Sender>> = (0..it.senders).map(|_| Vec::new()).collect();
+    let mut senders: Vec<Vec<exports::Sender>> = (0..it.senders).map(|_| Vec::new()).collect();
     let mut receivers = Vec::new();
     for _ in 0..it.receivers {
-        let one_each = Config::new(it.senders as u32, 1, it.capacity as u32);
-        let (of_queue, mut taker) = open(one_each).unwrap();
+        let (of_queue, mut taker) = open(one_each(it), 1);
         for (senders, sender) in senders.iter_mut().zip(of_queue) {
             senders.push(sender);
         }
@@ -119,22 +127,20 @@ fn queues(it: Shape) -> u64 {
 
 /// A thread for each list of senders, which sends its items by all of them, and one for each
 /// receiver; how many items each receiver got, where all got as many.
-fn copied(it: Shape, senders: Vec<Vec<words::Sender>>, receivers: Vec<words::Receiver>) -> u64 {
+fn copied(it: Shape, senders: Vec<Vec<exports::Sender>>, receivers: Vec<exports::Receiver>) -> u64 {
     thread::scope(|scope| {
         for mut all in senders {
             scope.spawn(move || {
                 for body in 0..it.items / it.senders as u64 {
                     for sender in &mut all {
-                        sender.send(body).unwrap();
+                        sender.send(body);
                     }
                 }
             });
         }
         let takers: Vec<_> = receivers
             .into_iter()
-            .map(|mut receiver| {
-                scope.spawn(move || plain::take_all(|| receiver.recv().ok().map(|item| item.body)))
-            })
+            .map(|mut receiver| scope.spawn(move || plain::take_all(|| receiver.recv())))
             .collect();
         let got: Vec<u64> = takers
             .into_iter()

@@ -2,33 +2,13 @@
 //! keeps what they ask for. No other file calls them.
 #![allow(unsafe_code)]
 
-use crate::words::backoff::turn_until;
-use crate::words::{Config, Item, OpenError};
+use super::{Config, OpenError, Word};
+pub use super::{Words, code, unexpected};
+use crate::backoff::turn_until;
 use std::ffi::c_void;
 use std::iter;
-use std::mem::{MaybeUninit, size_of};
+use std::mem::size_of;
 use std::ptr::{null_mut, read_volatile};
-
-/// The codes that a call returns, by the header's names.
-pub mod code {
-    pub const WORN: u32 = 13;
-    pub const BEGUN: u32 = 14;
-    pub const WAITING: u32 = 15;
-    pub const ACCEPTED: u32 = 17;
-    pub const FULL: u32 = 18;
-    pub const CLOSED: u32 = 19;
-    pub const SPENT: u32 = 20;
-    pub const SHUT: u32 = 21;
-    pub const GOT: u32 = 23;
-    pub const EMPTY: u32 = 24;
-    pub const ENDED: u32 = 25;
-}
-
-/// A code that the call doesn't return.
-#[cold]
-pub fn unexpected(code: u32) -> ! {
-    panic!("the linked library isn't the one of this crate: it told {code} where it can't")
-}
 
 #[repr(C)]
 struct Pass {
@@ -48,12 +28,6 @@ const fn number(digits: &str) -> u32 {
         Err(_) => panic!("cargo gives numbers"),
     }
 }
-
-/// One word of a body. It may have bytes that nobody wrote.
-type Word = MaybeUninit<u64>;
-
-/// The words of a body, of which some may not be used.
-pub type Words = [Word; 4];
 
 /// An item with all words of its body, by words: place, sender and number, count, and the words. It has room
 /// for an item of one word, too, whose body is the third.
@@ -76,10 +50,7 @@ unsafe extern "C" {
         receiver_count: usize,
     ) -> u32;
     safe fn vahepito_drop(pass: &mut Pass) -> u32;
-    safe fn vahepito_is_worn(sender: &mut Pass) -> u32;
-    safe fn vahepito_begin_send(sender: &mut Pass, body: u64) -> u32;
     safe fn vahepito_begin_close(sender: &mut Pass) -> u32;
-    safe fn vahepito_begin_take(receiver: &mut Pass) -> u32;
     safe fn vahepito_try_send(_: &mut Pass, body: Word, place: &mut u64, _: &mut u32) -> u32;
     fn vahepito_try_send_words(
         sender: &mut Pass,
@@ -115,54 +86,6 @@ fn words_of(item: &Taken, count: usize) -> Words {
     words
 }
 
-/// An item of one word, which the library has just written there, field by field as above.
-#[inline]
-fn item_of(item: &Taken) -> Item {
-    let at = item.as_ptr().cast::<Item>();
-    // SAFETY: the room is as large as an item, and aligned as it; and each field was written, by `NO_ITEM`
-    // at first.
-    unsafe {
-        Item {
-            place: read_volatile(&raw const (*at).place),
-            sender: read_volatile(&raw const (*at).sender),
-            number: read_volatile(&raw const (*at).number),
-            body: read_volatile(&raw const (*at).body),
-        }
-    }
-}
-
-/// A call that is begun, and turned until it is answered.
-#[derive(Clone, Copy, PartialEq, Eq)]
-pub enum Call {
-    Send(u64),
-    Close,
-    Take,
-}
-
-/// The result of a call: its code, the place or the total if the code has one, how many calls were served, and
-/// the item that a take got, else none.
-#[derive(Clone, Copy)]
-pub struct Answer {
-    pub code: u32,
-    pub number: u64,
-    pub served: u32,
-    pub item: Item,
-}
-
-impl Answer {
-    /// By a call that writes the number and how many were served, and an item if it is a take.
-    fn by(call: impl FnOnce(&mut Taken, &mut u64, &mut u32) -> u32) -> Answer {
-        let (mut item, mut number, mut served) = (NO_ITEM, 0, 0);
-        let code = call(&mut item, &mut number, &mut served);
-        Answer {
-            code,
-            number,
-            served,
-            item: item_of(&item),
-        }
-    }
-}
-
 /// One pass of a queue. It is empty, or `open` filled it; it isn't copied, and its drop lets the
 /// pass go.
 #[repr(transparent)]
@@ -179,42 +102,6 @@ impl Handle {
             at: null_mut(),
             live: false,
         })
-    }
-
-    pub fn is_worn(&mut self) -> bool {
-        vahepito_is_worn(&mut self.0) == code::WORN
-    }
-
-    pub fn begin(&mut self, call: Call) -> u32 {
-        match call {
-            Call::Send(body) => vahepito_begin_send(&mut self.0, body),
-            Call::Close => vahepito_begin_close(&mut self.0),
-            Call::Take => vahepito_begin_take(&mut self.0),
-        }
-    }
-
-    /// One turn of a call that was begun. Gives the answer if it is there.
-    pub fn turn(&mut self, call: Call) -> Option<Answer> {
-        let answer = Answer::by(|item, number, served| match call {
-            Call::Send(_) => vahepito_turn_send(&mut self.0, number, served),
-            Call::Close => vahepito_turn_close(&mut self.0, number, served),
-            Call::Take => vahepito_turn_take(&mut self.0, item, number, served),
-        });
-        (answer.code != code::WAITING).then_some(answer)
-    }
-
-    /// Begins a send of one word, and turns it once.
-    #[inline]
-    pub fn try_send(&mut self, body: u64) -> Answer {
-        Answer::by(|_, place, served| {
-            vahepito_try_send(&mut self.0, Word::new(body), place, served)
-        })
-    }
-
-    /// Begins a take of an item of one word, and turns it once.
-    #[inline]
-    pub fn try_take(&mut self) -> Answer {
-        Answer::by(|item, total, served| vahepito_try_take(&mut self.0, item, total, served))
     }
 
     /// Sends these words, of this number, and waits for the answer: the code of a send.
@@ -248,10 +135,12 @@ impl Handle {
 
     /// Closes the queue. Returns whether it was open.
     pub fn close(&mut self) -> bool {
-        match self.begin(Call::Close) {
-            code::BEGUN => turn_until(|| self.turn(Call::Close)).code == code::SHUT,
+        match vahepito_begin_close(&mut self.0) {
+            code::BEGUN => {}
             code => unexpected(code),
         }
+        let turn = || vahepito_turn_close(&mut self.0, &mut 0, &mut 0);
+        answered(code::WAITING, turn) == code::SHUT
     }
 }
 
@@ -278,28 +167,16 @@ pub fn check_library() -> Result<(), OpenError> {
     if linked == VERSION {
         vahepito_sizes(&mut config, &mut pass, &mut item, &mut words_item);
     }
-    let here = [size_of::<Config>(), size_of::<Pass>(), size_of::<Item>()];
+    let here = [
+        size_of::<Config>(),
+        size_of::<Pass>(),
+        3 * size_of::<Word>(),
+    ];
     if [config, pass, item] == here && words_item == size_of::<Taken>() {
         return Ok(());
     }
     let wanted = VERSION;
     Err(OpenError::OtherLibrary { linked, wanted })
-}
-
-/// The result of an opening by this code of the header.
-fn told(code: u32) -> Result<(), OpenError> {
-    use OpenError::*;
-    /// From the code 1 on.
-    const REFUSALS: [OpenError; 7] = [
-        Senders, Receivers, Capacity, Bound, Life, PerSender, NoMemory,
-    ];
-    match code {
-        0 => Ok(()),
-        26 => Err(Groups),
-        code => Err(*REFUSALS
-            .get(code as usize - 1)
-            .unwrap_or_else(|| unexpected(code))),
-    }
 }
 
 /// Opens a queue, and gives the handles of its sides: those of the senders, and then those of each group.
@@ -322,7 +199,13 @@ pub fn open(config: &Config, groups: u32, words: usize) -> Result<Vec<Vec<Handle
             receivers.len(),
         )
     };
-    told(code)?;
+    match code {
+        code::DONE => {}
+        code::BAD_CAPACITY => return Err(OpenError::Capacity),
+        code::BAD_GROUPS => return Err(OpenError::Groups),
+        code::NO_MEMORY => return Err(OpenError::NoMemory),
+        code => unexpected(code),
+    }
     let mut receivers = receivers.into_iter();
     let group = |_| receivers.by_ref().take(config.receivers as usize).collect();
     Ok(iter::once(senders).chain((0..groups).map(group)).collect())
@@ -346,106 +229,4 @@ pub fn hands_over<C>(_channel: &C) {
 pub fn has_taken<C>(_channel: &C) {
     #[cfg(vahepito_tsan)]
     __tsan_acquire((&raw const *_channel).cast());
-}
-
-#[cfg(test)]
-mod tests {
-    use super::code::*;
-    use super::{OpenError, VERSION, check_library, told};
-    use std::collections::BTreeMap;
-
-    const HEADER: &str = include_str!(env!("VAHEPITO_HEADER"));
-
-    /// The header's codes by their names.
-    fn codes() -> BTreeMap<&'static str, u32> {
-        let lines = HEADER.lines().filter_map(|line| {
-            let (name, rest) = line.trim().strip_prefix("VAHEPITO_")?.split_once(" = ")?;
-            let number = rest.split(|c: char| !c.is_ascii_digit()).next()?;
-            Some((name, number.parse().ok()?))
-        });
-        lines.collect()
-    }
-
-    #[test]
-    fn the_codes_are_those_of_the_header() {
-        let mut header = codes();
-        // Those that this crate doesn't name.
-        for never in [
-            "BAD_HANDLES",
-            "NO_PASS",
-            "WRONG_SIDE",
-            "BUSY",
-            "NOT_BEGUN",
-            "BAD_VERSION",
-            "BAD_WORDS",
-            "ALREADY",
-            "FRESH",
-            "LONG",
-            "WIDE",
-        ] {
-            assert!(header.remove(never).is_some(), "{never}");
-        }
-        for (name, refusal) in [
-            ("BAD_SENDERS", OpenError::Senders),
-            ("BAD_RECEIVERS", OpenError::Receivers),
-            ("BAD_CAPACITY", OpenError::Capacity),
-            ("BAD_BOUND", OpenError::Bound),
-            ("BAD_LIFE", OpenError::Life),
-            ("BAD_PER_SENDER", OpenError::PerSender),
-            ("NO_MEMORY", OpenError::NoMemory),
-            ("BAD_GROUPS", OpenError::Groups),
-        ] {
-            assert_eq!(told(header.remove(name).unwrap()), Err(refusal));
-        }
-        assert_eq!(told(header.remove("DONE").unwrap()), Ok(()));
-        let here = [
-            ("WORN", WORN),
-            ("BEGUN", BEGUN),
-            ("WAITING", WAITING),
-            ("ACCEPTED", ACCEPTED),
-            ("FULL", FULL),
-            ("CLOSED", CLOSED),
-            ("SPENT", SPENT),
-            ("SHUT", SHUT),
-            ("GOT", GOT),
-            ("EMPTY", EMPTY),
-            ("ENDED", ENDED),
-        ];
-        assert_eq!(header, BTreeMap::from(here));
-    }
-
-    #[test]
-    fn the_version_is_that_of_the_header() {
-        let mut lines = HEADER.lines();
-        let version = lines.find_map(|line| line.strip_prefix("#define VAHEPITO_VERSION "));
-        assert_eq!(version, Some(VERSION.to_string().as_str()));
-    }
-
-    #[test]
-    fn the_library_is_the_one() {
-        assert_eq!(check_library(), Ok(()));
-    }
-
-    #[test]
-    fn the_exports_are_those_of_the_header() {
-        let code = include_str!("handle.rs");
-        let names = |text: &'static str, before: [&str; 2]| {
-            let mut names: Vec<_> = text
-                .lines()
-                .filter_map(|line| {
-                    let mut after = before.iter().filter_map(|it| line.strip_prefix(it));
-                    after.next()?.split('(').next()
-                })
-                .collect();
-            names.sort();
-            names
-        };
-        let mut header = names(HEADER, ["uint32_t vahepito_", "void vahepito_"]);
-        assert_eq!(header.len(), 20);
-        // This crate opens each queue by `open_words`, and begins no send of several words by itself.
-        let others = ["open", "open_groups", "begin_send_words", "group"];
-        header.retain(|name| !others.contains(name));
-        let here = names(code, ["    fn vahepito_", "    safe fn vahepito_"]);
-        assert_eq!(here, header);
-    }
 }

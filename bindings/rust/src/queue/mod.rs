@@ -1,0 +1,58 @@
+//! The queue below a channel: its opening, and its calls. It is the proved one, unless the feature `unproved` puts
+//! another with the same calls in its place.
+mod config;
+mod error;
+#[cfg(not(feature = "unproved"))]
+pub mod handle;
+#[cfg(feature = "unproved")]
+#[path = "unproved.rs"]
+pub mod handle;
+#[cfg(test)]
+mod tests;
+
+pub use config::Config;
+pub use error::OpenError;
+use std::mem::MaybeUninit;
+
+/// Whether the queue below the channels is the proved one: without the feature `unproved`.
+///
+/// Cargo builds a crate once for all that depend on it, with the features of all. A program that is to have the proved
+/// queue says so:
+///
+/// ```
+/// # #[cfg(any())]
+/// const _: () = assert!(vahepito::IS_PROVED);
+/// ```
+pub const IS_PROVED: bool = cfg!(not(feature = "unproved"));
+
+/// One word of a body. It may have bytes that nobody wrote.
+type Word = MaybeUninit<u64>;
+
+/// The words of a body, of which some may not be used.
+pub type Words = [Word; 4];
+
+/// The codes that a call returns, by the header's names.
+#[cfg_attr(feature = "unproved", allow(dead_code))]
+pub mod code {
+    pub const DONE: u32 = 0;
+    pub const BAD_CAPACITY: u32 = 3;
+    pub const NO_MEMORY: u32 = 7;
+    pub const WORN: u32 = 13;
+    pub const BEGUN: u32 = 14;
+    pub const WAITING: u32 = 15;
+    pub const ACCEPTED: u32 = 17;
+    pub const FULL: u32 = 18;
+    pub const CLOSED: u32 = 19;
+    pub const SPENT: u32 = 20;
+    pub const SHUT: u32 = 21;
+    pub const GOT: u32 = 23;
+    pub const EMPTY: u32 = 24;
+    pub const ENDED: u32 = 25;
+    pub const BAD_GROUPS: u32 = 26;
+}
+
+/// A code that the call doesn't return.
+#[cold]
+pub fn unexpected(code: u32) -> ! {
+    panic!("the linked library isn't the one of this crate: it told {code} where it can't")
+}

@@ -1,0 +1,123 @@
+//! The queue of the feature `unproved`: std's `VecDeque` under std's `Mutex`, with the calls and the answers of the
+//! proved one. It builds for any target, and nothing of it is proved.
+use super::{Config, OpenError};
+pub use super::{Words, code, unexpected};
+use std::collections::VecDeque;
+use std::iter;
+use std::sync::{Arc, Mutex, PoisonError};
+
+/// What the handles of a queue share.
+struct Queue {
+    capacity: usize,
+    /// How many items it still accepts.
+    life: u64,
+    closed: bool,
+    /// The items that some group hasn't taken.
+    items: VecDeque<Words>,
+    /// How many of these each group has taken.
+    taken: Vec<usize>,
+}
+
+/// A handle of a queue, or an empty one.
+pub struct Handle {
+    queue: Option<Arc<Mutex<Queue>>>,
+    /// Of a receiver: the place of its group.
+    group: usize,
+    /// Of a sender: how many sends it may still begin.
+    sends: u32,
+}
+
+impl Handle {
+    pub const fn empty() -> Handle {
+        Handle {
+            queue: None,
+            group: 0,
+            sends: 0,
+        }
+    }
+
+    /// Makes this call while no other is made.
+    fn call<R>(&self, call: impl FnOnce(&mut Queue) -> R) -> R {
+        let queue = self.queue.as_ref().expect("an empty handle makes no call");
+        call(&mut queue.lock().unwrap_or_else(PoisonError::into_inner))
+    }
+
+    /// Sends these words, and returns the code of the send.
+    pub fn send(&mut self, words: &Words, _count: usize) -> u32 {
+        let Some(left) = self.sends.checked_sub(1) else {
+            return code::WORN;
+        };
+        self.sends = left;
+        self.call(|queue| {
+            if queue.closed {
+                code::CLOSED
+            } else if queue.life == 0 {
+                code::SPENT
+            } else if queue.items.len() == queue.capacity {
+                code::FULL
+            } else {
+                queue.life -= 1;
+                queue.items.push_back(*words);
+                code::ACCEPTED
+            }
+        })
+    }
+
+    /// Takes the words of an item. If there is none, it returns the code of the take.
+    pub fn take(&mut self, _count: usize) -> Result<Words, u32> {
+        self.call(|queue| {
+            let Some(&words) = queue.items.get(queue.taken[self.group]) else {
+                return Err([code::EMPTY, code::ENDED][usize::from(queue.closed)]);
+            };
+            queue.taken[self.group] += 1;
+            if queue.taken.iter().all(|&taken| taken > 0) {
+                queue.items.pop_front();
+                queue.taken.iter_mut().for_each(|taken| *taken -= 1);
+            }
+            Ok(words)
+        })
+    }
+
+    /// Closes the queue. Returns whether it was open.
+    pub fn close(&mut self) -> bool {
+        self.call(|queue| !std::mem::replace(&mut queue.closed, true))
+    }
+}
+
+/// Opens a queue, and gives the handles of its sides: those of the senders, and then those of each group.
+pub fn open(config: &Config, groups: u32, _words: usize) -> Result<Vec<Vec<Handle>>, OpenError> {
+    let capacity = config.capacity as usize;
+    if !(1..=4096).contains(&capacity) {
+        return Err(OpenError::Capacity);
+    }
+    if !(1..=8).contains(&groups) {
+        return Err(OpenError::Groups);
+    }
+    let mut items = VecDeque::new();
+    let refused = items.try_reserve_exact(capacity);
+    refused.map_err(|_| OpenError::NoMemory)?;
+    let queue = Arc::new(Mutex::new(Queue {
+        capacity,
+        life: config.life,
+        closed: false,
+        items,
+        taken: vec![0; groups as usize],
+    }));
+    let side = |(count, group)| {
+        let handle = |_| Handle {
+            queue: Some(queue.clone()),
+            group,
+            sends: config.per_sender,
+        };
+        (0..count).map(handle).collect()
+    };
+    let receivers = (0..groups as usize).map(|group| (config.receivers, group));
+    let sides = iter::once((config.senders, 0)).chain(receivers);
+    Ok(sides.map(side).collect())
+}
+
+/// The lock says to a sanitizer that a send comes before its take.
+pub fn hands_over<C>(_channel: &C) {}
+
+/// The same after a take.
+pub fn has_taken<C>(_channel: &C) {}
