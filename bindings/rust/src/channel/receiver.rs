@@ -17,6 +17,11 @@ use std::time::{Duration, Instant};
 /// Its calls take `&self`, so threads may share a receiver. A clone is a further receiver of its group. The drop of
 /// the last receiver closes the channel, and drops the items that are left.
 ///
+/// # Panics
+///
+/// The drop of the last receiver of a group panics if the drop of an item panics, or the waker of a task that waits
+/// for the channel. All other items are dropped before, and all others woken.
+///
 /// ```
 /// let (sender, receiver) = vahepito::channel(2)?;
 /// let other = receiver.clone();

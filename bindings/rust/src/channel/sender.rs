@@ -15,6 +15,11 @@ use std::time::{Duration, Instant};
 /// Its calls take `&self`, so threads may share a sender. A clone is a further sender of the channel. The drop of
 /// the last sender closes the channel.
 ///
+/// # Panics
+///
+/// The drop of the last sender panics if the waker of a task that waits for the channel panics. All others are woken
+/// before.
+///
 /// ```
 /// let (sender, receiver) = vahepito::channel(2)?;
 /// let other = sender.clone();
