@@ -1,89 +1,133 @@
 //! Sends and takes as futures. A poll makes a call of the queue to its end, and so may spin for its
-//! answer, but none is left begun between two polls: it would stop its side.
-use super::body::Parcel;
-use super::event::{AT_A_RING, Ticket, Try};
+//! answer, but none is left begun between two polls: it would stop its side. A poll waits for nothing else: with
+//! capacity 0 it is posted, as [`meeting`](super::meeting) says.
+//!
+//! **Fused**: a poll after the call is done is pending, for ever, and does nothing.
+//!
+//! **Panics of wakers** that are dropped end in the poll that is done, whose result would be lost; another poll
+//! raises the first of them again at its end, and so does the drop of a future.
+use super::body::{Parcel, Unsent};
+use super::event::{Panics, Ticket, Try};
+use super::meeting::TakerState;
 use super::side::Handle;
 use super::{Receiver, RecvError, SendError, Sender};
 use crate::words::{Receivers, Senders};
 use std::borrow::Cow;
 use std::pin::Pin;
-use std::task::{Context, Poll};
+use std::task::{Context, Poll, Waker};
 
-/// A take: see [`recv_async`](crate::Receiver::recv_async). If it is polled after it was done, it takes a further item.
+/// A take: see [`recv_async`](crate::Receiver::recv_async).
 pub type RecvFuture<'a, T> = CallFuture<'a, T, Receivers>;
 
 /// A send: see [`send_async`](crate::Sender::send_async).
 pub type SendFuture<'a, T> = CallFuture<'a, T, Senders>;
 
 /// A [`RecvFuture`] or a [`SendFuture`], as the type `S` says.
+///
+/// It is fused: once a poll was ready, each further poll is pending, and nothing wakes its task.
 #[must_use = "a future does nothing unless it is polled"]
 pub struct CallFuture<'a, T, S> {
     /// It borrows the handle, or has it.
     handle: Cow<'a, Handle<T, S>>,
+    is_done: bool,
     /// Its place in the line of its side.
     place: Option<Ticket>,
-    /// None of a take, and of a send once the item is sent, handed back, or posted.
-    parcel: Option<Parcel<T>>,
+    /// None of a take, and of a send once the item is handed back, or posted.
+    item: Option<Unsent<T>>,
     /// The number of the item that is posted, on a channel of capacity 0.
-    posted: Option<u64>,
+    offer: Option<u64>,
+    /// How far a take is, on a channel of capacity 0.
+    taker: TakerState,
 }
 
 // No item is pinned.
 impl<T, S> Unpin for CallFuture<'_, T, S> {}
 
 impl<'a, T, S> CallFuture<'a, T, S> {
-    pub(super) fn new(handle: Cow<'a, Handle<T, S>>, parcel: Option<Parcel<T>>) -> Self {
+    pub(super) fn new(handle: Cow<'a, Handle<T, S>>, item: Option<Unsent<T>>) -> Self {
         CallFuture {
             handle,
+            is_done: false,
             place: None,
-            parcel,
-            posted: None,
+            item,
+            offer: None,
+            taker: TakerState::Idle,
         }
     }
 
-    /// One poll: tries, unless it would seem to find nothing, and stays in line; or stands in line, and
-    /// tries once more. One that is still in line needs no try: the ring that takes it out is to come.
+    /// Whether a poll was ready: as `is_terminated` of a `FusedFuture`.
+    pub fn is_terminated(&self) -> bool {
+        self.is_done
+    }
+
+    /// One poll, by this call, which keeps the panics of wakers.
+    fn poll_once<R>(&mut self, call: impl FnOnce(&mut Self, &mut Panics) -> Poll<R>) -> Poll<R> {
+        if self.is_done {
+            return Poll::Pending;
+        }
+        let mut panics = Panics::default();
+        let polled = call(self, &mut panics);
+        self.is_done = polled.is_ready();
+        if !self.is_done {
+            panics.raise();
+        }
+        polled
+    }
+
+    /// Tries, unless it would seem to find nothing, and stays in line; or stands in line, and tries once more.
+    /// One that is still in line needs no try: the ring that takes it out is to come.
     fn poll_call<R>(
         &mut self,
-        context: &mut Context<'_>,
+        waker: &Waker,
+        panics: &mut Panics,
         finds_nothing: fn(&Handle<T, S>) -> bool,
-        attempt: impl Fn(&Handle<T, S>) -> Try<R>,
+        attempt: impl Fn(&Handle<T, S>, &mut Option<Unsent<T>>) -> Try<R>,
     ) -> Poll<R> {
-        let (handle, waker) = (&*self.handle, context.waker());
-        let mut tried = match finds_nothing(handle) {
-            true => Err(AT_A_RING),
-            false => attempt(handle),
+        let CallFuture { handle, item, .. } = self;
+        let mut tried = if finds_nothing(handle) {
+            Err(None)
+        } else {
+            attempt(handle, item)
         };
-        let stays = |ticket| handle.line().stay(ticket, waker);
-        if tried.is_err() && !self.place.is_some_and(stays) {
-            self.place = Some(handle.line().stand(waker.clone()));
-            tried = attempt(handle);
+        let line = handle.line();
+        let mut stays = |ticket| line.stay(ticket, waker, panics);
+        if tried.is_err() && !self.place.is_some_and(&mut stays) {
+            self.place = Some(line.stand(waker.clone()));
+            tried = attempt(handle, item);
         }
         match tried {
             Ok(done) => {
-                self.leave();
+                self.leave(panics);
                 return Poll::Ready(done);
             }
-            Err(AT_A_RING) => {}
-            Err(Some(_)) => waker.wake_by_ref(),
+            Err(again) => panics.run_each(again, |_| waker.wake_by_ref()),
         }
         Poll::Pending
     }
 
     /// Leaves the line without a further try.
-    fn leave(&mut self) {
+    fn leave(&mut self, panics: &mut Panics) {
         if let Some(ticket) = self.place.take() {
-            self.handle.line().pass_on(ticket);
+            self.handle.line().pass_on(ticket, panics);
         }
     }
 }
 
 impl<T, S> Drop for CallFuture<'_, T, S> {
     fn drop(&mut self) {
-        self.leave();
-        if let (Some(number), Some(meeting)) = (self.posted, self.handle.core().meeting()) {
-            drop(meeting.withdraw(number));
+        let mut panics = Panics::default();
+        self.leave(&mut panics);
+        let taker = std::mem::take(&mut self.taker);
+        if let Some(meeting) = self.handle.core().meeting() {
+            let offer = self.offer.take();
+            let item = offer.and_then(|offer| meeting.withdraw(offer, &mut panics));
+            panics.run_each(item, drop);
+            if let Some(item) = meeting.leave(taker, &mut panics) {
+                self.handle.core().give_back_item(meeting, item);
+            }
         }
+        panics.run_each(self.item.take(), drop);
+        panics.raise();
     }
 }
 
@@ -91,36 +135,40 @@ impl<T> Future for RecvFuture<'_, T> {
     type Output = Result<T, RecvError>;
 
     fn poll(mut self: Pin<&mut Self>, context: &mut Context<'_>) -> Poll<Self::Output> {
-        // Nobody rings for a moment.
-        let seems_empty = |it: &Receiver<T>| it.is_empty() && it.core().special.is_none();
-        let taken = self.poll_call(context, seems_empty, Handle::try_take);
-        taken.map(|parcel| parcel.map(Parcel::unpack).ok_or(RecvError))
+        let waker = context.waker();
+        self.poll_once(|this, panics| {
+            if let Some(meeting) = this.handle.core().meeting() {
+                let taken = this
+                    .handle
+                    .poll_met(meeting, &mut this.taker, waker, panics);
+                return taken.map(|item| item.ok_or(RecvError));
+            }
+            let attempt = |it: &Receiver<T>, _: &mut _| it.try_take();
+            let taken = this.poll_call(waker, panics, Handle::is_empty, attempt);
+            taken.map(|parcel| parcel.map(Parcel::unpack).ok_or(RecvError))
+        })
     }
 }
 
 impl<T> Future for SendFuture<'_, T> {
     type Output = Result<(), SendError<T>>;
 
-    /// # Panics
-    ///
-    /// It is polled after it was done.
     fn poll(mut self: Pin<&mut Self>, context: &mut Context<'_>) -> Poll<Self::Output> {
-        let this = &mut *self;
-        if let Some(meeting) = this.handle.core().meeting() {
-            let (parcel, posted) = (&mut this.parcel, &mut this.posted);
-            return this
-                .handle
-                .poll_posted(meeting, parcel, posted, context.waker());
-        }
-        let parcel = self.parcel.take().expect("the item isn't sent yet");
-        let attempt = |it: &Sender<T>| it.core().try_send(&parcel);
-        match self.poll_call(context, Handle::is_full, attempt) {
-            Poll::Ready(true) => Poll::Ready(parcel.sent()),
-            Poll::Ready(false) => Poll::Ready(Err(SendError(parcel.unpack()))),
-            Poll::Pending => {
-                self.parcel = Some(parcel);
-                Poll::Pending
+        let waker = context.waker();
+        self.poll_once(|this, panics| {
+            if let Some(meeting) = this.handle.core().meeting() {
+                let (item, offer) = (&mut this.item, &mut this.offer);
+                return this.handle.poll_posted(meeting, item, offer, waker, panics);
             }
-        }
+            let attempt = |it: &Sender<T>, item: &mut Option<Unsent<T>>| match item {
+                Some(item) => it.core().try_send(item),
+                None => Ok(false),
+            };
+            let sent = this.poll_call(waker, panics, Handle::is_full, attempt);
+            sent.map(|is_sent| match this.item.take() {
+                Some(item) if !is_sent => Err(SendError(item.into_inner())),
+                _ => Ok(()),
+            })
+        })
     }
 }

@@ -1,5 +1,5 @@
 //! The senders of a channel.
-use super::body::Parcel;
+use super::body::Unsent;
 use super::future::SendFuture;
 use super::side::{Handle, WeakHandle};
 use super::{SendError, SendTimeoutError, TrySendError};
@@ -18,8 +18,8 @@ pub type WeakSender<T> = WeakHandle<T, Senders>;
 type Sent<T> = Result<(), SendTimeoutError<T>>;
 
 impl<T> Sender<T> {
-    pub(super) fn pack(&self, item: T) -> Parcel<T> {
-        Parcel::pack(item, self.core().copies)
+    pub(super) fn pack(&self, item: T) -> Unsent<T> {
+        Unsent::pack(item, self.core().copies)
     }
 
     /// Sends, if there is room. It doesn't wait for room; but if another thread serves the calls of
@@ -43,11 +43,11 @@ impl<T> Sender<T> {
         if let Some(meeting) = self.core().meeting() {
             return meeting.try_send(item);
         }
-        let parcel = self.pack(item);
-        match self.core().try_send(&parcel) {
-            Ok(true) => parcel.sent(),
-            Ok(false) => Err(TrySendError::Disconnected(parcel.unpack())),
-            Err(_) => Err(TrySendError::Full(parcel.unpack())),
+        let mut item = self.pack(item);
+        match self.core().try_send(&mut item) {
+            Ok(true) => Ok(()),
+            Ok(false) => Err(TrySendError::Disconnected(item.into_inner())),
+            Err(_) => Err(TrySendError::Full(item.into_inner())),
         }
     }
 
@@ -57,19 +57,19 @@ impl<T> Sender<T> {
         if let Some(meeting) = self.core().meeting() {
             return self.meet_until(meeting, item, until);
         }
-        let parcel = self.pack(item);
-        match self.core().try_send(&parcel) {
-            Ok(true) => parcel.sent(),
-            _ => self.wait_for_room(parcel, until),
+        let mut item = self.pack(item);
+        match self.core().try_send(&mut item) {
+            Ok(true) => Ok(()),
+            _ => self.wait_for_room(item, until),
         }
     }
 
     #[inline(never)]
-    fn wait_for_room(&self, parcel: Parcel<T>, until: Option<Instant>) -> Sent<T> {
-        match self.wait(until, || self.core().try_send(&parcel)) {
-            Some(true) => parcel.sent(),
-            Some(false) => Err(SendTimeoutError::Disconnected(parcel.unpack())),
-            None => Err(SendTimeoutError::Timeout(parcel.unpack())),
+    fn wait_for_room(&self, mut item: Unsent<T>, until: Option<Instant>) -> Sent<T> {
+        match self.wait(until, || self.core().try_send(&mut item)) {
+            Some(true) => Ok(()),
+            Some(false) => Err(SendTimeoutError::Disconnected(item.into_inner())),
+            None => Err(SendTimeoutError::Timeout(item.into_inner())),
         }
     }
 
@@ -151,8 +151,8 @@ impl<T> Sender<T> {
 
     /// The same, as a future that has the sender.
     pub fn into_send_async(self, item: T) -> SendFuture<'static, T> {
-        let parcel = self.pack(item);
-        SendFuture::new(Cow::Owned(self), Some(parcel))
+        let item = self.pack(item);
+        SendFuture::new(Cow::Owned(self), Some(item))
     }
 
     /// How many senders the channel has.

@@ -19,8 +19,8 @@ impl<T> Special<T> {
     #[cold]
     pub fn try_recv(&self, closed: &AtomicBool) -> Try<Option<Parcel<T>>> {
         let item = match self {
-            _ if closed.load(Ordering::SeqCst) => None,
             Special::Meeting(meeting) => meeting.try_take()?,
+            Special::Timer(_) if closed.load(Ordering::SeqCst) => None,
             Special::Timer(timer) => Some(timer.try_take()?),
         };
         Ok(item.map(|item| Parcel::pack(item, None)))
