@@ -45,6 +45,8 @@ impl<T, S> Unpin for CallFuture<'_, T, S> {}
 
 impl<'a, T, S> CallFuture<'a, T, S> {
     pub(super) fn new(handle: Cow<'a, Handle<T, S>>, item: Option<Unsent<T>>) -> Self {
+        let is_timer = handle.core().is_timer();
+        assert!(!is_timer, "a timer has no future: use the runtime's");
         CallFuture {
             handle,
             is_done: false,

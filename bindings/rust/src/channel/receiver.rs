@@ -13,7 +13,7 @@ use std::time::{Duration, Instant};
 /// A receiver of a channel: see [`channel`](crate::channel()) and [`groups`](crate::groups).
 ///
 /// A clone is a further receiver of its group. The drop of the last receiver closes the channel, and drops
-/// the items that are left.
+/// the items that are left. It panics as [`close`](Handle::close) does.
 pub type Receiver<T> = Handle<T, Receivers>;
 
 /// A receiver that doesn't keep its group: see [`Handle::downgrade`].
@@ -137,7 +137,12 @@ impl<T> Receiver<T> {
     }
 
     /// Takes an item, as a future of any runtime. If it is dropped before it is done, nothing was
-    /// taken.
+    /// taken: with capacity 0 an item that it was given goes to the next receiver.
+    ///
+    /// # Panics
+    ///
+    /// The receiver is one of [`after`](crate::after), [`at`](crate::at) or [`tick`](crate::tick), which no thread
+    /// serves: use the runtime's timers.
     ///
     /// ```
     /// async fn sum(numbers: vahepito::Receiver<u32>) -> u32 {
@@ -153,6 +158,10 @@ impl<T> Receiver<T> {
     }
 
     /// The same, as a future that has the receiver.
+    ///
+    /// # Panics
+    ///
+    /// As of [`recv_async`](Receiver::recv_async).
     pub fn into_recv_async(self) -> RecvFuture<'static, T> {
         RecvFuture::new(Cow::Owned(self), None)
     }

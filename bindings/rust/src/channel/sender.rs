@@ -9,7 +9,7 @@ use std::time::{Duration, Instant};
 
 /// A sender of a channel: see [`channel`](crate::channel()).
 ///
-/// The drop of the last sender closes the channel.
+/// The drop of the last sender closes the channel, and panics as [`close`](Handle::close) does.
 pub type Sender<T> = Handle<T, Senders>;
 
 /// A sender that doesn't keep the channel open: see [`Handle::downgrade`].
@@ -133,7 +133,8 @@ impl<T> Sender<T> {
     }
 
     /// Sends, as a future of any runtime. If it is dropped before it is done, the item wasn't sent,
-    /// and is dropped with it; with capacity 0, unless a receiver has taken it since the last poll.
+    /// and is dropped with it; with capacity 0, unless a receiver has taken it since the last poll. A panic of the
+    /// item's drop, or of a waker's, is raised again at the end of that drop.
     ///
     /// ```
     /// use vahepito::{Receiver, SendError, Sender};

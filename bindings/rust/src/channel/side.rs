@@ -87,6 +87,11 @@ impl<T, S> Handle<T, S> {
     /// Closes the channel: nothing is sent after it, and the receivers see the end once they have what
     /// was sent before. Tells whether it was open.
     ///
+    /// # Panics
+    ///
+    /// The waker of a task that waits panics: that panic is raised again once all are woken. So it is at the drop of
+    /// the last handle of a side, as is a panic of an item's drop once all items that are left are dropped.
+    ///
     /// ```
     /// let (sender, receiver) = vahepito::channel(4)?;
     /// sender.send(1).unwrap();

@@ -36,6 +36,11 @@ impl<T> Special<T> {
 }
 
 impl<T> Core<T> {
+    /// Whether it is a receiver of moments. `never` isn't.
+    pub fn is_timer(&self) -> bool {
+        matches!(&self.special, Some(Special::Timer(timer)) if timer.has_item())
+    }
+
     /// Where its senders and receivers meet, if it has capacity 0.
     #[inline]
     pub fn meeting(&self) -> Option<&Meeting<T>> {
