@@ -4,6 +4,7 @@ mod rounds;
 
 use rounds::rounds;
 use std::collections::HashSet;
+use std::panic::{AssertUnwindSafe, catch_unwind};
 use std::pin::pin;
 use std::sync::Arc;
 use std::sync::atomic::{AtomicUsize, Ordering};
@@ -461,10 +462,14 @@ fn futures_meet() {
     let mut take = receiver.recv_async();
     assert_eq!(poll(&mut take, &takes), Poll::Pending);
     let mut send = sender.send_async(1);
-    assert_eq!(poll(&mut send, &sends), Poll::Pending);
+    assert_eq!(poll(&mut send, &sends), Poll::Ready(Ok(())));
     assert_eq!((times(&takes), times(&sends)), (1, 0));
     assert_eq!(poll(&mut take, &takes), Poll::Ready(Ok(1)));
-    assert_eq!(times(&sends), 1);
+    let mut send = sender.send_async(1);
+    assert_eq!(poll(&mut send, &sends), Poll::Pending);
+    let mut take = receiver.recv_async();
+    assert_eq!(poll(&mut take, &takes), Poll::Ready(Ok(1)));
+    assert_eq!((times(&takes), times(&sends)), (1, 1));
     assert_eq!(poll(&mut send, &sends), Poll::Ready(Ok(())));
     // One that is dropped takes its item with it.
     let mut send = sender.send_async(2);
@@ -478,14 +483,10 @@ fn futures_meet() {
     assert_eq!(poll(&mut send, &sends), Poll::Ready(Ok(())));
     let mut take = receiver.recv_async();
     assert_eq!(poll(&mut take, &takes), Poll::Pending);
-    let before = times(&takes);
-    let thread = waits({
-        let sender = sender.clone();
-        move || sender.send(4)
-    });
-    soon(|| (times(&takes) == before + 1).then_some(()));
+    assert_eq!(poll(&mut take, &takes), Poll::Pending);
+    sender.send(4).unwrap();
     assert_eq!(poll(&mut take, &takes), Poll::Ready(Ok(4)));
-    thread.join().unwrap().unwrap();
+    assert_eq!(poll(&mut take, &takes), Poll::Pending, "it is done");
     let mut send = sender.send_async(5);
     assert_eq!(poll(&mut send, &sends), Poll::Pending);
     let before = times(&sends);
@@ -519,6 +520,12 @@ fn timers_have_their_moments() {
     });
     assert_eq!(got.into_iter().filter(|got| *got).count(), 1);
     assert!(after(Duration::MAX).try_recv().is_err());
+    for timer in [after(SOON), tick(SOON)] {
+        let has_future = || drop(timer.recv_async());
+        assert!(catch_unwind(AssertUnwindSafe(has_future)).is_err());
+    }
+    let nothing = poll(&mut none.recv_async(), &Arc::default());
+    assert_eq!(nothing, Poll::Pending);
     let start = Instant::now();
     select! {
         recv(never::<()>()) -> _ => unreachable!("it has none"),

@@ -21,18 +21,17 @@ use vahepito::{Receiver, RecvFuture, SendError, SendFuture, Sender};
 #[derive(Debug)]
 #[must_use = "a stream does nothing unless it is polled"]
 pub struct RecvStream<T: 'static> {
-    receiver: Receiver<T>,
-    /// The take that waits. It takes one item.
+    /// None once the channel has ended.
+    receiver: Option<Receiver<T>>,
+    /// While it waits.
     takes: Option<RecvFuture<'static, T>>,
-    ended: bool,
 }
 
 impl<T: 'static> From<Receiver<T>> for RecvStream<T> {
     fn from(receiver: Receiver<T>) -> RecvStream<T> {
         RecvStream {
-            receiver,
+            receiver: Some(receiver),
             takes: None,
-            ended: false,
         }
     }
 }
@@ -41,18 +40,23 @@ impl<T: 'static> Stream for RecvStream<T> {
     type Item = T;
 
     fn poll_next(mut self: Pin<&mut Self>, context: &mut Context<'_>) -> Poll<Option<T>> {
-        let this = &mut *self;
-        let takes = || this.receiver.clone().into_recv_async();
-        let taken = ready!(Pin::new(this.takes.get_or_insert_with(takes)).poll(context));
-        this.takes = None;
-        this.ended |= taken.is_err();
+        let RecvStream { receiver, takes } = &mut *self;
+        let Some(waits) = receiver else {
+            return Poll::Ready(None);
+        };
+        let takes_one = || waits.clone().into_recv_async();
+        let taken = ready!(Pin::new(takes.get_or_insert_with(takes_one)).poll(context));
+        *takes = None;
+        if taken.is_err() {
+            *receiver = None;
+        }
         Poll::Ready(taken.ok())
     }
 }
 
 impl<T: 'static> FusedStream for RecvStream<T> {
     fn is_terminated(&self) -> bool {
-        self.ended
+        self.receiver.is_none()
     }
 }
 

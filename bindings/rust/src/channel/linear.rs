@@ -368,8 +368,12 @@ impl Own {
                 vec![reserved, (start, clock.now(), channel, told)]
             }
             (_, _, Some(sender)) => {
-                let sent = operation.send(sender, item);
-                let told = sent.map_or(Told::SendClosed, |()| Told::Sent(item));
+                // With capacity 0 the take may have given the pair up.
+                let told = match operation.send(sender, item) {
+                    Ok(()) => Told::Sent(item),
+                    Err(_) if sender.is_closed() => Told::SendClosed,
+                    Err(_) => Told::Full,
+                };
                 vec![(begin, clock.now(), channel, told)]
             }
             _ => vec![],

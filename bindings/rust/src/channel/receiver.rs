@@ -170,7 +170,12 @@ impl<T> Receiver<T> {
     }
 
     /// Takes an item, as a future of any runtime. If it is dropped before it is done, nothing was
-    /// taken.
+    /// taken: with capacity 0 an item that it was given goes to the next receiver.
+    ///
+    /// # Panics
+    ///
+    /// The receiver is one of [`after`](crate::after), [`at`](crate::at) or [`tick`](crate::tick), which no thread
+    /// serves: use the runtime's timers.
     ///
     /// ```
     /// async fn sum(numbers: vahepito::Receiver<u32>) -> u32 {
@@ -182,11 +187,15 @@ impl<T> Receiver<T> {
     /// }
     /// ```
     pub fn recv_async(&self) -> RecvFuture<'_, T> {
-        RecvFuture::new(Cow::Borrowed(&self.handle))
+        RecvFuture::new(Cow::Borrowed(self))
     }
 
     /// The same as [`recv_async`](Receiver::recv_async), as a future that has the receiver. So a task may
     /// return the future, or keep it beside other values.
+    ///
+    /// # Panics
+    ///
+    /// As of [`recv_async`](Receiver::recv_async).
     ///
     /// ```
     /// use vahepito::{Receiver, RecvFuture};
@@ -196,7 +205,7 @@ impl<T> Receiver<T> {
     /// }
     /// ```
     pub fn into_recv_async(self) -> RecvFuture<'static, T> {
-        RecvFuture::new(Cow::Owned(self.handle))
+        RecvFuture::new(Cow::Owned(self))
     }
 
     /// Takes items until the end, by [`recv`](Receiver::recv).

@@ -1,5 +1,5 @@
 //! Room that is reserved for selected sends, and the looks of a select: see [`select`](super::select).
-use super::body::Parcel;
+use super::body::Unsent;
 use super::core::{Core, Side};
 use super::event::{AT_A_RING, Try, lock};
 use super::pool::Pool;
@@ -83,11 +83,11 @@ impl<T> Core<T> {
     }
 
     /// Sends to room that was reserved. Returns whether it is sent; if not, the channel is closed.
-    pub fn send_to_room(&self, parcel: &Parcel<T>) -> bool {
+    pub fn send_to_room(&self, item: &mut Unsent<T>) -> bool {
         let mut backoff = Backoff::default();
         loop {
             let mut seat = self.senders.seats.take();
-            let Err(refusal) = self.send_by(&mut seat, parcel) else {
+            let Err(refusal) = self.send_by(&mut seat, item) else {
                 // While the seat is taken, so that nobody counts both the item and its room.
                 self.selected.room.fetch_sub(1, Ordering::SeqCst);
                 drop(seat);
@@ -95,7 +95,7 @@ impl<T> Core<T> {
                 return true;
             };
             drop(seat);
-            match self.goes_on(parcel, refusal) {
+            match self.goes_on(refusal) {
                 Ok(true) => {}
                 Ok(false) => {
                     self.give_back_room();
@@ -109,11 +109,11 @@ impl<T> Core<T> {
 
     /// Tries to send while room is reserved for others. No other send is on its way then.
     #[cold]
-    pub fn send_beside_reserved(&self, parcel: &Parcel<T>) -> Try<bool> {
+    pub fn send_beside_reserved(&self, item: &mut Unsent<T>) -> Try<bool> {
         let in_queue = lock(&self.in_queue);
         let mut seats = self.senders.seats.take_all();
         self.has_room_beside(self.selected.room.load(Ordering::SeqCst))?;
-        let sent = self.send_by(&mut seats[0], parcel);
+        let sent = self.send_by(&mut seats[0], item);
         drop(seats);
         drop(in_queue);
         match sent {
@@ -121,7 +121,7 @@ impl<T> Core<T> {
                 self.ring_for_item();
                 Ok(true)
             }
-            Err(refusal) => self.go_on_sending(parcel, refusal),
+            Err(refusal) => self.go_on_sending(item, refusal),
         }
     }
 }

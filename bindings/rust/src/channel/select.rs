@@ -21,7 +21,7 @@
 //! give it back, and then look whether somebody waits. A look takes each of those seats, and gives it back. A
 //! holder before that has counted; a holder after that sees the waiter in line. So a look that finds nothing
 //! is the look of [`event`](super::event)'s argument: at some moment of it there was nothing.
-use super::event::{Event, Parker, TRIES, Ticket, Try, lock};
+use super::event::{Event, Panics, Parker, TRIES, Ticket, Try, drop_each, lock};
 use super::meeting::{Meets, SENDS, TAKES, Waiter, meet_or_post, try_meet};
 use super::special::Special;
 use super::{
@@ -31,6 +31,7 @@ use super::{
 use crate::backoff::Backoff;
 use std::cell::Cell;
 use std::fmt;
+use std::mem::take;
 use std::ops::Deref;
 use std::ptr::addr_eq;
 use std::sync::atomic::{AtomicU64, AtomicUsize, Ordering};
@@ -90,6 +91,13 @@ struct Kept<T> {
     items: Vec<(u64, T)>,
 }
 
+/// There are some if selected operations were forgotten.
+impl<T> Drop for Kept<T> {
+    fn drop(&mut self) {
+        drop_each(take(&mut self.items));
+    }
+}
+
 impl<T> Kept<T> {
     fn put(&mut self, item: T) -> u64 {
         self.last += 1;
@@ -136,24 +144,19 @@ impl<T> Case for Receiver<T> {
     }
 
     fn give_up(&self, begun: Begun) {
-        match (begun, self.core().meeting()) {
-            (Begun::Met(pair), Some(meeting)) => drop(meeting.give_up(pair)),
-            (begun, _) => drop(self.completed(begun)),
-        }
+        drop(self.completed(begun));
     }
 }
 
 impl<T> Receiver<T> {
-    /// The item of a selected take. Gives None if the sender that it met gave it up.
-    pub(super) fn completed(&self, begun: Begun) -> Option<Result<T, RecvError>> {
-        match (begun, self.core().meeting()) {
-            (Begun::Met(pair), Some(meeting)) => meeting.take(pair).map(Ok),
-            (Begun::Kept(number), _) => {
-                let item = lock(&self.core().selected.kept).take(number);
-                Some(item.ok_or(RecvError))
-            }
-            _ => Some(Err(RecvError)),
-        }
+    /// The item of a selected take.
+    pub(super) fn completed(&self, begun: Begun) -> Result<T, RecvError> {
+        let item = match (begun, self.core().meeting()) {
+            (Begun::Met(pair), Some(meeting)) => meeting.take(pair),
+            (Begun::Kept(number), _) => lock(&self.core().selected.kept).take(number),
+            _ => None,
+        };
+        item.ok_or(RecvError)
     }
 }
 
@@ -198,17 +201,19 @@ impl<T> Case for Sender<T> {
 
 impl<T> Sender<T> {
     /// Sends by a selected send.
-    fn complete(&self, begun: Begun, item: T) -> Result<(), SendError<T>> {
+    fn complete(&self, begun: Begun, item: T, until: Option<Instant>) -> Result<(), SendError<T>> {
         match (begun, self.core().meeting()) {
-            (Begun::Met(pair), Some(meeting)) => {
-                // If the receiver that it met gave it up, it waits for another one.
-                meeting.send(pair, item).or_else(|item| self.send(item))
-            }
+            (Begun::Met(pair), Some(meeting)) => meeting.send(pair, item).or_else(|item| {
+                // The take gave the pair up: the send waits for another one, as long as its select would have.
+                let sent = self.meet_until(meeting, item, until);
+                sent.map_err(|error| SendError(error.into_inner()))
+            }),
             (Begun::Room, _) => {
-                let parcel = self.pack(item);
-                match self.core().send_to_room(&parcel) {
-                    true => parcel.sent(),
-                    false => Err(SendError(parcel.unpack())),
+                let mut item = self.pack(item);
+                if self.core().send_to_room(&mut item) {
+                    Ok(())
+                } else {
+                    Err(SendError(item.into_inner()))
                 }
             }
             _ => Err(SendError(item)),
@@ -238,7 +243,9 @@ impl<'a> Place<'a> {
     /// Leaves the line. A try has to follow, since a ring may have taken this one out. Returns whether there
     /// was a ring at all since it stood there.
     fn leave(&mut self) -> bool {
-        let left = self.ticket.take().map(|ticket| self.event.leave(ticket));
+        // It is a parker's, whose drop doesn't panic.
+        let leave = |ticket| self.event.leave(ticket, &mut Panics::default());
+        let left = self.ticket.take().map(leave);
         let (rung, was_rung) = left.unwrap_or((self.rung, false));
         self.rung = rung;
         was_rung
@@ -259,6 +266,14 @@ impl Drop for Place<'_> {
 struct Entry<R> {
     index: usize,
     case: R,
+}
+
+impl<R: Deref<Target: Case>> Entry<R> {
+    /// Whether what has begun is for good, with capacity 0: see [`Meets::is_settled`].
+    fn is_settled(&self, begun: &Begun, until: Option<Instant>) -> bool {
+        let meeting = self.case.meeting();
+        meeting.is_none_or(|(channel, side)| channel.is_settled(begun, side, until))
+    }
 }
 
 /// Tries each of these once: begins it, or only looks. Gives the place of the first that is done; if none is,
@@ -457,31 +472,49 @@ impl<R: Copy + Deref<Target: Case>> Cases<R> {
         self.mix();
         let is_over = || until.is_some_and(|until| until <= Instant::now());
         // Those that may meet another are posted at once, so that the other finds them.
-        let tries = match begins && self.entries.iter().any(|it| it.case.meeting().is_some()) {
-            true => 1,
-            false => TRIES,
-        };
+        let posts = begins && self.entries.iter().any(|it| it.case.meeting().is_some());
         let mut backoff = Backoff::default();
-        let mut done = try_each(&self.entries, begins).ok();
-        for _ in 1..tries {
+        let mut done = self.try_once(until, begins);
+        for _ in 1..if posts { 1 } else { TRIES } {
             if done.is_some() || is_over() {
                 break;
             }
             backoff.between_turns();
-            done = try_each(&self.entries, begins).ok();
+            done = self.try_once(until, begins);
         }
-        if done.is_none() {
-            done = Parker::with(|parker| {
+        done.or_else(|| {
+            Parker::with(|parker| {
                 loop {
                     match self.stand_and_park(until, begins, parker) {
-                        Ok(done) => return Some(done),
+                        Ok((place, begun)) => {
+                            let entry = self.entries[place];
+                            if entry.is_settled(&begun, until) {
+                                return Some((entry, begun));
+                            }
+                            // It goes on with the others, and until its time is over.
+                            if is_over() {
+                                return self.try_once(until, begins);
+                            }
+                        }
                         Err(was_quiet) if was_quiet && is_over() => return None,
                         Err(_) => {}
                     }
                 }
-            });
+            })
+        })
+    }
+
+    /// Tries each once, until one is done. One that meets another which gives their pair up isn't.
+    fn try_once(&self, until: Option<Instant>, begins: bool) -> Option<(Entry<R>, Begun)> {
+        let mut left = &self.entries[..];
+        while let Ok((place, begun)) = try_each(left, begins) {
+            let entry = left[place];
+            if entry.is_settled(&begun, until) {
+                return Some((entry, begun));
+            }
+            left = &left[place + 1..];
         }
-        done.map(|(place, begun)| (self.entries[place], begun))
+        None
     }
 
     /// Stands in all lines, looks, and parks; leaves all, and tries again. If none is done, returns whether
@@ -545,7 +578,7 @@ impl<R: Copy + Deref<Target: Case>> Cases<R> {
             Some((place, channel, side))
         });
         let cases: Vec<_> = cases.collect();
-        let waiter = Waiter::new(parker);
+        let waiter = Waiter::new(parker.clone().into());
         let met = meet_or_post(&cases, &waiter);
         if met.is_none() {
             cases
@@ -574,7 +607,7 @@ impl<R: Copy + Deref<Target: Case>> Cases<R> {
 impl<'a> Select<'a> {
     fn select_until(&mut self, until: Option<Instant>) -> Option<SelectedOperation<'a>> {
         let (Entry { index, case }, begun) = self.cases.wait(until, true)?;
-        Some(SelectedOperation::new(Entry { index, case }, begun))
+        Some(SelectedOperation::new(Entry { index, case }, begun, until))
     }
 
     /// Begins an operation, if one is ready.
@@ -796,7 +829,7 @@ impl<'a> LocalSelect<'a> {
     pub fn select(mut self) -> SelectedOperation<'a> {
         loop {
             if let Some((entry, begun)) = self.cases.wait(None, true) {
-                return SelectedOperation::new(entry, begun);
+                return SelectedOperation::new(entry, begun, None);
             }
         }
     }
@@ -805,7 +838,7 @@ impl<'a> LocalSelect<'a> {
         // A moment beyond the clock's range never comes.
         let until = Instant::now().checked_add(time);
         let (entry, begun) = self.cases.wait(until, true)?;
-        Some(SelectedOperation::new(entry, begun))
+        Some(SelectedOperation::new(entry, begun, until))
     }
 
     pub(super) fn begin_until(&mut self, until: Option<Instant>) -> Option<Begun> {
@@ -829,19 +862,26 @@ impl Default for Select<'_> {
 ///
 /// Complete it by [`recv`](SelectedOperation::recv) or [`send`](SelectedOperation::send). If it is dropped
 /// instead, the item that was taken is dropped too, and the room is given back. If it is forgotten, both
-/// stay where they are as long as the channel is there. With capacity 0 it has met another operation, which
-/// waits until this one is completed; if either is dropped, the other one waits for a further one.
+/// stay where they are as long as the channel is there. With capacity 0 a send has met a take, which waits, until
+/// its time is over, for the send to be completed; if the send is dropped, the take continues with its other
+/// operations.
 #[must_use = "complete it by `recv` or `send`"]
 pub struct SelectedOperation<'a> {
     entry: Entry<&'a dyn Case>,
     /// Until it is completed.
     pub(super) begun: Option<Begun>,
+    /// How long the select would have waited.
+    until: Option<Instant>,
 }
 
 impl<'a> SelectedOperation<'a> {
-    fn new(entry: Entry<&'a dyn Case>, begun: Begun) -> SelectedOperation<'a> {
+    fn new(entry: Entry<&'a dyn Case>, begun: Begun, until: Option<Instant>) -> Self {
         let begun = Some(begun);
-        SelectedOperation { entry, begun }
+        SelectedOperation {
+            entry,
+            begun,
+            until,
+        }
     }
 
     /// The index of the operation, as it was given when the operation was added.
@@ -898,16 +938,15 @@ impl<'a> SelectedOperation<'a> {
     /// # Ok::<(), vahepito::OpenError>(())
     /// ```
     pub fn recv<T>(mut self, receiver: &Receiver<T>) -> Result<T, RecvError> {
-        let told = receiver.completed(self.begun_of(receiver));
-        // If the sender that it met gave it up, it waits for another one.
-        told.unwrap_or_else(|| receiver.recv())
+        receiver.completed(self.begun_of(receiver))
     }
 
-    /// Completes a send. It doesn't wait, unless memory is wanting for a further queue.
+    /// Completes a send. It doesn't wait, unless memory is wanting for a further queue, or, with capacity 0, the
+    /// receiver that it met has given up meanwhile: it then waits for another one, as long as its select would have.
     ///
     /// # Errors
     ///
-    /// The channel is closed: the item is handed back.
+    /// The channel is closed; or, with capacity 0, no other receiver came in that time. The item is handed back.
     ///
     /// # Panics
     ///
@@ -925,7 +964,7 @@ impl<'a> SelectedOperation<'a> {
     /// # Ok::<(), vahepito::OpenError>(())
     /// ```
     pub fn send<T>(mut self, sender: &Sender<T>, item: T) -> Result<(), SendError<T>> {
-        sender.complete(self.begun_of(sender), item)
+        sender.complete(self.begun_of(sender), item, self.until)
     }
 }
 

@@ -1,5 +1,5 @@
 //! The senders of a channel.
-use super::body::Parcel;
+use super::body::Unsent;
 use super::core::Core;
 use super::event::Event;
 use super::future::SendFuture;
@@ -50,8 +50,8 @@ impl<T> Sender<T> {
         self.handle.line()
     }
 
-    pub(super) fn pack(&self, item: T) -> Parcel<T> {
-        Parcel::pack(item, self.core().copies)
+    pub(super) fn pack(&self, item: T) -> Unsent<T> {
+        Unsent::pack(item, self.core().copies)
     }
 
     /// Sends, if there is room. It doesn't wait for room; but if another thread serves the calls of
@@ -75,11 +75,11 @@ impl<T> Sender<T> {
         if let Some(meeting) = self.core().meeting() {
             return meeting.try_send(item);
         }
-        let parcel = self.pack(item);
-        match self.core().try_send(&parcel) {
-            Ok(true) => parcel.sent(),
-            Ok(false) => Err(TrySendError::Disconnected(parcel.unpack())),
-            Err(_) => Err(TrySendError::Full(parcel.unpack())),
+        let mut item = self.pack(item);
+        match self.core().try_send(&mut item) {
+            Ok(true) => Ok(()),
+            Ok(false) => Err(TrySendError::Disconnected(item.into_inner())),
+            Err(_) => Err(TrySendError::Full(item.into_inner())),
         }
     }
 
@@ -89,19 +89,19 @@ impl<T> Sender<T> {
         if let Some(meeting) = self.core().meeting() {
             return self.meet_until(meeting, item, until);
         }
-        let parcel = self.pack(item);
-        match self.core().try_send(&parcel) {
-            Ok(true) => parcel.sent(),
-            _ => self.wait_for_room(parcel, until),
+        let mut item = self.pack(item);
+        match self.core().try_send(&mut item) {
+            Ok(true) => Ok(()),
+            _ => self.wait_for_room(item, until),
         }
     }
 
     #[inline(never)]
-    fn wait_for_room(&self, parcel: Parcel<T>, until: Option<Instant>) -> Sent<T> {
-        match self.handle.wait(until, || self.core().try_send(&parcel)) {
-            Some(true) => parcel.sent(),
-            Some(false) => Err(SendTimeoutError::Disconnected(parcel.unpack())),
-            None => Err(SendTimeoutError::Timeout(parcel.unpack())),
+    fn wait_for_room(&self, mut item: Unsent<T>, until: Option<Instant>) -> Sent<T> {
+        match self.handle.wait(until, || self.core().try_send(&mut item)) {
+            Some(true) => Ok(()),
+            Some(false) => Err(SendTimeoutError::Disconnected(item.into_inner())),
+            None => Err(SendTimeoutError::Timeout(item.into_inner())),
         }
     }
 
@@ -165,7 +165,8 @@ impl<T> Sender<T> {
     }
 
     /// Sends, as a future of any runtime. If it is dropped before it is done, the item wasn't sent,
-    /// and is dropped with it; with capacity 0, unless a receiver has taken it since the last poll.
+    /// and is dropped with it; with capacity 0, unless a receiver has taken it since the last poll. A panic of the
+    /// item's drop, or of a waker's, is raised again at the end of that drop.
     ///
     /// ```
     /// use vahepito::{Receiver, SendError, Sender};
@@ -178,7 +179,7 @@ impl<T> Sender<T> {
     /// }
     /// ```
     pub fn send_async(&self, item: T) -> SendFuture<'_, T> {
-        SendFuture::new(Cow::Borrowed(&self.handle), self.pack(item))
+        SendFuture::new(Cow::Borrowed(self), self.pack(item))
     }
 
     /// The same as [`send_async`](Sender::send_async), as a future that has the sender. So a task may return
@@ -197,8 +198,8 @@ impl<T> Sender<T> {
     /// }
     /// ```
     pub fn into_send_async(self, item: T) -> SendFuture<'static, T> {
-        let parcel = self.pack(item);
-        SendFuture::new(Cow::Owned(self.handle), parcel)
+        let item = self.pack(item);
+        SendFuture::new(Cow::Owned(self), item)
     }
 
     /// Closes the channel. No item is accepted any more. The receivers take what was sent before, and then see

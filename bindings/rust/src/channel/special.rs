@@ -19,8 +19,8 @@ impl<T> Special<T> {
     #[cold]
     pub fn try_recv(&self, closed: &AtomicBool) -> Try<Option<Parcel<T>>> {
         let item = match self {
-            _ if closed.load(Ordering::SeqCst) => None,
             Special::Meeting(meeting) => meeting.try_take()?,
+            Special::Timer(_) if closed.load(Ordering::SeqCst) => None,
             Special::Timer(timer) => Some(timer.try_take()?),
         };
         Ok(item.map(|item| Parcel::pack(item, None)))
@@ -36,6 +36,11 @@ impl<T> Special<T> {
 }
 
 impl<T> Core<T> {
+    /// Whether it is a receiver of moments. `never` isn't.
+    pub fn is_timer(&self) -> bool {
+        matches!(&self.special, Some(Special::Timer(timer)) if timer.has_item())
+    }
+
     /// Where its senders and receivers meet, if it has capacity 0.
     #[inline]
     pub fn meeting(&self) -> Option<&Meeting<T>> {

@@ -43,6 +43,10 @@ impl<T> Timer<T> {
         }
     }
 
+    pub fn has_item(&self) -> bool {
+        self.item.is_some()
+    }
+
     #[cold]
     pub fn len(&self) -> usize {
         usize::from(self.look().is_ok())
@@ -63,7 +67,7 @@ fn timer<T>(
 
 /// A receiver with one item, which is there at this moment, and is the moment. Then it is empty for ever.
 ///
-/// As a future it is polled again and again until then: use the runtime's timers there.
+/// It has no future: use the runtime's timers there.
 ///
 /// ```
 /// use std::time::{Duration, Instant};
@@ -107,7 +111,7 @@ pub fn after(time: Duration) -> Receiver<Instant> {
 /// A receiver with an item, its moment, once in each such period, the first one a period from now. Those that
 /// aren't taken in time are left out: there is one at most.
 ///
-/// As a future it is polled again and again: use the runtime's timers there.
+/// It has no future: use the runtime's timers there.
 ///
 /// ```
 /// use std::time::{Duration, Instant};
