@@ -532,8 +532,8 @@ impl<T> Receiver<T> {
     #[cold]
     pub(super) fn meet_until(&self, until: Option<Instant>) -> Result<T, RecvTimeoutError> {
         let mut select = LocalSelect::new(false);
-        select.recv(self);
-        let begun = select.begin_until(until).ok_or(RecvTimeoutError::Timeout)?;
+        select.add(self);
+        let (_, begun) = select.wait(until, true).ok_or(RecvTimeoutError::Timeout)?;
         Ok(self.completed(begun)?)
     }
 

@@ -263,7 +263,7 @@ impl Drop for Place<'_> {
 
 /// An operation by reference: `&dyn Case`, or one that goes to other threads.
 #[derive(Clone, Copy)]
-struct Entry<R> {
+pub struct Entry<R> {
     index: usize,
     case: R,
 }
@@ -444,15 +444,17 @@ impl<'a> Select<'a> {
 }
 
 /// The operations of a select.
+#[doc(hidden)]
 #[derive(Clone)]
-struct Cases<R> {
+pub struct Cases<R> {
     entries: Vec<Entry<R>>,
     next: usize,
     is_biased: bool,
 }
 
 impl<R: Copy + Deref<Target: Case>> Cases<R> {
-    fn new(is_biased: bool) -> Cases<R> {
+    #[must_use]
+    pub fn new(is_biased: bool) -> Cases<R> {
         Cases {
             entries: vec![],
             next: 0,
@@ -460,7 +462,7 @@ impl<R: Copy + Deref<Target: Case>> Cases<R> {
         }
     }
 
-    fn add(&mut self, case: R) -> usize {
+    pub fn add(&mut self, case: R) -> usize {
         let index = self.next;
         self.next += 1;
         self.entries.push(Entry { index, case });
@@ -468,7 +470,11 @@ impl<R: Copy + Deref<Target: Case>> Cases<R> {
     }
 
     /// Tries each until one is done, or until this moment: begins it, or only looks.
-    fn wait(&mut self, until: Option<Instant>, begins: bool) -> Option<(Entry<R>, Begun)> {
+    pub(super) fn wait(
+        &mut self,
+        until: Option<Instant>,
+        begins: bool,
+    ) -> Option<(Entry<R>, Begun)> {
         self.mix();
         let is_over = || until.is_some_and(|until| until <= Instant::now());
         // Those that may meet another are posted at once, so that the other finds them.
@@ -528,10 +534,11 @@ impl<R: Copy + Deref<Target: Case>> Cases<R> {
     ) -> Result<(usize, Begun), bool> {
         let is_over = until.is_some_and(|until| until <= Instant::now());
         let is_posted = |it: &Entry<R>| begins && it.case.meeting().is_some();
-        let standing = self.entries.iter();
-        let standing =
-            standing.map(|it| (!is_posted(it)).then(|| Place::stand(it.case.line(), parker)));
-        let mut places: Vec<_> = standing.collect();
+        let mut places: Vec<_> = vec![];
+        places.extend(self.entries.iter().map(|it| {
+            let stands = !is_posted(it);
+            stands.then(|| Place::stand(it.case.line(), parker))
+        }));
         let moment = match try_each(&self.entries, begins) {
             Ok(done) => return Ok(done),
             Err(moment) => moment,
@@ -807,42 +814,15 @@ impl<'a> Select<'a> {
 
 /// The select of the macros, which stays on its thread: so it takes items of any type.
 #[doc(hidden)]
-pub struct LocalSelect<'a> {
-    cases: Cases<&'a dyn Case>,
-}
+pub type LocalSelect<'a> = Cases<&'a dyn Case>;
 
 impl<'a> LocalSelect<'a> {
-    #[must_use]
-    pub fn new(is_biased: bool) -> LocalSelect<'a> {
-        let cases = Cases::new(is_biased);
-        LocalSelect { cases }
-    }
-
-    pub fn send<T>(&mut self, sender: &'a Sender<T>) -> usize {
-        self.cases.add(sender)
-    }
-
-    pub fn recv<T>(&mut self, receiver: &'a Receiver<T>) -> usize {
-        self.cases.add(receiver)
-    }
-
-    pub fn select(mut self) -> SelectedOperation<'a> {
-        loop {
-            if let Some((entry, begun)) = self.cases.wait(None, true) {
-                return SelectedOperation::new(entry, begun, None);
-            }
-        }
-    }
-
-    pub fn select_timeout(mut self, time: Duration) -> Option<SelectedOperation<'a>> {
+    /// Waits until an operation is ready, but not longer than this, and begins it.
+    pub fn select_within(mut self, time: Option<Duration>) -> Option<SelectedOperation<'a>> {
         // A moment beyond the clock's range never comes.
-        let until = Instant::now().checked_add(time);
-        let (entry, begun) = self.cases.wait(until, true)?;
+        let until = time.and_then(|time| Instant::now().checked_add(time));
+        let (entry, begun) = self.wait(until, true)?;
         Some(SelectedOperation::new(entry, begun, until))
-    }
-
-    pub(super) fn begin_until(&mut self, until: Option<Instant>) -> Option<Begun> {
-        Some(self.cases.wait(until, true)?.1)
     }
 }
 

@@ -123,7 +123,7 @@ macro_rules! __select {
         match $of {
             ref receiver => {
                 let receiver: &$crate::Receiver<_> = receiver;
-                let index = $select.recv(receiver);
+                let index = $select.add(receiver);
                 $crate::__select!(@add $select
                     [$($made)* [index ($told) (recv(receiver)) $body]] $default $($arms)*)
             }
@@ -134,21 +134,24 @@ macro_rules! __select {
         match $of {
             ref sender => {
                 let sender: &$crate::Sender<_> = sender;
-                let index = $select.send(sender);
+                let index = $select.add(sender);
                 $crate::__select!(@add $select
                     [$($made)* [index ($told) (send(sender, $item)) $body]] $default $($arms)*)
             }
         }
     };
-    (@add $select:ident [$($made:tt)*] []) => {{
-        let operation = $select.select();
-        $crate::__select!(@make operation $($made)*)
-    }};
+    (@add $select:ident $made:tt []) => {
+        $crate::__select!(@wait $select (::core::option::Option::None) $made
+            ::core::unreachable!("it waits without end"))
+    };
     (@add $select:ident $made:tt [() $body:expr]) => {
         $crate::__select!(@add $select $made [(::core::time::Duration::ZERO) $body])
     };
-    (@add $select:ident [$($made:tt)*] [($time:expr) $body:expr]) => {
-        match $select.select_timeout($time) {
+    (@add $select:ident $made:tt [($time:expr) $body:expr]) => {
+        $crate::__select!(@wait $select (::core::option::Option::Some($time)) $made $body)
+    };
+    (@wait $select:ident $time:tt [$($made:tt)*] $body:expr) => {
+        match $select.select_within($time) {
             ::core::option::Option::Some(operation) => $crate::__select!(@make operation $($made)*),
             ::core::option::Option::None => $body,
         }
