@@ -2,7 +2,7 @@
 use std::panic::{AssertUnwindSafe, catch_unwind, resume_unwind};
 use std::pin::Pin;
 use std::sync::Arc;
-use std::sync::atomic::{AtomicUsize, Ordering};
+use std::sync::atomic::{AtomicBool, AtomicUsize, Ordering};
 use std::sync::mpsc;
 use std::task::{Context, Poll, Wake, Waker};
 use std::thread;
@@ -13,10 +13,7 @@ use vahepito::{
 };
 
 const SOON: Duration = Duration::from_millis(30);
-/// How long a sender keeps a pair.
-const KEPT: Duration = Duration::from_millis(400);
-/// A call whose time is over returns before.
-const AT_ONCE: Duration = Duration::from_millis(200);
+const LONG: Duration = Duration::from_secs(50);
 
 fn open<T>(capacity: usize) -> (Sender<T>, Receiver<T>) {
     channel(capacity).unwrap()
@@ -32,22 +29,19 @@ fn ends<T: Send + 'static>(what: impl FnOnce() -> T + Send + 'static) -> T {
     given
 }
 
-/// A thread that selects a send, and takes that long for its item, or panics then.
-fn selects_a_send(sender: &Sender<u32>, item: Option<u32>) -> thread::JoinHandle<bool> {
-    let sender = sender.clone();
-    let thread = thread::spawn(move || {
-        let selects = AssertUnwindSafe(|| {
-            select! {
-                send(sender, {
-                    thread::sleep(KEPT);
-                    item.unwrap_or_else(|| resume_unwind(Box::new("no item")))
-                }) -> sent => sent.is_ok(),
-            }
-        });
-        catch_unwind(selects).unwrap_or(false)
-    });
+/// A thread that selects a send, and has its item once this gives it; or panics then. It returns whether it sent.
+fn selects_a_send(sender: &Sender<u32>) -> (thread::JoinHandle<bool>, mpsc::Sender<Option<u32>>) {
+    let (sender, (gives, given)) = (sender.clone(), mpsc::channel::<Option<u32>>());
+    let item = move || {
+        given
+            .recv()
+            .unwrap()
+            .unwrap_or_else(|| resume_unwind(Box::new("none")))
+    };
+    let selects = move || select! { send(sender, item()) -> sent => sent.is_ok() };
+    let thread = thread::spawn(|| catch_unwind(AssertUnwindSafe(selects)).unwrap_or(false));
     thread::sleep(SOON);
-    thread
+    (thread, gives)
 }
 
 #[derive(Default)]
@@ -75,15 +69,16 @@ fn poll<F: Future + Unpin>(future: &mut F, woken: &Arc<Woken>) -> Poll<F::Output
 fn a_select_goes_on_with_its_other_arms() {
     ends(|| {
         let ((sender, receiver), (other, items)) = (open(0), open(4));
-        let selects = selects_a_send(&sender, None);
+        let (selects, gives) = selects_a_send(&sender);
         let sends = thread::spawn(move || {
             thread::sleep(SOON);
+            gives.send(None).unwrap();
             (0..4).for_each(|number| other.send(number).unwrap());
         });
         let told = select! {
             recv(receiver) -> _ => None,
             recv(items) -> number => number.ok(),
-            default(4 * KEPT) => None,
+            default(LONG) => None,
         };
         assert_eq!(told, Some(0));
         sends.join().unwrap();
@@ -96,15 +91,21 @@ fn a_select_goes_on_with_its_other_arms() {
 fn a_select_goes_on_with_its_time() {
     ends(|| {
         let ((sender, receiver), (_other, items)) = (open(0), open::<u32>(4));
-        let selects = selects_a_send(&sender, None);
+        let (selects, gives) = selects_a_send(&sender);
+        let gives_up = thread::spawn(move || {
+            thread::sleep(SOON);
+            gives.send(None).unwrap();
+        });
         let start = Instant::now();
         let told = select! {
             recv(receiver) -> _ => "an item",
             recv(items) -> _ => "another item",
-            default(KEPT + 2 * SOON) => "the default",
+            default(4 * SOON) => "the default",
         };
         assert_eq!(told, "the default");
-        assert!(start.elapsed() >= KEPT + 2 * SOON);
+        assert!(start.elapsed() >= 4 * SOON);
+        gives_up.join().unwrap();
+        drop(receiver);
         assert!(!selects.join().unwrap());
     });
 }
@@ -115,8 +116,7 @@ fn a_time_is_over_though_there_is_a_pair() {
     ends(|| {
         let (sender, receiver) = open(0);
         for call in 0..4 {
-            let selects = selects_a_send(&sender, Some(call));
-            let start = Instant::now();
+            let (selects, gives) = selects_a_send(&sender);
             match call {
                 0 => assert_eq!(receiver.recv_timeout(SOON), Err(RecvTimeoutError::Timeout)),
                 1 => assert_eq!(receiver.try_recv(), Err(TryRecvError::Empty)),
@@ -128,7 +128,7 @@ fn a_time_is_over_though_there_is_a_pair() {
                     select! { recv(receiver) -> _ => unreachable!("it has no item"), default => {} }
                 }
             }
-            assert!(start.elapsed() < AT_ONCE, "{call}");
+            gives.send(Some(call)).unwrap();
             assert_eq!(receiver.recv(), Ok(call));
             assert!(selects.join().unwrap());
         }
@@ -140,15 +140,26 @@ fn a_time_is_over_though_there_is_a_pair() {
 fn a_selected_send_has_its_time() {
     ends(|| {
         let (sender, receiver) = open(0);
+        let is_selected = Arc::new(AtomicBool::new(false));
         let takes = thread::spawn({
             let receiver = receiver.clone();
-            move || receiver.recv_timeout(2 * SOON)
+            let is_selected = is_selected.clone();
+            move || {
+                while !is_selected.load(Ordering::SeqCst) {
+                    assert_eq!(receiver.recv_timeout(SOON), Err(RecvTimeoutError::Timeout));
+                }
+            }
         });
-        thread::sleep(SOON);
         let mut select = Select::new();
         select.send(&sender);
-        let operation = select.try_select().unwrap();
-        assert_eq!(takes.join().unwrap(), Err(RecvTimeoutError::Timeout));
+        let operation = loop {
+            match select.try_select() {
+                Ok(operation) => break operation,
+                Err(_) => thread::yield_now(),
+            }
+        };
+        is_selected.store(true, Ordering::SeqCst);
+        takes.join().unwrap();
         assert_eq!(operation.send(&sender, 1), Err(SendError(1)));
         assert!(!sender.is_closed());
         let mut take = receiver.recv_async();
@@ -170,13 +181,12 @@ fn a_poll_waits_for_nothing() {
         let (sender, receiver) = open(0);
         let woken = Arc::new(Woken::default());
         for item in [Some(7), None] {
-            let selects = selects_a_send(&sender, item);
+            let (selects, gives) = selects_a_send(&sender);
             let mut take = receiver.recv_async();
-            let start = Instant::now();
             assert!(poll(&mut take, &woken).is_pending());
             assert!(poll(&mut take, &woken).is_pending());
-            assert!(start.elapsed() < AT_ONCE);
             let before = woken.times();
+            gives.send(item).unwrap();
             assert_eq!(selects.join().unwrap(), item.is_some());
             assert_eq!(woken.times(), before + 1);
             match item {

@@ -21,6 +21,9 @@ thread_local! {
     static PANICS: Cell<u64> = const { Cell::new(0) };
     /// How often each item was dropped.
     static DROPS: RefCell<Vec<u32>> = const { RefCell::new(vec![]) };
+    /// Whether a call of the crate runs, and how many items were dropped in one, so that no caller got them.
+    static IN_CALL: Cell<bool> = const { Cell::new(false) };
+    static LOST: Cell<u64> = const { Cell::new(0) };
     /// How many wakers there are.
     static WAKERS: Cell<i64> = const { Cell::new(0) };
 }
@@ -70,6 +73,7 @@ impl<const N: usize> Clone for Item<N> {
 impl<const N: usize> Drop for Item<N> {
     fn drop(&mut self) {
         DROPS.with_borrow_mut(|drops| drops[*self.0] += 1);
+        LOST.set(LOST.get() + u64::from(IN_CALL.get()));
         user_code();
     }
 }
@@ -105,9 +109,17 @@ fn attempt<R>(call: impl FnOnce() -> R) -> Option<R> {
         .ok()
 }
 
-/// Runs this, and drops what it returns.
-fn run<R>(call: impl FnOnce() -> R) {
+/// Makes this call of the crate.
+fn make<R>(call: impl FnOnce() -> R) -> Option<R> {
+    IN_CALL.set(true);
     let done = attempt(call);
+    IN_CALL.set(false);
+    done
+}
+
+/// Makes this call, and drops what it returns.
+fn run<R>(call: impl FnOnce() -> R) {
+    let done = make(call);
     attempt(|| drop(done));
 }
 
@@ -115,7 +127,7 @@ fn run<R>(call: impl FnOnce() -> R) {
 fn poll<F: Future + Unpin>(future: &mut F) -> bool {
     // Not in the frame of the poll, whose result would be lost with a panic.
     let waker = ManuallyDrop::new(waker());
-    let polled = attempt(|| Pin::new(future).poll(&mut Context::from_waker(&waker)));
+    let polled = make(|| Pin::new(future).poll(&mut Context::from_waker(&waker)));
     let waits = matches!(polled, Some(Poll::Pending));
     attempt(|| drop(polled));
     attempt(|| drop(ManuallyDrop::into_inner(waker)));
@@ -149,6 +161,7 @@ fn every_piece_panics(scenario: impl Fn()) {
             }
         }
     }
+    assert_eq!(LOST.get(), 0, "items that no caller got");
 }
 
 fn sends<const N: usize>() {
@@ -240,7 +253,7 @@ fn of_groups<const N: usize>() {
     let mut select = Select::new_biased();
     select.recv(&receivers[1]);
     select.recv(&receivers[0]);
-    run(|| select.try_select().map(drop));
+    run(|| select.try_select());
     run(|| select.try_select().map(|it| it.recv(&receivers[1])));
     run(|| sender.try_send(item()));
     run(|| sender.try_send(item()));
@@ -258,7 +271,7 @@ fn selects<const N: usize>() {
     take.recv(&receiver);
     let mut waits = sender.send_async(item());
     poll(&mut waits);
-    run(|| take.try_select().map(drop));
+    run(|| take.try_select());
     run(|| take.try_select().map(|it| it.recv(&receiver)));
     run(|| take.try_select().map(forget));
     poll(&mut waits);
@@ -266,9 +279,9 @@ fn selects<const N: usize>() {
     send.send(&sender);
     let mut waits_too = receiver.recv_async();
     run(|| send.try_select().map(|it| it.send(&sender, item())));
-    run(|| send.try_select().map(drop));
+    run(|| send.try_select());
     poll(&mut waits_too);
-    if let Some(Ok(room)) = attempt(|| send.try_select()) {
+    if let Some(Ok(room)) = make(|| send.try_select()) {
         run(|| sender.close());
         run(|| room.send(&sender, item()));
     }
@@ -306,23 +319,21 @@ fn meetings<const N: usize>() {
     poll(&mut seven);
     let mut take = Select::new();
     take.recv(&receiver);
-    run(|| take.try_select().map(drop));
+    run(|| take.try_select());
     poll(&mut seven);
     // Selected sends, and tasks that take.
     let mut send = Select::new();
     send.send(&sender);
     let [mut eight, mut nine] = [(); 2].map(|()| receiver.recv_async());
     poll(&mut eight);
-    run(|| send.try_select().map(drop));
+    run(|| send.try_select());
     poll(&mut eight);
-    run(|| {
-        let operation = send.try_select();
-        poll(&mut eight);
-        operation.map(|it| it.send(&sender, item()))
-    });
+    let operation = make(|| send.try_select());
+    poll(&mut eight);
+    run(|| operation.map(|it| it.map(|it| it.send(&sender, item()))));
     poll(&mut eight);
     poll(&mut nine);
-    let operation = attempt(|| send.try_select());
+    let operation = make(|| send.try_select());
     drop_all([nine]);
     run(|| operation.map(|it| it.map(|it| it.send(&sender, item()))));
     let mut last = sender.send_async(item());

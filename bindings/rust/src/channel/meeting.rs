@@ -298,8 +298,9 @@ impl<T> Meeting<T> {
 
     /// Takes an item of one that is posted. Gives None if the channel is closed.
     pub fn try_take(&self) -> Try<Option<T>> {
-        let until = Instant::now() + GRACE;
+        let mut until = None;
         while let Begun::Met(pair) = try_meet(self, TAKES)? {
+            let until = *until.get_or_insert_with(|| Instant::now() + GRACE);
             if self.waits_for_item(pair, Some(until)) {
                 return Ok(self.take(pair));
             }

@@ -51,12 +51,13 @@ fn config(capacity: usize) -> Config {
 /// Opens a channel of items of one type, and gives its first sender and its first receiver.
 ///
 /// Both can be cloned any number of times. Each item goes to one of the receivers. The channel holds at
-/// most `capacity` items, 1 to 4,096: that is the range of the proved queue below. A call that doesn't wait
-/// allocates nothing, but for the send of an item of more than 32 bytes, which lies in a box until it is taken.
+/// most `capacity` items, 1 to 4,096: that is the range of the proved queue below. A send allocates if an item
+/// has more than 32 bytes: it then lies in a box until it is taken. A take allocates only if it waits.
 ///
-/// With capacity 0 a send is over when a receiver has taken the item. If its time is over before, nobody has
-/// it, and it is handed back. `try_send` succeeds if a thread waits in a take or a select, and `try_recv` if
-/// a send waits. Such a channel has no queue: it uses locks, and rests on nothing that is proved.
+/// With capacity 0 a send is over when a receiver has the item. If its time is over before, nobody has
+/// it, and it is handed back. `try_send` succeeds if a take or a select waits, of a thread or a task, and `try_recv`
+/// if a send waits; for the item of a select it waits up to a millisecond. Such a channel has no queue: it uses locks,
+/// and rests on nothing that is proved.
 ///
 /// The channel is closed by [`Sender::close`] or [`Receiver::close`], by the drop of the last sender,
 /// or by that of the last receiver, which also drops what is left in the channel.
@@ -108,8 +109,8 @@ pub fn bounded<T>(capacity: usize) -> Result<(Sender<T>, Receiver<T>), OpenError
 /// receiver of each group.
 ///
 /// There are 1 to 8 groups. A receiver is cloned within its group, and those of a group share the items:
-/// each item goes to one of them. A group gets a clone of each item, or the item itself if all other groups are
-/// done with it. An item takes up room until every group has it, so the slowest group sets the pace. A
+/// each item goes to one of them. A group gets a clone of each item, or the item itself if all other groups
+/// have it already. An item takes up room until every group has it, so the slowest group sets the pace. A
 /// group that has lost its last receiver holds nobody up: the channel goes on without it.
 ///
 /// ```

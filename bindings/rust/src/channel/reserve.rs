@@ -64,16 +64,19 @@ impl<T> Core<T> {
     }
 
     /// Reserves room for one send. Returns whether it has; if not, the channel is closed.
+    ///
+    /// It counts the place first, so that each send that begins now waits for the lock, and leaves the place free. Else
+    /// the sends of others would take the room while this takes their seats.
     pub fn reserve(&self) -> Try<bool> {
         self.seems_to_have_room()?;
         let _in_queue = lock(&self.in_queue);
+        let reserved = self.selected.room.fetch_add(1, Ordering::SeqCst);
         let _seats = self.senders.seats.take_all();
-        if self.is_closed() {
-            return Ok(false);
+        let has_room = self.has_room_beside(reserved).map(|()| !self.is_closed());
+        if has_room != Ok(true) {
+            self.selected.room.fetch_sub(1, Ordering::SeqCst);
         }
-        self.has_room_beside(self.selected.room.load(Ordering::SeqCst))?;
-        self.selected.room.fetch_add(1, Ordering::SeqCst);
-        Ok(true)
+        has_room
     }
 
     /// Gives back room that was reserved.
