@@ -17,8 +17,8 @@ OF_THE_HEADER = {"BAD_VERSION"}
 # The structs by their names in the header, in the library, and in the Rust crate.
 STRUCTS = [
     ("vahepito_config", "Settings", "Config"),
-    ("vahepito_item", "TakenItem", "Item"),
-    # The crate has it as an array of words, and compares its size with the library's when it opens a queue.
+    # The crate has the items as arrays of words, and compares their sizes with the library's when it opens a queue.
+    ("vahepito_item", "TakenItem", "Taken"),
     ("vahepito_words_item", "TakenWords", "Taken"),
 ]
 # Types as C has them. The crate lends a pass as a Pass or as a Handle, which has nothing beside it, and its words may be unwritten.

@@ -38,6 +38,7 @@ fi
 [ -z "$quick" ] || export VAHEPITO_ROUNDS=5 CARGO_PROFILE_DEV_DEBUG=none
 limit=600 step 'Rust: tests' cargo "${options[@]}" test
 limit=600 step 'Rust: tests with the feature unproved' env VAHEPITO_ROUNDS=5 cargo "${options[@]}" test --features unproved
+step 'Rust: the feature unproved is warned of' bash -c "cargo check --locked --offline --features unproved 2>&1 | grep 'warning: .* nothing is proved'"
 step 'Rust: the thread pool' bash -c "prints '9592 primes below 100000' cargo ${options[*]} run --example thread_pool"
 step 'Rust: the pipeline' bash -c "prints '77031 takes 350 steps' cargo ${options[*]} run --example pipeline"
 step 'Rust: the tasks' bash -c "prints 'the sum of the squares up to 10000 is 333383335000' cargo ${options[*]} run --example tasks"
@@ -127,8 +128,8 @@ for source in "path = '$package'" "path = 'within'" "path = '$room/copy'" "git =
     done
 done
 # The last of these, by git, again from what cargo has vendored.
-step 'Rust: the dependency by git, vendored' bash -c "cd '$room/trial' && mkdir .cargo && cargo vendor --quiet --offline >.cargo/config.toml &&
-    rm -rf '$room/repository' && cargo run --quiet --offline"
+step 'Rust: the dependency by git, vendored' bash -c "cd '$room/trial' && mkdir .cargo && cargo vendor --offline >.cargo/config.toml &&
+    CARGO_TARGET_DIR='$room/of_vendored' cargo build -vv --offline 2>&1 | grep 'links .*/trial/vendor/vahepito/lib/'"
 target=aarch64-unknown-linux-gnu
 step 'Rust: another target is refused' bash -c "cd '$room/copy' && ! cargo check --offline --target $target 2>'$room/said' &&
     grep -F 'is built for x86_64-unknown-linux-gnu alone, and the target is $target' '$room/said' && grep -F 'feature \`unproved\`' '$room/said'"

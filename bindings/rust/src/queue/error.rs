@@ -12,7 +12,7 @@ use std::fmt::{Display, Formatter, Result};
 #[derive(Clone, Copy, Debug, PartialEq, Eq, Hash)]
 #[non_exhaustive]
 pub enum OpenError {
-    /// The capacity isn't from 0 to 4,096; of groups, from 1.
+    /// The capacity is more than 4,096, or that of groups is 0.
     Capacity,
     /// The number of groups isn't from 1 to 8.
     Groups,
@@ -32,7 +32,7 @@ pub enum OpenError {
 impl Display for OpenError {
     fn fmt(&self, f: &mut Formatter<'_>) -> Result {
         let said = match *self {
-            Self::Capacity => "the capacity isn't from 0 to 4096, or from 1 with groups",
+            Self::Capacity => "the capacity is more than 4096, or that of groups is 0",
             Self::Groups => "the number of groups isn't from 1 to 8",
             Self::NoMemory => "there is no memory for the queue",
             Self::OtherLibrary { linked, wanted } => {

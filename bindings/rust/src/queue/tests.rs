@@ -49,6 +49,25 @@ fn an_opening_is_refused_by_the_first_number_out_of_its_range() {
 }
 
 #[test]
+fn errors_say_what_is_wrong() {
+    let (linked, wanted) = (1_002_003, 4_005_006);
+    for (error, text) in [
+        (
+            OpenError::Capacity,
+            "the capacity is more than 4096, or that of groups is 0",
+        ),
+        (OpenError::Groups, "the number of groups isn't from 1 to 8"),
+        (OpenError::NoMemory, "there is no memory for the queue"),
+        (
+            OpenError::OtherLibrary { linked, wanted },
+            "the linked library is version 1.2.3, and this crate is for 4.5.6",
+        ),
+    ] {
+        assert_eq!(error.to_string(), text);
+    }
+}
+
+#[test]
 fn one_to_eight_groups_are_opened() {
     for (groups, in_each) in [(1, 1), (1, 64), (8, 1), (8, 64)] {
         let config = Config::new(64, in_each, 4096);
