@@ -35,7 +35,7 @@ impl Error for RecvError {}
 
 /// Errors that say that the channel is closed, as another error does (`$ended`), or something else. They have
 /// the item, if there is one.
-macro_rules! errors {
+macro_rules! channel_errors {
     ($(
         $(#[$doc:meta])*
         $error:ident $(<$item:ident>, $shown:literal)?: $ended:ident or
@@ -91,7 +91,7 @@ macro_rules! errors {
     )+};
 }
 
-errors! {
+channel_errors! {
     /// Why [`try_send`](crate::Sender::try_send) didn't send. It has the item.
     TrySendError<T>, "(..)": SendError or
     /// There is no room now.

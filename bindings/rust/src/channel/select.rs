@@ -1,6 +1,6 @@
 //! One of several operations, over channels of any types: [`Select`] and [`select!`](crate::select!).
 //!
-//! A select tries each operation, in an order by chance. If none is ready, its thread stands in the line of
+//! A select tries each operation, in a random order. If none is ready, its thread stands in the line of
 //! each, and goes on as [`event`](super::event) says of a waiter in several lines: it looks, parks until one
 //! of the lines rings, leaves all, and tries again. It passes on the ring of each line from which it takes
 //! nothing. So no wake-up is lost, and while it is blocked it costs nothing.
@@ -54,7 +54,7 @@ pub trait Case {
     /// The channel and the side at which it is posted, if the channel has capacity 0.
     fn meeting(&self) -> Option<(&dyn Meets, usize)>;
     /// It is posted: rings for those of the other side that aren't.
-    fn is_posted(&self);
+    fn notify_posted(&self);
     /// Begins it, if it is ready.
     fn begin(&self) -> Try<Begun>;
     /// Whether it is ready. It may say so though it isn't.
@@ -115,7 +115,7 @@ impl<T> Case for Receiver<T> {
         Some((self.core().meeting()?, TAKES))
     }
 
-    fn is_posted(&self) {
+    fn notify_posted(&self) {
         self.core().senders.line.ring();
     }
 
@@ -164,7 +164,7 @@ impl<T> Case for Sender<T> {
         Some((self.core().meeting()?, SENDS))
     }
 
-    fn is_posted(&self) {
+    fn notify_posted(&self) {
         self.core().ring_for_item();
     }
 
@@ -172,10 +172,8 @@ impl<T> Case for Sender<T> {
         if let Some((meeting, side)) = self.meeting() {
             return try_meet(meeting, side);
         }
-        match self.core().reserve()? {
-            true => Ok(Begun::Room),
-            false => Ok(Begun::Closed),
-        }
+        let has_room = self.core().reserve()?;
+        Ok(if has_room { Begun::Room } else { Begun::Closed })
     }
 
     fn look(&self) -> Try<()> {
@@ -263,10 +261,10 @@ struct Entry<'a> {
 }
 
 impl Entry<'_> {
-    /// Whether what has begun is for good, with capacity 0: see [`Meets::is_settled`].
-    fn is_settled(&self, begun: &Begun, until: Option<Instant>) -> bool {
+    /// Whether what has begun is for good, with capacity 0: see [`Meets::wait_for_pair`].
+    fn wait_for_pair(&self, begun: &Begun, until: Option<Instant>) -> bool {
         let meeting = self.case.meeting();
-        meeting.is_none_or(|(channel, side)| channel.is_settled(begun, side, until))
+        meeting.is_none_or(|(channel, side)| channel.wait_for_pair(begun, side, until))
     }
 }
 
@@ -275,9 +273,10 @@ impl Entry<'_> {
 fn try_each(entries: &[Entry], begins: bool) -> Result<(usize, Begun), Option<Instant>> {
     let mut moment = None;
     for (place, Entry { case, .. }) in entries.iter().enumerate() {
-        let tried = match begins {
-            true => case.begin(),
-            false => case.look().map(|()| Begun::Nothing),
+        let tried = if begins {
+            case.begin()
+        } else {
+            case.look().map(|()| Begun::Nothing)
         };
         match tried {
             Ok(begun) => return Ok((place, begun)),
@@ -287,8 +286,8 @@ fn try_each(entries: &[Entry], begins: bool) -> Result<(usize, Begun), Option<In
     Err(moment)
 }
 
-/// A number below this one, by chance.
-fn by_chance(limit: usize) -> usize {
+/// A random number below this one.
+fn random_below(limit: usize) -> usize {
     thread_local! {
         static LAST: Cell<u64> = const { Cell::new(0) };
     }
@@ -314,7 +313,7 @@ fn by_chance(limit: usize) -> usize {
 /// operation of a channel that is closed is ready: it gives the error. [`select!`](crate::select!) is a
 /// shorter form.
 ///
-/// If several are ready, chance decides, unless the select [is biased](Select::new_biased). One with no
+/// If several are ready, one of them is made at random, unless the select [is biased](Select::new_biased). One with no
 /// operation waits until its time is over.
 ///
 /// ```
@@ -392,7 +391,7 @@ impl<'a> Select<'a> {
 
     /// Tries each until one is done, or until this moment: begins it, or only looks.
     fn wait(&mut self, until: Option<Instant>, begins: bool) -> Option<(Entry<'a>, Begun)> {
-        self.mix();
+        self.shuffle();
         let is_over = || until.is_some_and(|until| until <= Instant::now());
         // Those that may meet another are posted at once, so that the other finds them.
         let posts = begins && self.entries.iter().any(|it| it.case.meeting().is_some());
@@ -411,7 +410,7 @@ impl<'a> Select<'a> {
                     match self.stand_and_park(until, begins, parker) {
                         Ok((place, begun)) => {
                             let entry = self.entries[place];
-                            if entry.is_settled(&begun, until) {
+                            if entry.wait_for_pair(&begun, until) {
                                 return Some((entry, begun));
                             }
                             // It goes on with the others, and until its time is over.
@@ -432,7 +431,7 @@ impl<'a> Select<'a> {
         let mut left = &self.entries[..];
         while let Ok((place, begun)) = try_each(left, begins) {
             let entry = left[place];
-            if entry.is_settled(&begun, until) {
+            if entry.wait_for_pair(&begun, until) {
                 return Some((entry, begun));
             }
             left = &left[place + 1..];
@@ -509,7 +508,7 @@ impl<'a> Select<'a> {
         if met.is_none() {
             cases
                 .iter()
-                .for_each(|case| self.entries[case.0].case.is_posted());
+                .for_each(|case| self.entries[case.0].case.notify_posted());
             parker.spin();
             parker.park(until);
         }
@@ -519,13 +518,13 @@ impl<'a> Select<'a> {
         })
     }
 
-    /// Puts the operations in an order by chance.
-    fn mix(&mut self) {
+    /// Puts the operations in a random order.
+    fn shuffle(&mut self) {
         if self.is_biased {
             return self.entries.sort_by_key(|it| it.index);
         }
         for last in (1..self.entries.len()).rev() {
-            self.entries.swap(last, by_chance(last + 1));
+            self.entries.swap(last, random_below(last + 1));
         }
     }
 
@@ -712,7 +711,7 @@ impl Drop for SelectedOperation<'_> {
 }
 
 /// Errors of a select without anything in them.
-macro_rules! errors {
+macro_rules! select_errors {
     ($($(#[$docs:meta])+ $name:ident: $text:literal;)+) => {$(
         $(#[$docs])+
         #[derive(Clone, Copy, Debug, PartialEq, Eq, Hash)]
@@ -724,7 +723,7 @@ macro_rules! errors {
     )+};
 }
 
-errors! {
+select_errors! {
     /// Why [`try_select`](Select::try_select) began nothing.
     TrySelectError: "no operation of the select is ready";
     /// Why [`select_timeout`](Select::select_timeout) or [`select_deadline`](Select::select_deadline)
