@@ -1,4 +1,8 @@
 //! Channels of capacity 0: pairs that are given up, calls whose time is over, and tasks.
+#[path = "../src/channel/rounds.rs"]
+mod rounds;
+
+use rounds::rounds;
 use std::panic::{AssertUnwindSafe, catch_unwind, resume_unwind};
 use std::pin::Pin;
 use std::sync::Arc;
@@ -267,15 +271,15 @@ fn a_close_wakes_tasks() {
 /// Tasks that are dropped at random moments, threads, and selects: each item that is sent is taken once.
 #[test]
 fn every_item_is_taken_once() {
-    const ITEMS: u32 = 3000;
-    ends(|| {
+    let items = rounds(3000);
+    ends(move || {
         let (sender, receiver) = open(0);
         let mut taken = thread::scope(|scope| {
             for first in 0..3 {
                 let sender = sender.clone();
                 scope.spawn(move || {
                     let mut number = first;
-                    while number < ITEMS {
+                    while number < items {
                         let sent = match number % 5 {
                             0 => sender.try_send(number).is_ok(),
                             1 => select! {
@@ -326,6 +330,6 @@ fn every_item_is_taken_once() {
             taken.collect::<Vec<_>>()
         });
         taken.sort_unstable();
-        assert!(taken.into_iter().eq(0..ITEMS));
+        assert!(taken.into_iter().eq(0..items));
     });
 }

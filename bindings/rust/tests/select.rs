@@ -115,7 +115,7 @@ fn a_select_that_waits_is_woken_by_any_channel() {
     }
 }
 
-/// Of several that are ready, chance decides; a biased one takes the first.
+/// Of several that are ready, one is made at random; a biased select takes the first.
 #[test]
 fn a_select_is_fair() {
     let channels: Vec<_> = (0..3).map(|_| open::<()>(1)).collect();

@@ -850,7 +850,7 @@ mod meetings {
     }
 
     /// Searches all states that these processes reach. Gives their number, or one that is wrong.
-    pub fn search(model: &Model, fault: Fault) -> Result<usize, State> {
+    pub fn search(model: &Model, fault: Fault) -> Result<usize, Box<State>> {
         let process = Process {
             at: At::Look(0),
             met: None,
@@ -871,7 +871,7 @@ mod meetings {
                 continue;
             }
             if state.is_wrong(model) {
-                return Err(state);
+                return Err(state.into());
             }
             left.extend((0..model.len()).flat_map(|who| state.after(who, model, fault)));
         }

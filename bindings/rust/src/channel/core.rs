@@ -7,7 +7,7 @@
 //! is one step.
 //!
 //! **Order of locks**: the list of groups, all seats, a line. A holder of a seat makes one call of the queue, and
-//! takes no other lock. Code of others (an item's drop or copy, a waker) runs while none is held.
+//! takes no other lock. User code (an item's drop or copy, a waker) runs while none is held.
 use super::body::{Copies, Parcel, Unsent, words_of};
 use super::event::{AT_A_RING, Event, Panics, Try, ignore_panics, lock, soon};
 use super::pool::{Held, Pass, Pool};
@@ -150,14 +150,14 @@ impl<T> Core<T> {
         drop(seat);
         match sent {
             Ok(()) => self.ring_for_item(),
-            Err(refusal) => return self.go_on_sending(item, refusal),
+            Err(refusal) => return self.send_after_refusal(item, refusal),
         }
         Ok(true)
     }
 
     #[cold]
-    pub fn go_on_sending(&self, item: &mut Unsent<T>, refusal: (u32, u64)) -> Try<bool> {
-        if self.goes_on(refusal)? {
+    pub fn send_after_refusal(&self, item: &mut Unsent<T>, refusal: (u32, u64)) -> Try<bool> {
+        if self.retry_after_refusal(refusal)? {
             self.try_send(item)
         } else {
             Ok(false)
@@ -183,9 +183,9 @@ impl<T> Core<T> {
         self.groups.iter().for_each(|group| group.line.ring());
     }
 
-    /// Goes on when this queue didn't accept an item. Returns whether a further try is to be made; if not,
+    /// After this queue refused an item. Returns whether a further try is to be made; if not,
     /// the channel is closed.
-    pub fn goes_on(&self, (code, queue): (u32, u64)) -> Try<bool> {
+    pub fn retry_after_refusal(&self, (code, queue): (u32, u64)) -> Try<bool> {
         // Whether a lost group is in the queue, and holds up the others.
         let is_stale = self.shares.load(Ordering::SeqCst) != self.alive().count();
         match code {
@@ -198,13 +198,13 @@ impl<T> Core<T> {
         if self.is_closed() {
             return Ok(false);
         }
-        let mut let_go = vec![];
+        let mut left_by_lost = vec![];
         if self.senders.seats.take().pass().queue == queue {
-            let_go = self.renew(&mut in_queue).ok_or_else(soon)?;
+            left_by_lost = self.renew(&mut in_queue).ok_or_else(soon)?;
         }
         drop(in_queue);
         // The item isn't sent yet, but this call may go on for others: it doesn't panic.
-        ignore_panics(let_go, drop);
+        ignore_panics(left_by_lost, drop);
         self.senders.line.ring_for_all(&mut Panics::default());
         Ok(true)
     }
@@ -282,10 +282,10 @@ impl<T> Core<T> {
 
     /// The last handle of this side is gone: the channel is closed, or goes on without this group. The items
     /// that the group hasn't taken are dropped.
-    pub fn lose(&self, side: usize) {
+    pub fn last_handle_dropped(&self, side: usize) {
         let mut in_queue = lock(&self.in_queue);
         self.side(side).lost.store(true, Ordering::SeqCst);
-        let let_go = if side == 0 || self.alive().next().is_none() {
+        let left_by_lost = if side == 0 || self.alive().next().is_none() {
             self.close_queue();
             None
         } else {
@@ -300,7 +300,7 @@ impl<T> Core<T> {
         let left = lost.into_iter().flat_map(takes);
         let mut panics = Panics::default();
         self.ring_all(&mut panics);
-        panics.run_each(let_go.into_iter().flatten().chain(left), drop);
+        panics.run_each(left_by_lost.into_iter().flatten().chain(left), drop);
         panics.raise();
     }
 }

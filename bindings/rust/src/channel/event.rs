@@ -41,7 +41,7 @@
 //! store; an exchange would mend it, and each call would pay for it. So a ring for a seat may be missed.
 //! Therefore a waiter for a seat doesn't wait for a ring alone: it looks again after a millisecond. It gets
 //! a seat in the end, since each seat is freed: its holder makes one call of the queue, which waits in no
-//! line and runs no code of others. So a try for an item, which needs a seat, may wait for one while it
+//! line and runs no user code. So a try for an item, which needs a seat, may wait for one while it
 //! stands in line for the item: the two kinds of lines don't hold each other up.
 //!
 //! **Who is taken out and doesn't try any more** rings for the next in line instead
@@ -179,7 +179,7 @@ impl Line {
 
     fn remove(&mut self, number: u64) -> Option<Waker> {
         let waker = self.waker(number)?.take()?;
-        self.has_left();
+        self.count_down();
         Some(waker)
     }
 
@@ -187,11 +187,11 @@ impl Line {
         self.rings += 1;
         let mut first = iter::from_fn(|| self.wakers.pop_front());
         let waker = first.find_map(|it| it.1)?;
-        self.has_left();
+        self.count_down();
         Some(waker)
     }
 
-    fn has_left(&mut self) {
+    fn count_down(&mut self) {
         self.length -= 1;
         if 2 * self.length <= self.wakers.len() {
             self.wakers.retain(|it| it.1.is_some());
@@ -215,7 +215,7 @@ pub struct Ticket {
     rings: u64,
 }
 
-/// A line in which callers wait. It has lines of the cache for itself, since waiters write it, and each call of its side
+/// A line in which callers wait. It has a cache line for itself, since waiters write it, and each call of its side
 /// reads what is near.
 #[derive(Default)]
 #[repr(align(64))]

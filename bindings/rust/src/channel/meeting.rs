@@ -126,7 +126,7 @@ pub trait Meets {
     fn begin(&self, lines: &mut Lines, side: usize) -> Option<Met>;
     /// Whether what has begun is for good: whether a send still has its pair; and whether the pair of a take has its
     /// item, for which it waits until this moment, or [`GRACE`].
-    fn is_settled(&self, begun: &Begun, side: usize, until: Option<Instant>) -> bool;
+    fn wait_for_pair(&self, begun: &Begun, side: usize, until: Option<Instant>) -> bool;
 }
 
 /// An operation of a select that may meet another: its place in the select, its channel, and its side.
@@ -301,7 +301,7 @@ impl<T> Meeting<T> {
         let mut until = None;
         while let Begun::Met(pair) = try_meet(self, TAKES)? {
             let until = *until.get_or_insert_with(|| Instant::now() + GRACE);
-            if self.waits_for_item(pair, Some(until)) {
+            if self.wait_for_item(pair, Some(until)) {
                 return Ok(self.take(pair));
             }
         }
@@ -339,7 +339,7 @@ impl<T> Meeting<T> {
 
     /// Waits until this pair has its item, and returns whether it has. If not, the pair is given up: by the send, or
     /// since the time is over.
-    fn waits_for_item(&self, number: u64, until: Option<Instant>) -> bool {
+    fn wait_for_item(&self, number: u64, until: Option<Instant>) -> bool {
         Parker::with(|parker| {
             let waker = parker.clone().into();
             loop {
@@ -405,7 +405,7 @@ impl<T> Meeting<T> {
     }
 
     /// Whether this item is still posted. It stays so, for this waker.
-    fn stays(&self, number: u64, waker: &Waker, panics: &mut Panics) -> bool {
+    fn keep_offer(&self, number: u64, waker: &Waker, panics: &mut Panics) -> bool {
         let mut waker = Some(waker.clone());
         let mut pairs = lock(&self.pairs);
         let offer = pairs.offer(number);
@@ -417,7 +417,7 @@ impl<T> Meeting<T> {
         offer.is_some()
     }
 
-    fn has(&self, number: u64) -> bool {
+    fn has_offer(&self, number: u64) -> bool {
         lock(&self.pairs).offer(number).is_some()
     }
 
@@ -488,12 +488,12 @@ impl<T> Meets for Meeting<T> {
         met.or_else(|| takes.then(|| pairs.take_offer()).flatten())
     }
 
-    fn is_settled(&self, begun: &Begun, side: usize, until: Option<Instant>) -> bool {
+    fn wait_for_pair(&self, begun: &Begun, side: usize, until: Option<Instant>) -> bool {
         match begun {
             Begun::Met(pair) if side == SENDS => lock(&self.pairs).pair(*pair).is_some(),
             Begun::Met(pair) => {
                 let until = until.map(|until| until.max(Instant::now() + GRACE));
-                self.waits_for_item(*pair, until)
+                self.wait_for_item(*pair, until)
             }
             _ => true,
         }
@@ -593,7 +593,7 @@ impl<T> Sender<T> {
         panics: &mut Panics,
     ) -> Poll<Result<(), SendError<T>>> {
         let left = if let Some(number) = *offer {
-            if meeting.stays(number, waker, panics) && !self.is_closed() {
+            if meeting.keep_offer(number, waker, panics) && !self.is_closed() {
                 return Poll::Pending;
             }
             *offer = None;
@@ -632,7 +632,7 @@ impl<T> Sender<T> {
                 loop {
                     parker.park(until);
                     let is_over = until.is_some_and(|until| until <= Instant::now());
-                    if is_over || self.is_closed() || !meeting.has(number) {
+                    if is_over || self.is_closed() || !meeting.has_offer(number) {
                         return meeting.withdraw(number, &mut Panics::default());
                     }
                 }

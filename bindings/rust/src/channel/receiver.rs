@@ -136,8 +136,8 @@ impl<T> Receiver<T> {
     /// use vahepito::RecvTimeoutError;
     ///
     /// let (_sender, receiver) = vahepito::channel::<u8>(1)?;
-    /// let told = receiver.recv_timeout(Duration::from_millis(5));
-    /// assert_eq!(told, Err(RecvTimeoutError::Timeout));
+    /// let result = receiver.recv_timeout(Duration::from_millis(5));
+    /// assert_eq!(result, Err(RecvTimeoutError::Timeout));
     /// # Ok::<(), vahepito::OpenError>(())
     /// ```
     pub fn recv_timeout(&self, time: Duration) -> Result<T, RecvTimeoutError> {

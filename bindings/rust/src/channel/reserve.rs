@@ -7,7 +7,7 @@ use crate::backoff::Backoff;
 use std::sync::atomic::Ordering;
 
 /// Waits until whoever has a seat has counted what went through it.
-fn settle(seats: &Pool) {
+fn wait_for_holders(seats: &Pool) {
     seats.take_each().for_each(drop);
 }
 
@@ -19,11 +19,12 @@ impl<T> Core<T> {
         let taken = self.side(group).seats.count();
         let has_item = || taken < self.senders.seats.count();
         if !has_item() {
-            settle(&self.senders.seats);
+            wait_for_holders(&self.senders.seats);
         }
-        match has_item() || self.is_closed() {
-            true => Ok(()),
-            false => Err(AT_A_RING),
+        if has_item() || self.is_closed() {
+            Ok(())
+        } else {
+            Err(AT_A_RING)
         }
     }
 
@@ -53,20 +54,21 @@ impl<T> Core<T> {
         let is_full = self.alive().any(|Side { seats, .. }| {
             // The look without the seats is cheaper.
             is_full(seats) && {
-                settle(seats);
+                wait_for_holders(seats);
                 is_full(seats)
             }
         });
-        match is_full && !self.is_closed() {
-            true => Err(AT_A_RING),
-            false => Ok(()),
+        if is_full && !self.is_closed() {
+            Err(AT_A_RING)
+        } else {
+            Ok(())
         }
     }
 
     /// Reserves room for one send. Returns whether it has; if not, the channel is closed.
     ///
     /// It counts the place first, so that each send that begins now waits for the lock, and leaves the place free. Else
-    /// the sends of others would take the room while this takes their seats.
+    /// other sends would take the room while this takes their seats.
     pub fn reserve(&self) -> Try<bool> {
         self.seems_to_have_room()?;
         let _in_queue = lock(&self.in_queue);
@@ -98,7 +100,7 @@ impl<T> Core<T> {
                 return true;
             };
             drop(seat);
-            match self.goes_on(refusal) {
+            match self.retry_after_refusal(refusal) {
                 Ok(true) => {}
                 Ok(false) => {
                     self.give_back_room();
@@ -124,7 +126,7 @@ impl<T> Core<T> {
                 self.ring_for_item();
                 Ok(true)
             }
-            Err(refusal) => self.go_on_sending(item, refusal),
+            Err(refusal) => self.send_after_refusal(item, refusal),
         }
     }
 }

@@ -1,6 +1,6 @@
 //! One of several operations, over channels of any types: [`Select`] and [`select!`](crate::select!).
 //!
-//! A select tries each operation, in an order by chance. If none is ready, its thread stands in the line of
+//! A select tries each operation, in a random order. If none is ready, its thread stands in the line of
 //! each, and goes on as [`event`](super::event) says of a waiter in several lines: it looks, parks until one
 //! of the lines rings, leaves all, and tries again. It passes on the ring of each line from which it takes
 //! nothing. So no wake-up is lost, and while it is blocked it costs nothing.
@@ -59,7 +59,7 @@ pub trait Case {
     /// The channel and the side at which it is posted, if the channel has capacity 0.
     fn meeting(&self) -> Option<(&dyn Meets, usize)>;
     /// It is posted: rings for those of the other side that aren't.
-    fn is_posted(&self);
+    fn notify_posted(&self);
     /// Begins it, if it is ready.
     fn begin(&self) -> Try<Begun>;
     /// Whether it is ready. It may say so though it isn't.
@@ -120,7 +120,7 @@ impl<T> Case for Receiver<T> {
         Some((self.core().meeting()?, TAKES))
     }
 
-    fn is_posted(&self) {
+    fn notify_posted(&self) {
         self.core().senders.line.ring();
     }
 
@@ -169,7 +169,7 @@ impl<T> Case for Sender<T> {
         Some((self.core().meeting()?, SENDS))
     }
 
-    fn is_posted(&self) {
+    fn notify_posted(&self) {
         self.core().ring_for_item();
     }
 
@@ -177,10 +177,8 @@ impl<T> Case for Sender<T> {
         if let Some((meeting, side)) = self.meeting() {
             return try_meet(meeting, side);
         }
-        match self.core().reserve()? {
-            true => Ok(Begun::Room),
-            false => Ok(Begun::Closed),
-        }
+        let has_room = self.core().reserve()?;
+        Ok(if has_room { Begun::Room } else { Begun::Closed })
     }
 
     fn look(&self) -> Try<()> {
@@ -269,10 +267,10 @@ pub struct Entry<R> {
 }
 
 impl<R: Deref<Target: Case>> Entry<R> {
-    /// Whether what has begun is for good, with capacity 0: see [`Meets::is_settled`].
-    fn is_settled(&self, begun: &Begun, until: Option<Instant>) -> bool {
+    /// Whether what has begun is for good, with capacity 0: see [`Meets::wait_for_pair`].
+    fn wait_for_pair(&self, begun: &Begun, until: Option<Instant>) -> bool {
         let meeting = self.case.meeting();
-        meeting.is_none_or(|(channel, side)| channel.is_settled(begun, side, until))
+        meeting.is_none_or(|(channel, side)| channel.wait_for_pair(begun, side, until))
     }
 }
 
@@ -284,9 +282,10 @@ fn try_each<R: Deref<Target: Case>>(
 ) -> Result<(usize, Begun), Option<Instant>> {
     let mut moment = None;
     for (place, Entry { case, .. }) in entries.iter().enumerate() {
-        let tried = match begins {
-            true => case.begin(),
-            false => case.look().map(|()| Begun::Nothing),
+        let tried = if begins {
+            case.begin()
+        } else {
+            case.look().map(|()| Begun::Nothing)
         };
         match tried {
             Ok(begun) => return Ok((place, begun)),
@@ -296,8 +295,8 @@ fn try_each<R: Deref<Target: Case>>(
     Err(moment)
 }
 
-/// A number below this one, by chance.
-fn by_chance(limit: usize) -> usize {
+/// A random number below this one.
+fn random_below(limit: usize) -> usize {
     thread_local! {
         static LAST: Cell<u64> = const { Cell::new(0) };
     }
@@ -323,7 +322,7 @@ fn by_chance(limit: usize) -> usize {
 /// operation of a channel that is closed is ready: it gives the error. [`select!`](crate::select!) is a
 /// shorter form.
 ///
-/// If several are ready, chance decides, unless the select [is biased](Select::new_biased). One with no
+/// If several are ready, one of them is made at random, unless the select [is biased](Select::new_biased). One with no
 /// operation waits until its time is over.
 ///
 /// A select may go to another thread, so the items are `Send`. The macros have a select of their own, which stays
@@ -475,7 +474,7 @@ impl<R: Copy + Deref<Target: Case>> Cases<R> {
         until: Option<Instant>,
         begins: bool,
     ) -> Option<(Entry<R>, Begun)> {
-        self.mix();
+        self.shuffle();
         let is_over = || until.is_some_and(|until| until <= Instant::now());
         // Those that may meet another are posted at once, so that the other finds them.
         let posts = begins && self.entries.iter().any(|it| it.case.meeting().is_some());
@@ -494,7 +493,7 @@ impl<R: Copy + Deref<Target: Case>> Cases<R> {
                     match self.stand_and_park(until, begins, parker) {
                         Ok((place, begun)) => {
                             let entry = self.entries[place];
-                            if entry.is_settled(&begun, until) {
+                            if entry.wait_for_pair(&begun, until) {
                                 return Some((entry, begun));
                             }
                             // It goes on with the others, and until its time is over.
@@ -515,7 +514,7 @@ impl<R: Copy + Deref<Target: Case>> Cases<R> {
         let mut left = &self.entries[..];
         while let Ok((place, begun)) = try_each(left, begins) {
             let entry = left[place];
-            if entry.is_settled(&begun, until) {
+            if entry.wait_for_pair(&begun, until) {
                 return Some((entry, begun));
             }
             left = &left[place + 1..];
@@ -590,7 +589,7 @@ impl<R: Copy + Deref<Target: Case>> Cases<R> {
         if met.is_none() {
             cases
                 .iter()
-                .for_each(|case| self.entries[case.0].case.is_posted());
+                .for_each(|case| self.entries[case.0].case.notify_posted());
             parker.spin();
             parker.park(until);
         }
@@ -600,13 +599,13 @@ impl<R: Copy + Deref<Target: Case>> Cases<R> {
         })
     }
 
-    /// Puts the operations in an order by chance.
-    fn mix(&mut self) {
+    /// Puts the operations in a random order.
+    fn shuffle(&mut self) {
         if self.is_biased {
             return self.entries.sort_by_key(|it| it.index);
         }
         for last in (1..self.entries.len()).rev() {
-            self.entries.swap(last, by_chance(last + 1));
+            self.entries.swap(last, random_below(last + 1));
         }
     }
 }

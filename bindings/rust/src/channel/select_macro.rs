@@ -10,7 +10,7 @@
 /// - `default => expression`, once at most, if no operation is ready;
 /// - `default(time) => expression`, if none is ready in that time.
 ///
-/// If several are ready, chance decides; [`select_biased!`](crate::select_biased!) takes the first of them.
+/// If several are ready, one of them is made at random; [`select_biased!`](crate::select_biased!) takes the first of them.
 /// How it waits, and what it promises, is that of [`Select`](crate::Select). Without a default it waits until
 /// an operation is ready.
 ///
@@ -23,11 +23,11 @@
 ///
 /// let (numbers, words) = (channel(1)?, channel(1)?);
 /// words.0.send("hello").unwrap();
-/// let told = select! {
+/// let result = select! {
 ///     recv(numbers.1) -> number => number.unwrap(),
 ///     recv(words.1) -> word => word.unwrap().len(),
 /// };
-/// assert_eq!(told, 5);
+/// assert_eq!(result, 5);
 /// select! {
 ///     recv(words.1) -> _ => unreachable!("there is none"),
 ///     send(numbers.0, 7) -> sent => sent.unwrap(),
@@ -80,16 +80,16 @@ macro_rules! __select {
         $crate::__select!(@read $biased $arms $default default() => $($rest)*)
     };
     (@read $biased:literal $arms:tt $default:tt
-        $kind:ident $of:tt $(-> $told:pat)? => $body:expr, $($rest:tt)*) => {
-        $crate::__select!(@sort $biased $arms $default [$kind $of ($($told)?) $body] $($rest)*)
+        $kind:ident $of:tt $(-> $result:pat)? => $body:expr, $($rest:tt)*) => {
+        $crate::__select!(@sort $biased $arms $default [$kind $of ($($result)?) $body] $($rest)*)
     };
     (@read $biased:literal $arms:tt $default:tt
-        $kind:ident $of:tt $(-> $told:pat)? => $body:block $($rest:tt)*) => {
-        $crate::__select!(@sort $biased $arms $default [$kind $of ($($told)?) $body] $($rest)*)
+        $kind:ident $of:tt $(-> $result:pat)? => $body:block $($rest:tt)*) => {
+        $crate::__select!(@sort $biased $arms $default [$kind $of ($($result)?) $body] $($rest)*)
     };
     (@read $biased:literal $arms:tt $default:tt
-        $kind:ident $of:tt $(-> $told:pat)? => $body:expr) => {
-        $crate::__select!(@sort $biased $arms $default [$kind $of ($($told)?) $body])
+        $kind:ident $of:tt $(-> $result:pat)? => $body:expr) => {
+        $crate::__select!(@sort $biased $arms $default [$kind $of ($($result)?) $body])
     };
     (@read $biased:literal $arms:tt $default:tt $($wrong:tt)+) => {
         ::core::compile_error!(::core::concat!(
@@ -99,12 +99,12 @@ macro_rules! __select {
     };
 
     (@sort $biased:literal [$($arms:tt)*] $default:tt
-        [recv ($of:expr $(,)?) ($told:pat) $body:expr] $($rest:tt)*) => {
-        $crate::__select!(@read $biased [$($arms)* [recv ($of) ($told) $body]] $default $($rest)*)
+        [recv ($of:expr $(,)?) ($result:pat) $body:expr] $($rest:tt)*) => {
+        $crate::__select!(@read $biased [$($arms)* [recv ($of) ($result) $body]] $default $($rest)*)
     };
     (@sort $biased:literal [$($arms:tt)*] $default:tt
-        [send ($of:expr, $item:expr $(,)?) ($told:pat) $body:expr] $($rest:tt)*) => {
-        $crate::__select!(@read $biased [$($arms)* [send ($of, $item) ($told) $body]] $default $($rest)*)
+        [send ($of:expr, $item:expr $(,)?) ($result:pat) $body:expr] $($rest:tt)*) => {
+        $crate::__select!(@read $biased [$($arms)* [send ($of, $item) ($result) $body]] $default $($rest)*)
     };
     (@sort $biased:literal $arms:tt [] [default ($($time:expr $(,)?)?) () $body:expr] $($rest:tt)*) => {
         $crate::__select!(@read $biased $arms [($($time)?) $body] $($rest)*)
@@ -119,24 +119,24 @@ macro_rules! __select {
     };
 
     (@add $select:ident [$($made:tt)*] $default:tt
-        [recv ($of:expr) ($told:pat) $body:expr] $($arms:tt)*) => {
+        [recv ($of:expr) ($result:pat) $body:expr] $($arms:tt)*) => {
         match $of {
             ref receiver => {
                 let receiver: &$crate::Receiver<_> = receiver;
                 let index = $select.add(receiver);
                 $crate::__select!(@add $select
-                    [$($made)* [index ($told) (recv(receiver)) $body]] $default $($arms)*)
+                    [$($made)* [index ($result) (recv(receiver)) $body]] $default $($arms)*)
             }
         }
     };
     (@add $select:ident [$($made:tt)*] $default:tt
-        [send ($of:expr, $item:expr) ($told:pat) $body:expr] $($arms:tt)*) => {
+        [send ($of:expr, $item:expr) ($result:pat) $body:expr] $($arms:tt)*) => {
         match $of {
             ref sender => {
                 let sender: &$crate::Sender<_> = sender;
                 let index = $select.add(sender);
                 $crate::__select!(@add $select
-                    [$($made)* [index ($told) (send(sender, $item)) $body]] $default $($arms)*)
+                    [$($made)* [index ($result) (send(sender, $item)) $body]] $default $($arms)*)
             }
         }
     };
@@ -158,12 +158,12 @@ macro_rules! __select {
     };
 
     (@make $operation:ident) => {
-        ::core::unreachable!("another operation is selected")
+        ::core::unreachable!("no other operation is selected")
     };
     (@make $operation:ident
-        [$index:ident ($told:pat) ($call:ident($($with:tt)*)) $body:expr] $($others:tt)*) => {
+        [$index:ident ($result:pat) ($call:ident($($with:tt)*)) $body:expr] $($others:tt)*) => {
         if $operation.index() == $index {
-            let $told = $operation.$call($($with)*);
+            let $result = $operation.$call($($with)*);
             $body
         } else {
             $crate::__select!(@make $operation $($others)*)

@@ -136,8 +136,8 @@ impl<T> Sender<T> {
     ///
     /// let (sender, _receiver) = vahepito::channel(1)?;
     /// sender.send(1).unwrap();
-    /// let told = sender.send_timeout(2, Duration::from_millis(5));
-    /// assert_eq!(told, Err(SendTimeoutError::Timeout(2)));
+    /// let result = sender.send_timeout(2, Duration::from_millis(5));
+    /// assert_eq!(result, Err(SendTimeoutError::Timeout(2)));
     /// # Ok::<(), vahepito::OpenError>(())
     /// ```
     pub fn send_timeout(&self, item: T, time: Duration) -> Result<(), SendTimeoutError<T>> {

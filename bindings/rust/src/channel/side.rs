@@ -19,7 +19,7 @@ pub struct Shared<T> {
 
 impl<T> Drop for Shared<T> {
     fn drop(&mut self) {
-        self.core.lose(self.side);
+        self.core.last_handle_dropped(self.side);
     }
 }
 
@@ -65,10 +65,10 @@ impl<T> Handle<T> {
     /// Tries until it is done, or until this moment: then None. Between the tries it waits for rings.
     ///
     /// A thread that passed several items since its last wait is faster than the other side. If it tries again at
-    /// once, both meet at each item, and wait for the same line of the cache. So it lets the other side go ahead.
+    /// once, both meet at each item, and wait for the same cache line. So it lets the other side go ahead.
     pub fn wait<R>(&self, until: Option<Instant>, attempt: impl FnMut() -> Try<R>) -> Option<R> {
         let Side { line, seats, .. } = self.core().side(self.side());
-        if self.core().capacity() >= ROOM_AHEAD && seats.has_passed_several() {
+        if self.core().capacity() >= ROOM_AHEAD && seats.check_ahead() {
             let_ahead();
         }
         wait(line, until, attempt)

@@ -1,4 +1,4 @@
-//! Channels without a queue: those of capacity 0, and receivers of moments.
+//! Channels without a queue: those of capacity 0, and timers.
 use super::body::Parcel;
 use super::core::Core;
 use super::event::Try;
@@ -10,7 +10,7 @@ use std::sync::atomic::{AtomicBool, Ordering};
 pub enum Special<T> {
     /// It has capacity 0.
     Meeting(Meeting<T>),
-    /// It is a receiver of moments.
+    /// It is `after`, `at`, `tick` or `never`.
     Timer(Timer<T>),
 }
 
@@ -36,7 +36,7 @@ impl<T> Special<T> {
 }
 
 impl<T> Core<T> {
-    /// Whether it is a receiver of moments. `never` isn't.
+    /// Whether it is `after`, `at` or `tick`.
     pub fn is_timer(&self) -> bool {
         matches!(&self.special, Some(Special::Timer(timer)) if timer.has_item())
     }

@@ -1,4 +1,4 @@
-//! Receivers of moments, and of nothing. None has a thread: who waits for it parks until the moment.
+//! Timers, and a receiver that has no item. None has a thread: a call that waits parks until the moment.
 use super::core::Core;
 use super::event::{AT_A_RING, Try, lock};
 use super::special::Special;
@@ -26,9 +26,9 @@ impl<T> Timer<T> {
         if now < at {
             return Err(Some(at));
         }
-        let next = |every: Duration| match now - at < every {
-            true => at.checked_add(every),
-            false => now.checked_add(every),
+        let next = |every: Duration| {
+            let from = if now - at < every { at } else { now };
+            from.checked_add(every)
         };
         *due = self.every.and_then(next);
         Ok(item(at))
@@ -91,11 +91,11 @@ pub fn at(moment: Instant) -> Receiver<Instant> {
 ///
 /// let (_sender, receiver) = channel::<u32>(1)?;
 /// let over = after(Duration::from_millis(5));
-/// let told = select! {
+/// let result = select! {
 ///     recv(receiver) -> number => number.ok(),
 ///     recv(over) -> _ => None,
 /// };
-/// assert_eq!(told, None);
+/// assert_eq!(result, None);
 /// # Ok::<(), vahepito::OpenError>(())
 /// ```
 #[must_use]
