@@ -47,6 +47,7 @@ limit=600 step 'Rust: tests with the feature unproved' env VAHEPITO_ROUNDS=5 car
 step 'Rust: the feature unproved is warned of' bash -c "cargo check --locked --offline --features unproved 2>&1 | grep 'warning: .* nothing is proved'"
 step 'Rust: the thread pool' bash -c "prints '9592 primes below 100000' cargo ${options[*]} run --example thread_pool"
 step 'Rust: the pipeline' bash -c "prints '77031 takes 350 steps' cargo ${options[*]} run --example pipeline"
+step 'Rust: the tasks' bash -c "prints 'the sum of the squares up to 10000 is 333383335000' cargo ${options[*]} run --example tasks"
 step 'Rust: the log' bash -c "prints '40000 events in the archive, 4000 alarms' cargo ${options[*]} run --example log"
 for archive in "$room"/c/*/libvahepito.a; do
     [ -f "$archive" ] || continue

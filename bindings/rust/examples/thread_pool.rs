@@ -27,7 +27,8 @@ impl Pool {
         Ok(Pool { jobs, threads })
     }
 
-    /// Hands a job to the threads. It waits while there is no room.
+    /// Hands a job to the threads. It waits while there is no room. So a job doesn't call it: if all threads waited for
+    /// room, no thread would take a job.
     fn run(&self, job: impl FnOnce() + Send + 'static) {
         let sent = self.jobs.send(Box::new(job));
         sent.expect("the threads hold their receivers");

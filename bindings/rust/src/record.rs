@@ -67,6 +67,14 @@ pub struct Recorder {
 
 impl Recorder {
     /// A recorder without calls. All recorders of a log have one start.
+    ///
+    /// ```
+    /// use std::time::Instant;
+    /// use vahepito::record::Recorder;
+    ///
+    /// let start = Instant::now();
+    /// let _of_each_thread = [Recorder::new(start), Recorder::new(start)];
+    /// ```
     #[must_use]
     pub fn new(start: Instant) -> Recorder {
         let calls = Vec::new();
@@ -74,6 +82,24 @@ impl Recorder {
     }
 
     /// Sends the item by this call, and records it. If the call unwinds it is recorded as one that hasn't returned.
+    ///
+    /// ```
+    /// use std::time::Instant;
+    /// use vahepito::TrySendError;
+    /// use vahepito::record::{Recorder, Sent};
+    ///
+    /// let (sender, _receiver) = vahepito::channel(1)?;
+    /// let mut recorder = Recorder::new(Instant::now());
+    /// let mut send = |item| {
+    ///     recorder.send(item, || match sender.try_send(item) {
+    ///         Ok(()) => Sent::Accepted,
+    ///         Err(TrySendError::Full(_)) => Sent::Full,
+    ///         Err(TrySendError::Disconnected(_)) => Sent::Closed,
+    ///     })
+    /// };
+    /// assert_eq!((send(1), send(2)), (Sent::Accepted, Sent::Full));
+    /// # Ok::<(), vahepito::OpenError>(())
+    /// ```
     pub fn send(&mut self, item: u64, call: impl FnOnce() -> Sent) -> Sent {
         self.begin(Call::Send(item, None));
         let answer = call();
@@ -82,6 +108,22 @@ impl Recorder {
     }
 
     /// Takes by this call, and records it. If the call unwinds it is recorded as one that hasn't returned.
+    ///
+    /// ```
+    /// use std::time::Instant;
+    /// use vahepito::TryRecvError;
+    /// use vahepito::record::{Recorder, Taken};
+    ///
+    /// let (_sender, receiver) = vahepito::channel::<u64>(1)?;
+    /// let mut recorder = Recorder::new(Instant::now());
+    /// let taken = recorder.take(|| match receiver.try_recv() {
+    ///     Ok(item) => Taken::Item(item),
+    ///     Err(TryRecvError::Empty) => Taken::None,
+    ///     Err(TryRecvError::Disconnected) => Taken::Ended,
+    /// });
+    /// assert_eq!(taken, Taken::None);
+    /// # Ok::<(), vahepito::OpenError>(())
+    /// ```
     pub fn take(&mut self, call: impl FnOnce() -> Taken) -> Taken {
         self.begin(Call::Take(None));
         let answer = call();
@@ -122,7 +164,23 @@ impl Recorder {
 }
 
 /// Writes the calls of all threads as one log, a JSON object a line (`docs/FORMATS.md`, "Logs of calls"); a thread's name
-/// is the place of its recorder. The error is that of `out`.
+/// is the place of its recorder.
+///
+/// # Errors
+///
+/// That of `out`.
+///
+/// ```
+/// use std::time::Instant;
+/// use vahepito::record::{Recorder, Taken, write};
+///
+/// let mut recorder = Recorder::new(Instant::now());
+/// recorder.take(|| Taken::None);
+/// let mut log = Vec::new();
+/// write(&[recorder], &mut log)?;
+/// assert!(log.ends_with(b",\"take\":null}\n"));
+/// # Ok::<(), std::io::Error>(())
+/// ```
 pub fn write(recorders: &[Recorder], out: &mut impl Write) -> io::Result<()> {
     for (thread, recorder) in recorders.iter().enumerate() {
         for Entry { begin, end, call } in &recorder.calls {

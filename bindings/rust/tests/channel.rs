@@ -11,8 +11,9 @@ use std::sync::{Arc, Mutex};
 use std::thread;
 use std::time::{Duration, Instant};
 use vahepito::{
-    OpenError, Receiver, RecvError, RecvTimeoutError, SendError, SendTimeoutError, Sender,
-    TryRecvError, TrySendError, channel, groups,
+    OpenError, ReadyTimeoutError, Receiver, RecvError, RecvTimeoutError, SelectTimeoutError,
+    SendError, SendTimeoutError, Sender, TryReadyError, TryRecvError, TrySelectError, TrySendError,
+    WeakReceiver, WeakSender, bounded, channel, groups,
 };
 
 /// An item that counts how many of its kind there are.
@@ -265,16 +266,68 @@ fn iterators_end_where_they_say() {
     assert_eq!((rest.next(), rest.next()), (None, None));
 }
 
+/// A drain takes what was there when it was made, and ends though more is sent.
+#[test]
+fn a_drain_ends() {
+    let (sender, receiver) = channel(8).unwrap();
+    (1..=3).for_each(|number| sender.send(number).unwrap());
+    let mut drain = receiver.drain();
+    assert_eq!(drain.size_hint(), (0, Some(3)));
+    sender.send(4).unwrap();
+    assert_eq!(drain.next(), Some(1));
+    // Another receiver takes one of them.
+    assert_eq!(receiver.clone().recv(), Ok(2));
+    assert!(drain.by_ref().eq([3, 4]));
+    sender.send(5).unwrap();
+    assert_eq!(drain.next(), None);
+    // What a drain hasn't taken stays.
+    drop(receiver.drain());
+    assert_eq!(receiver.recv(), Ok(5));
+    let mut drain = receiver.drain();
+    sender.send(6).unwrap();
+    assert_eq!(drain.next(), None);
+    drop(sender);
+    assert!(receiver.drain().eq([6]));
+    assert_eq!(receiver.drain().next(), None);
+}
+
+/// Each side counts its own handles, and those of the other one.
+#[test]
+fn handles_of_both_sides_are_counted() {
+    let (sender, receivers) = groups::<u8>(1, 2).unwrap();
+    let counts = |receiver: &Receiver<u8>| (receiver.sender_count(), receiver.receiver_count());
+    let (other, third) = (sender.clone(), receivers[1].clone());
+    assert_eq!((sender.sender_count(), sender.receiver_count()), (2, 3));
+    assert_eq!((counts(&receivers[0]), counts(&third)), ((2, 1), (2, 2)));
+    let weak = other.downgrade();
+    drop((other, receivers));
+    assert_eq!((sender.sender_count(), sender.receiver_count()), (1, 1));
+    let upgraded = weak.upgrade();
+    assert_eq!(counts(&third), (2, 1));
+    drop((upgraded, sender));
+    assert_eq!(counts(&third), (0, 1));
+    assert_eq!(vahepito::never::<u8>().sender_count(), 0);
+}
+
+/// `bounded` is `channel`.
+#[test]
+fn bounded_has_a_bound() {
+    let (sender, receiver) = bounded(1).unwrap();
+    assert_eq!((sender.send('a'), receiver.capacity()), (Ok(()), Some(1)));
+    assert!(sender.try_send('b').unwrap_err().is_full());
+    assert!(bounded::<u8>(4097).is_err());
+}
+
 #[test]
 fn errors_say_what_is_wrong() {
-    const CLOSED: &str = "sending on a channel that is closed";
-    const ENDED: &str = "receiving on a channel that is closed and has no more items";
+    const CLOSED: &str = "sending on a disconnected channel";
+    const ENDED: &str = "receiving on an empty and disconnected channel";
     // An item without `Debug`.
     struct Item;
-    let errors: [(&str, &str, Box<dyn Error>); 10] = [
+    let errors: [(&str, &str, Box<dyn Error>); 14] = [
         (CLOSED, "SendError(..)", SendError(Item).into()),
         (
-            "sending on a channel that is full",
+            "sending on a full channel",
             "Full(..)",
             TrySendError::Full(Item).into(),
         ),
@@ -284,31 +337,51 @@ fn errors_say_what_is_wrong() {
             TrySendError::from(SendError(Item)).into(),
         ),
         (
-            "sending took longer than it was given",
-            "Timeout(..)",
+            "timed out waiting on send operation",
+            "SendTimeoutError(..)",
             SendTimeoutError::Timeout(Item).into(),
         ),
         (
             CLOSED,
-            "Disconnected(..)",
+            "SendTimeoutError(..)",
             SendTimeoutError::from(SendError(Item)).into(),
         ),
         (ENDED, "RecvError", RecvError.into()),
         (
-            "receiving on a channel that is empty",
+            "receiving on an empty channel",
             "Empty",
             TryRecvError::Empty.into(),
         ),
         (ENDED, "Disconnected", TryRecvError::from(RecvError).into()),
         (
-            "receiving took longer than it was given",
+            "timed out waiting on receive operation",
             "Timeout",
             RecvTimeoutError::Timeout.into(),
         ),
         (
-            ENDED,
+            "channel is empty and disconnected",
             "Disconnected",
             RecvTimeoutError::from(RecvError).into(),
+        ),
+        (
+            "all operations in select would block",
+            "TrySelectError",
+            TrySelectError.into(),
+        ),
+        (
+            "timed out waiting on select",
+            "SelectTimeoutError",
+            SelectTimeoutError.into(),
+        ),
+        (
+            "all operations in select would block",
+            "TryReadyError",
+            TryReadyError.into(),
+        ),
+        (
+            "timed out waiting on select",
+            "ReadyTimeoutError",
+            ReadyTimeoutError.into(),
         ),
     ];
     for (display, debug, error) in errors {
@@ -333,6 +406,8 @@ fn handles_go_where_they_may() {
     // An item that isn't `Sync`.
     goes::<Sender<std::cell::Cell<u8>>>();
     goes::<Receiver<std::cell::Cell<u8>>>();
+    goes::<WeakSender<std::cell::Cell<u8>>>();
+    goes::<WeakReceiver<std::cell::Cell<u8>>>();
 }
 
 /// Items that stay on their thread pass too: the handles are asked whether they may go, and not the opening.

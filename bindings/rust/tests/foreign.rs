@@ -1,4 +1,4 @@
-//! Code of others (an item's drop or clone, a waker) that takes long, blocks, panics, or comes back to
+//! User code (an item's drop or clone, a waker) that takes long, blocks, panics, or comes back to
 //! the channel: it holds up nobody, and loses nobody's ring.
 use std::panic::{AssertUnwindSafe, catch_unwind, resume_unwind};
 use std::pin::Pin;

@@ -214,3 +214,45 @@ fn a_task_leaves_a_long_line_at_once() {
     // A line that is searched takes tens of seconds. As it is, an optimized build has some 30 ms.
     assert!(again + left < Duration::from_secs(5));
 }
+
+/// A future that is done takes and sends nothing any more, at any capacity, and each further poll is pending.
+#[test]
+fn a_future_that_is_done_stays_so() {
+    let woken = Arc::new(Woken::default());
+    for capacity in [0, 1, 4] {
+        let (sender, receiver) = channel(capacity).unwrap();
+        let (mut takes, mut sends) = (receiver.recv_async(), sender.send_async(1));
+        assert!(!takes.is_terminated() && !sends.is_terminated());
+        if capacity == 0 {
+            assert_eq!(poll(&mut sends, &woken), Poll::Pending);
+            assert!(!sends.is_terminated());
+        } else {
+            assert_eq!(poll(&mut sends, &woken), Poll::Ready(Ok(())));
+        }
+        assert_eq!(poll(&mut takes, &woken), Poll::Ready(Ok(1)));
+        if capacity == 0 {
+            assert_eq!(poll(&mut sends, &woken), Poll::Ready(Ok(())));
+        }
+        assert!(takes.is_terminated() && sends.is_terminated());
+        // Neither takes what is sent next, nor sends again.
+        let mut second = sender.send_async(2);
+        let is_sent = poll(&mut second, &woken).is_ready();
+        assert_eq!(is_sent, capacity != 0);
+        for _ in 0..3 {
+            assert_eq!(poll(&mut takes, &woken), Poll::Pending);
+            assert_eq!(poll(&mut sends, &woken), Poll::Pending);
+        }
+        assert_eq!(receiver.try_recv(), Ok(2));
+        assert!(receiver.try_recv().unwrap_err().is_empty());
+        // The end, and an item that is handed back, are given once, too.
+        let mut takes = receiver.recv_async();
+        assert_eq!(poll(&mut takes, &woken), Poll::Pending);
+        assert!(sender.close());
+        let mut sends = sender.send_async(3);
+        assert_eq!(poll(&mut sends, &woken), Poll::Ready(Err(SendError(3))));
+        assert_eq!(poll(&mut takes, &woken), Poll::Ready(Err(RecvError)));
+        assert!(takes.is_terminated() && sends.is_terminated());
+        assert_eq!(poll(&mut sends, &woken), Poll::Pending);
+        assert_eq!(poll(&mut takes, &woken), Poll::Pending);
+    }
+}

@@ -4,6 +4,7 @@ mod rounds;
 
 use rounds::rounds;
 use std::collections::HashSet;
+use std::panic::{AssertUnwindSafe, catch_unwind};
 use std::pin::pin;
 use std::sync::Arc;
 use std::sync::atomic::{AtomicUsize, Ordering};
@@ -114,7 +115,7 @@ fn a_select_that_waits_is_woken_by_any_channel() {
     }
 }
 
-/// Of several that are ready, chance decides; a biased one takes the first.
+/// Of several that are ready, one is made at random; a biased select takes the first.
 #[test]
 fn a_select_is_fair() {
     let channels: Vec<_> = (0..3).map(|_| open::<()>(1)).collect();
@@ -461,10 +462,14 @@ fn futures_meet() {
     let mut take = receiver.recv_async();
     assert_eq!(poll(&mut take, &takes), Poll::Pending);
     let mut send = sender.send_async(1);
-    assert_eq!(poll(&mut send, &sends), Poll::Pending);
+    assert_eq!(poll(&mut send, &sends), Poll::Ready(Ok(())));
     assert_eq!((times(&takes), times(&sends)), (1, 0));
     assert_eq!(poll(&mut take, &takes), Poll::Ready(Ok(1)));
-    assert_eq!(times(&sends), 1);
+    let mut send = sender.send_async(1);
+    assert_eq!(poll(&mut send, &sends), Poll::Pending);
+    let mut take = receiver.recv_async();
+    assert_eq!(poll(&mut take, &takes), Poll::Ready(Ok(1)));
+    assert_eq!((times(&takes), times(&sends)), (1, 1));
     assert_eq!(poll(&mut send, &sends), Poll::Ready(Ok(())));
     // One that is dropped takes its item with it.
     let mut send = sender.send_async(2);
@@ -478,14 +483,10 @@ fn futures_meet() {
     assert_eq!(poll(&mut send, &sends), Poll::Ready(Ok(())));
     let mut take = receiver.recv_async();
     assert_eq!(poll(&mut take, &takes), Poll::Pending);
-    let before = times(&takes);
-    let thread = waits({
-        let sender = sender.clone();
-        move || sender.send(4)
-    });
-    soon(|| (times(&takes) == before + 1).then_some(()));
+    assert_eq!(poll(&mut take, &takes), Poll::Pending);
+    sender.send(4).unwrap();
     assert_eq!(poll(&mut take, &takes), Poll::Ready(Ok(4)));
-    thread.join().unwrap().unwrap();
+    assert_eq!(poll(&mut take, &takes), Poll::Pending, "it is done");
     let mut send = sender.send_async(5);
     assert_eq!(poll(&mut send, &sends), Poll::Pending);
     let before = times(&sends);
@@ -519,6 +520,12 @@ fn timers_have_their_moments() {
     });
     assert_eq!(got.into_iter().filter(|got| *got).count(), 1);
     assert!(after(Duration::MAX).try_recv().is_err());
+    for timer in [after(SOON), tick(SOON)] {
+        let has_future = || drop(timer.recv_async());
+        assert!(catch_unwind(AssertUnwindSafe(has_future)).is_err());
+    }
+    let nothing = poll(&mut none.recv_async(), &Arc::default());
+    assert_eq!(nothing, Poll::Pending);
     let start = Instant::now();
     select! {
         recv(never::<()>()) -> _ => unreachable!("it has none"),
@@ -564,4 +571,65 @@ fn a_select_that_waits_is_parked() {
     let (told, ticks) = waits.join().unwrap();
     assert_eq!(told, Ok(5));
     assert!(ticks < 10, "it had {ticks} ticks while it waited");
+}
+
+/// A select goes to other threads, and many threads share and clone one.
+#[test]
+fn a_select_goes_where_it_likes() {
+    fn goes<T: Send + Sync>(it: T) -> T {
+        it
+    }
+    for capacity in [0, 1, 4] {
+        // Items that aren't `Sync`.
+        let (sender, receiver) = open::<std::cell::Cell<u64>>(capacity);
+        let mut shared = goes(Select::new());
+        let (take, send) = (shared.recv(&receiver), shared.send(&sender));
+        let (done, count) = (AtomicUsize::new(0), 10 * rounds(100) as usize);
+        let sums = thread::scope(|scope| {
+            let all = [1; 8].map(|number| {
+                let (shared, done, sender, receiver) = (&shared, &done, &sender, &receiver);
+                scope.spawn(move || {
+                    let (mut select, mut sent, mut taken) = (shared.clone(), 0, 0);
+                    loop {
+                        let operation = select.select();
+                        if operation.index() == take {
+                            let Ok(item) = operation.recv(receiver) else {
+                                return (sent, taken);
+                            };
+                            taken += item.get();
+                        } else {
+                            assert_eq!(operation.index(), send);
+                            if operation.send(sender, number.into()).is_err() {
+                                return (sent, taken);
+                            }
+                            sent += number;
+                        }
+                        if done.fetch_add(1, Ordering::SeqCst) == count {
+                            sender.close();
+                        }
+                    }
+                })
+            });
+            all.map(|it| it.join().unwrap())
+        });
+        let sent: u64 = sums.iter().map(|it| it.0).sum();
+        let taken: u64 = sums.iter().map(|it| it.1).sum();
+        let left: u64 = receiver.try_iter().map(|it| it.get()).sum();
+        assert_eq!(sent, taken + left, "capacity {capacity}");
+    }
+}
+
+/// The macros take items that stay on their thread.
+#[test]
+fn items_of_one_thread_are_selected() {
+    let (sender, receiver) = open(1);
+    select! {
+        send(sender, std::rc::Rc::new(7)) -> sent => sent.unwrap(),
+        recv(receiver) -> _ => unreachable!("there is none"),
+    }
+    let told = select_biased! {
+        recv(receiver) -> item => *item.unwrap(),
+        default => 0,
+    };
+    assert_eq!(told, 7);
 }

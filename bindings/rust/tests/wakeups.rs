@@ -609,7 +609,8 @@ fn the_search_finds_the_ring_for_a_seat_that_is_missed() {
 }
 
 /// Threads that meet in two channels of capacity 0: each looks for others and posts itself, parks, takes itself
-/// off, and looks whether somebody met it.
+/// off, and looks whether another thread met it. Then the send gives the pair its item, or gives the pair up; and the
+/// take waits for the item, or gives the pair up since its time is over.
 mod meetings {
     use std::collections::HashSet;
 
@@ -623,10 +624,18 @@ mod meetings {
         PostsLater,
         /// It looks and posts in one channel after the other.
         OneByOne,
-        /// It is met though somebody met it before.
+        /// It is met though another thread met it before.
         MetTwice,
-        /// It doesn't look whether somebody met it before its time was over.
+        /// It doesn't look whether another thread met it before its time was over.
         GoesOnUnmet,
+        /// A send gives its pair up, and wakes nobody.
+        GivesUpSilently,
+        /// A take ends with a pair that is given up, though it has time.
+        EndsWithThePair,
+        /// A take whose time is over gives its pair up, though that has the item.
+        LeavesTheItem,
+        /// A send gives its item to a pair that is given up.
+        GivesToNobody,
     }
 
     #[derive(Clone, Copy, PartialEq, Eq, Hash, Debug)]
@@ -635,101 +644,195 @@ mod meetings {
         Post,
         Park,
         Withdraw(usize),
+        /// A send that is selected, in this pair.
+        Complete(usize),
+        /// A take looks whether this pair has its item.
+        Await(usize),
+        ParkForItem(usize),
         Done,
     }
 
     #[derive(Clone, PartialEq, Eq, Hash, Debug)]
     struct Process {
         at: At,
-        met: Option<usize>,
+        /// The pair, and whether it sends there.
+        met: Option<(usize, bool)>,
+        woken: bool,
         over: bool,
+        gave_up: bool,
+        /// Whether it sent its item, and whether it took one.
+        sent: bool,
+        took: bool,
+    }
+
+    #[derive(Clone, Copy, PartialEq, Eq, Hash, Debug)]
+    struct Pair {
+        taker: usize,
+        has_item: bool,
+        is_there: bool,
     }
 
     #[derive(Clone, PartialEq, Eq, Hash, Debug)]
     pub struct State {
         /// Those that are posted, by channel: the takes, and the sends.
         posted: [[Vec<usize>; 2]; 2],
+        pairs: Vec<Pair>,
         processes: Vec<Process>,
     }
 
-    /// The operations of each process, and whether its time may be over.
-    pub type Model = [(&'static [Operation], bool)];
+    /// The operations of each process, whether its time may be over, and whether it may give a selected send up.
+    pub type Model = [(&'static [Operation], bool, bool)];
 
     impl State {
-        /// Meets the first of the other side that nobody has met.
-        fn meet(&mut self, who: usize, (channel, sends): Operation, fault: Fault) -> bool {
+        /// Meets the first of the other side that nobody has met. Returns where it goes on.
+        fn meet(&mut self, who: usize, (channel, sends): Operation, fault: Fault) -> Option<At> {
             while !self.posted[channel][usize::from(!sends)].is_empty() {
                 let other = self.posted[channel][usize::from(!sends)].remove(0);
                 let is_free = self.processes[other].met.is_none() || fault == Fault::MetTwice;
                 if other != who && is_free {
-                    self.processes[other].met = Some(who);
-                    self.processes[who].met = Some(other);
-                    return true;
+                    let pair = self.pairs.len();
+                    self.pairs.push(Pair {
+                        taker: if sends { other } else { who },
+                        has_item: false,
+                        is_there: true,
+                    });
+                    // A take is woken once it has its item.
+                    self.processes[other].met = Some((pair, !sends));
+                    self.processes[other].woken |= !sends;
+                    return Some(if sends {
+                        At::Complete(pair)
+                    } else {
+                        At::Await(pair)
+                    });
                 }
             }
-            false
+            None
         }
 
         /// The states after one step of this process.
         fn after(&self, who: usize, model: &Model, fault: Fault) -> Vec<State> {
-            let (operations, has_time) = model[who];
+            let (operations, has_time, gives_up) = model[who];
             let (mut next, mut others) = (self.clone(), vec![]);
             let process = &self.processes[who];
             let post = |state: &mut State, (channel, sends): Operation| {
                 state.posted[channel][usize::from(sends)].push(who);
             };
+            // It goes on, unless its time is over.
+            let again = if process.over { At::Done } else { At::Look(0) };
+            let mut over_at = |at| {
+                let mut other = self.clone();
+                let process = &mut other.processes[who];
+                (process.at, process.over) = (at, true);
+                others.extend(has_time.then_some(other));
+            };
             next.processes[who].at = match process.at {
                 At::Look(at) if fault == Fault::OneByOne => match operations.get(at) {
                     None => At::Park,
-                    Some(&it) if next.meet(who, it, fault) => At::Withdraw(0),
-                    Some(&it) => {
-                        post(&mut next, it);
-                        At::Look(at + 1)
-                    }
+                    Some(&it) => next.meet(who, it, fault).map_or_else(
+                        || {
+                            post(&mut next, it);
+                            At::Look(at + 1)
+                        },
+                        |_| At::Withdraw(0),
+                    ),
                 },
-                At::Look(_) if operations.iter().any(|&it| next.meet(who, it, fault)) => At::Done,
-                At::Look(_) if fault == Fault::PostsLater => At::Post,
                 At::Look(_) | At::Post => {
-                    operations.iter().for_each(|&it| post(&mut next, it));
-                    At::Park
+                    next.processes[who].met = None;
+                    let looks = process.at != At::Post;
+                    let mut looked = operations.iter().filter(|_| looks);
+                    match looked.find_map(|&it| next.meet(who, it, fault)) {
+                        Some(at) => at,
+                        None if looks && fault == Fault::PostsLater => At::Post,
+                        None => {
+                            next.processes[who].woken = false;
+                            operations.iter().for_each(|&it| post(&mut next, it));
+                            At::Park
+                        }
+                    }
                 }
                 At::Park => {
-                    if has_time {
-                        let mut other = self.clone();
-                        let process = &mut other.processes[who];
-                        (process.at, process.over) = (At::Withdraw(0), true);
-                        others.push(other);
+                    over_at(At::Withdraw(0));
+                    if !process.woken {
+                        return others;
                     }
-                    match process.met {
-                        None => return others,
-                        Some(_) => At::Withdraw(0),
-                    }
+                    At::Withdraw(0)
                 }
-                At::Withdraw(at) => match operations.get(at) {
-                    Some(&(channel, sends)) => {
+                At::Withdraw(at) => match (operations.get(at), process.met) {
+                    (Some(&(channel, sends)), _) => {
                         let posted = &mut next.posted[channel][usize::from(sends)];
                         posted.retain(|&other| other != who);
                         At::Withdraw(at + 1)
                     }
-                    None if process.over && fault == Fault::GoesOnUnmet => {
-                        next.processes[who].met = None;
-                        At::Done
-                    }
-                    None if process.met.is_some() || process.over => At::Done,
-                    None => At::Look(0),
+                    _ if process.over && fault == Fault::GoesOnUnmet => At::Done,
+                    (_, Some((pair, false))) => At::Await(pair),
+                    (_, Some((pair, true))) if self.pairs[pair].is_there => At::Complete(pair),
+                    _ => again,
                 },
+                At::Complete(pair) => {
+                    let taker = self.pairs[pair].taker;
+                    if gives_up {
+                        let mut other = self.clone();
+                        other.processes[who].at = At::Done;
+                        other.processes[who].gave_up = true;
+                        other.pairs[pair].is_there = false;
+                        other.processes[taker].woken |= fault != Fault::GivesUpSilently;
+                        others.push(other);
+                    }
+                    let is_there = self.pairs[pair].is_there;
+                    if is_there || fault == Fault::GivesToNobody {
+                        next.pairs[pair].has_item = true;
+                        next.processes[taker].woken = true;
+                        next.processes[who].sent = true;
+                        At::Done
+                    } else {
+                        again
+                    }
+                }
+                At::Await(pair) => {
+                    let Pair {
+                        has_item, is_there, ..
+                    } = self.pairs[pair];
+                    if !is_there {
+                        if fault == Fault::EndsWithThePair {
+                            At::Done
+                        } else {
+                            again
+                        }
+                    } else if has_item && !(process.over && fault == Fault::LeavesTheItem) {
+                        next.pairs[pair].is_there = false;
+                        next.processes[who].took = true;
+                        At::Done
+                    } else if process.over {
+                        next.pairs[pair].is_there = false;
+                        At::Done
+                    } else {
+                        next.processes[who].woken = false;
+                        At::ParkForItem(pair)
+                    }
+                }
+                At::ParkForItem(pair) => {
+                    over_at(At::Await(pair));
+                    if !process.woken {
+                        return others;
+                    }
+                    At::Await(pair)
+                }
                 At::Done => return others,
             };
             others.push(next);
             others
         }
 
-        /// Whether two of them wait that might meet, or one has met another that has not met it.
+        /// Whether nobody goes on, though two of them wait that might meet; or one waits in a pair, or has ended
+        /// with nothing before its time; or an item was sent that nobody took.
         fn is_wrong(&self, model: &Model) -> bool {
             let all = &self.processes;
-            let is_at = |who: usize, at| all[who].at == at;
-            let waits = |who: &usize| is_at(*who, At::Park) && all[*who].met.is_none();
-            let waiting: Vec<usize> = (0..all.len()).filter(waits).collect();
+            let waits = |it: &Process| !it.woken && matches!(it.at, At::Park | At::ParkForItem(_));
+            if !all.iter().all(|it| it.at == At::Done || waits(it)) {
+                return false;
+            }
+            let is_unmet = |it: &Process| it.at == At::Park && it.met.is_none();
+            let waiting: Vec<usize> = (0..all.len()).filter(|&it| is_unmet(&all[it])).collect();
             let might_meet = |&(channel, sends): &Operation, other: &usize| {
                 model[*other].0.contains(&(channel, !sends))
             };
@@ -737,21 +840,29 @@ mod meetings {
                 let mut others = waiting.iter().filter(|other| *other != who);
                 others.any(|other| model[*who].0.iter().any(|it| might_meet(it, other)))
             };
-            let rests = (0..all.len()).all(|who| is_at(who, At::Done) || waits(&who));
-            let is_mutual = |who: usize| all[who].met.is_none_or(|it| all[it].met == Some(who));
-            rests && (waiting.iter().any(is_missed) || !(0..all.len()).all(is_mutual))
+            let has_ended = |it: &Process| it.sent || it.took || it.over || it.gave_up;
+            let is_right = |it: &Process| is_unmet(it) || it.at == At::Done && has_ended(it);
+            let count = |what: fn(&Process) -> bool| all.iter().filter(|it| what(it)).count();
+            waiting.iter().any(is_missed)
+                || !all.iter().all(is_right)
+                || count(|it| it.sent) != count(|it| it.took)
         }
     }
 
     /// Searches all states that these processes reach. Gives their number, or one that is wrong.
-    pub fn search(model: &Model, fault: Fault) -> Result<usize, State> {
+    pub fn search(model: &Model, fault: Fault) -> Result<usize, Box<State>> {
         let process = Process {
             at: At::Look(0),
             met: None,
+            woken: false,
             over: false,
+            gave_up: false,
+            sent: false,
+            took: false,
         };
         let start = State {
             posted: Default::default(),
+            pairs: vec![],
             processes: vec![process; model.len()],
         };
         let (mut seen, mut left) = (HashSet::new(), vec![start]);
@@ -760,7 +871,7 @@ mod meetings {
                 continue;
             }
             if state.is_wrong(model) {
-                return Err(state);
+                return Err(state.into());
             }
             left.extend((0..model.len()).flat_map(|who| state.after(who, model, fault)));
         }
@@ -773,33 +884,59 @@ const TAKES: meetings::Operation = (0, false);
 const OTHER_SENDS: meetings::Operation = (1, true);
 const OTHER_TAKES: meetings::Operation = (1, false);
 
-const MEETINGS: [&meetings::Model; 7] = [
-    &[(&[SENDS], false), (&[TAKES], false)],
-    &[(&[SENDS], true), (&[TAKES], true), (&[TAKES], false)],
+const MEETINGS: [&meetings::Model; 11] = [
+    &[(&[SENDS], false, false), (&[TAKES], false, false)],
     &[
-        (&[SENDS, OTHER_TAKES], false),
-        (&[TAKES, OTHER_SENDS], false),
+        (&[SENDS], true, false),
+        (&[TAKES], true, false),
+        (&[TAKES], false, false),
     ],
     &[
-        (&[SENDS, OTHER_TAKES], false),
-        (&[OTHER_SENDS, TAKES], true),
-        (&[TAKES], false),
+        (&[SENDS, OTHER_TAKES], false, false),
+        (&[TAKES, OTHER_SENDS], false, false),
     ],
     &[
-        (&[SENDS, OTHER_SENDS], false),
-        (&[TAKES], true),
-        (&[OTHER_TAKES], false),
+        (&[SENDS, OTHER_TAKES], false, false),
+        (&[OTHER_SENDS, TAKES], true, false),
+        (&[TAKES], false, false),
     ],
     &[
-        (&[SENDS, TAKES], false),
-        (&[SENDS, TAKES], true),
-        (&[TAKES], false),
+        (&[SENDS, OTHER_SENDS], false, false),
+        (&[TAKES], true, false),
+        (&[OTHER_TAKES], false, false),
     ],
     &[
-        (&[SENDS, OTHER_TAKES], false),
-        (&[TAKES, OTHER_SENDS], false),
-        (&[SENDS, OTHER_SENDS], true),
-        (&[TAKES], false),
+        (&[SENDS, TAKES], false, false),
+        (&[SENDS, TAKES], true, false),
+        (&[TAKES], false, false),
+    ],
+    &[
+        (&[SENDS, OTHER_TAKES], false, false),
+        (&[TAKES, OTHER_SENDS], false, false),
+        (&[SENDS, OTHER_SENDS], true, false),
+        (&[TAKES], false, false),
+    ],
+    // Sends that give their pair up, and takes that meet another one then.
+    &[
+        (&[SENDS], false, true),
+        (&[SENDS], false, false),
+        (&[TAKES], false, false),
+    ],
+    &[
+        (&[SENDS], false, true),
+        (&[OTHER_SENDS], false, false),
+        (&[TAKES, OTHER_TAKES], false, false),
+    ],
+    &[
+        (&[SENDS], true, true),
+        (&[SENDS, OTHER_TAKES], false, true),
+        (&[TAKES], true, false),
+        (&[TAKES], false, false),
+    ],
+    &[
+        (&[SENDS, OTHER_TAKES], false, true),
+        (&[TAKES, OTHER_SENDS], true, true),
+        (&[OTHER_SENDS, SENDS], false, false),
     ],
 ];
 
@@ -819,6 +956,10 @@ fn the_search_finds_each_fault_of_a_meeting() {
         meetings::Fault::OneByOne,
         meetings::Fault::MetTwice,
         meetings::Fault::GoesOnUnmet,
+        meetings::Fault::GivesUpSilently,
+        meetings::Fault::EndsWithThePair,
+        meetings::Fault::LeavesTheItem,
+        meetings::Fault::GivesToNobody,
     ] {
         let found = MEETINGS
             .iter()

@@ -21,15 +21,17 @@ use vahepito::{Receiver, RecvFuture, SendError, SendFuture, Sender};
 #[derive(Debug)]
 #[must_use = "a stream does nothing unless it is polled"]
 pub struct RecvStream<T: 'static> {
-    takes: RecvFuture<'static, T>,
-    ended: bool,
+    /// None once the channel has ended.
+    receiver: Option<Receiver<T>>,
+    /// While it waits.
+    takes: Option<RecvFuture<'static, T>>,
 }
 
 impl<T: 'static> From<Receiver<T>> for RecvStream<T> {
     fn from(receiver: Receiver<T>) -> RecvStream<T> {
         RecvStream {
-            takes: receiver.into_recv_async(),
-            ended: false,
+            receiver: Some(receiver),
+            takes: None,
         }
     }
 }
@@ -38,16 +40,23 @@ impl<T: 'static> Stream for RecvStream<T> {
     type Item = T;
 
     fn poll_next(mut self: Pin<&mut Self>, context: &mut Context<'_>) -> Poll<Option<T>> {
-        // A future that took an item takes a further one.
-        let taken = ready!(Pin::new(&mut self.takes).poll(context));
-        self.ended |= taken.is_err();
+        let RecvStream { receiver, takes } = &mut *self;
+        let Some(waits) = receiver else {
+            return Poll::Ready(None);
+        };
+        let takes_one = || waits.clone().into_recv_async();
+        let taken = ready!(Pin::new(takes.get_or_insert_with(takes_one)).poll(context));
+        *takes = None;
+        if taken.is_err() {
+            *receiver = None;
+        }
         Poll::Ready(taken.ok())
     }
 }
 
 impl<T: 'static> FusedStream for RecvStream<T> {
     fn is_terminated(&self) -> bool {
-        self.ended
+        self.receiver.is_none()
     }
 }
 

@@ -5,9 +5,11 @@
 //! get: its body is sent once, and taken once by each group.
 #![allow(unsafe_code)]
 
-use crate::queue::handle::Words;
+use super::event::ignore_panics;
+use crate::queue::handle::{Words, code};
 use std::marker::PhantomData;
-use std::mem::{ManuallyDrop, MaybeUninit, forget, size_of};
+use std::mem::{ManuallyDrop, MaybeUninit, size_of};
+use std::panic::{AssertUnwindSafe, catch_unwind, resume_unwind};
 use std::sync::atomic::{AtomicUsize, Ordering};
 
 /// The greatest number of bytes of an item that travels in a body itself.
@@ -38,7 +40,7 @@ struct Boxed<T> {
 
 /// An item on its way, as the words of a body. It owns the item, or its group's share of it.
 pub struct Parcel<T> {
-    pub words: Words,
+    words: Words,
     copies: Option<Copies<T>>,
     item: PhantomData<T>,
 }
@@ -91,12 +93,6 @@ impl<T> Parcel<T> {
         unsafe { self.words.as_ptr().cast::<V>().read_unaligned() }
     }
 
-    /// The words are sent: this item is the queue's.
-    pub fn sent<E>(self) -> Result<(), E> {
-        forget(self);
-        Ok(())
-    }
-
     /// The pointer to its box, if it lies in one.
     fn pointer(&self) -> Option<*mut Boxed<T>> {
         // SAFETY: then the words are that pointer, by `pack`.
@@ -111,19 +107,22 @@ impl<T> Parcel<T> {
 
     /// Sets the number of shares of an item that the caller alone has: the groups that are to get it, or
     /// 1 for its one owner.
-    pub fn is_for(&self, groups: usize) {
+    fn set_shares(&self, groups: usize) {
         if let Some(boxed) = self.boxed() {
             boxed.left.store(groups, Ordering::Relaxed);
         }
     }
 
-    /// The item. If other groups are to take it, a copy; so this may run code of others.
+    /// The item. If other groups are to take it, a copy: this runs user code. A panic of the copy is raised again
+    /// once the share is given up; one of the item's drop ends here, since the copy is there.
     #[inline]
     pub fn unpack(self) -> T {
         if let (Some(copies), Some(boxed)) = (self.copies, self.boxed())
             && boxed.left.load(Ordering::Acquire) != 1
         {
-            return copies(&boxed.item); // the share is given up by the drop, also if this panics
+            let copy = catch_unwind(AssertUnwindSafe(|| copies(&boxed.item)));
+            ignore_panics([self], drop); // the share may be the last one by now
+            return copy.unwrap_or_else(|panic| resume_unwind(panic));
         }
         let this = ManuallyDrop::new(self);
         // SAFETY: the parcel isn't used after this, nor dropped. It has the last share of the item.
@@ -151,10 +150,41 @@ impl<T> Parcel<T> {
     }
 }
 
-/// Drops the item, or gives the share of it up: so this may run code of others.
+/// Drops the item, or gives the share of it up. This runs user code.
 impl<T> Drop for Parcel<T> {
     fn drop(&mut self) {
         // SAFETY: the parcel goes.
         drop(unsafe { self.open() });
+    }
+}
+
+/// An item that is to be sent, until the queue has it.
+///
+/// An attempt takes the item out, to a place that no unwinding drops, and only a refusal puts it back. So no user
+/// code runs between the queue's acceptance and the moment from which on this is empty.
+pub struct Unsent<T>(Option<Parcel<T>>);
+
+impl<T> Unsent<T> {
+    #[inline]
+    pub fn pack(item: T, copies: Option<Copies<T>>) -> Unsent<T> {
+        Unsent(Some(Parcel::pack(item, copies)))
+    }
+
+    /// Attempts to send to this number of groups, by this call of the queue, and returns its code.
+    #[inline]
+    pub fn send_by(&mut self, groups: usize, send: impl FnOnce(&Words) -> u32) -> u32 {
+        let parcel = ManuallyDrop::new(self.0.take().expect("the item isn't sent yet"));
+        parcel.set_shares(groups);
+        let code = send(&parcel.words);
+        if code != code::ACCEPTED {
+            parcel.set_shares(1);
+            self.0 = Some(ManuallyDrop::into_inner(parcel));
+        }
+        code
+    }
+
+    /// The item, which wasn't sent.
+    pub fn into_inner(self) -> T {
+        self.0.expect("the item isn't sent yet").unpack()
     }
 }

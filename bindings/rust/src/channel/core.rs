@@ -7,21 +7,19 @@
 //! is one step.
 //!
 //! **Order of locks**: the list of groups, all seats, a line. A holder of a seat makes one call of the queue, and
-//! takes no other lock. Code of others (an item's drop or copy, a waker) runs while none is held.
-use super::body::{Copies, Parcel, words_of};
-use super::event::{AT_A_RING, Event, Panic, Try, first_of, let_be, lock, run_each, soon};
-use super::meeting::Meeting;
+//! takes no other lock. User code (an item's drop or copy, a waker) runs while none is held.
+use super::body::{Copies, Parcel, Unsent, words_of};
+use super::event::{AT_A_RING, Event, Panics, Try, ignore_panics, lock, soon};
 use super::pool::{Held, Pass, Pool};
 use super::select::Selected;
+use super::side::Shared;
 use super::special::Special;
 use crate::backoff::turn_until;
 use crate::queue::handle::{self, Handle, code, hands_over, has_taken, unexpected};
 use crate::queue::{Config, OpenError};
 use std::iter;
-use std::panic::resume_unwind;
-use std::sync::Mutex;
 use std::sync::atomic::{AtomicBool, AtomicUsize, Ordering};
-use std::thread::panicking;
+use std::sync::{Mutex, OnceLock, Weak};
 
 /// A side of the channel: its senders, or a group of receivers.
 pub struct Side {
@@ -53,6 +51,8 @@ pub struct Core<T> {
     pub special: Option<Special<T>>,
     pub senders: Side,
     pub groups: Box<[Side]>,
+    /// What the handles of each side share, once it has a first one.
+    pub handles: Box<[OnceLock<Weak<Shared<T>>>]>,
     closed: AtomicBool,
     /// How many groups the queue has. It changes while all seats are taken.
     pub shares: AtomicUsize,
@@ -60,14 +60,6 @@ pub struct Core<T> {
     pub in_queue: Mutex<Vec<usize>>,
     /// By it this is `Send` and `Sync` if items are `Send`.
     pub selected: Selected<T>,
-}
-
-/// Goes on with a panic at the end of a drop, unless there is one already.
-fn go_on(panic: Option<Panic>) {
-    match panic {
-        Some(panic) if !panicking() => resume_unwind(panic),
-        other => let_be(other),
-    }
 }
 
 impl<T> Core<T> {
@@ -94,6 +86,7 @@ impl<T> Core<T> {
             copies,
             special: None,
             senders,
+            handles: (0..=groups.len()).map(|_| OnceLock::new()).collect(),
             closed: AtomicBool::new(false),
             shares: AtomicUsize::new(groups.len()),
             in_queue: Mutex::new((1..=groups.len()).collect()),
@@ -143,40 +136,41 @@ impl<T> Core<T> {
         len.min(self.capacity())
     }
 
-    /// Tries to send what is in this parcel, which is the queue's then. Returns whether it is sent; if not,
+    /// Tries to send this item. Returns whether it is sent; if not,
     /// the channel is closed. If there is no room, a take or a loss of receivers rings; if there is no memory
     /// for a further queue, nobody rings when there is.
     #[inline]
-    pub fn try_send(&self, parcel: &Parcel<T>) -> Try<bool> {
+    pub fn try_send(&self, item: &mut Unsent<T>) -> Try<bool> {
         let mut seat = self.senders.seats.take();
         if self.selected.room.load(Ordering::Relaxed) != 0 {
             drop(seat);
-            return self.send_beside_reserved(parcel);
+            return self.send_beside_reserved(item);
         }
-        let sent = self.send_by(&mut seat, parcel);
+        let sent = self.send_by(&mut seat, item);
         drop(seat);
         match sent {
             Ok(()) => self.ring_for_item(),
-            Err(refusal) => return self.go_on_sending(parcel, refusal),
+            Err(refusal) => return self.send_after_refusal(item, refusal),
         }
         Ok(true)
     }
 
     #[cold]
-    pub fn go_on_sending(&self, parcel: &Parcel<T>, refusal: (u32, u64)) -> Try<bool> {
-        match self.goes_on(parcel, refusal)? {
-            true => self.try_send(parcel),
-            false => Ok(false),
+    pub fn send_after_refusal(&self, item: &mut Unsent<T>, refusal: (u32, u64)) -> Try<bool> {
+        if self.retry_after_refusal(refusal)? {
+            self.try_send(item)
+        } else {
+            Ok(false)
         }
     }
 
     /// Sends by this seat. If it isn't sent, gives the code, and the number of the queue.
     #[inline]
-    pub fn send_by(&self, seat: &mut Held, parcel: &Parcel<T>) -> Result<(), (u32, u64)> {
-        parcel.is_for(self.shares.load(Ordering::Relaxed));
+    pub fn send_by(&self, seat: &mut Held, item: &mut Unsent<T>) -> Result<(), (u32, u64)> {
         hands_over(self);
-        let pass = seat.pass();
-        let code = pass.handle.send(&parcel.words, words_of(self.copies));
+        let (pass, groups) = (seat.pass(), self.shares.load(Ordering::Relaxed));
+        let send = |words: &_| pass.handle.send(words, words_of(self.copies));
+        let code = item.send_by(groups, send);
         if code != code::ACCEPTED {
             return Err((code, pass.queue));
         }
@@ -189,10 +183,9 @@ impl<T> Core<T> {
         self.groups.iter().for_each(|group| group.line.ring());
     }
 
-    /// Goes on when this queue didn't accept an item. Returns whether a further try is to be made; if not,
+    /// After this queue refused an item. Returns whether a further try is to be made; if not,
     /// the channel is closed.
-    pub fn goes_on(&self, parcel: &Parcel<T>, (code, queue): (u32, u64)) -> Try<bool> {
-        parcel.is_for(1);
+    pub fn retry_after_refusal(&self, (code, queue): (u32, u64)) -> Try<bool> {
         // Whether a lost group is in the queue, and holds up the others.
         let is_stale = self.shares.load(Ordering::SeqCst) != self.alive().count();
         match code {
@@ -205,14 +198,14 @@ impl<T> Core<T> {
         if self.is_closed() {
             return Ok(false);
         }
-        let mut let_go = vec![];
+        let mut left_by_lost = vec![];
         if self.senders.seats.take().pass().queue == queue {
-            let_go = self.renew(&mut in_queue).ok_or_else(soon)?;
+            left_by_lost = self.renew(&mut in_queue).ok_or_else(soon)?;
         }
         drop(in_queue);
         // The item isn't sent yet, but this call may go on for others: it doesn't panic.
-        let_be(run_each(let_go, drop));
-        let_be(self.senders.line.ring_for_all());
+        ignore_panics(left_by_lost, drop);
+        self.senders.line.ring_for_all(&mut Panics::default());
         Ok(true)
     }
 
@@ -260,7 +253,9 @@ impl<T> Core<T> {
     pub fn close(&self) -> bool {
         let closed = self.close_queue();
         if closed {
-            go_on(self.ring_all());
+            let mut panics = Panics::default();
+            self.ring_all(&mut panics);
+            panics.raise();
         }
         closed
     }
@@ -276,19 +271,21 @@ impl<T> Core<T> {
         closed
     }
 
-    /// Wakes all that wait, and returns the first panic of their wakers.
-    fn ring_all(&self) -> Option<Panic> {
+    /// Wakes all that wait.
+    fn ring_all(&self, panics: &mut Panics) {
         let sides = iter::once(&self.senders).chain(&self.groups);
-        let panics = sides.filter_map(|it| it.line.ring_for_all());
-        first_of(panics.chain(self.meeting().and_then(Meeting::wake_all)))
+        sides.for_each(|it| it.line.ring_for_all(panics));
+        if let Some(meeting) = self.meeting() {
+            meeting.wake_all(panics);
+        }
     }
 
     /// The last handle of this side is gone: the channel is closed, or goes on without this group. The items
     /// that the group hasn't taken are dropped.
-    pub fn lose(&self, side: usize) {
+    pub fn last_handle_dropped(&self, side: usize) {
         let mut in_queue = lock(&self.in_queue);
         self.side(side).lost.store(true, Ordering::SeqCst);
-        let let_go = if side == 0 || self.alive().next().is_none() {
+        let left_by_lost = if side == 0 || self.alive().next().is_none() {
             self.close_queue();
             None
         } else {
@@ -301,10 +298,9 @@ impl<T> Core<T> {
         drop(in_queue);
         let takes = |group| iter::from_fn(move || self.try_recv(group).ok()?);
         let left = lost.into_iter().flat_map(takes);
-        let panics = [
-            self.ring_all(),
-            run_each(let_go.into_iter().flatten().chain(left), drop),
-        ];
-        go_on(first_of(panics.into_iter().flatten()));
+        let mut panics = Panics::default();
+        self.ring_all(&mut panics);
+        panics.run_each(left_by_lost.into_iter().flatten().chain(left), drop);
+        panics.raise();
     }
 }

@@ -1,116 +1,330 @@
-//! Why a channel's call wasn't done. An item that wasn't sent is handed back.
+//! Why a channel's call wasn't done. An item that wasn't sent is handed back. The texts are crossbeam-channel's.
 use std::error::Error;
+use std::fmt;
 
 /// Why [`send`](crate::Sender::send) didn't send: the channel is closed. It has the item.
 #[derive(Clone, Copy, PartialEq, Eq, Hash)]
 pub struct SendError<T>(pub T);
+
+impl<T> SendError<T> {
+    /// The item.
+    ///
+    /// ```
+    /// assert_eq!(vahepito::SendError('a').into_inner(), 'a');
+    /// ```
+    #[must_use]
+    pub fn into_inner(self) -> T {
+        self.0
+    }
+}
+
+// An item needs no `Debug`, so that each error has it.
+impl<T> fmt::Debug for SendError<T> {
+    fn fmt(&self, f: &mut fmt::Formatter<'_>) -> fmt::Result {
+        f.pad("SendError(..)")
+    }
+}
+
+impl<T> fmt::Display for SendError<T> {
+    fn fmt(&self, f: &mut fmt::Formatter<'_>) -> fmt::Result {
+        f.pad("sending on a disconnected channel")
+    }
+}
+
+impl<T> Error for SendError<T> {}
+
+/// Why [`try_send`](crate::Sender::try_send) didn't send. It has the item.
+#[derive(Clone, Copy, PartialEq, Eq, Hash)]
+pub enum TrySendError<T> {
+    /// There is no room now.
+    Full(T),
+    /// The channel is closed: see [`SendError`].
+    Disconnected(T),
+}
+
+impl<T> TrySendError<T> {
+    /// Whether it is `Full`.
+    ///
+    /// ```
+    /// assert!(vahepito::TrySendError::Full('a').is_full());
+    /// ```
+    #[must_use]
+    pub fn is_full(&self) -> bool {
+        matches!(self, TrySendError::Full(_))
+    }
+
+    /// Whether it is `Disconnected`.
+    ///
+    /// ```
+    /// assert!(!vahepito::TrySendError::Full('a').is_disconnected());
+    /// ```
+    #[must_use]
+    pub fn is_disconnected(&self) -> bool {
+        matches!(self, TrySendError::Disconnected(_))
+    }
+
+    /// The item.
+    ///
+    /// ```
+    /// assert_eq!(vahepito::TrySendError::Full('a').into_inner(), 'a');
+    /// ```
+    #[must_use]
+    pub fn into_inner(self) -> T {
+        match self {
+            TrySendError::Full(item) | TrySendError::Disconnected(item) => item,
+        }
+    }
+}
+
+impl<T> fmt::Debug for TrySendError<T> {
+    fn fmt(&self, f: &mut fmt::Formatter<'_>) -> fmt::Result {
+        f.pad(match self {
+            TrySendError::Full(_) => "Full(..)",
+            TrySendError::Disconnected(_) => "Disconnected(..)",
+        })
+    }
+}
+
+impl<T> fmt::Display for TrySendError<T> {
+    fn fmt(&self, f: &mut fmt::Formatter<'_>) -> fmt::Result {
+        f.pad(match self {
+            TrySendError::Full(_) => "sending on a full channel",
+            TrySendError::Disconnected(_) => "sending on a disconnected channel",
+        })
+    }
+}
+
+impl<T> Error for TrySendError<T> {}
+
+impl<T> From<SendError<T>> for TrySendError<T> {
+    fn from(SendError(item): SendError<T>) -> Self {
+        TrySendError::Disconnected(item)
+    }
+}
+
+/// Why [`send_timeout`](crate::Sender::send_timeout) or [`send_deadline`](crate::Sender::send_deadline) didn't
+/// send. It has the item.
+#[derive(Clone, Copy, PartialEq, Eq, Hash)]
+pub enum SendTimeoutError<T> {
+    /// There was no room in that time.
+    Timeout(T),
+    /// The channel is closed: see [`SendError`].
+    Disconnected(T),
+}
+
+impl<T> SendTimeoutError<T> {
+    /// Whether it is `Timeout`.
+    ///
+    /// ```
+    /// assert!(vahepito::SendTimeoutError::Timeout('a').is_timeout());
+    /// ```
+    #[must_use]
+    pub fn is_timeout(&self) -> bool {
+        matches!(self, SendTimeoutError::Timeout(_))
+    }
+
+    /// Whether it is `Disconnected`.
+    ///
+    /// ```
+    /// assert!(!vahepito::SendTimeoutError::Timeout('a').is_disconnected());
+    /// ```
+    #[must_use]
+    pub fn is_disconnected(&self) -> bool {
+        matches!(self, SendTimeoutError::Disconnected(_))
+    }
+
+    /// The item.
+    ///
+    /// ```
+    /// assert_eq!(vahepito::SendTimeoutError::Timeout('a').into_inner(), 'a');
+    /// ```
+    #[must_use]
+    pub fn into_inner(self) -> T {
+        match self {
+            SendTimeoutError::Timeout(item) | SendTimeoutError::Disconnected(item) => item,
+        }
+    }
+}
+
+impl<T> fmt::Debug for SendTimeoutError<T> {
+    fn fmt(&self, f: &mut fmt::Formatter<'_>) -> fmt::Result {
+        f.pad("SendTimeoutError(..)")
+    }
+}
+
+impl<T> fmt::Display for SendTimeoutError<T> {
+    fn fmt(&self, f: &mut fmt::Formatter<'_>) -> fmt::Result {
+        f.pad(match self {
+            SendTimeoutError::Timeout(_) => "timed out waiting on send operation",
+            SendTimeoutError::Disconnected(_) => "sending on a disconnected channel",
+        })
+    }
+}
+
+impl<T> Error for SendTimeoutError<T> {}
+
+impl<T> From<SendError<T>> for SendTimeoutError<T> {
+    fn from(SendError(item): SendError<T>) -> Self {
+        SendTimeoutError::Disconnected(item)
+    }
+}
 
 /// Why [`recv`](crate::Receiver::recv) gave no item: the channel is closed, and the receiver's group
 /// has all its items.
 #[derive(Clone, Copy, Debug, PartialEq, Eq, Hash)]
 pub struct RecvError;
 
-impl<T> SendError<T> {
-    const SAYS: &str = "sending on a channel that is closed";
-
-    /// The item.
-    pub fn into_inner(self) -> T {
-        self.0
+impl fmt::Display for RecvError {
+    fn fmt(&self, f: &mut fmt::Formatter<'_>) -> fmt::Result {
+        f.pad("receiving on an empty and disconnected channel")
     }
 }
 
-impl RecvError {
-    const SAYS: &str = "receiving on a channel that is closed and has no more items";
-}
-
-// An item needs no `Debug`, so that each error has it.
-shows! {
-    Debug [T] SendError<T>: _ => "SendError(..)";
-    Display [T] SendError<T>: _ => Self::SAYS;
-    Display [] RecvError: _ => Self::SAYS;
-}
-
-impl<T> Error for SendError<T> {}
 impl Error for RecvError {}
 
-/// Errors that say that the channel is closed, as another error does (`$ended`), or something else. They have
-/// the item, if there is one.
-macro_rules! errors {
-    ($(
-        $(#[$doc:meta])*
-        $error:ident $(<$item:ident>, $shown:literal)?: $ended:ident or
-        $(#[$why:meta])*
-        $variant:ident, $is_variant:ident, $says:literal;
-    )+) => {$(
-        $(#[$doc])*
-        #[derive(Clone, Copy, PartialEq, Eq, Hash)]
-        pub enum $error $(<$item>)? {
-            $(#[$why])*
-            $variant $(($item))?,
-            #[doc = concat!("The channel is closed: see [`", stringify!($ended), "`].")]
-            Disconnected $(($item))?,
-        }
-
-        impl $(<$item>)? $error $(<$item>)? {
-            #[doc = concat!("Whether it is `", stringify!($variant), "`.")]
-            pub fn $is_variant(&self) -> bool {
-                matches!(self, $error::$variant { .. })
-            }
-
-            /// Whether it is `Disconnected`.
-            pub fn is_disconnected(&self) -> bool {
-                matches!(self, $error::Disconnected { .. })
-            }
-
-            $(
-                /// The item.
-                pub fn into_inner(self) -> $item {
-                    match self {
-                        $error::$variant(item) | $error::Disconnected(item) => item,
-                    }
-                }
-            )?
-        }
-
-        shows! {
-            Debug [$($item)?] $error $(<$item>)?:
-                $error::$variant { .. } => concat!(stringify!($variant) $(, $shown)?),
-                $error::Disconnected { .. } => concat!("Disconnected" $(, $shown)?);
-            Display [$($item)?] $error $(<$item>)?:
-                $error::$variant { .. } => $says,
-                $error::Disconnected { .. } => <$ended $(<$item>)?>::SAYS;
-        }
-
-        impl $(<$item>)? Error for $error $(<$item>)? {}
-
-        impl $(<$item>)? From<$ended $(<$item>)?> for $error $(<$item>)? {
-            fn from(_ended: $ended $(<$item>)?) -> Self {
-                $error::Disconnected $((_ended.into_inner() as $item))?
-            }
-        }
-    )+};
-}
-
-errors! {
-    /// Why [`try_send`](crate::Sender::try_send) didn't send. It has the item.
-    TrySendError<T>, "(..)": SendError or
-    /// There is no room now.
-    Full, is_full, "sending on a channel that is full";
-
-    /// Why [`send_timeout`](crate::Sender::send_timeout) or
-    /// [`send_deadline`](crate::Sender::send_deadline) didn't send. It has the item.
-    SendTimeoutError<T>, "(..)": SendError or
-    /// There was no room in that time.
-    Timeout, is_timeout, "sending took longer than it was given";
-
-    /// Why [`try_recv`](crate::Receiver::try_recv) gave no item.
-    TryRecvError: RecvError or
+/// Why [`try_recv`](crate::Receiver::try_recv) gave no item.
+#[derive(Clone, Copy, Debug, PartialEq, Eq, Hash)]
+pub enum TryRecvError {
     /// There is none now.
-    Empty, is_empty, "receiving on a channel that is empty";
-
-    /// Why [`recv_timeout`](crate::Receiver::recv_timeout) or
-    /// [`recv_deadline`](crate::Receiver::recv_deadline) gave no item.
-    RecvTimeoutError: RecvError or
-    /// There was none in that time.
-    Timeout, is_timeout, "receiving took longer than it was given";
+    Empty,
+    /// The channel is closed: see [`RecvError`].
+    Disconnected,
 }
+
+impl TryRecvError {
+    /// Whether it is `Empty`.
+    ///
+    /// ```
+    /// assert!(vahepito::TryRecvError::Empty.is_empty());
+    /// ```
+    #[must_use]
+    pub fn is_empty(&self) -> bool {
+        *self == TryRecvError::Empty
+    }
+
+    /// Whether it is `Disconnected`.
+    ///
+    /// ```
+    /// assert!(!vahepito::TryRecvError::Empty.is_disconnected());
+    /// ```
+    #[must_use]
+    pub fn is_disconnected(&self) -> bool {
+        *self == TryRecvError::Disconnected
+    }
+}
+
+impl fmt::Display for TryRecvError {
+    fn fmt(&self, f: &mut fmt::Formatter<'_>) -> fmt::Result {
+        f.pad(match self {
+            TryRecvError::Empty => "receiving on an empty channel",
+            TryRecvError::Disconnected => "receiving on an empty and disconnected channel",
+        })
+    }
+}
+
+impl Error for TryRecvError {}
+
+impl From<RecvError> for TryRecvError {
+    fn from(RecvError: RecvError) -> Self {
+        TryRecvError::Disconnected
+    }
+}
+
+/// Why [`recv_timeout`](crate::Receiver::recv_timeout) or [`recv_deadline`](crate::Receiver::recv_deadline) gave
+/// no item.
+#[derive(Clone, Copy, Debug, PartialEq, Eq, Hash)]
+pub enum RecvTimeoutError {
+    /// There was none in that time.
+    Timeout,
+    /// The channel is closed: see [`RecvError`].
+    Disconnected,
+}
+
+impl RecvTimeoutError {
+    /// Whether it is `Timeout`.
+    ///
+    /// ```
+    /// assert!(vahepito::RecvTimeoutError::Timeout.is_timeout());
+    /// ```
+    #[must_use]
+    pub fn is_timeout(&self) -> bool {
+        *self == RecvTimeoutError::Timeout
+    }
+
+    /// Whether it is `Disconnected`.
+    ///
+    /// ```
+    /// assert!(!vahepito::RecvTimeoutError::Timeout.is_disconnected());
+    /// ```
+    #[must_use]
+    pub fn is_disconnected(&self) -> bool {
+        *self == RecvTimeoutError::Disconnected
+    }
+}
+
+impl fmt::Display for RecvTimeoutError {
+    fn fmt(&self, f: &mut fmt::Formatter<'_>) -> fmt::Result {
+        f.pad(match self {
+            RecvTimeoutError::Timeout => "timed out waiting on receive operation",
+            RecvTimeoutError::Disconnected => "channel is empty and disconnected",
+        })
+    }
+}
+
+impl Error for RecvTimeoutError {}
+
+impl From<RecvError> for RecvTimeoutError {
+    fn from(RecvError: RecvError) -> Self {
+        RecvTimeoutError::Disconnected
+    }
+}
+
+/// Why [`try_select`](crate::Select::try_select) began nothing.
+#[derive(Clone, Copy, Debug, PartialEq, Eq, Hash)]
+pub struct TrySelectError;
+
+impl fmt::Display for TrySelectError {
+    fn fmt(&self, f: &mut fmt::Formatter<'_>) -> fmt::Result {
+        f.pad("all operations in select would block")
+    }
+}
+
+impl Error for TrySelectError {}
+
+/// Why [`select_timeout`](crate::Select::select_timeout) or [`select_deadline`](crate::Select::select_deadline)
+/// began nothing.
+#[derive(Clone, Copy, Debug, PartialEq, Eq, Hash)]
+pub struct SelectTimeoutError;
+
+impl fmt::Display for SelectTimeoutError {
+    fn fmt(&self, f: &mut fmt::Formatter<'_>) -> fmt::Result {
+        f.pad("timed out waiting on select")
+    }
+}
+
+impl Error for SelectTimeoutError {}
+
+/// Why [`try_ready`](crate::Select::try_ready) has no index.
+#[derive(Clone, Copy, Debug, PartialEq, Eq, Hash)]
+pub struct TryReadyError;
+
+impl fmt::Display for TryReadyError {
+    fn fmt(&self, f: &mut fmt::Formatter<'_>) -> fmt::Result {
+        f.pad("all operations in select would block")
+    }
+}
+
+impl Error for TryReadyError {}
+
+/// Why [`ready_timeout`](crate::Select::ready_timeout) or [`ready_deadline`](crate::Select::ready_deadline) has
+/// no index.
+#[derive(Clone, Copy, Debug, PartialEq, Eq, Hash)]
+pub struct ReadyTimeoutError;
+
+impl fmt::Display for ReadyTimeoutError {
+    fn fmt(&self, f: &mut fmt::Formatter<'_>) -> fmt::Result {
+        f.pad("timed out waiting on select")
+    }
+}
+
+impl Error for ReadyTimeoutError {}

@@ -42,7 +42,7 @@
 //! store; an exchange would mend it, and each call would pay for it. So a ring for a seat may be missed.
 //! Therefore a waiter for a seat doesn't wait for a ring alone: it looks again after a millisecond. It gets
 //! a seat in the end, since each seat is freed: its holder makes one call of the queue, which waits in no
-//! line and runs no code of others. So a try for an item, which needs a seat, may wait for one while it
+//! line and runs no user code. So a try for an item, which needs a seat, may wait for one while it
 //! stands in line for the item: the two kinds of lines don't hold each other up.
 //!
 //! **Who is taken out and doesn't try any more** rings for the next in line instead
@@ -59,6 +59,33 @@
 //! **Rings for nothing** are harmless: their waiter tries, finds nothing, and stands in line again.
 //! So a take rings for room though another group hasn't taken the item yet, and a close rings for all.
 //!
+//! # User code
+//!
+//! Wakers and items have calls that the user wrote: a waker's clone, wake and drop; an item's clone and drop; the drop
+//! of a panic's payload. Each may block, call the channel, or panic. None runs while a lock or a seat is held. This table
+//! has every place at which one runs, what was done before it, and what becomes of its panic. [`Panics`] catches
+//! panics, and [`Unsent`](super::body::Unsent) keeps unwinding from an item that the queue has. `tests/user_code.rs`
+//! makes each of them panic.
+//!
+//! | user code | place | done before it | its panic |
+//! |---|---|---|---|
+//! | a waker's clone | a poll, before it stands or stays in line, or is posted | the last attempt found nothing; the item is in the future | leaves the poll |
+//! | a waker's drop | a poll that replaces the waker, `Event::stay` and those of `meeting` | the new waker is in its place | is raised at the end of the poll, if that is pending |
+//! | | a poll that is done, `Event::leave`, `poll_posted` | the item is sent or taken, the future is out of the line, a ring that it had is passed on | ends |
+//! | | the drop of a future | as above; an item of capacity 0 went to the next take | is raised after the other drops |
+//! | a waker's wake | a send, a take, a selected operation, `Event::ring` | the item is sent or taken, the waker is out of the line | ends; the next waiter of the line is woken instead |
+//! | | a close, the drop of a last handle | the channel is closed, all wakers are out of their lines | is raised once all are woken, and what is left is dropped |
+//! | | a poll without memory for a further queue | the future is in line | is raised at the end of the poll |
+//! | an item's drop | the drop of a last handle | the item is out of the queue, the channel is closed or goes on without the group | is raised once all are dropped |
+//! | | a send that finds a lost group in the queue | a further queue is in place, the send's item is in `Unsent` | ends |
+//! | | the drop of a future or a selected operation | the future is out of the line, the pair is gone | is raised after the other drops |
+//! | | `Parcel::unpack`, of the last share | the copy is made | ends |
+//! | an item's clone | `Parcel::unpack`, in a take of a group | the item is taken, and room is rung for | is raised once the share is given up |
+//! | items and wakers that are left | the drop of the channel, if futures or operations were forgotten | both sides are gone | is raised once all of its list are dropped |
+//! | a payload's drop | the end of a panic | all of the above | ends; the second payload is forgotten |
+//!
+//! An item's drop on an error that a call returned, or on what it took, is the caller's.
+//!
 //! `tests/wakeups.rs` searches all interleavings of these steps in small models, and finds the lost wake-up
 //! if one of them is left out.
 use crate::backoff::Backoff;
@@ -66,12 +93,12 @@ use std::any::Any;
 use std::cell::RefCell;
 use std::collections::VecDeque;
 use std::iter;
-use std::mem::{forget, swap};
-use std::panic::{AssertUnwindSafe, catch_unwind};
+use std::mem::{forget, replace, swap, take};
+use std::panic::{AssertUnwindSafe, catch_unwind, resume_unwind};
 use std::sync::atomic::{AtomicBool, AtomicUsize, Ordering};
 use std::sync::{Arc, Mutex, MutexGuard, PoisonError};
 use std::task::{Wake, Waker};
-use std::thread::{self, Thread};
+use std::thread::{self, Thread, panicking};
 use std::time::{Duration, Instant};
 
 /// Tries before parking, with spins and yields between: a park costs some microseconds, so few.
@@ -83,27 +110,52 @@ pub fn lock<T>(mutex: &Mutex<T>) -> MutexGuard<'_, T> {
     mutex.lock().unwrap_or_else(PoisonError::into_inner)
 }
 
-pub type Panic = Box<dyn Any + Send>;
+/// Runs user code, and keeps its first panic. The others end at once, and the first one with this, unless it is raised.
+#[derive(Default)]
+pub struct Panics(Option<Box<dyn Any + Send>>);
 
-/// Runs code of others for each of these, and gives the first panic.
-pub fn run_each<I>(all: impl IntoIterator<Item = I>, mut foreign: impl FnMut(I)) -> Option<Panic> {
-    let run = |it| catch_unwind(AssertUnwindSafe(|| foreign(it))).err();
-    first_of(all.into_iter().filter_map(run))
-}
-
-/// The first of these panics. The others end here.
-pub fn first_of(panics: impl IntoIterator<Item = Panic>) -> Option<Panic> {
-    let mut panics = panics.into_iter();
-    let first = panics.next();
-    let_be(panics);
-    first
-}
-
-/// Ends these panics here. Their drops are code of others, too.
-pub fn let_be(panics: impl IntoIterator<Item = Panic>) {
-    for panic in panics {
-        forget(catch_unwind(AssertUnwindSafe(|| drop(panic))));
+impl Panics {
+    /// Runs user code for each of these.
+    pub fn run_each<I>(&mut self, all: impl IntoIterator<Item = I>, mut user_code: impl FnMut(I)) {
+        for it in all {
+            let panic = catch_unwind(AssertUnwindSafe(|| user_code(it))).err();
+            drop(Panics(if self.0.is_none() {
+                replace(&mut self.0, panic)
+            } else {
+                panic
+            }));
+        }
     }
+
+    /// Raises the first panic again, unless this thread panics already.
+    pub fn raise(mut self) {
+        if !panicking()
+            && let Some(panic) = self.0.take()
+        {
+            resume_unwind(panic);
+        }
+    }
+}
+
+/// Ends the panic. The drop of its payload is user code; if that panics, the second payload is forgotten.
+impl Drop for Panics {
+    fn drop(&mut self) {
+        if let Some(panic) = self.0.take() {
+            forget(catch_unwind(AssertUnwindSafe(|| drop(panic))));
+        }
+    }
+}
+
+/// Runs user code for each of these, whose panics end here.
+pub fn ignore_panics<I>(all: impl IntoIterator<Item = I>, user_code: impl FnMut(I)) {
+    Panics::default().run_each(all, user_code);
+}
+
+/// Drops each of these, and then raises the first panic.
+pub fn drop_each<I>(all: impl IntoIterator<Item = I>) {
+    let mut panics = Panics::default();
+    panics.run_each(all, drop);
+    panics.raise();
 }
 
 /// Those that stand in line.
@@ -128,7 +180,7 @@ impl Line {
 
     fn remove(&mut self, number: u64) -> Option<Waker> {
         let waker = self.waker(number)?.take()?;
-        self.has_left();
+        self.count_down();
         Some(waker)
     }
 
@@ -136,16 +188,23 @@ impl Line {
         self.rings += 1;
         let mut first = iter::from_fn(|| self.wakers.pop_front());
         let waker = first.find_map(|it| it.1)?;
-        self.has_left();
+        self.count_down();
         Some(waker)
     }
 
-    fn has_left(&mut self) {
+    fn count_down(&mut self) {
         self.length -= 1;
         if 2 * self.length <= self.wakers.len() {
             self.wakers.retain(|it| it.1.is_some());
             self.wakers.shrink_to(KEPT);
         }
+    }
+}
+
+/// There are some if futures were forgotten.
+impl Drop for Line {
+    fn drop(&mut self) {
+        drop_each(take(&mut self.wakers));
     }
 }
 
@@ -157,7 +216,7 @@ pub struct Ticket {
     rings: u64,
 }
 
-/// A line in which callers wait. It has lines of the cache for itself, since waiters write it, and each call of its side
+/// A line in which callers wait. It has a cache line for itself, since waiters write it, and each call of its side
 /// reads what is near.
 #[derive(Default)]
 #[repr(align(64))]
@@ -192,30 +251,35 @@ impl Event {
 
     /// Stays in line with this waker, after a try that found nothing. Returns whether it was still
     /// there.
-    pub fn stay(&self, Ticket { number, .. }: Ticket, waker: &Waker) -> bool {
+    pub fn stay(&self, ticket: Ticket, waker: &Waker, panics: &mut Panics) -> bool {
+        let number = ticket.number;
         let is_same = |line: &mut Line| Some(line.waker(number)?.as_ref()?.will_wake(waker));
         match is_same(&mut lock(&self.line)) {
             Some(false) => {}
             there => return there.is_some(),
         }
-        // The one that isn't in line then is dropped once the lock is released.
         let mut waker = waker.clone();
-        self.with_line(|line| {
+        let is_there = self.with_line(|line| {
             let place = line.waker(number).and_then(Option::as_mut);
             place.map(|place| swap(place, &mut waker)).is_some()
-        })
+        });
+        // The one that isn't in line.
+        panics.run_each([waker], drop);
+        is_there
     }
 
     /// Leaves the line. Returns whether a ring had taken this one out, and whether there was a ring at all.
-    pub fn leave(&self, Ticket { number, rings }: Ticket) -> (bool, bool) {
+    pub fn leave(&self, Ticket { number, rings }: Ticket, panics: &mut Panics) -> (bool, bool) {
         let leave = |line: &mut Line| (line.remove(number), line.rings != rings);
         let (waker, was_rung) = self.with_line(leave);
-        (waker.is_none(), was_rung)
+        let is_out = waker.is_none();
+        panics.run_each(waker, drop);
+        (is_out, was_rung)
     }
 
     /// Leaves the line without a further try: a ring that took this one out is passed on.
-    pub fn pass_on(&self, ticket: Ticket) {
-        if self.leave(ticket).0 {
+    pub fn pass_on(&self, ticket: Ticket, panics: &mut Panics) {
+        if self.leave(ticket, panics).0 {
             self.ring();
         }
     }
@@ -231,17 +295,18 @@ impl Event {
     #[cold]
     fn wake_first(&self) {
         while let Some(waker) = self.with_line(Line::pop) {
-            match run_each([waker], Waker::wake) {
-                None => return,
-                panic => let_be(panic),
+            let mut panics = Panics::default();
+            panics.run_each([waker], Waker::wake);
+            if panics.0.is_none() {
+                return;
             }
         }
     }
 
-    /// Wakes all that stand in line now, and returns the first panic of their wakers.
-    pub fn ring_for_all(&self) -> Option<Panic> {
+    /// Wakes all that stand in line now.
+    pub fn ring_for_all(&self, panics: &mut Panics) {
         let all: Vec<_> = self.with_line(|line| iter::from_fn(|| line.pop()).collect());
-        run_each(all, Waker::wake)
+        panics.run_each(all, Waker::wake);
     }
 }
 
@@ -337,12 +402,12 @@ pub fn wait<R>(
             let ticket = event.stand(parker.clone().into());
             match attempt() {
                 Ok(done) => {
-                    event.pass_on(ticket);
+                    event.pass_on(ticket, &mut Panics::default());
                     return Some(done);
                 }
                 Err(again) => parker.park(until.into_iter().chain(again).min()),
             }
-            event.leave(ticket);
+            event.leave(ticket, &mut Panics::default());
             if let Ok(done) = attempt() {
                 return Some(done);
             }

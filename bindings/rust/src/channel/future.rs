@@ -1,89 +1,123 @@
 //! Sends and takes as futures. A poll makes a call of the queue to its end, and so may spin for its
-//! answer, but none is left begun between two polls: it would stop its side.
-use super::body::Parcel;
-use super::event::{AT_A_RING, Ticket, Try};
-use super::side::Handle;
+//! answer, but none is left begun between two polls: it would stop its side. A poll waits for nothing else: with
+//! capacity 0 it is posted, as [`meeting`](super::meeting) says.
+//!
+//! **Fused**: a poll after the call is done is pending, for ever, and does nothing.
+//!
+//! **Panics of wakers** that are dropped end in the poll that is done, whose result would be lost; another poll
+//! raises the first of them again at its end, and so does the drop of a future.
+use super::body::{Parcel, Unsent};
+use super::event::{Event, Panics, Ticket, Try};
+use super::meeting::TakerState;
 use super::{Receiver, RecvError, SendError, Sender};
-use crate::queue::{Receivers, Senders};
 use std::borrow::Cow;
+use std::fmt;
+use std::mem::take;
 use std::pin::Pin;
-use std::task::{Context, Poll};
+use std::task::{Context, Poll, Waker};
 
-/// A take: see [`recv_async`](crate::Receiver::recv_async). If it is polled after it was done, it takes a further item.
-pub type RecvFuture<'a, T> = CallFuture<'a, T, Receivers>;
+/// The place of a future in the line of its side.
+#[derive(Default)]
+struct Place(Option<Ticket>);
 
-/// A send: see [`send_async`](crate::Sender::send_async).
-pub type SendFuture<'a, T> = CallFuture<'a, T, Senders>;
-
-/// A [`RecvFuture`] or a [`SendFuture`], as the type `S` says.
-#[must_use = "a future does nothing unless it is polled"]
-pub struct CallFuture<'a, T, S> {
-    /// It borrows the handle, or has it.
-    handle: Cow<'a, Handle<T, S>>,
-    /// Its place in the line of its side.
-    place: Option<Ticket>,
-    /// None of a take, and of a send once the item is sent, handed back, or posted.
-    parcel: Option<Parcel<T>>,
-    /// The number of the item that is posted, on a channel of capacity 0.
-    posted: Option<u64>,
-}
-
-// No item is pinned.
-impl<T, S> Unpin for CallFuture<'_, T, S> {}
-
-impl<'a, T, S> CallFuture<'a, T, S> {
-    pub(super) fn new(handle: Cow<'a, Handle<T, S>>, parcel: Option<Parcel<T>>) -> Self {
-        CallFuture {
-            handle,
-            place: None,
-            parcel,
-            posted: None,
-        }
-    }
-
-    /// One poll: tries, unless it would seem to find nothing, and stays in line; or stands in line, and
-    /// tries once more. One that is still in line needs no try: the ring that takes it out is to come.
-    fn poll_call<R>(
+impl Place {
+    /// Tries, unless it would seem to be in vain, and stays in line; or stands in line, and tries once more.
+    /// One that is still in line needs no try: the ring that takes it out is to come.
+    fn poll<R>(
         &mut self,
-        context: &mut Context<'_>,
-        finds_nothing: fn(&Handle<T, S>) -> bool,
-        attempt: impl Fn(&Handle<T, S>) -> Try<R>,
+        line: &Event,
+        waker: &Waker,
+        panics: &mut Panics,
+        seems_in_vain: bool,
+        mut attempt: impl FnMut() -> Try<R>,
     ) -> Poll<R> {
-        let (handle, waker) = (&*self.handle, context.waker());
-        let mut tried = match finds_nothing(handle) {
-            true => Err(AT_A_RING),
-            false => attempt(handle),
-        };
-        let stays = |ticket| handle.line().stay(ticket, waker);
-        if tried.is_err() && !self.place.is_some_and(stays) {
-            self.place = Some(handle.line().stand(waker.clone()));
-            tried = attempt(handle);
+        let mut tried = if seems_in_vain { Err(None) } else { attempt() };
+        let mut stays = |ticket| line.stay(ticket, waker, panics);
+        if tried.is_err() && !self.0.is_some_and(&mut stays) {
+            self.0 = Some(line.stand(waker.clone()));
+            tried = attempt();
         }
         match tried {
             Ok(done) => {
-                self.leave();
+                self.leave(line, panics);
                 return Poll::Ready(done);
             }
-            Err(AT_A_RING) => {}
-            Err(Some(_)) => waker.wake_by_ref(),
+            Err(again) => panics.run_each(again, |_| waker.wake_by_ref()),
         }
         Poll::Pending
     }
 
     /// Leaves the line without a further try.
-    fn leave(&mut self) {
-        if let Some(ticket) = self.place.take() {
-            self.handle.line().pass_on(ticket);
+    fn leave(&mut self, line: &Event, panics: &mut Panics) {
+        if let Some(ticket) = self.0.take() {
+            line.pass_on(ticket, panics);
         }
     }
 }
 
-impl<T, S> Drop for CallFuture<'_, T, S> {
-    fn drop(&mut self) {
-        self.leave();
-        if let (Some(number), Some(meeting)) = (self.posted, self.handle.core().meeting()) {
-            drop(meeting.withdraw(number));
+/// One poll of a future by this call, which keeps the panics of wakers.
+fn poll_once<R>(is_done: &mut bool, call: impl FnOnce(&mut Panics) -> Poll<R>) -> Poll<R> {
+    if *is_done {
+        return Poll::Pending;
+    }
+    let mut panics = Panics::default();
+    let polled = call(&mut panics);
+    *is_done = polled.is_ready();
+    if !*is_done {
+        panics.raise();
+    }
+    polled
+}
+
+/// A take: see [`recv_async`](crate::Receiver::recv_async).
+///
+/// It is fused: once a poll was ready, each further poll is pending, and nothing wakes its task.
+#[must_use = "a future does nothing unless it is polled"]
+pub struct RecvFuture<'a, T> {
+    /// It borrows the receiver, or has it.
+    receiver: Cow<'a, Receiver<T>>,
+    is_done: bool,
+    place: Place,
+    /// How far it is, on a channel of capacity 0.
+    taker: TakerState,
+}
+
+// No item is pinned.
+impl<T> Unpin for RecvFuture<'_, T> {}
+
+impl<'a, T> RecvFuture<'a, T> {
+    pub(super) fn new(receiver: Cow<'a, Receiver<T>>) -> Self {
+        let is_timer = receiver.core().is_timer();
+        assert!(!is_timer, "a timer has no future: use the runtime's");
+        RecvFuture {
+            receiver,
+            is_done: false,
+            place: Place::default(),
+            taker: TakerState::Idle,
         }
+    }
+
+    /// Whether a poll was ready, as `is_terminated` of a `FusedFuture` says.
+    ///
+    /// ```
+    /// use std::pin::Pin;
+    /// use std::task::{Context, Poll, Waker};
+    ///
+    /// let (sender, receiver) = vahepito::channel(2)?;
+    /// let mut takes = receiver.recv_async();
+    /// let mut poll = |context: &mut Context| Pin::new(&mut takes).poll(context);
+    /// let context = &mut Context::from_waker(Waker::noop());
+    /// assert_eq!(poll(context), Poll::Pending);
+    /// sender.send('a').unwrap();
+    /// assert_eq!(poll(context), Poll::Ready(Ok('a')));
+    /// sender.send('b').unwrap();
+    /// assert_eq!(poll(context), Poll::Pending); // it takes one item
+    /// assert!(takes.is_terminated());
+    /// # Ok::<(), vahepito::OpenError>(())
+    /// ```
+    #[must_use]
+    pub fn is_terminated(&self) -> bool {
+        self.is_done
     }
 }
 
@@ -91,36 +125,140 @@ impl<T> Future for RecvFuture<'_, T> {
     type Output = Result<T, RecvError>;
 
     fn poll(mut self: Pin<&mut Self>, context: &mut Context<'_>) -> Poll<Self::Output> {
-        // Nobody rings for a moment.
-        let seems_empty = |it: &Receiver<T>| it.is_empty() && it.core().special.is_none();
-        let taken = self.poll_call(context, seems_empty, Handle::try_take);
-        taken.map(|parcel| parcel.map(Parcel::unpack).ok_or(RecvError))
+        let RecvFuture {
+            receiver,
+            is_done,
+            place,
+            taker,
+        } = &mut *self;
+        let waker = context.waker();
+        poll_once(is_done, |panics| {
+            if let Some(meeting) = receiver.core().meeting() {
+                let taken = receiver.poll_met(meeting, taker, waker, panics);
+                return taken.map(|item| item.ok_or(RecvError));
+            }
+            let (line, is_empty) = (receiver.line(), receiver.is_empty());
+            let taken = place.poll(line, waker, panics, is_empty, || receiver.try_take());
+            taken.map(|parcel| parcel.map(Parcel::unpack).ok_or(RecvError))
+        })
+    }
+}
+
+impl<T> Drop for RecvFuture<'_, T> {
+    fn drop(&mut self) {
+        let (core, mut panics) = (self.receiver.core(), Panics::default());
+        self.place.leave(self.receiver.line(), &mut panics);
+        if let Some(meeting) = core.meeting()
+            && let Some(item) = meeting.leave(take(&mut self.taker), &mut panics)
+        {
+            core.give_back_item(meeting, item);
+        }
+        panics.raise();
+    }
+}
+
+impl<T> fmt::Debug for RecvFuture<'_, T> {
+    fn fmt(&self, f: &mut fmt::Formatter<'_>) -> fmt::Result {
+        f.pad("RecvFuture { .. }")
+    }
+}
+
+/// A send: see [`send_async`](crate::Sender::send_async).
+///
+/// It is fused: once a poll was ready, each further poll is pending, and nothing wakes its task.
+#[must_use = "a future does nothing unless it is polled"]
+pub struct SendFuture<'a, T> {
+    /// It borrows the sender, or has it.
+    sender: Cow<'a, Sender<T>>,
+    is_done: bool,
+    place: Place,
+    /// None once the item is handed back, or posted.
+    item: Option<Unsent<T>>,
+    /// The number of the item that is posted, on a channel of capacity 0.
+    offer: Option<u64>,
+}
+
+// No item is pinned.
+impl<T> Unpin for SendFuture<'_, T> {}
+
+impl<'a, T> SendFuture<'a, T> {
+    pub(super) fn new(sender: Cow<'a, Sender<T>>, item: Unsent<T>) -> Self {
+        SendFuture {
+            sender,
+            is_done: false,
+            place: Place::default(),
+            item: Some(item),
+            offer: None,
+        }
+    }
+
+    /// Whether a poll was ready, as `is_terminated` of a `FusedFuture` says.
+    ///
+    /// ```
+    /// use std::pin::Pin;
+    /// use std::task::{Context, Poll, Waker};
+    ///
+    /// let (sender, receiver) = vahepito::channel(2)?;
+    /// let mut sends = sender.send_async('a');
+    /// assert!(!sends.is_terminated());
+    /// let context = &mut Context::from_waker(Waker::noop());
+    /// assert_eq!(Pin::new(&mut sends).poll(context), Poll::Ready(Ok(())));
+    /// assert!(sends.is_terminated());
+    /// assert_eq!(Pin::new(&mut sends).poll(context), Poll::Pending);
+    /// assert!(receiver.try_iter().eq(['a']));
+    /// # Ok::<(), vahepito::OpenError>(())
+    /// ```
+    #[must_use]
+    pub fn is_terminated(&self) -> bool {
+        self.is_done
     }
 }
 
 impl<T> Future for SendFuture<'_, T> {
     type Output = Result<(), SendError<T>>;
 
-    /// # Panics
-    ///
-    /// It is polled after it was done.
     fn poll(mut self: Pin<&mut Self>, context: &mut Context<'_>) -> Poll<Self::Output> {
-        let this = &mut *self;
-        if let Some(meeting) = this.handle.core().meeting() {
-            let (parcel, posted) = (&mut this.parcel, &mut this.posted);
-            return this
-                .handle
-                .poll_posted(meeting, parcel, posted, context.waker());
-        }
-        let parcel = self.parcel.take().expect("the item isn't sent yet");
-        let attempt = |it: &Sender<T>| it.core().try_send(&parcel);
-        match self.poll_call(context, Handle::is_full, attempt) {
-            Poll::Ready(true) => Poll::Ready(parcel.sent()),
-            Poll::Ready(false) => Poll::Ready(Err(SendError(parcel.unpack()))),
-            Poll::Pending => {
-                self.parcel = Some(parcel);
-                Poll::Pending
+        let SendFuture {
+            sender,
+            is_done,
+            place,
+            item,
+            offer,
+        } = &mut *self;
+        let waker = context.waker();
+        poll_once(is_done, |panics| {
+            if let Some(meeting) = sender.core().meeting() {
+                return sender.poll_posted(meeting, item, offer, waker, panics);
             }
+            let (line, is_full) = (sender.line(), sender.is_full());
+            let attempt = || match item {
+                Some(item) => sender.core().try_send(item),
+                None => Ok(false),
+            };
+            let sent = place.poll(line, waker, panics, is_full, attempt);
+            sent.map(|is_sent| match item.take() {
+                Some(item) if !is_sent => Err(SendError(item.into_inner())),
+                _ => Ok(()),
+            })
+        })
+    }
+}
+
+impl<T> Drop for SendFuture<'_, T> {
+    fn drop(&mut self) {
+        let mut panics = Panics::default();
+        self.place.leave(self.sender.line(), &mut panics);
+        if let (Some(meeting), Some(offer)) = (self.sender.core().meeting(), self.offer.take()) {
+            let item = meeting.withdraw(offer, &mut panics);
+            panics.run_each(item, drop);
         }
+        panics.run_each(self.item.take(), drop);
+        panics.raise();
+    }
+}
+
+impl<T> fmt::Debug for SendFuture<'_, T> {
+    fn fmt(&self, f: &mut fmt::Formatter<'_>) -> fmt::Result {
+        f.pad("SendFuture { .. }")
     }
 }

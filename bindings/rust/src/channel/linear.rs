@@ -15,7 +15,7 @@ const THREADS: usize = 4;
 
 /// The result of a call; if that is a receiver's, with its group.
 #[derive(Clone, Copy, Debug, PartialEq, Eq)]
-enum Told {
+enum Outcome {
     Sent(u32),
     Full,
     SendClosed,
@@ -44,7 +44,7 @@ struct Call {
     end: u64,
     /// Of the two.
     channel: usize,
-    told: Told,
+    outcome: Outcome,
 }
 
 /// The items that a group hasn't taken, and how many receivers it has.
@@ -100,65 +100,65 @@ impl Model {
     }
 
     /// Whether a call returns this if it is made now. Then it is made.
-    fn makes(&mut self, told: Told) -> bool {
-        match told {
-            Told::Sent(item) => {
+    fn makes(&mut self, outcome: Outcome) -> bool {
+        match outcome {
+            Outcome::Sent(item) => {
                 let may = !self.closed && !self.is_full();
                 self.push(item);
                 may
             }
-            Told::Reserved => {
+            Outcome::Reserved => {
                 let may = !self.closed && !self.is_full();
                 self.reserved += 1;
                 may
             }
-            Told::SentToRoom(item) => {
+            Outcome::SentToRoom(item) => {
                 self.reserved -= 1;
                 self.push(item);
                 !self.closed
             }
-            Told::RoomClosed => {
+            Outcome::RoomClosed => {
                 self.reserved -= 1;
                 self.closed
             }
-            Told::GaveBack => {
+            Outcome::GaveBack => {
                 self.reserved -= 1;
                 true
             }
-            Told::Full => !self.closed && self.is_full(),
-            Told::SendClosed => self.closed,
-            Told::Got(group, item) => self.group(group).items.pop_front() == Some(item),
-            Told::Empty(group) => !self.closed && self.group(group).items.is_empty(),
-            Told::Ended(group) => self.closed && self.group(group).items.is_empty(),
-            Told::Closed(first) => first != std::mem::replace(&mut self.closed, true),
-            Told::IsClosed(closed) => closed == self.closed,
-            Told::Len(len) => self.len() == len,
-            Told::SenderCloned => {
+            Outcome::Full => !self.closed && self.is_full(),
+            Outcome::SendClosed => self.closed,
+            Outcome::Got(group, item) => self.group(group).items.pop_front() == Some(item),
+            Outcome::Empty(group) => !self.closed && self.group(group).items.is_empty(),
+            Outcome::Ended(group) => self.closed && self.group(group).items.is_empty(),
+            Outcome::Closed(first) => first != std::mem::replace(&mut self.closed, true),
+            Outcome::IsClosed(closed) => closed == self.closed,
+            Outcome::Len(len) => self.len() == len,
+            Outcome::SenderCloned => {
                 self.senders += 1;
                 true
             }
-            Told::SenderUpgraded(is_there) => {
+            Outcome::SenderUpgraded(is_there) => {
                 let are_there = self.senders > 0;
                 self.senders += usize::from(is_there);
                 is_there == are_there
             }
-            Told::SenderDropped => {
+            Outcome::SenderDropped => {
                 self.senders -= 1;
                 self.closed |= self.senders == 0;
                 true
             }
-            Told::ReceiverCloned(group) => {
+            Outcome::ReceiverCloned(group) => {
                 self.group(group).receivers += 1;
                 true
             }
-            Told::ReceiverUpgraded(group, is_there) => {
+            Outcome::ReceiverUpgraded(group, is_there) => {
                 let now = self.groups[group].as_mut();
                 is_there
                     == now
                         .map(|it| it.receivers += usize::from(is_there))
                         .is_some()
             }
-            Told::ReceiverDropped(group) => {
+            Outcome::ReceiverDropped(group) => {
                 self.group(group).receivers -= 1;
                 if self.group(group).receivers == 0 {
                     self.groups[group] = None;
@@ -172,13 +172,16 @@ impl Model {
 
 /// The calls that this one is made with, at the same moment: with capacity 0 the take of what it sends.
 fn made_with(calls: &[Call], call: usize, models: &[Model; 2]) -> Option<Vec<usize>> {
-    let Call { channel, told, .. } = calls[call];
+    let Call {
+        channel, outcome, ..
+    } = calls[call];
     let mut all = vec![call];
     if models[channel].capacity == 0 {
-        match told {
-            Told::Got(..) => return None,
-            Told::Sent(item) => {
-                let takes = |it: &Call| it.channel == channel && it.told == Told::Got(0, item);
+        match outcome {
+            Outcome::Got(..) => return None,
+            Outcome::Sent(item) => {
+                let takes =
+                    |it: &Call| it.channel == channel && it.outcome == Outcome::Got(0, item);
                 all.push(calls.iter().position(takes)?);
             }
             _ => {}
@@ -190,10 +193,12 @@ fn made_with(calls: &[Call], call: usize, models: &[Model; 2]) -> Option<Vec<usi
 /// Makes these calls, at the same moment. Returns whether they return what they did.
 fn make(calls: &[Call], all: &[usize], models: &mut [Model; 2]) -> bool {
     let [first, ..] = all else { return false };
-    let Call { channel, told, .. } = calls[*first];
-    match told {
+    let Call {
+        channel, outcome, ..
+    } = calls[*first];
+    match outcome {
         _ if all.len() == 2 => !models[channel].closed,
-        told => models[channel].makes(told),
+        outcome => models[channel].makes(outcome),
     }
 }
 
@@ -248,7 +253,7 @@ struct Own {
 }
 
 /// The steps of a select: the moments of its begin and its end, the channel, and what it returned.
-type Parts = Vec<(u64, u64, usize, Told)>;
+type Parts = Vec<(u64, u64, usize, Outcome)>;
 
 impl Own {
     fn new(
@@ -265,48 +270,52 @@ impl Own {
         }
     }
 
-    fn sends(&self, item: u32, time: Option<Duration>) -> Option<Told> {
+    fn sends(&self, item: u32, time: Option<Duration>) -> Option<Outcome> {
         let sender = self.senders.last()?;
         let sent = match time {
             None => sender.try_send(item),
-            Some(time) => sender.send_timeout(item, time).map_err(|told| match told {
-                SendTimeoutError::Timeout(item) => TrySendError::Full(item),
-                SendTimeoutError::Disconnected(item) => TrySendError::Disconnected(item),
-            }),
+            Some(time) => sender
+                .send_timeout(item, time)
+                .map_err(|outcome| match outcome {
+                    SendTimeoutError::Timeout(item) => TrySendError::Full(item),
+                    SendTimeoutError::Disconnected(item) => TrySendError::Disconnected(item),
+                }),
         };
         Some(match sent {
-            Ok(()) => Told::Sent(item),
-            Err(TrySendError::Full(_)) => Told::Full,
-            Err(TrySendError::Disconnected(_)) => Told::SendClosed,
+            Ok(()) => Outcome::Sent(item),
+            Err(TrySendError::Full(_)) => Outcome::Full,
+            Err(TrySendError::Disconnected(_)) => Outcome::SendClosed,
         })
     }
 
-    fn takes(&self, time: Option<Duration>) -> Option<Told> {
+    fn takes(&self, time: Option<Duration>) -> Option<Outcome> {
         let receiver = self.receivers.last()?;
         let taken = match time {
             None => receiver.try_recv(),
-            Some(time) => receiver.recv_timeout(time).map_err(|told| match told {
-                RecvTimeoutError::Timeout => TryRecvError::Empty,
-                RecvTimeoutError::Disconnected => TryRecvError::Disconnected,
-            }),
+            Some(time) => receiver
+                .recv_timeout(time)
+                .map_err(|outcome| match outcome {
+                    RecvTimeoutError::Timeout => TryRecvError::Empty,
+                    RecvTimeoutError::Disconnected => TryRecvError::Disconnected,
+                }),
         };
         Some(match taken {
-            Ok(item) => Told::Got(self.group, item),
-            Err(TryRecvError::Empty) => Told::Empty(self.group),
-            Err(TryRecvError::Disconnected) => Told::Ended(self.group),
+            Ok(item) => Outcome::Got(self.group, item),
+            Err(TryRecvError::Empty) => Outcome::Empty(self.group),
+            Err(TryRecvError::Disconnected) => Outcome::Ended(self.group),
         })
     }
 
     /// A call of the other channel.
-    fn calls_other(&self, sends: bool, item: u32) -> Told {
+    fn calls_other(&self, sends: bool, item: u32) -> Outcome {
         match sends {
             true => match self.other.0.try_send(item) {
-                Ok(()) => Told::Sent(item),
-                Err(_) => Told::Full,
+                Ok(()) => Outcome::Sent(item),
+                Err(_) => Outcome::Full,
             },
             false => match self.other.1.try_recv() {
-                Ok(item) => Told::Got(0, item),
-                Err(_) => Told::Empty(0),
+                Ok(item) => Outcome::Got(0, item),
+                Err(_) => Outcome::Empty(0),
             },
         }
     }
@@ -337,9 +346,9 @@ impl Own {
         let Some(operation) = operation else {
             // Each wasn't ready at a moment of its own.
             let not_ready = |&(channel, sends): &(usize, bool)| {
-                let take = Told::Empty([self.group, 0][channel]);
-                let told = if sends { Told::Full } else { take };
-                (begin, end, channel, told)
+                let take = Outcome::Empty([self.group, 0][channel]);
+                let outcome = if sends { Outcome::Full } else { take };
+                (begin, end, channel, outcome)
             };
             return operations.iter().map(not_ready).collect();
         };
@@ -349,67 +358,73 @@ impl Own {
         match (sends, receivers[channel], senders[channel]) {
             (false, Some(receiver), _) => {
                 let taken = operation.recv(receiver);
-                let told = taken.map_or(Told::Ended(group), |item| Told::Got(group, item));
-                vec![(begin, clock.now(), channel, told)]
+                let outcome = taken.map_or(Outcome::Ended(group), |item| Outcome::Got(group, item));
+                vec![(begin, clock.now(), channel, outcome)]
             }
             (_, _, Some(sender)) if has_room => {
                 let start = clock.now();
-                let told = match gives_back {
+                let outcome = match gives_back {
                     true => {
                         drop(operation);
-                        Told::GaveBack
+                        Outcome::GaveBack
                     }
                     false => match operation.send(sender, item) {
-                        Ok(()) => Told::SentToRoom(item),
-                        Err(_) => Told::RoomClosed,
+                        Ok(()) => Outcome::SentToRoom(item),
+                        Err(_) => Outcome::RoomClosed,
                     },
                 };
-                let reserved = (begin, end, channel, Told::Reserved);
-                vec![reserved, (start, clock.now(), channel, told)]
+                let reserved = (begin, end, channel, Outcome::Reserved);
+                vec![reserved, (start, clock.now(), channel, outcome)]
             }
             (_, _, Some(sender)) => {
-                let sent = operation.send(sender, item);
-                let told = sent.map_or(Told::SendClosed, |()| Told::Sent(item));
-                vec![(begin, clock.now(), channel, told)]
+                // With capacity 0 the take may have given the pair up.
+                let outcome = match operation.send(sender, item) {
+                    Ok(()) => Outcome::Sent(item),
+                    Err(_) if sender.is_closed() => Outcome::SendClosed,
+                    Err(_) => Outcome::Full,
+                };
+                vec![(begin, clock.now(), channel, outcome)]
             }
             _ => vec![],
         }
     }
 
     /// One call of this kind, if there is a handle for it.
-    fn call(&mut self, kind: u64, item: u32) -> Option<Told> {
+    fn call(&mut self, kind: u64, item: u32) -> Option<Outcome> {
         const TIME: Option<Duration> = Some(Duration::from_micros(20));
         match kind {
             0..7 => self.sends(item, None),
             7..14 => self.takes(None),
             14 => self.sends(item, TIME),
             15 => self.takes(TIME),
-            16 => Some(Told::Closed(self.senders.last()?.close())),
-            17 => Some(Told::IsClosed(self.receivers.last()?.is_closed())),
+            16 => Some(Outcome::Closed(self.senders.last()?.close())),
+            17 => Some(Outcome::IsClosed(self.receivers.last()?.is_closed())),
             18 => {
                 self.senders.push(self.senders.last()?.clone());
-                Some(Told::SenderCloned)
+                Some(Outcome::SenderCloned)
             }
             19 => {
                 self.receivers.push(self.receivers.last()?.clone());
-                Some(Told::ReceiverCloned(self.group))
+                Some(Outcome::ReceiverCloned(self.group))
             }
             20 => {
                 let sender = self.weak.0.upgrade();
-                let told = Told::SenderUpgraded(sender.is_some());
+                let outcome = Outcome::SenderUpgraded(sender.is_some());
                 self.senders.extend(sender);
-                Some(told)
+                Some(outcome)
             }
             21 => {
                 let receiver = self.weak.1.upgrade();
-                let told = Told::ReceiverUpgraded(self.group, receiver.is_some());
+                let outcome = Outcome::ReceiverUpgraded(self.group, receiver.is_some());
                 self.receivers.extend(receiver);
-                Some(told)
+                Some(outcome)
             }
-            22..26 => self.senders.pop().map(|_| Told::SenderDropped),
+            22..26 => self.senders.pop().map(|_| Outcome::SenderDropped),
             _ => {
                 let group = self.group;
-                self.receivers.pop().map(|_| Told::ReceiverDropped(group))
+                self.receivers
+                    .pop()
+                    .map(|_| Outcome::ReceiverDropped(group))
             }
         }
     }
@@ -445,23 +460,28 @@ fn calls(own: &mut Own, clock: &Clock, mut random: Random, first: u32, kinds: u6
         let begin = clock.now();
         let parts = match kind {
             0..30 => {
-                let told = own.call(kind, item);
-                told.map(|told| (begin, clock.now(), 0, told))
+                let outcome = own.call(kind, item);
+                outcome
+                    .map(|outcome| (begin, clock.now(), 0, outcome))
                     .into_iter()
                     .collect()
             }
             30..34 => {
-                let told = own.calls_other(kind.is_multiple_of(2), item);
-                vec![(begin, clock.now(), 1, told)]
+                let outcome = own.calls_other(kind.is_multiple_of(2), item);
+                vec![(begin, clock.now(), 1, outcome)]
             }
             _ => own.selects(random.below(32), random.below(4) == 0, item, clock),
         };
-        all.extend(parts.into_iter().map(|(begin, end, channel, told)| Call {
-            begin,
-            end,
-            channel,
-            told,
-        }));
+        all.extend(
+            parts
+                .into_iter()
+                .map(|(begin, end, channel, outcome)| Call {
+                    begin,
+                    end,
+                    channel,
+                    outcome,
+                }),
+        );
         if random.below(4) == 0 {
             thread::yield_now();
         }
@@ -514,7 +534,7 @@ impl Runs {
             }
         }
         let kinds = self.other.map_or(30, |_| 60);
-        let told: Vec<Vec<Vec<Call>>> = thread::scope(|scope| {
+        let outcome: Vec<Vec<Vec<Call>>> = thread::scope(|scope| {
             let threads = (0_u32..).zip(threads).map(|(number, channels)| {
                 scope.spawn(move || {
                     let calls = (seed..).zip(channels).map(|(seed, (clock, own))| {
@@ -528,7 +548,7 @@ impl Runs {
             let threads: Vec<_> = threads.collect();
             threads.into_iter().map(|it| it.join().unwrap()).collect()
         });
-        for thread in told {
+        for thread in outcome {
             for ((_, _, all), calls) in runs.iter_mut().zip(thread) {
                 all.extend(calls);
             }
@@ -537,25 +557,27 @@ impl Runs {
 
     /// Checks what was recorded, with what is left after it.
     fn check(&self, capacity: usize, (clock, handles, mut all): Run) {
-        let mut at_rest = |channel, told| {
+        let mut at_rest = |channel, outcome| {
             let (begin, end) = (clock.now(), clock.now());
             all.push(Call {
                 begin,
                 end,
                 channel,
-                told,
+                outcome,
             });
         };
         let sender = handles.iter().find_map(|own| own.senders.last());
         sender
             .into_iter()
-            .for_each(|it| at_rest(0, Told::Len(it.len())));
+            .for_each(|it| at_rest(0, Outcome::Len(it.len())));
         let left = handles[0].other.1.try_iter();
-        left.for_each(|item| at_rest(1, Told::Got(0, item)));
+        left.for_each(|item| at_rest(1, Outcome::Got(0, item)));
         for own in &handles {
             for receiver in &own.receivers {
-                let left = receiver.try_iter().map(|item| Told::Got(own.group, item));
-                left.for_each(|told| at_rest(0, told));
+                let left = receiver
+                    .try_iter()
+                    .map(|item| Outcome::Got(own.group, item));
+                left.for_each(|outcome| at_rest(0, outcome));
             }
         }
         all.sort_by_key(|call| call.begin);
@@ -638,46 +660,55 @@ fn calls_over_many_queues_have_an_order() {
 /// The check itself: what no order gives is refused.
 #[test]
 fn what_has_no_order_is_refused() {
-    let call = |begin, end, told| Call {
+    let call = |begin, end, outcome| Call {
         begin,
         end,
         channel: 0,
-        told,
+        outcome,
     };
     let start = |capacity| [0, 1].map(|_| Model::start(capacity, 1, &[1]));
     let is_linear = |calls: &[Call]| is_linear(calls, start(1));
-    let sent = call(0, 1, Told::Sent(7));
+    let sent = call(0, 1, Outcome::Sent(7));
     let refused = [
-        vec![sent, call(2, 3, Told::Empty(0))],
-        vec![sent, call(2, 3, Told::Sent(8))],
-        vec![call(0, 3, Told::Full), call(4, 5, Told::Sent(7))],
+        vec![sent, call(2, 3, Outcome::Empty(0))],
+        vec![sent, call(2, 3, Outcome::Sent(8))],
+        vec![call(0, 3, Outcome::Full), call(4, 5, Outcome::Sent(7))],
         vec![
             sent,
-            call(2, 3, Told::Closed(true)),
-            call(4, 5, Told::Ended(0)),
+            call(2, 3, Outcome::Closed(true)),
+            call(4, 5, Outcome::Ended(0)),
         ],
         vec![
             sent,
-            call(2, 5, Told::Got(0, 7)),
-            call(3, 4, Told::Got(0, 7)),
+            call(2, 5, Outcome::Got(0, 7)),
+            call(3, 4, Outcome::Got(0, 7)),
         ],
-        vec![call(0, 1, Told::Got(0, 7)), call(2, 3, Told::Sent(7))],
+        vec![call(0, 1, Outcome::Got(0, 7)), call(2, 3, Outcome::Sent(7))],
         vec![
-            call(0, 1, Told::Closed(true)),
-            call(2, 3, Told::Closed(true)),
-        ],
-        vec![call(0, 1, Told::Closed(true)), call(2, 3, Told::Sent(7))],
-        vec![call(0, 1, Told::ReceiverDropped(0)), call(2, 3, Told::Full)],
-        vec![call(0, 1, Told::ReceiverDropped(0)), sent_at(2)],
-        vec![call(0, 1, Told::SenderDropped), call(2, 3, Told::Empty(0))],
-        vec![
-            call(0, 1, Told::SenderDropped),
-            call(2, 3, Told::SenderUpgraded(true)),
+            call(0, 1, Outcome::Closed(true)),
+            call(2, 3, Outcome::Closed(true)),
         ],
         vec![
-            call(0, 1, Told::SenderCloned),
-            call(2, 3, Told::SenderDropped),
-            call(4, 5, Told::IsClosed(true)),
+            call(0, 1, Outcome::Closed(true)),
+            call(2, 3, Outcome::Sent(7)),
+        ],
+        vec![
+            call(0, 1, Outcome::ReceiverDropped(0)),
+            call(2, 3, Outcome::Full),
+        ],
+        vec![call(0, 1, Outcome::ReceiverDropped(0)), sent_at(2)],
+        vec![
+            call(0, 1, Outcome::SenderDropped),
+            call(2, 3, Outcome::Empty(0)),
+        ],
+        vec![
+            call(0, 1, Outcome::SenderDropped),
+            call(2, 3, Outcome::SenderUpgraded(true)),
+        ],
+        vec![
+            call(0, 1, Outcome::SenderCloned),
+            call(2, 3, Outcome::SenderDropped),
+            call(4, 5, Outcome::IsClosed(true)),
         ],
     ];
     for calls in refused {
@@ -685,16 +716,16 @@ fn what_has_no_order_is_refused() {
     }
     let of_other = |call: Call| Call { channel: 1, ..call };
     let refused = [
-        vec![call(0, 1, Told::Reserved), sent_at(2)],
+        vec![call(0, 1, Outcome::Reserved), sent_at(2)],
         vec![
-            call(0, 1, Told::Reserved),
-            call(2, 3, Told::Got(0, 7)),
-            call(4, 5, Told::SentToRoom(7)),
+            call(0, 1, Outcome::Reserved),
+            call(2, 3, Outcome::Got(0, 7)),
+            call(4, 5, Outcome::SentToRoom(7)),
         ],
         vec![
-            call(0, 1, Told::Reserved),
-            call(2, 3, Told::GaveBack),
-            call(4, 5, Told::Full),
+            call(0, 1, Outcome::Reserved),
+            call(2, 3, Outcome::GaveBack),
+            call(4, 5, Outcome::Full),
         ],
     ];
     for calls in refused {
@@ -703,37 +734,37 @@ fn what_has_no_order_is_refused() {
     // The operations of a select, each of which isn't ready at a moment of its own.
     assert!(is_linear(&[
         sent,
-        call(2, 9, Told::Empty(0)),
-        of_other(call(2, 9, Told::Empty(0))),
-        of_other(call(3, 4, Told::Sent(8))),
-        call(5, 6, Told::Got(0, 7)),
-        of_other(call(10, 11, Told::Got(0, 8))),
+        call(2, 9, Outcome::Empty(0)),
+        of_other(call(2, 9, Outcome::Empty(0))),
+        of_other(call(3, 4, Outcome::Sent(8))),
+        call(5, 6, Outcome::Got(0, 7)),
+        of_other(call(10, 11, Outcome::Got(0, 8))),
     ]));
     let meets = |calls: &[Call]| super::linear::is_linear(calls, start(0));
-    let meeting = |begin| call(begin, begin + 2, Told::Sent(7));
-    assert!(meets(&[meeting(0), call(1, 3, Told::Got(0, 7))]));
-    assert!(!meets(&[meeting(0), call(3, 4, Told::Got(0, 7))]));
+    let meeting = |begin| call(begin, begin + 2, Outcome::Sent(7));
+    assert!(meets(&[meeting(0), call(1, 3, Outcome::Got(0, 7))]));
+    assert!(!meets(&[meeting(0), call(3, 4, Outcome::Got(0, 7))]));
     assert!(!meets(&[meeting(0)]));
-    assert!(is_linear(&[sent, call(0, 3, Told::Empty(0))]));
+    assert!(is_linear(&[sent, call(0, 3, Outcome::Empty(0))]));
     assert!(is_linear(&[
-        call(0, 9, Told::Got(0, 7)),
-        call(1, 2, Told::Sent(7))
+        call(0, 9, Outcome::Got(0, 7)),
+        call(1, 2, Outcome::Sent(7))
     ]));
-    let drops = call(0, 9, Told::ReceiverDropped(0));
+    let drops = call(0, 9, Outcome::ReceiverDropped(0));
     assert!(is_linear(&[
         drops,
         sent_at(2),
-        call(4, 5, Told::SendClosed)
+        call(4, 5, Outcome::SendClosed)
     ]));
 }
 
 fn sent_at(begin: u64) -> Call {
     let end = begin + 1;
-    let told = Told::Sent(7);
+    let outcome = Outcome::Sent(7);
     Call {
         begin,
         end,
         channel: 0,
-        told,
+        outcome,
     }
 }

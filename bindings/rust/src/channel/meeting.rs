@@ -2,64 +2,96 @@
 //!
 //! It works without the queue, under locks of its own, and rests on nothing of the queue's proof.
 //!
-//! A waiter is posted in its channel: a thread that takes or selects; and a send, of a thread or a task, with
-//! its item. A call looks first whether one of the other side is posted. It takes the item of a send. It meets
-//! the first thread that nobody has met: then they are a pair, and neither meets anybody else. The sender
-//! gives the pair its item; if the send was selected, the taker waits for it.
+//! A call looks first whether the other side has something for it, and posts itself if not. There are two kinds of
+//! posts. An *offer* is a send of a thread or a task, with its item: a take has the item at once. A *waiter* is a
+//! take, or an operation of a select. Whoever meets a waiter makes a *pair* with it, and neither meets anybody else.
+//! A send that has its item gives the item to the pair at once. A selected send has no item yet: it gives the item
+//! when it is completed, or gives the pair up when it is dropped.
 //!
-//! **None is missed.** A thread looks for others and posts itself, in all the channels of its select, in one
-//! step: it has the locks of all of them. So of two that might meet, one is posted first, and the other one
-//! finds it. Before it goes on it takes itself off, and then looks whether somebody met it meanwhile.
+//! **None is missed.** A call looks for others and posts itself, in all the channels of its select, in one step: it
+//! has the locks of all of them. So of two that might meet, one is posted first, and the other one finds it. Before
+//! it goes on it takes itself off, and then looks whether somebody met it meanwhile.
 //!
-//! **None is met twice.** A thread notes who met it first, under a lock ([`Waiter::is_met`]); it may be posted
-//! in several channels. The item of a send is taken out of the one list in which it is.
+//! **None is met twice.** A waiter notes who met it first, under a lock ([`Waiter::try_meet`]); it may be posted
+//! in several channels. The item of an offer is taken out of the one list in which it is.
+//!
+//! **A pair may be given up, by either side.** A pair is in the list of pairs until it is given up, or its item is
+//! taken. So each step of a pair, under one lock, sees whether the other side is still there. A take, and a select of
+//! one, returns only once the pair has its item. If the send gives the pair up, the take is woken, and goes on: with
+//! the other operations of its select, and until its time is over. A take whose time is over takes the item if it is
+//! there; if not, it waits for the other side for [`GRACE`] and gives the pair up. The selected send then finds no
+//! pair when it is completed: its item goes to another take, for which it waits as long as its select would have.
 //!
 //! **A time that is over** hands the item back exactly if nobody took it: a send takes it off itself then.
 //!
-//! **Takes of tasks** aren't posted: nobody may wait until a task is polled. They wait in the receivers' line,
-//! for which each post of a send rings: see [`event`](super::event).
+//! **A poll waits for nothing.** The take of a task is a waiter too. A waker is noted before the look at what it is
+//! to tell, first in the waiter and then in the pair, so that whoever changes that finds the waker. A task that is
+//! dropped gives the item of its pair to the next take, or the channel keeps it for one, also after a close.
 //!
-//! **A selected operation that is dropped** gives its pair up. The other one waits for a further one to meet.
+//! **Those that only look** ([`Select::ready`](crate::Select::ready)) aren't posted. They wait in the lines of their sides, for which each
+//! post rings: see [`event`](super::event).
 //!
-//! **Order of locks**: the lines, by their address; the pairs; a waiter.
-use super::body::Parcel;
-use super::event::{AT_A_RING, Panic, Parker, TRIES, Try, let_be, lock, run_each};
-use super::select::{Begun, Select};
+//! **Order of locks**: the lines, by their address; the pairs; a waiter. User code runs while none is held.
+use super::body::Unsent;
+use super::core::Core;
+use super::event::{AT_A_RING, Panics, Parker, Try, ignore_panics, lock};
+use super::select::{Begun, LocalSelect};
 use super::{Receiver, RecvTimeoutError, SendError, SendTimeoutError, Sender, TrySendError};
-use crate::backoff::Backoff;
 use std::collections::VecDeque;
-use std::mem::{replace, swap};
+use std::mem::{swap, take};
 use std::sync::atomic::{AtomicBool, Ordering};
-use std::sync::{Arc, Condvar, Mutex, PoisonError};
-use std::task::{Poll, Wake, Waker};
-use std::time::Instant;
+use std::sync::{Arc, Mutex, MutexGuard};
+use std::task::{Poll, Waker, ready};
+use std::time::{Duration, Instant};
 
 /// The sides of a channel.
 pub const SENDS: usize = 0;
 pub const TAKES: usize = 1;
 
-/// A thread that waits until somebody meets it.
-pub struct Waiter {
-    parker: Arc<Parker>,
+/// How long a take whose time is over waits for the item of a send that it has met.
+const GRACE: Duration = Duration::from_millis(1);
+
+/// A select of a thread, or a take of a task, that waits until another call meets it.
+pub struct Waiter(Mutex<Waits>);
+
+struct Waits {
+    /// None once it is used, until it is noted again.
+    waker: Option<Waker>,
     /// In which operation of its select, and the number of the pair.
-    met: Mutex<Option<(usize, u64)>>,
+    met: Option<(usize, u64)>,
 }
 
 impl Waiter {
-    pub fn new(parker: &Arc<Parker>) -> Arc<Waiter> {
-        let (parker, met) = (parker.clone(), Mutex::new(None));
-        Arc::new(Waiter { parker, met })
+    pub fn new(waker: Waker) -> Arc<Waiter> {
+        let (waker, met) = (Some(waker), None);
+        Arc::new(Waiter(Mutex::new(Waits { waker, met })))
     }
 
-    /// Meets it, if nobody has.
-    fn is_met(&self, place: usize, pair: u64) -> bool {
-        let mut met = lock(&self.met);
-        let is_first = met.is_none();
-        if is_first {
-            *met = Some((place, pair));
-            Wake::wake_by_ref(&self.parker);
+    /// Meets it, unless another call has, and gives its waker.
+    fn try_meet(&self, place: usize, pair: u64) -> Option<Option<Waker>> {
+        let mut waits = lock(&self.0);
+        let is_first = waits.met.is_none();
+        is_first.then(|| {
+            waits.met = Some((place, pair));
+            waits.waker.take()
+        })
+    }
+
+    fn take_waker(&self) -> Option<Waker> {
+        lock(&self.0).waker.take()
+    }
+
+    /// Waits on, with this waker. Gives the pair if it is met.
+    fn stay(&self, waker: &Waker, panics: &mut Panics) -> Option<u64> {
+        let mut waker = Some(waker.clone());
+        let mut waits = lock(&self.0);
+        let met = waits.met;
+        if met.is_none() {
+            swap(&mut waits.waker, &mut waker);
         }
-        is_first
+        drop(waits);
+        panics.run_each(waker, drop);
+        Some(met?.1)
     }
 
     /// Takes it off these channels, and returns the one that met it before.
@@ -68,7 +100,7 @@ impl Waiter {
             let posted = &mut lock(channel.lines()).posted[*side];
             posted.retain(|other| !Arc::ptr_eq(&other.waiter, self));
         }
-        *lock(&self.met)
+        lock(&self.0).met
     }
 }
 
@@ -77,18 +109,24 @@ struct Posted {
     place: usize,
 }
 
-/// The threads that are posted, of either side.
+/// The waiters that are posted, of either side.
 #[derive(Default)]
 pub struct Lines {
     is_closed: bool,
     posted: [VecDeque<Posted>; 2],
 }
 
+/// What a call meets: its operation has begun, and somebody is to be woken, while no lock is held.
+type Met = (Begun, Option<Waker>);
+
 /// A channel of capacity 0, whatever its items are.
 pub trait Meets {
     fn lines(&self) -> &Mutex<Lines>;
-    /// Meets one for this side. A task is to be woken then, while no lock is held.
-    fn begin(&self, lines: &mut Lines, side: usize) -> Option<(Begun, Option<Waker>)>;
+    /// Meets one for this side.
+    fn begin(&self, lines: &mut Lines, side: usize) -> Option<Met>;
+    /// Whether what has begun is for good: whether a send still has its pair; and whether the pair of a take has its
+    /// item, for which it waits until this moment, or [`GRACE`].
+    fn wait_for_pair(&self, begun: &Begun, side: usize, until: Option<Instant>) -> bool;
 }
 
 /// An operation of a select that may meet another: its place in the select, its channel, and its side.
@@ -109,7 +147,7 @@ pub fn meet_or_post(cases: &[Case], waiter: &Arc<Waiter>) -> Option<(usize, Begu
     for &(place, channel, side) in cases {
         if let Some((begun, waker)) = channel.begin(&mut locked[lines_of(channel)], side) {
             drop(locked);
-            wake(waker);
+            ignore_panics(waker, Waker::wake);
             return Some((place, begun));
         }
     }
@@ -120,29 +158,29 @@ pub fn meet_or_post(cases: &[Case], waiter: &Arc<Waiter>) -> Option<(usize, Begu
     None
 }
 
-/// Wakes a task. It is done with its send, so its panic is nobody's.
-fn wake(waker: Option<Waker>) {
-    let_be(run_each(waker, Waker::wake));
-}
-
-/// How far a pair is.
-enum Pair<T> {
-    Awaits,
-    Has(T),
-    GivenUp,
+/// A send and a take that have met, until the item is taken or one of them gives the pair up.
+struct Pair<T> {
+    number: u64,
+    /// The waker of the take, unless it is awake.
+    taker: Option<Waker>,
+    item: Option<T>,
 }
 
 /// A send that is posted with its item.
 struct Offer<T> {
     number: u64,
     item: T,
-    waker: Waker,
+    waker: Option<Waker>,
 }
 
 struct Pairs<T> {
     last: u64,
-    pairs: Vec<(u64, Pair<T>)>,
+    pairs: Vec<Pair<T>>,
     offers: VecDeque<Offer<T>>,
+    /// Items of tasks that were dropped.
+    returned: VecDeque<T>,
+    /// Takes meet offers and selected sends in turn.
+    is_turn_of_offers: bool,
 }
 
 impl<T> Pairs<T> {
@@ -151,27 +189,69 @@ impl<T> Pairs<T> {
         self.last
     }
 
-    fn push(&mut self, pair: Pair<T>) -> u64 {
+    fn push(&mut self, taker: Option<Waker>, item: Option<T>) -> u64 {
         let number = self.next();
-        self.pairs.push((number, pair));
+        self.pairs.push(Pair {
+            number,
+            taker,
+            item,
+        });
         number
     }
 
-    fn remove(&mut self, pair: u64) -> Option<Pair<T>> {
-        let at = self.pairs.iter().position(|(other, _)| *other == pair)?;
-        Some(self.pairs.swap_remove(at).1)
+    fn pair(&mut self, number: u64) -> Option<&mut Pair<T>> {
+        self.pairs.iter_mut().find(|it| it.number == number)
+    }
+
+    fn remove(&mut self, number: u64) -> Option<Pair<T>> {
+        let at = self.pairs.iter().position(|it| it.number == number)?;
+        Some(self.pairs.swap_remove(at))
     }
 
     fn offer(&mut self, number: u64) -> Option<usize> {
         self.offers.iter().position(|it| it.number == number)
+    }
+
+    /// Meets the first waiter of the other side that nobody has met, with the item if it is at hand.
+    fn meet(&mut self, lines: &mut Lines, side: usize, item: &mut Option<T>) -> Option<Met> {
+        while let Some(Posted { waiter, place }) = lines.posted[1 - side].pop_front() {
+            if let Some(waker) = waiter.try_meet(place, self.last + 1) {
+                let item = item.take();
+                // A take is woken once there is an item.
+                let awaits = side == SENDS && item.is_none();
+                let (taker, woken) = if awaits { (waker, None) } else { (None, waker) };
+                return Some((Begun::Met(self.push(taker, item)), woken));
+            }
+        }
+        None
+    }
+
+    fn take_offer(&mut self) -> Option<Met> {
+        let Offer { item, waker, .. } = self.offers.pop_front()?;
+        Some((Begun::Met(self.push(None, Some(item))), waker))
+    }
+}
+
+/// There are some if futures or selected operations were forgotten.
+impl<T> Drop for Pairs<T> {
+    fn drop(&mut self) {
+        let (pairs, offers) = (take(&mut self.pairs), take(&mut self.offers));
+        let pairs = pairs.into_iter().map(|it| (it.item, it.taker));
+        let offers = offers.into_iter().map(|it| (Some(it.item), it.waker));
+        let (items, wakers): (Vec<_>, Vec<_>) = pairs.chain(offers).unzip();
+        let mut panics = Panics::default();
+        panics.run_each(
+            items.into_iter().flatten().chain(take(&mut self.returned)),
+            drop,
+        );
+        panics.run_each(wakers, drop);
+        panics.raise();
     }
 }
 
 pub struct Meeting<T> {
     lines: Mutex<Lines>,
     pairs: Mutex<Pairs<T>>,
-    /// Some pair has its item, or is given up.
-    changed: Condvar,
 }
 
 impl<T> Meeting<T> {
@@ -182,43 +262,47 @@ impl<T> Meeting<T> {
                 last: 0,
                 pairs: vec![],
                 offers: VecDeque::new(),
+                returned: VecDeque::new(),
+                is_turn_of_offers: false,
             }),
-            changed: Condvar::new(),
         }
     }
 
-    /// Meets the first thread of the other side that nobody has met, with the item if it is at hand; nobody
-    /// once the channel is closed.
-    fn meet(&self, lines: &mut Lines, side: usize, item: &mut Option<T>) -> Option<u64> {
-        if lines.is_closed {
-            return None;
+    /// Gives the item to a take that is posted. If there is none, or the channel is closed, the lines stay locked.
+    fn give(&self, item: T) -> Result<(), (T, MutexGuard<'_, Lines>)> {
+        let (mut lines, mut item) = (lock(&self.lines), Some(item));
+        let met = if lines.is_closed {
+            None
+        } else {
+            lock(&self.pairs).meet(&mut lines, SENDS, &mut item)
+        };
+        if let Some(item) = item {
+            return Err((item, lines));
         }
-        let mut pairs = lock(&self.pairs);
-        while let Some(Posted { waiter, place }) = lines.posted[1 - side].pop_front() {
-            if waiter.is_met(place, pairs.last + 1) {
-                let pair = item.take().map_or(Pair::Awaits, Pair::Has);
-                return Some(pairs.push(pair));
-            }
-        }
-        None
+        drop(lines);
+        ignore_panics(met.and_then(|it| it.1), Waker::wake);
+        Ok(())
     }
 
     /// Whether there seems to be one to meet, or nobody will be.
     pub fn look(&self, side: usize) -> Try<()> {
         let lines = lock(&self.lines);
-        let has_offer = side == TAKES && !lock(&self.pairs).offers.is_empty();
-        match has_offer || lines.is_closed || !lines.posted[1 - side].is_empty() {
-            true => Ok(()),
-            false => Err(AT_A_RING),
+        let pairs = lock(&self.pairs);
+        let has_item = side == TAKES && pairs.offers.len() + pairs.returned.len() > 0;
+        if has_item || lines.is_closed || !lines.posted[1 - side].is_empty() {
+            Ok(())
+        } else {
+            Err(AT_A_RING)
         }
     }
 
     /// Takes an item of one that is posted. Gives None if the channel is closed.
     pub fn try_take(&self) -> Try<Option<T>> {
+        let mut until = None;
         while let Begun::Met(pair) = try_meet(self, TAKES)? {
-            let item = self.take(pair);
-            if item.is_some() {
-                return Ok(item);
+            let until = *until.get_or_insert_with(|| Instant::now() + GRACE);
+            if self.wait_for_item(pair, Some(until)) {
+                return Ok(self.take(pair));
             }
         }
         Ok(None)
@@ -226,76 +310,90 @@ impl<T> Meeting<T> {
 
     /// Gives the item to one that is posted.
     pub fn try_send(&self, item: T) -> Result<(), TrySendError<T>> {
-        let (mut lines, mut item) = (lock(&self.lines), Some(item));
-        self.meet(&mut lines, SENDS, &mut item);
-        match item {
-            None => Ok(()),
-            Some(item) if lines.is_closed => Err(TrySendError::Disconnected(item)),
-            Some(item) => Err(TrySendError::Full(item)),
-        }
-    }
-
-    /// The item of a pair, once it is there; None if the sender gave the pair up.
-    pub fn take(&self, pair: u64) -> Option<T> {
-        let (mut backoff, mut rounds) = (Backoff::default(), 0..TRIES);
-        let mut pairs = lock(&self.pairs);
-        loop {
-            match pairs.remove(pair)? {
-                Pair::Has(item) => return Some(item),
-                Pair::GivenUp => return None,
-                Pair::Awaits => pairs.pairs.push((pair, Pair::Awaits)),
-            }
-            pairs = if rounds.next().is_some() {
-                drop(pairs);
-                backoff.between_turns();
-                lock(&self.pairs)
+        self.give(item).map_err(|(item, lines)| {
+            if lines.is_closed {
+                TrySendError::Disconnected(item)
             } else {
-                let waits = self.changed.wait(pairs);
-                waits.unwrap_or_else(PoisonError::into_inner)
-            };
-        }
+                TrySendError::Full(item)
+            }
+        })
     }
 
-    /// Gives a pair its item. Hands it back if the taker gave the pair up.
+    /// Whether this pair has its item; or whether it is given up, if it isn't there. Otherwise its item, or that it
+    /// is given up, wakes this waker.
+    fn poll_pair(&self, number: u64, waker: &Waker, panics: &mut Panics) -> Poll<bool> {
+        let mut waker = Some(waker.clone());
+        let mut pairs = lock(&self.pairs);
+        let polled = match pairs.pair(number) {
+            None => Poll::Ready(false),
+            Some(Pair { item: Some(_), .. }) => Poll::Ready(true),
+            Some(pair) => {
+                swap(&mut pair.taker, &mut waker);
+                Poll::Pending
+            }
+        };
+        drop(pairs);
+        panics.run_each(waker, drop);
+        polled
+    }
+
+    /// Waits until this pair has its item, and returns whether it has. If not, the pair is given up: by the send, or
+    /// since the time is over.
+    fn wait_for_item(&self, number: u64, until: Option<Instant>) -> bool {
+        Parker::with(|parker| {
+            let waker = parker.clone().into();
+            loop {
+                match self.poll_pair(number, &waker, &mut Panics::default()) {
+                    Poll::Ready(has_item) => return has_item,
+                    Poll::Pending if until.is_some_and(|it| it <= Instant::now()) => break,
+                    Poll::Pending => {}
+                }
+                parker.spin();
+                parker.park(until);
+            }
+            let mut pairs = lock(&self.pairs);
+            let has_item = pairs.pair(number).is_some_and(|it| it.item.is_some());
+            if !has_item {
+                pairs.remove(number);
+            }
+            has_item
+        })
+    }
+
+    /// The item of a pair that has it.
+    pub fn take(&self, pair: u64) -> Option<T> {
+        lock(&self.pairs).remove(pair)?.item
+    }
+
+    /// Gives a pair its item. Hands it back if the take gave the pair up.
     pub fn send(&self, pair: u64, item: T) -> Result<(), T> {
         let mut pairs = lock(&self.pairs);
-        let Some(Pair::Awaits) = pairs.remove(pair) else {
+        let Some(pair) = pairs.pair(pair) else {
             return Err(item);
         };
-        pairs.pairs.push((pair, Pair::Has(item)));
+        pair.item = Some(item);
+        let taker = pair.taker.take();
         drop(pairs);
-        self.changed.notify_all();
+        ignore_panics(taker, Waker::wake);
         Ok(())
     }
 
-    /// Gives a pair up. Gives the item that it has already.
+    /// A selected operation gives its pair up. Gives the item that it has already.
     pub fn give_up(&self, pair: u64) -> Option<T> {
-        let mut pairs = lock(&self.pairs);
-        let item = match pairs.remove(pair)? {
-            Pair::Has(item) => Some(item),
-            Pair::GivenUp => None,
-            Pair::Awaits => {
-                pairs.pairs.push((pair, Pair::GivenUp));
-                None
-            }
-        };
-        drop(pairs);
-        self.changed.notify_all();
+        let Pair { item, taker, .. } = lock(&self.pairs).remove(pair)?;
+        ignore_panics(taker, Waker::wake);
         item
     }
 
-    /// Gives the item to one that is posted, or posts it, and gives its number. It is handed back if the
-    /// channel is closed.
-    pub fn post(&self, item: T, waker: &Waker) -> Result<Option<u64>, T> {
-        let waker = waker.clone();
-        let (mut lines, mut item) = (lock(&self.lines), Some(item));
-        self.meet(&mut lines, SENDS, &mut item);
-        match item {
-            None => Ok(None),
-            Some(item) if lines.is_closed => Err(item),
-            Some(item) => {
+    /// Gives the item to a take that is posted, or posts it with this waker, and gives its number. It is handed
+    /// back if the channel is closed.
+    fn post(&self, item: T, waker: &mut Option<Waker>) -> Result<Option<u64>, T> {
+        match self.give(item) {
+            Ok(()) => Ok(None),
+            Err((item, lines)) if lines.is_closed => Err(item),
+            Err((item, _lines)) => {
                 let mut pairs = lock(&self.pairs);
-                let number = pairs.next();
+                let (number, waker) = (pairs.next(), waker.take());
                 pairs.offers.push_back(Offer {
                     number,
                     item,
@@ -307,29 +405,30 @@ impl<T> Meeting<T> {
     }
 
     /// Whether this item is still posted. It stays so, for this waker.
-    pub fn stays(&self, number: u64, waker: &Waker) -> bool {
-        let mut waker = waker.clone();
+    fn keep_offer(&self, number: u64, waker: &Waker, panics: &mut Panics) -> bool {
+        let mut waker = Some(waker.clone());
         let mut pairs = lock(&self.pairs);
-        let Some(at) = pairs.offer(number) else {
-            return false;
-        };
-        swap(&mut pairs.offers[at].waker, &mut waker);
-        // The other waker is dropped once the lock is released.
+        let offer = pairs.offer(number);
+        if let Some(at) = offer {
+            swap(&mut pairs.offers[at].waker, &mut waker);
+        }
         drop(pairs);
-        true
+        panics.run_each(waker, drop);
+        offer.is_some()
     }
 
-    fn has(&self, number: u64) -> bool {
+    fn has_offer(&self, number: u64) -> bool {
         lock(&self.pairs).offer(number).is_some()
     }
 
     /// Takes this item off, if nobody took it.
-    pub fn withdraw(&self, number: u64) -> Option<T> {
+    pub fn withdraw(&self, number: u64, panics: &mut Panics) -> Option<T> {
         let mut pairs = lock(&self.pairs);
         let at = pairs.offer(number)?;
-        let offer = pairs.offers.remove(at);
+        let Offer { item, waker, .. } = pairs.offers.remove(at)?;
         drop(pairs);
-        offer.map(|it| it.item)
+        panics.run_each(waker, drop);
+        Some(item)
     }
 
     /// Nobody meets any more. Sets this flag in the same step, and returns what it was.
@@ -339,16 +438,31 @@ impl<T> Meeting<T> {
         closed.swap(true, Ordering::SeqCst)
     }
 
-    /// Wakes all that are posted, and returns the first panic of their wakers.
-    pub fn wake_all(&self) -> Option<Panic> {
-        let lines = lock(&self.lines);
+    /// Wakes all that are posted.
+    pub fn wake_all(&self, panics: &mut Panics) {
+        let (lines, mut pairs) = (lock(&self.lines), lock(&self.pairs));
         let posted = lines.posted.iter().flatten();
-        posted.for_each(|it| Wake::wake_by_ref(&it.waiter.parker));
-        let none = || Waker::noop().clone();
-        let of_offer = |it: &mut Offer<T>| replace(&mut it.waker, none());
-        let wakers: Vec<Waker> = lock(&self.pairs).offers.iter_mut().map(of_offer).collect();
-        drop(lines);
-        run_each(wakers, Waker::wake)
+        let waiters = posted.filter_map(|it| it.waiter.take_waker());
+        let offers = pairs.offers.iter_mut().filter_map(|it| it.waker.take());
+        let wakers: Vec<Waker> = waiters.chain(offers).collect();
+        drop((pairs, lines));
+        panics.run_each(wakers, Waker::wake);
+    }
+
+    /// A task's take is no more. Gives the item that it has already.
+    pub fn leave(&self, taker: TakerState, panics: &mut Panics) -> Option<T> {
+        let pair = match taker {
+            TakerState::Idle => return None,
+            TakerState::Met(pair) => pair,
+            TakerState::Posted(waiter) => {
+                let met = waiter.withdraw(&[(0, self, TAKES)]);
+                panics.run_each(waiter.take_waker(), drop);
+                met?.1
+            }
+        };
+        let Pair { taker, item, .. } = lock(&self.pairs).remove(pair)?;
+        panics.run_each(taker, drop);
+        item
     }
 }
 
@@ -357,17 +471,32 @@ impl<T> Meets for Meeting<T> {
         &self.lines
     }
 
-    fn begin(&self, lines: &mut Lines, side: usize) -> Option<(Begun, Option<Waker>)> {
+    fn begin(&self, lines: &mut Lines, side: usize) -> Option<Met> {
+        let takes = side == TAKES;
+        let pairs = &mut *lock(&self.pairs);
+        if takes && let Some(item) = pairs.returned.pop_front() {
+            return Some((Begun::Met(pairs.push(None, Some(item))), None));
+        }
         if lines.is_closed {
             return Some((Begun::Closed, None));
         }
-        if let Some(pair) = self.meet(lines, side, &mut None) {
-            return Some((Begun::Met(pair), None));
+        pairs.is_turn_of_offers ^= takes;
+        if takes && pairs.is_turn_of_offers && !pairs.offers.is_empty() {
+            return pairs.take_offer();
         }
-        let mut pairs = lock(&self.pairs);
-        let takes = side == TAKES;
-        let Offer { item, waker, .. } = takes.then(|| pairs.offers.pop_front()).flatten()?;
-        Some((Begun::Met(pairs.push(Pair::Has(item))), Some(waker)))
+        let met = pairs.meet(lines, side, &mut None);
+        met.or_else(|| takes.then(|| pairs.take_offer()).flatten())
+    }
+
+    fn wait_for_pair(&self, begun: &Begun, side: usize, until: Option<Instant>) -> bool {
+        match begun {
+            Begun::Met(pair) if side == SENDS => lock(&self.pairs).pair(*pair).is_some(),
+            Begun::Met(pair) => {
+                let until = until.map(|until| until.max(Instant::now() + GRACE));
+                self.wait_for_item(*pair, until)
+            }
+            _ => true,
+        }
     }
 }
 
@@ -375,54 +504,117 @@ impl<T> Meets for Meeting<T> {
 pub fn try_meet(channel: &dyn Meets, side: usize) -> Try<Begun> {
     let met = channel.begin(&mut lock(channel.lines()), side);
     let (begun, waker) = met.ok_or(AT_A_RING)?;
-    wake(waker);
+    ignore_panics(waker, Waker::wake);
     Ok(begun)
+}
+
+impl<T> Core<T> {
+    /// A task that was given this item is dropped: the item goes to the next take.
+    pub fn give_back_item(&self, meeting: &Meeting<T>, item: T) {
+        if let Err((item, _lines)) = meeting.give(item) {
+            lock(&meeting.pairs).returned.push_back(item);
+        }
+        self.ring_for_item();
+    }
+}
+
+/// How far the take of a task is.
+#[derive(Default)]
+pub enum TakerState {
+    #[default]
+    Idle,
+    Posted(Arc<Waiter>),
+    /// In this pair.
+    Met(u64),
 }
 
 impl<T> Receiver<T> {
     /// Takes an item of one that sends, and waits for one until this moment.
     #[cold]
     pub(super) fn meet_until(&self, until: Option<Instant>) -> Result<T, RecvTimeoutError> {
+        let mut select = LocalSelect::new(false);
+        select.add(self);
+        let (_, begun) = select.wait(until, true).ok_or(RecvTimeoutError::Timeout)?;
+        Ok(self.completed(begun)?)
+    }
+
+    /// One poll of a take: looks for a send, or posts itself, and then looks whether its pair has the item. Gives
+    /// None if the channel is closed.
+    pub(super) fn poll_met(
+        &self,
+        meeting: &Meeting<T>,
+        taker: &mut TakerState,
+        waker: &Waker,
+        panics: &mut Panics,
+    ) -> Poll<Option<T>> {
         loop {
-            let mut select = Select::new();
-            select.recv(self);
-            let begun = select.begin_until(until).ok_or(RecvTimeoutError::Timeout)?;
-            if let Some(item) = self.completed(begun) {
-                return item.map_err(|_| RecvTimeoutError::Disconnected);
+            let pair = match taker {
+                TakerState::Met(pair) => *pair,
+                TakerState::Posted(waiter) => match waiter.stay(waker, panics) {
+                    Some(pair) => pair,
+                    None if !self.is_closed() => return Poll::Pending,
+                    None => match meeting.leave(take(taker), panics) {
+                        None => continue,
+                        taken => return Poll::Ready(taken),
+                    },
+                },
+                TakerState::Idle => {
+                    let waiter = Waiter::new(waker.clone());
+                    let Some((_, begun)) = meet_or_post(&[(0, meeting, TAKES)], &waiter) else {
+                        *taker = TakerState::Posted(waiter);
+                        self.core().senders.line.ring();
+                        return Poll::Pending;
+                    };
+                    panics.run_each(waiter.take_waker(), drop);
+                    match begun {
+                        Begun::Met(pair) => pair,
+                        _ => return Poll::Ready(None),
+                    }
+                }
+            };
+            *taker = TakerState::Met(pair);
+            let has_item = ready!(meeting.poll_pair(pair, waker, panics));
+            *taker = TakerState::Idle;
+            if has_item {
+                return Poll::Ready(meeting.take(pair));
             }
         }
     }
 }
 
 impl<T> Sender<T> {
-    /// One poll of a send: posts the item of this parcel, and then looks whether it was taken.
+    /// One poll of a send: gives the item to a take, or posts it, and then looks whether it was taken.
     pub(super) fn poll_posted(
         &self,
         meeting: &Meeting<T>,
-        parcel: &mut Option<Parcel<T>>,
-        posted: &mut Option<u64>,
+        item: &mut Option<Unsent<T>>,
+        offer: &mut Option<u64>,
         waker: &Waker,
+        panics: &mut Panics,
     ) -> Poll<Result<(), SendError<T>>> {
-        let Some(number) = *posted else {
-            let item = parcel.take().expect("the item isn't sent yet").unpack();
-            return match meeting.post(item, waker) {
-                Ok(None) => Poll::Ready(Ok(())),
-                Err(item) => Poll::Ready(Err(SendError(item))),
-                Ok(number) => {
-                    *posted = number;
-                    self.core().ring_for_item();
-                    Poll::Pending
-                }
-            };
+        let left = if let Some(number) = *offer {
+            if meeting.keep_offer(number, waker, panics) && !self.is_closed() {
+                return Poll::Pending;
+            }
+            *offer = None;
+            meeting.withdraw(number, panics)
+        } else {
+            let mut waker = Some(waker.clone());
+            let item = item.take().expect("the item isn't sent yet").into_inner();
+            let posted = meeting.post(item, &mut waker);
+            panics.run_each(waker, drop);
+            if let Ok(Some(number)) = posted {
+                *offer = Some(number);
+                self.core().ring_for_item();
+                return Poll::Pending;
+            }
+            posted.err()
         };
-        if !self.is_closed() && meeting.stays(number, waker) {
-            return Poll::Pending;
-        }
-        *posted = None;
-        let left = meeting.withdraw(number);
         Poll::Ready(left.map_or(Ok(()), |it| Err(SendError(it))))
     }
+}
 
+impl<T> Sender<T> {
     /// Sends to one that takes, and waits for one until this moment.
     #[cold]
     pub(super) fn meet_until(
@@ -432,7 +624,7 @@ impl<T> Sender<T> {
         until: Option<Instant>,
     ) -> Result<(), SendTimeoutError<T>> {
         let left = Parker::with(|parker| {
-            let posted = meeting.post(item, &parker.clone().into());
+            let posted = meeting.post(item, &mut Some(parker.clone().into()));
             posted.map_or_else(Some, |number| {
                 let number = number?;
                 self.core().ring_for_item();
@@ -440,8 +632,8 @@ impl<T> Sender<T> {
                 loop {
                     parker.park(until);
                     let is_over = until.is_some_and(|until| until <= Instant::now());
-                    if is_over || self.is_closed() || !meeting.has(number) {
-                        return meeting.withdraw(number);
+                    if is_over || self.is_closed() || !meeting.has_offer(number) {
+                        return meeting.withdraw(number, &mut Panics::default());
                     }
                 }
             })

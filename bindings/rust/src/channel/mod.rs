@@ -23,15 +23,15 @@ mod tests;
 mod timer;
 
 pub use error::{
-    RecvError, RecvTimeoutError, SendError, SendTimeoutError, TryRecvError, TrySendError,
+    ReadyTimeoutError, RecvError, RecvTimeoutError, SelectTimeoutError, SendError,
+    SendTimeoutError, TryReadyError, TryRecvError, TrySelectError, TrySendError,
 };
-pub use future::{CallFuture, RecvFuture, SendFuture};
-pub use receiver::{IntoIter, Iter, Receiver, TryIter, WeakReceiver};
-pub use select::{
-    ReadyTimeoutError, Select, SelectTimeoutError, SelectedOperation, TryReadyError, TrySelectError,
-};
+pub use future::{RecvFuture, SendFuture};
+pub use receiver::{Drain, IntoIter, Iter, Receiver, TryIter, WeakReceiver};
+#[doc(hidden)]
+pub use select::LocalSelect;
+pub use select::{Select, SelectedOperation};
 pub use sender::{Sender, WeakSender};
-pub use side::{Handle, WeakHandle};
 pub use timer::{after, at, never, tick};
 
 use self::body::Copies;
@@ -40,15 +40,6 @@ use self::meeting::Meeting;
 use self::special::Special;
 use crate::queue::{Config, OpenError};
 use std::sync::Arc;
-
-shows! {
-    Debug [T] Sender<T>: _ => "Sender { .. }";
-    Debug [T] Receiver<T>: _ => "Receiver { .. }";
-    Debug [T] WeakSender<T>: _ => "WeakSender { .. }";
-    Debug [T] WeakReceiver<T>: _ => "WeakReceiver { .. }";
-    Debug [T] SendFuture<'_, T>: _ => "SendFuture { .. }";
-    Debug [T] RecvFuture<'_, T>: _ => "RecvFuture { .. }";
-}
 
 /// The configuration of the queues of a channel.
 fn config(capacity: usize) -> Config {
@@ -60,12 +51,13 @@ fn config(capacity: usize) -> Config {
 /// Opens a channel of items of one type, and gives its first sender and its first receiver.
 ///
 /// Both can be cloned any number of times. Each item goes to one of the receivers. The channel holds at
-/// most `capacity` items, 1 to 4,096: that is the range of the proved queue below. No take allocates, and
-/// a send only if an item has more than 32 bytes: it then lies in a box until it is taken.
+/// most `capacity` items, 1 to 4,096: that is the range of the proved queue below. A send allocates if an item
+/// has more than 32 bytes: it then lies in a box until it is taken. A take allocates only if it waits.
 ///
-/// With capacity 0 a send is over when a receiver has taken the item. If its time is over before, nobody has
-/// it, and it is handed back. `try_send` succeeds if a thread waits in a take or a select, and `try_recv` if
-/// a send waits. Such a channel has no queue: it uses locks, and rests on nothing that is proved.
+/// With capacity 0 a send is over when a receiver has the item. If its time is over before, nobody has
+/// it, and it is handed back. `try_send` succeeds if a take or a select waits, of a thread or a task, and `try_recv`
+/// if a send waits; for the item of a select it waits up to a millisecond. Such a channel has no queue: it uses locks,
+/// and rests on nothing that is proved.
 ///
 /// The channel is closed by [`Sender::close`] or [`Receiver::close`], by the drop of the last sender,
 /// or by that of the last receiver, which also drops what is left in the channel.
@@ -87,20 +79,38 @@ fn config(capacity: usize) -> Config {
 ///
 /// The linked library is another one than this crate is for; a capacity out of its range; or lack of memory
 /// for the queue.
+#[doc(alias("mpsc", "mpmc", "sync_channel"))]
 pub fn channel<T>(capacity: usize) -> Result<(Sender<T>, Receiver<T>), OpenError> {
     let core = Arc::new(match capacity {
         0 => Core::special(config(0), Special::Meeting(Meeting::new())),
         _ => Core::open(config(capacity), 1, None)?,
     });
-    Ok((Handle::new(core.clone(), 0), Handle::new(core, 1)))
+    Ok((Sender::new(core.clone()), Receiver::new(core, 1)))
+}
+
+/// The same as [`channel`], under the name that it has in crossbeam-channel, flume and async-channel.
+///
+/// ```
+/// let (sender, receiver) = vahepito::bounded(1)?;
+/// sender.send('a').unwrap();
+/// assert!(sender.try_send('b').unwrap_err().is_full());
+/// assert_eq!(receiver.recv(), Ok('a'));
+/// # Ok::<(), vahepito::OpenError>(())
+/// ```
+///
+/// # Errors
+///
+/// As of [`channel`].
+pub fn bounded<T>(capacity: usize) -> Result<(Sender<T>, Receiver<T>), OpenError> {
+    channel(capacity)
 }
 
 /// Opens a channel each of whose groups gets every item, and gives its first sender, and the first
 /// receiver of each group.
 ///
 /// There are 1 to 8 groups. A receiver is cloned within its group, and those of a group share the items:
-/// each item goes to one of them. A group gets a clone of each item, and the last one that takes it gets
-/// the item itself. An item takes up room until every group has it, so the slowest group sets the pace. A
+/// each item goes to one of them. A group gets a clone of each item, or the item itself if all other groups
+/// have it already. An item takes up room until every group has it, so the slowest group sets the pace. A
 /// group that has lost its last receiver holds nobody up: the channel goes on without it.
 ///
 /// ```
@@ -119,6 +129,7 @@ pub fn channel<T>(capacity: usize) -> Result<(Sender<T>, Receiver<T>), OpenError
 /// # Errors
 ///
 /// As of [`channel`], and a number of groups out of its range.
+#[doc(alias("broadcast", "fan_out"))]
 pub fn groups<T: Clone + Sync>(
     capacity: usize,
     groups: usize,
@@ -135,9 +146,9 @@ fn open<T>(
     copies: Option<Copies<T>>,
 ) -> Result<(Sender<T>, Vec<Receiver<T>>), OpenError> {
     let core = Arc::new(Core::open(config, groups, copies)?);
-    let receiver = |group| Handle::new(core.clone(), group);
+    let receiver = |group| Receiver::new(core.clone(), group);
     let receivers = (1..=groups as usize).map(receiver).collect();
-    Ok((Handle::new(core, 0), receivers))
+    Ok((Sender::new(core), receivers))
 }
 
 /// These don't compile: a handle doesn't go to another thread if its items can't, and no group clones items

@@ -15,8 +15,8 @@ use std::thread::available_parallelism;
 
 /// The passes of a side are no more than these.
 const MOST: usize = 64;
-/// From this number on, items are several.
-const SEVERAL: u64 = 5;
+/// A thread is ahead of the other side once it passed this many items since it was asked.
+const AHEAD_AFTER: u64 = 5;
 
 /// How many seats a side has: twice as many as processors, as a power of two.
 pub fn seats() -> usize {
@@ -33,7 +33,7 @@ pub struct Pass {
     pub queue: u64,
 }
 
-/// A line of the cache for itself, and the one that is fetched with it.
+/// A cache line for itself, and the one that is fetched with it.
 #[repr(align(128))]
 struct Seat {
     taken: AtomicBool,
@@ -41,7 +41,7 @@ struct Seat {
     number: usize,
     /// How many items went through it. The holder alone writes it.
     count: AtomicU64,
-    /// What the count was when it was asked for last, by [`Pool::has_passed_several`].
+    /// What the count was when it was asked for last, by [`Pool::check_ahead`].
     asked: AtomicU64,
     pass: UnsafeCell<Pass>,
 }
@@ -133,10 +133,10 @@ impl Pool {
     }
 
     /// Whether several items went through the seat that this thread tries first, since this was last asked of it.
-    pub fn has_passed_several(&self) -> bool {
+    pub fn check_ahead(&self) -> bool {
         let seat = self.seat(HINT.get());
         let count = seat.count.load(Ordering::Relaxed);
-        count.saturating_sub(seat.asked.swap(count, Ordering::Relaxed)) >= SEVERAL
+        count.saturating_sub(seat.asked.swap(count, Ordering::Relaxed)) >= AHEAD_AFTER
     }
 
     /// Takes the seat at this place, if it is free.

@@ -1,25 +1,58 @@
 //! The receivers of a channel.
 use super::body::Parcel;
-use super::event::Try;
+use super::core::Core;
+use super::event::{Event, Try};
 use super::future::RecvFuture;
 use super::side::{Handle, WeakHandle};
 use super::{RecvError, RecvTimeoutError, TryRecvError};
-use crate::queue::Receivers;
 use std::borrow::Cow;
 use std::convert::identity;
+use std::fmt;
 use std::iter::FusedIterator;
+use std::sync::Arc;
 use std::time::{Duration, Instant};
 
-/// A receiver of a channel: see [`channel`](crate::channel()) and [`groups`](crate::groups).
+/// A receiver of a channel, which [`channel`](crate::channel()) or [`groups`](crate::groups()) opens.
 ///
-/// A clone is a further receiver of its group. The drop of the last receiver closes the channel, and drops
-/// the items that are left.
-pub type Receiver<T> = Handle<T, Receivers>;
-
-/// A receiver that doesn't keep its group: see [`Handle::downgrade`].
-pub type WeakReceiver<T> = WeakHandle<T, Receivers>;
+/// Its calls take `&self`, so threads may share a receiver. A clone is a further receiver of its group. The drop of
+/// the last receiver closes the channel, and drops the items that are left.
+///
+/// # Panics
+///
+/// The drop of the last receiver of a group panics if the drop of an item panics, or the waker of a task that waits
+/// for the channel. All other items are dropped before, and all others woken.
+///
+/// ```
+/// let (sender, receiver) = vahepito::channel(2)?;
+/// let other = receiver.clone();
+/// sender.send(1).unwrap();
+/// sender.send(2).unwrap();
+/// assert_eq!((receiver.recv(), other.recv()), (Ok(1), Ok(2))); // each item goes to one of them
+/// # Ok::<(), vahepito::OpenError>(())
+/// ```
+pub struct Receiver<T> {
+    pub(super) handle: Handle<T>,
+}
 
 impl<T> Receiver<T> {
+    /// The first receiver of this group.
+    pub(super) fn new(core: Arc<Core<T>>, group: usize) -> Receiver<T> {
+        let handle = Handle::new(core, group);
+        Receiver { handle }
+    }
+
+    pub(super) fn core(&self) -> &Core<T> {
+        self.handle.core()
+    }
+
+    pub(super) fn side(&self) -> usize {
+        self.handle.side()
+    }
+
+    pub(super) fn line(&self) -> &Event {
+        self.handle.line()
+    }
+
     /// Tries to take an item. Gives None at the end of the channel.
     pub(super) fn try_take(&self) -> Try<Option<Parcel<T>>> {
         self.core().try_recv(self.side())
@@ -65,7 +98,7 @@ impl<T> Receiver<T> {
         if self.core().meeting().is_some() {
             return self.meet_until(until);
         }
-        match self.wait(until, || self.try_take()) {
+        match self.handle.wait(until, || self.try_take()) {
             Some(Some(parcel)) => Ok(parcel.unpack()),
             Some(None) => Err(RecvTimeoutError::Disconnected),
             None => Err(RecvTimeoutError::Timeout),
@@ -103,8 +136,8 @@ impl<T> Receiver<T> {
     /// use vahepito::RecvTimeoutError;
     ///
     /// let (_sender, receiver) = vahepito::channel::<u8>(1)?;
-    /// let told = receiver.recv_timeout(Duration::from_millis(5));
-    /// assert_eq!(told, Err(RecvTimeoutError::Timeout));
+    /// let result = receiver.recv_timeout(Duration::from_millis(5));
+    /// assert_eq!(result, Err(RecvTimeoutError::Timeout));
     /// # Ok::<(), vahepito::OpenError>(())
     /// ```
     pub fn recv_timeout(&self, time: Duration) -> Result<T, RecvTimeoutError> {
@@ -137,7 +170,12 @@ impl<T> Receiver<T> {
     }
 
     /// Takes an item, as a future of any runtime. If it is dropped before it is done, nothing was
-    /// taken.
+    /// taken: with capacity 0 an item that it was given goes to the next receiver.
+    ///
+    /// # Panics
+    ///
+    /// The receiver is one of [`after`](crate::after), [`at`](crate::at) or [`tick`](crate::tick), which no thread
+    /// serves: use the runtime's timers.
     ///
     /// ```
     /// async fn sum(numbers: vahepito::Receiver<u32>) -> u32 {
@@ -149,12 +187,25 @@ impl<T> Receiver<T> {
     /// }
     /// ```
     pub fn recv_async(&self) -> RecvFuture<'_, T> {
-        RecvFuture::new(Cow::Borrowed(self), None)
+        RecvFuture::new(Cow::Borrowed(self))
     }
 
-    /// The same, as a future that has the receiver.
+    /// The same as [`recv_async`](Receiver::recv_async), as a future that has the receiver. So a task may
+    /// return the future, or keep it beside other values.
+    ///
+    /// # Panics
+    ///
+    /// As of [`recv_async`](Receiver::recv_async).
+    ///
+    /// ```
+    /// use vahepito::{Receiver, RecvFuture};
+    ///
+    /// fn next_line(lines: &Receiver<String>) -> RecvFuture<'static, String> {
+    ///     lines.clone().into_recv_async()
+    /// }
+    /// ```
     pub fn into_recv_async(self) -> RecvFuture<'static, T> {
-        RecvFuture::new(Cow::Owned(self), None)
+        RecvFuture::new(Cow::Owned(self))
     }
 
     /// Takes items until the end, by [`recv`](Receiver::recv).
@@ -182,45 +233,320 @@ impl<T> Receiver<T> {
         TryIter(self)
     }
 
+    /// Takes the items that are there now, and none that are sent later. So the iterator ends, also while other
+    /// threads send. It takes an item at each `next`, and leaves the others in the channel if it is dropped.
+    /// Another receiver may take some of the items first.
+    ///
+    /// A channel of capacity 0 holds no items, so the iterator gives none.
+    ///
+    /// ```
+    /// let (sender, receiver) = vahepito::channel(4)?;
+    /// sender.send(1).unwrap();
+    /// sender.send(2).unwrap();
+    /// let mut all = vec![];
+    /// for number in receiver.drain() {
+    ///     sender.send(10 * number).unwrap();
+    ///     all.push(number);
+    /// }
+    /// assert_eq!(all, [1, 2]);
+    /// assert_eq!(receiver.len(), 2);
+    /// # Ok::<(), vahepito::OpenError>(())
+    /// ```
+    pub fn drain(&self) -> Drain<'_, T> {
+        let (receiver, left) = (self, self.len());
+        Drain { receiver, left }
+    }
+
+    /// Closes the channel. No item is accepted any more. The receivers take what was sent before, and then see
+    /// the end. Returns whether the channel was open.
+    ///
+    /// # Panics
+    ///
+    /// The channel is closed, and the waker of a task that waited panicked. All others are woken before.
+    ///
+    /// ```
+    /// let (sender, receiver) = vahepito::channel(4)?;
+    /// sender.send(1).unwrap();
+    /// assert!(receiver.close());
+    /// assert!(sender.send(2).is_err());
+    /// assert!(receiver.iter().eq([1]));
+    /// # Ok::<(), vahepito::OpenError>(())
+    /// ```
+    pub fn close(&self) -> bool {
+        self.core().close()
+    }
+
+    /// Whether the channel is closed: by a call, by the drop of all senders, or by that of all receivers. It may
+    /// still hold items.
+    ///
+    /// ```
+    /// let (sender, receiver) = vahepito::channel(4)?;
+    /// sender.send('a').unwrap();
+    /// drop(sender);
+    /// assert!(receiver.is_closed());
+    /// assert_eq!(receiver.recv(), Ok('a'));
+    /// # Ok::<(), vahepito::OpenError>(())
+    /// ```
+    #[must_use]
+    pub fn is_closed(&self) -> bool {
+        self.core().is_closed()
+    }
+
+    /// How many items there are that its group hasn't taken. While other threads send and take, the number is
+    /// close to the true one.
+    ///
+    /// ```
+    /// let (sender, services) = vahepito::groups(4, 2)?;
+    /// sender.send('a').unwrap();
+    /// services[0].recv().unwrap();
+    /// assert_eq!((services[0].len(), services[1].len()), (0, 1));
+    /// # Ok::<(), vahepito::OpenError>(())
+    /// ```
+    #[must_use]
+    pub fn len(&self) -> usize {
+        self.handle.len()
+    }
+
+    /// Whether [`len`](Receiver::len) is 0.
+    ///
+    /// ```
+    /// let (sender, receiver) = vahepito::channel(4)?;
+    /// assert!(receiver.is_empty());
+    /// sender.send('a').unwrap();
+    /// assert!(!receiver.is_empty());
+    /// # Ok::<(), vahepito::OpenError>(())
+    /// ```
+    #[must_use]
+    pub fn is_empty(&self) -> bool {
+        self.len() == 0
+    }
+
+    /// Whether [`len`](Receiver::len) is the capacity. A channel of capacity 0 is always full.
+    ///
+    /// ```
+    /// let (sender, receiver) = vahepito::channel(1)?;
+    /// assert!(!receiver.is_full());
+    /// sender.send('a').unwrap();
+    /// assert!(receiver.is_full());
+    /// # Ok::<(), vahepito::OpenError>(())
+    /// ```
+    #[must_use]
+    pub fn is_full(&self) -> bool {
+        self.handle.is_full()
+    }
+
+    /// How many items the channel may hold. The answer is never None, since every channel has a bound.
+    ///
+    /// ```
+    /// let (_sender, receiver) = vahepito::channel::<u8>(8)?;
+    /// assert_eq!(receiver.capacity(), Some(8));
+    /// # Ok::<(), vahepito::OpenError>(())
+    /// ```
+    #[must_use]
+    pub fn capacity(&self) -> Option<usize> {
+        Some(self.core().capacity())
+    }
+
+    /// Whether both receivers are of one channel. They may be of different groups.
+    ///
+    /// ```
+    /// let (_sender, services) = vahepito::groups::<u8>(1, 2)?;
+    /// let (_, other) = vahepito::channel::<u8>(1)?;
+    /// assert!(services[0].same_channel(&services[1]));
+    /// assert!(!services[0].same_channel(&other));
+    /// # Ok::<(), vahepito::OpenError>(())
+    /// ```
+    #[must_use]
+    pub fn same_channel(&self, other: &Receiver<T>) -> bool {
+        self.handle.is_same_channel(&other.handle)
+    }
+
     /// Its group, from 1. A channel of [`channel`](crate::channel()) has one.
+    ///
+    /// ```
+    /// let (_sender, services) = vahepito::groups::<u8>(1, 2)?;
+    /// assert_eq!((services[0].group(), services[1].group()), (1, 2));
+    /// # Ok::<(), vahepito::OpenError>(())
+    /// ```
+    #[must_use]
     pub fn group(&self) -> usize {
         self.side()
     }
 
     /// How many receivers its group has.
+    ///
+    /// ```
+    /// let (_sender, services) = vahepito::groups::<u8>(1, 2)?;
+    /// let _other = services[0].clone();
+    /// assert_eq!(services[0].receiver_count(), 2);
+    /// assert_eq!(services[1].receiver_count(), 1);
+    /// # Ok::<(), vahepito::OpenError>(())
+    /// ```
+    #[must_use]
     pub fn receiver_count(&self) -> usize {
-        self.count()
+        self.core().count(self.side())
+    }
+
+    /// How many senders the channel has.
+    ///
+    /// ```
+    /// let (sender, receiver) = vahepito::channel::<u8>(1)?;
+    /// assert_eq!(receiver.sender_count(), 1);
+    /// drop(sender);
+    /// assert_eq!(receiver.sender_count(), 0);
+    /// # Ok::<(), vahepito::OpenError>(())
+    /// ```
+    #[must_use]
+    pub fn sender_count(&self) -> usize {
+        self.core().count(0)
+    }
+
+    /// A receiver that doesn't keep the channel open, nor its group from being lost.
+    ///
+    /// ```
+    /// let (sender, receiver) = vahepito::channel(1)?;
+    /// let weak = receiver.downgrade();
+    /// sender.send('a').unwrap();
+    /// assert_eq!(weak.upgrade().expect("there is a receiver").recv(), Ok('a'));
+    /// drop(receiver);
+    /// assert!(weak.upgrade().is_none() && sender.is_closed());
+    /// # Ok::<(), vahepito::OpenError>(())
+    /// ```
+    #[must_use]
+    pub fn downgrade(&self) -> WeakReceiver<T> {
+        let handle = self.handle.downgrade();
+        WeakReceiver { handle }
+    }
+}
+
+/// A further receiver of its group.
+impl<T> Clone for Receiver<T> {
+    fn clone(&self) -> Receiver<T> {
+        let handle = self.handle.clone();
+        Receiver { handle }
+    }
+}
+
+impl<T> fmt::Debug for Receiver<T> {
+    fn fmt(&self, f: &mut fmt::Formatter<'_>) -> fmt::Result {
+        f.pad("Receiver { .. }")
+    }
+}
+
+/// A receiver that keeps neither the channel nor its group: see [`Receiver::downgrade`].
+pub struct WeakReceiver<T> {
+    handle: WeakHandle<T>,
+}
+
+impl<T> WeakReceiver<T> {
+    /// A receiver, if its group has one still.
+    ///
+    /// ```
+    /// let (_sender, receiver) = vahepito::channel::<u8>(1)?;
+    /// let weak = receiver.downgrade();
+    /// assert!(weak.upgrade().is_some());
+    /// drop(receiver);
+    /// assert!(weak.upgrade().is_none());
+    /// # Ok::<(), vahepito::OpenError>(())
+    /// ```
+    #[must_use]
+    pub fn upgrade(&self) -> Option<Receiver<T>> {
+        let handle = self.handle.upgrade()?;
+        Some(Receiver { handle })
+    }
+}
+
+impl<T> Clone for WeakReceiver<T> {
+    fn clone(&self) -> WeakReceiver<T> {
+        let handle = self.handle.clone();
+        WeakReceiver { handle }
+    }
+}
+
+impl<T> fmt::Debug for WeakReceiver<T> {
+    fn fmt(&self, f: &mut fmt::Formatter<'_>) -> fmt::Result {
+        f.pad("WeakReceiver { .. }")
     }
 }
 
 /// Takes items until the end: see [`Receiver::iter`].
 #[derive(Debug)]
+#[must_use = "an iterator takes nothing unless it is used"]
 pub struct Iter<'a, T>(&'a Receiver<T>);
+
+impl<T> Iterator for Iter<'_, T> {
+    type Item = T;
+
+    fn next(&mut self) -> Option<T> {
+        self.0.recv().ok()
+    }
+}
+
+impl<T> FusedIterator for Iter<'_, T> {}
 
 /// Takes items as long as there are some: see [`Receiver::try_iter`].
 #[derive(Debug)]
+#[must_use = "an iterator takes nothing unless it is used"]
 pub struct TryIter<'a, T>(&'a Receiver<T>);
 
-/// Takes items until the end, and has the receiver.
-#[derive(Debug)]
-pub struct IntoIter<T>(Receiver<T>);
+impl<T> Iterator for TryIter<'_, T> {
+    type Item = T;
 
-/// Iterators that take items by this call.
-macro_rules! takes {
-    ($($iterator:ty: $call:ident),+) => {$(
-        impl<T> Iterator for $iterator {
-            type Item = T;
-
-            fn next(&mut self) -> Option<T> {
-                self.0.$call().ok()
-            }
-        }
-    )+};
+    fn next(&mut self) -> Option<T> {
+        self.0.try_recv().ok()
+    }
 }
 
-takes!(Iter<'_, T>: recv, TryIter<'_, T>: try_recv, IntoIter<T>: recv);
+/// Takes the items that were there when it was made: see [`Receiver::drain`].
+#[derive(Debug)]
+#[must_use = "an iterator takes nothing unless it is used"]
+pub struct Drain<'a, T> {
+    receiver: &'a Receiver<T>,
+    /// How many items it takes at most.
+    left: usize,
+}
 
-impl<T> FusedIterator for Iter<'_, T> {}
+impl<T> Iterator for Drain<'_, T> {
+    type Item = T;
+
+    fn next(&mut self) -> Option<T> {
+        self.left = self.left.checked_sub(1)?;
+        let item = self.receiver.try_recv().ok();
+        if item.is_none() {
+            self.left = 0;
+        }
+        item
+    }
+
+    fn size_hint(&self) -> (usize, Option<usize>) {
+        (0, Some(self.left))
+    }
+}
+
+impl<T> FusedIterator for Drain<'_, T> {}
+
+/// Takes items until the end, and has the receiver.
+///
+/// ```
+/// let (sender, receiver) = vahepito::channel(4)?;
+/// sender.send(1).unwrap();
+/// drop(sender);
+/// let mut items = receiver.into_iter();
+/// assert_eq!((items.next(), items.next()), (Some(1), None));
+/// # Ok::<(), vahepito::OpenError>(())
+/// ```
+#[derive(Debug)]
+#[must_use = "an iterator takes nothing unless it is used"]
+pub struct IntoIter<T>(Receiver<T>);
+
+impl<T> Iterator for IntoIter<T> {
+    type Item = T;
+
+    fn next(&mut self) -> Option<T> {
+        self.0.recv().ok()
+    }
+}
+
 impl<T> FusedIterator for IntoIter<T> {}
 
 impl<'a, T> IntoIterator for &'a Receiver<T> {

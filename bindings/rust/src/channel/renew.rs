@@ -18,18 +18,18 @@ impl<T> Core<T> {
         let is_alive = |&group: &usize| !self.side(group).is_lost();
         let (alive, lost): (Vec<_>, Vec<_>) = in_queue.iter().copied().partition(is_alive);
         let mut handles = handle::open(&self.config, alive.len() as u32, words).ok()?;
-        let (mut kept, mut let_go) = (vec![], vec![]);
+        let (mut kept, mut left_by_lost) = (vec![], vec![]);
         kept.try_reserve_exact(capacity).ok()?;
-        let_go.try_reserve_exact(lost.len() * capacity).ok()?;
+        left_by_lost.try_reserve_exact(lost.len() * capacity).ok()?;
         // From here on nobody else makes a call, until the seats are given back.
         let take_all = |&side: &usize| self.side(side).seats.take_all();
         let mut seats: Vec<_> = iter::once(&0).chain(&alive).map(take_all).collect();
         let mut others: Vec<_> = lost.iter().map(take_all).collect();
         if self.is_closed() {
-            return Some(let_go);
+            return Some(left_by_lost);
         }
         for seats in &mut others {
-            let_go.extend(iter::from_fn(|| self.take_by(seats[0].pass()).ok()));
+            left_by_lost.extend(iter::from_fn(|| self.take_by(seats[0].pass()).ok()));
             let empty = |pass: &mut Pass| pass.handle = Handle::empty();
             seats.iter_mut().for_each(|seat| empty(seat.pass()));
         }
@@ -56,6 +56,6 @@ impl<T> Core<T> {
         }
         self.shares.store(alive.len(), Ordering::SeqCst);
         *in_queue = alive;
-        Some(let_go)
+        Some(left_by_lost)
     }
 }

@@ -1,5 +1,5 @@
 //! Room that is reserved for selected sends, and the looks of a select: see [`select`](super::select).
-use super::body::Parcel;
+use super::body::Unsent;
 use super::core::{Core, Side};
 use super::event::{AT_A_RING, Try, lock};
 use super::pool::Pool;
@@ -7,7 +7,7 @@ use crate::backoff::Backoff;
 use std::sync::atomic::Ordering;
 
 /// Waits until whoever has a seat has counted what went through it.
-fn settle(seats: &Pool) {
+fn wait_for_holders(seats: &Pool) {
     seats.take_each().for_each(drop);
 }
 
@@ -19,11 +19,12 @@ impl<T> Core<T> {
         let taken = self.side(group).seats.count();
         let has_item = || taken < self.senders.seats.count();
         if !has_item() {
-            settle(&self.senders.seats);
+            wait_for_holders(&self.senders.seats);
         }
-        match has_item() || self.is_closed() {
-            true => Ok(()),
-            false => Err(AT_A_RING),
+        if has_item() || self.is_closed() {
+            Ok(())
+        } else {
+            Err(AT_A_RING)
         }
     }
 
@@ -53,27 +54,31 @@ impl<T> Core<T> {
         let is_full = self.alive().any(|Side { seats, .. }| {
             // The look without the seats is cheaper.
             is_full(seats) && {
-                settle(seats);
+                wait_for_holders(seats);
                 is_full(seats)
             }
         });
-        match is_full && !self.is_closed() {
-            true => Err(AT_A_RING),
-            false => Ok(()),
+        if is_full && !self.is_closed() {
+            Err(AT_A_RING)
+        } else {
+            Ok(())
         }
     }
 
     /// Reserves room for one send. Returns whether it has; if not, the channel is closed.
+    ///
+    /// It counts the place first, so that each send that begins now waits for the lock, and leaves the place free. Else
+    /// other sends would take the room while this takes their seats.
     pub fn reserve(&self) -> Try<bool> {
         self.seems_to_have_room()?;
         let _in_queue = lock(&self.in_queue);
+        let reserved = self.selected.room.fetch_add(1, Ordering::SeqCst);
         let _seats = self.senders.seats.take_all();
-        if self.is_closed() {
-            return Ok(false);
+        let has_room = self.has_room_beside(reserved).map(|()| !self.is_closed());
+        if has_room != Ok(true) {
+            self.selected.room.fetch_sub(1, Ordering::SeqCst);
         }
-        self.has_room_beside(self.selected.room.load(Ordering::SeqCst))?;
-        self.selected.room.fetch_add(1, Ordering::SeqCst);
-        Ok(true)
+        has_room
     }
 
     /// Gives back room that was reserved.
@@ -83,11 +88,11 @@ impl<T> Core<T> {
     }
 
     /// Sends to room that was reserved. Returns whether it is sent; if not, the channel is closed.
-    pub fn send_to_room(&self, parcel: &Parcel<T>) -> bool {
+    pub fn send_to_room(&self, item: &mut Unsent<T>) -> bool {
         let mut backoff = Backoff::default();
         loop {
             let mut seat = self.senders.seats.take();
-            let Err(refusal) = self.send_by(&mut seat, parcel) else {
+            let Err(refusal) = self.send_by(&mut seat, item) else {
                 // While the seat is taken, so that nobody counts both the item and its room.
                 self.selected.room.fetch_sub(1, Ordering::SeqCst);
                 drop(seat);
@@ -95,7 +100,7 @@ impl<T> Core<T> {
                 return true;
             };
             drop(seat);
-            match self.goes_on(parcel, refusal) {
+            match self.retry_after_refusal(refusal) {
                 Ok(true) => {}
                 Ok(false) => {
                     self.give_back_room();
@@ -109,11 +114,11 @@ impl<T> Core<T> {
 
     /// Tries to send while room is reserved for others. No other send is on its way then.
     #[cold]
-    pub fn send_beside_reserved(&self, parcel: &Parcel<T>) -> Try<bool> {
+    pub fn send_beside_reserved(&self, item: &mut Unsent<T>) -> Try<bool> {
         let in_queue = lock(&self.in_queue);
         let mut seats = self.senders.seats.take_all();
         self.has_room_beside(self.selected.room.load(Ordering::SeqCst))?;
-        let sent = self.send_by(&mut seats[0], parcel);
+        let sent = self.send_by(&mut seats[0], item);
         drop(seats);
         drop(in_queue);
         match sent {
@@ -121,7 +126,7 @@ impl<T> Core<T> {
                 self.ring_for_item();
                 Ok(true)
             }
-            Err(refusal) => self.go_on_sending(parcel, refusal),
+            Err(refusal) => self.send_after_refusal(item, refusal),
         }
     }
 }

@@ -1,6 +1,6 @@
 //! One of several operations, over channels of any types: [`Select`] and [`select!`](crate::select!).
 //!
-//! A select tries each operation, in an order by chance. If none is ready, its thread stands in the line of
+//! A select tries each operation, in a random order. If none is ready, its thread stands in the line of
 //! each, and goes on as [`event`](super::event) says of a waiter in several lines: it looks, parks until one
 //! of the lines rings, leaves all, and tries again. It passes on the ring of each line from which it takes
 //! nothing. So no wake-up is lost, and while it is blocked it costs nothing.
@@ -21,12 +21,18 @@
 //! give it back, and then look whether somebody waits. A look takes each of those seats, and gives it back. A
 //! holder before that has counted; a holder after that sees the waiter in line. So a look that finds nothing
 //! is the look of [`event`](super::event)'s argument: at some moment of it there was nothing.
-use super::event::{Event, Parker, TRIES, Ticket, Try, lock};
+use super::event::{Event, Panics, Parker, TRIES, Ticket, Try, drop_each, lock};
 use super::meeting::{Meets, SENDS, TAKES, Waiter, meet_or_post, try_meet};
 use super::special::Special;
-use super::{Receiver, RecvError, SendError, Sender};
+use super::{
+    ReadyTimeoutError, Receiver, RecvError, SelectTimeoutError, SendError, Sender, TryReadyError,
+    TrySelectError,
+};
 use crate::backoff::Backoff;
 use std::cell::Cell;
+use std::fmt;
+use std::mem::take;
+use std::ops::Deref;
 use std::ptr::addr_eq;
 use std::sync::atomic::{AtomicU64, AtomicUsize, Ordering};
 use std::sync::{Arc, Mutex};
@@ -53,7 +59,7 @@ pub trait Case {
     /// The channel and the side at which it is posted, if the channel has capacity 0.
     fn meeting(&self) -> Option<(&dyn Meets, usize)>;
     /// It is posted: rings for those of the other side that aren't.
-    fn is_posted(&self);
+    fn notify_posted(&self);
     /// Begins it, if it is ready.
     fn begin(&self) -> Try<Begun>;
     /// Whether it is ready. It may say so though it isn't.
@@ -85,6 +91,13 @@ struct Kept<T> {
     items: Vec<(u64, T)>,
 }
 
+/// There are some if selected operations were forgotten.
+impl<T> Drop for Kept<T> {
+    fn drop(&mut self) {
+        drop_each(take(&mut self.items));
+    }
+}
+
 impl<T> Kept<T> {
     fn put(&mut self, item: T) -> u64 {
         self.last += 1;
@@ -107,7 +120,7 @@ impl<T> Case for Receiver<T> {
         Some((self.core().meeting()?, TAKES))
     }
 
-    fn is_posted(&self) {
+    fn notify_posted(&self) {
         self.core().senders.line.ring();
     }
 
@@ -131,24 +144,19 @@ impl<T> Case for Receiver<T> {
     }
 
     fn give_up(&self, begun: Begun) {
-        match (begun, self.core().meeting()) {
-            (Begun::Met(pair), Some(meeting)) => drop(meeting.give_up(pair)),
-            (begun, _) => drop(self.completed(begun)),
-        }
+        drop(self.completed(begun));
     }
 }
 
 impl<T> Receiver<T> {
-    /// The item of a selected take. Gives None if the sender that it met gave it up.
-    pub(super) fn completed(&self, begun: Begun) -> Option<Result<T, RecvError>> {
-        match (begun, self.core().meeting()) {
-            (Begun::Met(pair), Some(meeting)) => meeting.take(pair).map(Ok),
-            (Begun::Kept(number), _) => {
-                let item = lock(&self.core().selected.kept).take(number);
-                Some(item.ok_or(RecvError))
-            }
-            _ => Some(Err(RecvError)),
-        }
+    /// The item of a selected take.
+    pub(super) fn completed(&self, begun: Begun) -> Result<T, RecvError> {
+        let item = match (begun, self.core().meeting()) {
+            (Begun::Met(pair), Some(meeting)) => meeting.take(pair),
+            (Begun::Kept(number), _) => lock(&self.core().selected.kept).take(number),
+            _ => None,
+        };
+        item.ok_or(RecvError)
     }
 }
 
@@ -161,7 +169,7 @@ impl<T> Case for Sender<T> {
         Some((self.core().meeting()?, SENDS))
     }
 
-    fn is_posted(&self) {
+    fn notify_posted(&self) {
         self.core().ring_for_item();
     }
 
@@ -169,10 +177,8 @@ impl<T> Case for Sender<T> {
         if let Some((meeting, side)) = self.meeting() {
             return try_meet(meeting, side);
         }
-        match self.core().reserve()? {
-            true => Ok(Begun::Room),
-            false => Ok(Begun::Closed),
-        }
+        let has_room = self.core().reserve()?;
+        Ok(if has_room { Begun::Room } else { Begun::Closed })
     }
 
     fn look(&self) -> Try<()> {
@@ -193,17 +199,19 @@ impl<T> Case for Sender<T> {
 
 impl<T> Sender<T> {
     /// Sends by a selected send.
-    fn complete(&self, begun: Begun, item: T) -> Result<(), SendError<T>> {
+    fn complete(&self, begun: Begun, item: T, until: Option<Instant>) -> Result<(), SendError<T>> {
         match (begun, self.core().meeting()) {
-            (Begun::Met(pair), Some(meeting)) => {
-                // If the receiver that it met gave it up, it waits for another one.
-                meeting.send(pair, item).or_else(|item| self.send(item))
-            }
+            (Begun::Met(pair), Some(meeting)) => meeting.send(pair, item).or_else(|item| {
+                // The take gave the pair up: the send waits for another one, as long as its select would have.
+                let sent = self.meet_until(meeting, item, until);
+                sent.map_err(|error| SendError(error.into_inner()))
+            }),
             (Begun::Room, _) => {
-                let parcel = self.pack(item);
-                match self.core().send_to_room(&parcel) {
-                    true => parcel.sent(),
-                    false => Err(SendError(parcel.unpack())),
+                let mut item = self.pack(item);
+                if self.core().send_to_room(&mut item) {
+                    Ok(())
+                } else {
+                    Err(SendError(item.into_inner()))
                 }
             }
             _ => Err(SendError(item)),
@@ -233,7 +241,9 @@ impl<'a> Place<'a> {
     /// Leaves the line. A try has to follow, since a ring may have taken this one out. Returns whether there
     /// was a ring at all since it stood there.
     fn leave(&mut self) -> bool {
-        let left = self.ticket.take().map(|ticket| self.event.leave(ticket));
+        // It is a parker's, whose drop doesn't panic.
+        let leave = |ticket| self.event.leave(ticket, &mut Panics::default());
+        let left = self.ticket.take().map(leave);
         let (rung, was_rung) = left.unwrap_or((self.rung, false));
         self.rung = rung;
         was_rung
@@ -249,20 +259,33 @@ impl Drop for Place<'_> {
     }
 }
 
+/// An operation by reference: `&dyn Case`, or one that goes to other threads.
 #[derive(Clone, Copy)]
-struct Entry<'a> {
+pub struct Entry<R> {
     index: usize,
-    case: &'a dyn Case,
+    case: R,
+}
+
+impl<R: Deref<Target: Case>> Entry<R> {
+    /// Whether what has begun is for good, with capacity 0: see [`Meets::wait_for_pair`].
+    fn wait_for_pair(&self, begun: &Begun, until: Option<Instant>) -> bool {
+        let meeting = self.case.meeting();
+        meeting.is_none_or(|(channel, side)| channel.wait_for_pair(begun, side, until))
+    }
 }
 
 /// Tries each of these once: begins it, or only looks. Gives the place of the first that is done; if none is,
 /// when to try again though nobody rings.
-fn try_each(entries: &[Entry], begins: bool) -> Result<(usize, Begun), Option<Instant>> {
+fn try_each<R: Deref<Target: Case>>(
+    entries: &[Entry<R>],
+    begins: bool,
+) -> Result<(usize, Begun), Option<Instant>> {
     let mut moment = None;
     for (place, Entry { case, .. }) in entries.iter().enumerate() {
-        let tried = match begins {
-            true => case.begin(),
-            false => case.look().map(|()| Begun::Nothing),
+        let tried = if begins {
+            case.begin()
+        } else {
+            case.look().map(|()| Begun::Nothing)
         };
         match tried {
             Ok(begun) => return Ok((place, begun)),
@@ -272,8 +295,8 @@ fn try_each(entries: &[Entry], begins: bool) -> Result<(usize, Begun), Option<In
     Err(moment)
 }
 
-/// A number below this one, by chance.
-fn by_chance(limit: usize) -> usize {
+/// A random number below this one.
+fn random_below(limit: usize) -> usize {
     thread_local! {
         static LAST: Cell<u64> = const { Cell::new(0) };
     }
@@ -299,8 +322,11 @@ fn by_chance(limit: usize) -> usize {
 /// operation of a channel that is closed is ready: it gives the error. [`select!`](crate::select!) is a
 /// shorter form.
 ///
-/// If several are ready, chance decides, unless the select [is biased](Select::new_biased). One with no
+/// If several are ready, one of them is made at random, unless the select [is biased](Select::new_biased). One with no
 /// operation waits until its time is over.
+///
+/// A select may go to another thread, so the items are `Send`. The macros have a select of their own, which stays
+/// on its thread and takes items of any type.
 ///
 /// ```
 /// use vahepito::{Select, channel};
@@ -324,44 +350,72 @@ fn by_chance(limit: usize) -> usize {
 /// ```
 #[derive(Clone)]
 pub struct Select<'a> {
-    entries: Vec<Entry<'a>>,
-    next: usize,
-    is_biased: bool,
+    cases: Cases<&'a (dyn Case + Sync)>,
 }
 
 impl<'a> Select<'a> {
     /// One without operations.
+    ///
+    /// ```
+    /// let mut select = vahepito::Select::new();
+    /// assert!(select.try_ready().is_err());
+    /// ```
+    #[must_use]
     pub fn new() -> Select<'a> {
-        Select {
-            entries: vec![],
-            next: 0,
-            is_biased: false,
-        }
+        let cases = Cases::new(false);
+        Select { cases }
     }
 
     /// One that prefers the operation with the lowest index.
+    ///
+    /// ```
+    /// use vahepito::{Select, channel};
+    ///
+    /// let (urgent, others) = (channel(1)?, channel(1)?);
+    /// others.0.send(2).unwrap();
+    /// urgent.0.send(1).unwrap();
+    /// let mut select = Select::new_biased();
+    /// let first = select.recv(&urgent.1);
+    /// select.recv(&others.1);
+    /// assert_eq!(select.ready(), first);
+    /// # Ok::<(), vahepito::OpenError>(())
+    /// ```
+    #[must_use]
     pub fn new_biased() -> Select<'a> {
-        Select {
-            is_biased: true,
-            ..Select::new()
-        }
-    }
-
-    fn add(&mut self, case: &'a dyn Case) -> usize {
-        let index = self.next;
-        self.next += 1;
-        self.entries.push(Entry { index, case });
-        index
+        let cases = Cases::new(true);
+        Select { cases }
     }
 
     /// Adds a send, and returns its index.
-    pub fn send<T>(&mut self, sender: &'a Sender<T>) -> usize {
-        self.add(sender)
+    ///
+    /// ```
+    /// use vahepito::{Select, channel};
+    ///
+    /// let (sender, receiver) = channel(1)?;
+    /// let mut select = Select::new();
+    /// assert_eq!(select.send(&sender), 0);
+    /// select.select().send(&sender, 'a').unwrap();
+    /// assert_eq!(receiver.recv(), Ok('a'));
+    /// # Ok::<(), vahepito::OpenError>(())
+    /// ```
+    pub fn send<T: Send>(&mut self, sender: &'a Sender<T>) -> usize {
+        self.cases.add(sender)
     }
 
     /// Adds a take, and returns its index.
-    pub fn recv<T>(&mut self, receiver: &'a Receiver<T>) -> usize {
-        self.add(receiver)
+    ///
+    /// ```
+    /// use vahepito::{Select, channel};
+    ///
+    /// let (sender, receiver) = channel(1)?;
+    /// sender.send('a').unwrap();
+    /// let mut select = Select::new();
+    /// assert_eq!(select.recv(&receiver), 0);
+    /// assert_eq!(select.select().recv(&receiver), Ok('a'));
+    /// # Ok::<(), vahepito::OpenError>(())
+    /// ```
+    pub fn recv<T: Send>(&mut self, receiver: &'a Receiver<T>) -> usize {
+        self.cases.add(receiver)
     }
 
     /// Removes an operation. The others keep their indices.
@@ -369,42 +423,103 @@ impl<'a> Select<'a> {
     /// # Panics
     ///
     /// It has no operation with this index.
+    ///
+    /// ```
+    /// use vahepito::{Select, channel};
+    ///
+    /// let (one, two) = (channel::<u8>(1)?, channel::<u8>(1)?);
+    /// let mut select = Select::new();
+    /// let (first, second) = (select.recv(&one.1), select.recv(&two.1));
+    /// drop((one.0, two.0)); // both takes are ready, since they give an error
+    /// select.remove(first);
+    /// assert_eq!(select.ready(), second);
+    /// # Ok::<(), vahepito::OpenError>(())
+    /// ```
     pub fn remove(&mut self, index: usize) {
-        let place = self.entries.iter().position(|it| it.index == index);
-        self.entries
-            .remove(place.expect("the select has an operation with this index"));
+        let entries = &mut self.cases.entries;
+        let place = entries.iter().position(|it| it.index == index);
+        entries.remove(place.expect("the select has an operation with this index"));
+    }
+}
+
+/// The operations of a select.
+#[doc(hidden)]
+#[derive(Clone)]
+pub struct Cases<R> {
+    entries: Vec<Entry<R>>,
+    next: usize,
+    is_biased: bool,
+}
+
+impl<R: Copy + Deref<Target: Case>> Cases<R> {
+    #[must_use]
+    pub fn new(is_biased: bool) -> Cases<R> {
+        Cases {
+            entries: vec![],
+            next: 0,
+            is_biased,
+        }
+    }
+
+    pub fn add(&mut self, case: R) -> usize {
+        let index = self.next;
+        self.next += 1;
+        self.entries.push(Entry { index, case });
+        index
     }
 
     /// Tries each until one is done, or until this moment: begins it, or only looks.
-    fn wait(&mut self, until: Option<Instant>, begins: bool) -> Option<(Entry<'a>, Begun)> {
-        self.mix();
+    pub(super) fn wait(
+        &mut self,
+        until: Option<Instant>,
+        begins: bool,
+    ) -> Option<(Entry<R>, Begun)> {
+        self.shuffle();
         let is_over = || until.is_some_and(|until| until <= Instant::now());
         // Those that may meet another are posted at once, so that the other finds them.
-        let tries = match begins && self.entries.iter().any(|it| it.case.meeting().is_some()) {
-            true => 1,
-            false => TRIES,
-        };
+        let posts = begins && self.entries.iter().any(|it| it.case.meeting().is_some());
         let mut backoff = Backoff::default();
-        let mut done = try_each(&self.entries, begins).ok();
-        for _ in 1..tries {
+        let mut done = self.try_once(until, begins);
+        for _ in 1..if posts { 1 } else { TRIES } {
             if done.is_some() || is_over() {
                 break;
             }
             backoff.between_turns();
-            done = try_each(&self.entries, begins).ok();
+            done = self.try_once(until, begins);
         }
-        if done.is_none() {
-            done = Parker::with(|parker| {
+        done.or_else(|| {
+            Parker::with(|parker| {
                 loop {
                     match self.stand_and_park(until, begins, parker) {
-                        Ok(done) => return Some(done),
+                        Ok((place, begun)) => {
+                            let entry = self.entries[place];
+                            if entry.wait_for_pair(&begun, until) {
+                                return Some((entry, begun));
+                            }
+                            // It goes on with the others, and until its time is over.
+                            if is_over() {
+                                return self.try_once(until, begins);
+                            }
+                        }
                         Err(was_quiet) if was_quiet && is_over() => return None,
                         Err(_) => {}
                     }
                 }
-            });
+            })
+        })
+    }
+
+    /// Tries each once, until one is done. One that meets another which gives their pair up isn't.
+    fn try_once(&self, until: Option<Instant>, begins: bool) -> Option<(Entry<R>, Begun)> {
+        let mut left = &self.entries[..];
+        while let Ok((place, begun)) = try_each(left, begins) {
+            let entry = left[place];
+            if entry.wait_for_pair(&begun, until) {
+                return Some((entry, begun));
+            }
+            left = &left[place + 1..];
         }
-        done.map(|(place, begun)| (self.entries[place], begun))
+        None
     }
 
     /// Stands in all lines, looks, and parks; leaves all, and tries again. If none is done, returns whether
@@ -417,9 +532,12 @@ impl<'a> Select<'a> {
         parker: &Arc<Parker>,
     ) -> Result<(usize, Begun), bool> {
         let is_over = until.is_some_and(|until| until <= Instant::now());
-        let is_posted = |it: &Entry| begins && it.case.meeting().is_some();
-        let stand = |it: &Entry<'a>| (!is_posted(it)).then(|| Place::stand(it.case.line(), parker));
-        let mut places: Vec<_> = self.entries.iter().map(stand).collect();
+        let is_posted = |it: &Entry<R>| begins && it.case.meeting().is_some();
+        let mut places: Vec<_> = vec![];
+        places.extend(self.entries.iter().map(|it| {
+            let stands = !is_posted(it);
+            stands.then(|| Place::stand(it.case.line(), parker))
+        }));
         let moment = match try_each(&self.entries, begins) {
             Ok(done) => return Ok(done),
             Err(moment) => moment,
@@ -461,22 +579,17 @@ impl<'a> Select<'a> {
     /// Posts the operations of channels of capacity 0, parks, and takes them off. Gives the one that has met
     /// another.
     fn meet(&self, until: Option<Instant>, parker: &Arc<Parker>) -> Option<(usize, Begun)> {
-        let meeting = |(place, it): (usize, &Entry<'a>)| {
+        let cases = self.entries.iter().enumerate().filter_map(|(place, it)| {
             let (channel, side) = it.case.meeting()?;
             Some((place, channel, side))
-        };
-        let cases: Vec<_> = self
-            .entries
-            .iter()
-            .enumerate()
-            .filter_map(meeting)
-            .collect();
-        let waiter = Waiter::new(parker);
+        });
+        let cases: Vec<_> = cases.collect();
+        let waiter = Waiter::new(parker.clone().into());
         let met = meet_or_post(&cases, &waiter);
         if met.is_none() {
             cases
                 .iter()
-                .for_each(|case| self.entries[case.0].case.is_posted());
+                .for_each(|case| self.entries[case.0].case.notify_posted());
             parker.spin();
             parker.park(until);
         }
@@ -486,24 +599,21 @@ impl<'a> Select<'a> {
         })
     }
 
-    /// Puts the operations in an order by chance.
-    fn mix(&mut self) {
+    /// Puts the operations in a random order.
+    fn shuffle(&mut self) {
         if self.is_biased {
             return self.entries.sort_by_key(|it| it.index);
         }
         for last in (1..self.entries.len()).rev() {
-            self.entries.swap(last, by_chance(last + 1));
+            self.entries.swap(last, random_below(last + 1));
         }
     }
+}
 
+impl<'a> Select<'a> {
     fn select_until(&mut self, until: Option<Instant>) -> Option<SelectedOperation<'a>> {
-        let (entry, begun) = self.wait(until, true)?;
-        Some(SelectedOperation::new(entry, begun))
-    }
-
-    /// Waits until one is ready, and begins it.
-    pub(super) fn begin_until(&mut self, until: Option<Instant>) -> Option<Begun> {
-        Some(self.wait(until, true)?.1)
+        let (Entry { index, case }, begun) = self.cases.wait(until, true)?;
+        Some(SelectedOperation::new(Entry { index, case }, begun, until))
     }
 
     /// Begins an operation, if one is ready.
@@ -511,12 +621,40 @@ impl<'a> Select<'a> {
     /// # Errors
     ///
     /// None is ready.
+    ///
+    /// ```
+    /// use vahepito::{Select, channel};
+    ///
+    /// let (sender, receiver) = channel(1)?;
+    /// let mut select = Select::new();
+    /// select.recv(&receiver);
+    /// assert!(select.try_select().is_err());
+    /// sender.send('a').unwrap();
+    /// let operation = select.try_select().expect("there is an item");
+    /// assert_eq!(operation.recv(&receiver), Ok('a'));
+    /// # Ok::<(), vahepito::OpenError>(())
+    /// ```
     pub fn try_select(&mut self) -> Result<SelectedOperation<'a>, TrySelectError> {
         let now = Some(Instant::now());
         self.select_until(now).ok_or(TrySelectError)
     }
 
     /// Waits until an operation is ready, and begins it.
+    ///
+    /// ```
+    /// use std::thread;
+    /// use vahepito::{Select, channel};
+    ///
+    /// let (one, two) = (channel::<u8>(1)?, channel(1)?);
+    /// thread::spawn(move || two.0.send('b'));
+    /// let mut select = Select::new();
+    /// select.recv(&one.1);
+    /// let second = select.recv(&two.1);
+    /// let operation = select.select();
+    /// assert_eq!(operation.index(), second);
+    /// assert_eq!(operation.recv(&two.1), Ok('b'));
+    /// # Ok::<(), vahepito::OpenError>(())
+    /// ```
     pub fn select(&mut self) -> SelectedOperation<'a> {
         loop {
             if let Some(operation) = self.select_until(None) {
@@ -525,11 +663,23 @@ impl<'a> Select<'a> {
         }
     }
 
-    /// The same, but waits no longer than this.
+    /// Waits until an operation is ready, but not longer than this, and begins it.
     ///
     /// # Errors
     ///
     /// None was ready in that time.
+    ///
+    /// ```
+    /// use std::time::Duration;
+    /// use vahepito::{Select, SelectTimeoutError, channel};
+    ///
+    /// let (_sender, receiver) = channel::<u8>(1)?;
+    /// let mut select = Select::new();
+    /// select.recv(&receiver);
+    /// let told = select.select_timeout(Duration::from_millis(5));
+    /// assert_eq!(told.err(), Some(SelectTimeoutError));
+    /// # Ok::<(), vahepito::OpenError>(())
+    /// ```
     pub fn select_timeout(
         &mut self,
         time: Duration,
@@ -539,11 +689,24 @@ impl<'a> Select<'a> {
         self.select_until(until).ok_or(SelectTimeoutError)
     }
 
-    /// The same, but doesn't wait beyond this moment.
+    /// Waits until an operation is ready, but not beyond this moment, and begins it.
     ///
     /// # Errors
     ///
     /// None was ready in that time.
+    ///
+    /// ```
+    /// use std::time::{Duration, Instant};
+    /// use vahepito::{Select, channel};
+    ///
+    /// let (sender, _receiver) = channel(1)?;
+    /// sender.send('a').unwrap();
+    /// let mut select = Select::new();
+    /// select.send(&sender);
+    /// let soon = Instant::now() + Duration::from_millis(5);
+    /// assert!(select.select_deadline(soon).is_err()); // there is no room
+    /// # Ok::<(), vahepito::OpenError>(())
+    /// ```
     pub fn select_deadline(
         &mut self,
         until: Instant,
@@ -552,7 +715,7 @@ impl<'a> Select<'a> {
     }
 
     fn ready_until(&mut self, until: Option<Instant>) -> Option<usize> {
-        Some(self.wait(until, false)?.0.index)
+        Some(self.cases.wait(until, false)?.0.index)
     }
 
     /// Returns the index of an operation that is ready, if there is one. Another thread may make it
@@ -561,12 +724,41 @@ impl<'a> Select<'a> {
     /// # Errors
     ///
     /// None is ready.
+    ///
+    /// ```
+    /// use vahepito::{Select, channel};
+    ///
+    /// let (sender, receiver) = channel(1)?;
+    /// let mut select = Select::new();
+    /// let take = select.recv(&receiver);
+    /// assert!(select.try_ready().is_err());
+    /// sender.send('a').unwrap();
+    /// assert_eq!(select.try_ready(), Ok(take));
+    /// assert_eq!(receiver.try_recv(), Ok('a')); // the item is still there
+    /// # Ok::<(), vahepito::OpenError>(())
+    /// ```
     pub fn try_ready(&mut self) -> Result<usize, TryReadyError> {
         let now = Some(Instant::now());
         self.ready_until(now).ok_or(TryReadyError)
     }
 
     /// Waits until an operation is ready, and returns its index, as [`try_ready`](Select::try_ready).
+    ///
+    /// ```
+    /// use vahepito::{Select, channel};
+    ///
+    /// let (numbers, words) = (channel::<u32>(1)?, channel(1)?);
+    /// words.0.send("hello").unwrap();
+    /// let mut select = Select::new();
+    /// let number = select.recv(&numbers.1);
+    /// let word = select.recv(&words.1);
+    /// match select.ready() {
+    ///     it if it == number => println!("{:?}", numbers.1.try_recv()),
+    ///     it if it == word => assert_eq!(words.1.try_recv(), Ok("hello")),
+    ///     _ => unreachable!(),
+    /// }
+    /// # Ok::<(), vahepito::OpenError>(())
+    /// ```
     pub fn ready(&mut self) -> usize {
         loop {
             if let Some(index) = self.ready_until(None) {
@@ -575,29 +767,68 @@ impl<'a> Select<'a> {
         }
     }
 
-    /// The same, but waits no longer than this.
+    /// Waits until an operation is ready, but not longer than this, and returns its index.
     ///
     /// # Errors
     ///
     /// None was ready in that time.
+    ///
+    /// ```
+    /// use std::time::Duration;
+    /// use vahepito::{ReadyTimeoutError, Select, channel};
+    ///
+    /// let (_sender, receiver) = channel::<u8>(1)?;
+    /// let mut select = Select::new();
+    /// select.recv(&receiver);
+    /// let told = select.ready_timeout(Duration::from_millis(5));
+    /// assert_eq!(told, Err(ReadyTimeoutError));
+    /// # Ok::<(), vahepito::OpenError>(())
+    /// ```
     pub fn ready_timeout(&mut self, time: Duration) -> Result<usize, ReadyTimeoutError> {
         let until = Instant::now().checked_add(time);
         self.ready_until(until).ok_or(ReadyTimeoutError)
     }
 
-    /// The same, but doesn't wait beyond this moment.
+    /// Waits until an operation is ready, but not beyond this moment, and returns its index.
     ///
     /// # Errors
     ///
     /// None was ready in that time.
+    ///
+    /// ```
+    /// use std::time::{Duration, Instant};
+    /// use vahepito::{Select, channel};
+    ///
+    /// let (sender, _receiver) = channel::<u8>(1)?;
+    /// let mut select = Select::new();
+    /// let room = select.send(&sender);
+    /// let soon = Instant::now() + Duration::from_millis(5);
+    /// assert_eq!(select.ready_deadline(soon), Ok(room));
+    /// # Ok::<(), vahepito::OpenError>(())
+    /// ```
     pub fn ready_deadline(&mut self, until: Instant) -> Result<usize, ReadyTimeoutError> {
         self.ready_until(Some(until)).ok_or(ReadyTimeoutError)
     }
 }
 
-shows! {
-    Debug [] Select<'_>: _ => "Select { .. }";
-    Debug [] SelectedOperation<'_>: _ => "SelectedOperation { .. }";
+/// The select of the macros, which stays on its thread: so it takes items of any type.
+#[doc(hidden)]
+pub type LocalSelect<'a> = Cases<&'a dyn Case>;
+
+impl<'a> LocalSelect<'a> {
+    /// Waits until an operation is ready, but not longer than this, and begins it.
+    pub fn select_within(mut self, time: Option<Duration>) -> Option<SelectedOperation<'a>> {
+        // A moment beyond the clock's range never comes.
+        let until = time.and_then(|time| Instant::now().checked_add(time));
+        let (entry, begun) = self.wait(until, true)?;
+        Some(SelectedOperation::new(entry, begun, until))
+    }
+}
+
+impl fmt::Debug for Select<'_> {
+    fn fmt(&self, f: &mut fmt::Formatter<'_>) -> fmt::Result {
+        f.pad("Select { .. }")
+    }
 }
 
 impl Default for Select<'_> {
@@ -610,22 +841,48 @@ impl Default for Select<'_> {
 ///
 /// Complete it by [`recv`](SelectedOperation::recv) or [`send`](SelectedOperation::send). If it is dropped
 /// instead, the item that was taken is dropped too, and the room is given back. If it is forgotten, both
-/// stay where they are as long as the channel is there. With capacity 0 it has met another operation, which
-/// waits until this one is completed; if either is dropped, the other one waits for a further one.
+/// stay where they are as long as the channel is there. With capacity 0 a send has met a take, which waits, until
+/// its time is over, for the send to be completed; if the send is dropped, the take continues with its other
+/// operations.
 #[must_use = "complete it by `recv` or `send`"]
 pub struct SelectedOperation<'a> {
-    entry: Entry<'a>,
+    entry: Entry<&'a dyn Case>,
     /// Until it is completed.
     pub(super) begun: Option<Begun>,
+    /// How long the select would have waited.
+    until: Option<Instant>,
 }
 
 impl<'a> SelectedOperation<'a> {
-    fn new(entry: Entry<'a>, begun: Begun) -> SelectedOperation<'a> {
+    fn new(entry: Entry<&'a dyn Case>, begun: Begun, until: Option<Instant>) -> Self {
         let begun = Some(begun);
-        SelectedOperation { entry, begun }
+        SelectedOperation {
+            entry,
+            begun,
+            until,
+        }
     }
 
-    /// The index of the operation.
+    /// The index of the operation, as it was given when the operation was added.
+    ///
+    /// ```
+    /// use vahepito::{Select, channel};
+    ///
+    /// let (one, two) = (channel(1)?, channel(1)?);
+    /// two.0.send('b').unwrap();
+    /// let mut select = Select::new();
+    /// let first = select.recv(&one.1);
+    /// let second = select.recv(&two.1);
+    /// let operation = select.select();
+    /// let told = match operation.index() {
+    ///     it if it == first => operation.recv(&one.1),
+    ///     it if it == second => operation.recv(&two.1),
+    ///     _ => unreachable!(),
+    /// };
+    /// assert_eq!(told, Ok('b'));
+    /// # Ok::<(), vahepito::OpenError>(())
+    /// ```
+    #[must_use]
     pub fn index(&self) -> usize {
         self.entry.index
     }
@@ -648,23 +905,45 @@ impl<'a> SelectedOperation<'a> {
     /// # Panics
     ///
     /// This isn't the receiver that was added: `&receiver` is to be the same reference.
+    ///
+    /// ```
+    /// use vahepito::{RecvError, Select, channel};
+    ///
+    /// let (sender, receiver) = channel::<u8>(1)?;
+    /// drop(sender);
+    /// let mut select = Select::new();
+    /// select.recv(&receiver);
+    /// assert_eq!(select.select().recv(&receiver), Err(RecvError));
+    /// # Ok::<(), vahepito::OpenError>(())
+    /// ```
     pub fn recv<T>(mut self, receiver: &Receiver<T>) -> Result<T, RecvError> {
-        let told = receiver.completed(self.begun_of(receiver));
-        // If the sender that it met gave it up, it waits for another one.
-        told.unwrap_or_else(|| receiver.recv())
+        receiver.completed(self.begun_of(receiver))
     }
 
-    /// Completes a send. It doesn't wait, unless memory is wanting for a further queue.
+    /// Completes a send. It doesn't wait, unless memory is wanting for a further queue, or, with capacity 0, the
+    /// receiver that it met has given up meanwhile: it then waits for another one, as long as its select would have.
     ///
     /// # Errors
     ///
-    /// The channel is closed: the item is handed back.
+    /// The channel is closed; or, with capacity 0, no other receiver came in that time. The item is handed back.
     ///
     /// # Panics
     ///
     /// This isn't the sender that was added: `&sender` is to be the same reference.
+    ///
+    /// ```
+    /// use vahepito::{Select, channel};
+    ///
+    /// let (sender, receiver) = channel(1)?;
+    /// let mut select = Select::new();
+    /// select.send(&sender);
+    /// let operation = select.select();
+    /// operation.send(&sender, "made once there is room".to_string()).unwrap();
+    /// assert_eq!(receiver.recv().unwrap(), "made once there is room");
+    /// # Ok::<(), vahepito::OpenError>(())
+    /// ```
     pub fn send<T>(mut self, sender: &Sender<T>, item: T) -> Result<(), SendError<T>> {
-        sender.complete(self.begun_of(sender), item)
+        sender.complete(self.begun_of(sender), item, self.until)
     }
 }
 
@@ -676,28 +955,8 @@ impl Drop for SelectedOperation<'_> {
     }
 }
 
-/// Errors of a select without anything in them.
-macro_rules! errors {
-    ($($(#[$docs:meta])+ $name:ident: $text:literal;)+) => {$(
-        $(#[$docs])+
-        #[derive(Clone, Copy, Debug, PartialEq, Eq, Hash)]
-        pub struct $name;
-
-        shows! { Display [] $name: _ => $text; }
-
-        impl std::error::Error for $name {}
-    )+};
-}
-
-errors! {
-    /// Why [`try_select`](Select::try_select) began nothing.
-    TrySelectError: "no operation of the select is ready";
-    /// Why [`select_timeout`](Select::select_timeout) or [`select_deadline`](Select::select_deadline)
-    /// began nothing.
-    SelectTimeoutError: "no operation of the select was ready in time";
-    /// Why [`try_ready`](Select::try_ready) has no index.
-    TryReadyError: "no operation of the select is ready";
-    /// Why [`ready_timeout`](Select::ready_timeout) or [`ready_deadline`](Select::ready_deadline) has no
-    /// index.
-    ReadyTimeoutError: "no operation of the select was ready in time";
+impl fmt::Debug for SelectedOperation<'_> {
+    fn fmt(&self, f: &mut fmt::Formatter<'_>) -> fmt::Result {
+        f.pad("SelectedOperation { .. }")
+    }
 }

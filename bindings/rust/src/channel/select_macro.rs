@@ -10,7 +10,7 @@
 /// - `default => expression`, once at most, if no operation is ready;
 /// - `default(time) => expression`, if none is ready in that time.
 ///
-/// If several are ready, chance decides; [`select_biased!`](crate::select_biased!) takes the first of them.
+/// If several are ready, one of them is made at random; [`select_biased!`](crate::select_biased!) takes the first of them.
 /// How it waits, and what it promises, is that of [`Select`](crate::Select). Without a default it waits until
 /// an operation is ready.
 ///
@@ -23,11 +23,11 @@
 ///
 /// let (numbers, words) = (channel(1)?, channel(1)?);
 /// words.0.send("hello").unwrap();
-/// let told = select! {
+/// let result = select! {
 ///     recv(numbers.1) -> number => number.unwrap(),
 ///     recv(words.1) -> word => word.unwrap().len(),
 /// };
-/// assert_eq!(told, 5);
+/// assert_eq!(result, 5);
 /// select! {
 ///     recv(words.1) -> _ => unreachable!("there is none"),
 ///     send(numbers.0, 7) -> sent => sent.unwrap(),
@@ -41,7 +41,7 @@
 #[macro_export]
 macro_rules! select {
     ($($arms:tt)*) => {
-        $crate::__select!(@read new [] [] $($arms)*)
+        $crate::__select!(@read false [] [] $($arms)*)
     };
 }
 
@@ -63,7 +63,7 @@ macro_rules! select {
 #[macro_export]
 macro_rules! select_biased {
     ($($arms:tt)*) => {
-        $crate::__select!(@read new_biased [] [] $($arms)*)
+        $crate::__select!(@read true [] [] $($arms)*)
     };
 }
 
@@ -72,106 +72,98 @@ macro_rules! select_biased {
 #[doc(hidden)]
 #[macro_export]
 macro_rules! __select {
-    (@read $new:ident [$($arms:tt)*] [$($default:tt)*]) => {{
-        let mut select = $crate::Select::$new();
+    (@read $biased:literal [$($arms:tt)*] [$($default:tt)*]) => {{
+        let mut select = $crate::LocalSelect::new($biased);
         $crate::__select!(@add select [] [$($default)*] $($arms)*)
     }};
-    (@read $new:ident $arms:tt $default:tt default => $($rest:tt)*) => {
-        $crate::__select!(@read $new $arms $default default() => $($rest)*)
+    (@read $biased:literal $arms:tt $default:tt default => $($rest:tt)*) => {
+        $crate::__select!(@read $biased $arms $default default() => $($rest)*)
     };
-    (@read $new:ident $arms:tt $default:tt
-        $kind:ident $of:tt $(-> $told:pat)? => $body:expr, $($rest:tt)*) => {
-        $crate::__select!(@sort $new $arms $default [$kind $of ($($told)?) $body] $($rest)*)
+    (@read $biased:literal $arms:tt $default:tt
+        $kind:ident $of:tt $(-> $result:pat)? => $body:expr, $($rest:tt)*) => {
+        $crate::__select!(@sort $biased $arms $default [$kind $of ($($result)?) $body] $($rest)*)
     };
-    (@read $new:ident $arms:tt $default:tt
-        $kind:ident $of:tt $(-> $told:pat)? => $body:block $($rest:tt)*) => {
-        $crate::__select!(@sort $new $arms $default [$kind $of ($($told)?) $body] $($rest)*)
+    (@read $biased:literal $arms:tt $default:tt
+        $kind:ident $of:tt $(-> $result:pat)? => $body:block $($rest:tt)*) => {
+        $crate::__select!(@sort $biased $arms $default [$kind $of ($($result)?) $body] $($rest)*)
     };
-    (@read $new:ident $arms:tt $default:tt
-        $kind:ident $of:tt $(-> $told:pat)? => $body:expr) => {
-        $crate::__select!(@sort $new $arms $default [$kind $of ($($told)?) $body])
+    (@read $biased:literal $arms:tt $default:tt
+        $kind:ident $of:tt $(-> $result:pat)? => $body:expr) => {
+        $crate::__select!(@sort $biased $arms $default [$kind $of ($($result)?) $body])
     };
-    (@read $new:ident $arms:tt $default:tt $($wrong:tt)+) => {
+    (@read $biased:literal $arms:tt $default:tt $($wrong:tt)+) => {
         ::core::compile_error!(::core::concat!(
             "expected `recv(receiver) -> item => expression,`, `send(sender, item) -> sent => expression,`, ",
             "`default => expression,` or `default(time) => expression,`; found `",
             ::core::stringify!($($wrong)+), "`"))
     };
 
-    (@sort $new:ident [$($arms:tt)*] $default:tt
-        [recv ($of:expr $(,)?) ($told:pat) $body:expr] $($rest:tt)*) => {
-        $crate::__select!(@read $new [$($arms)* [recv ($of) ($told) $body]] $default $($rest)*)
+    (@sort $biased:literal [$($arms:tt)*] $default:tt
+        [recv ($of:expr $(,)?) ($result:pat) $body:expr] $($rest:tt)*) => {
+        $crate::__select!(@read $biased [$($arms)* [recv ($of) ($result) $body]] $default $($rest)*)
     };
-    (@sort $new:ident [$($arms:tt)*] $default:tt
-        [send ($of:expr, $item:expr $(,)?) ($told:pat) $body:expr] $($rest:tt)*) => {
-        $crate::__select!(@read $new [$($arms)* [send ($of, $item) ($told) $body]] $default $($rest)*)
+    (@sort $biased:literal [$($arms:tt)*] $default:tt
+        [send ($of:expr, $item:expr $(,)?) ($result:pat) $body:expr] $($rest:tt)*) => {
+        $crate::__select!(@read $biased [$($arms)* [send ($of, $item) ($result) $body]] $default $($rest)*)
     };
-    (@sort $new:ident $arms:tt [] [default ($($time:expr $(,)?)?) () $body:expr] $($rest:tt)*) => {
-        $crate::__select!(@read $new $arms [($($time)?) $body] $($rest)*)
+    (@sort $biased:literal $arms:tt [] [default ($($time:expr $(,)?)?) () $body:expr] $($rest:tt)*) => {
+        $crate::__select!(@read $biased $arms [($($time)?) $body] $($rest)*)
     };
-    (@sort $new:ident $arms:tt [$($twice:tt)+] [default $($wrong:tt)*] $($rest:tt)*) => {
+    (@sort $biased:literal $arms:tt [$($twice:tt)+] [default $($wrong:tt)*] $($rest:tt)*) => {
         ::core::compile_error!("a select has one `default` arm at most")
     };
-    (@sort $new:ident $arms:tt $default:tt [$kind:ident $of:tt $($wrong:tt)*] $($rest:tt)*) => {
+    (@sort $biased:literal $arms:tt $default:tt [$kind:ident $of:tt $($wrong:tt)*] $($rest:tt)*) => {
         ::core::compile_error!(::core::concat!(
             "expected `recv(receiver) -> item`, `send(sender, item) -> sent`, `default` or ",
             "`default(time)`; found `", ::core::stringify!($kind $of), "`"))
     };
 
     (@add $select:ident [$($made:tt)*] $default:tt
-        [recv ($of:expr) ($told:pat) $body:expr] $($arms:tt)*) => {
+        [recv ($of:expr) ($result:pat) $body:expr] $($arms:tt)*) => {
         match $of {
             ref receiver => {
                 let receiver: &$crate::Receiver<_> = receiver;
-                let index = $select.recv(receiver);
+                let index = $select.add(receiver);
                 $crate::__select!(@add $select
-                    [$($made)* [index ($told) (recv(receiver)) $body]] $default $($arms)*)
+                    [$($made)* [index ($result) (recv(receiver)) $body]] $default $($arms)*)
             }
         }
     };
     (@add $select:ident [$($made:tt)*] $default:tt
-        [send ($of:expr, $item:expr) ($told:pat) $body:expr] $($arms:tt)*) => {
+        [send ($of:expr, $item:expr) ($result:pat) $body:expr] $($arms:tt)*) => {
         match $of {
             ref sender => {
                 let sender: &$crate::Sender<_> = sender;
-                let index = $select.send(sender);
+                let index = $select.add(sender);
                 $crate::__select!(@add $select
-                    [$($made)* [index ($told) (send(sender, $item)) $body]] $default $($arms)*)
+                    [$($made)* [index ($result) (send(sender, $item)) $body]] $default $($arms)*)
             }
         }
     };
-    (@add $select:ident [$($made:tt)*] []) => {{
-        let operation = $select.select();
-        ::core::mem::drop($select);
-        $crate::__select!(@make operation $($made)*)
-    }};
-    (@add $select:ident [$($made:tt)*] [() $body:expr]) => {{
-        let operation = $select.try_select();
-        ::core::mem::drop($select);
-        match operation {
-            ::core::result::Result::Ok(operation) => $crate::__select!(@make operation $($made)*),
-            ::core::result::Result::Err(_) => $body,
-        }
-    }};
-    (@add $select:ident [$($made:tt)*] [($time:expr) $body:expr]) => {{
-        let operation = $select.select_timeout($time);
-        ::core::mem::drop($select);
-        match operation {
-            ::core::result::Result::Ok(operation) => $crate::__select!(@make operation $($made)*),
-            ::core::result::Result::Err(_) => $body,
-        }
-    }};
-
-    // No other operation is selected: nothing comes here.
-    (@make $operation:ident) => {
-        loop {
-            ::std::thread::park();
+    (@add $select:ident $made:tt []) => {
+        $crate::__select!(@wait $select (::core::option::Option::None) $made
+            ::core::unreachable!("it waits without end"))
+    };
+    (@add $select:ident $made:tt [() $body:expr]) => {
+        $crate::__select!(@add $select $made [(::core::time::Duration::ZERO) $body])
+    };
+    (@add $select:ident $made:tt [($time:expr) $body:expr]) => {
+        $crate::__select!(@wait $select (::core::option::Option::Some($time)) $made $body)
+    };
+    (@wait $select:ident $time:tt [$($made:tt)*] $body:expr) => {
+        match $select.select_within($time) {
+            ::core::option::Option::Some(operation) => $crate::__select!(@make operation $($made)*),
+            ::core::option::Option::None => $body,
         }
     };
+
+    (@make $operation:ident) => {
+        ::core::unreachable!("no other operation is selected")
+    };
     (@make $operation:ident
-        [$index:ident ($told:pat) ($call:ident($($with:tt)*)) $body:expr] $($others:tt)*) => {
+        [$index:ident ($result:pat) ($call:ident($($with:tt)*)) $body:expr] $($others:tt)*) => {
         if $operation.index() == $index {
-            let $told = $operation.$call($($with)*);
+            let $result = $operation.$call($($with)*);
             $body
         } else {
             $crate::__select!(@make $operation $($others)*)

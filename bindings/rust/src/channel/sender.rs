@@ -1,25 +1,57 @@
 //! The senders of a channel.
-use super::body::Parcel;
+use super::body::Unsent;
+use super::core::Core;
+use super::event::Event;
 use super::future::SendFuture;
 use super::side::{Handle, WeakHandle};
 use super::{SendError, SendTimeoutError, TrySendError};
-use crate::queue::Senders;
 use std::borrow::Cow;
+use std::fmt;
+use std::sync::Arc;
 use std::time::{Duration, Instant};
 
-/// A sender of a channel: see [`channel`](crate::channel()).
+/// A sender of a channel, which [`channel`](crate::channel()) or [`groups`](crate::groups()) opens.
 ///
-/// The drop of the last sender closes the channel.
-pub type Sender<T> = Handle<T, Senders>;
-
-/// A sender that doesn't keep the channel open: see [`Handle::downgrade`].
-pub type WeakSender<T> = WeakHandle<T, Senders>;
+/// Its calls take `&self`, so threads may share a sender. A clone is a further sender of the channel. The drop of
+/// the last sender closes the channel.
+///
+/// # Panics
+///
+/// The drop of the last sender panics if the waker of a task that waits for the channel panics. All others are woken
+/// before.
+///
+/// ```
+/// let (sender, receiver) = vahepito::channel(2)?;
+/// let other = sender.clone();
+/// sender.send(1).unwrap();
+/// other.send(2).unwrap();
+/// drop((sender, other));
+/// assert!(receiver.into_iter().eq([1, 2]));
+/// # Ok::<(), vahepito::OpenError>(())
+/// ```
+pub struct Sender<T> {
+    pub(super) handle: Handle<T>,
+}
 
 type Sent<T> = Result<(), SendTimeoutError<T>>;
 
 impl<T> Sender<T> {
-    pub(super) fn pack(&self, item: T) -> Parcel<T> {
-        Parcel::pack(item, self.core().copies)
+    /// The first sender.
+    pub(super) fn new(core: Arc<Core<T>>) -> Sender<T> {
+        let handle = Handle::new(core, 0);
+        Sender { handle }
+    }
+
+    pub(super) fn core(&self) -> &Core<T> {
+        self.handle.core()
+    }
+
+    pub(super) fn line(&self) -> &Event {
+        self.handle.line()
+    }
+
+    pub(super) fn pack(&self, item: T) -> Unsent<T> {
+        Unsent::pack(item, self.core().copies)
     }
 
     /// Sends, if there is room. It doesn't wait for room; but if another thread serves the calls of
@@ -43,11 +75,11 @@ impl<T> Sender<T> {
         if let Some(meeting) = self.core().meeting() {
             return meeting.try_send(item);
         }
-        let parcel = self.pack(item);
-        match self.core().try_send(&parcel) {
-            Ok(true) => parcel.sent(),
-            Ok(false) => Err(TrySendError::Disconnected(parcel.unpack())),
-            Err(_) => Err(TrySendError::Full(parcel.unpack())),
+        let mut item = self.pack(item);
+        match self.core().try_send(&mut item) {
+            Ok(true) => Ok(()),
+            Ok(false) => Err(TrySendError::Disconnected(item.into_inner())),
+            Err(_) => Err(TrySendError::Full(item.into_inner())),
         }
     }
 
@@ -57,19 +89,19 @@ impl<T> Sender<T> {
         if let Some(meeting) = self.core().meeting() {
             return self.meet_until(meeting, item, until);
         }
-        let parcel = self.pack(item);
-        match self.core().try_send(&parcel) {
-            Ok(true) => parcel.sent(),
-            _ => self.wait_for_room(parcel, until),
+        let mut item = self.pack(item);
+        match self.core().try_send(&mut item) {
+            Ok(true) => Ok(()),
+            _ => self.wait_for_room(item, until),
         }
     }
 
     #[inline(never)]
-    fn wait_for_room(&self, parcel: Parcel<T>, until: Option<Instant>) -> Sent<T> {
-        match self.wait(until, || self.core().try_send(&parcel)) {
-            Some(true) => parcel.sent(),
-            Some(false) => Err(SendTimeoutError::Disconnected(parcel.unpack())),
-            None => Err(SendTimeoutError::Timeout(parcel.unpack())),
+    fn wait_for_room(&self, mut item: Unsent<T>, until: Option<Instant>) -> Sent<T> {
+        match self.handle.wait(until, || self.core().try_send(&mut item)) {
+            Some(true) => Ok(()),
+            Some(false) => Err(SendTimeoutError::Disconnected(item.into_inner())),
+            None => Err(SendTimeoutError::Timeout(item.into_inner())),
         }
     }
 
@@ -104,8 +136,8 @@ impl<T> Sender<T> {
     ///
     /// let (sender, _receiver) = vahepito::channel(1)?;
     /// sender.send(1).unwrap();
-    /// let told = sender.send_timeout(2, Duration::from_millis(5));
-    /// assert_eq!(told, Err(SendTimeoutError::Timeout(2)));
+    /// let result = sender.send_timeout(2, Duration::from_millis(5));
+    /// assert_eq!(result, Err(SendTimeoutError::Timeout(2)));
     /// # Ok::<(), vahepito::OpenError>(())
     /// ```
     pub fn send_timeout(&self, item: T, time: Duration) -> Result<(), SendTimeoutError<T>> {
@@ -133,7 +165,8 @@ impl<T> Sender<T> {
     }
 
     /// Sends, as a future of any runtime. If it is dropped before it is done, the item wasn't sent,
-    /// and is dropped with it; with capacity 0, unless a receiver has taken it since the last poll.
+    /// and is dropped with it; with capacity 0, unless a receiver has taken it since the last poll. A panic of the
+    /// item's drop, or of a waker's, is raised again at the end of that drop.
     ///
     /// ```
     /// use vahepito::{Receiver, SendError, Sender};
@@ -146,17 +179,225 @@ impl<T> Sender<T> {
     /// }
     /// ```
     pub fn send_async(&self, item: T) -> SendFuture<'_, T> {
-        SendFuture::new(Cow::Borrowed(self), Some(self.pack(item)))
+        SendFuture::new(Cow::Borrowed(self), self.pack(item))
     }
 
-    /// The same, as a future that has the sender.
+    /// The same as [`send_async`](Sender::send_async), as a future that has the sender. So a task may return
+    /// the future, or keep it beside other values.
+    ///
+    /// ```
+    /// use vahepito::{SendFuture, Sender};
+    ///
+    /// struct Report {
+    ///     sends: SendFuture<'static, String>,
+    /// }
+    ///
+    /// fn report(to: &Sender<String>, line: &str) -> Report {
+    ///     let sends = to.clone().into_send_async(line.to_string());
+    ///     Report { sends }
+    /// }
+    /// ```
     pub fn into_send_async(self, item: T) -> SendFuture<'static, T> {
-        let parcel = self.pack(item);
-        SendFuture::new(Cow::Owned(self), Some(parcel))
+        let item = self.pack(item);
+        SendFuture::new(Cow::Owned(self), item)
+    }
+
+    /// Closes the channel. No item is accepted any more. The receivers take what was sent before, and then see
+    /// the end. Returns whether the channel was open.
+    ///
+    /// # Panics
+    ///
+    /// The channel is closed, and the waker of a task that waited panicked. All others are woken before.
+    ///
+    /// ```
+    /// let (sender, receiver) = vahepito::channel(4)?;
+    /// sender.send(1).unwrap();
+    /// assert!(sender.close());
+    /// assert!(!sender.close());
+    /// assert!(sender.send(2).is_err());
+    /// assert!(receiver.iter().eq([1]));
+    /// # Ok::<(), vahepito::OpenError>(())
+    /// ```
+    pub fn close(&self) -> bool {
+        self.core().close()
+    }
+
+    /// Whether the channel is closed: by a call, by the drop of all senders, or by that of all receivers. It may
+    /// still hold items.
+    ///
+    /// ```
+    /// let (sender, receiver) = vahepito::channel::<u8>(4)?;
+    /// assert!(!sender.is_closed());
+    /// drop(receiver);
+    /// assert!(sender.is_closed());
+    /// # Ok::<(), vahepito::OpenError>(())
+    /// ```
+    #[must_use]
+    pub fn is_closed(&self) -> bool {
+        self.core().is_closed()
+    }
+
+    /// How many items there are that some group of receivers hasn't taken. While other threads send and take,
+    /// the number is close to the true one.
+    ///
+    /// ```
+    /// let (sender, services) = vahepito::groups(4, 2)?;
+    /// sender.send('a').unwrap();
+    /// services[0].recv().unwrap();
+    /// assert_eq!(sender.len(), 1);
+    /// services[1].recv().unwrap();
+    /// assert_eq!(sender.len(), 0);
+    /// # Ok::<(), vahepito::OpenError>(())
+    /// ```
+    #[must_use]
+    pub fn len(&self) -> usize {
+        self.handle.len()
+    }
+
+    /// Whether [`len`](Sender::len) is 0.
+    ///
+    /// ```
+    /// let (sender, _receiver) = vahepito::channel(4)?;
+    /// assert!(sender.is_empty());
+    /// sender.send('a').unwrap();
+    /// assert!(!sender.is_empty());
+    /// # Ok::<(), vahepito::OpenError>(())
+    /// ```
+    #[must_use]
+    pub fn is_empty(&self) -> bool {
+        self.len() == 0
+    }
+
+    /// Whether [`len`](Sender::len) is the capacity. A channel of capacity 0 is always full.
+    ///
+    /// ```
+    /// let (sender, _receiver) = vahepito::channel(1)?;
+    /// assert!(!sender.is_full());
+    /// sender.send('a').unwrap();
+    /// assert!(sender.is_full());
+    /// # Ok::<(), vahepito::OpenError>(())
+    /// ```
+    #[must_use]
+    pub fn is_full(&self) -> bool {
+        self.handle.is_full()
+    }
+
+    /// How many items the channel may hold. The answer is never None, since every channel has a bound.
+    ///
+    /// ```
+    /// let (sender, _receiver) = vahepito::channel::<u8>(8)?;
+    /// assert_eq!(sender.capacity(), Some(8));
+    /// # Ok::<(), vahepito::OpenError>(())
+    /// ```
+    #[must_use]
+    pub fn capacity(&self) -> Option<usize> {
+        Some(self.core().capacity())
+    }
+
+    /// Whether both senders are of one channel.
+    ///
+    /// ```
+    /// let (sender, _receiver) = vahepito::channel::<u8>(1)?;
+    /// let (other, _) = vahepito::channel::<u8>(1)?;
+    /// assert!(sender.same_channel(&sender.clone()));
+    /// assert!(!sender.same_channel(&other));
+    /// # Ok::<(), vahepito::OpenError>(())
+    /// ```
+    #[must_use]
+    pub fn same_channel(&self, other: &Sender<T>) -> bool {
+        self.handle.is_same_channel(&other.handle)
     }
 
     /// How many senders the channel has.
+    ///
+    /// ```
+    /// let (sender, _receiver) = vahepito::channel::<u8>(1)?;
+    /// let _other = sender.clone();
+    /// assert_eq!(sender.sender_count(), 2);
+    /// # Ok::<(), vahepito::OpenError>(())
+    /// ```
+    #[must_use]
     pub fn sender_count(&self) -> usize {
-        self.count()
+        self.core().count(0)
+    }
+
+    /// How many receivers the channel has, of all groups together.
+    ///
+    /// ```
+    /// let (sender, services) = vahepito::groups::<u8>(1, 3)?;
+    /// let _other = services[0].clone();
+    /// assert_eq!(sender.receiver_count(), 4);
+    /// # Ok::<(), vahepito::OpenError>(())
+    /// ```
+    #[must_use]
+    pub fn receiver_count(&self) -> usize {
+        let groups = 1..=self.core().groups.len();
+        groups.map(|group| self.core().count(group)).sum()
+    }
+
+    /// A sender that doesn't keep the channel open.
+    ///
+    /// ```
+    /// let (sender, receiver) = vahepito::channel(1)?;
+    /// let weak = sender.downgrade();
+    /// weak.upgrade().expect("there is a sender").send('a').unwrap();
+    /// drop(sender);
+    /// assert!(weak.upgrade().is_none() && receiver.is_closed());
+    /// # Ok::<(), vahepito::OpenError>(())
+    /// ```
+    #[must_use]
+    pub fn downgrade(&self) -> WeakSender<T> {
+        let handle = self.handle.downgrade();
+        WeakSender { handle }
+    }
+}
+
+/// A further sender of the channel.
+impl<T> Clone for Sender<T> {
+    fn clone(&self) -> Sender<T> {
+        let handle = self.handle.clone();
+        Sender { handle }
+    }
+}
+
+impl<T> fmt::Debug for Sender<T> {
+    fn fmt(&self, f: &mut fmt::Formatter<'_>) -> fmt::Result {
+        f.pad("Sender { .. }")
+    }
+}
+
+/// A sender that doesn't keep the channel open: see [`Sender::downgrade`].
+pub struct WeakSender<T> {
+    handle: WeakHandle<T>,
+}
+
+impl<T> WeakSender<T> {
+    /// A sender, if the channel has one still.
+    ///
+    /// ```
+    /// let (sender, _receiver) = vahepito::channel::<u8>(1)?;
+    /// let weak = sender.downgrade();
+    /// assert!(weak.upgrade().is_some());
+    /// drop(sender);
+    /// assert!(weak.upgrade().is_none());
+    /// # Ok::<(), vahepito::OpenError>(())
+    /// ```
+    #[must_use]
+    pub fn upgrade(&self) -> Option<Sender<T>> {
+        let handle = self.handle.upgrade()?;
+        Some(Sender { handle })
+    }
+}
+
+impl<T> Clone for WeakSender<T> {
+    fn clone(&self) -> WeakSender<T> {
+        let handle = self.handle.clone();
+        WeakSender { handle }
+    }
+}
+
+impl<T> fmt::Debug for WeakSender<T> {
+    fn fmt(&self, f: &mut fmt::Formatter<'_>) -> fmt::Result {
+        f.pad("WeakSender { .. }")
     }
 }

@@ -1,8 +1,7 @@
-//! The handles of a channel, of either side.
+//! What the handles of both sides have in common: their count, the end of a side, and the wait.
 use super::core::{Core, Side};
 use super::event::{Event, Try, wait};
 use crate::backoff::let_ahead;
-use std::marker::PhantomData;
 use std::panic::{RefUnwindSafe, UnwindSafe};
 use std::sync::{Arc, Weak};
 use std::time::Instant;
@@ -12,159 +11,98 @@ use std::time::Instant;
 const ROOM_AHEAD: usize = 16;
 
 /// The state that all handles of a side share. It goes with the last of them.
-struct Shared<T, S> {
+pub struct Shared<T> {
     core: Arc<Core<T>>,
     /// 0 is that of the senders, and each other one a group of receivers.
     side: usize,
-    of: PhantomData<S>,
 }
 
-impl<T, S> Drop for Shared<T, S> {
+impl<T> Drop for Shared<T> {
     fn drop(&mut self) {
-        self.core.lose(self.side);
+        self.core.last_handle_dropped(self.side);
     }
 }
 
-/// A [`Sender`](crate::Sender) or a [`Receiver`](crate::Receiver) of a channel, as the type `S` says.
-///
-/// Its calls take it by `&self`, and threads may share it. There may be any number of clones.
-pub struct Handle<T, S> {
-    shared: Arc<Shared<T, S>>,
+/// What is in a [`Sender`](crate::Sender) or a [`Receiver`](crate::Receiver).
+pub struct Handle<T> {
+    shared: Arc<Shared<T>>,
 }
 
-/// A handle that doesn't keep its side of the channel: see [`Handle::downgrade`].
-pub struct WeakHandle<T, S> {
-    shared: Weak<Shared<T, S>>,
+/// What is in a weak one.
+pub struct WeakHandle<T> {
     core: Arc<Core<T>>,
     side: usize,
 }
 
-impl<T, S> UnwindSafe for Handle<T, S> {}
-impl<T, S> RefUnwindSafe for Handle<T, S> {}
+// Each call leaves the channel as it is to be, also one that unwinds.
+impl<T> UnwindSafe for Handle<T> {}
+impl<T> RefUnwindSafe for Handle<T> {}
+impl<T> UnwindSafe for WeakHandle<T> {}
+impl<T> RefUnwindSafe for WeakHandle<T> {}
 
-impl<T, S> Handle<T, S> {
+impl<T> Handle<T> {
     /// The first one of this side.
-    pub(super) fn new(core: Arc<Core<T>>, side: usize) -> Handle<T, S> {
-        let of = PhantomData;
-        let shared = Arc::new(Shared { core, side, of });
+    pub fn new(core: Arc<Core<T>>, side: usize) -> Handle<T> {
+        let shared = Arc::new(Shared { core, side });
+        let first = shared.core.handles[side].set(Arc::downgrade(&shared));
+        assert!(first.is_ok(), "the side has a first handle already");
         Handle { shared }
     }
 
-    pub(super) fn core(&self) -> &Core<T> {
+    pub fn core(&self) -> &Core<T> {
         &self.shared.core
     }
 
-    pub(super) fn side(&self) -> usize {
+    pub fn side(&self) -> usize {
         self.shared.side
     }
 
     /// The line in which its calls wait.
-    pub(super) fn line(&self) -> &Event {
+    pub fn line(&self) -> &Event {
         &self.core().side(self.side()).line
     }
 
     /// Tries until it is done, or until this moment: then None. Between the tries it waits for rings.
     ///
     /// A thread that passed several items since its last wait is faster than the other side. If it tries again at
-    /// once, both meet at each item, and wait for the same line of the cache. So it lets the other side go ahead.
-    pub(super) fn wait<R>(
-        &self,
-        until: Option<Instant>,
-        attempt: impl FnMut() -> Try<R>,
-    ) -> Option<R> {
+    /// once, both meet at each item, and wait for the same cache line. So it lets the other side go ahead.
+    pub fn wait<R>(&self, until: Option<Instant>, attempt: impl FnMut() -> Try<R>) -> Option<R> {
         let Side { line, seats, .. } = self.core().side(self.side());
-        if self.core().capacity() >= ROOM_AHEAD && seats.has_passed_several() {
+        if self.core().capacity() >= ROOM_AHEAD && seats.check_ahead() {
             let_ahead();
         }
         wait(line, until, attempt)
     }
 
-    /// How many handles its side has.
-    pub(super) fn count(&self) -> usize {
-        Arc::strong_count(&self.shared)
-    }
-
-    /// Closes the channel: nothing is sent after it, and the receivers see the end once they have what
-    /// was sent before. Tells whether it was open.
-    ///
-    /// ```
-    /// let (sender, receiver) = vahepito::channel(4)?;
-    /// sender.send(1).unwrap();
-    /// assert!(receiver.close());
-    /// assert!(sender.is_closed() && !sender.close());
-    /// assert!(sender.send(2).is_err());
-    /// assert!(receiver.iter().eq([1]));
-    /// # Ok::<(), vahepito::OpenError>(())
-    /// ```
-    pub fn close(&self) -> bool {
-        self.core().close()
-    }
-
-    /// Whether the channel is closed: by a call, or since all senders or all receivers are gone. It may
-    /// still hold items.
-    pub fn is_closed(&self) -> bool {
-        self.core().is_closed()
-    }
-
-    /// How many items there are: for a sender those that some group hasn't taken, and for a receiver those
-    /// that its group hasn't taken. While others send and take it is near the number.
-    ///
-    /// ```
-    /// let (sender, receivers) = vahepito::groups(4, 2)?;
-    /// assert!(sender.is_empty());
-    /// sender.send('a').unwrap();
-    /// receivers[0].recv().unwrap();
-    /// assert_eq!((receivers[0].len(), receivers[1].len(), sender.len()), (0, 1, 1));
-    /// # Ok::<(), vahepito::OpenError>(())
-    /// ```
     pub fn len(&self) -> usize {
         self.core().len(self.side())
     }
 
-    /// Whether there is no such item.
-    pub fn is_empty(&self) -> bool {
-        self.len() == 0
-    }
-
-    /// Whether there are as many such items as the channel may hold.
     pub fn is_full(&self) -> bool {
         self.len() == self.core().capacity()
     }
 
-    /// How many items the channel may hold. Every channel has a bound.
-    pub fn capacity(&self) -> Option<usize> {
-        Some(self.core().capacity())
-    }
-
-    /// Whether both are of one channel.
-    pub fn same_channel(&self, other: &Handle<T, S>) -> bool {
+    pub fn is_same_channel(&self, other: &Handle<T>) -> bool {
         std::ptr::eq(self.core(), other.core())
     }
 
-    /// A handle that doesn't keep the channel open, nor a group of receivers from being lost.
-    ///
-    /// ```
-    /// let (sender, receiver) = vahepito::channel(1)?;
-    /// let (weak, other) = (sender.downgrade(), receiver.downgrade());
-    /// weak.upgrade().expect("the channel is open").send('a').unwrap();
-    /// assert_eq!(other.upgrade().expect("there is one").recv(), Ok('a'));
-    /// drop(sender);
-    /// assert!(weak.upgrade().is_none() && receiver.is_closed());
-    /// # Ok::<(), vahepito::OpenError>(())
-    /// ```
-    pub fn downgrade(&self) -> WeakHandle<T, S> {
-        WeakHandle {
-            shared: Arc::downgrade(&self.shared),
-            core: self.shared.core.clone(),
-            side: self.side(),
-        }
+    pub fn downgrade(&self) -> WeakHandle<T> {
+        let (core, side) = (self.shared.core.clone(), self.side());
+        WeakHandle { core, side }
     }
 }
 
-impl<T, S> WeakHandle<T, S> {
+impl<T> Clone for Handle<T> {
+    fn clone(&self) -> Handle<T> {
+        let shared = self.shared.clone();
+        Handle { shared }
+    }
+}
+
+impl<T> WeakHandle<T> {
     /// A handle, if its side has one still.
-    pub fn upgrade(&self) -> Option<Handle<T, S>> {
-        let shared = self.shared.upgrade();
+    pub fn upgrade(&self) -> Option<Handle<T>> {
+        let shared = self.core.handles[self.side].get().and_then(Weak::upgrade);
         if shared.is_none() {
             // The last one may be on its way.
             self.core.wait_until_gone(self.side);
@@ -173,20 +111,16 @@ impl<T, S> WeakHandle<T, S> {
     }
 }
 
-/// A further handle of its side.
-impl<T, S> Clone for Handle<T, S> {
-    fn clone(&self) -> Handle<T, S> {
-        let shared = self.shared.clone();
-        Handle { shared }
+impl<T> Clone for WeakHandle<T> {
+    fn clone(&self) -> WeakHandle<T> {
+        let (core, side) = (self.core.clone(), self.side);
+        WeakHandle { core, side }
     }
 }
 
-impl<T, S> Clone for WeakHandle<T, S> {
-    fn clone(&self) -> WeakHandle<T, S> {
-        WeakHandle {
-            shared: self.shared.clone(),
-            core: self.core.clone(),
-            side: self.side,
-        }
+impl<T> Core<T> {
+    /// How many handles this side has.
+    pub fn count(&self, side: usize) -> usize {
+        self.handles[side].get().map_or(0, Weak::strong_count)
     }
 }

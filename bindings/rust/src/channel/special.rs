@@ -1,4 +1,4 @@
-//! Channels without a queue: those of capacity 0, and receivers of moments.
+//! Channels without a queue: those of capacity 0, and timers.
 use super::body::Parcel;
 use super::core::Core;
 use super::event::Try;
@@ -10,7 +10,7 @@ use std::sync::atomic::{AtomicBool, Ordering};
 pub enum Special<T> {
     /// It has capacity 0.
     Meeting(Meeting<T>),
-    /// It is a receiver of moments.
+    /// It is `after`, `at`, `tick` or `never`.
     Timer(Timer<T>),
 }
 
@@ -19,8 +19,8 @@ impl<T> Special<T> {
     #[cold]
     pub fn try_recv(&self, closed: &AtomicBool) -> Try<Option<Parcel<T>>> {
         let item = match self {
-            _ if closed.load(Ordering::SeqCst) => None,
             Special::Meeting(meeting) => meeting.try_take()?,
+            Special::Timer(_) if closed.load(Ordering::SeqCst) => None,
             Special::Timer(timer) => Some(timer.try_take()?),
         };
         Ok(item.map(|item| Parcel::pack(item, None)))
@@ -36,6 +36,11 @@ impl<T> Special<T> {
 }
 
 impl<T> Core<T> {
+    /// Whether it is `after`, `at` or `tick`.
+    pub fn is_timer(&self) -> bool {
+        matches!(&self.special, Some(Special::Timer(timer)) if timer.has_item())
+    }
+
     /// Where its senders and receivers meet, if it has capacity 0.
     #[inline]
     pub fn meeting(&self) -> Option<&Meeting<T>> {

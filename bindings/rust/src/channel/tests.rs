@@ -33,8 +33,8 @@ fn one_thread_meets_no_end() {
             let other = receiver.clone();
             let mut taken = 0..;
             for number in 0..20.max(rounds(200)) {
-                while let Err(told) = sender.try_send(number) {
-                    assert!(told.is_full());
+                while let Err(result) = sender.try_send(number) {
+                    assert!(result.is_full());
                     assert_eq!(sender.len(), capacity as usize, "it is full and has room");
                     let receiver = [&receiver, &other][number as usize % 2];
                     assert_eq!(receiver.recv().ok(), taken.next());
@@ -67,7 +67,7 @@ fn several_items_are_five() {
             assert_eq!(receiver.recv(), Ok(item));
         }
         for side in [&sender.core().senders, receiver.core().side(1)] {
-            assert_eq!(side.seats.has_passed_several(), several, "{items}");
+            assert_eq!(side.seats.check_ahead(), several, "{items}");
         }
     }
 }

@@ -1,7 +1,6 @@
-//! Receivers of moments, and of nothing. None has a thread: who waits for it parks until the moment.
+//! Timers, and a receiver that has no item. None has a thread: a call that waits parks until the moment.
 use super::core::Core;
 use super::event::{AT_A_RING, Try, lock};
-use super::side::Handle;
 use super::special::Special;
 use super::{Receiver, config};
 use std::sync::{Arc, Mutex};
@@ -27,9 +26,9 @@ impl<T> Timer<T> {
         if now < at {
             return Err(Some(at));
         }
-        let next = |every: Duration| match now - at < every {
-            true => at.checked_add(every),
-            false => now.checked_add(every),
+        let next = |every: Duration| {
+            let from = if now - at < every { at } else { now };
+            from.checked_add(every)
         };
         *due = self.every.and_then(next);
         Ok(item(at))
@@ -42,6 +41,10 @@ impl<T> Timer<T> {
             Some(at) if Instant::now() < at => Err(Some(at)),
             Some(_) => Ok(()),
         }
+    }
+
+    pub fn has_item(&self) -> bool {
+        self.item.is_some()
     }
 
     #[cold]
@@ -59,12 +62,12 @@ fn timer<T>(
     let due = Mutex::new(due);
     let timer = Timer { due, every, item };
     let core = Core::special(config(capacity), Special::Timer(timer));
-    Handle::new(Arc::new(core), 1)
+    Receiver::new(Arc::new(core), 1)
 }
 
 /// A receiver with one item, which is there at this moment, and is the moment. Then it is empty for ever.
 ///
-/// As a future it is polled again and again until then: use the runtime's timers there.
+/// It has no future: use the runtime's timers there.
 ///
 /// ```
 /// use std::time::{Duration, Instant};
@@ -75,6 +78,7 @@ fn timer<T>(
 /// assert_eq!(receiver.recv(), Ok(soon));
 /// assert!(Instant::now() >= soon);
 /// ```
+#[must_use]
 pub fn at(moment: Instant) -> Receiver<Instant> {
     timer(Some(moment), None, Some(|moment| moment))
 }
@@ -87,13 +91,14 @@ pub fn at(moment: Instant) -> Receiver<Instant> {
 ///
 /// let (_sender, receiver) = channel::<u32>(1)?;
 /// let over = after(Duration::from_millis(5));
-/// let told = select! {
+/// let result = select! {
 ///     recv(receiver) -> number => number.ok(),
 ///     recv(over) -> _ => None,
 /// };
-/// assert_eq!(told, None);
+/// assert_eq!(result, None);
 /// # Ok::<(), vahepito::OpenError>(())
 /// ```
+#[must_use]
 pub fn after(time: Duration) -> Receiver<Instant> {
     // A moment beyond the clock's range never comes.
     timer(
@@ -106,7 +111,7 @@ pub fn after(time: Duration) -> Receiver<Instant> {
 /// A receiver with an item, its moment, once in each such period, the first one a period from now. Those that
 /// aren't taken in time are left out: there is one at most.
 ///
-/// As a future it is polled again and again: use the runtime's timers there.
+/// It has no future: use the runtime's timers there.
 ///
 /// ```
 /// use std::time::{Duration, Instant};
@@ -116,6 +121,7 @@ pub fn after(time: Duration) -> Receiver<Instant> {
 /// assert!(ticks.recv().unwrap() >= start + period);
 /// assert!(ticks.recv().unwrap() >= start + 2 * period);
 /// ```
+#[must_use]
 pub fn tick(period: Duration) -> Receiver<Instant> {
     let first = Instant::now().checked_add(period);
     timer(first, Some(period), Some(|moment| moment))
@@ -138,6 +144,7 @@ pub fn tick(period: Duration) -> Receiver<Instant> {
 /// }
 /// # Ok::<(), vahepito::OpenError>(())
 /// ```
+#[must_use]
 pub fn never<T>() -> Receiver<T> {
     timer(None, None, None)
 }

@@ -3,6 +3,12 @@ use std::error::Error;
 use std::fmt::{Display, Formatter, Result};
 
 /// Why a channel wasn't opened.
+///
+/// ```
+/// use vahepito::{OpenError, channel};
+///
+/// assert_eq!(channel::<u8>(5000).err(), Some(OpenError::Capacity));
+/// ```
 #[derive(Clone, Copy, Debug, PartialEq, Eq, Hash)]
 #[non_exhaustive]
 pub enum OpenError {

@@ -25,12 +25,6 @@ use std::mem::MaybeUninit;
 /// ```
 pub const IS_PROVED: bool = cfg!(not(feature = "unproved"));
 
-/// The side of the senders.
-pub enum Senders {}
-
-/// The side of the receivers of a group.
-pub enum Receivers {}
-
 /// One word of a body. It may have bytes that nobody wrote.
 type Word = MaybeUninit<u64>;
 

@@ -1,0 +1,335 @@
+//! Channels of capacity 0: pairs that are given up, calls whose time is over, and tasks.
+#[path = "../src/channel/rounds.rs"]
+mod rounds;
+
+use rounds::rounds;
+use std::panic::{AssertUnwindSafe, catch_unwind, resume_unwind};
+use std::pin::Pin;
+use std::sync::Arc;
+use std::sync::atomic::{AtomicBool, AtomicUsize, Ordering};
+use std::sync::mpsc;
+use std::task::{Context, Poll, Wake, Waker};
+use std::thread;
+use std::time::{Duration, Instant};
+use vahepito::{
+    Receiver, RecvError, RecvTimeoutError, Select, SendError, Sender, TryRecvError, TrySendError,
+    channel, select,
+};
+
+const SOON: Duration = Duration::from_millis(30);
+const LONG: Duration = Duration::from_secs(50);
+
+fn open<T>(capacity: usize) -> (Sender<T>, Receiver<T>) {
+    channel(capacity).unwrap()
+}
+
+/// Does this on a thread of its own that has a minute.
+fn ends<T: Send + 'static>(what: impl FnOnce() -> T + Send + 'static) -> T {
+    let (tell, told) = mpsc::channel();
+    let thread = thread::spawn(move || tell.send(what()));
+    let given = told.recv_timeout(Duration::from_secs(60));
+    let given = given.expect("this doesn't come back, or it panics");
+    thread.join().unwrap().unwrap();
+    given
+}
+
+/// A thread that selects a send, and has its item once this gives it; or panics then. It returns whether it sent.
+fn selects_a_send(sender: &Sender<u32>) -> (thread::JoinHandle<bool>, mpsc::Sender<Option<u32>>) {
+    let (sender, (gives, given)) = (sender.clone(), mpsc::channel::<Option<u32>>());
+    let item = move || {
+        given
+            .recv()
+            .unwrap()
+            .unwrap_or_else(|| resume_unwind(Box::new("none")))
+    };
+    let selects = move || select! { send(sender, item()) -> sent => sent.is_ok() };
+    let thread = thread::spawn(|| catch_unwind(AssertUnwindSafe(selects)).unwrap_or(false));
+    thread::sleep(SOON);
+    (thread, gives)
+}
+
+#[derive(Default)]
+struct Woken(AtomicUsize);
+
+impl Wake for Woken {
+    fn wake(self: Arc<Self>) {
+        self.0.fetch_add(1, Ordering::SeqCst);
+    }
+}
+
+impl Woken {
+    fn times(&self) -> usize {
+        self.0.load(Ordering::SeqCst)
+    }
+}
+
+fn poll<F: Future + Unpin>(future: &mut F, woken: &Arc<Woken>) -> Poll<F::Output> {
+    let waker = Waker::from(woken.clone());
+    Pin::new(future).poll(&mut Context::from_waker(&waker))
+}
+
+/// A select of two takes meets a send, whose item panics: it goes on with the other take.
+#[test]
+fn a_select_goes_on_with_its_other_arms() {
+    ends(|| {
+        let ((sender, receiver), (other, items)) = (open(0), open(4));
+        let (selects, gives) = selects_a_send(&sender);
+        let sends = thread::spawn(move || {
+            thread::sleep(SOON);
+            gives.send(None).unwrap();
+            (0..4).for_each(|number| other.send(number).unwrap());
+        });
+        let told = select! {
+            recv(receiver) -> _ => None,
+            recv(items) -> number => number.ok(),
+            default(LONG) => None,
+        };
+        assert_eq!(told, Some(0));
+        sends.join().unwrap();
+        assert!(!selects.join().unwrap());
+    });
+}
+
+/// The same, without another arm that is ready: until its time is over, though the pair is given up.
+#[test]
+fn a_select_goes_on_with_its_time() {
+    ends(|| {
+        let ((sender, receiver), (_other, items)) = (open(0), open::<u32>(4));
+        let (selects, gives) = selects_a_send(&sender);
+        let gives_up = thread::spawn(move || {
+            thread::sleep(SOON);
+            gives.send(None).unwrap();
+        });
+        let start = Instant::now();
+        let told = select! {
+            recv(receiver) -> _ => "an item",
+            recv(items) -> _ => "another item",
+            default(4 * SOON) => "the default",
+        };
+        assert_eq!(told, "the default");
+        assert!(start.elapsed() >= 4 * SOON);
+        gives_up.join().unwrap();
+        drop(receiver);
+        assert!(!selects.join().unwrap());
+    });
+}
+
+/// A call whose time is over returns, though its partner has no item yet; and the partner meets another one.
+#[test]
+fn a_time_is_over_though_there_is_a_pair() {
+    ends(|| {
+        let (sender, receiver) = open(0);
+        for call in 0..4 {
+            let (selects, gives) = selects_a_send(&sender);
+            match call {
+                0 => assert_eq!(receiver.recv_timeout(SOON), Err(RecvTimeoutError::Timeout)),
+                1 => assert_eq!(receiver.try_recv(), Err(TryRecvError::Empty)),
+                2 => select! {
+                    recv(receiver) -> _ => unreachable!("it has no item"),
+                    default(SOON) => {}
+                },
+                _ => {
+                    select! { recv(receiver) -> _ => unreachable!("it has no item"), default => {} }
+                }
+            }
+            gives.send(Some(call)).unwrap();
+            assert_eq!(receiver.recv(), Ok(call));
+            assert!(selects.join().unwrap());
+        }
+    });
+}
+
+/// A selected send whose take has given up waits no longer than its select would have.
+#[test]
+fn a_selected_send_has_its_time() {
+    ends(|| {
+        let (sender, receiver) = open(0);
+        let is_selected = Arc::new(AtomicBool::new(false));
+        let takes = thread::spawn({
+            let receiver = receiver.clone();
+            let is_selected = is_selected.clone();
+            move || {
+                while !is_selected.load(Ordering::SeqCst) {
+                    assert_eq!(receiver.recv_timeout(SOON), Err(RecvTimeoutError::Timeout));
+                }
+            }
+        });
+        let mut select = Select::new();
+        select.send(&sender);
+        let operation = loop {
+            match select.try_select() {
+                Ok(operation) => break operation,
+                Err(_) => thread::yield_now(),
+            }
+        };
+        is_selected.store(true, Ordering::SeqCst);
+        takes.join().unwrap();
+        assert_eq!(operation.send(&sender, 1), Err(SendError(1)));
+        assert!(!sender.is_closed());
+        let mut take = receiver.recv_async();
+        let woken = Arc::new(Woken::default());
+        assert!(poll(&mut take, &woken).is_pending());
+        let operation = select.try_select().unwrap();
+        drop(take);
+        let mut take = receiver.recv_async();
+        assert!(poll(&mut take, &woken).is_pending());
+        assert_eq!(operation.send(&sender, 2), Ok(()));
+        assert_eq!(poll(&mut take, &woken), Poll::Ready(Ok(2)));
+    });
+}
+
+/// No poll waits for a partner that has no item yet.
+#[test]
+fn a_poll_waits_for_nothing() {
+    ends(|| {
+        let (sender, receiver) = open(0);
+        let woken = Arc::new(Woken::default());
+        for item in [Some(7), None] {
+            let (selects, gives) = selects_a_send(&sender);
+            let mut take = receiver.recv_async();
+            assert!(poll(&mut take, &woken).is_pending());
+            assert!(poll(&mut take, &woken).is_pending());
+            let before = woken.times();
+            gives.send(item).unwrap();
+            assert_eq!(selects.join().unwrap(), item.is_some());
+            assert_eq!(woken.times(), before + 1);
+            match item {
+                Some(item) => assert_eq!(poll(&mut take, &woken), Poll::Ready(Ok(item))),
+                None => assert!(poll(&mut take, &woken).is_pending()),
+            }
+        }
+    });
+}
+
+/// Calls that don't wait meet tasks that do.
+#[test]
+fn tries_meet_tasks() {
+    let (sender, receiver) = open(0);
+    let woken = Arc::new(Woken::default());
+    let mut take = receiver.recv_async();
+    assert_eq!(sender.try_send(1), Err(TrySendError::Full(1)));
+    assert!(poll(&mut take, &woken).is_pending());
+    assert_eq!(sender.try_send(1), Ok(()));
+    assert_eq!(sender.try_send(2), Err(TrySendError::Full(2)));
+    assert_eq!(woken.times(), 1);
+    assert_eq!(poll(&mut take, &woken), Poll::Ready(Ok(1)));
+    assert!(take.is_terminated());
+    let mut send = sender.send_async(3);
+    assert!(poll(&mut send, &woken).is_pending());
+    assert_eq!(receiver.try_recv(), Ok(3));
+    assert_eq!(receiver.try_recv(), Err(TryRecvError::Empty));
+    assert_eq!(woken.times(), 2);
+    assert_eq!(poll(&mut send, &woken), Poll::Ready(Ok(())));
+}
+
+/// A task that was given an item is dropped: the item goes to the next one, or to the next take, also after a close.
+#[test]
+fn an_item_of_a_dropped_task_is_not_lost() {
+    let (sender, receiver) = open(0);
+    let woken = Arc::new(Woken::default());
+    let (mut one, mut two) = (receiver.recv_async(), receiver.recv_async());
+    assert!(poll(&mut one, &woken).is_pending() && poll(&mut two, &woken).is_pending());
+    assert_eq!(sender.try_send(1), Ok(()));
+    drop(one);
+    assert_eq!(woken.times(), 2);
+    assert_eq!(poll(&mut two, &woken), Poll::Ready(Ok(1)));
+    let mut three = receiver.recv_async();
+    assert!(poll(&mut three, &woken).is_pending());
+    assert_eq!(sender.send(2), Ok(()));
+    drop(three);
+    let mut select = Select::new();
+    select.recv(&receiver);
+    assert_eq!(select.try_ready(), Ok(0));
+    drop(sender);
+    assert_eq!(receiver.try_recv(), Ok(2));
+    assert_eq!(receiver.recv(), Err(RecvError));
+    // The last receiver drops it.
+    let (sender, receiver) = open(0);
+    let item = Arc::new(());
+    let mut four = receiver.recv_async();
+    assert!(poll(&mut four, &woken).is_pending());
+    assert_eq!(sender.try_send(item.clone()), Ok(()));
+    drop(four);
+    assert_eq!(Arc::strong_count(&item), 2);
+    drop(receiver);
+    assert_eq!(Arc::strong_count(&item), 1);
+}
+
+/// A close reaches a task by the waker of its last poll.
+#[test]
+fn a_close_wakes_tasks() {
+    let (sender, receiver) = open::<u32>(0);
+    let (first, last) = (Arc::new(Woken::default()), Arc::new(Woken::default()));
+    let mut take = receiver.recv_async();
+    assert!(poll(&mut take, &first).is_pending() && poll(&mut take, &last).is_pending());
+    sender.close();
+    assert_eq!((first.times(), last.times()), (0, 1));
+    assert_eq!(poll(&mut take, &last), Poll::Ready(Err(RecvError)));
+    assert_eq!(poll(&mut take, &last), Poll::Pending, "it is done");
+}
+
+/// Tasks that are dropped at random moments, threads, and selects: each item that is sent is taken once.
+#[test]
+fn every_item_is_taken_once() {
+    let items = rounds(3000);
+    ends(move || {
+        let (sender, receiver) = open(0);
+        let mut taken = thread::scope(|scope| {
+            for first in 0..3 {
+                let sender = sender.clone();
+                scope.spawn(move || {
+                    let mut number = first;
+                    while number < items {
+                        let sent = match number % 5 {
+                            0 => sender.try_send(number).is_ok(),
+                            1 => select! {
+                                send(sender, number) -> sent => sent.is_ok(),
+                                default(Duration::from_micros(50)) => false,
+                            },
+                            2 => sender
+                                .send_timeout(number, Duration::from_micros(50))
+                                .is_ok(),
+                            _ => sender.send(number).is_ok(),
+                        };
+                        number += if sent { 3 } else { 0 };
+                    }
+                });
+            }
+            drop(sender);
+            let taking: Vec<_> = (0..3)
+                .map(|thread| {
+                    let (receiver, woken) = (receiver.clone(), Arc::new(Woken::default()));
+                    scope.spawn(move || {
+                        let mut all = vec![];
+                        while !receiver.is_closed()
+                            || receiver.recv().is_ok_and(|it| {
+                                all.push(it);
+                                true
+                            })
+                        {
+                            let mut take = receiver.recv_async();
+                            let taken = match thread {
+                                0 => receiver.recv_timeout(Duration::from_micros(50)).ok(),
+                                1 => receiver.try_recv().ok(),
+                                _ => (0..3).find_map(|_| match poll(&mut take, &woken) {
+                                    Poll::Ready(item) => item.ok(),
+                                    Poll::Pending => {
+                                        thread::yield_now();
+                                        None
+                                    }
+                                }),
+                            };
+                            all.extend(taken);
+                        }
+                        all
+                    })
+                })
+                .collect();
+            drop(receiver);
+            let taken = taking.into_iter().flat_map(|it| it.join().unwrap());
+            taken.collect::<Vec<_>>()
+        });
+        taken.sort_unstable();
+        assert!(taken.into_iter().eq(0..items));
+    });
+}
