@@ -1,7 +1,8 @@
 //! Why a channel's call wasn't done. An item that wasn't sent is handed back.
 use std::error::Error;
 
-/// Why [`send`](crate::Sender::send) didn't send: the channel is closed. It has the item.
+/// Why [`send`](crate::Sender::send) didn't send: the channel is closed. It has the item. A selected send with
+/// capacity 0 has a further reason: see [`SelectedOperation::send`](crate::SelectedOperation::send).
 #[derive(Clone, Copy, PartialEq, Eq, Hash)]
 pub struct SendError<T>(pub T);
 
