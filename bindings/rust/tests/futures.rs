@@ -62,9 +62,10 @@ fn futures_of_many_threads() {
                 scope.spawn(move || {
                     block_on(async {
                         for item in 0..1000 {
-                            let sent = match item % 2 == number % 2 {
-                                true => sender.send_async(Box::new(item)).await,
-                                false => sender.send(Box::new(item)),
+                            let sent = if item % 2 == number % 2 {
+                                sender.send_async(Box::new(item)).await
+                            } else {
+                                sender.send(Box::new(item))
                             };
                             assert!(sent.is_ok());
                         }

@@ -122,9 +122,10 @@ fn a_select_is_fair() {
     let mut made = [[0; 3]; 2];
     for biased in [false, true] {
         for _ in 0..3000 {
-            let mut select = match biased {
-                true => Select::new_biased(),
-                false => Select::new(),
+            let mut select = if biased {
+                Select::new_biased()
+            } else {
+                Select::new()
             };
             for (sender, receiver) in &channels {
                 let _ = sender.try_send(());

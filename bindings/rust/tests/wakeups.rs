@@ -256,9 +256,10 @@ impl State {
                 }
             }
             At::TryAgain(channel) => {
-                let again = match process.over {
-                    true => At::Done,
-                    false => process.next(0, At::Stand, At::Done),
+                let again = if process.over {
+                    At::Done
+                } else {
+                    process.next(0, At::Stand, At::Done)
                 };
                 process.next(channel + 1, At::TryAgain, again)
             }

@@ -2,7 +2,8 @@
 use std::error::Error;
 use std::fmt;
 
-/// Why [`send`](crate::Sender::send) didn't send: the channel is closed. It has the item.
+/// Why [`send`](crate::Sender::send) didn't send: the channel is closed. It has the item. A selected send with
+/// capacity 0 has a further reason: see [`SelectedOperation::send`](crate::SelectedOperation::send).
 #[derive(Clone, Copy, PartialEq, Eq, Hash)]
 pub struct SendError<T>(pub T);
 

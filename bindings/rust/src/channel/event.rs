@@ -73,7 +73,7 @@
 //! | a waker's drop | a poll that replaces the waker, `Event::stay` and those of `meeting` | the new waker is in its place | is raised at the end of the poll, if that is pending |
 //! | | a poll that is done, `Event::leave`, `poll_posted` | the item is sent or taken, the future is out of the line, a ring that it had is passed on | ends |
 //! | | the drop of a future | as above; an item of capacity 0 went to the next take | is raised after the other drops |
-//! | a waker's wake | a send, a take, a selected operation, `Event::ring` | the item is sent or taken, the waker is out of the line | ends; the next waiter of the line is woken instead |
+//! | a waker's wake | a send, a take, a selected operation, `Event::ring` | the item is sent or taken, the waker is out of the line | ends; the next waiter of the line is woken instead, and an item of capacity 0 stays in its pair |
 //! | | a close, the drop of a last handle | the channel is closed, all wakers are out of their lines | is raised once all are woken, and what is left is dropped |
 //! | | a poll without memory for a further queue | the future is in line | is raised at the end of the poll |
 //! | an item's drop | the drop of a last handle | the item is out of the queue, the channel is closed or goes on without the group | is raised once all are dropped |
@@ -82,6 +82,7 @@
 //! | | `Parcel::unpack`, of the last share | the copy is made | ends |
 //! | an item's clone | `Parcel::unpack`, in a take of a group | the item is taken, and room is rung for | is raised once the share is given up |
 //! | items and wakers that are left | the drop of the channel, if futures or operations were forgotten | both sides are gone | is raised once all of its list are dropped |
+//! | the expression of a selected item | `select!`, while the operation is held | the room is reserved, or the pair is made | leaves the select; the operation's drop gives back the room or the pair |
 //! | a payload's drop | the end of a panic | all of the above | ends; the second payload is forgotten |
 //!
 //! An item's drop on an error that a call returned, or on what it took, is the caller's.

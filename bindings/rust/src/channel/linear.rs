@@ -308,15 +308,12 @@ impl Own {
 
     /// A call of the other channel.
     fn calls_other(&self, sends: bool, item: u32) -> Outcome {
-        match sends {
-            true => match self.other.0.try_send(item) {
-                Ok(()) => Outcome::Sent(item),
-                Err(_) => Outcome::Full,
-            },
-            false => match self.other.1.try_recv() {
-                Ok(item) => Outcome::Got(0, item),
-                Err(_) => Outcome::Empty(0),
-            },
+        if sends {
+            let sent = self.other.0.try_send(item);
+            sent.map_or(Outcome::Full, |()| Outcome::Sent(item))
+        } else {
+            let taken = self.other.1.try_recv();
+            taken.map_or(Outcome::Empty(0), |item| Outcome::Got(0, item))
         }
     }
 
@@ -363,15 +360,12 @@ impl Own {
             }
             (_, _, Some(sender)) if has_room => {
                 let start = clock.now();
-                let outcome = match gives_back {
-                    true => {
-                        drop(operation);
-                        Outcome::GaveBack
-                    }
-                    false => match operation.send(sender, item) {
-                        Ok(()) => Outcome::SentToRoom(item),
-                        Err(_) => Outcome::RoomClosed,
-                    },
+                let outcome = if gives_back {
+                    drop(operation);
+                    Outcome::GaveBack
+                } else {
+                    let sent = operation.send(sender, item);
+                    sent.map_or(Outcome::RoomClosed, |()| Outcome::SentToRoom(item))
                 };
                 let reserved = (begin, end, channel, Outcome::Reserved);
                 vec![reserved, (start, clock.now(), channel, outcome)]
