@@ -44,6 +44,7 @@ fi
 limit=600 step 'Rust: tests' cargo "${options[@]}" test
 limit=600 step 'Rust: tests with the feature strict' cargo "${options[@]}" test --tests --features strict
 limit=600 step 'Rust: tests with the feature unproved' env VAHEPITO_ROUNDS=5 cargo "${options[@]}" test --features unproved
+step 'Rust: the feature unproved is warned of' bash -c "cargo check --locked --offline --features unproved 2>&1 | grep 'warning: .* nothing is proved'"
 step 'Rust: the thread pool' bash -c "prints '9592 primes below 100000' cargo ${options[*]} run --example thread_pool"
 step 'Rust: the pipeline' bash -c "prints '77031 takes 350 steps' cargo ${options[*]} run --example pipeline"
 step 'Rust: the log' bash -c "prints '40000 events in the archive, 4000 alarms' cargo ${options[*]} run --example log"
