@@ -1,23 +1,23 @@
 #!/usr/bin/env python3
-"""Looks in random runs for one that isn't linearizable. It is proved that there is none (crates/cc_runs/src/linear_laws.rt); this is a
-second look, by a second program.
+"""Looks in random runs for one that isn't linearizable. It is proved that there is none (crates/cc_runs/src/linear_laws.rt);
+this is a second look, by a second program.
 
 Usage: tests/linear.py [RUNS [FIRST]]
 
-The machine is that of tests/derive.py, which knows the algorithm from the documents alone. Passes of one to three groups send, close
-and take in a random order of their steps, and some stop for ever in the middle of a call. Each answered call takes effect at one
-step, which is not before its exchange and not after the step that decides its answer:
+The machine is that of tests/derive.py, which knows the algorithm from the documents alone. Passes of one to three groups send,
+close and take in a random order of their steps, and some stop for ever in the middle of a call. Each answered call takes
+effect at one step, which is not before its exchange and not after the step that decides its answer:
 
 - Full at the load of the cursor, with which its scan begins: all list nodes were busy then, and while a scan lasts only takes
   change that;
 - any other answer at the step that decides it.
 
-In the order of these steps a sequential queue has to give the same answers, and each chain's calls have to come in the order of
-their exchanges.
+In the order of these steps a sequential queue has to give the same answers, and each chain's calls have to come in the order
+of their exchanges.
 
-The control lets Full take effect at the step that decides it, the last load of the scan. A take may have freed a node by then that
-the scan had read, so a sequential queue would have room. Some of the runs have to show that, else the search sees too little.
-The run with the number N is always the same. Without words it makes 1,000 runs, from number 0 on, in a few seconds.
+The control lets Full take effect at the step that decides it, the last load of the scan. A take may have freed a node by then
+that the scan had read, so a sequential queue would have room. Some of the runs have to show that, else the search sees too
+little. The run with the number N is always the same. Without words it makes 1,000 runs, from number 0 on, in a few seconds.
 """
 
 import random
@@ -86,20 +86,23 @@ def plan_of(rng: random.Random) -> dict:
     """A small queue, the calls of its senders, and how many takes each receiver makes."""
     groups = rng.choice([1, 1, 2, 3])
     close = rng.choice([0, 0, 0.05, 0.2])
-    senders = [[None if rng.random() < close else [rng.randint(0, 9)] for _ in range(rng.randint(3, 12))] for _ in range(rng.randint(1, 4))]
+
+    def calls() -> list[list[int] | None]:
+        return [None if rng.random() < close else [rng.randint(0, 9)] for _ in range(rng.randint(3, 12))]
+
     return {
         "capacity": rng.choice([1, 2, 2, 3, 4]),
         "bound": rng.choice([1, 1, 2, 8]),
         "life": rng.choice([2, 5, 100, 100, 100]),
         "groups": groups,
-        "senders": senders,
+        "senders": [calls() for _ in range(rng.randint(1, 4))],
         "receivers": [rng.randint(3, 12) for _ in range(groups * rng.randint(1, 2))],
     }
 
 
-def run(rng: random.Random) -> tuple[derive.Machine, Sequential, list[Effect], list[Effect]]:
-    """A machine after some steps of its passes, and its answered calls in the order of their effects: as claimed, and as in the control."""
-    plan = plan_of(rng)
+def run(plan: dict, rng: random.Random) -> tuple[derive.Machine, list[Effect], list[Effect]]:
+    """A machine after some steps of its passes, and its answered calls in the order of their effects, as claimed; and as in the
+    control."""
     machine = derive.Machine(plan)
     passes = list(derive.passes_of(plan).values())
     stay, stop = rng.choice([0, 0.5, 0.9]), rng.choice([0, 0, 0.001])
@@ -108,14 +111,13 @@ def run(rng: random.Random) -> tuple[derive.Machine, Sequential, list[Effect], l
     exchanges: list[list[int]] = [[] for _ in machine.calls]
     current, scan, begun = rng.choice(passes), 0, 0
     for now in range(rng.choice([200, 400, 700])):
-        if rng.random() > stay:
+        if not passes:
+            break
+        if current not in passes or rng.random() > stay:
             current = rng.choice(passes)
         event = machine.event(current)
         if event is None or rng.random() < stop:
             passes.remove(current)
-            if not passes:
-                break
-            current = rng.choice(passes)
         if event is None:
             continue
         if event["word"] == "list.cursor" and event["kind"] == "ReadObject":
@@ -129,11 +131,12 @@ def run(rng: random.Random) -> tuple[derive.Machine, Sequential, list[Effect], l
             exchange = exchanges[chain][place]
             order.insert(scan if full else len(order), Effect(chain, place, exchange, begun if full else now, now))
             control.append(Effect(chain, place, exchange, now, now))
-    return machine, Sequential(plan["capacity"], plan["life"], plan["groups"]), order, control
+    return machine, order, control
 
 
-def fault_of(machine: derive.Machine, queue: Sequential, order: list[Effect]) -> str | None:
+def fault_of(machine: derive.Machine, order: list[Effect]) -> str | None:
     """What is wrong with an order of the answered calls, or None."""
+    queue = Sequential(machine.capacity, machine.life, machine.groups)
     for chain, answers in enumerate(machine.answers):
         if [effect.place for effect in order if effect.chain == chain] != list(range(len(answers))):
             return f"chain {chain}: not each answered call once, in the order of their exchanges"
@@ -153,20 +156,20 @@ def fault_of(machine: derive.Machine, queue: Sequential, order: list[Effect]) ->
 def main() -> int:
     words = [int(word) for word in sys.argv[1:]]
     runs, first = words[0] if words else 1000, words[1] if len(words) > 1 else 0
-    bad, calls, moved, seen = 0, 0, 0, 0
+    calls, bad, moved, found = 0, 0, 0, 0
     for number in range(first, first + runs):
-        machine, queue, order, control = run(random.Random(number))
-        fault = fault_of(machine, queue, order)
+        rng = random.Random(number)
+        machine, order, control = run(plan_of(rng), rng)
+        fault = fault_of(machine, order)
         if fault is not None:
             bad += 1
             print(f"linear: run {number}: {fault}")
         calls += len(order)
         moved += [(effect.chain, effect.place) for effect in order] != [(effect.chain, effect.place) for effect in control]
-        seen += fault_of(machine, Sequential(queue.capacity, queue.life, queue.groups), control) is not None
-    print(f"linear: {runs} runs, {calls} answered calls: {bad} not linearizable; Full at its deciding step: {seen} found, of {moved} whose order differs")
-    if seen == 0:
-        print("linear: the control wasn't found")
-    return int(bad > 0 or seen == 0)
+        found += fault_of(machine, control) is not None
+    print(f"linear: {runs} runs, {calls} answered calls; {bad} runs aren't linearizable")
+    print(f"linear: the control has another order in {moved} runs, and is found in {found}")
+    return int(bad > 0 or found == 0)
 
 
 if __name__ == "__main__":

@@ -28,8 +28,9 @@
  *
  * No call but the three openings takes memory.
  *
- * Each call takes effect at one atomic step between its begin and its return: this is proved. That these steps have the order
- * of the clock, and what they do to other memory, isn't. They are sequentially consistent, and tests look for the following:
+ * Each call takes effect at one moment between its begin and its return: this is proved of the order of the queue's atomic
+ * steps. That these steps have the order of the clock, and what they do to other memory, isn't. They are sequentially
+ * consistent, and tests look for the following:
  * - A take that begins after a send has returned finds the item, unless another take of its group took it; and a send that
  *   begins after takes have returned finds the room that they made. "After" is by any order that the program has: on one
  *   thread, by a join, a lock or a flag.

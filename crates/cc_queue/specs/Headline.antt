@@ -25,8 +25,8 @@ abbrev pub entry_of : Walk → Call → Entry
 entry_of v call = record { pass = name v; call = call; number = number_of call v.stand.begun; known = known_in v.setting v.number v.seen }
 
 -- There is one history, the one that the pass has seen now: that of a run of single steps which extends all that it had
--- seen. It is legal, and first in, first out. Of the pass it has exactly the calls that it made, each once and in order:
--- those that it had made, and these.
+-- seen, and which is linearizable. It is legal, and first in, first out. Of the pass it has exactly the calls that it made, each
+-- once and in order: those that it had made, and these.
 pub record StandsInOne (v : Walk) (calls : List Entry) (w : Walk) : Type 0 where
   pub same : IsSameSeat v w
   pub run : IsRun w.setting w.seen
