@@ -43,12 +43,13 @@ static struct place *claim(_Atomic uint64_t *next, uint64_t shift, uint64_t *num
 }
 
 static bool try_send(uint64_t item) {
+    const struct timespec pause = {0, 50000};
     uint64_t at;
     struct place *place = claim(&next_send, 0, &at);
     if (!place) return false;
     if (early && at % 100 == 99) {
         atomic_store(&place->turn, at + 1);
-        sched_yield();
+        nanosleep(&pause, NULL); /* so that a take comes in between */
         atomic_store(&place->item, item);
     } else {
         atomic_store(&place->item, item);

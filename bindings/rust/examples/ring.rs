@@ -10,6 +10,7 @@ use std::io;
 use std::sync::Barrier;
 use std::sync::atomic::{AtomicU64, Ordering};
 use std::thread;
+use std::time::Duration;
 use vahepito::record::{Log, Recorder, Sent, Taken};
 
 struct Place {
@@ -66,7 +67,7 @@ impl Ring {
         };
         if self.early && at % 100 == 99 {
             place.turn.store(at + 1, Ordering::SeqCst);
-            thread::yield_now();
+            thread::sleep(Duration::from_micros(50)); // so that a take comes in between
             place.item.store(item, Ordering::SeqCst);
         } else {
             place.item.store(item, Ordering::SeqCst);

@@ -203,7 +203,8 @@ impl Writer {
     /// writes is no shorter.
     fn round(&mut self, moment: u64) {
         let (text, pending) = (&mut self.text, &mut self.pending);
-        (text.clear(), pending.clear());
+        text.clear();
+        pending.clear();
         self.lanes.retain(|lane| lane.write(moment, text, pending));
         let ended = text.len() as u64;
         text.append(pending);
@@ -442,5 +443,131 @@ impl Drop for Recorder {
             self.give_up();
         }
         self.lane.left.store(true, Ordering::Release);
+    }
+}
+
+#[cfg(test)]
+mod tests {
+    use super::{Log, SLOTS, Sent, Taken};
+    use std::fs;
+    use std::panic::{AssertUnwindSafe, catch_unwind};
+    use std::path::PathBuf;
+    use std::sync::atomic::{AtomicBool, Ordering};
+    use std::thread;
+    use std::time::{Duration, Instant};
+
+    fn path(name: &str) -> PathBuf {
+        std::env::temp_dir().join(format!("vahepito record {} {name}", std::process::id()))
+    }
+
+    /// The lines of a log without their times.
+    fn lines(path: &PathBuf) -> Vec<String> {
+        let text = fs::read_to_string(path).expect("the log is there");
+        let without = |line: &str| {
+            let parts = line.split(',').filter(|part| !part.contains("begin"));
+            let parts = parts.map(|part| if part.contains("end\":") { "end" } else { part });
+            parts.collect::<Vec<_>>().join(",")
+        };
+        text.lines().map(without).collect()
+    }
+
+    #[test]
+    fn each_kind_of_call_has_its_line() {
+        let path = path("kinds");
+        let log = Log::create(&path).expect("a file");
+        let mut one = log.recorder();
+        one.send(7, || Sent::Accepted);
+        one.send(u64::MAX, || Sent::Full);
+        one.send(9, || Sent::Closed);
+        one.take(|| Taken::Item(7));
+        one.take(|| Taken::None);
+        let unwinds = catch_unwind(AssertUnwindSafe(|| one.take(|| panic!("planted"))));
+        assert!(unwinds.is_err());
+        one.take(|| Taken::Ended);
+        let unwinds = catch_unwind(AssertUnwindSafe(|| one.send(8, || panic!("planted"))));
+        assert!(unwinds.is_err());
+        log.finish().expect("the file is written");
+        let due = [
+            r#"{"thread":"0",end,"send":[7]}"#,
+            r#"{"thread":"0",end,"send":[18446744073709551615],"answer":"full"}"#,
+            r#"{"thread":"0",end,"send":[9],"answer":"closed"}"#,
+            r#"{"thread":"0",end,"take":[7]}"#,
+            r#"{"thread":"0",end,"take":null}"#,
+            r#"{"thread":"0","take":null}"#,
+            r#"{"thread":"1",end,"take":null,"answer":"ended"}"#,
+            r#"{"thread":"1","send":[8]}"#,
+        ];
+        assert_eq!(lines(&path), due);
+        fs::remove_file(path).expect("it was there");
+    }
+
+    /// A call that hangs is in the file soon, and so are those before it.
+    #[test]
+    fn a_call_that_hangs_is_in_the_log() {
+        let path = path("hangs");
+        let log = Log::create(&path).expect("a file");
+        let (mut one, is_over) = (log.recorder(), AtomicBool::new(false));
+        thread::scope(|scope| {
+            scope.spawn(|| {
+                one.send(1, || Sent::Accepted);
+                one.send(2, || {
+                    while !is_over.load(Ordering::SeqCst) {
+                        thread::yield_now();
+                    }
+                    Sent::Accepted
+                });
+            });
+            let due = [
+                r#"{"thread":"0",end,"send":[1]}"#,
+                r#"{"thread":"0","send":[2]}"#,
+            ];
+            let start = Instant::now();
+            while lines(&path) != due && start.elapsed() < Duration::from_secs(60) {
+                thread::sleep(Duration::from_millis(10));
+            }
+            let seen = lines(&path);
+            is_over.store(true, Ordering::SeqCst);
+            assert_eq!(seen, due);
+        });
+        log.finish().expect("the file is written");
+        assert_eq!(lines(&path)[1], r#"{"thread":"0",end,"send":[2]}"#);
+        fs::remove_file(path).expect("it was there");
+    }
+
+    /// More calls than a recorder holds are all written, in order; and none past the limit.
+    #[test]
+    fn a_log_of_many_calls() {
+        for (limit, all) in [(u64::MAX, true), (20_000, false)] {
+            let path = path(if all { "many" } else { "limit" });
+            let log = Log::create_up_to(limit, &path).expect("a file");
+            thread::scope(|scope| {
+                for thread in 0..3 {
+                    let mut recorder = log.recorder();
+                    scope.spawn(move || {
+                        for call in 0..10 * SLOTS {
+                            recorder.send(3 * call + thread, || Sent::Accepted);
+                        }
+                    });
+                }
+            });
+            log.finish().expect("the file is written");
+            let found = lines(&path);
+            for thread in 0..3 {
+                let name = format!(r#""thread":"{thread}""#);
+                let of_one = found.iter().filter(|line| line.contains(&name));
+                let calls = of_one.enumerate().map(|(call, line)| {
+                    let item = 3 * call as u64 + thread;
+                    assert!(line.ends_with(&format!(r#""send":[{item}]}}"#)), "{line}");
+                });
+                let calls = calls.count() as u64;
+                assert!(if all {
+                    calls == 10 * SLOTS
+                } else {
+                    calls < 10 * SLOTS
+                });
+            }
+            assert!(fs::metadata(&path).expect("the log is there").len() <= limit);
+            fs::remove_file(path).expect("it was there");
+        }
     }
 }
