@@ -179,14 +179,17 @@ def judge_ring(language, ring, log):
         said = judged_file(log)
         print(f"judge: the ring in {language}, {kind}: {said}", end="")
         right &= said.startswith("judge fault: " if kind == "early" else "judge clean: ")
-    for tenths in range(1, 5):
+    clean = 0
+    for tenths in range(1, 6):
         with subprocess.Popen([ring, log, "right", "1000000000"]) as run:
             time.sleep(tenths / 10)
             run.kill()
         said = judged_file(log)
         print(f"judge: the ring in {language}, killed: {said}", end="")
-        right &= said.startswith("judge clean: ")
-    return right
+        clean += said.startswith("judge clean: ")
+        # It was killed while it wrote.
+        right &= said.startswith("judge clean: ") or (": no JSON object" in said and "\n!" in "\n" + log.read_text())
+    return right and clean > 0
 
 
 def judge_recorded():

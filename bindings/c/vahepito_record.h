@@ -19,8 +19,8 @@
  * The log is written in rounds: if a recorder is full, at each vahepito_log_round, and at the end. After a round the file is
  * the log of the run up to a moment of that round: pending calls are in it as calls that haven't returned. So the log is
  * right if the program hangs or is killed, and lacks only what came after the last round. Let the thread that waits for the
- * others do a round every tenth of a second. If the kill is in the midst of a round, the last line may be cut: such a log is
- * refused. Nothing is written past VAHEPITO_RECORD_LIMIT bytes (16 MiB, the most that the judge reads).
+ * others do a round every tenth of a second. If a round is killed while it writes, the log is refused, by the line that
+ * begins with `!`. Nothing is written past VAHEPITO_RECORD_LIMIT bytes (16 MiB, the most that the judge reads).
  *
  * A call costs two reads of the monotonic clock, two fences and some ten stores. Of 256 calls one takes a lock, before it
  * begins. src/record.rs of the crate for Rust says why a round is right: it reads the clock before it reads the recorders,
@@ -104,7 +104,14 @@ static inline size_t vahepito_record_line(vahepito_recorder *mine, uint64_t call
         : answer == VAHEPITO_FOUND_END ? ",\"answer\":\"ended\"" : "");
 }
 
-/* Writes the log up to now. The lines of pending calls come last, and the next round writes over them. */
+/* Writes some bytes at a place of the file, if all before were written. */
+static inline void vahepito_log_write(vahepito_log *log, const char *text, size_t size, uint64_t at) {
+    const ssize_t wrote = log->is_over ? (ssize_t)size : pwrite(log->file, text, size, (off_t)at);
+    if (wrote != (ssize_t)size) log->failed = wrote < 0 ? errno : ENOSPC, log->is_over = 1;
+}
+
+/* Writes the log up to now. The lines of pending calls come last, and the next round writes over them. While the text isn't
+ * whole its first byte is `!`. */
 static inline void vahepito_log_round(vahepito_log *log) {
     vahepito_recorder *one;
     uint64_t moment;
@@ -133,9 +140,10 @@ static inline void vahepito_log_round(vahepito_log *log) {
             all = vahepito_record_line(one, call, 0, log->text, all);
     }
     if (log->kept + all > VAHEPITO_RECORD_LIMIT) log->is_over = 1;
-    if (!log->is_over && all > 0) {
-        const ssize_t wrote = pwrite(log->file, log->text, all, (off_t)log->kept);
-        if (wrote != (ssize_t)all) log->failed = wrote < 0 ? errno : ENOSPC, log->is_over = 1;
+    if (all > 0) {
+        vahepito_log_write(log, "!", 1, log->kept);
+        vahepito_log_write(log, log->text + 1, all - 1, log->kept + 1);
+        vahepito_log_write(log, log->text, 1, log->kept);
     }
     log->kept += ended;
     VAHEPITO_SET(log->lock, 0, RELEASE);

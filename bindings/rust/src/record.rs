@@ -21,8 +21,8 @@
 //! **What the file has.** It is written in rounds: every tenth of a second, if a recorder is full, and at the end. After a
 //! round it is the log of the run up to a moment of that round. Calls that had ended before that moment are in it, and calls
 //! that were pending are in it as calls that haven't returned. So it is right if the program hangs or is killed, and it
-//! lacks only what came after the last round. If the kill is in the midst of a round, the last line may be cut: such a log is
-//! refused.
+//! lacks only what came after the last round. If a round is killed while it writes, the log is refused, by the line that begins
+//! with `!`.
 //!
 //! **What it costs.** A call costs two reads of the monotonic clock, two fences and some ten stores; a thread takes a
 //! lock once in [`SLOTS`] calls, between two of them. A recorder has 32 bytes a slot.
@@ -200,7 +200,7 @@ struct Writer {
 
 impl Writer {
     /// Writes the log up to a moment. The lines of pending calls come last, and the next round writes over them: what it
-    /// writes is no shorter.
+    /// writes is no shorter. While the text isn't whole its first byte is `!`.
     fn round(&mut self, moment: u64) {
         let (text, pending) = (&mut self.text, &mut self.pending);
         text.clear();
@@ -209,14 +209,24 @@ impl Writer {
         let ended = text.len() as u64;
         text.append(pending);
         self.is_over |= self.kept + text.len() as u64 > self.limit;
-        if self.is_over {
+        if self.is_over || self.text.is_empty() {
             return;
         }
-        let written = self.file.seek(SeekFrom::Start(self.kept));
-        if let Err(error) = written.and_then(|_| self.file.write_all(&self.text)) {
+        if let Err(error) = self.write() {
             (self.error, self.is_over) = (Some(error), true);
         }
         self.kept += ended;
+    }
+
+    /// Writes the text of a round.
+    fn write(&mut self) -> io::Result<()> {
+        let mut write = |at, text| {
+            self.file.seek(SeekFrom::Start(at))?;
+            self.file.write_all(text)
+        };
+        write(self.kept, b"!")?;
+        write(self.kept + 1, &self.text[1..])?;
+        write(self.kept, &self.text[..1])
     }
 }
 
@@ -465,7 +475,13 @@ mod tests {
         let text = fs::read_to_string(path).expect("the log is there");
         let without = |line: &str| {
             let parts = line.split(',').filter(|part| !part.contains("begin"));
-            let parts = parts.map(|part| if part.contains("end\":") { "end" } else { part });
+            let parts = parts.map(|part| {
+                if part.starts_with("\"end\"") {
+                    "end"
+                } else {
+                    part
+                }
+            });
             parts.collect::<Vec<_>>().join(",")
         };
         text.lines().map(without).collect()
