@@ -8,7 +8,9 @@ Half of the logs are those of a real queue, half are altered; in one of two some
 refused. The log with the number N is always the same. Without words it makes 1,500 logs, from number 0 on. The search knows
 nothing of the program's: it tries every call that began before each call that is left had ended. `judge undecided` is a
 failure. Without words it also records 80,000 calls each of this crate's channel, of std's, of crossbeam's and flume's where
-Debian's packages of them are, and of a queue with a fault, which has to be found, and is drawn.
+Debian's packages of them are, and of a queue with a fault, which has to be found, and is drawn. And it records a ring of
+one's own by a program in Rust and by one in C: as it is, with a planted fault, which has to be found, and while the program is
+killed.
 """
 
 import json
@@ -18,6 +20,7 @@ import shutil
 import subprocess
 import sys
 import tempfile
+import time
 from concurrent.futures import ThreadPoolExecutor
 from pathlib import Path
 
@@ -143,12 +146,13 @@ def judged(number):
 
 
 def build(folder):
-    """Builds tests/recorded with those of the peers that are on this machine: the program, and their names."""
+    """Builds tests/recorded with those of the peers that are on this machine, and the ring: the program, and their names."""
     peers = [peer for peer in ("crossbeam-channel", "flume") if any(REGISTRY.glob(f"{peer}-[0-9]*"))]
     needs = "".join(f'{peer} = {{ version = "*", optional = true }}\n' for peer in peers)
     (folder / "Cargo.toml").write_text(
         '[package]\nname = "recorded"\nversion = "0.1.0"\nedition = "2024"\n\n[workspace]\n\n'
         f'[[bin]]\nname = "recorded"\npath = "{TOP}/tests/recorded/main.rs"\n\n'
+        f'[[bin]]\nname = "ring"\npath = "{TOP}/bindings/rust/examples/ring.rs"\n\n'
         f'[dependencies]\nvahepito = {{ path = "{TOP}/bindings/rust" }}\n{needs}'
     )
     debian = ["--config", 'source.crates-io.replace-with = "debian"', "--config", f'source.debian.directory = "{REGISTRY}"']
@@ -161,6 +165,33 @@ def build(folder):
     return folder / "release/recorded", peers
 
 
+def judged_file(log):
+    """What the program says of the log in a file."""
+    run = subprocess.run([PROGRAM, "judge"], input=log.read_text(), capture_output=True, text=True, check=False)
+    return run.stdout or run.stderr
+
+
+def judge_ring(language, ring, log):
+    """Whether the program finds the planted fault of a ring, and none without it, also if the recording is killed."""
+    right = True
+    for kind in ["right", "early"]:
+        subprocess.run([ring, log, kind], stdout=subprocess.DEVNULL, check=True)
+        said = judged_file(log)
+        print(f"judge: the ring in {language}, {kind}: {said}", end="")
+        right &= said.startswith("judge fault: " if kind == "early" else "judge clean: ")
+    clean = 0
+    for tenths in range(1, 6):
+        with subprocess.Popen([ring, log, "right", "1000000000"]) as run:
+            time.sleep(tenths / 10)
+            run.kill()
+        said = judged_file(log)
+        print(f"judge: the ring in {language}, killed: {said}", end="")
+        clean += said.startswith("judge clean: ")
+        # It was killed while it wrote.
+        right &= said.startswith("judge clean: ") or (": no JSON object" in said and "\n!" in "\n" + log.read_text())
+    return right and clean > 0
+
+
 def judge_recorded():
     """Whether the program finds each queue clean, and the fault of the one with a fault, in what is recorded of them."""
     if shutil.which("cargo") is None:
@@ -171,22 +202,34 @@ def judge_recorded():
         recorder, peers = build(Path(name))
         for queue in ["channel", "mpsc", *peers, "fault"]:
             log = Path(name, queue)
-            log.write_bytes(subprocess.run([recorder, queue, "20000"], capture_output=True, check=True).stdout)
-            said = subprocess.run([PROGRAM, "judge"], input=log.read_text(), capture_output=True, text=True, check=False).stdout
+            subprocess.run([recorder, queue, log, "20000"], check=True)
+            said = judged_file(log)
             picture = subprocess.run(
                 [TOP / "tools/fault_picture.py", log], input=said, capture_output=True, text=True, check=False
             ).stdout
             print(f"judge: {queue}: {picture}", end="")
             fault, calls = queue == "fault", len(picture.splitlines()) - 1
             right &= said.startswith("judge fault: taken twice: " if fault else "judge clean: ") and calls == 2 * fault
+        right &= judge_ring("Rust", recorder.with_name("ring"), Path(name, "ring.log"))
     return right
+
+
+def judge_ring_in_c():
+    """The same of the ring in C."""
+    if shutil.which("cc") is None:
+        print("judge: no ring in C is recorded: cc is not on this machine")
+        return True
+    with tempfile.TemporaryDirectory() as name:
+        ring = Path(name, "ring")
+        subprocess.run(["cc", "-std=c11", "-O2", "-pthread", TOP / "bindings/c/ring.c", "-o", ring], check=True)
+        return judge_ring("C", ring, Path(name, "ring.log"))
 
 
 def main(count=None, first=0):
     if not os.access(PROGRAM, os.X_OK):
         print("judge: there is no crates/ccq/out/ccq: run `rt ci` first, or `rt run` in crates/ccq")
         return 1
-    recorded = count is not None or judge_recorded()
+    recorded = count is not None or all([judge_recorded(), judge_ring_in_c()])
     count = count or 1500
     clean = wrong = 0
     with ThreadPoolExecutor(os.cpu_count()) as pool:

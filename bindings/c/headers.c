@@ -1,6 +1,12 @@
 /* The headers in C99 to C23 and in C++11 to C++23: compiled by each compiler that is there, with all warnings. Run, it
- * makes each call that waits, on one thread, and ends with status 0 where each told what it has to. */
+ * makes each call that waits, on one thread, records five, and ends with status 0 where each told what it has to. */
+#ifndef _POSIX_C_SOURCE
+#define _POSIX_C_SOURCE 200809L
+#endif
+#include "vahepito_record.h"
 #include "vahepito_wait.h"
+
+#include <string.h>
 
 /* A caller's own struct with handles in it. */
 struct service {
@@ -38,6 +44,49 @@ static int two_words(struct service *service) {
     return vahepito_finish_take_words(&service->receiver, NULL, NULL) == VAHEPITO_EMPTY ? 0 : 16;
 }
 
+/* Whether the file's next line is this one, but for the times. */
+static int has_line(FILE *file, const char *due) {
+    char line[200];
+    const char *at;
+    if (!fgets(line, sizeof line, file)) return 0;
+    for (at = line; *at && *at == *due; at++, due++)
+        while (*at == ':' && at[1] >= '0' && at[1] <= '9') memmove(line + (at - line) + 1, at + 2, strlen(at + 2) + 1);
+    return *at == *due;
+}
+
+/* Five calls, of which one is given up, and their log. */
+static int recorded(void) {
+    static vahepito_recorder mine;
+    vahepito_log log;
+    char name[] = "/tmp/vahepito.XXXXXX";
+    const int place = mkstemp(name);
+    FILE *file = place < 0 ? NULL : fdopen(place, "r");
+    int same;
+    if (!file || vahepito_log_open(&log, name) != 0) return 26;
+    vahepito_recorder_open(&mine, &log);
+    vahepito_begin_recorded_send(&mine, 7);
+    vahepito_end_recorded_send(&mine, VAHEPITO_SENT);
+    vahepito_begin_recorded_take(&mine);
+    vahepito_end_recorded_take(&mine, VAHEPITO_TOOK, 7);
+    vahepito_begin_recorded_take(&mine);
+    vahepito_log_round(&log);
+    vahepito_give_up(&mine);
+    vahepito_begin_recorded_send(&mine, 8);
+    vahepito_end_recorded_send(&mine, VAHEPITO_WAS_FULL);
+    vahepito_begin_recorded_take(&mine);
+    vahepito_end_recorded_take(&mine, VAHEPITO_FOUND_END, 0);
+    if (vahepito_log_close(&log) != 0) return 27;
+    same = has_line(file, "{\"thread\":\"0\",\"begin\":,\"end\":,\"send\":[7]}\n")
+        && has_line(file, "{\"thread\":\"0\",\"begin\":,\"end\":,\"take\":[7]}\n")
+        && has_line(file, "{\"thread\":\"0\",\"begin\":,\"take\":null}\n")
+        && has_line(file, "{\"thread\":\"1\",\"begin\":,\"end\":,\"send\":[8],\"answer\":\"full\"}\n")
+        && has_line(file, "{\"thread\":\"1\",\"begin\":,\"end\":,\"take\":null,\"answer\":\"ended\"}\n")
+        && !has_line(file, "");
+    fclose(file);
+    remove(name);
+    return same ? 0 : 28;
+}
+
 int main(void) {
     const vahepito_config config = {1, 1, 1, 8, (uint64_t)1 << 48, UINT32_MAX};
     struct service service = {VAHEPITO_PASS_EMPTY, VAHEPITO_PASS_EMPTY};
@@ -53,5 +102,5 @@ int main(void) {
     if (vahepito_open_words(&config, 1, 2, &service.sender, 1, &service.receiver, 1) != VAHEPITO_DONE) return 24;
     if (!failed) failed = two_words(&service);
     if (vahepito_drop(&service.sender) != VAHEPITO_DONE || vahepito_drop(&service.receiver) != VAHEPITO_DONE) return 25;
-    return failed;
+    return failed ? failed : recorded();
 }

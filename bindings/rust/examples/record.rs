@@ -1,16 +1,16 @@
 //! Records the calls of four threads on a queue, as a log to be judged.
 //!
-//!     cargo run --release --example record QUEUE [CALLS] > LOG
+//!     cargo run --release --example record QUEUE LOG [CALLS]
+//!     ccq judge LOG
 //!
 //! The queue is `channel`, this crate's; `mpsc`, std's; or `fault`, one that gives each thousandth item
 //! to two threads. Each thread does this number of calls (10,000): two send, and two take.
 use std::collections::VecDeque;
-use std::io::{self, BufWriter, Write};
+use std::io;
 use std::sync::atomic::{AtomicU64, Ordering};
 use std::sync::{Barrier, Mutex, mpsc};
 use std::thread;
-use std::time::Instant;
-use vahepito::record::{Recorder, write};
+use vahepito::record::Log;
 pub use vahepito::record::{Sent, Taken};
 use vahepito::{TryRecvError, TrySendError};
 
@@ -76,46 +76,43 @@ impl Queue for Fault {
     }
 }
 
-/// The calls of two threads that send and two that take.
-fn record(queue: &dyn Queue, calls: u64) -> Vec<Recorder> {
-    let (start, all_there) = (Instant::now(), Barrier::new(4));
+/// Records the calls of two threads that send and two that take.
+fn record(queue: &dyn Queue, log: &Log, calls: u64) {
+    let all_there = Barrier::new(4);
     let sends = |thread| {
-        let mut recorder = Recorder::new(start);
+        let mut recorder = log.recorder();
         all_there.wait();
         for call in 0..calls {
             let item = 2 * call + thread;
             recorder.send(item, || queue.send(item));
         }
-        recorder
     };
     let takes = || {
-        let mut recorder = Recorder::new(start);
+        let mut recorder = log.recorder();
         all_there.wait();
         for _ in 0..calls {
             recorder.take(|| queue.take());
         }
-        recorder
     };
     thread::scope(|scope| {
-        let threads = [
-            scope.spawn(|| sends(0)),
-            scope.spawn(|| sends(1)),
-            scope.spawn(takes),
-            scope.spawn(takes),
-        ];
-        threads.map(|thread| thread.join().expect("no thread unwinds"))
-    })
-    .into()
+        scope.spawn(|| sends(0));
+        scope.spawn(|| sends(1));
+        scope.spawn(takes);
+        scope.spawn(takes);
+    });
 }
 
-/// Records the queue, and writes the log to the standard output. The second word says how many calls.
+/// Records the queue in the file that the second word names. The third says how many calls.
 pub fn write_record(queue: &dyn Queue) -> io::Result<()> {
+    let Some(path) = std::env::args().nth(2) else {
+        return Err(io::Error::other("usage: record QUEUE LOG [CALLS]"));
+    };
     let calls = std::env::args()
-        .nth(2)
+        .nth(3)
         .map_or(10_000, |word| word.parse().expect("a number"));
-    let mut log = BufWriter::new(io::stdout().lock());
-    write(&record(queue, calls), &mut log)?;
-    log.flush()
+    let log = Log::create(path)?;
+    record(queue, &log, calls);
+    log.finish()
 }
 
 pub fn main() -> io::Result<()> {

@@ -1,0 +1,129 @@
+/* Records the calls of four threads on a ring of one's own, as a log to be judged.
+ *
+ *     cc -O2 -pthread ring.c -o ring && ./ring LOG [right|early] [ITEMS]
+ *     ccq judge LOG
+ *
+ * The ring is that of Dmitry Vyukov: each place has a number that says whose turn it is. `early` plants a fault: now and then
+ * a send gives its place to the takes before it has written the item. Each of two threads sends this number of items
+ * (5,000), and two take until all is sent and the ring is empty. */
+#ifndef _POSIX_C_SOURCE
+#define _POSIX_C_SOURCE 200809L
+#endif
+#include "vahepito_record.h"
+
+#include <pthread.h>
+#include <stdatomic.h>
+#include <stdbool.h>
+#include <string.h>
+
+enum { CAPACITY = 64, THREADS = 4 };
+
+/* A bounded queue of numbers. */
+struct place {
+    _Atomic uint64_t turn, item;
+};
+static struct place places[CAPACITY];
+static _Atomic uint64_t next_send, next_take;
+static bool early;
+
+/* The place of the next call, whose turn has to be its number and `shift` more; NULL if the place waits for another turn. */
+static struct place *claim(_Atomic uint64_t *next, uint64_t shift, uint64_t *number) {
+    uint64_t at = atomic_load(next);
+    for (;;) {
+        struct place *place = &places[at % CAPACITY];
+        const uint64_t turn = atomic_load(&place->turn);
+        if (turn < at + shift) return NULL;
+        if (turn > at + shift) {
+            at = atomic_load(next);
+        } else if (atomic_compare_exchange_weak(next, &at, at + 1)) {
+            *number = at;
+            return place;
+        }
+    }
+}
+
+static bool try_send(uint64_t item) {
+    const struct timespec pause = {0, 50000};
+    uint64_t at;
+    struct place *place = claim(&next_send, 0, &at);
+    if (!place) return false;
+    if (early && at % 100 == 99) {
+        atomic_store(&place->turn, at + 1);
+        nanosleep(&pause, NULL); /* so that a take comes in between */
+        atomic_store(&place->item, item);
+    } else {
+        atomic_store(&place->item, item);
+        atomic_store(&place->turn, at + 1);
+    }
+    return true;
+}
+
+static bool try_take(uint64_t *item) {
+    uint64_t at;
+    struct place *place = claim(&next_take, 1, &at);
+    if (!place) return false;
+    *item = atomic_load(&place->item);
+    atomic_store(&place->turn, at + CAPACITY);
+    return true;
+}
+
+static vahepito_log calls;
+static vahepito_recorder recorders[THREADS];
+static uint64_t items = 5000;
+static _Atomic int sending = 2, running = THREADS;
+
+/* Sends the items 2, 4, .. or 3, 5, .. */
+static void *sends(void *mine) {
+    vahepito_recorder *recorder = mine;
+    const uint64_t first = recorder == recorders ? 2 : 3;
+    for (uint64_t sent = 0; sent < items;) {
+        vahepito_begin_recorded_send(recorder, first + 2 * sent);
+        const bool accepted = try_send(first + 2 * sent);
+        vahepito_end_recorded_send(recorder, accepted ? VAHEPITO_SENT : VAHEPITO_WAS_FULL);
+        if (accepted) sent++;
+        else sched_yield();
+    }
+    atomic_fetch_sub(&sending, 1);
+    atomic_fetch_sub(&running, 1);
+    return NULL;
+}
+
+/* Takes until all is sent, and then until the ring is empty: a lost item shows only if a later take finds none. */
+static void *takes(void *mine) {
+    vahepito_recorder *recorder = mine;
+    for (;;) {
+        uint64_t item = 0;
+        const bool last = atomic_load(&sending) == 0;
+        vahepito_begin_recorded_take(recorder);
+        const bool got = try_take(&item);
+        vahepito_end_recorded_take(recorder, got ? VAHEPITO_TOOK : VAHEPITO_FOUND_NONE, item);
+        if (!got && last) break;
+        if (!got) sched_yield();
+    }
+    atomic_fetch_sub(&running, 1);
+    return NULL;
+}
+
+int main(int count, char **words) {
+    pthread_t threads[THREADS];
+    const struct timespec tenth = {0, 100000000};
+    if (count < 2 || vahepito_log_open(&calls, words[1]) != 0) {
+        fprintf(stderr, "usage: ring LOG [right|early] [ITEMS]\n");
+        return 1;
+    }
+    early = count > 2 && strcmp(words[2], "early") == 0;
+    if (count > 3) items = strtoull(words[3], NULL, 10);
+    for (uint64_t at = 0; at < CAPACITY; at++) atomic_store(&places[at].turn, at);
+    for (int at = 0; at < THREADS; at++) vahepito_recorder_open(&recorders[at], &calls);
+    for (int at = 0; at < THREADS; at++)
+        if (pthread_create(&threads[at], NULL, at < 2 ? sends : takes, &recorders[at]) != 0) return 1;
+    /* If a thread hangs, the log is there by this. */
+    while (atomic_load(&running) > 0) {
+        nanosleep(&tenth, NULL);
+        vahepito_log_round(&calls);
+    }
+    for (int at = 0; at < THREADS; at++) pthread_join(threads[at], NULL);
+    if (vahepito_log_close(&calls) != 0) return 1;
+    printf("%" PRIu64 " items are sent\n", 2 * items);
+    return 0;
+}

@@ -1,0 +1,142 @@
+//! Records the calls of four threads on a ring of one's own, as a log to be judged.
+//!
+//!     cargo run --release --example ring LOG [right|early] [ITEMS]
+//!     ccq judge LOG
+//!
+//! The ring is that of Dmitry Vyukov: each place has a number that says whose turn it is. `early` plants a fault: now and then
+//! a send gives its place to the takes before it has written the item. Each of two threads sends this number of items
+//! (5,000), and two take until all is sent and the ring is empty.
+use std::io;
+use std::sync::Barrier;
+use std::sync::atomic::{AtomicU64, Ordering};
+use std::thread;
+use std::time::Duration;
+use vahepito::record::{Log, Recorder, Sent, Taken};
+
+struct Place {
+    turn: AtomicU64,
+    item: AtomicU64,
+}
+
+/// A bounded queue of numbers.
+struct Ring {
+    places: Vec<Place>,
+    sends: AtomicU64,
+    takes: AtomicU64,
+    early: bool,
+}
+
+impl Ring {
+    fn new(capacity: u64, early: bool) -> Ring {
+        let place = |turn| Place {
+            turn: AtomicU64::new(turn),
+            item: AtomicU64::new(0),
+        };
+        Ring {
+            places: (0..capacity).map(place).collect(),
+            sends: AtomicU64::new(0),
+            takes: AtomicU64::new(0),
+            early,
+        }
+    }
+
+    /// The place with a number, if its turn is `turn`, and this call has it by moving `next` past it. Or None if the place
+    /// waits for another turn.
+    fn claim(&self, next: &AtomicU64, shift: u64) -> Option<(&Place, u64)> {
+        let mut at = next.load(Ordering::SeqCst);
+        loop {
+            let place = &self.places[at as usize % self.places.len()];
+            let turn = place.turn.load(Ordering::SeqCst);
+            if turn < at + shift {
+                return None;
+            }
+            if turn > at + shift {
+                at = next.load(Ordering::SeqCst);
+                continue;
+            }
+            match next.compare_exchange(at, at + 1, Ordering::SeqCst, Ordering::SeqCst) {
+                Ok(_) => return Some((place, at)),
+                Err(now) => at = now,
+            }
+        }
+    }
+
+    fn send(&self, item: u64) -> Sent {
+        let Some((place, at)) = self.claim(&self.sends, 0) else {
+            return Sent::Full;
+        };
+        if self.early && at % 100 == 99 {
+            place.turn.store(at + 1, Ordering::SeqCst);
+            thread::sleep(Duration::from_micros(50)); // so that a take comes in between
+            place.item.store(item, Ordering::SeqCst);
+        } else {
+            place.item.store(item, Ordering::SeqCst);
+            place.turn.store(at + 1, Ordering::SeqCst);
+        }
+        Sent::Accepted
+    }
+
+    fn take(&self) -> Taken {
+        let Some((place, at)) = self.claim(&self.takes, 1) else {
+            return Taken::None;
+        };
+        let item = place.item.load(Ordering::SeqCst);
+        let next = at + self.places.len() as u64;
+        place.turn.store(next, Ordering::SeqCst);
+        Taken::Item(item)
+    }
+}
+
+/// Sends the items 2, 4, .. or 3, 5, ..
+fn sends(ring: &Ring, recorder: &mut Recorder, first: u64, items: u64) {
+    for item in (first..).step_by(2).take(items as usize) {
+        while recorder.send(item, || ring.send(item)) == Sent::Full {
+            thread::yield_now();
+        }
+    }
+}
+
+/// Takes until all is sent, and then until the ring is empty: a lost item shows only if a later take finds none.
+fn takes(ring: &Ring, recorder: &mut Recorder, left: &AtomicU64) {
+    loop {
+        let is_last = left.load(Ordering::SeqCst) == 0;
+        if recorder.take(|| ring.take()) == Taken::None {
+            if is_last {
+                return;
+            }
+            thread::yield_now();
+        }
+    }
+}
+
+fn main() -> io::Result<()> {
+    let words: Vec<String> = std::env::args().skip(1).collect();
+    let (path, early, items) = match &words[..] {
+        [path] => (path, false, 5_000),
+        [path, kind] => (path, kind == "early", 5_000),
+        [path, kind, items] => (path, kind == "early", items.parse().expect("a number")),
+        _ => return Err(io::Error::other("usage: ring LOG [right|early] [ITEMS]")),
+    };
+    let (ring, left, all_there) = (Ring::new(64, early), AtomicU64::new(2), Barrier::new(4));
+    let log = Log::create(path)?;
+    thread::scope(|scope| {
+        for number in 0..2 {
+            let mut recorder = log.recorder();
+            let (ring, left, all_there) = (&ring, &left, &all_there);
+            scope.spawn(move || {
+                all_there.wait();
+                sends(ring, &mut recorder, 2 + number, items);
+                left.fetch_sub(1, Ordering::SeqCst);
+            });
+        }
+        for _ in 0..2 {
+            let mut recorder = log.recorder();
+            let (ring, left, all_there) = (&ring, &left, &all_there);
+            scope.spawn(move || {
+                all_there.wait();
+                takes(ring, &mut recorder, left);
+            });
+        }
+    });
+    log.finish()
+}
