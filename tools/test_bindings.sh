@@ -57,6 +57,8 @@ for archive in "$room"/c/*/libvahepito.a; do
 done
 if [ -n "$quick" ]; then end_steps; fi
 
+step 'The instructions of calls' "$top/tests/instructions.py"
+
 if cargo clippy --version >/dev/null 2>&1; then
     step 'Rust: clippy' cargo "${options[@]}" clippy --all-targets -- -D warnings
 else
