@@ -107,7 +107,7 @@ def crate_at(commit, is_linked_with_its_own):
         change(os.path.join(crate, name), VERSION, version)
     # It compares three sizes, where the library tells four.
     handle = os.path.join(crate, "src", "words", "handle.rs")
-    if os.path.exists(handle) and "words_item: &mut usize" not in read(handle):
+    if os.path.exists(handle) and "pass: &mut usize, item: &mut usize);" in read(handle):
         change(handle, r"(?<=fn vahepito_sizes\(config: &mut usize, pass: &mut usize, item: &mut usize)(?=\);)", ", _: &mut usize")
         change(handle, r"(?<=vahepito_sizes\(&mut config, &mut pass, &mut item)(?=\);)", ", &mut 0")
     return crate
