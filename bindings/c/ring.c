@@ -11,9 +11,11 @@
 #endif
 #include "vahepito_record.h"
 
+#include <inttypes.h>
 #include <pthread.h>
 #include <stdatomic.h>
 #include <stdbool.h>
+#include <stdio.h>
 #include <string.h>
 
 enum { CAPACITY = 64, THREADS = 4 };
