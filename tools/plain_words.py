@@ -5,7 +5,7 @@
 
 Five checks, in about a second:
 
-- Words: README.md has at most 900, and README.md with docs/*.md at most 35,000, as `wc -w` counts them, without
+- Words: README.md has at most 900, and README.md with docs/*.md at most 36,000, as `wc -w` counts them, without
   docs/STATEMENTS*, which a script writes. --words prints the number of words of each document, and checks nothing.
 - Patterns: none of PATTERNS is found in a document, or in a comment of the C headers, of code or of definitions. Each names
   the words to use, and has a sentence in which it is found.
