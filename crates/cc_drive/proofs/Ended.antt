@@ -1,5 +1,5 @@
 -- The passes of a run that has ended: they meet, and hold what they held.
-use Rattle.std.proofs.Common.{◌≡◌, ℕ, zero, suc, ◌+◌, ◌*◌, ◌-◌, ◌^◌, ◌<◌, List, [], ◌∷◌, ◌++◌, map, length, get_or, Some, refl, sym, ap, ◌∙◌, subst, arith, append-nil, append_assoc, length-append}
+use Rattle.std.proofs.Common.{◌≡◌, ℕ, zero, suc, ◌+◌, ◌*◌, ◌<◌, List, [], ◌∷◌, ◌++◌, map, length, get_or, Some, refl, sym, ap, ◌∙◌, subst, arith, append-nil, append_assoc, length-append}
 use Rattle.std.specs.List.{All, AllByRecursion}
 use Rattle.cc_drive.specs.Names.{Call, CloseAnswer, Answer}
 use Rattle.cc_runs.specs.ChainLaws.{IsLastAnswer}

@@ -1,7 +1,7 @@
 -- The questions to a worker's gate, call after call.
 use Rattle.std.proofs.Common.{◌≡◌, ℕ, suc, ◌+◌, ◌-◌, ◌<◌, ◌≤◌, Bool, true, List, inl, inr, [], ◌∷◌, length, Some, refl, sym, ap, ◌∙◌, subst, arith, length-append}
 use Rattle.cc_drive.specs.Names.{Body, Call, Pass, Setting, Answer, SendAnswer, TakeAnswer, Point, Go, Turns, Left, Sent, SendReceipt, TakeReceipt}
-use Rattle.std.specs.Prelude.{Result, Ok, Err}
+use Rattle.std.specs.Prelude.{Ok, Err}
 use Rattle.cc_steps.specs.Topic.{Topic}
 use Rattle.cc_steps.specs.Walk.{Walk}
 use Rattle.cc_queue.specs.Calls.{Begun, Completed}

@@ -1,5 +1,5 @@
 -- A run whose threads have ended.
-use Rattle.std.specs.Prelude.{ℕ, ◌≡◌, ◌+◌, ◌*◌, ◌<◌, ◌⊎◌, Bool, true, false, List, length, map, Option, Some, None, IfSome, IfNone, is_some, Result, Ok, Err, ⊤}
+use Rattle.std.specs.Prelude.{ℕ, ◌≡◌, ◌+◌, ◌*◌, ◌⊎◌, Bool, true, false, List, length, map, Option, Some, None, IfSome, IfNone, is_some, Result, Ok, Err, ⊤}
 use Rattle.std.specs.List.{All, AllByRecursion}
 use Rattle.cc_drive.specs.Names.{Answer, Call, CloseAnswer, ConfigFault, DriveConfig, DriveEnd, DriveFault, Verdict, Ran, Refused, Crew, Worked, Brief, Turns, SendReceipt, TakeReceipt}
 use Rattle.cc_steps.specs.Topic.{Topic}
