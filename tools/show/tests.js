@@ -287,7 +287,8 @@ const tests = {
       while (walker.nextNode()) {
         const element = walker.currentNode.parentElement;
         if (!walker.currentNode.textContent.trim() || ['SCRIPT', 'NOSCRIPT', 'title'].includes(element.tagName) || !visible(element)) continue;
-        const size = parseFloat(view.getComputedStyle(element).fontSize);
+        const scale = element instanceof view.SVGElement ? element.getScreenCTM().a : 1;
+        const size = parseFloat(view.getComputedStyle(element).fontSize) * scale;
         assert(size >= 12, element.textContent + ' has letters of ' + size + ' pixels');
       }
       assert(page.scrollingElement.scrollWidth <= page.documentElement.clientWidth, 'the page is wider than the screen, at ' + $('lesson-title').textContent);

@@ -59,10 +59,10 @@ kbd { border: 1px solid var(--edge); border-radius: 4px; padding: 0 4px; font: 1
 .good { color: var(--serve); font-weight: 600; }
 .intro { display: grid; grid-template-columns: minmax(280px, 5fr) minmax(300px, 6fr); gap: 6px 24px; align-items: center; }
 .intro ol { margin: 0 0 8px; padding-left: 20px; } .intro li { margin-bottom: 5px; }
-.intro svg { width: 100%; max-height: 260px; height: auto; }
+.picture { overflow-x: auto; } .intro svg { width: 100%; min-width: 600px; max-height: 290px; height: auto; }
 .intro svg text, #turns text, #lanes text { fill: var(--ink); font: 13px system-ui, sans-serif; }
 .intro svg .node { fill: var(--back); stroke: var(--edge); stroke-width: 1.5; } .intro svg .busy { fill: var(--turn); stroke: var(--serve); }
-.intro svg .small { font-size: 12.5px; fill: var(--dim); }
+.intro svg .small { font-size: 13px; fill: var(--dim); }
 .link { stroke: var(--ink); stroke-width: 1.6; fill: none; } .tip-of-link { fill: var(--ink); stroke: none; }
 .choose { display: grid; grid-template-columns: 10fr 8fr 6fr; gap: 4px 20px; }
 #tour, #examples { columns: 2; column-gap: 30px; } .choose li { break-inside: avoid; }
@@ -151,7 +151,8 @@ dl { display: grid; grid-template-columns: auto 1fr; gap: 2px 14px; margin: 0; f
 dt { font-weight: 600; } dd { margin: 0; color: var(--dim); }
 footer { padding-bottom: 24px; font-size: 13px; }
 body.bare header, body.bare #intro, body.bare #choose, body.bare footer { display: none; } body.bare main { padding-top: 8px; }
-@media (max-width: 900px) { .intro, .choose { grid-template-columns: 1fr; } #tour, #examples { columns: auto 220px; } .choose li { margin: 2px 0; } }
+@media (max-width: 1180px) { .intro { grid-template-columns: minmax(0, 1fr); } }
+@media (max-width: 900px) { .choose { grid-template-columns: minmax(0, 1fr); } #tour, #examples { columns: auto 220px; } .choose li { margin: 2px 0; } }
 @media (max-width: 640px) {
   :root { --names: 96px; }
   header, main, footer { padding-left: 8px; padding-right: 8px; }
@@ -169,7 +170,7 @@ body.bare header, body.bare #intro, body.bare #choose, body.bare footer { displa
 @media print {
   :root { color-scheme: light; --back: #fff; --card: #fff; --ink: #000; --dim: #444; --line: #999; --edge: #555; --mark: #8c1d18; --enter: #1d4f9e; --wait: #7a4900; --serve: #125c38; --hand: #6b2d92; --answer: #075b66; --rest: #555; --touch: #fff0b8; --touch-line: #8a6700; --turn: #dcefe4; --was: #fbe4e2; --is: #dff2e6; }
   * { print-color-adjust: exact; -webkit-print-color-adjust: exact; }
-  body { font-size: 11pt; }
+  body { font-size: 10pt; } #program { columns: 2; } .program, #program h3 { break-inside: avoid; } .intro svg { min-width: 0; }
   nav, #choose, footer, .skip, #player .row, #add, #moments, #lesson .row, .more, #texts, #tip { display: none !important; }
   #player, #code, #code-head { position: static; box-shadow: none; max-height: none; overflow: visible; }
   #lanes, .list, .strip { max-height: none; overflow: visible; } #cells, #turns { overflow: hidden; }
@@ -198,7 +199,7 @@ body.bare header, body.bare #intro, body.bare #choose, body.bare footer { displa
 <li>Each <dfn class=\"term\" tabindex=\"0\" data-word=\"step\">step</dfn> of a thread reads or changes one word, the steps of all threads interleave in any order, and for every order it is proved that items leave in the order in which they came.</li>
 <li>On this page you choose the order: follow the tour, make the steps of each <dfn class=\"term\" tabindex=\"0\" data-word=\"pass\">pass</dfn> yourself, and see what broken queues lose.</li>
 </ol>
-<svg viewBox=\"0 0 620 250\" role=\"img\" aria-label=\"Three senders on their chain, of which the first combines and appends to the list; a receiver combines on its own chain and takes from the other end of the list.\">
+<div class=\"picture\" tabindex=\"0\" role=\"group\" aria-label=\"picture of the chains and the list\"><svg viewBox=\"0 0 620 250\" role=\"img\" aria-label=\"Three senders on their chain, of which the first combines and appends to the list; a receiver combines on its own chain and takes from the other end of the list.\">
 <defs><marker id=\"tip-of-arrow\" viewBox=\"0 0 10 10\" refX=\"9\" refY=\"5\" markerWidth=\"7\" markerHeight=\"7\" orient=\"auto\"><path class=\"tip-of-link\" d=\"M0 0L10 5L0 10z\"/></marker></defs>
 <text x=\"8\" y=\"18\">The chain of the senders</text><text x=\"430\" y=\"18\">The chain of the receivers</text>
 <rect class=\"node busy\" x=\"8\" y=\"28\" width=\"74\" height=\"42\" rx=\"6\"/><text x=\"18\" y=\"46\">s1: 7</text><text class=\"small\" x=\"18\" y=\"63\">serves</text>
@@ -217,7 +218,7 @@ body.bare header, body.bare #intro, body.bare #choose, body.bare footer { displa
 <path class=\"link\" d=\"M45 70C45 130 506 90 506 168\" marker-end=\"url(#tip-of-arrow)\"/><text x=\"112\" y=\"86\">s1 appends 7, 8 and 9</text>
 <path class=\"link\" d=\"M467 70C467 120 116 110 116 168\" marker-end=\"url(#tip-of-arrow)\"/><text x=\"210\" y=\"152\">r1 takes 4, the oldest item</text>
 <text class=\"small\" x=\"92\" y=\"226\">head</text><text class=\"small\" x=\"494\" y=\"226\">last</text>
-</svg>
+</svg></div>
 </div>
 </section>
 <section class=\"card\" id=\"choose\" aria-labelledby=\"choose-title\">
