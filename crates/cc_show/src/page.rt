@@ -142,7 +142,7 @@ td, th { padding: 0 10px 0 0; border: 0; vertical-align: top; white-space: nowra
 .program li.lit { background: var(--touch); border-left-color: var(--touch-line); font-weight: 700; } .program li.lit span:last-child { color: var(--ink); }
 .program li.changed { border-left-color: var(--mark); background: var(--was); } .program li.changed.lit { background: var(--touch); }
 #code-head { position: sticky; top: -8px; margin-top: -8px; padding-top: 8px; background: var(--card); }
-#holds { border-bottom: 1px solid var(--line); padding-bottom: 3px; min-height: 7.4em; } #program h3:first-child { margin-top: 5px; }
+#holds { border-bottom: 1px solid var(--line); padding-bottom: 3px; min-height: 7.4em; } .part:first-child h3 { margin-top: 5px; }
 .change { font-size: 12.5px; white-space: pre-wrap; overflow-wrap: anywhere; margin: 2px 0; padding: 2px 6px; border-radius: 4px; display: block; text-decoration: none; }
 del.change { background: var(--was); } ins.change { background: var(--is); }
 pre, textarea { margin: 0; max-height: 320px; overflow: auto; white-space: pre-wrap; overflow-wrap: anywhere; }
@@ -170,7 +170,7 @@ body.bare header, body.bare #intro, body.bare #choose, body.bare footer { displa
 @media print {
   :root { color-scheme: light; --back: #fff; --card: #fff; --ink: #000; --dim: #444; --line: #999; --edge: #555; --mark: #8c1d18; --enter: #1d4f9e; --wait: #7a4900; --serve: #125c38; --hand: #6b2d92; --answer: #075b66; --rest: #555; --touch: #fff0b8; --touch-line: #8a6700; --turn: #dcefe4; --was: #fbe4e2; --is: #dff2e6; }
   * { print-color-adjust: exact; -webkit-print-color-adjust: exact; }
-  body { font-size: 10pt; } #program { columns: 2; } .program, #program h3 { break-inside: avoid; } .intro svg { min-width: 0; }
+  body { font-size: 10pt; } #program { columns: 2; } .part { break-inside: avoid; } .intro svg { min-width: 0; }
   nav, #choose, footer, .skip, #player .row, #add, #moments, #lesson .row, .more, #texts, #tip { display: none !important; }
   #player, #code, #code-head { position: static; box-shadow: none; max-height: none; overflow: visible; }
   #lanes, .list, .strip { max-height: none; overflow: visible; } #cells, #turns { overflow: hidden; }
@@ -1325,11 +1325,11 @@ function drawProgram() {
   const service = e && e.x >= 0 ? ['take'] : e && e.serves && e.serves.close ? ['close'] : e ? ['send'] : ['send', 'take'];
   const html = ['call', 'combine', ...service].map(part => {
     const [title, lines] = PROGRAM[part];
-    return '<h3>' + title + '</h3><ol class=\"program\">' + lines.map(([text, places], k) => {
+    return '<div class=\"part\"><h3>' + title + '</h3><ol class=\"program\">' + lines.map(([text, places], k) => {
       const lit = at && at.part === part && at.k === k;
       const changed = (broken[part] || {})[k];
       return '<li class=\"' + (lit ? 'lit ' : '') + (changed ? 'changed' : '') + '\"' + (lit ? ' aria-current=\"step\"' : '') + (changed ? ' title=\"this line is changed\"' : '') + '><span>' + (changed || text) + '</span><span>' + places.map(place => CODES_OF[place]).filter(code => code).join(' ') + '</span></li>';
-    }).join('') + '</ol>';
+    }).join('') + '</ol></div>';
   }).join('');
   if (show('program', html) && at) {
     const line = $('program').querySelector('.lit'), card = $('code');
