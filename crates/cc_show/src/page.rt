@@ -79,9 +79,9 @@ kbd { border: 1px solid var(--edge); border-radius: 4px; padding: 0 4px; font: 1
 #more-toggle { display: none; }
 @media (min-width: 1100px) {
   #event { min-height: 1.45em; }
-  #stage { grid-template-columns: minmax(0, 1fr) 436px; grid-template-rows: auto auto auto auto auto 1fr; }
+  #stage { grid-template-columns: minmax(0, 1fr) 436px; grid-template-rows: auto auto auto auto auto auto 1fr; }
   #stage > * { grid-column: 1; } #player { grid-column: 1 / -1; }
-  #code { grid-column: 2; grid-row: 2 / span 5; align-self: start; position: sticky; top: calc(var(--bar) + 8px); max-height: calc(100vh - var(--bar) - 34px); overflow: auto; }
+  #code { grid-column: 2; grid-row: 2 / span 6; align-self: start; position: sticky; top: calc(var(--bar) + 8px); max-height: calc(100vh - var(--bar) - 34px); overflow: auto; }
 }
 .top { display: flex; flex-wrap: wrap; gap: 2px 16px; align-items: center; justify-content: space-between; }
 #body { width: 10.5em; }
@@ -143,6 +143,7 @@ td, th { padding: 0 10px 0 0; border: 0; vertical-align: top; white-space: nowra
 .program li.changed { border-left-color: var(--mark); background: var(--was); } .program li.changed.lit { background: var(--touch); }
 #code-head { position: sticky; top: -8px; margin-top: -8px; padding-top: 8px; background: var(--card); }
 #holds { border-bottom: 1px solid var(--line); padding-bottom: 3px; min-height: 7.4em; } .part:first-child h3 { margin-top: 5px; }
+#law .row { flex-wrap: nowrap; align-items: flex-start; } #law .row button { flex: none; } #law .row span { padding-top: 5px; }
 .change { font-size: 12.5px; white-space: pre-wrap; overflow-wrap: anywhere; margin: 2px 0; padding: 2px 6px; border-radius: 4px; display: block; text-decoration: none; }
 del.change { background: var(--was); } ins.change { background: var(--is); }
 pre, textarea { margin: 0; max-height: 320px; overflow: auto; white-space: pre-wrap; overflow-wrap: anywhere; }
@@ -171,7 +172,7 @@ body.bare header, body.bare #intro, body.bare #choose, body.bare footer { displa
   :root { color-scheme: light; --back: #fff; --card: #fff; --ink: #000; --dim: #444; --line: #999; --edge: #555; --mark: #8c1d18; --enter: #1d4f9e; --wait: #7a4900; --serve: #125c38; --hand: #6b2d92; --answer: #075b66; --rest: #555; --touch: #fff0b8; --touch-line: #8a6700; --turn: #dcefe4; --was: #fbe4e2; --is: #dff2e6; }
   * { print-color-adjust: exact; -webkit-print-color-adjust: exact; }
   body { font-size: 10pt; } #program { columns: 2; } .part { break-inside: avoid; } .intro svg { min-width: 0; }
-  nav, #choose, footer, .skip, #player .row, #add, #moments, #lesson .row, .more, #texts, #tip { display: none !important; }
+  nav, #choose, footer, .skip, #player .row, #add, #moments, #lesson .row, .more, #law button, #texts, #tip { display: none !important; }
   #player, #code, #code-head { position: static; box-shadow: none; max-height: none; overflow: visible; }
   #lanes, .list, .strip { max-height: none; overflow: visible; } #cells, #turns { overflow: hidden; }
   #law button, #law details:not([open]) { display: none; }
@@ -275,7 +276,6 @@ body.bare header, body.bare #intro, body.bare #choose, body.bare footer { displa
 <p id=\"lesson-text\"></p>
 <div class=\"moment\" id=\"moment\"><div id=\"moments\" role=\"group\" aria-label=\"moments of this run\"></div><div id=\"moment-text\"></div></div>
 <p class=\"dim\" id=\"config\"></p>
-<div id=\"law\"></div>
 </section>
 <section class=\"card\" id=\"passes\" aria-labelledby=\"lanes-title\">
 <div class=\"top\">
@@ -291,6 +291,10 @@ body.bare header, body.bare #intro, body.bare #choose, body.bare footer { displa
 <div id=\"turns\"></div>
 <div id=\"lanes\" tabindex=\"0\" role=\"group\" aria-label=\"lanes of the passes\"><div id=\"names\"></div><div id=\"cells\"></div></div>
 <p class=\"legend\" id=\"legend\"></p>
+</section>
+<section class=\"card\" id=\"law-card\" aria-labelledby=\"law-title\" hidden>
+<h2 id=\"law-title\">What is broken</h2>
+<div id=\"law\"></div>
 </section>
 <section class=\"card\" id=\"code\" tabindex=\"0\" aria-labelledby=\"code-title\">
 <div id=\"code-head\"><h2 id=\"code-title\">The program, and the line of this step</h2><div id=\"holds\"></div></div>
@@ -1836,7 +1840,9 @@ function drawLesson() {
 
 // The law that a broken table breaks, and how the table was changed.
 function drawLaw() {
-  if (!run.variant && !(source.lesson && source.lesson.table)) { show('law', ''); return; }
+  const is_broken = !!run.variant || !!(source.lesson && source.lesson.table);
+  $('law-card').hidden = !is_broken;
+  if (!is_broken) { show('law', ''); return; }
   const variant = run.variant || source.lesson.table;
   let html = '';
   if (run.variant) {
