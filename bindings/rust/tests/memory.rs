@@ -85,24 +85,25 @@ fn calls_that_do_not_wait_ask_for_none() {
 #[test]
 fn a_second_wait_asks_for_none() {
     const SOON: Duration = Duration::from_millis(2);
+    // On busy processors a short time is over before the thread parks, and so before its first wait.
+    const LATER: Duration = Duration::from_millis(60);
     let (sender, receiver) = channel(1).unwrap();
-    let waits = || {
-        assert_eq!(receiver.recv_timeout(SOON), Err(RecvTimeoutError::Timeout));
+    let waits = |time| {
+        assert_eq!(receiver.recv_timeout(time), Err(RecvTimeoutError::Timeout));
         sender.send(1).unwrap();
-        let told = sender.send_timeout(2, SOON);
+        let told = sender.send_timeout(2, time);
         assert_eq!(told, Err(SendTimeoutError::Timeout(2)));
         assert_eq!(receiver.recv(), Ok(1));
     };
-    // Where the processors are busy, one may time out before it waits.
-    (0..5).for_each(|_| waits());
-    assert_eq!(asked(waits), 0);
+    (0..3).for_each(|_| waits(LATER));
+    assert_eq!(asked(|| waits(SOON)), 0);
 
     let (there, here) = channel(1).unwrap();
     let ready = &Barrier::new(2);
     thread::scope(|scope| {
         let takes = scope.spawn(move || {
-            for _ in 0..5 {
-                assert_eq!(here.recv_timeout(SOON), Err(RecvTimeoutError::Timeout));
+            for _ in 0..3 {
+                assert_eq!(here.recv_timeout(LATER), Err(RecvTimeoutError::Timeout));
             }
             ready.wait();
             asked(|| assert!(here.iter().eq(0..6)))
