@@ -23,13 +23,13 @@ CALLS = 300
 
 # What the crate's user writes, and the most instructions that it may cost.
 IN_RUST = {
-    "send and recv of a word": ("let (s, r) = channel::<u64>(64)?;", "s.send(i).unwrap(); assert_eq!(r.recv(), Ok(i));", 836),
-    "try_send and try_recv of a word": ("let (s, r) = channel::<u64>(64)?;", "s.try_send(i).unwrap(); assert_eq!(r.try_recv(), Ok(i));", 863),
-    "four words": ("let (s, r) = channel::<[u64; 4]>(64)?;", "s.send([i; 4]).unwrap(); assert_eq!(r.recv(), Ok([i; 4]));", 1197),
-    "two groups": ("let (s, r) = groups::<u64>(64, 2)?;", "s.send(i).unwrap(); for r in &r { assert_eq!(r.recv(), Ok(i)); }", 1433),
-    "a refused try_send": ("let (s, _r) = channel::<u64>(1)?; s.send(0).unwrap();", "assert!(s.try_send(i).is_err());", 783),
+    "send and recv of a word": ("let (s, r) = channel::<u64>(64)?;", "s.send(i).unwrap(); assert_eq!(r.recv(), Ok(i));", 848),
+    "try_send and try_recv of a word": ("let (s, r) = channel::<u64>(64)?;", "s.try_send(i).unwrap(); assert_eq!(r.try_recv(), Ok(i));", 875),
+    "four words": ("let (s, r) = channel::<[u64; 4]>(64)?;", "s.send([i; 4]).unwrap(); assert_eq!(r.recv(), Ok([i; 4]));", 1209),
+    "two groups": ("let (s, r) = groups::<u64>(64, 2)?;", "s.send(i).unwrap(); for r in &r { assert_eq!(r.recv(), Ok(i)); }", 1453),
+    "a refused try_send": ("let (s, _r) = channel::<u64>(1)?; s.send(0).unwrap();", "assert!(s.try_send(i).is_err());", 467),
 }
-IN_C = ("vahepito_try_send and vahepito_try_take", 640)
+IN_C = ("vahepito_try_send and vahepito_try_take", 650)
 RUST = """use vahepito::{channel, groups};
 
 fn main() -> Result<(), Box<dyn std::error::Error>> {
@@ -77,8 +77,9 @@ def build_rust(room):
     with open(os.path.join(room, "Cargo.toml"), "w") as file:
         file.write('[package]\nname = "counted"\nversion = "0.1.0"\nedition = "2024"\n\n[workspace]\n\n[dependencies]\n'
                    f'vahepito = {{ path = "{TOP}/bindings/rust" }}\n')
-    subprocess.run(["cargo", "build", "--quiet", "--release", "--offline"], cwd=room, check=True)
-    return os.path.join(room, "target", "release", "counted")
+    target = os.path.join(room, "target")
+    subprocess.run(["cargo", "build", "--quiet", "--release", "--offline", "--target-dir", target], cwd=room, check=True)
+    return os.path.join(target, "release", "counted")
 
 
 def build_c(room):

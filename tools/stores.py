@@ -7,14 +7,14 @@
 
 The argument. All of the library's atomic steps are sequentially consistent, so that each store is an `xchg [word], reg`, which
 is locked. `mov [word], reg` has the same length: one byte differs, 0x87 and 0x89. On x86-TSO a plain store differs from a
-locked one in two ways. It leaves nothing in `reg`: nobody may read that. And it waits in its thread's store buffer: the laws of
-crates/cc_x86 say that this can't be seen if the thread neither loads a shared word nor returns before its next locked
-instruction, which waits until the buffer is empty.
+locked one in two ways. It doesn't load the old value into `reg`, so no instruction may use that. And the store waits in its
+thread's buffer. The laws of crates/cc_x86 say that this can't be seen, if the thread executes a locked instruction before it
+loads a shared word or returns: a locked instruction waits until the buffer is empty.
 
-So this is to be shown of each change, on every path through the function behind it, and it is shown by following where each
-pointer comes from (x86/flow.py), from the path by which the function reaches the shared words, which is told
-(x86/discipline.py). What isn't known to be right is refused: an instruction or a jump that isn't known, a pointer to the
-words that is lost sight of, a call, a load by a pointer that isn't the thread's own. Functions that open queues or drop
+Both are shown for each change, on every path through the function. To know which loads are of shared words, the checker follows
+where each pointer comes from (x86/flow.py). It is given the path by which a function reaches the shared words
+(x86/discipline.py). The checker refuses all that it doesn't know to be right: an unknown instruction or jump, a pointer to the
+words that it loses sight of, a call, a load by a pointer that isn't the thread's own. Functions that open queues or drop
 handles have the same bytes in both. How many stores may be plain isn't written down anywhere, since another compiler decides
 otherwise.
 

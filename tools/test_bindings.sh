@@ -42,7 +42,7 @@ fi
 # Without valgrind and the rest no lines are needed, and a twentieth of the rounds of the long tests is made.
 [ -z "$quick" ] || export VAHEPITO_ROUNDS=5 CARGO_PROFILE_DEV_DEBUG=none
 limit=600 step 'Rust: tests' cargo "${options[@]}" test
-limit=600 step 'Rust: tests with the feature strict' cargo "${options[@]}" test --tests --features strict
+limit=600 step 'Rust: tests with the feature strict' env "VAHEPITO_ROUNDS=${VAHEPITO_ROUNDS:-25}" cargo "${options[@]}" test --tests --features strict
 limit=600 step 'Rust: tests with the feature unproved' env VAHEPITO_ROUNDS=5 cargo "${options[@]}" test --features unproved
 step 'Rust: the feature unproved is warned of' bash -c "cargo check --locked --offline --features unproved 2>&1 | grep 'warning: .* nothing is proved'"
 step 'Rust: the thread pool' bash -c "prints '9592 primes below 100000' cargo ${options[*]} run --example thread_pool"
@@ -56,6 +56,8 @@ for archive in "$room"/c/*/libvahepito.a; do
         "CARGO_TARGET_DIR=$room/others" cargo "${options[@]}" test --test other_library -- --ignored
 done
 if [ -n "$quick" ]; then end_steps; fi
+
+step 'The instructions of calls' "$top/tests/instructions.py"
 
 if cargo clippy --version >/dev/null 2>&1; then
     step 'Rust: clippy' cargo "${options[@]}" clippy --all-targets -- -D warnings

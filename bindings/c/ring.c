@@ -43,13 +43,13 @@ static struct place *claim(_Atomic uint64_t *next, uint64_t shift, uint64_t *num
 }
 
 static bool try_send(uint64_t item) {
-    const struct timespec pause = {0, 50000};
+    const struct timespec window = {0, 200000};
     uint64_t at;
     struct place *place = claim(&next_send, 0, &at);
     if (!place) return false;
     if (early && at % 100 == 99) {
         atomic_store(&place->turn, at + 1);
-        nanosleep(&pause, NULL); /* so that a take comes in between */
+        nanosleep(&window, NULL); /* so that a take comes in between */
         atomic_store(&place->item, item);
     } else {
         atomic_store(&place->item, item);
@@ -67,6 +67,9 @@ static bool try_take(uint64_t *item) {
     return true;
 }
 
+/* The time until a call that found no room or no item is made again: each such call is a line of the log. */
+static const struct timespec short_while = {0, 20000};
+
 static vahepito_log calls;
 static vahepito_recorder recorders[THREADS];
 static uint64_t items = 5000;
@@ -81,7 +84,7 @@ static void *sends(void *mine) {
         const bool accepted = try_send(first + 2 * sent);
         vahepito_end_recorded_send(recorder, accepted ? VAHEPITO_SENT : VAHEPITO_WAS_FULL);
         if (accepted) sent++;
-        else sched_yield();
+        else nanosleep(&short_while, NULL);
     }
     atomic_fetch_sub(&sending, 1);
     atomic_fetch_sub(&running, 1);
@@ -98,7 +101,7 @@ static void *takes(void *mine) {
         const bool got = try_take(&item);
         vahepito_end_recorded_take(recorder, got ? VAHEPITO_TOOK : VAHEPITO_FOUND_NONE, item);
         if (!got && last) break;
-        if (!got) sched_yield();
+        if (!got) nanosleep(&short_while, NULL);
     }
     atomic_fetch_sub(&running, 1);
     return NULL;

@@ -6,7 +6,7 @@ any look: a load that may be of a shared word, a call, a return, or anything tha
 import re
 
 from x86.decode import Instruction
-from x86.flow import ARGUMENTS, LOST_BY_A_CALL, NUMBER, Function, paths
+from x86.flow import ARGUMENTS, LOST_BY_A_CALL, Function, paths
 from x86.objects import Refused
 
 # What is told, and not found: by which path a function of each kind reaches the words of the table. Before it come the handle and

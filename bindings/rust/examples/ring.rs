@@ -13,6 +13,9 @@ use std::thread;
 use std::time::Duration;
 use vahepito::record::{Log, Recorder, Sent, Taken};
 
+/// The time until a call that found no room or no item is made again: each such call is a line of the log.
+const PAUSE: Duration = Duration::from_micros(20);
+
 struct Place {
     turn: AtomicU64,
     item: AtomicU64,
@@ -67,7 +70,7 @@ impl Ring {
         };
         if self.early && at % 100 == 99 {
             place.turn.store(at + 1, Ordering::SeqCst);
-            thread::sleep(Duration::from_micros(50)); // so that a take comes in between
+            thread::sleep(Duration::from_micros(200)); // so that a take comes in between
             place.item.store(item, Ordering::SeqCst);
         } else {
             place.item.store(item, Ordering::SeqCst);
@@ -91,7 +94,7 @@ impl Ring {
 fn sends(ring: &Ring, recorder: &mut Recorder, first: u64, items: u64) {
     for item in (first..).step_by(2).take(items as usize) {
         while recorder.send(item, || ring.send(item)) == Sent::Full {
-            thread::yield_now();
+            thread::sleep(PAUSE);
         }
     }
 }
@@ -104,7 +107,7 @@ fn takes(ring: &Ring, recorder: &mut Recorder, left: &AtomicU64) {
             if is_last {
                 return;
             }
-            thread::yield_now();
+            thread::sleep(PAUSE);
         }
     }
 }

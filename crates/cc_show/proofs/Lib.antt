@@ -1,3 +1,4 @@
+pub mod Room
 pub mod Texts
 pub mod Seen
 pub mod Events

@@ -79,9 +79,9 @@ kbd { border: 1px solid var(--edge); border-radius: 4px; padding: 0 4px; font: 1
 #more-toggle { display: none; }
 @media (min-width: 1100px) {
   #event { min-height: 1.45em; }
-  #stage { grid-template-columns: minmax(0, 1fr) 436px; grid-template-rows: auto auto auto auto auto 1fr; }
+  #stage { grid-template-columns: minmax(0, 1fr) 436px; grid-template-rows: auto auto auto auto auto auto 1fr; }
   #stage > * { grid-column: 1; } #player { grid-column: 1 / -1; }
-  #code { grid-column: 2; grid-row: 2 / span 5; align-self: start; position: sticky; top: calc(var(--bar) + 8px); max-height: calc(100vh - var(--bar) - 34px); overflow: auto; }
+  #code { grid-column: 2; grid-row: 2 / span 6; align-self: start; position: sticky; top: calc(var(--bar) + 8px); max-height: calc(100vh - var(--bar) - 34px); overflow: auto; }
 }
 .top { display: flex; flex-wrap: wrap; gap: 2px 16px; align-items: center; justify-content: space-between; }
 #body { width: 10.5em; }
@@ -143,6 +143,7 @@ td, th { padding: 0 10px 0 0; border: 0; vertical-align: top; white-space: nowra
 .program li.changed { border-left-color: var(--mark); background: var(--was); } .program li.changed.lit { background: var(--touch); }
 #code-head { position: sticky; top: -8px; margin-top: -8px; padding-top: 8px; background: var(--card); }
 #holds { border-bottom: 1px solid var(--line); padding-bottom: 3px; min-height: 7.4em; } .part:first-child h3 { margin-top: 5px; }
+#law .row { flex-wrap: nowrap; align-items: flex-start; } #law .row button { flex: none; } #law .row span { padding-top: 5px; }
 .change { font-size: 12.5px; white-space: pre-wrap; overflow-wrap: anywhere; margin: 2px 0; padding: 2px 6px; border-radius: 4px; display: block; text-decoration: none; }
 del.change { background: var(--was); } ins.change { background: var(--is); }
 pre, textarea { margin: 0; max-height: 320px; overflow: auto; white-space: pre-wrap; overflow-wrap: anywhere; }
@@ -171,7 +172,7 @@ body.bare header, body.bare #intro, body.bare #choose, body.bare footer { displa
   :root { color-scheme: light; --back: #fff; --card: #fff; --ink: #000; --dim: #444; --line: #999; --edge: #555; --mark: #8c1d18; --enter: #1d4f9e; --wait: #7a4900; --serve: #125c38; --hand: #6b2d92; --answer: #075b66; --rest: #555; --touch: #fff0b8; --touch-line: #8a6700; --turn: #dcefe4; --was: #fbe4e2; --is: #dff2e6; }
   * { print-color-adjust: exact; -webkit-print-color-adjust: exact; }
   body { font-size: 10pt; } #program { columns: 2; } .part { break-inside: avoid; } .intro svg { min-width: 0; }
-  nav, #choose, footer, .skip, #player .row, #add, #moments, #lesson .row, .more, #texts, #tip { display: none !important; }
+  nav, #choose, footer, .skip, #player .row, #add, #moments, #lesson .row, .more, #law button, #texts, #tip { display: none !important; }
   #player, #code, #code-head { position: static; box-shadow: none; max-height: none; overflow: visible; }
   #lanes, .list, .strip { max-height: none; overflow: visible; } #cells, #turns { overflow: hidden; }
   #law button, #law details:not([open]) { display: none; }
@@ -275,7 +276,6 @@ body.bare header, body.bare #intro, body.bare #choose, body.bare footer { displa
 <p id=\"lesson-text\"></p>
 <div class=\"moment\" id=\"moment\"><div id=\"moments\" role=\"group\" aria-label=\"moments of this run\"></div><div id=\"moment-text\"></div></div>
 <p class=\"dim\" id=\"config\"></p>
-<div id=\"law\"></div>
 </section>
 <section class=\"card\" id=\"passes\" aria-labelledby=\"lanes-title\">
 <div class=\"top\">
@@ -291,6 +291,10 @@ body.bare header, body.bare #intro, body.bare #choose, body.bare footer { displa
 <div id=\"turns\"></div>
 <div id=\"lanes\" tabindex=\"0\" role=\"group\" aria-label=\"lanes of the passes\"><div id=\"names\"></div><div id=\"cells\"></div></div>
 <p class=\"legend\" id=\"legend\"></p>
+</section>
+<section class=\"card\" id=\"law-card\" aria-labelledby=\"law-title\" hidden>
+<h2 id=\"law-title\">What is broken</h2>
+<div id=\"law\"></div>
 </section>
 <section class=\"card\" id=\"code\" tabindex=\"0\" aria-labelledby=\"code-title\">
 <div id=\"code-head\"><h2 id=\"code-title\">The program, and the line of this step</h2><div id=\"holds\"></div></div>
@@ -348,7 +352,7 @@ first and the last event, <kbd>Page up</kbd> and <kbd>Page down</kbd> to decisio
 {\"kind\":\"example\",\"id\":\"bound_one\",\"title\":\"Bound 1\",\"text\":\"The combiner hands over after one call, and the second send is pending.\",\"plan\":{\"capacity\":2,\"bound\":1,\"life\":10,\"senders\":[[7],[9]],\"receivers\":[0],\"schedule\":[[\"s1\",3],[\"s2\",100],[\"s1\",100]]},\"moments\":[]},
 {\"kind\":\"example\",\"id\":\"cut_before_the_link\",\"title\":\"Cut before the link\",\"text\":\"A send that stops one step before its decision is pending.\",\"plan\":{\"capacity\":2,\"bound\":2,\"life\":10,\"senders\":[[7]],\"receivers\":[1],\"schedule\":[[\"s1\",19]]},\"moments\":[]},
 {\"kind\":\"example\",\"id\":\"one_item\",\"title\":\"One item\",\"text\":\"One item is sent and taken.\",\"plan\":{\"capacity\":2,\"bound\":2,\"life\":10,\"senders\":[[7]],\"receivers\":[1],\"schedule\":[[\"s1\",100],[\"r1\",100]]},\"moments\":[]},
-{\"kind\":\"broken\",\"id\":\"marked_early\",\"title\":\"Marked done before the next link is read\",\"text\":\"This [[combiner]] marks a node done first, and reads the next link of the node after that. In between, the owner of the node returns, begins another send, and clears the link.\",\"plan\":{\"capacity\":4,\"bound\":4,\"life\":10,\"senders\":[[1],[2,4],[3]],\"receivers\":[3],\"schedule\":[[\"s1\",6],[\"s2\",6],[\"s3\",6],[\"s1\",38],[\"s2\",5],[\"s1\",3],[\"s2\",5],[\"s3\",4],[\"r1\",63],[\"s3\",2]]},\"moments\":[[56,\"MarkDone\",\"s1 marks the node of s2 done, and has not read the next link of that node yet.\"],[59,\"ResetNext\",\"s2 has returned and begins its next send: it clears the next link, which was the way to s3.\"],[63,\"HandOver\",\"s1 finds null and hands over, to the node of s2. The call of s3, which is the first without an answer, is skipped.\"],[70,\"ReadState\",\"s3 waits, and no pass will ever serve it.\"],[130,\"ReadDummyNext\",\"r1 takes 1 and 2, and then the queue is empty. The item 3 was never sent.\"]],\"table\":\"marked_early\",\"breaks\":\"hand\",\"lost\":\"Lost: the item 3 of s3, whose send never returns.\"},
+{\"kind\":\"broken\",\"id\":\"marked_early\",\"title\":\"Marked done before the next link is read\",\"text\":\"This [[combiner]] marks a node done first, and reads the next link of the node after that. In between, the owner of the node returns, begins another send, and clears the link.\",\"plan\":{\"capacity\":4,\"bound\":4,\"life\":10,\"senders\":[[1,5],[2,4],[3]],\"receivers\":[3],\"schedule\":[[\"s1\",6],[\"s2\",6],[\"s3\",6],[\"s1\",38],[\"s2\",5],[\"s1\",3],[\"s2\",5],[\"s3\",4],[\"s1\",29],[\"r1\",72],[\"s3\",2]]},\"moments\":[[56,\"MarkDone\",\"s1 marks the node of s2 done, and has not read the next link of that node yet.\"],[59,\"ResetNext\",\"s2 has returned and begins its next send: it clears the next link, which was the way to s3.\"],[63,\"HandOver\",\"s1 finds null and hands over, to the node of s2. The call of s3, which is the first without an answer, is skipped.\"],[70,\"ReadState\",\"s3 waits, and no pass will ever serve it.\"],[81,\"ReadNext\",\"s1 sends again. It got the node with state 0, so it serves its own call, past the calls of s3 and s2.\"],[164,\"AddPassed\",\"r1 gets the item 5 in the place of the item 3, which was never sent.\"]],\"table\":\"marked_early\",\"breaks\":\"hand\",\"lost\":\"Lost: the item 3 of s3, whose send never returns.\"},
 {\"kind\":\"broken\",\"id\":\"handed_past\",\"title\":\"Handed over past a request\",\"text\":\"At the bound this [[combiner]] reads one link too many, and hands over to the node after the one where it has to stop.\",\"plan\":{\"capacity\":4,\"bound\":1,\"life\":10,\"senders\":[[1],[2],[3]],\"receivers\":[3],\"schedule\":[[\"s1\",6],[\"s2\",6],[\"s3\",6],[\"s1\",22],[\"s3\",22],[\"s2\",4],[\"r1\",60],[\"s2\",2]]},\"moments\":[[37,\"MarkDone\",\"s1 has served one call, as many as the bound. The next request is that of s2.\"],[39,\"HandOver\",\"s1 hands over to the node of s3, past the request of s2.\"],[42,\"ReadNext\",\"s3 serves its own call, and the first call without an answer is that of s2.\"],[62,\"ReadAnswer\",\"s3 returns accepted 1, and by the history this is the answer of s2.\"],[103,\"AddPassed\",\"r1 gets the item 3 in the place of the item 2.\"]],\"table\":\"handed_past\",\"breaks\":\"hand\",\"lost\":\"Lost: the item 2 of s2, whose send never returns.\"},
 {\"kind\":\"broken\",\"id\":\"freed_dummy\",\"title\":\"Freed while the node is the dummy\",\"text\":\"This take adds to the [[passed]] count of the node that it took the item from. But this node is the [[dummy]] from now on, and a send may use it.\",\"plan\":{\"capacity\":1,\"bound\":2,\"life\":10,\"senders\":[[5,6]],\"receivers\":[3],\"schedule\":[[\"s1\",28],[\"r1\",23],[\"s1\",29],[\"r1\",46]]},\"moments\":[[42,\"AddPassed\",\"r1 took the item 5 out of node 1, and frees node 1, which is the dummy.\"],[67,\"ResetListNode\",\"The next send finds node 1 free and clears it, while the head names it.\"],[72,\"LinkLast\",\"Node 1 is linked to itself.\"],[94,\"AddPassed\",\"r1 gets the item 6 from node 1.\"],[117,\"AddPassed\",\"r1 gets the item 6 again: the link of node 1 leads to node 1.\"]],\"table\":\"freed_dummy\",\"breaks\":\"reset\",\"lost\":\"Got twice: the item 6.\"},
 {\"kind\":\"broken\",\"id\":\"one_group\",\"title\":\"Freed after one group\",\"text\":\"This send uses a node as soon as one [[group]] has gone past it. Another group may still need the node.\",\"plan\":{\"version\":2,\"groups\":2,\"capacity\":2,\"bound\":2,\"life\":10,\"senders\":[[[5],[6],[7]]],\"receivers\":[1,3],\"schedule\":[[\"s1\",56],[\"r1\",23],[\"s1\",28],[\"r2\",42]]},\"moments\":[[70,\"AddPassed\",\"Group 1 has gone past node 0. Node 0 is still the dummy of group 2.\"],[94,\"ResetListNode\",\"The third send uses node 0 and clears it.\"],[95,\"ResetListNode\",\"Now the next link of node 0 is null, and group 2 has lost its way to the items 5 and 6.\"],[116,\"ReadDummyNext\",\"r2 reads null after the dummy and returns Empty, while three items wait for group 2.\"]],\"table\":\"one_group\",\"breaks\":\"reset\",\"lost\":\"Lost for group 2: the items 5, 6 and 7.\"},
@@ -840,7 +844,7 @@ function planOfText(text) {
 const LAWS = {
   one: ['At most one pass of a chain combines.', 'laws_of_chains'],
   first: ['A combiner serves the first call that has no answer.', 'laws_of_chains'],
-  hand: ['A hand-over reaches the first call that has no answer.', 'laws_of_chains'],
+  hand: ['A hand-over reaches the first call that has no answer.', 'proofs/Combining, which carries laws_of_chains'],
   reset: ['A list node is used again only after every group has gone past it.', 'nodes_are_reset_after_their_take'],
   fifo: ['First in, first out: take k of a group gets the item that was accepted as k.', 'histories_are_fifo'],
   full: ['Full means that as many items wait as the capacity, by what the call can know.', 'histories_are_legal'],
@@ -1836,7 +1840,9 @@ function drawLesson() {
 
 // The law that a broken table breaks, and how the table was changed.
 function drawLaw() {
-  if (!run.variant && !(source.lesson && source.lesson.table)) { show('law', ''); return; }
+  const is_broken = !!run.variant || !!(source.lesson && source.lesson.table);
+  $('law-card').hidden = !is_broken;
+  if (!is_broken) { show('law', ''); return; }
   const variant = run.variant || source.lesson.table;
   let html = '';
   if (run.variant) {

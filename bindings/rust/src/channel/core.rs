@@ -167,10 +167,11 @@ impl<T> Core<T> {
     /// Sends by this seat. If it isn't sent, gives the code, and the number of the queue.
     #[inline]
     pub fn send_by(&self, seat: &mut Held, item: &mut Unsent<T>) -> Result<(), (u32, u64)> {
-        hands_over(self);
         let (pass, groups) = (seat.pass(), self.shares.load(Ordering::Relaxed));
-        let send = |words: &_| pass.handle.send(words, words_of(self.copies));
-        let code = item.send_by(groups, send);
+        let code = item.send_by(groups, |words| {
+            hands_over(self);
+            pass.handle.send(words, words_of(self.copies))
+        });
         if code != code::ACCEPTED {
             return Err((code, pass.queue));
         }
