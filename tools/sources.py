@@ -22,8 +22,8 @@ def crates(files):
 
 
 def read_files():
-    """The text of each file that the crates are made of, by its path from the top."""
-    files = {"crates.txt": (TOP / "crates.txt").read_text()}
+    """The text of each file that the crates are made of, and of docs/PROVED.md, by its path from the top."""
+    files = {path: (TOP / path).read_text() for path in ("crates.txt", "docs/PROVED.md")}
     for name in crates(files):
         for kind in ("src/**/*.rt", "specs/**/*.antt"):
             for path in (TOP / "crates" / name).glob(kind):

@@ -4,7 +4,7 @@
     tools/statements.py            compares the texts with the sources; exit status 0 if they are the same
     tools/statements.py --write    writes the texts anew
 
-For each public item that is its signature, its `requires` and `ensures`, the fields of a type, its model and its
+For each public item, and each function that docs/PROVED.md names, that is its signature, its `requires` and `ensures`, the fields of a type, its model and its
 invariant, and what its impls give to a trait; and then each definition of specs/ that these name, and all that these
 definitions name, with the types and constants of the code among it. Comments and layout are left out, and what stands side
 by side is in the order of its names. So a change of a statement is a change of a text that a reviewer sees. No prover runs.
@@ -30,7 +30,7 @@ WIDTH = 130
 class Crate:
     """The items of a crate and its definitions, each by the module that it stands in."""
 
-    def __init__(self, name, files):
+    def __init__(self, name, files, cited):
         self.name = name
         self.code, self.specs = {}, {}
         for path, text in files.items():
@@ -42,6 +42,7 @@ class Crate:
             except Unreadable as why:
                 raise Unreadable(f"{path}: {why}") from None
         self.leave_out_tests()
+        self.code = {module: [with_cited(item, cited) for item in items] for module, items in self.code.items()}
         self.types, self.imports = {}, {}
         for module, items in self.code.items():
             rust = [pair for use in items if use.kind == "use" and not use.public for pair in imports_of(use.head)]
@@ -65,7 +66,8 @@ class Reach:
     """All that the public items of the crates reach: items, definitions, and the imports by which they name these."""
 
     def __init__(self, files):
-        self.crates = {name: Crate(name, files) for name in crates(files)}
+        cited = cited_by_crate(files)
+        self.crates = {name: Crate(name, files, cited.get(name, set()) | cited[""]) for name in crates(files)}
         # For each crate, for each module of the code: each item that is reached, an impl with the parts that are.
         self.items = {name: {} for name in self.crates}
         # For each crate, for each module of specs/: the names that are reached.
@@ -80,7 +82,7 @@ class Reach:
             self.open.pop()()
 
     def begin(self, crate, module, items):
-        """Reaches all that is public in a module of the code, and the main function of a program."""
+        """Reaches all that is public or cited in a module of the code, and the main function of a program."""
         for item in items:
             if item.kind == "file" or item.kind == "macro":
                 self.reach_item(crate, module, item)
@@ -208,6 +210,27 @@ class Reach:
         raise Unreadable(f"{'/'.join(here)}: no type or constant of {crate.name} is named in {'.'.join(rest)}")
 
 
+def cited_by_crate(files):
+    """The names that docs/PROVED.md has in backticks, by the crate of the heading above them, or by "" for any crate."""
+    cited = {"": set()}
+    for part in re.split(r"^#", files["docs/PROVED.md"], flags=re.M):
+        heading, _, text = part.partition("\n")
+        found = re.findall(r"`(\w+)`", heading)
+        names = {path.split("::")[-1] for path in re.findall(r"`((?:\w+::)*\w+)`", text)}
+        for crate in found or [""]:
+            cited.setdefault(crate, set()).update(names)
+    return cited
+
+
+def with_cited(item, cited):
+    """The item, where a function with one of these names counts as public."""
+    if item.kind == "fn" and item.name in cited:
+        return dataclasses.replace(item, public=True)
+    if item.kind == "impl" and not is_of_trait(item):
+        return dataclasses.replace(item, parts=[with_cited(part, cited) for part in item.parts])
+    return item
+
+
 def is_of_trait(item):
     return " for " in item.head
 
@@ -219,14 +242,20 @@ def ghost_imports(items, block):
 
 
 def imports_with_parts(pairs):
-    """The imports, and each again by the signs of its operator: `if◌then◌else◌` is known by `if`, `then`, `else`."""
+    """The imports, and each again by the signs of its operator: `if◌then◌else◌` is known by `if`, `then`, `else`. An operator
+    has its own name everywhere."""
+    for name, path in pairs:
+        if "◌" in name + path[-1] and name != path[-1]:
+            raise Unreadable(f"an operator has another name where it is used: {'.'.join(path)} as {name}")
     return pairs + [(sign, path) for name, path in pairs if "◌" in name for sign in name.split("◌") if sign]
 
 
 @functools.lru_cache(maxsize=None)
 def names_in(text):
-    """The names in a text, each as the list of its words between dots; one that begins with a dot is a field."""
-    return [words for words in words_of(text) if words[0]]
+    """The names in a text, each as the list of its words between dots; one that begins with a dot is a field. The lines of a
+    `do` are joined by the `>>=` that is known there."""
+    names = [words for words in words_of(text) if words[0]]
+    return names + [[">>="]] if ["do"] in names else names
 
 
 # ---------------------------------------------------------------- the text

@@ -1,5 +1,5 @@
 -- The answer of a run by threads, its texts, and its status.
-use Rattle.std.specs.Prelude.{ℕ, ◌≡◌, ◌⊎◌, ◌+◌, ◌++◌, List, [], codes, Option, Result, Ok, Err}
+use Rattle.std.specs.Prelude.{ℕ, ◌≡◌, ◌⊎◌, ◌+◌, ◌*◌, ◌++◌, List, [], codes, Option, Result, Ok, Err}
 use Rattle.std.specs.Io.KnownBytes.{Keeps, Appends}
 use Rattle.clap.specs.declared.error.kind.ErrorKind.{ErrorKind}
 use Rattle.cc_model.specs.Items.{IsFront}
@@ -7,8 +7,10 @@ use Rattle.cc_device.specs.Written.{word_text}
 use Rattle.cc_audit.specs.declared.receipt.Verdict.{Verdict}
 use Rattle.cc_plan.specs.Report.{verdict_text}
 use Rattle.cc_play.specs.Outcome.{Told, no_memory_line}
+use Rattle.cc_drive.specs.declared.config.DriveConfig.{DriveConfig}
 use Rattle.cc_drive.specs.declared.config.DriveEnd.{DriveEnd}
 use Rattle.cc_drive.specs.declared.config.DriveFault.{DriveFault}
+use Rattle.cc_command.specs.Line.{IsAsked}
 use Rattle.cc_command.specs.Run.{Declines}
 use Rattle.cc_command.specs.declared.driving.RunFault.{RunFault}
 
@@ -20,17 +22,18 @@ counts_text sent taken = word_text (codes "sent ") sent ++ word_text (codes "\nt
 unfoldable pub end_text : DriveEnd → List ℕ
 end_text e = counts_text e.sent e.taken ++ verdict_text e.verdict
 
--- all that was sent was taken, and the audit finds nothing wrong
-pub record IsWhole (e : DriveEnd) : Type 0 where
+-- all items of all senders were sent and taken, and the audit finds nothing wrong
+pub record IsWhole (c : DriveConfig) (e : DriveEnd) : Type 0 where
   pub clean : e.verdict ≡ Verdict.Clean
   pub all_taken : e.taken ≡ e.sent
+  pub all_sent : e.sent ≡ c.senders * c.items
 
 -- The bytes that a run leaves on the sink, with its number of failed writes: the whole text of its end, a prefix of it if a
 -- write failed, and nothing if it has no end.
-abbrev pub Leaves : Result DriveEnd RunFault → Option (List ℕ) → Option (List ℕ) → ℕ → ℕ → Type 0
-Leaves (Ok e) old new fails fails_after = IsWhole e × Appends old new (end_text e) × (fails_after ≡ fails)
-Leaves (Err RunFault.Write) old new fails fails_after = (e : DriveEnd) × (front : List ℕ) × IsWhole e × IsFront front (end_text e) × Appends old new front × (fails_after ≡ fails + 1)
-Leaves (Err (RunFault.Drive f)) old new fails fails_after = Keeps old new × (fails_after ≡ fails)
+abbrev pub Leaves : DriveConfig → Result DriveEnd RunFault → Option (List ℕ) → Option (List ℕ) → ℕ → ℕ → Type 0
+Leaves c (Ok e) old new fails fails_after = IsWhole c e × Appends old new (end_text e) × (fails_after ≡ fails)
+Leaves c (Err RunFault.Write) old new fails fails_after = (e : DriveEnd) × (front : List ℕ) × IsWhole c e × IsFront front (end_text e) × Appends old new front × (fails_after ≡ fails + 1)
+Leaves c (Err (RunFault.Drive f)) old new fails fails_after = Keeps old new × (fails_after ≡ fails)
 
 -- the exit status
 abbrev pub status_of : Result Verdict RunFault → ℕ
@@ -54,11 +57,11 @@ abbrev pub verdict_in : Result DriveEnd RunFault → Result Verdict RunFault
 verdict_in (Ok e) = Ok e.verdict
 verdict_in (Err f) = Err f
 
--- The bytes that a line of a drive leaves on both outputs: it is done and its outcome reported, or the line is declined for
--- its fault.
+-- The bytes that a line of a drive leaves on both outputs: the drive that it asks for is done and its outcome reported, or the
+-- line is declined for its fault.
 module _ (old new : Option (List ℕ)) (fails fails_after : ℕ) (errors_old errors_new : Option (List ℕ)) (before after status : ℕ) where
   abbrev pub Done : Type 0
-  Done = (outcome : Result DriveEnd RunFault) × Leaves outcome old new fails fails_after
+  Done = (c : DriveConfig) × IsAsked c × (outcome : Result DriveEnd RunFault) × Leaves c outcome old new fails fails_after
       × (status ≡ status_of (verdict_in outcome)) × Told errors_old errors_new before after (line_of (verdict_in outcome))
 
   abbrev pub Answers : Type 0

@@ -9,9 +9,14 @@ use Rattle.cc_play.specs.Outcome.{Told, line_of, no_memory_line, status_of}
 use Rattle.cc_play.specs.Play.{Plays, Audits, failed_reads, failed_writes}
 use Rattle.cc_why.specs.Why.{Explains}
 
--- the line if the file of this name can't be read
-abbrev pub unread_line : List ℕ → List ℕ
-unread_line name = codes "ccq: reading failed: " ++ name ++ codes "\n"
+-- the line if the file of this name can't be opened, with the system's reason
+abbrev pub unopened_line : (name reason : List ℕ) → List ℕ
+unopened_line name reason = codes "ccq: " ++ name ++ codes ": " ++ reason ++ codes "\n"
+
+-- a line is refused whose file can't be opened, or there was no memory to report that
+module _ (errors_old errors_new : Option (List ℕ)) (before after status : ℕ) where
+  abbrev pub RefusesFile : (name : List ℕ) → Type 0
+  RefusesFile name = ((status ≡ 64) × ((reason : List ℕ) × Told errors_old errors_new before after (unopened_line name reason))) ⊎ ((status ≡ 3) × Told errors_old errors_new before after no_memory_line)
 
 -- The bytes that a line without a task leaves on both outputs, each with its number of failed writes, and the status.
 module _ (old new : Option (List ℕ)) (fails fails_after : ℕ) (errors_old errors_new : Option (List ℕ)) (before after status : ℕ) where

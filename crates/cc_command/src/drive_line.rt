@@ -1,11 +1,11 @@
 //! The run that a line of a drive asks for.
-ghost use Rattle.std.specs.Prelude.{◌≡◌, ◌^◌, IfOk, map, string_bytes};
-ghost use Rattle.cc_command.specs.Line.{asks_to_drive};
+ghost use Rattle.std.specs.Prelude.{◌≡◌, IfOk, IfSome, map, string_bytes};
+ghost use Rattle.cc_command.specs.Line.{IsAsked, IsGiven, asks_to_drive};
 
 use cc_drive::DriveConfig;
 use clap::builder::ValueParser;
 use clap::error::ErrorKind;
-use clap::{Arg, ArgAction, Command, Error, value_parser};
+use clap::{Arg, ArgAction, ArgMatches, Command, Error, value_parser};
 use std::alloc::{AllocError, Global};
 
 /// How many turns each worker of the program may make: more than any run comes to.
@@ -24,29 +24,28 @@ pub fn asks_to_drive(words: &[String]) -> bool
 /// The run that a line asks for: the numbers that its options give, or else their defaults. Its first word is `drive`. Or
 /// why there is no run: help is asked for, a word is wrong, a number is out of its range, or memory was refused.
 pub fn asked(alloc: Global, words: &[String]) -> Result<DriveConfig, Error>
-    ensures limit { IfOk result (λ config. config.limit ≡ 2 ^ 48) }
+    ensures { IfOk result IsAsked }
 {
     let mut command = drive_command(alloc)?;
     let matches = command.try_get_matches_from_mut(words)?;
-    match (
-        matches.get_one("senders"),
-        matches.get_one("receivers"),
-        matches.get_one("items"),
-        matches.get_one("capacity"),
-        matches.get_one("bound"),
-    ) {
-        (Some(senders), Some(receivers), Some(items), Some(capacity), Some(bound)) => {
-            Ok(DriveConfig {
-                senders,
-                receivers,
-                items,
-                capacity,
-                bound,
-                limit: LIMIT,
-            })
-        }
-        _ => Err(command.error(ErrorKind::MissingRequiredArgument, "a number is missing")?),
+    match given(&matches) {
+        Some(config) => Ok(config),
+        None => Err(command.error(ErrorKind::MissingRequiredArgument, "a number is missing")?),
     }
+}
+
+/// The run with the numbers that were found for the options. There is one for each, since each has a default.
+fn given(matches: &ArgMatches) -> Option<DriveConfig>
+    ensures { IfSome result (IsGiven matches.now) }
+{
+    Some(DriveConfig {
+        senders: matches.get_one("senders")?,
+        receivers: matches.get_one("receivers")?,
+        items: matches.get_one("items")?,
+        capacity: matches.get_one("capacity")?,
+        bound: matches.get_one("bound")?,
+        limit: LIMIT,
+    })
 }
 
 /// The command, with its options and the texts of its help.
@@ -143,7 +142,8 @@ that (`ulimit -v`) a thread may be refused; with small stacks 100 MB are enough:
 Exit status:
   0   done, and the verdict is clean
   1   the audit found a fault
-  3   memory or a thread was refused, or a worker reached its limit of 281474976710656 turns
+  3   memory or a thread was refused, or a worker reached its limit: 281474976710656 turns, or
+      4294967295 sends
   4   writing failed
   64  the command line is refused
 

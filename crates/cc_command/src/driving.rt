@@ -52,7 +52,7 @@ pub fn drive_to<R: Threads + Wait + Sync, W: Sink>(
     sink: &mut W,
 ) -> Result<DriveEnd, RunFault>
     requires { W.write_failures sink.old < 2 ^ 64 - 1 }
-    ensures { Leaves result (W.bytes_written sink.old) (W.bytes_written sink.new)
+    ensures { Leaves config.now result (W.bytes_written sink.old) (W.bytes_written sink.new)
         (W.write_failures sink.old) (W.write_failures sink.new) }
 {
     let end = driven(rt, alloc, config)?;
@@ -66,7 +66,7 @@ fn driven<R: Threads + Wait + Sync>(
     alloc: Global,
     config: &DriveConfig,
 ) -> Result<DriveEnd, DriveFault>
-    ensures { IfOk result IsWhole }
+    ensures { IfOk result (IsWhole config.now) }
 {
     let workers = u64::from(config.senders) + u64::from(config.receivers);
     let gates = open_gates(alloc, workers)?;

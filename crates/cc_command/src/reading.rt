@@ -2,7 +2,7 @@
 ghost use Rattle.std.specs.Prelude.{◌≡◌, ◌<◌, ◌-◌, ◌^◌, map, string_bytes};
 ghost use Rattle.clap.specs.Words.{fault_of, kind_of};
 ghost use Rattle.cc_command.specs.CommandLine.{commands, task_of};
-ghost use Rattle.cc_command.specs.Run.{Declines, Helps, Runs, unread_line};
+ghost use Rattle.cc_command.specs.Run.{Declines, Helps, RefusesFile, Runs, unopened_line};
 ghost use Rattle.cc_play.specs.Outcome.{Told};
 
 use crate::command_line::{Task, asked};
@@ -14,6 +14,7 @@ use cc_why::why_input;
 use clap::Error;
 use clap::error::ErrorKind;
 use std::alloc::Global;
+use std::io;
 
 /// One command line, without the program's name and the file of its input: plays the plan of the source, audits its
 /// receipts or judges its log, and returns the exit status. It is 0 if that was done and the verdict is clean, or help or
@@ -90,17 +91,31 @@ fn help<W: Sink, E: Sink>(sink: &mut W, errors: &mut E, text: &[u8]) -> u8
     }
 }
 
-/// Tells that the file of this name can't be read, and answers the status.
-pub fn tell_unread<E: Sink>(errors: &mut E, name: &[u8]) -> u8
+/// Refuses a line whose file can't be opened: reports the file with the system's reason, and returns the status.
+pub fn decline_file<E: Sink>(alloc: Global, errors: &mut E, name: &[u8], error: &io::Error) -> u8
     requires { E.write_failures errors.old < 2 ^ 64 - 1 }
-    ensures status { result ≡ 4 }
+    ensures { RefusesFile (E.bytes_written errors.old) (E.bytes_written errors.new)
+        (E.write_failures errors.old) (E.write_failures errors.new) result name.now }
+{
+    match (error.kind(), format!(in alloc; "{error}")) {
+        (io::ErrorKind::OutOfMemory, _) | (_, Err(_)) => out_of_memory(errors),
+        (_, Ok(reason)) => tell_unopened(errors, name, reason.as_bytes()),
+    }
+}
+
+/// Reports that the file of this name can't be opened, with the reason, and returns the status.
+fn tell_unopened<E: Sink>(errors: &mut E, name: &[u8], reason: &[u8]) -> u8
+    requires { E.write_failures errors.old < 2 ^ 64 - 1 }
+    ensures status { result ≡ 64 }
     ensures told { Told (E.bytes_written errors.old) (E.bytes_written errors.new)
-        (E.write_failures errors.old) (E.write_failures errors.new) (unread_line name.now) }
+        (E.write_failures errors.old) (E.write_failures errors.new) (unopened_line name.now reason.now) }
 {
     let mut pen = Pen::new();
-    pen.text(errors, b"ccq: reading failed: ");
+    pen.text(errors, b"ccq: ");
     pen.text(errors, name);
+    pen.text(errors, b": ");
+    pen.text(errors, reason);
     pen.text(errors, b"\n");
     let _outcome = pen.finish(errors);
-    4
+    64
 }

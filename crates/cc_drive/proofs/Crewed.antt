@@ -12,7 +12,8 @@ use Rattle.cc_queue.proofs.OnItsSide.{Told}
 use Rattle.cc_drive.specs.Back.{IsBack, SenderIsBack, ReceiverIsBack, SenderGave, ReceiverGave, calls}
 use Rattle.cc_drive.specs.Config.{queue_of, IsDue}
 use Rattle.cc_drive.specs.Crew.{AreGathered, IsCrew, present, least_missing, in_turn}
-use Rattle.cc_drive.specs.Ran.{ClosedAfter, EndedWith, HasClosed, HasEnded, HasRun, IsTold, due}
+use Rattle.cc_drive.specs.Ran.{ClosedAfter, EndedWith, HasCause, HasClosed, HasEnded, HasRun, IsTold, due}
+use Rattle.cc_drive.specs.Jobs.{IsQueueOf}
 use Rattle.cc_drive.specs.Row.{InRow}
 use Rattle.cc_drive.specs.Start.{IsStarted, AreStarted}
 use Rattle.cc_drive.proofs.Crews.{crew_passes, crew_count, crew_receipts, crew_all, first_too, second_too, some_at}
@@ -40,8 +41,8 @@ all_indexed P (x ∷ xs) all (suc k) d less = all_indexed P xs all.1 k d (omega 
 -- the senders that are back are of the queue
 pub are_of : (z : Topic) (items limit : ℕ) (workers : List (Worked Walk SendReceipt)) (passes : List Walk) → InRow (SenderGave z items limit) 0 workers → passes ≡ present (map (λ d. d.pass) workers) → All (IsOf z) passes
 are_of z items limit workers passes gave is =
-    subst (All (IsOf z)) (sym is) (all_indexed (IsOf z) _ (crew_all (λ d. d.pass) (SenderIsBack z items limit) (IsOf z) (λ k w s. s.back.here) 0 workers
-    (row_weaker (SenderGave z items limit) (λ n d. IfSome d.pass (SenderIsBack z items limit n)) (λ n d gave. gave.0) 0 workers gave)))
+    subst (All (IsOf z)) (sym is) (all_indexed (IsOf z) _ (crew_all (λ d. d.pass) (SenderIsBack z items) (IsOf z) (λ k w s. s.back.here) 0 workers
+    (row_weaker (SenderGave z items limit) (λ n d. IfSome d.pass (SenderIsBack z items n)) (λ n d gave. gave.0) 0 workers gave)))
 
 -- all of them, if none was refused
 all_started : (senders receivers sending taking : ℕ) (refused : Option Refused) → is_some refused ≡ false → AreStarted senders receivers sending taking refused → (sending ≡ senders) × (taking ≡ receivers)
@@ -60,17 +61,17 @@ has_run z c refused ours shut theirs closer told free is config e =
     let none = sym s.missing ∙ f.1 in
     let none' = sym r.missing ∙ f.2 in
     let senders : List Walk = ours.passes.items in
-    let theirs_back : InRow (SenderIsBack z c.items c.limit) 0 e.senders.back = subst (InRow (SenderIsBack z c.items c.limit) 0) (sym s.back) (crew_passes (λ d. d.pass) (SenderIsBack z c.items c.limit) 0 0 s.workers none
-    (row_weaker (SenderGave z c.items c.limit) (λ n d. IfSome d.pass (SenderIsBack z c.items c.limit n)) (λ n d g. g.0) 0 s.workers s.gave)) in
-    let back : InRow (IsBack z) 0 e.senders.back = row_weaker (SenderIsBack z c.items c.limit) (IsBack z) (λ k x b. b.back) 0 e.senders.back theirs_back in
-    let met : InRow (SenderIsBack z c.items c.limit) 0 senders = row_met (SenderIsBack z c.items c.limit) (sender_met z c.items c.limit) 0 e.senders.back senders theirs_back e.senders.met in
+    let theirs_back : InRow (SenderIsBack z c.items) 0 e.senders.back = subst (InRow (SenderIsBack z c.items) 0) (sym s.back) (crew_passes (λ d. d.pass) (SenderIsBack z c.items) 0 0 s.workers none
+    (row_weaker (SenderGave z c.items c.limit) (λ n d. IfSome d.pass (SenderIsBack z c.items n)) (λ n d g. g.0) 0 s.workers s.gave)) in
+    let back : InRow (IsBack z) 0 e.senders.back = row_weaker (SenderIsBack z c.items) (IsBack z) (λ k x b. b.back) 0 e.senders.back theirs_back in
+    let met : InRow (SenderIsBack z c.items) 0 senders = row_met (SenderIsBack z c.items) (sender_met z c.items) 0 e.senders.back senders theirs_back e.senders.met in
     let many : length senders ≡ c.senders = pairs_length e.senders.back senders e.senders.met ∙ ap length s.back ∙ crew_count (λ d. d.pass) 0 s.workers none ∙ s.many ∙ all.0 in
     let first : ClosedAfter (fresh z c.senders) senders told closer = some_at (λ x. ClosedAfter (fresh z c.senders) senders x.1 x.0) shut (closer, told) is e.senders.after in
     record {
       of = refl;
       senders = met;
       count_senders = many;
-      unclosed = unclosed z c.items c.limit senders first.met (ap (λ (k : Config). k.senders) config ∙ ap (λ (n : ℕ). n + 1) (sym many)) met (subst (λ (n : ℕ). HasMet (fresh z n) first.met) (sym many) first.first) first.after;
+      unclosed = unclosed z c.items senders first.met (ap (λ (k : Config). k.senders) config ∙ ap (λ (n : ℕ). n + 1) (sym many)) met (subst (λ (n : ℕ). HasMet (fresh z n) first.met) (sym many) first.first) first.after;
       closed = first;
       receivers = subst (InRow (ReceiverIsBack z) (c.senders + 1)) (sym r.back) (crew_passes (λ d. d.pass) (ReceiverIsBack z) (c.senders + 1) c.senders r.workers none'
           (row_weaker (ReceiverGave z c.limit) (λ n d. IfSome d.pass (ReceiverIsBack z n)) (λ n d g. g.0) (c.senders + 1) r.workers r.gave));
@@ -88,6 +89,11 @@ has_run z c refused ours shut theirs closer told free is config e =
 -- a row of workers whose results were gathered
 pub crew_of : {P X : Type 0} (Gave : ℕ → Worked P X → Type 0) (place number count : ℕ) (workers : List (Worked P X)) (passes : List P) (crew : Crew P X) → AreGathered number workers passes crew → InRow Gave place workers → length workers ≡ count → IsCrew Gave place number count passes crew
 crew_of Gave place number count workers passes crew g gave many = record { workers = workers; gave = gave; many = many; back = g.back; missing = g.missing; whole = g.whole; kept = g.kept }
+
+-- and one of workers that were asked for more
+pub crew_by : {J P X : Type 0} (Gave : ℕ → Worked P X → Type 0) (By : ℕ → J → Worked P X → Type 0) (place number count : ℕ) (workers : List (Worked P X)) (passes : List P) (crew : Crew P X)
+    → AreGathered number workers passes crew → InRow (λ n d. (j : J) × (Gave n d × By n j d)) place workers → length workers ≡ count → IsCrew Gave place number count passes crew
+crew_by {J} Gave By place number count workers passes crew g gave many = crew_of Gave place number count workers passes crew g (row_weaker (λ n d. (j : J) × (Gave n d × By n j d)) Gave (λ n d both. both.1.0) place workers gave) many
 
 -- ---- a run without an end
 
@@ -113,6 +119,12 @@ told_due z c told (inr e) =
     (λ on n is. let below = least_below 0 n (map (λ d. d.pass) e.senders) is in let many = (all_started _ _ _ _ e.refused on e.started).0 in omega (arith, below, many, length-map e.senders (λ d. d.pass)))
     (λ on n is. let below = least_below c.senders n (map (λ d. d.pass) e.receivers) is in let many = (all_started _ _ _ _ e.refused on e.started).1 in omega (arith, below, many, length-map e.receivers (λ d. d.pass))) e.why
 
+-- and its cause
+pub has_cause : {A : Type 0} (z : Topic) (c : DriveConfig) (r : Result A DriveFault) → IsQueueOf c z → IfErr r (IsTold z c) → IfErr r (HasCause (Ok tt) c)
+has_cause z c (Ok a) of told = tt
+has_cause z c (Err f) of (inl is) = inl is
+has_cause z c (Err f) of (inr e) = inr (z, of, e)
+
 pub all_due : {A : Type 0} (z : Topic) (c : DriveConfig) (r : Result A DriveFault) → IfErr r (IsTold z c) → IfErr r (IsDue (Ok tt) (c.senders + c.receivers))
 all_due z c (Ok a) told = tt
 all_due z c (Err f) told = told_due z c f told
@@ -121,6 +133,10 @@ all_due z c (Err f) told = told_due z c f told
 pub memory_due : {A : Type 0} (lawful : Result ⊤ ConfigFault) (workers : ℕ) (r : Result A DriveFault) → lawful ≡ Ok tt → IfErr r (λ f. f ≡ DriveFault.NoMemory) → IfErr r (IsDue lawful workers)
 memory_due lawful workers (Ok a) fine none = tt
 memory_due lawful workers (Err f) fine none = subst (λ (y : Result ⊤ ConfigFault × DriveFault). IsDue y.0 workers y.1) (λ i. (sym fine i, sym none i)) tt
+
+pub memory_cause : {A : Type 0} (c : DriveConfig) (r : Result A DriveFault) → IfErr r (λ f. f ≡ DriveFault.NoMemory) → IfErr r (HasCause (Ok tt) c)
+memory_cause c (Ok a) none = tt
+memory_cause c (Err f) none = inl none
 
 -- a closer without an answer
 none_at : {A : Type 0} (P : Type 0) (x : Option A) → is_some x ≡ false → IfNone x P → P

@@ -1,5 +1,5 @@
 -- The passes of a run that has ended: they meet, and hold what they held.
-use Rattle.std.proofs.Common.{◌≡◌, ℕ, zero, suc, ◌+◌, ◌*◌, ◌-◌, ◌^◌, ◌<◌, List, [], ◌∷◌, ◌++◌, map, length, get_or, Some, refl, sym, ap, ◌∙◌, subst, arith, append-nil, append_assoc, length-append}
+use Rattle.std.proofs.Common.{◌≡◌, ℕ, zero, suc, ◌+◌, ◌*◌, ◌<◌, List, [], ◌∷◌, ◌++◌, map, length, get_or, Some, refl, sym, ap, ◌∙◌, subst, arith, append-nil, append_assoc, length-append}
 use Rattle.std.specs.List.{All, AllByRecursion}
 use Rattle.cc_drive.specs.Names.{Call, CloseAnswer, Answer}
 use Rattle.cc_runs.specs.ChainLaws.{IsLastAnswer}
@@ -29,12 +29,12 @@ back_met z n v w b m = record {
   answered = subst (AllByRecursion HasAnswer) (sym (calls_met z n v w b m)) b.answered;
 }
 
-pub sender_met : (z : Topic) (items limit n : ℕ) (v w : Walk) → SenderIsBack z items limit n v → HasMet v w → SenderIsBack z items limit n w
-sender_met z items limit n v w s m = record {
+pub sender_met : (z : Topic) (items n : ℕ) (v w : Walk) → SenderIsBack z items n v → HasMet v w → SenderIsBack z items n w
+sender_met z items n v w s m = record {
   back = back_met z n v w s.back m;
   sends = subst (SendsFrom 1) (sym (calls_met z n v w s.back m)) s.sends;
   bodies = subst (λ (zs : List Told). BodiesFrom 1 (map (λ r. r.body) (receipts_in sent zs))) (sym (calls_met z n v w s.back m)) s.bodies;
-  all = λ few. ap (λ (zs : List Told). length (receipts_in sent zs)) (calls_met z n v w s.back m) ∙ s.all few;
+  all = ap (λ (zs : List Told). length (receipts_in sent zs)) (calls_met z n v w s.back m) ∙ s.all;
 }
 
 pub receiver_met : (z : Topic) (n : ℕ) (v w : Walk) → ReceiverIsBack z n v → HasMet v w → ReceiverIsBack z n w
@@ -94,10 +94,10 @@ pub no_more_receipts : {X : Type 0} (receipts : Told → List X) (ws all : List 
 no_more_receipts receipts ws all w is none = ap (receipts_by receipts) is ∙ receipts_end receipts ws w ∙ ap (λ l. receipts_by receipts ws ++ l) none ∙ append-nil (receipts_by receipts ws)
 
 -- this many items were sent in all
-pub all_items : (z : Topic) (items limit n : ℕ) (ws : List Walk) → limit < 2 ^ 32 - 1 → InRow (SenderIsBack z items limit) n ws → length (receipts_by sent ws) ≡ length ws * items
-all_items z items limit n [] few row = (let e : 0 ≡ 0 * items = omega arith in e)
-all_items z items limit n (w ∷ ws) few row =
-    length-append (receipts_in sent (calls w)) (receipts_by sent ws) ∙ (λ i. row.0.all few i + all_items z items limit (n + 1) ws few row.1 i) ∙ (let e : items + length ws * items ≡ suc (length ws) * items = omega arith in e)
+pub all_items : (z : Topic) (items n : ℕ) (ws : List Walk) → InRow (SenderIsBack z items) n ws → length (receipts_by sent ws) ≡ length ws * items
+all_items z items n [] row = (let e : 0 ≡ 0 * items = omega arith in e)
+all_items z items n (w ∷ ws) row =
+    length-append (receipts_in sent (calls w)) (receipts_by sent ws) ∙ (λ i. row.0.all i + all_items z items (n + 1) ws row.1 i) ∙ (let e : items + length ws * items ≡ suc (length ws) * items = omega arith in e)
 
 -- ---- the closer
 

@@ -1,6 +1,7 @@
 pub mod Told
 pub mod Workers
 pub mod Counted
+pub mod Gates
 pub mod Unclosed
 pub mod Rows
 pub mod Crews

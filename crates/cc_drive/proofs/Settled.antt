@@ -1,5 +1,5 @@
 -- A run that has ended is clean, and reports how many items passed.
-use Rattle.std.proofs.Common.{◌≡◌, ℕ, ◌+◌, ◌*◌, ◌-◌, ◌^◌, ◌<◌, ◌≤◌, List, [], ◌∷◌, ◌++◌, length, map, Some, refl, sym, ap, ◌∙◌, subst, arith, length-append}
+use Rattle.std.proofs.Common.{◌≡◌, ℕ, ◌+◌, ◌*◌, ◌<◌, ◌≤◌, List, [], ◌∷◌, ◌++◌, length, map, Some, refl, sym, ap, ◌∙◌, subst, arith, length-append}
 use Rattle.std.specs.List.{All}
 use Rattle.std.specs.List.Sorted.{IsPermutation}
 use Rattle.std.proofs.lemmas.List.Sorted.{IsPermutation-refl, length_permutation}
@@ -34,7 +34,7 @@ pub record Settled (z : Topic) (c : DriveConfig) (r : Ran) (senders receivers : 
   pub takes : IsPermutation (receipts_told got (in_group z.setting.config 1 (map Live receivers))) r.takes.items
   pub total : total_of (seen_by (map walk_at (map Live senders))) ≡ Some (total_in r.closed)
   pub even : length r.takes.items ≡ length r.sends.items
-  pub count : c.limit < 2 ^ 32 - 1 → length r.sends.items ≡ c.senders * c.items
+  pub count : length r.sends.items ≡ c.senders * c.items
 
 pub same_items : {X : Type 0} (xs ys : List X) → xs ≡ ys → IsPermutation xs ys
 same_items xs ys same = subst (IsPermutation xs) same (IsPermutation-refl xs)
@@ -58,7 +58,7 @@ pub settled : (z : Topic) (c : DriveConfig) (r : Ran) (all senders receivers : L
 settled z c r all senders receivers setting some run is met met' one =
     let config : z.setting.config ≡ queue_of c = ap (λ (s : Setting). s.config) setting in
     let closer : IsBack z c.senders r.closer = closer_back z c.senders (fresh z c.senders) r.closer r.senders.items r.closed refl run.closed in
-    let row : InRow (IsBack z) 0 all = row_push (IsBack z) 0 c.senders r.senders.items all r.closer is (let n = run.count_senders in omega (arith, n)) (row_weaker (SenderIsBack z c.items c.limit) (IsBack z) (λ k w s. s.back) 0 r.senders.items run.senders) closer in
+    let row : InRow (IsBack z) 0 all = row_push (IsBack z) 0 c.senders r.senders.items all r.closer is (let n = run.count_senders in omega (arith, n)) (row_weaker (SenderIsBack z c.items) (IsBack z) (λ k w s. s.back) 0 r.senders.items run.senders) closer in
     let ours : InRow (IsBack z) 0 senders = row_met (IsBack z) (back_met z) 0 all senders row met in
     let theirs : InRow (ReceiverIsBack z) (c.senders + 1) receivers = row_met (ReceiverIsBack z) (receiver_met z) (c.senders + 1) r.receivers.items receivers run.receivers met' in
     let theirs_back : InRow (IsBack z) (c.senders + 1) receivers = row_weaker (ReceiverIsBack z) (IsBack z) (λ k w b. b.back) (c.senders + 1) receivers theirs in
@@ -91,14 +91,14 @@ settled z c r all senders receivers setting some run is met met' one =
           ∙ ap total_of (seen_of z c.senders who one.seen who_back who_seen ∙ sym seen));
       even = ap length (sym takes) ∙ sym (length_permutation _ _ (takes_held z receivers one.seen 1 (rw (ap (λ (k : Config). k.receivers) config) some) (omega arith) (omega (arith, one_group)) legal first.1 one.receivers_have)) ∙ even_so z (c.senders + 1) receivers one.seen one_group (let n = count' in omega (arith, n, some)) theirs one.receivers_have
           ∙ length_permutation _ _ (sends_held z senders one.seen legal first.0 one.senders_have) ∙ ap length sends;
-      count = λ few. ap length run.sends ∙ all_items z c.items c.limit 0 r.senders.items few run.senders ∙ ap (λ (n : ℕ). n * c.items) run.count_senders;
+      count = ap length run.sends ∙ all_items z c.items 0 r.senders.items run.senders ∙ ap (λ (n : ℕ). n * c.items) run.count_senders;
     }
 
 -- they are of one queue before they meet
 pub together : (z : Topic) (c : DriveConfig) (r : Ran) (all : List Walk) → HasRun z c r → all ≡ r.senders.items ++ r.closer ∷ [] → AreOf z all r.receivers.items []
 together z c r all run is =
     let closer : IsBack z c.senders r.closer = closer_back z c.senders (fresh z c.senders) r.closer r.senders.items r.closed refl run.closed in
-    let row : InRow (IsBack z) 0 all = row_push (IsBack z) 0 c.senders r.senders.items all r.closer is (let n = run.count_senders in omega (arith, n)) (row_weaker (SenderIsBack z c.items c.limit) (IsBack z) (λ k w s. s.back) 0 r.senders.items run.senders) closer in
+    let row : InRow (IsBack z) 0 all = row_push (IsBack z) 0 c.senders r.senders.items all r.closer is (let n = run.count_senders in omega (arith, n)) (row_weaker (SenderIsBack z c.items) (IsBack z) (λ k w s. s.back) 0 r.senders.items run.senders) closer in
     record {
       senders_are = row_all (IsBack z) (IsOf z) (λ k w b. b.here) 0 all row;
       receivers_are = row_all (ReceiverIsBack z) (IsOf z) (λ k w b. b.back.here) (c.senders + 1) r.receivers.items run.receivers;

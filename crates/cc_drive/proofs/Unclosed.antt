@@ -85,29 +85,29 @@ none_closed cfg count (c ∷ entries) (a ∷ answers) all k =
 calls_at : (z : Topic) (row : ℕ) (w : Walk) (h : Record) → IsBack z row w → history_of z.setting w.seen ≡ h → calls w ≡ calls_of (pass_at z.setting.config row) h
 calls_at z row w h b same = (λ i. calls_of (pass_at (b.here.1 i).config (b.at i)) (history_of (b.here.1 i) w.seen)) ∙ ap (calls_of (pass_at z.setting.config row)) same
 
-row_sends : (z : Topic) (items limit n : ℕ) (ws : List Walk) (h : Record) → InRow (SenderIsBack z items limit) n ws → All (λ w. history_of z.setting w.seen ≡ h) ws → (k : ℕ) → n ≤ k → k < n + length ws → AllByRecursion IsSend (calls_of (pass_at z.setting.config k) h)
-row_sends z items limit n [] h row same k low high = absurd (omega (arith, low, high))
-row_sends z items limit n (w ∷ ws) h row same k low high = elim (cases_lt n k) [
-  | inl later ↦ row_sends z items limit (n + 1) ws h row.1 (λ j d less. same (suc j) d (omega (arith, less))) k (omega (arith, later)) (omega (arith, high))
+row_sends : (z : Topic) (items n : ℕ) (ws : List Walk) (h : Record) → InRow (SenderIsBack z items) n ws → All (λ w. history_of z.setting w.seen ≡ h) ws → (k : ℕ) → n ≤ k → k < n + length ws → AllByRecursion IsSend (calls_of (pass_at z.setting.config k) h)
+row_sends z items n [] h row same k low high = absurd (omega (arith, low, high))
+row_sends z items n (w ∷ ws) h row same k low high = elim (cases_lt n k) [
+  | inl later ↦ row_sends z items (n + 1) ws h row.1 (λ j d less. same (suc j) d (omega (arith, less))) k (omega (arith, later)) (omega (arith, high))
   | inr here ↦
       let at : n ≡ k = omega (arith, here, low) in
       subst (AllByRecursion IsSend) (calls_at z n w h row.0.back (same 0 w (omega arith)) ∙ ap (λ (m : ℕ). calls_of (pass_at z.setting.config m) h) at) (sends_all 1 (calls w) row.0.sends)
 ]
 
-row_unclosed : (z : Topic) (items limit n : ℕ) (ws : List Walk) (h : Record) → n + length ws ≤ z.setting.config.senders → Legal z.setting.config h → InRow (SenderIsBack z items limit) n ws → All (λ w. history_of z.setting w.seen ≡ h) ws
+row_unclosed : (z : Topic) (items n : ℕ) (ws : List Walk) (h : Record) → n + length ws ≤ z.setting.config.senders → Legal z.setting.config h → InRow (SenderIsBack z items) n ws → All (λ w. history_of z.setting w.seen ≡ h) ws
     → AllByRecursion IsNotClosed (answered h.sends.calls h.sends.answers) → AllByRecursion (λ w. AllByRecursion IsNotClosed (calls w)) ws
-row_unclosed z items limit n [] h few l row same none = tt
-row_unclosed z items limit n (w ∷ ws) h few l row same none =
+row_unclosed z items n [] h few l row same none = tt
+row_unclosed z items n (w ∷ ws) h few l row same none =
     let its_own : calls w ≡ its (Pass.Sender (1 + n)) h.sends.calls h.sends.answers =
     calls_at z n w h row.0.back (same 0 w (omega arith)) ∙ ap (λ (p : Pass). calls_of p h) (sender_named z.setting.config n (omega (arith, few))) ∙ on_its_side z.setting.config h (Pass.Sender (1 + n)) l in (
       subst (AllByRecursion IsNotClosed) (sym its_own) (filter_all IsNotClosed (λ x. is_pass (Pass.Sender (1 + n)) x.0.pass) (answered h.sends.calls h.sends.answers) none),
-      row_unclosed z items limit (n + 1) ws h (omega (arith, few)) l row.1 (λ j d less. same (suc j) d (omega (arith, less))) none,
+      row_unclosed z items (n + 1) ws h (omega (arith, few)) l row.1 (λ j d less. same (suc j) d (omega (arith, less))) none,
     )
 
 -- if they have seen one run before the close
-pub unclosed : (z : Topic) (items limit : ℕ) (senders : List Walk) (met : Walk) → z.setting.config.senders ≡ length senders + 1 → InRow (SenderIsBack z items limit) 0 senders → HasMet (fresh z (length senders)) met → All (λ s. s.seen ≡ met.seen) senders
+pub unclosed : (z : Topic) (items : ℕ) (senders : List Walk) (met : Walk) → z.setting.config.senders ≡ length senders + 1 → InRow (SenderIsBack z items) 0 senders → HasMet (fresh z (length senders)) met → All (λ s. s.seen ≡ met.seen) senders
     → AllByRecursion (λ w. AllByRecursion IsNotClosed (calls w)) senders
-unclosed z items limit senders met count row m after =
+unclosed z items senders met count row m after =
     let cfg : Config = z.setting.config in
     let h : Record = history_of z.setting met.seen in
     let here : met.setting ≡ z.setting = m.stands.same.1 in
@@ -116,13 +116,13 @@ unclosed z items limit senders met count row m after =
     let none : calls met ≡ [] = nil_of (calls met) (m.stands.calls_are ∙ m.stands.made ∙ append-nil []) in
     let closers : calls met ≡ calls_of (pass_at cfg (length senders)) h = λ i. calls_of (pass_at (here i).config (m.stands.same.2 i)) (history_of (here i) met.seen) in
     let by_place : (k : ℕ) → k < cfg.senders → AllByRecursion IsSend (calls_of (pass_at cfg k) h) = λ k less. elim (cases_lt k (length senders)) [
-      | inl before ↦ row_sends z items limit 0 senders h row same k (omega arith) (omega (arith, before))
+      | inl before ↦ row_sends z items 0 senders h row same k (omega arith) (omega (arith, before))
       | inr last ↦
           let at : k ≡ length senders = omega (arith, last, less, count) in
           subst (λ (zs : List Told). AllByRecursion IsSend zs) (sym none ∙ closers ∙ ap (λ (n : ℕ). calls_of (pass_at cfg n) h) (sym at)) tt
     ] in
     let by_number : (s : ℕ) → 1 ≤ s → s ≤ cfg.senders → AllByRecursion IsSend (its (Pass.Sender s) h.sends.calls h.sends.answers) = λ s low high. numbered cfg h lawful by_place s low high in
-    row_unclosed z items limit 0 senders h (omega (arith, count)) lawful row same (none_closed cfg 0 h.sends.calls h.sends.answers (each_send cfg h.sends.calls h.sends.answers lawful.senders by_number) lawful.answers)
+    row_unclosed z items 0 senders h (omega (arith, count)) lawful row same (none_closed cfg 0 h.sends.calls h.sends.answers (each_send cfg h.sends.calls h.sends.answers lawful.senders by_number) lawful.answers)
   where
     numbered : (cfg : Config) (h : Record) → Legal cfg h → ((k : ℕ) → k < cfg.senders → AllByRecursion IsSend (calls_of (pass_at cfg k) h)) → (s : ℕ) → 1 ≤ s → s ≤ cfg.senders → AllByRecursion IsSend (its (Pass.Sender s) h.sends.calls h.sends.answers)
     numbered cfg h l each zero low high = absurd (omega (arith, low))

@@ -26,7 +26,7 @@ pub record Working {X : Type 0} (receipts : Told → List X) (z : Topic) (row : 
 -- ---- before the first call
 
 -- a fresh pass has made no call
-calls_fresh : (z : Topic) (row : ℕ) (w : Walk) → w ≡ fresh z row → HasMet w w → calls w ≡ []
+pub calls_fresh : (z : Topic) (row : ℕ) (w : Walk) → w ≡ fresh z row → HasMet w w → calls w ≡ []
 calls_fresh z row w is met = nil_of (calls w) (met.stands.calls_are ∙ ap (λ (x : Walk). x.made) is)
 
 pub working_none : {X : Type 0} (receipts : Told → List X) (z : Topic) (row : ℕ) (who : Pass) (w : Walk) (whole : Bool) (keeps : List X) → w ≡ fresh z row → pass_at z.setting.config row ≡ who → HasMet w w → keeps ≡ [] → Working receipts z row who w whole keeps

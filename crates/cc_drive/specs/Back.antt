@@ -1,14 +1,16 @@
 -- The passes that workers give back.
-use Rattle.std.specs.Prelude.{ℕ, ◌≡◌, ◌+◌, ◌<◌, ◌≤◌, ◌-◌, ◌^◌, List, [], ◌∷◌, length, map, true, Option, Some, IfSome, IfNone, ⊤}
+use Rattle.std.specs.Prelude.{ℕ, ◌≡◌, ◌+◌, ◌<◌, ◌≤◌, ◌⊎◌, List, [], ◌∷◌, length, map, true, Option, Some, IfSome, IfNone, ⊤}
 use Rattle.std.specs.List.{AllByRecursion}
 use Rattle.cc_model.specs.Body.{body_of}
 use Rattle.cc_model.specs.Items.{HasAnswer, calls_of}
-use Rattle.cc_drive.specs.Names.{Body, Call, Entry, Answer, SendAnswer, TakeAnswer, SendReceipt, TakeReceipt, Worked}
+use Rattle.cc_drive.specs.Names.{Body, Call, Entry, Answer, SendAnswer, TakeAnswer, SendReceipt, TakeReceipt, Point, Go, Worked}
 use Rattle.cc_runs.specs.ChainLaws.{IsLastAnswer}
 use Rattle.cc_steps.specs.Topic.{Topic}
 use Rattle.cc_steps.specs.Walk.{Walk, IsOf}
+use Rattle.cc_queue.specs.Calls.{Begun}
 use Rattle.cc_queue.specs.Headline.{StandsInOne, name, history}
 use Rattle.cc_queue.specs.Receipts.{receipts_in, sent, got}
+use Rattle.cc_drive.specs.Work.{AskedForCalls, AskedAtLast}
 
 -- the calls of a pass in the history that it has seen, each with its answer or pending
 abbrev pub calls : Walk → List (Entry × Option Answer)
@@ -41,13 +43,22 @@ abbrev pub IsNotClosed : Entry × Option Answer → Type 0
 IsNotClosed (e, Some (Answer.Send SendAnswer.Closed)) = ⊥
 IsNotClosed _ = ⊤
 
--- A sender whose calls are sends of the bodies 1, 2 and so on, as its receipts have them. If it could make fewer turns than a
--- sender may begin sends, it wasn't exhausted, and all items that it had to send were accepted.
-pub record SenderIsBack (z : Topic) (items limit row : ℕ) (w : Walk) : Type 0 where
+-- A sender whose calls are sends of the bodies 1, 2 and so on, as its receipts have them: all items that it had to send were
+-- accepted.
+pub record SenderIsBack (z : Topic) (items row : ℕ) (w : Walk) : Type 0 where
   pub back : IsBack z row w
   pub sends : SendsFrom 1 (calls w)
   pub bodies : BodiesFrom 1 (map (λ r. r.body) (receipts_in sent (calls w)))
-  pub all : limit < 2 ^ 32 - 1 → length (receipts_in sent (calls w)) ≡ items
+  pub all : length (receipts_in sent (calls w)) ≡ items
+
+-- A sender that came to a limit before all its items were accepted. It began the send of the next body, and no turn was left;
+-- or it was exhausted.
+pub record SenderStopped (z : Topic) (items limit row made : ℕ) : Type 0 where
+  pub pass : Walk
+  pub back : IsBack z row pass
+  pub sends : SendsFrom 1 (calls pass)
+  pub short : length (receipts_in sent (calls pass)) < items
+  pub why : ((made ≡ limit) × ((begun : Walk) × Begun pass (Call.Send (one_word (length (receipts_in sent (calls pass)) + 1))) begun)) ⊎ (z.setting.config.per_sender ≤ pass.stand.begun)
 
 -- A receiver whose last take was answered that the queue has ended.
 pub record ReceiverIsBack (z : Topic) (row : ℕ) (w : Walk) : Type 0 where
@@ -55,15 +66,34 @@ pub record ReceiverIsBack (z : Topic) (row : ℕ) (w : Walk) : Type 0 where
   pub total : ℕ
   pub ended : IsLastAnswer (name w) (history w) (Answer.Take (TakeAnswer.Ended total))
 
+-- A receiver that came to its limit on turns.
+pub record ReceiverStopped (z : Topic) (limit row made : ℕ) : Type 0 where
+  pub pass : Walk
+  pub back : IsBack z row pass
+  pub all_made : made ≡ limit
+
 -- The result of the thread of a sender: the pass, with the receipts of its calls if there was memory for each of them; or
--- none, if it made as many turns as it may.
+-- none, if it came to a limit.
 abbrev pub SenderGave : Topic → (items limit row : ℕ) → Worked Walk SendReceipt → Type 0
 SenderGave z items limit row d =
-    IfSome d.pass (SenderIsBack z items limit row) × IfSome d.pass (λ w. d.kept.is_whole ≡ true → d.kept.receipts.items ≡ receipts_in sent (calls w))
-    × IfNone d.pass (d.made ≡ limit) × (d.made ≤ limit) × (d.row ≡ row)
+    IfSome d.pass (SenderIsBack z items row) × IfSome d.pass (λ w. d.kept.is_whole ≡ true → d.kept.receipts.items ≡ receipts_in sent (calls w))
+    × IfNone d.pass (SenderStopped z items limit row d.made) × (d.made ≤ limit) × (d.row ≡ row)
 
 -- and that of a receiver
 abbrev pub ReceiverGave : Topic → (limit row : ℕ) → Worked Walk TakeReceipt → Type 0
 ReceiverGave z limit row d =
     IfSome d.pass (ReceiverIsBack z row) × IfSome d.pass (λ w. d.kept.is_whole ≡ true → d.kept.receipts.items ≡ receipts_in got (calls w))
-    × IfNone d.pass (d.made ≡ limit) × (d.made ≤ limit) × (d.row ≡ row)
+    × IfNone d.pass (ReceiverStopped z limit row d.made) × (d.made ≤ limit) × (d.row ≡ row)
+
+-- The gate of a sender's worker was asked for each of its calls. If it came to a limit, the gate was also asked for the send
+-- that it then began, if it began one.
+abbrev pub SendsByGate : {G : Type 0} → (G → Point → Go → G → Type 0) → G → Topic → (items limit row : ℕ) → Worked Walk SendReceipt → Type 0
+SendsByGate {G} tells gate z items limit row d =
+    IfSome d.pass (λ w. (h : G) × AskedForCalls tells Point.SendBegun Point.SendAnswered (length (calls w)) gate h)
+    × IfNone d.pass ((s : SenderStopped z items limit row d.made) × (g : G) × (h : G) × AskedForCalls tells Point.SendBegun Point.SendAnswered (length (calls s.pass)) gate g × AskedAtLast tells Point.SendBegun Point.SendAnswered g h)
+
+-- and that of a receiver's
+abbrev pub TakesByGate : {G : Type 0} → (G → Point → Go → G → Type 0) → G → Topic → (limit row : ℕ) → Worked Walk TakeReceipt → Type 0
+TakesByGate {G} tells gate z limit row d =
+    IfSome d.pass (λ w. (h : G) × AskedForCalls tells Point.TakeBegun Point.TakeAnswered (length (calls w)) gate h)
+    × IfNone d.pass ((s : ReceiverStopped z limit row d.made) × (g : G) × (h : G) × AskedForCalls tells Point.TakeBegun Point.TakeAnswered (length (calls s.pass)) gate g × AskedAtLast tells Point.TakeBegun Point.TakeAnswered g h)

@@ -1,7 +1,7 @@
 -- A run whose threads have ended.
-use Rattle.std.specs.Prelude.{ℕ, ◌≡◌, ◌+◌, ◌*◌, ◌-◌, ◌^◌, ◌<◌, ◌⊎◌, Bool, true, false, List, length, map, Option, Some, None, IfSome, IfNone, is_some}
+use Rattle.std.specs.Prelude.{ℕ, ◌≡◌, ◌+◌, ◌*◌, ◌⊎◌, Bool, true, false, List, length, map, Option, Some, None, IfSome, IfNone, is_some, Result, Ok, Err, ⊤}
 use Rattle.std.specs.List.{All, AllByRecursion}
-use Rattle.cc_drive.specs.Names.{Answer, Call, CloseAnswer, DriveConfig, DriveEnd, DriveFault, Verdict, Ran, Refused, Crew, Worked, Brief, Turns, SendReceipt, TakeReceipt}
+use Rattle.cc_drive.specs.Names.{Answer, Call, CloseAnswer, ConfigFault, DriveConfig, DriveEnd, DriveFault, Verdict, Ran, Refused, Crew, Worked, Brief, Turns, SendReceipt, TakeReceipt}
 use Rattle.cc_steps.specs.Topic.{Topic}
 use Rattle.cc_steps.specs.Walk.{Walk, fresh}
 use Rattle.cc_queue.specs.Calls.{Begun, Completed}
@@ -9,6 +9,7 @@ use Rattle.cc_queue.specs.Met.{HasMet}
 use Rattle.cc_queue.specs.Receipts.{receipts_by, sent, got}
 use Rattle.cc_drive.specs.Back.{SenderIsBack, ReceiverIsBack, SenderGave, ReceiverGave, IsNotClosed, calls}
 use Rattle.cc_drive.specs.Crew.{IsCrew, least_missing}
+use Rattle.cc_drive.specs.Jobs.{IsQueueOf}
 use Rattle.cc_drive.specs.Row.{InRow, Pairs}
 use Rattle.cc_drive.specs.Start.{AreStarted}
 use Rattle.cc_drive.specs.Work.{RanOut}
@@ -59,7 +60,7 @@ pub record HasEnded (z : Topic) (c : DriveConfig) (refused : Option Refused) (se
 -- receivers are back, each of which got the end. The receipts are those of their calls.
 pub record HasRun (z : Topic) (c : DriveConfig) (r : Ran) : Type 0 where
   pub of : r.config ≡ c
-  pub senders : InRow (SenderIsBack z c.items c.limit) 0 r.senders.items
+  pub senders : InRow (SenderIsBack z c.items) 0 r.senders.items
   pub count_senders : length r.senders.items ≡ c.senders
   pub unclosed : AllByRecursion (λ w. AllByRecursion IsNotClosed (calls w)) r.senders.items
   pub closed : ClosedAfter (fresh z c.senders) r.senders.items r.closed r.closer
@@ -68,16 +69,15 @@ pub record HasRun (z : Topic) (c : DriveConfig) (r : Ran) : Type 0 where
   pub sends : r.sends.items ≡ receipts_by sent r.senders.items
   pub takes : r.takes.items ≡ receipts_by got r.receivers.items
 
--- How a run ended: the verdict is clean, the numbers are those of the receipts, and all that was sent was taken; these are all
--- items of all senders, if a worker could make fewer turns than a sender may begin sends.
+-- How a run ended: the verdict is clean, the numbers are those of the receipts, and all items of all senders were sent and taken.
 pub record IsEndOf (r : Ran) (e : DriveEnd) : Type 0 where
   pub clean : e.verdict ≡ Verdict.Clean
   pub sent : e.sent ≡ length r.sends.items
   pub taken : e.taken ≡ length r.takes.items
   pub all_taken : e.taken ≡ e.sent
-  pub all_sent : r.config.limit < 2 ^ 32 - 1 → e.sent ≡ r.config.senders * r.config.items
+  pub all_sent : e.sent ≡ r.config.senders * r.config.items
 
--- Why a run has no end, if it has none: a thread was refused; else the least sender, or else receiver, that reached its limit,
+-- Why a run has no end, if it has none: a thread was refused; else the least sender, or else receiver, that came to a limit,
 -- or else the closer, whose number is that of all workers; else a receipt wasn't kept.
 abbrev pub due : (refused : Bool) → (workers : ℕ) → (sender receiver : Option ℕ) → (closed whole : Bool) → Option DriveFault
 due true workers sender receiver closed whole = Some DriveFault.Thread
@@ -104,3 +104,17 @@ pub record EndedWith (z : Topic) (c : DriveConfig) (told : DriveFault) : Type 0 
 -- why a run has no end: memory was refused before a thread was started; or else its threads have ended so
 abbrev pub IsTold : Topic → DriveConfig → DriveFault → Type 0
 IsTold z c told = (told ≡ DriveFault.NoMemory) ⊎ EndedWith z c told
+
+-- The end of a run of this configuration: some queue was opened for it, whose run came to that end.
+pub record HasEnd (c : DriveConfig) (e : DriveEnd) : Type 0 where
+  pub queue : Topic
+  pub opened : IsQueueOf c queue
+  pub ran : Ran
+  pub run : HasRun queue c ran
+  pub end : IsEndOf ran e
+
+-- The cause of a fault, if the configuration has this fault or none: that one; or memory was refused; or a queue was opened for
+-- the configuration, and the threads of its run have ended so that this fault is due.
+abbrev pub HasCause : Result ⊤ ConfigFault → DriveConfig → DriveFault → Type 0
+HasCause (Err f) c told = told ≡ DriveFault.Config f
+HasCause (Ok _) c told = (told ≡ DriveFault.NoMemory) ⊎ ((z : Topic) × IsQueueOf c z × EndedWith z c told)

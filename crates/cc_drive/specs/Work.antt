@@ -28,6 +28,19 @@ abbrev pub WasAsked : {G : Type 0} → (G → Point → Go → G → Type 0) →
 WasAsked {G} tells point old new true g h = (k : G) × IsHeldUp tells point (new.made - old.made) g k × tells k point Go.On h
 WasAsked tells point old new false g h = IsHeldUp tells point (new.made - old.made) g h
 
+-- a gate was asked at this point, some number of times, until it let the worker go on
+abbrev pub AskedUntilOn : {G : Type 0} → (G → Point → Go → G → Type 0) → Point → G → G → Type 0
+AskedUntilOn {G} tells point g h = (times : ℕ) × (k : G) × IsHeldUp tells point times g k × tells k point Go.On h
+
+-- and for this number of calls, one after another: after the begin of each, and after its answer
+abbrev pub AskedForCalls : {G : Type 0} → (G → Point → Go → G → Type 0) → (begun answered : Point) → ℕ → G → G → Type 0
+AskedForCalls tells begun answered zero g h = h ≡ g
+AskedForCalls {G} tells begun answered (suc n) g h = (k : G) × (l : G) × AskedForCalls tells begun answered n g k × AskedUntilOn tells begun k l × AskedUntilOn tells answered l h
+
+-- and for a call that came to the limit, or for none
+abbrev pub AskedAtLast : {G : Type 0} → (G → Point → Go → G → Type 0) → (begun answered : Point) → G → G → Type 0
+AskedAtLast {G} tells begun answered g h = ((times : ℕ) × IsHeldUp tells begun times g h) ⊎ ((k : G) × (times : ℕ) × AskedUntilOn tells begun g k × IsHeldUp tells answered times k h)
+
 -- a pending call of this queue
 abbrev pub IsPendingAt : Topic → Walk → Type 0
 IsPendingAt z v = IsOf z v × StandsInOne v [] v

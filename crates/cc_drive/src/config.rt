@@ -50,8 +50,8 @@ pub enum DriveFault {
     /// A thread was refused.
     #[error("a thread was refused")]
     Thread,
-    /// A worker reached its limit on turns: the least number of such a worker, senders first, from 0; if the closer alone
-    /// did, the number of all workers.
+    /// A worker reached its limit: on turns, or, as a sender, on sends that one sender may begin. It is the least number of
+    /// such a worker, senders first, from 0; if the closer alone did, the number of all workers.
     #[error("a worker reached its limit")]
     Limit(u32),
 }

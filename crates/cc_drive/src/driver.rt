@@ -1,10 +1,10 @@
 //! A run: threads that send while threads take, the close, and the audit.
-ghost use Rattle.std.specs.Prelude.{◌≡◌, ◌+◌, ◌*◌, ◌-◌, ◌<◌, ◌^◌, IfOk, OnOk, IfErr, Ok, vec_len};
+ghost use Rattle.std.specs.Prelude.{◌≡◌, ◌+◌, ◌*◌, IfOk, OnOk, IfErr, Ok, vec_len};
 ghost use Rattle.cc_drive.specs.Names.{Verdict, DriveFault};
 ghost use Rattle.cc_queue.specs.Opened.{HasOpened};
 ghost use Rattle.cc_drive.specs.Config.{drive_fault, queue_of, IsDue};
 ghost use Rattle.cc_drive.specs.Jobs.{ArePasses, AreReady, IsQueueOf};
-ghost use Rattle.cc_drive.specs.Ran.{HasRun, IsEndOf, IsTold};
+ghost use Rattle.cc_drive.specs.Ran.{HasCause, HasEnd, HasRun, IsEndOf, IsTold};
 
 use crate::closing::total_of;
 use crate::config::{DriveConfig, DriveEnd, DriveFault};
@@ -25,7 +25,7 @@ use std::thread::{Scope, Threads, scope, scope_env};
 /// is one gate for each worker, the senders' first.
 ///
 /// A thread that is refused ends the starting of further ones, and the workers that run go on to their end. So do they if
-/// one of them reaches its limit on turns or finds no memory for a receipt.
+/// one of them reaches its limit or finds no memory for a receipt. Each fault has its cause in this run.
 #[tactic(auto, using(crate::proofs::Crews::if_ok))]
 pub fn drive<G: Gate + Send, R: Threads + Wait + Sync>(
     rt: &R,
@@ -38,7 +38,9 @@ pub fn drive<G: Gate + Send, R: Threads + Wait + Sync>(
     ensures due { IfErr result (IsDue (drive_fault config.now) (config.now.senders + config.now.receivers)) }
     ensures clean { IfOk result (λ e. e.verdict ≡ Verdict.Clean) }
     ensures all_taken { IfOk result (λ e. e.taken ≡ e.sent) }
-    ensures all_sent { config.now.limit < 2 ^ 32 - 1 → IfOk result (λ e. e.sent ≡ config.now.senders * config.now.items) }
+    ensures all_sent { IfOk result (λ e. e.sent ≡ config.now.senders * config.now.items) }
+    ensures end { IfOk result (HasEnd config.now) }
+    ensures cause { IfErr result (HasCause (drive_fault config.now) config.now) }
 {
     let of_queue = config.queue()?;
     let opened = Queue::open_checked(alloc, &of_queue)?;
@@ -58,7 +60,9 @@ fn drive_opened<G: Gate + Send, R: Threads + Wait + Sync>(
     ensures due { IfErr result (IsDue (Ok tt) (config.now.senders + config.now.receivers)) }
     ensures clean { IfOk result (λ e. e.verdict ≡ Verdict.Clean) }
     ensures all_taken { IfOk result (λ e. e.taken ≡ e.sent) }
-    ensures all_sent { config.now.limit < 2 ^ 32 - 1 → IfOk result (λ e. e.sent ≡ config.now.senders * config.now.items) }
+    ensures all_sent { IfOk result (λ e. e.sent ≡ config.now.senders * config.now.items) }
+    ensures end { IfOk result (HasEnd config.now) }
+    ensures cause { IfErr result (HasCause (Ok tt) config.now) }
 {
     let Opened {
         queue,
@@ -90,7 +94,9 @@ fn deal_and_run<G: Gate + Send, R: Threads + Wait + Sync>(
     ensures due { IfErr result (IsDue (Ok tt) (config.now.senders + config.now.receivers)) }
     ensures clean { IfOk result (λ e. e.verdict ≡ Verdict.Clean) }
     ensures all_taken { IfOk result (λ e. e.taken ≡ e.sent) }
-    ensures all_sent { config.now.limit < 2 ^ 32 - 1 → IfOk result (λ e. e.sent ≡ config.now.senders * config.now.items) }
+    ensures all_sent { IfOk result (λ e. e.sent ≡ config.now.senders * config.now.items) }
+    ensures end { IfOk result (HasEnd config.now) }
+    ensures cause { IfErr result (HasCause (Ok tt) config.now) }
 {
     let Passes {
         closer,
@@ -120,14 +126,16 @@ fn run_and_settle<G: Gate + Send, R: Threads + Wait + Sync>(
     ensures due { IfErr result (IsDue (Ok tt) (config.now.senders + config.now.receivers)) }
     ensures clean { IfOk result (λ e. e.verdict ≡ Verdict.Clean) }
     ensures all_taken { IfOk result (λ e. e.taken ≡ e.sent) }
-    ensures all_sent { config.now.limit < 2 ^ 32 - 1 → IfOk result (λ e. e.sent ≡ config.now.senders * config.now.items) }
+    ensures all_sent { IfOk result (λ e. e.sent ≡ config.now.senders * config.now.items) }
+    ensures end { IfOk result (HasEnd config.now) }
+    ensures cause { IfErr result (HasCause (Ok tt) config.now) }
 {
     let ran = run(rt, alloc, queue, config, workers)?;
     settle(alloc, queue, ran)
 }
 
 /// Runs all workers in threads, and closes between the senders' end and the receivers'.
-#[tactic(auto, using(crate::proofs::Crewed::all_due))]
+#[tactic(auto, using(crate::proofs::Crewed::all_due, crate::proofs::Crewed::has_cause))]
 fn run<G: Gate + Send, R: Threads + Wait + Sync>(
     rt: &R,
     alloc: Global,
@@ -137,7 +145,7 @@ fn run<G: Gate + Send, R: Threads + Wait + Sync>(
 ) -> Result<Ran, DriveFault>
     requires ready { AreReady queue.now config.now workers }
     ensures run { IfOk result (HasRun queue.now config.now) }
-    ensures told { IfErr result (IsTold queue.now config.now) }
+    ensures cause { IfErr result (HasCause (Ok tt) config.now) }
     ensures due { IfErr result (IsDue (Ok tt) (config.now.senders + config.now.receivers)) }
 {
     let config = *config;

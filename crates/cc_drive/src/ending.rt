@@ -69,7 +69,6 @@ pub fn room_for<H: Drop, P: Drop, X: Drop>(
 }
 
 /// Joins the senders, and gathers what they gave back. There is room for one pass more.
-#[tactic(auto, using(crate::proofs::Crewed::crew_of))]
 pub fn join_senders<G: Gate + Send, R: Threads>(
     rt: &R,
     alloc: Global,
@@ -87,7 +86,6 @@ pub fn join_senders<G: Gate + Send, R: Threads>(
 }
 
 /// Joins the receivers of a run of this number of senders, and gathers their results.
-#[tactic(auto, using(crate::proofs::Crewed::crew_of))]
 pub fn join_receivers<G: Gate + Send, R: Threads>(
     rt: &R,
     alloc: Global,

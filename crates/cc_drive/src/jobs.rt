@@ -23,14 +23,14 @@ pub struct Job<P: Drop, G: Gate> {
 }
 
 impl<G: Gate + Send> Worker for Job<Sender, G> {
-    ghost use Rattle.cc_drive.specs.Back.{SenderGave};
+    ghost use Rattle.cc_drive.specs.Back.{SenderGave, SendsByGate};
     ghost use Rattle.cc_drive.specs.Jobs.{IsSending};
 
     type Done = Worked<Sender, SendReceipt>;
 
     ghost is_ready = { λ z n j. IsSending z n j };
 
-    ghost gives = { λ z b n d. SenderGave z b.items b.limit n d };
+    ghost gives = { λ z b n j d. SenderGave z b.items b.limit n d × SendsByGate G.tells j.gate z b.items b.limit n d };
 
     fn run<R: Wait>(
         self,
@@ -44,14 +44,14 @@ impl<G: Gate + Send> Worker for Job<Sender, G> {
 }
 
 impl<G: Gate + Send> Worker for Job<Receiver, G> {
-    ghost use Rattle.cc_drive.specs.Back.{ReceiverGave};
+    ghost use Rattle.cc_drive.specs.Back.{ReceiverGave, TakesByGate};
     ghost use Rattle.cc_drive.specs.Jobs.{IsTaking};
 
     type Done = Worked<Receiver, TakeReceipt>;
 
     ghost is_ready = { λ z n j. IsTaking z n j };
 
-    ghost gives = { λ z b n d. ReceiverGave z b.limit n d };
+    ghost gives = { λ z b n j d. ReceiverGave z b.limit n d × TakesByGate G.tells j.gate z b.limit n d };
 
     fn run<R: Wait>(
         self,

@@ -11,7 +11,7 @@ pub struct Kept<X: Drop> {
     pub is_whole: bool,
 }
 
-/// The result of a worker: its place, its pass unless it reached its limit, how many turns it made, and its receipts.
+/// The result of a worker: its place, its pass unless it came to a limit, how many turns it made, and its receipts.
 #[derive(Drop)]
 pub struct Worked<P: Drop, X: Drop> {
     /// The place of its pass in the row of all passes.

@@ -3,7 +3,7 @@ ghost use Rattle.std.specs.Prelude.{◌≡◌, ◌≤◌, IfOk};
 ghost use Rattle.cc_drive.specs.Names.{Answer, Call};
 ghost use Rattle.cc_steps.specs.Walk.{IsOf};
 ghost use Rattle.cc_queue.specs.Calls.{Completed};
-ghost use Rattle.cc_drive.specs.Back.{ReceiverGave};
+ghost use Rattle.cc_drive.specs.Back.{ReceiverGave, TakesByGate};
 ghost use Rattle.cc_drive.specs.Jobs.{IsTaking};
 ghost use Rattle.cc_drive.specs.Work.{WentOn, IsAskedInTake, CostsOfTake};
 
@@ -47,7 +47,7 @@ fn take_one<G: Gate>(
 }
 
 /// Takes until the queue has ended, again after Empty, and keeps a receipt of each item. The pass is returned unless the
-/// worker reached its limit.
+/// worker came to its limit. The job's gate is asked for each call.
 pub(crate) fn take_all<G: Gate, R: Wait>(
     rt: &R,
     queue: &Queue,
@@ -56,7 +56,8 @@ pub(crate) fn take_all<G: Gate, R: Wait>(
     job: Job<Receiver, G>,
 ) -> Worked<Receiver, TakeReceipt>
     requires { IsTaking queue.now row job }
-    ensures { ReceiverGave queue.now brief.limit row result }
+    ensures gave { ReceiverGave queue.now brief.limit row result }
+    ensures asked { TakesByGate G.tells job.gate queue.now brief.limit row result }
 {
     let Job {
         alloc,

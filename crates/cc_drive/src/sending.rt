@@ -1,7 +1,7 @@
 //! The work of a sender's thread.
 ghost use Rattle.std.specs.Prelude.{◌≡◌, ◌+◌, ◌-◌, ◌^◌, ◌<◌, ◌≤◌};
 ghost use Rattle.cc_steps.specs.Walk.{IsOf};
-ghost use Rattle.cc_drive.specs.Back.{SenderGave, one_word};
+ghost use Rattle.cc_drive.specs.Back.{SenderGave, SendsByGate, one_word};
 ghost use Rattle.cc_drive.specs.Jobs.{IsSending};
 ghost use Rattle.cc_drive.specs.Work.{WentOn, IsAskedInSend, IsSent, CostsOfSend};
 
@@ -70,7 +70,8 @@ fn body_behind(accepted: u64) -> Body
 
 /// Sends the numbers from 1 to `items` of the brief as bodies of one word, each again until it is accepted, and keeps a receipt
 /// of each. In a run the answer is Full until then: the queue is closed when all senders are joined, and its life is longer
-/// than any sends that they can begin. An exhausted sender stops. The pass is returned unless the worker reached its limit.
+/// than any sends that they can begin. The pass is returned if all were accepted, and not if the worker came to its limit or
+/// the sender is exhausted. The job's gate is asked for each call.
 pub(crate) fn send_all<G: Gate, R: Wait>(
     rt: &R,
     queue: &Queue,
@@ -79,7 +80,8 @@ pub(crate) fn send_all<G: Gate, R: Wait>(
     job: Job<Sender, G>,
 ) -> Worked<Sender, SendReceipt>
     requires { IsSending queue.now row job }
-    ensures { SenderGave queue.now brief.items brief.limit row result }
+    ensures gave { SenderGave queue.now brief.items brief.limit row result }
+    ensures asked { SendsByGate G.tells job.gate queue.now brief.items brief.limit row result }
 {
     let Job {
         alloc,
@@ -115,9 +117,10 @@ pub(crate) fn send_all<G: Gate, R: Wait>(
                 }
             }
             Sent::Worn(after) => {
+                drop(after);
                 return Worked {
                     row,
-                    pass: Some(after),
+                    pass: None,
                     made: turns.made,
                     kept,
                 };

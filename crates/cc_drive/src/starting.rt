@@ -28,7 +28,7 @@ pub(crate) fn start<'s, E, J: Worker + 's, R: Wait + Sync + 's>(
     ensures promised { IfOk result (λ h. (h.promise.queue.value ≡ queue.now) × (h.promise.brief ≡ brief) × (h.promise.row ≡ row)) }
     ensures refused { IfErr result (λ e. e.row ≡ row) }
 {
-    let promise = work_of::<J>(queue, brief, row);
+    let promise = work_of::<J>(queue, brief, row, &worker);
     let run = move || worker.run(rt, queue, brief, row);
     match scope.spawn_with(promise, run) {
         Ok(handle) => Ok(handle),

@@ -7,7 +7,6 @@ ghost use Rattle.cc_drive.specs.Start.{IsStarted};
 
 use crate::starting::{Refused, start};
 use cc_queue::Queue;
-use std::marker::PhantomData;
 use std::snapshot::Snapshot;
 use std::sync::Wait;
 use std::thread::{Promise, PromisedHandle, Scope, Threads};
@@ -33,12 +32,12 @@ pub trait Worker: Send + Drop {
     /// It is at the start, at this place in the row of all passes of the queue.
     ghost is_ready: { Topic → ℕ → Self → Type 0 };
 
-    /// The possible results of a worker that was at that place.
-    ghost gives: { Topic → Brief → ℕ → Self.Done → Type 0 };
+    /// The possible results of this worker, if it was at that place.
+    ghost gives: { Topic → Brief → ℕ → Self → Self.Done → Type 0 };
 
     fn run<R: Wait>(self, rt: &R, queue: &Queue, brief: Brief, row: u32) -> Self::Done
         requires { is_ready queue.now row self }
-        ensures { gives queue.now brief row result };
+        ensures { gives queue.now brief row self result };
 }
 
 /// The result of a worker's thread at its join.
@@ -47,24 +46,25 @@ pub struct WorkOf<J: Worker> {
     pub queue: Snapshot<Queue>,
     pub brief: Brief,
     pub row: u32,
-    of: PhantomData<J>,
+    pub worker: Snapshot<J>,
 }
 
 impl<J: Worker> Promise<J::Done> for WorkOf<J> {
-    ghost kept_by = { λ p d. J.gives p.queue.value p.brief p.row d };
+    ghost kept_by = { λ p d. J.gives p.queue.value p.brief p.row p.worker.value d };
 }
 
 /// The promise of this worker's thread.
-pub(crate) fn work_of<J: Worker>(queue: &Queue, brief: Brief, row: u32) -> WorkOf<J>
+pub(crate) fn work_of<J: Worker>(queue: &Queue, brief: Brief, row: u32, worker: &J) -> WorkOf<J>
     ensures queue { result.queue.value ≡ queue.now }
     ensures brief { result.brief ≡ brief }
     ensures row { result.row ≡ row }
+    ensures worker { result.worker.value ≡ worker.now }
 {
     WorkOf {
         queue: Snapshot::of(queue),
         brief,
         row,
-        of: PhantomData,
+        worker: Snapshot::of(worker),
     }
 }
 
@@ -135,7 +135,7 @@ pub fn start_all<'s, E, J: Worker + 's, R: Wait + Sync + 's>(
 }
 
 /// Waits for the end of each of these threads. For each queue and place that they may have been promised for, each result is
-/// that of its place.
+/// that of a worker at its place.
 pub fn join_all<R: Threads, J: Worker>(
     rt: &R,
     handles: Vec<PromisedHandle<J::Done, WorkOf<J>>>,
@@ -143,7 +143,7 @@ pub fn join_all<R: Threads, J: Worker>(
 ) -> Vec<J::Done>
     requires none { done.items ≡ [] }
     requires room { vec_len handles ≤ vec_capacity done }
-    ensures gives { (z : Topic) (b : Brief) (first : ℕ) → InRow (λ n h. (h.promise.queue.value ≡ z) × (h.promise.brief ≡ b) × (h.promise.row ≡ n)) first handles.items → InRow (J.gives z b) first result.items }
+    ensures gives { (z : Topic) (b : Brief) (first : ℕ) → InRow (λ n h. (h.promise.queue.value ≡ z) × (h.promise.brief ≡ b) × (h.promise.row ≡ n)) first handles.items → InRow (λ n d. (j : J) × J.gives z b n j d) first result.items }
     ensures len { vec_len result ≡ vec_len handles }
 {
     let mut done = done;

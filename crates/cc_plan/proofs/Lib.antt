@@ -17,3 +17,4 @@ pub mod Keyed
 pub mod Digits
 pub mod Lines
 pub mod Lawful
+pub mod Copied

@@ -70,7 +70,7 @@ pub fn again(queue: &Queue, note: &mut Note) -> Note
 }
 
 /// Takes, and waits for the answer, once the receiver has heeded the note. Empty says that the group was handed, before that
-/// answer, all items that had been accepted when the note was made; and it is no answer if the queue was closed then.
+/// answer, all items accepted in what the note's pass had seen; and it is no answer if the queue is closed in that.
 #[tactic(auto, using(crate::proofs::Heeded::completed_after))]
 pub fn take_after<R: Wait>(
     queue: &Queue,
@@ -88,8 +88,8 @@ pub fn take_after<R: Wait>(
 }
 
 /// Sends this body, and waits for the answer, once the sender has heeded the note. Full says that before that answer at least
-/// `capacity` items were accepted beyond those that every group had been handed when the note was made; if the queue was closed
-/// then, Closed is the only answer.
+/// `capacity` items were accepted beyond those that every group had been handed in what the note's pass had seen; if the queue
+/// is closed in that, Closed is the only answer.
 ///
 /// # Errors
 ///

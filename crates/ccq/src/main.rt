@@ -4,7 +4,7 @@
 ghost use Rattle.std.specs.Prelude.{◌<◌, ◌-◌, ◌^◌};
 
 use cc_command::not_text;
-use cc_command::reading::{decline, tell_unread};
+use cc_command::reading::{decline, decline_file};
 use cc_command::run::run;
 use cc_command::words::{spelled, without_file};
 use cc_device::{Device, Sink, Source};
@@ -67,6 +67,6 @@ fn answer<R: Threads + Wait + Sync + Files, S: Source, W: Sink, E: Sink>(
             let mut source = Device::new(file);
             run(rt, alloc, line.words, &mut source, sink, errors)
         }
-        Err(_) => tell_unread(errors, name.as_bytes()),
+        Err(error) => decline_file(alloc, errors, name.as_bytes(), &error),
     }
 }

@@ -6,7 +6,7 @@ use Rattle.cc_queue.specs.Names.{Body, Item}
 use Rattle.cc_queue.specs.Noted.{noted_history}
 use Rattle.cc_steps.specs.Noted.{Noted}
 
--- this is the first item that had been accepted when the note was made
+-- this is the first item accepted in what the note's pass had seen
 abbrev pub IsFirst : Noted → Item → Type 0
 IsFirst n item = slice_get (accepted (noted_history n)) 0 ≡ Some item
 

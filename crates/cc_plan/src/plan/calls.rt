@@ -1,6 +1,6 @@
 //! The calls of a sender.
-ghost use Rattle.std.specs.Prelude.{◌≡◌, ◌<◌, ◌++◌, ◌^◌, ◌-◌, IfSome, OnOk, [], ◌∷◌, length, get_or, true};
-ghost use Rattle.std.specs.List.{list_all, slice_get};
+ghost use Rattle.std.specs.Prelude.{◌≡◌, ◌<◌, ◌++◌, ◌^◌, ◌-◌, IfOk, IfSome, OnOk, [], ◌∷◌, length, get_or, true};
+ghost use Rattle.std.specs.List.{AllByRecursion, list_all, slice_get};
 ghost use Rattle.cc_plan.specs.Kept.{is_kept};
 
 use super::kept::Kept;
@@ -29,6 +29,29 @@ impl Calls {
             calls: Vec::new(alloc),
             bodies: Vec::new(alloc),
         }
+    }
+
+    /// These calls, which are a sender's.
+    pub fn of(alloc: Global, calls: Vec<Call>) -> Result<Calls, AllocError>
+        requires { AllByRecursion IsOfSender calls.items }
+        ensures { IfOk result (λ own. calls_in own ≡ calls.items) }
+    {
+        let mut own = Calls::new(alloc);
+        for call in calls {
+            own.push(call)?;
+        }
+        Ok(own)
+    }
+
+    /// The same calls as a list of their own.
+    pub fn to_vec(&self, alloc: Global) -> Result<Vec<Call>, AllocError>
+        ensures { IfOk result (λ list. list.items ≡ calls_in self.now) }
+    {
+        let mut list = Vec::new(alloc);
+        while list.len() < self.len() {
+            list.push(self.at(list.len()))?;
+        }
+        Ok(list)
     }
 
     /// The number of calls.

@@ -9,4 +9,4 @@ abbrev pub invariant-loop-handle : goal.invariant-loop-handle
 invariant-loop-handle g l =
     ((vec_len l.done + into_iter_len l.handle-iterator ≡ vec_len l.fn.handles) × (vec_len l.fn.handles ≤ vec_capacity l.done))
     × ((z : Topic) (b : Brief) (first : ℕ) → InRow (λ n h. (h.promise.queue.value ≡ z) × (h.promise.brief ≡ b) × (h.promise.row ≡ n)) first l.fn.handles.items
-    → InRow (λ n h. (h.promise.queue.value ≡ z) × (h.promise.brief ≡ b) × (h.promise.row ≡ n)) (first + length l.done.items) (into_iter_items l.handle-iterator) × InRow (g.J.Worker.gives z b) first l.done.items)
+    → InRow (λ n h. (h.promise.queue.value ≡ z) × (h.promise.brief ≡ b) × (h.promise.row ≡ n)) (first + length l.done.items) (into_iter_items l.handle-iterator) × InRow (λ n d. (j : g.row.J.Denot) × g.J.Worker.gives z b n j d) first l.done.items)
