@@ -180,9 +180,12 @@ def judge_ring(language, ring, log):
         print(f"judge: the ring in {language}, {kind}: {said}", end="")
         right &= said.startswith("judge fault: " if kind == "early" else "judge clean: ")
     clean = 0
-    for tenths in range(1, 6):
+    for later in range(5):
+        log.unlink()
         with subprocess.Popen([ring, log, "right", "1000000000"]) as run:
-            time.sleep(tenths / 10)
+            while run.poll() is None and not (log.exists() and log.stat().st_size):
+                time.sleep(0.01)
+            time.sleep(later / 20)
             run.kill()
         said = judged_file(log)
         print(f"judge: the ring in {language}, killed: {said}", end="")

@@ -6,6 +6,7 @@
 #include "vahepito_record.h"
 #include "vahepito_wait.h"
 
+#include <stdio.h>
 #include <string.h>
 
 /* A caller's own struct with handles in it. */

@@ -3,7 +3,7 @@
  *     cc -O2 -pthread ring.c -o ring && ./ring LOG [right|early] [ITEMS]
  *     ccq judge LOG
  *
- * The ring is that of Dmitry Vyukov: each place has a number that says whose turn it is. `early` plants a fault: now and then
+ * The ring is like that of Dmitry Vyukov: each place has a number that says whose turn it is. `early` plants a fault: now and then
  * a send gives its place to the takes before it has written the item. Each of two threads sends this number of items
  * (5,000), and two take until all is sent and the ring is empty. */
 #ifndef _POSIX_C_SOURCE
@@ -11,9 +11,11 @@
 #endif
 #include "vahepito_record.h"
 
+#include <inttypes.h>
 #include <pthread.h>
 #include <stdatomic.h>
 #include <stdbool.h>
+#include <stdio.h>
 #include <string.h>
 
 enum { CAPACITY = 64, THREADS = 4 };
@@ -26,14 +28,18 @@ static struct place places[CAPACITY];
 static _Atomic uint64_t next_send, next_take;
 static bool early;
 
-/* The place of the next call, whose turn has to be its number and `shift` more; NULL if the place waits for another turn. */
-static struct place *claim(_Atomic uint64_t *next, uint64_t shift, uint64_t *number) {
+/* The place of the next call, whose turn has to be its number and `shift` more; NULL if the other side's number says that there
+ * is no room or no item. If it doesn't say so, a call of the other side is at work at the place, and this one waits: NULL would
+ * be wrong, as an item whose send has returned may be after that place. */
+static struct place *claim(_Atomic uint64_t *next, _Atomic uint64_t *other, uint64_t shift, uint64_t *number) {
+    const uint64_t room = shift == 0 ? CAPACITY : 0;
     uint64_t at = atomic_load(next);
     for (;;) {
         struct place *place = &places[at % CAPACITY];
         const uint64_t turn = atomic_load(&place->turn);
-        if (turn < at + shift) return NULL;
-        if (turn > at + shift) {
+        if (turn != at + shift) {
+            if (turn < at + shift && atomic_load(other) + room == at) return NULL;
+            sched_yield();
             at = atomic_load(next);
         } else if (atomic_compare_exchange_weak(next, &at, at + 1)) {
             *number = at;
@@ -45,7 +51,7 @@ static struct place *claim(_Atomic uint64_t *next, uint64_t shift, uint64_t *num
 static bool try_send(uint64_t item) {
     const struct timespec window = {0, 200000};
     uint64_t at;
-    struct place *place = claim(&next_send, 0, &at);
+    struct place *place = claim(&next_send, &next_take, 0, &at);
     if (!place) return false;
     if (early && at % 100 == 99) {
         atomic_store(&place->turn, at + 1);
@@ -60,7 +66,7 @@ static bool try_send(uint64_t item) {
 
 static bool try_take(uint64_t *item) {
     uint64_t at;
-    struct place *place = claim(&next_take, 1, &at);
+    struct place *place = claim(&next_take, &next_send, 1, &at);
     if (!place) return false;
     *item = atomic_load(&place->item);
     atomic_store(&place->turn, at + CAPACITY);

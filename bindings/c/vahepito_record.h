@@ -32,10 +32,9 @@
 
 #include <errno.h>
 #include <fcntl.h>
-#include <inttypes.h>
-#include <stdio.h>
-#include <stdlib.h>
 #include <sched.h>
+#include <stdint.h>
+#include <stdlib.h>
 #include <time.h>
 #include <unistd.h>
 
@@ -89,19 +88,36 @@ static inline void vahepito_lock_log(vahepito_log *log) {
     while (__atomic_exchange_n(&log->lock, 1, __ATOMIC_ACQUIRE)) sched_yield();
 }
 
-/* Writes the line of a call, which had ended or not, at the end of a text of some bytes; returns how many it has then. */
-static inline size_t vahepito_record_line(vahepito_recorder *mine, uint64_t call, int ended, char *text, size_t at) {
+/* Writes a text, or a number, at the end of a text of some bytes; returns how many it has then. */
+static inline size_t vahepito_put(char *text, size_t at, const char *what) {
+    while (*what) text[at++] = *what++;
+    return at;
+}
+
+static inline size_t vahepito_put_number(char *text, size_t at, const char *before, uint64_t number) {
+    char digits[20];
+    int count = 0;
+    at = vahepito_put(text, at, before);
+    do digits[count++] = (char)('0' + number % 10); while (number /= 10);
+    while (count) text[at++] = digits[--count];
+    return at;
+}
+
+/* Writes the line of a call, which had ended or not. */
+static inline size_t vahepito_put_line(vahepito_recorder *mine, uint64_t call, int ended, char *text, size_t at) {
     vahepito_recorded *it = &mine->calls[call % VAHEPITO_RECORDED];
     const uint64_t what = VAHEPITO_GET(it->what, RELAXED), item = VAHEPITO_GET(it->item, RELAXED);
     const uint64_t answer = ended ? what & ~(uint64_t)VAHEPITO_IS_TAKE : 0;
     const int take = (what & VAHEPITO_IS_TAKE) != 0;
-    char end[40] = "", body[40] = "null";
-    if (answer) snprintf(end, sizeof end, ",\"end\":%" PRIu64, VAHEPITO_GET(it->end, RELAXED));
-    if (!take || answer == VAHEPITO_TOOK) snprintf(body, sizeof body, "[%" PRIu64 "]", item);
-    return at + (size_t)snprintf(text + at, VAHEPITO_LINE, "{\"thread\":\"%" PRIu64 "\",\"begin\":%" PRIu64 "%s,\"%s\":%s%s}\n",
-        mine->name, VAHEPITO_GET(it->begin, RELAXED), end, take ? "take" : "send", body,
-        answer == VAHEPITO_WAS_FULL ? ",\"answer\":\"full\"" : answer == VAHEPITO_WAS_CLOSED ? ",\"answer\":\"closed\""
-        : answer == VAHEPITO_FOUND_END ? ",\"answer\":\"ended\"" : "");
+    at = vahepito_put_number(text, at, "{\"thread\":\"", mine->name);
+    at = vahepito_put_number(text, at, "\",\"begin\":", VAHEPITO_GET(it->begin, RELAXED));
+    if (answer) at = vahepito_put_number(text, at, ",\"end\":", VAHEPITO_GET(it->end, RELAXED));
+    at = vahepito_put(text, at, take ? ",\"take\":" : ",\"send\":");
+    if (take && answer != VAHEPITO_TOOK) at = vahepito_put(text, at, "null");
+    else at = vahepito_put(text, vahepito_put_number(text, at, "[", item), "]");
+    return vahepito_put(text, at, answer == VAHEPITO_WAS_FULL ? ",\"answer\":\"full\"}\n"
+        : answer == VAHEPITO_WAS_CLOSED ? ",\"answer\":\"closed\"}\n"
+        : answer == VAHEPITO_FOUND_END ? ",\"answer\":\"ended\"}\n" : "}\n");
 }
 
 /* Writes some bytes at a place of the file, if all before were written. */
@@ -130,14 +146,14 @@ static inline void vahepito_log_round(vahepito_log *log) {
         const uint64_t calls = VAHEPITO_GET(one->stage, ACQUIRE) / 2;
         uint64_t call = one->written;
         for (; call < calls && VAHEPITO_GET(one->calls[call % VAHEPITO_RECORDED].end, RELAXED) < moment; call++)
-            if (!log->is_over) ended = vahepito_record_line(one, call, 1, log->text, ended);
+            if (!log->is_over) ended = vahepito_put_line(one, call, 1, log->text, ended);
         VAHEPITO_SET(one->written, call, RELEASE);
     }
     all = ended;
     for (one = log->first; one && !log->is_over; one = one->next) {
         const uint64_t stage = VAHEPITO_GET(one->stage, ACQUIRE), call = one->written;
         if (stage > 2 * call && VAHEPITO_GET(one->calls[call % VAHEPITO_RECORDED].begin, RELAXED) < moment)
-            all = vahepito_record_line(one, call, 0, log->text, all);
+            all = vahepito_put_line(one, call, 0, log->text, all);
     }
     if (log->kept + all > VAHEPITO_RECORD_LIMIT) log->is_over = 1;
     if (all > 0) {

@@ -3,7 +3,7 @@
 //!     cargo run --release --example ring LOG [right|early] [ITEMS]
 //!     ccq judge LOG
 //!
-//! The ring is that of Dmitry Vyukov: each place has a number that says whose turn it is. `early` plants a fault: now and then
+//! The ring is like that of Dmitry Vyukov: each place has a number that says whose turn it is. `early` plants a fault: now and then
 //! a send gives its place to the takes before it has written the item. Each of two threads sends this number of items
 //! (5,000), and two take until all is sent and the ring is empty.
 use std::io;
@@ -43,17 +43,24 @@ impl Ring {
         }
     }
 
-    /// The place with a number, if its turn is `turn`, and this call has it by moving `next` past it. Or None if the place
-    /// waits for another turn.
-    fn claim(&self, next: &AtomicU64, shift: u64) -> Option<(&Place, u64)> {
+    /// The place of the next call, whose turn has to be its number and `shift` more. Or None if the other side's number
+    /// says that there is no room or no item. If it doesn't say so, a call of the other side is at work at the place, and this
+    /// one waits: None would be wrong, as an item whose send has returned may be after that place.
+    fn claim(&self, next: &AtomicU64, other: &AtomicU64, shift: u64) -> Option<(&Place, u64)> {
+        let room = if shift == 0 {
+            self.places.len() as u64
+        } else {
+            0
+        };
         let mut at = next.load(Ordering::SeqCst);
         loop {
             let place = &self.places[at as usize % self.places.len()];
             let turn = place.turn.load(Ordering::SeqCst);
-            if turn < at + shift {
-                return None;
-            }
-            if turn > at + shift {
+            if turn != at + shift {
+                if turn < at + shift && other.load(Ordering::SeqCst) + room == at {
+                    return None;
+                }
+                thread::yield_now();
                 at = next.load(Ordering::SeqCst);
                 continue;
             }
@@ -65,7 +72,7 @@ impl Ring {
     }
 
     fn send(&self, item: u64) -> Sent {
-        let Some((place, at)) = self.claim(&self.sends, 0) else {
+        let Some((place, at)) = self.claim(&self.sends, &self.takes, 0) else {
             return Sent::Full;
         };
         if self.early && at % 100 == 99 {
@@ -80,7 +87,7 @@ impl Ring {
     }
 
     fn take(&self) -> Taken {
-        let Some((place, at)) = self.claim(&self.takes, 1) else {
+        let Some((place, at)) = self.claim(&self.takes, &self.sends, 1) else {
             return Taken::None;
         };
         let item = place.item.load(Ordering::SeqCst);
