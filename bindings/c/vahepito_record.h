@@ -59,10 +59,10 @@ typedef struct vahepito_recorder {
     vahepito_recorded calls[VAHEPITO_RECORDED];
 } vahepito_recorder;
 
-/* The file, its bytes that stay, all recorders, a lock, and room for a round's text. */
+/* All recorders; of the file the bytes that stay, and all with the lines of pending calls; room for a round's text; a lock. */
 typedef struct vahepito_log {
     vahepito_recorder *first;
-    uint64_t names, kept, start;
+    uint64_t names, kept, all, start;
     char *text;
     size_t room;
     int file, failed, is_over, lock;
@@ -156,18 +156,20 @@ static inline void vahepito_log_round(vahepito_log *log) {
             all = vahepito_put_line(one, call, 0, log->text, all);
     }
     if (log->kept + all > VAHEPITO_RECORD_LIMIT) log->is_over = 1;
-    if (all > 0) {
+    /* If no call has ended and no further one is pending, all is there */
+    if (ended > 0 || log->kept + all != log->all) {
         vahepito_log_write(log, "!", 1, log->kept);
         vahepito_log_write(log, log->text + 1, all - 1, log->kept + 1);
         vahepito_log_write(log, log->text, 1, log->kept);
     }
+    log->all = log->kept + all;
     log->kept += ended;
     VAHEPITO_SET(log->lock, 0, RELEASE);
 }
 
 /* A log in a new file: 0, or -1 with errno. */
 static inline int vahepito_log_open(vahepito_log *log, const char *path) {
-    log->first = NULL, log->names = log->kept = 0, log->start = vahepito_clock();
+    log->first = NULL, log->names = log->kept = log->all = 0, log->start = vahepito_clock();
     log->text = NULL, log->room = 0, log->failed = log->is_over = log->lock = 0;
     log->file = open(path, O_WRONLY | O_CREAT | O_TRUNC, 0666);
     return log->file < 0 ? -1 : 0;

