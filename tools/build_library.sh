@@ -29,24 +29,13 @@ made=out/lib/$target
 build=rt_lib update=
 mapfile -t crates < <(crates_of cc_binding)
 
-sum_of() { sha256sum "$@" | cut -d' ' -f1; }
-
-# What the library is built of and what is proved of it: the code with its contracts, and the definitions.
-sum_of_sources() {
-    local crate
-    for crate in "${crates[@]}"; do
-        grep -E "^$crate[ :]" crates.txt
-        find "crates/$crate"/{src,specs} -type f 2>/dev/null | LC_ALL=C sort | xargs -rd '\n' sha256sum
-    done | sum_of
-}
-
 # The lines of PROOF with the sums of the archives in a folder, and of the sources.
 sums() {
     local archive
     for archive in libvahepito.a libvahepito_strict.a libvahepito_heap.a; do
         echo "sha256 of $archive: $(sum_of "$1/$archive")"
     done
-    echo "sha256 of the sources: $(sum_of_sources)"
+    echo "sha256 of the sources: $(sum_of_sources "${crates[@]}")"
 }
 
 for word; do
@@ -117,10 +106,10 @@ relax() {
 # The toolchain's three names for memory, as the library's own: of the same lengths, so that no other byte changes.
 renamed='s/rattle_alloc/vahepito_new/g; s/rattle_realloc/vahepito_renew/g; s/rattle_dealloc/vahepito_freed/g'
 
-sources=$(sum_of_sources)
+sources=$(sum_of_sources "${crates[@]}")
 "$build" || { echo "library: FAILED after $SECONDS s" >&2 && exit 1; }
 proof=$(grep -a '^logic=proved ' "$scratch/log" | tail -n 1)
-if [ -z "$proof" ] || [ "$(sum_of_sources)" != "$sources" ]; then
+if [ -z "$proof" ] || [ "$(sum_of_sources "${crates[@]}")" != "$sources" ]; then
     echo 'library: FAILED: no line logic=proved was seen, or the sources have changed meanwhile' >&2
     exit 1
 fi

@@ -15,6 +15,17 @@ crates_of() {
         END { add(top) }' "$top/crates.txt"
 }
 
+sum_of() { sha256sum "$@" | cut -d' ' -f1; }
+
+# The sum of what these crates are built of and what is proved of them: the code with its contracts, and the definitions.
+sum_of_sources() {
+    local crate
+    for crate; do
+        grep -E "^$crate[ :]" "$top/crates.txt"
+        (cd "$top" && find "crates/$crate"/{src,specs} -type f 2>/dev/null | LC_ALL=C sort | xargs -rd '\n' sha256sum)
+    done | sum_of
+}
+
 # How many functions these crates have.
 functions_of() {
     local crate

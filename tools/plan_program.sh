@@ -1,10 +1,17 @@
-# What ./play and ./show share: which plan is read, and the program, which is proved and built if it isn't there, or tried. Each
-# says before it reads this by `.`: `top`, the top of the repository; `name`, what its lines begin with; `crate`, the crate of
+# What ./play and ./show share: which plan is read, and the program: the one in bin/, or one that is proved and built here, or
+# tried. Each says before it reads this by `.`: `top`, the top of the repository; `name`, what its lines begin with; `crate`, the crate of
 # its program; `words`, its arguments; `build`, the command of rt that builds it; `costs`, what a build from nothing takes.
 . "$top/tools/building.sh" || exit 69
 program=$top/crates/$crate/out/$crate
+prebuilt=$top/bin/x86_64-unknown-linux-gnu/$crate
 
 say() { echo "$name: $*" >&2; }
+
+# Whether the program in bin/ runs on this machine, and is of the sources as they stand.
+is_prebuilt() {
+    [ "$(uname -sm)" = 'Linux x86_64' ] && [ -x "$prebuilt" ] &&
+        grep -qxF "sha256 of the sources of $crate: $(sum_of_sources $(crates_of "$crate"))" "${prebuilt%/*}/PROOF"
+}
 
 # Whether a source of the program is newer than it is.
 is_old() {
@@ -58,22 +65,22 @@ try_program() {
         say "rt try ended with status $status, and the program had not ended"
         exit 69
     fi
-    say "tried, and nothing of it is proved: no contract was looked at. ./$name without --try proves the program first"
+    say "tried, and nothing of it is proved: no contract was looked at. ./$name --prove proves the program first"
     exit "$status"
 }
 
 # Does what the words of the line ask for.
 run_plan() {
-    local tried=
+    local how=
     case ${1-} in
     -h | --help) printf '%s\n' "$help" && exit ;;
-    --try) tried=yes && shift ;;
+    --prove | --try) how=$1 && shift ;;
     esac
     if [ "$name" = show ] && [ "${1-}" = --trace ]; then
         words=(--trace) && shift
     fi
     if [ "$#" -gt 1 ]; then
-        echo "usage: ./$name [--try] [PLAN], or ./$name [--try] < PLAN; ./$name --help says more" >&2
+        echo "usage: ./$name [--prove | --try] [PLAN], or with the plan on standard input; ./$name --help says more" >&2
         exit 64
     fi
     if [ "$#" -eq 1 ]; then
@@ -87,7 +94,10 @@ run_plan() {
         say 'the page goes to standard output, for a browser: ./show PLAN > page.html'
         exit 64
     fi
-    [ -z "$tried" ] || try_program
-    have_program
+    case $how in
+    --try) try_program ;;
+    --prove) have_program ;;
+    *) if is_prebuilt; then program=$prebuilt; else have_program; fi ;;
+    esac
     exec "$program" "${words[@]}"
 }
