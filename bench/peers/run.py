@@ -42,7 +42,7 @@ BEGIN, END = "<!-- bench/peers/run.py writes from here -->\n", "<!-- to here -->
 REGISTRY = "/usr/share/cargo/registry"
 LIBRARIES = ["crossbeam-channel", "crossbeam-queue", "flume", "async-channel", "concurrent-queue"]
 OURS, POLLED, OF_STD = ["words", "typed"], ["crossbeam-queue", "concurrent-queue"], ["sync_channel", "Mutex+Condvar"]
-SHOWN = {"words": "**words**", "typed": "**typed**", "crossbeam-queue": "crossbeam's ArrayQueue"}
+SHOWN = {"words": "**words**", "typed": "**typed**", "strict": "typed, strict", "crossbeam-queue": "crossbeam's ArrayQueue"}
 BOUND = 64
 
 
@@ -71,7 +71,7 @@ def install():
 
 
 def build(there):
-    """The program, of the libraries that are there; its package names no other ones."""
+    """The program, of the libraries that are there (its package names no other ones), and the program over the strict archive."""
     os.makedirs(os.path.join(OUT, ".cargo"), exist_ok=True)
     wanted, features = "", ""
     for library in LIBRARIES:
@@ -87,8 +87,17 @@ def build(there):
     lock = os.path.join(OUT, "Cargo.lock")
     if os.path.exists(lock):
         os.remove(lock)
-    subprocess.run(["cargo", "build", "-q", "--release", "--offline", "--features", ",".join(there)], cwd=OUT, check=True)
-    return os.path.join(OUT, "target", "release", "peers")
+    for target, features in (("target", there), ("strict", [*there, "vahepito/strict"])):
+        command = ["cargo", "build", "-q", "--release", "--offline", "--target-dir", target, "--features", ",".join(features)]
+        subprocess.run(command, cwd=OUT, check=True)
+    return [os.path.join(OUT, target, "release", "peers") for target in ("target", "strict")]
+
+
+def command_of(programs, mode, queue, it, milliseconds):
+    """The command of a burst. *strict* is the typed channel over the strict archive."""
+    relaxed, strict = programs
+    program = [strict, mode, "typed"] if queue == "strict" else [relaxed, mode, queue]
+    return [*program, *map(str, it), str(milliseconds)]
 
 
 # What the machine does meanwhile.
@@ -199,7 +208,7 @@ def tables(queues):
     ]
 
 
-def measure(program, all_tables, seconds):
+def measure(programs, all_tables, seconds):
     """The numbers of each cell's bursts, round by round, in some so many seconds."""
     cells = list({one: None for *_, rows in all_tables for columns in rows.values() for one, _ in columns.values()})
     rounds = 3 if seconds < 60 else 9 if seconds < 300 else 15
@@ -213,7 +222,7 @@ def measure(program, all_tables, seconds):
         began = time.time()
         for one in random.sample(cells, len(cells)):
             mode, queue, it, part = one
-            command = [program, mode, queue, *map(str, it), str(max(5, round(length * part)))]
+            command = command_of(programs, mode, queue, it, max(5, round(length * part)))
             try:
                 done = subprocess.run(command, capture_output=True, text=True, timeout=30 + length / 100)
                 numbers[one].append([float(word) for word in done.stdout.split()] if done.returncode == 0 else None)
@@ -261,8 +270,9 @@ def text_of(machine, length, versions, all_tables, numbers):
         + ("the machine was idle otherwise: " if idle else "**others ran meanwhile, so compare within a column alone**: ")
         + f"other processes had {machine['others']:.2f} processors in the mean and {machine['worst']:.2f} in the worst round "
         f"({busiest}), and the host took {machine['stolen']:.2f}."), "", wrapped(
-        f"*words* are the exports of the proved library, with bodies of one word, and *typed* the channel of any type of `bindings/rust`, with a bound of {BOUND}; "
-        f"the peers are {queues}std's `sync_channel`, whose one receiver is shared under a lock, and std's `Mutex` with two "
+        f"*words* are the exports of the proved library, with bodies of one word, and *typed* the channel of any type of `bindings/rust`, with a bound of {BOUND}. "
+        "Both are over the relaxed archive, and *typed, strict* is the channel over the strict one. "
+        f"The peers are {queues}std's `sync_channel`, whose one receiver is shared under a lock, and std's `Mutex` with two "
         "`Condvar`s round a `VecDeque`. ArrayQueue and concurrent-queue have no calls that wait: they are tried again, first with "
         "spinning between two tries and then with yields. Cells have the medians of the rounds, the pictures the quartiles too."), "",
     ]
@@ -280,14 +290,14 @@ def text_of(machine, length, versions, all_tables, numbers):
 
 # Beside busy processes.
 
-def beside_busy(program, seconds):
+def beside_busy(programs, seconds):
     """The rows of the table `busy`: an item's time by the clock and, in square brackets, of all processors together."""
     queues, shapes = [*OURS, "Mutex+Condvar"], [(1, 1), (4, 4), (8, 8), (32, 32)]
     cells, start, rounds = {(at, queue): [] for at in shapes for queue in queues}, time.time(), 0
     with busy_processors():
         while time.time() - start < seconds:
             for at, queue in random.sample(list(cells), len(cells)):
-                command = [program, "pass", queue, *map(str, shape(*at)), "40"]
+                command = command_of(programs, "pass", queue, shape(*at), 40)
                 done = subprocess.run(command, capture_output=True, text=True, check=True, timeout=60)
                 cells[at, queue].append([float(word) for word in done.stdout.split()])
             rounds += 1
@@ -299,13 +309,13 @@ def beside_busy(program, seconds):
 
 # The slowest calls.
 
-def slowest_calls(program, queues, seconds):
+def slowest_calls(programs, queues, seconds):
     """The rows of the table `tail`: percentiles of the time of a send that doesn't wait, beside four receivers that block."""
     counts = (4, 16, 64)
     cells, start, rounds = {(count, queue): [] for count in counts for queue in queues}, time.time(), 0
     while time.time() - start < seconds:
         for count, queue in random.sample(list(cells), len(cells)):
-            command = [program, "tail", queue, *map(str, shape(count, 4, 1024)), "1000"]
+            command = command_of(programs, "tail", queue, shape(count, 4, 1024), 1000)
             done = subprocess.run(command, capture_output=True, text=True, check=True, timeout=60)
             cells[count, queue].append([float(word) for word in done.stdout.split()])
         rounds += 1
@@ -340,14 +350,14 @@ def main():
             told = json.load(file)
     else:
         there = install()
-        program = build(there)
+        programs = build(there)
         if options.busy:
-            return write("busy", beside_busy(program, options.seconds))
+            return write("busy", beside_busy(programs, options.seconds))
         if options.tail:
             queues = ["typed", *(queue for queue in there if queue not in POLLED), "Mutex+Condvar"]
-            return write("tail", slowest_calls(program, queues, options.seconds))
-        order = [*OURS, *there, *OF_STD]
-        told = measure(program, tables(order), options.seconds)
+            return write("tail", slowest_calls(programs, queues, options.seconds))
+        order = [*OURS, "strict", *there, *OF_STD]
+        told = measure(programs, tables(order), options.seconds)
         told.update(queues=order, versions={library: version(library) for library in there})
         with open(kept, "w") as file:
             json.dump(told, file)
