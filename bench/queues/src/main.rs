@@ -39,13 +39,13 @@ type Queue = (&'static str, fn(Shape) -> u64);
 const ALONE: [Queue; 3] = [
     ("vahepito", alone),
     ("typed", typed_alone),
-    ("steps", |it| plain::alone::<false>(it.capacity, it.items)),
+    ("steps", |it| plain::alone(it.capacity, it.items)),
 ];
 const SHARED: [Queue; 5] = [
     ("vahepito", shared),
     ("typed", typed_shared),
     ("steps", |it| {
-        plain::steps::<false>(it.senders, it.receivers, it.capacity, it.items)
+        plain::steps(it.senders, it.receivers, it.capacity, it.items)
     }),
     ("mutex", |it| {
         plain::mutex(it.senders, it.receivers, it.capacity, it.items)
