@@ -72,9 +72,11 @@ impl<T> Core<T> {
     pub fn reserve(&self) -> Try<bool> {
         self.seems_to_have_room()?;
         let _in_queue = lock(&self.in_queue);
-        let reserved = self.selected.room.fetch_add(1, Ordering::SeqCst);
+        self.selected.room.fetch_add(1, Ordering::SeqCst);
         let _seats = self.senders.seats.take_all();
-        let has_room = self.has_room_beside(reserved).map(|()| !self.is_closed());
+        // A selected send that was on its way before has counted its place down.
+        let others = self.selected.room.load(Ordering::SeqCst) - 1;
+        let has_room = self.has_room_beside(others).map(|()| !self.is_closed());
         if has_room != Ok(true) {
             self.selected.room.fetch_sub(1, Ordering::SeqCst);
         }

@@ -11,11 +11,11 @@
 //! **A selected take has its item.** The try is the take itself, so there is one, and no other receiver gets
 //! the item. The channel keeps it until [`SelectedOperation::recv`] hands it over.
 //!
-//! **A selected send has its room**, since its item may come after the selection. `Core::reserve` counts a
-//! place as reserved, while it has all the senders' seats: no send is on its way then. Each other send sees
-//! by its seat that places are reserved; it then takes all seats too, and leaves those places free. So items
-//! and reserved places together are never more than the capacity, and [`SelectedOperation::send`] finds room
-//! without waiting. A send that gives its place back rings for room.
+//! **A selected send has its room**, since its item may come after the selection. `Core::reserve` counts a place
+//! as reserved, and then takes all the senders' seats: no send is on its way then. If the place isn't free it
+//! counts it down again. Each other send sees by its seat that places are reserved; it then takes all seats too,
+//! and leaves those places free. So items and reserved places together are never more than the capacity, and
+//! [`SelectedOperation::send`] finds room without waiting. A send that gives its place back rings for room.
 //!
 //! **Room and items are counted here**, not asked of the queue: a send and a take each count by their seat,
 //! give it back, and then look whether somebody waits. A look takes each of those seats, and gives it back. A
@@ -70,7 +70,7 @@ pub trait Case {
 
 /// What a channel keeps for selected operations until they are completed.
 pub struct Selected<T> {
-    /// How much room is reserved for sends. It grows while all senders' seats are taken.
+    /// How much room is reserved for sends. It grows under the lock of the groups.
     pub room: AtomicUsize,
     /// The items of takes.
     kept: Mutex<Kept<T>>,

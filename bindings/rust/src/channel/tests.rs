@@ -3,6 +3,7 @@ use super::rounds::rounds;
 use super::*;
 use std::collections::BTreeMap;
 use std::sync::Mutex;
+use std::sync::atomic::{AtomicBool, Ordering::SeqCst};
 use std::thread;
 use std::time::Duration;
 
@@ -194,4 +195,27 @@ fn room_between_two_queues() {
             assert_eq!(receiver.recv(), Ok(number + 100));
         }
     }
+}
+
+/// An item and the place that was reserved for it count once: of two places, one is free for each of two threads that use at
+/// most one.
+#[test]
+fn a_reserved_place_counts_once() {
+    let (sender, receiver) = channel(2).unwrap();
+    let (core, is_over) = (sender.core(), AtomicBool::new(false));
+    thread::scope(|scope| {
+        scope.spawn(|| {
+            while !is_over.load(SeqCst) {
+                assert_eq!(core.reserve(), Ok(true));
+                core.give_back_room();
+            }
+        });
+        for number in 0..rounds(100_000) {
+            assert_eq!(core.reserve(), Ok(true));
+            assert!(core.send_to_room(&mut sender.pack(number)));
+            (0..200).for_each(|_| std::hint::spin_loop());
+            assert_eq!(receiver.try_recv(), Ok(number));
+        }
+        is_over.store(true, SeqCst);
+    });
 }
