@@ -210,7 +210,7 @@ fn a_reserved_place_counts_once() {
                 core.give_back_room();
             }
         });
-        for number in 0..rounds(100_000) {
+        for number in 0..rounds(10_000) {
             assert_eq!(core.reserve(), Ok(true));
             assert!(core.send_to_room(&mut sender.pack(number)));
             (0..200).for_each(|_| std::hint::spin_loop());
