@@ -5,7 +5,7 @@ use Rattle.std.proofs.lemmas.Bool.{eqb-true}
 use Rattle.std.proofs.lemmas.List.{get_or-map, get_or_default, length-map}
 use Rattle.std.proofs.lemmas.Option.{slice_get-get_or}
 use Rattle.cc_model.specs.Body.{body_of}
-use Rattle.cc_model.specs.Items.{IsFront}
+use Rattle.cc_model.specs.Items.{IsPrefix}
 use Rattle.cc_audit.specs.Names.{Item, SendReceipt, TakeReceipt}
 use Rattle.cc_model.proofs.Grows.{get_front}
 use Rattle.cc_audit.specs.Receipts.{send_receipt}
@@ -16,7 +16,7 @@ use Rattle.cc_audit.proofs.Counts.{Two, two_of_count}
 -- these
 pub record Fair (sent : List Item) (takes : List TakeReceipt) (total : Option ℕ) : Type 0 where
   pub places : (i : ℕ) (x : Item) → slice_get sent i ≡ Some x → x.place ≡ i
-  pub front : IsFront (map (λ t. t.item) takes) sent
+  pub front : IsPrefix (map (λ t. t.item) takes) sent
   pub numbers : (i j : ℕ) (x y : Item) → i < j → slice_get sent i ≡ Some x → slice_get sent j ≡ Some y → x.sender ≡ y.sender → x.number < y.number
   pub all : (n : ℕ) → total ≡ Some n → n ≡ length sent
 

@@ -8,7 +8,7 @@ pub mod Copies
 pub mod Faults
 pub mod Found
 pub mod Clean
-pub mod Lawful
+pub mod Legal
 pub mod Ends
 pub mod Orders
 pub mod One

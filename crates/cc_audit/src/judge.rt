@@ -1,3 +1,4 @@
+//! The audit: the verdict on the receipts of sends and takes, in any order.
 ghost use Rattle.std.specs.Prelude.{◌≡◌, map, IfOk, IsPermutation};
 ghost use Rattle.std.specs.List.Sorted.{IsNonDecreasing};
 ghost use Rattle.cc_audit.specs.Verdict.{IsVerdict};

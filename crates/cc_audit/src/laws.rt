@@ -1,4 +1,4 @@
-// Laws over the definitions alone.
+//! Laws of the audit over the definitions alone: the receipts of a legal history are clean, and their order changes no verdict.
 ghost use Rattle.cc_audit.specs.Receipts.{LegalGivesClean};
 ghost use Rattle.cc_audit.specs.Verdict.{AnyOrder, OneVerdict};
 

@@ -1,3 +1,4 @@
+//! The receipts of sends and takes, and the verdict on them.
 use cc_model::{Body, Item};
 
 /// The receipt of a send that was accepted: the sender's own number, the number of this send among its sends, from 1, the

@@ -147,7 +147,7 @@ fn tell_topic(rt: &HostRuntime, broker: &Broker, name: &str) -> Result<(), io::E
     println!(rt; "topic {name}: {number:?}, {is_there}")
 }
 
-/// Tells of the topics by their names, of one that isn't there, and of the passes of each topic. The answer is the exit status.
+/// Prints the topics by their names, one that is missing, and the passes of each topic. It returns the exit status.
 fn tell_topics(rt: &HostRuntime, opened: &OpenedBroker) -> Result<u8, io::Error> {
     for name in ["a", "b", "c", "d"] {
         tell_topic(rt, &opened.broker, name)?;
@@ -158,7 +158,7 @@ fn tell_topics(rt: &HostRuntime, opened: &OpenedBroker) -> Result<u8, io::Error>
     Ok(0)
 }
 
-/// Tells which call was refused, and why. The answer is the exit status.
+/// Prints which call was refused, and why. It returns the exit status.
 fn tell_fault<F: Debug>(rt: &HostRuntime, call: &str, fault: &F) -> Result<u8, io::Error> {
     eprintln!(rt; "{call}: {fault:?}")?;
     Ok(3)
@@ -172,7 +172,7 @@ fn tell_again(rt: &HostRuntime, refused: u32) -> Result<(), io::Error> {
     eprintln!(rt; "begin: {refused} refused, and made again")
 }
 
-/// Tells the calls of a side with their answers, a line for each.
+/// Prints the calls of a side with their answers, a line for each.
 fn tell_side(rt: &HostRuntime, calls: &[Entry], answers: &[Answer]) -> Result<(), io::Error> {
     for (call, answer) in calls.iter().zip(answers) {
         println!(rt; "{call:?} -> {answer:?}")?;
@@ -180,7 +180,7 @@ fn tell_side(rt: &HostRuntime, calls: &[Entry], answers: &[Answer]) -> Result<()
     Ok(())
 }
 
-/// Tells the calls of a history of one group.
+/// Prints the calls of a history of one group.
 fn tell_calls(rt: &HostRuntime, history: &History) -> Result<(), io::Error>
     requires { length history.now.takes ≡ 1 }
 {
@@ -189,7 +189,7 @@ fn tell_calls(rt: &HostRuntime, history: &History) -> Result<(), io::Error>
     tell_side(rt, takes.calls(), takes.answers())
 }
 
-/// Tells how the receipts of a history of one group are audited, and those with a gap. The answer is the exit status.
+/// Prints the verdict on the receipts of a history of one group, and on receipts with a gap. It returns the exit status.
 fn tell_audits(rt: &HostRuntime, history: &History) -> Result<u8, io::Error>
     requires { length history.now.takes ≡ 1 }
 {
@@ -200,7 +200,7 @@ fn tell_audits(rt: &HostRuntime, history: &History) -> Result<u8, io::Error>
     Ok(0)
 }
 
-/// Tells the calls of a history of one group and how its receipts are audited, and of any other how many groups it has. The
+/// Prints the calls of a history of one group and the verdict on its receipts, and of any other the number of its groups. The
 /// answer is the exit status.
 fn tell_history(rt: &HostRuntime, history: &History) -> Result<u8, io::Error> {
     if history.groups() != 1 {

@@ -2,7 +2,7 @@
 use Rattle.std.specs.Prelude.{◌+◌, ◌≡◌, ◌≤◌, false, List, length, ⊤}
 use Rattle.cc_model.specs.Config.{group_of}
 use Rattle.cc_model.specs.Record.{Side, Record, of_group}
-use Rattle.cc_model.specs.Items.{IsFront, accepted, accepted_by, is_shut, handed_by, handed_to_all}
+use Rattle.cc_model.specs.Items.{IsPrefix, accepted, accepted_by, is_shut, handed_by, handed_to_all}
 use Rattle.cc_model.specs.Fresh.{GoesOn, HasSeen, IsAnswered}
 use Rattle.cc_model.specs.Names.{Config, Pass, Entry, Answer, SendAnswer, CloseAnswer, TakeAnswer}
 
@@ -24,7 +24,7 @@ pub record ComesAfter (cfg : Config) (h later : Record) (before : List Answer) (
 -- were accepted beyond those that every group was handed there. If that history is shut, only Closed and Already are possible.
 abbrev pub Tells : Config → (h later : Record) → Pass → (before : List Answer) → Answer → Type 0
 Tells cfg h later who before (Answer.Take (TakeAnswer.Got item)) = length (handed_by (side_of cfg who h).answers) ≤ item.place
-Tells cfg h later who before (Answer.Take TakeAnswer.Empty) = IsFront (accepted h) (handed_by before) × (is_shut h ≡ false)
+Tells cfg h later who before (Answer.Take TakeAnswer.Empty) = IsPrefix (accepted h) (handed_by before) × (is_shut h ≡ false)
 Tells cfg h later who before (Answer.Take (TakeAnswer.Ended total)) = length (accepted h) ≤ total
 Tells cfg h later who before (Answer.Send (SendAnswer.Accepted place)) = (length (accepted h) ≤ place) × (is_shut h ≡ false)
 Tells cfg h later who before (Answer.Send SendAnswer.Full) = (handed_to_all h + cfg.capacity ≤ length (accepted_by later.sends.calls before)) × (is_shut h ≡ false)

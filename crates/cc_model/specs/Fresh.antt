@@ -2,7 +2,7 @@
 use Rattle.std.specs.Prelude.{ℕ, ◌+◌, ◌≡◌, ◌<◌, ◌≤◌, false, List, ◌∷◌, ◌++◌, length, Some}
 use Rattle.std.specs.List.{slice_get}
 use Rattle.cc_model.specs.Record.{Side, Record, of_group}
-use Rattle.cc_model.specs.Items.{IsFront, Begins, accepted, accepted_by, is_shut, handed_by, handed_to_all, known_at}
+use Rattle.cc_model.specs.Items.{IsPrefix, Begins, accepted, accepted_by, is_shut, handed_by, handed_to_all, known_at}
 use Rattle.cc_model.specs.Legal.{Legal}
 use Rattle.cc_model.specs.Names.{Config, Entry, Answer, SendAnswer, TakeAnswer}
 
@@ -26,7 +26,7 @@ pub record IsAnswered (side : Side) (before : List Answer) (call : Entry) (told 
 -- accepted there, and if that history isn't shut.
 abbrev pub EmptyIsFresh : Type 0
 EmptyIsFresh = (cfg : Config) (h later : Record) → GoesOn cfg h later → (g : ℕ) (before : List Answer) (call : Entry) → g < cfg.groups →
-    IsAnswered (of_group later g) before call (Answer.Take TakeAnswer.Empty) → HasSeen h call → IsFront (accepted h) (handed_by before) × (is_shut h ≡ false)
+    IsAnswered (of_group later g) before call (Answer.Take TakeAnswer.Empty) → HasSeen h call → IsPrefix (accepted h) (handed_by before) × (is_shut h ≡ false)
 
 -- A send that had seen the earlier history returns Full only if before it at least `capacity` items were accepted beyond
 -- those that every group was handed there.

@@ -1,3 +1,4 @@
+//! The body of an item: one to four words.
 ghost use Rattle.std.specs.Prelude.{◌≡◌, IfSome, IfNone, length, ◌<◌, ◌⊎◌, [], ◌∷◌};
 ghost use Rattle.cc_model.specs.Body.{words_of, body_of, IsBody};
 

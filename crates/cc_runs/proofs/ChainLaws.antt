@@ -4,7 +4,7 @@ use Rattle.std.proofs.lemmas.Bool.{cases_lt, cases_eq}
 use Rattle.std.proofs.lemmas.Option.{slice_get-get_or, get_or_from_slice_get, slice_get_within}
 use Rattle.cc_model.specs.Config.{config_fault}
 use Rattle.cc_model.specs.Items.{calls_of}
-use Rattle.cc_runs.specs.Names.{Entry, Pass, Item, Answer, TakeAnswer, Setting, Served, Chain, NodeField, Word, Job, Sending, Stand, Place, Move}
+use Rattle.cc_runs.specs.Names.{Entry, Pass, Item, Answer, TakeAnswer, Setting, Served, Chain, NodeField, Word, Job, Sending, Stand, Phase, Move}
 use Rattle.cc_runs.specs.Codes.{ret_of, code_of, request_in, further_words, word, tag_of}
 use Rattle.cc_runs.proofs.Bodies.{few_further}
 use Rattle.cc_runs.proofs.Chains.Sides.{asks_word}
@@ -35,16 +35,16 @@ use Rattle.cc_runs.proofs.Counted.{Counts}
 use Rattle.cc_runs.proofs.CounterRuns.{counter_holds, counter_ready}
 use Rattle.cc_runs.proofs.ChainRuns.{has_told, not_other, silent_takes, sides_are}
 
-combining_rank : (x : Chain) (own : ℕ) (at : Place) → IsCombining at → (post_of x own at).rank ≡ 5
-combining_rank x own (Place.ReadNext round) a = refl
-combining_rank x own (Place.Counting job service) a = refl
-combining_rank x own (Place.Sending job service) a = refl
-combining_rank x own (Place.Taking job service) a = refl
-combining_rank x own (Place.WriteAnswer job told) a = refl
-combining_rank x own (Place.WriteAnswerTag job item) a = refl
-combining_rank x own (Place.WriteAnswerBody job item i) a = refl
-combining_rank x own (Place.MarkDone job) a = refl
-combining_rank x own (Place.HandOver at) a = refl
+combining_rank : (x : Chain) (own : ℕ) (at : Phase) → IsCombining at → (post_of x own at).rank ≡ 5
+combining_rank x own (Phase.ReadNext round) a = refl
+combining_rank x own (Phase.Counting job service) a = refl
+combining_rank x own (Phase.Sending job service) a = refl
+combining_rank x own (Phase.Taking job service) a = refl
+combining_rank x own (Phase.WriteAnswer job told) a = refl
+combining_rank x own (Phase.WriteAnswerTag job item) a = refl
+combining_rank x own (Phase.WriteAnswerBody job item i) a = refl
+combining_rank x own (Phase.MarkDone job) a = refl
+combining_rank x own (Phase.HandOver at) a = refl
 combining_rank x own _ a = absurd a
 
 -- the request's words, on either side
@@ -53,10 +53,10 @@ holds_request s Chain.Send at e words = (words 0 (omega arith), λ i most. words
 holds_request s (Chain.Take g) at e words = tt
 
 -- a pass that reads its answer
-reading_post : (x : Chain) (own : ℕ) (at : Place) → IsReading at → post_of x own at ≡ post_of x own Place.ReadAnswer
-reading_post x own Place.ReadAnswer a = refl
-reading_post x own (Place.ReadAnswerTag at) a = refl
-reading_post x own (Place.ReadAnswerBody at i) a = refl
+reading_post : (x : Chain) (own : ℕ) (at : Phase) → IsReading at → post_of x own at ≡ post_of x own Phase.ReadAnswer
+reading_post x own Phase.ReadAnswer a = refl
+reading_post x own (Phase.ReadAnswerTag at) a = refl
+reading_post x own (Phase.ReadAnswerBody at i) a = refl
 reading_post x own _ a = absurd a
 
 -- after the first word of an answer there are further ones for an item alone
@@ -73,12 +73,12 @@ body_read what Chain.Send a words i A had same = absurd had
 body_read what (Chain.Take g) a words i A had same = same
 
 -- a pass out of its chain has none of its words
-pub out_rank : (x : Chain) (own : ℕ) (at : Place) → IsOut at → (post_of x own at).rank ≤ 2
-out_rank x own Place.Idle a = omega arith
-out_rank x own (Place.ResetNext call) a = omega arith
-out_rank x own (Place.ResetState call) a = omega arith
-out_rank x own (Place.Exchange call) a = omega arith
-out_rank x own (Place.Finished told) a = omega arith
+pub out_rank : (x : Chain) (own : ℕ) (at : Phase) → IsOut at → (post_of x own at).rank ≤ 2
+out_rank x own Phase.Idle a = omega arith
+out_rank x own (Phase.ResetNext call) a = omega arith
+out_rank x own (Phase.ResetState call) a = omega arith
+out_rank x own (Phase.Exchange call) a = omega arith
+out_rank x own (Phase.Finished told) a = omega arith
 out_rank x own _ a = absurd a
 
 -- a pass of a chain x, and its place
@@ -89,59 +89,59 @@ module _ (c : Setting) (r : InRange c.config) (s : State) (k : Chains c s) (x : 
   abbrev own : ℕ
   own = (s.stand p).node
 
-  abbrev Here : Place → Type 0
-  Here at = s.stand p ≡ record { begun = (s.stand p).begun; node = (s.stand p).node; place = at }
+  abbrev Here : Phase → Type 0
+  Here at = s.stand p ≡ record { begun = (s.stand p).begun; node = (s.stand p).node; phase = at }
 
-  there : (at : Place) → Here at → s.stand (pass_on c x on.number) ≡ record { begun = (s.stand p).begun; node = (s.stand p).node; place = at }
+  there : (at : Phase) → Here at → s.stand (pass_on c x on.number) ≡ record { begun = (s.stand p).begun; node = (s.stand p).node; phase = at }
   there at e = ap s.stand (sym on.pass_is) ∙ e
 
-  target_at : (at : Place) → Here at → (post_of x own at).rank ≡ 5 → (post_of x own at).target ≤ passes_on c x
+  target_at : (at : Phase) → Here at → (post_of x own at).rank ≡ 5 → (post_of x own at).target ≤ passes_on c x
   target_at at e five = safe.target_in c x ok r s on.number own (s.stand p).begun on.inside (k.holds x ok) at (there at e) five
 
-  served_at : (at : Place) → Here at → (post_of x own at).rank ≡ 5 → (post_of x own at).stage ≤ 2 → (post_of x own at).served < c.config.bound
+  served_at : (at : Phase) → Here at → (post_of x own at).rank ≡ 5 → (post_of x own at).stage ≤ 2 → (post_of x own at).served < c.config.bound
   served_at at e five low = safe.served_in c x ok r s on.number own (s.stand p).begun on.inside (k.holds x ok) at (there at e) five low
 
-  next_at : (at : Place) (job : Job) → Here at → (post_of x own at).rank ≡ 5 → 1 ≤ (post_of x own at).stage → (post_of x own at).stage ≤ 2 → (post_of x own at).next ≡ job.next + 1 → job.next ≤ passes_on c x
+  next_at : (at : Phase) (job : Job) → Here at → (post_of x own at).rank ≡ 5 → 1 ≤ (post_of x own at).stage → (post_of x own at).stage ≤ 2 → (post_of x own at).next ≡ job.next + 1 → job.next ≤ passes_on c x
   next_at at job e five low high is =
       safe.next_in c x ok r s on.number own (s.stand p).begun on.inside (k.holds x ok) at job.next (there at e) five low high is
 
-  bounded_at : (at : Place) → Here at → served_by at < c.config.bound
-  bounded_at (Place.ReadNext round) e = served_at (Place.ReadNext round) e refl (omega arith)
-  bounded_at (Place.Counting job service) e = served_at (Place.Counting job service) e refl (omega arith)
-  bounded_at (Place.Sending job service) e = served_at (Place.Sending job service) e refl (safe.send_low service)
-  bounded_at (Place.Taking job service) e = served_at (Place.Taking job service) e refl (omega arith)
-  bounded_at (Place.WriteAnswer job told) e = served_at (Place.WriteAnswer job told) e refl (omega arith)
-  bounded_at (Place.WriteAnswerTag job item) e = served_at (Place.WriteAnswerTag job item) e refl (omega arith)
-  bounded_at (Place.WriteAnswerBody job item i) e = served_at (Place.WriteAnswerBody job item i) e refl (omega arith)
-  bounded_at (Place.MarkDone job) e = served_at (Place.MarkDone job) e refl (omega arith)
+  bounded_at : (at : Phase) → Here at → served_by at < c.config.bound
+  bounded_at (Phase.ReadNext round) e = served_at (Phase.ReadNext round) e refl (omega arith)
+  bounded_at (Phase.Counting job service) e = served_at (Phase.Counting job service) e refl (omega arith)
+  bounded_at (Phase.Sending job service) e = served_at (Phase.Sending job service) e refl (safe.send_low service)
+  bounded_at (Phase.Taking job service) e = served_at (Phase.Taking job service) e refl (omega arith)
+  bounded_at (Phase.WriteAnswer job told) e = served_at (Phase.WriteAnswer job told) e refl (omega arith)
+  bounded_at (Phase.WriteAnswerTag job item) e = served_at (Phase.WriteAnswerTag job item) e refl (omega arith)
+  bounded_at (Phase.WriteAnswerBody job item i) e = served_at (Phase.WriteAnswerBody job item i) e refl (omega arith)
+  bounded_at (Phase.MarkDone job) e = served_at (Phase.MarkDone job) e refl (omega arith)
   bounded_at _ e = r.bound.0
 
-  nodes_at : (at : Place) → Here at → AreNodes (passes_on c x) at
-  nodes_at (Place.WriteTag put request) e = safe.put_in c x ok r s on.number own (s.stand p).begun on.inside (k.holds x ok) (Place.WriteTag put request) (there (Place.WriteTag put request) e) refl
-  nodes_at (Place.WriteBody put request i) e = safe.put_in c x ok r s on.number own (s.stand p).begun on.inside (k.holds x ok) (Place.WriteBody put request i) (there (Place.WriteBody put request i) e) refl
-  nodes_at (Place.Link put) e = safe.put_in c x ok r s on.number own (s.stand p).begun on.inside (k.holds x ok) (Place.Link put) (there (Place.Link put) e) refl
-  nodes_at (Place.ReadNext round) e = target_at (Place.ReadNext round) e refl
-  nodes_at (Place.Counting job service) e = (target_at (Place.Counting job service) e refl, next_at (Place.Counting job service) job e refl (omega arith) (omega arith) refl)
-  nodes_at (Place.Sending job service) e = (target_at (Place.Sending job service) e refl, next_at (Place.Sending job service) job e refl (safe.send_high service) (safe.send_low service) refl)
-  nodes_at (Place.Taking job service) e = (target_at (Place.Taking job service) e refl, next_at (Place.Taking job service) job e refl (omega arith) (omega arith) refl)
-  nodes_at (Place.WriteAnswer job told) e = (target_at (Place.WriteAnswer job told) e refl, next_at (Place.WriteAnswer job told) job e refl (omega arith) (omega arith) refl)
-  nodes_at (Place.WriteAnswerTag job item) e = (target_at (Place.WriteAnswerTag job item) e refl, next_at (Place.WriteAnswerTag job item) job e refl (omega arith) (omega arith) refl)
-  nodes_at (Place.WriteAnswerBody job item i) e = (target_at (Place.WriteAnswerBody job item i) e refl, next_at (Place.WriteAnswerBody job item i) job e refl (omega arith) (omega arith) refl)
-  nodes_at (Place.MarkDone job) e = (target_at (Place.MarkDone job) e refl, next_at (Place.MarkDone job) job e refl (omega arith) (omega arith) refl)
-  nodes_at (Place.HandOver at) e = target_at (Place.HandOver at) e refl
+  nodes_at : (at : Phase) → Here at → AreNodes (passes_on c x) at
+  nodes_at (Phase.WriteTag put request) e = safe.put_in c x ok r s on.number own (s.stand p).begun on.inside (k.holds x ok) (Phase.WriteTag put request) (there (Phase.WriteTag put request) e) refl
+  nodes_at (Phase.WriteBody put request i) e = safe.put_in c x ok r s on.number own (s.stand p).begun on.inside (k.holds x ok) (Phase.WriteBody put request i) (there (Phase.WriteBody put request i) e) refl
+  nodes_at (Phase.Link put) e = safe.put_in c x ok r s on.number own (s.stand p).begun on.inside (k.holds x ok) (Phase.Link put) (there (Phase.Link put) e) refl
+  nodes_at (Phase.ReadNext round) e = target_at (Phase.ReadNext round) e refl
+  nodes_at (Phase.Counting job service) e = (target_at (Phase.Counting job service) e refl, next_at (Phase.Counting job service) job e refl (omega arith) (omega arith) refl)
+  nodes_at (Phase.Sending job service) e = (target_at (Phase.Sending job service) e refl, next_at (Phase.Sending job service) job e refl (safe.send_high service) (safe.send_low service) refl)
+  nodes_at (Phase.Taking job service) e = (target_at (Phase.Taking job service) e refl, next_at (Phase.Taking job service) job e refl (omega arith) (omega arith) refl)
+  nodes_at (Phase.WriteAnswer job told) e = (target_at (Phase.WriteAnswer job told) e refl, next_at (Phase.WriteAnswer job told) job e refl (omega arith) (omega arith) refl)
+  nodes_at (Phase.WriteAnswerTag job item) e = (target_at (Phase.WriteAnswerTag job item) e refl, next_at (Phase.WriteAnswerTag job item) job e refl (omega arith) (omega arith) refl)
+  nodes_at (Phase.WriteAnswerBody job item i) e = (target_at (Phase.WriteAnswerBody job item i) e refl, next_at (Phase.WriteAnswerBody job item i) job e refl (omega arith) (omega arith) refl)
+  nodes_at (Phase.MarkDone job) e = (target_at (Phase.MarkDone job) e refl, next_at (Phase.MarkDone job) job e refl (omega arith) (omega arith) refl)
+  nodes_at (Phase.HandOver at) e = target_at (Phase.HandOver at) e refl
   nodes_at _ e = tt
 
-  link_at : (at served : ℕ) → Here (Place.ReadNext record { at = at; served = served }) → s.mem (Word.Node x at NodeField.Next) ≤ passes_on c x + 1
-  link_at at served e = safe.link_in c x ok r s on.number own (s.stand p).begun on.inside (k.holds x ok) record { at = at; served = served } (there (Place.ReadNext record { at = at; served = served }) e)
+  link_at : (at served : ℕ) → Here (Phase.ReadNext record { at = at; served = served }) → s.mem (Word.Node x at NodeField.Next) ≤ passes_on c x + 1
+  link_at at served e = safe.link_in c x ok r s on.number own (s.stand p).begun on.inside (k.holds x ok) record { at = at; served = served } (there (Phase.ReadNext record { at = at; served = served }) e)
 
-  own_link_at : (at : ℕ) → Here (Place.ReadNext record { at = at; served = 0 }) → 0 < s.mem (Word.Node x at NodeField.Next)
-  own_link_at at e = safe.own_link_in c x ok r s on.number own (s.stand p).begun on.inside (k.holds x ok) at (there (Place.ReadNext record { at = at; served = 0 }) e)
+  own_link_at : (at : ℕ) → Here (Phase.ReadNext record { at = at; served = 0 }) → 0 < s.mem (Word.Node x at NodeField.Next)
+  own_link_at at e = safe.own_link_in c x ok r s on.number own (s.stand p).begun on.inside (k.holds x ok) at (there (Phase.ReadNext record { at = at; served = 0 }) e)
 
-  own_at : (at : Place) → Here at → own ≤ passes_on c x
+  own_at : (at : Phase) → Here at → own ≤ passes_on c x
   own_at at e = safe.own_in c x ok r s on.number own (s.stand p).begun on.inside (k.holds x ok) at (there at e)
 
   post_node : (post_at x (s.stand (pass_on c x on.number))).node ≡ (s.stand p).node
-  post_node = ap (λ (z : ℕ). (post_at x (s.stand z)).node) (sym on.pass_is) ∙ own_node x (s.stand p).node (s.stand p).place
+  post_node = ap (λ (z : ℕ). (post_at x (s.stand z)).node) (sym on.pass_is) ∙ own_node x (s.stand p).node (s.stand p).phase
 
   free_at : s.mem (Word.Tail x) ≢ (s.stand p).node + 1
   free_at same = (k.holds x ok).inv.nodes.last_apart on.number on.inside (omega (arith, post_node, (k.holds x ok).inv.nodes.tail_is))
@@ -149,62 +149,62 @@ module _ (c : Setting) (r : InRange c.config) (s : State) (k : Chains c s) (x : 
   tail_at : (0 < s.mem (Word.Tail x)) × (s.mem (Word.Tail x) ≤ passes_on c x + 1)
   tail_at = omega (arith, (k.holds x ok).inv.nodes.tail_is, (k.holds x ok).inv.nodes.last_in)
 
-  serves_next : (at : Place) (job : Job) → (s.stand p).place ≡ at → ((own : ℕ) → post_of x own at ≡ serving own job 1 0) → ServesNext s x job.round.at
+  serves_next : (at : Phase) (job : Job) → (s.stand p).phase ≡ at → ((own : ℕ) → post_of x own at ≡ serving own job 1 0) → ServesNext s x job.round.at
   serves_next at job e undecided = record {
     entry = call_at (calls_on x s.history) (length (answers_on x s.history));
     next = next_call c s k x ok p on at job e undecided;
     request = holds_request s x job.round.at (call_at (calls_on x s.history) (length (answers_on x s.history))) (next_words c s k x ok p on at job e undecided);
   }
 
-  serves_send : (job : Job) (service : Sending) → (s.stand p).place ≡ Place.Sending job service → WhileUndecided (Place.Sending job service) (ServesNext s x job.round.at)
+  serves_send : (job : Job) (service : Sending) → (s.stand p).phase ≡ Phase.Sending job service → WhileUndecided (Phase.Sending job service) (ServesNext s x job.round.at)
   serves_send job (Sending.WriteLastMark total) e = tt
   serves_send job (Sending.WriteShut total) e = tt
   serves_send job (Sending.WriteLast at on) e = tt
   serves_send job (Sending.WriteCount at on) e = tt
   serves_send job (Sending.WriteCursor at on) e = tt
-  serves_send job Sending.ReadTag e = serves_next (Place.Sending job Sending.ReadTag) job e (λ own. refl)
-  serves_send job service e = serves_next (Place.Sending job service) job e (λ own. refl)
+  serves_send job Sending.ReadTag e = serves_next (Phase.Sending job Sending.ReadTag) job e (λ own. refl)
+  serves_send job service e = serves_next (Phase.Sending job service) job e (λ own. refl)
 
-  serves_at : (at : Place) → (s.stand p).place ≡ at → WhileUndecided at (ServesNext s x (served_node at))
-  serves_at (Place.Counting job service) e = serves_next (Place.Counting job service) job e (λ own. refl)
-  serves_at (Place.Sending job service) e = serves_send job service e
-  serves_at (Place.Taking job service) e = serves_next (Place.Taking job service) job e (λ own. refl)
+  serves_at : (at : Phase) → (s.stand p).phase ≡ at → WhileUndecided at (ServesNext s x (served_node at))
+  serves_at (Phase.Counting job service) e = serves_next (Phase.Counting job service) job e (λ own. refl)
+  serves_at (Phase.Sending job service) e = serves_send job service e
+  serves_at (Phase.Taking job service) e = serves_next (Phase.Taking job service) job e (λ own. refl)
   serves_at _ e = tt
 
   -- the word of its answer that the pass reads next
-  its_read : (at : Place) → Here at → HasRead c.served x (answer_at (answers_on x s.history) ((k.holds x ok).ghost.at on.number)) at
-  its_read at e = subst (λ (z : Stand). HasRead c.served x (answer_at (answers_on x s.history) ((k.holds x ok).ghost.at on.number)) z.place) (there at e) ((k.holds x ok).ties.read on.number on.inside)
+  its_read : (at : Phase) → Here at → HasRead c.served x (answer_at (answers_on x s.history) ((k.holds x ok).ghost.at on.number)) at
+  its_read at e = subst (λ (z : Stand). HasRead c.served x (answer_at (answers_on x s.history) ((k.holds x ok).ghost.at on.number)) z.phase) (there at e) ((k.holds x ok).ties.read on.number on.inside)
 
-  word_of_it : (at : Place) (j : ℕ) → Here at → IsReading at → j < answer_long (answer_at (answers_on x s.history) ((k.holds x ok).ghost.at on.number)) →
+  word_of_it : (at : Phase) (j : ℕ) → Here at → IsReading at → j < answer_long (answer_at (answers_on x s.history) ((k.holds x ok).ghost.at on.number)) →
       answer_words x (λ (f : NodeField). s.mem (Word.Node x own f)) j ≡ coded_words c.served x (answer_at (answers_on x s.history) ((k.holds x ok).ghost.at on.number)) j
   word_of_it at j e reading less = read.word_at c x ok r.bound.0 s on.number (s.stand p).begun own on.inside (k.holds x ok) at j (there at e) (reading_post x own at reading) less
 
-  reads_word : (at : Place) → Here at → IsReading at → IsAnswer c.served x (answer_at (answers_on x s.history) ((k.holds x ok).ghost.at on.number)) →
+  reads_word : (at : Phase) → Here at → IsReading at → IsAnswer c.served x (answer_at (answers_on x s.history) ((k.holds x ok).ghost.at on.number)) →
       ReadsWord c.served s x own (answer_at (answers_on x s.history) ((k.holds x ok).ghost.at on.number)) at
-  reads_word Place.ReadAnswer e reading sided =
-      sym (answer_first x (λ (f : NodeField). s.mem (Word.Node x own f))) ∙ word_of_it Place.ReadAnswer 0 e tt (omega (arith, some_words (answer_at (answers_on x s.history) ((k.holds x ok).ghost.at on.number))))
+  reads_word Phase.ReadAnswer e reading sided =
+      sym (answer_first x (λ (f : NodeField). s.mem (Word.Node x own f))) ∙ word_of_it Phase.ReadAnswer 0 e tt (omega (arith, some_words (answer_at (answers_on x s.history) ((k.holds x ok).ghost.at on.number))))
       ∙ coded_first c.served x (answer_at (answers_on x s.history) ((k.holds x ok).ghost.at on.number))
-  reads_word (Place.ReadAnswerTag at) e reading sided =
-      let item = item_read c.served x (answer_at (answers_on x s.history) ((k.holds x ok).ghost.at on.number)) _ sided (its_read (Place.ReadAnswerTag at) e) (λ h. h.0) in
+  reads_word (Phase.ReadAnswerTag at) e reading sided =
+      let item = item_read c.served x (answer_at (answers_on x s.history) ((k.holds x ok).ghost.at on.number)) _ sided (its_read (Phase.ReadAnswerTag at) e) (λ h. h.0) in
       let long : answer_long (answer_at (answers_on x s.history) ((k.holds x ok).ghost.at on.number)) ≡ further_words (tag_of item.0) + 3 = ap answer_long item.1 in (
         item.0,
         item.1,
-        tag_read c.served x (answer_at (answers_on x s.history) ((k.holds x ok).ghost.at on.number)) (λ (f : NodeField). s.mem (Word.Node x own f)) _ (its_read (Place.ReadAnswerTag at) e) (word_of_it (Place.ReadAnswerTag at) 1 e tt (omega (arith, long)))
+        tag_read c.served x (answer_at (answers_on x s.history) ((k.holds x ok).ghost.at on.number)) (λ (f : NodeField). s.mem (Word.Node x own f)) _ (its_read (Phase.ReadAnswerTag at) e) (word_of_it (Phase.ReadAnswerTag at) 1 e tt (omega (arith, long)))
             ∙ ap tag_word item.1,
       )
-  reads_word (Place.ReadAnswerBody at i) e reading sided =
-      let item = item_read c.served x (answer_at (answers_on x s.history) ((k.holds x ok).ghost.at on.number)) _ sided (its_read (Place.ReadAnswerBody at i) e) (λ h. h.0) in
-      let had = safe.on_take x _ (its_read (Place.ReadAnswerBody at i) e) in
+  reads_word (Phase.ReadAnswerBody at i) e reading sided =
+      let item = item_read c.served x (answer_at (answers_on x s.history) ((k.holds x ok).ghost.at on.number)) _ sided (its_read (Phase.ReadAnswerBody at i) e) (λ h. h.0) in
+      let had = safe.on_take x _ (its_read (Phase.ReadAnswerBody at i) e) in
       let long : answer_long (answer_at (answers_on x s.history) ((k.holds x ok).ghost.at on.number)) ≡ further_words (tag_of item.0) + 3 = ap answer_long item.1 in
       let low : i ≤ further_words (tag_of item.0) = omega (arith, had.3, ap further_words (had.2 ∙ ap tag_word item.1)) in (
         item.0,
         item.1,
-        body_read c.served x (answer_at (answers_on x s.history) ((k.holds x ok).ghost.at on.number)) (λ (f : NodeField). s.mem (Word.Node x own f)) i _ (its_read (Place.ReadAnswerBody at i) e) (word_of_it (Place.ReadAnswerBody at i) (suc (suc i)) e tt (omega (arith, long, low)))
+        body_read c.served x (answer_at (answers_on x s.history) ((k.holds x ok).ghost.at on.number)) (λ (f : NodeField). s.mem (Word.Node x own f)) i _ (its_read (Phase.ReadAnswerBody at i) e) (word_of_it (Phase.ReadAnswerBody at i) (suc (suc i)) e tt (omega (arith, long, low)))
             ∙ ap (λ (z : Answer). word (words_told z) i) item.1,
       )
   reads_word _ e reading sided = absurd reading
 
-  reads_at : NotOther c x s.history → (at : Place) → Here at → IsReading at → IsToldBy c.served s x own (pass_at c.config p) at
+  reads_at : NotOther c x s.history → (at : Phase) → Here at → IsReading at → IsToldBy c.served s x own (pass_at c.config p) at
   reads_at none at e reading =
       let v : Holds c x s = k.holds x ok in
       let rank : (post_at x (s.stand (pass_on c x on.number))).rank ≡ 6 = ap (λ (z : Stand). (post_at x z).rank) (there at e) ∙ ap (λ z. z.rank) (reading_post x own at reading) in
@@ -219,10 +219,10 @@ module _ (c : Setting) (r : InRange c.config) (s : State) (k : Chains c s) (x : 
       }
 
   -- the call of a combiner, and how far it has come from there
-  within_at : IsCombining (s.stand p).place → IsWithinBound c.config.bound (calls_on x s.history) (answers_on x s.history) (pass_at c.config p)
+  within_at : IsCombining (s.stand p).phase → IsWithinBound c.config.bound (calls_on x s.history) (answers_on x s.history) (pass_at c.config p)
   within_at combining =
       let v : Holds c x s = k.holds x ok in
-      let rank : (post_at x (s.stand (pass_on c x on.number))).rank ≡ 5 = ap (λ (z : ℕ). (post_at x (s.stand z)).rank) (sym on.pass_is) ∙ combining_rank x (s.stand p).node (s.stand p).place combining in
+      let rank : (post_at x (s.stand (pass_on c x on.number))).rank ≡ 5 = ap (λ (z : ℕ). (post_at x (s.stand z)).rank) (sym on.pass_is) ∙ combining_rank x (s.stand p).node (s.stand p).phase combining in
       let mine : v.ghost.server ≡ on.number + 1 = v.inv.server.server_is on.number on.inside rank in
       let called : v.ghost.at on.number < length (calls_on x s.history) = omega (arith, v.ties.calls_are, v.inv.passes.at_in on.number on.inside (omega (arith, rank))) in
       let its : v.ghost.pass_of (v.ghost.at on.number) ≡ on.number = v.inv.passes.at_is on.number on.inside (omega (arith, rank)) in
@@ -277,30 +277,30 @@ was_told c s x who told t = record {
 
 apart_on : (c : Setting) (s : State) (k : Chains c s) (x : Chain) (ok : IsChain c x) (p q : ℕ) (on_p : IsOn c x p) (on_q : IsOn c x q) → (s.stand p).node ≡ (s.stand q).node → p ≡ q
 apart_on c s k x ok p q on_p on_q same =
-    let first : (post_at x (s.stand (pass_on c x on_p.number))).node ≡ (s.stand p).node = ap (λ (z : ℕ). (post_at x (s.stand z)).node) (sym on_p.pass_is) ∙ own_node x (s.stand p).node (s.stand p).place in
-    let second : (post_at x (s.stand (pass_on c x on_q.number))).node ≡ (s.stand q).node = ap (λ (z : ℕ). (post_at x (s.stand z)).node) (sym on_q.pass_is) ∙ own_node x (s.stand q).node (s.stand q).place in
+    let first : (post_at x (s.stand (pass_on c x on_p.number))).node ≡ (s.stand p).node = ap (λ (z : ℕ). (post_at x (s.stand z)).node) (sym on_p.pass_is) ∙ own_node x (s.stand p).node (s.stand p).phase in
+    let second : (post_at x (s.stand (pass_on c x on_q.number))).node ≡ (s.stand q).node = ap (λ (z : ℕ). (post_at x (s.stand z)).node) (sym on_q.pass_is) ∙ own_node x (s.stand q).node (s.stand q).phase in
     let number : on_p.number ≡ on_q.number = (k.holds x ok).inv.nodes.apart on_p.number on_q.number on_p.inside on_q.inside (first ∙ same ∙ sym second) in
     on_p.pass_is ∙ ap (λ (z : ℕ). pass_on c x z) number ∙ sym on_q.pass_is
 
 -- no other pass of the chain touches the node of a pass that is out of it
-untouched_on : (c : Setting) (s : State) (k : Chains c s) (x : Chain) (ok : IsChain c x) (p q i : ℕ) (on_p : IsOn c x p) (on_q : IsOn c x q) → p ≢ q → IsOut (s.stand p).place → i ≡ (s.stand p).node →
+untouched_on : (c : Setting) (s : State) (k : Chains c s) (x : Chain) (ok : IsChain c x) (p q i : ℕ) (on_p : IsOn c x p) (on_q : IsOn c x q) → p ≢ q → IsOut (s.stand p).phase → i ≡ (s.stand p).node →
     (i ≡ (s.stand q).node) ⊎ (((post_at x (s.stand q)).rank ≡ 5) × (i ≡ (post_at x (s.stand q)).target)) → ⊥
 untouched_on c s k x ok p q i on_p on_q ne out is (inl own) = ne (apart_on c s k x ok p q on_p on_q (sym is ∙ own))
 untouched_on c s k x ok p q i on_p on_q ne out is (inr its) =
     let v : Holds c x s = k.holds x ok in
     let rank : (post_at x (s.stand (pass_on c x on_q.number))).rank ≡ 5 = ap (λ (z : ℕ). (post_at x (s.stand z)).rank) (sym on_q.pass_is) ∙ its.0 in
     let target : (post_at x (s.stand (pass_on c x on_q.number))).target ≡ (post_at x (s.stand q)).target = ap (λ (z : ℕ). (post_at x (s.stand z)).target) (sym on_q.pass_is) in
-    let low : (post_at x (s.stand (pass_on c x on_p.number))).rank ≤ 2 = subst (λ (z : ℕ). (post_at x (s.stand z)).rank ≤ 2) on_p.pass_is (out_rank x (s.stand p).node (s.stand p).place out) in
-    let node_is : (post_at x (s.stand (pass_on c x on_p.number))).node ≡ (s.stand p).node = ap (λ (z : ℕ). (post_at x (s.stand z)).node) (sym on_p.pass_is) ∙ own_node x (s.stand p).node (s.stand p).place in
+    let low : (post_at x (s.stand (pass_on c x on_p.number))).rank ≤ 2 = subst (λ (z : ℕ). (post_at x (s.stand z)).rank ≤ 2) on_p.pass_is (out_rank x (s.stand p).node (s.stand p).phase out) in
+    let node_is : (post_at x (s.stand (pass_on c x on_p.number))).node ≡ (s.stand p).node = ap (λ (z : ℕ). (post_at x (s.stand z)).node) (sym on_p.pass_is) ∙ own_node x (s.stand p).node (s.stand p).phase in
     let head : (post_at x (s.stand (pass_on c x on_q.number))).target ≡ v.ghost.chain v.ghost.marked = v.inv.server.server_target on_q.number (v.inv.server.server_is on_q.number on_q.inside rank) in
     node_apart (passes_on c x) c.config.bound (view c x s) v.ghost v.inv on_p.number v.ghost.marked on_p.inside (omega arith) (omega (arith, v.inv.calls.in_order, v.inv.calls.in_order2))
     (λ more same. absurd (omega (arith, low, v.inv.calls.open_low v.ghost.marked (omega arith) more, ap (λ (z : ℕ). (post_at x (s.stand (pass_on c x z))).rank) same))) (sym head ∙ target ∙ sym its.1 ∙ is ∙ sym node_is)
 
-untouched_by : (c : Setting) (s : State) (k : Chains c s) (p q : ℕ) (f : NodeField) (pn : p < passes c) (qn : q < passes c) → p ≢ q → IsOut (s.stand p).place →
-    word_of (operation c (chain_of c.config q) (s.stand q).node (s.stand q).place) ≢ Word.Node (chain_of c.config p) (s.stand p).node f
+untouched_by : (c : Setting) (s : State) (k : Chains c s) (p q : ℕ) (f : NodeField) (pn : p < passes c) (qn : q < passes c) → p ≢ q → IsOut (s.stand p).phase →
+    word_of (operation c (chain_of c.config q) (s.stand q).node (s.stand q).phase) ≢ Word.Node (chain_of c.config p) (s.stand p).node f
 untouched_by c s k p q f pn qn ne out e =
-    let t : Touches (chain_of c.config q) (chain_of c.config p) (s.stand q).node (s.stand p).node (s.stand q).place =
-    touches c (chain_of c.config q) (chain_of c.config p) (s.stand q).node (s.stand p).node f (s.stand q).place (λ job service is. (counting_where c s k q job service qn is).1) (λ job service is. (sending_where c s k q job service qn is).1) e in
+    let t : Touches (chain_of c.config q) (chain_of c.config p) (s.stand q).node (s.stand p).node (s.stand q).phase =
+    touches c (chain_of c.config q) (chain_of c.config p) (s.stand q).node (s.stand p).node f (s.stand q).phase (λ job service is. (counting_where c s k q job service qn is).1) (λ job service is. (sending_where c s k q job service qn is).1) e in
     untouched_on c s k (chain_of c.config q) (chain_is c q qn) p q (s.stand p).node (subst (λ (y : Chain). IsOn c y p) t.chain (on_chain c p pn)) (on_chain c q qn) ne out refl t.which
 
 module _ (c : Setting) (checked : config_fault c.config ≡ Ok tt) (moves : List Move) (run : IsRun c moves) where
@@ -318,17 +318,17 @@ module _ (c : Setting) (checked : config_fault c.config ≡ Ok tt) (moves : List
 
   pub laws : ChainLaws c (reached c moves)
   laws = record {
-    one = λ p q pn qn same a b. one_combiner c (reached c moves) k p q pn qn same (combining_rank Chain.Send (s.stand p).node (s.stand p).place a) (combining_rank Chain.Send (s.stand q).node (s.stand q).place b);
-    bounded = λ p pn. bounded_at c r (reached c moves) k (x p) (chain_is c p pn) p (on_chain c p pn) (s.stand p).place refl;
+    one = λ p q pn qn same a b. one_combiner c (reached c moves) k p q pn qn same (combining_rank Chain.Send (s.stand p).node (s.stand p).phase a) (combining_rank Chain.Send (s.stand q).node (s.stand q).phase b);
+    bounded = λ p pn. bounded_at c r (reached c moves) k (x p) (chain_is c p pn) p (on_chain c p pn) (s.stand p).phase refl;
     within = λ p pn a. within_at c r (reached c moves) k (x p) (chain_is c p pn) p (on_chain c p pn) a;
     ordered = λ y. ordered_by c (reached c moves) k c.served refl (λ e. silent_takes c e moves run) (sides_are c moves) y;
-    serves = λ p pn. serves_at c r (reached c moves) k (x p) (chain_is c p pn) p (on_chain c p pn) (s.stand p).place refl;
-    reads = λ p pn reading. reads_at c r (reached c moves) k (x p) (chain_is c p pn) p (on_chain c p pn) (not_other c r.bound.0 moves run (x p)) (s.stand p).place refl reading;
+    serves = λ p pn. serves_at c r (reached c moves) k (x p) (chain_is c p pn) p (on_chain c p pn) (s.stand p).phase refl;
+    reads = λ p pn reading. reads_at c r (reached c moves) k (x p) (chain_is c p pn) p (on_chain c p pn) (not_other c r.bound.0 moves run (x p)) (s.stand p).phase refl reading;
     told = λ p told pn e. was_told c (reached c moves) (x p) (pass_at c.config p) told (has_told c r.bound.0 moves run p pn told e);
-    own = λ p pn. own_at c r (reached c moves) k (x p) (chain_is c p pn) p (on_chain c p pn) (s.stand p).place refl;
-    nodes = λ p pn. nodes_at c r (reached c moves) k (x p) (chain_is c p pn) p (on_chain c p pn) (s.stand p).place refl;
-    link = λ p at served pn e. link_at c r (reached c moves) k (x p) (chain_is c p pn) p (on_chain c p pn) at served (λ i. record { begun = (s.stand p).begun; node = (s.stand p).node; place = e i });
-    own_link = λ p at pn e. own_link_at c r (reached c moves) k (x p) (chain_is c p pn) p (on_chain c p pn) at (λ i. record { begun = (s.stand p).begun; node = (s.stand p).node; place = e i });
+    own = λ p pn. own_at c r (reached c moves) k (x p) (chain_is c p pn) p (on_chain c p pn) (s.stand p).phase refl;
+    nodes = λ p pn. nodes_at c r (reached c moves) k (x p) (chain_is c p pn) p (on_chain c p pn) (s.stand p).phase refl;
+    link = λ p at served pn e. link_at c r (reached c moves) k (x p) (chain_is c p pn) p (on_chain c p pn) at served (λ i. record { begun = (s.stand p).begun; node = (s.stand p).node; phase = e i });
+    own_link = λ p at pn e. own_link_at c r (reached c moves) k (x p) (chain_is c p pn) p (on_chain c p pn) at (λ i. record { begun = (s.stand p).begun; node = (s.stand p).node; phase = e i });
     tail = λ p pn. tail_at c r (reached c moves) k (x p) (chain_is c p pn) p (on_chain c p pn);
     apart = λ p q pn qn same e. apart_on c (reached c moves) k (x p) (chain_is c p pn) p q (on_chain c p pn) (subst (λ (y : Chain). IsOn c y q) (sym same) (on_chain c q qn)) e;
     free = λ p pn. free_at c r (reached c moves) k (x p) (chain_is c p pn) p (on_chain c p pn);

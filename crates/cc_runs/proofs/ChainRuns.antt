@@ -6,7 +6,7 @@ use Rattle.cc_model.specs.Record.{Side, Record, silent}
 use Rattle.cc_runs.specs.Words.{groups}
 use Rattle.cc_model.specs.Items.{is_pass}
 use Rattle.cc_model.specs.Config.{config_fault}
-use Rattle.cc_runs.specs.Names.{Pass, Answer, SendAnswer, Setting, Served, Chain, Stand, Place, Move}
+use Rattle.cc_runs.specs.Names.{Pass, Answer, SendAnswer, Setting, Served, Chain, Stand, Phase, Move}
 use Rattle.cc_runs.specs.Codes.{ret_of}
 use Rattle.cc_runs.specs.State.{State, side, with_side, chain_of, pass_at}
 use Rattle.cc_runs.specs.Step.{stepped_from}
@@ -69,7 +69,7 @@ pub not_other : (c : Setting) → 0 < c.config.bound → (moves : List Move) →
 not_other c some moves run x = not_other_by c (reached c moves) (chains_hold c some moves run) c.served refl (λ e. silent_takes c e moves run) (sides_are c moves) x
 
 -- the answer that a finished call got
-pub has_told : (c : Setting) → 0 < c.config.bound → (moves : List Move) → IsRun c moves → (p : ℕ) → p < passes c → (told : Answer) → ((reached c moves).stand p).place ≡ Place.Finished told →
+pub has_told : (c : Setting) → 0 < c.config.bound → (moves : List Move) → IsRun c moves → (p : ℕ) → p < passes c → (told : Answer) → ((reached c moves).stand p).phase ≡ Phase.Finished told →
     HasTold c (chain_of c.config p) (reached c moves).history (pass_at c.config p) told
 has_told c some moves run p less told e =
     let k : Chains c (reached c moves) = chains_hold c some moves run in
@@ -77,12 +77,12 @@ has_told c some moves run p less told e =
     let on : IsOn c (chain_of c.config p) p = on_chain c p less in
     subst (λ (z : ℕ). HasTold c (chain_of c.config p) (reached c moves).history (pass_at c.config z) told) (sym on.pass_is)
     (told_on c (chain_of c.config p) (reached c moves) (k.holds (chain_of c.config p) ok) (not_other c some moves run (chain_of c.config p)) on.number on.inside told
-    (ap (λ (z : ℕ). ((reached c moves).stand z).place) (sym on.pass_is) ∙ e))
+    (ap (λ (z : ℕ). ((reached c moves).stand z).phase) (sym on.pass_is) ∙ e))
 
-entering_rank : (x : Chain) (own : ℕ) (at : Place) → IsEntering at → (post_of x own at).rank ≡ 3
-entering_rank x own (Place.WriteTag put request) a = refl
-entering_rank x own (Place.WriteBody put request i) a = refl
-entering_rank x own (Place.Link put) a = refl
+entering_rank : (x : Chain) (own : ℕ) (at : Phase) → IsEntering at → (post_of x own at).rank ≡ 3
+entering_rank x own (Phase.WriteTag put request) a = refl
+entering_rank x own (Phase.WriteBody put request i) a = refl
+entering_rank x own (Phase.Link put) a = refl
 entering_rank x own _ a = absurd a
 
 -- a call that has exchanged and isn't linked is pending
@@ -92,12 +92,12 @@ calls_wait c checked moves run p less entering =
     let k : Chains c (reached c moves) = chains_hold c r.bound.0 moves run in
     let on : IsOn c (chain_of c.config p) p = on_chain c p less in
     let rank : (post_at (chain_of c.config p) ((reached c moves).stand (pass_on c (chain_of c.config p) on.number))).rank ≡ 3 =
-    ap (λ (z : ℕ). (post_at (chain_of c.config p) ((reached c moves).stand z)).rank) (sym on.pass_is) ∙ entering_rank (chain_of c.config p) ((reached c moves).stand p).node ((reached c moves).stand p).place entering in
+    ap (λ (z : ℕ). (post_at (chain_of c.config p) ((reached c moves).stand z)).rank) (sym on.pass_is) ∙ entering_rank (chain_of c.config p) ((reached c moves).stand p).node ((reached c moves).stand p).phase entering in
     let ends = open_on c (chain_of c.config p) (reached c moves) (k.holds (chain_of c.config p) (chain_is c p less)) (not_other c r.bound.0 moves run (chain_of c.config p)) on.number on.inside rank in
     subst (λ (z : ℕ). IsLastPending (pass_at c.config z) (reached c moves).history) (sym on.pass_is) record { before = ends.before; entry = _; last = ends.last }
 
 -- a call gets its answer in the history, if the numbers of the answers fit their words
-pub last_answer : (c : Setting) → 0 < c.config.bound → (moves : List Move) → IsRun c moves → (p : ℕ) → p < passes c → (told : Answer) → ((reached c moves).stand p).place ≡ Place.Finished told →
+pub last_answer : (c : Setting) → 0 < c.config.bound → (moves : List Move) → IsRun c moves → (p : ℕ) → p < passes c → (told : Answer) → ((reached c moves).stand p).phase ≡ Phase.Finished told →
     ((n : ℕ) → n < length (answers_on (chain_of c.config p) (reached c moves).history) → FitsIn c.served (answer_at (answers_on (chain_of c.config p) (reached c moves).history) n)) →
     IsLastAnswer (pass_at c.config p) (reached c moves).history told
 last_answer c some moves run p less told e fits =
@@ -116,12 +116,12 @@ fits_counter Served.List e a = absurd (cc)
 
 -- for a counter no number is in the way
 pub counter_answer : (c : Setting) → c.served ≡ Served.Counter → 0 < c.config.bound → (moves : List Move) → IsRun c moves → (p : ℕ) → p < passes c → (told : Answer) →
-    ((reached c moves).stand p).place ≡ Place.Finished told → IsLastAnswer (pass_at c.config p) (reached c moves).history told
+    ((reached c moves).stand p).phase ≡ Phase.Finished told → IsLastAnswer (pass_at c.config p) (reached c moves).history told
 counter_answer c counter some moves run p less told e = last_answer c some moves run p less told e (λ n within. fits_counter c.served counter _)
 
 -- and the answer is the number of its call among all calls, from 0 on
 pub counter_number : (c : Setting) → c.served ≡ Served.Counter → 0 < c.config.bound → (moves : List Move) → IsRun c moves → (p : ℕ) → p < passes c → (told : Answer) →
-    ((reached c moves).stand p).place ≡ Place.Finished told → (n : ℕ) × (n < length (reached c moves).history.sends.answers) × (told ≡ Answer.Send (SendAnswer.Accepted n))
+    ((reached c moves).stand p).phase ≡ Phase.Finished told → (n : ℕ) × (n < length (reached c moves).history.sends.answers) × (told ≡ Answer.Send (SendAnswer.Accepted n))
 counter_number c counter some moves run p less told e =
     let sends : chain_of c.config p ≡ Chain.Send = sender_chain c.config p (omega (arith, senders_only c.served c.config counter)) in
     let t : HasTold c Chain.Send (reached c moves).history (pass_at c.config p) told = subst (λ (y : Chain). HasTold c y (reached c moves).history (pass_at c.config p) told) sends (has_told c some moves run p less told e) in
@@ -131,7 +131,7 @@ counter_number c counter some moves run p less told e =
 -- each step can be done, if the answers fit their words and each step of a service can be done
 pub ready : (c : Setting) → config_fault c.config ≡ Ok tt → (moves : List Move) → IsRun c moves → (p : ℕ) → p < passes c →
     ((n : ℕ) → n < length (answers_on (chain_of c.config p) (reached c moves).history) → ret_of c.served (answer_at (answers_on (chain_of c.config p) (reached c moves).history) n) < 2 ^ 64) →
-    (IsService ((reached c moves).stand p).place → IsStepSafe c (reached c moves) p) → IsReady c (reached c moves) p
+    (IsService ((reached c moves).stand p).phase → IsStepSafe c (reached c moves) p) → IsReady c (reached c moves) p
 ready c checked moves run p less fits served =
     let r : InRange c.config = in_range c.config checked in
     let k : Chains c (reached c moves) = chains_hold c r.bound.0 moves run in
@@ -140,6 +140,6 @@ ready c checked moves run p less fits served =
     let at : Stand = (reached c moves).stand p in
     let here : (reached c moves).stand (pass_on c (chain_of c.config p) on.number) ≡ (reached c moves).stand p = ap (reached c moves).stand (sym on.pass_is) in
     record {
-      safe = safe.safe_at c (chain_of c.config p) ok r (reached c moves) on.number at.node at.begun on.inside (k.holds (chain_of c.config p) ok) at.place here fits served;
-      unanswered = safe.open_at c (chain_of c.config p) ok r (reached c moves) on.number at.node at.begun on.inside (k.holds (chain_of c.config p) ok) at.place here;
+      safe = safe.safe_at c (chain_of c.config p) ok r (reached c moves) on.number at.node at.begun on.inside (k.holds (chain_of c.config p) ok) at.phase here fits served;
+      unanswered = safe.open_at c (chain_of c.config p) ok r (reached c moves) on.number at.node at.begun on.inside (k.holds (chain_of c.config p) ok) at.phase here;
     }

@@ -63,5 +63,5 @@ calls_end c checked moves run p less out =
     let s : State = reached c moves in
     let k : Chains c s = chains_hold c r.bound.0 moves run in
     let on : IsOn c x p = on_chain c p less in
-    let low : (post_at x (s.stand (pass_on c x on.number))).rank ≤ 2 = subst (λ (q : ℕ). (post_at x (s.stand q)).rank ≤ 2) on.pass_is (out_rank x (s.stand p).node (s.stand p).place out) in
+    let low : (post_at x (s.stand (pass_on c x on.number))).rank ≤ 2 = subst (λ (q : ℕ). (post_at x (s.stand q)).rank ≤ 2) on.pass_is (out_rank x (s.stand p).node (s.stand p).phase out) in
     subst (λ (q : ℕ). AllByRecursion HasAnswer (calls_of (pass_at c.config q) s.history)) (sym on.pass_is) (all_answered c x s (k.holds x (chain_is c p less)) on.number on.inside low (not_other c r.bound.0 moves run x))

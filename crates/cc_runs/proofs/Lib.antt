@@ -13,9 +13,9 @@ pub mod ChainLaws
 pub mod EndAnswered
 pub mod CallsMade
 pub mod SendNumbers
-pub mod RunFronts
+pub mod RunPrefixes
 pub mod Passes
-pub mod KnownFronts
+pub mod KnownPrefixes
 pub mod LinkedList
 pub mod ListRuns
 pub mod AllReady

@@ -50,7 +50,7 @@ others_did : (c : Setting) (more seen : List Move) (p : ℕ) → by p more ≡ [
 others_did c [] seen p none = refl
 others_did c (Move.Step q ∷ more) seen p none =
     let t = others_move p (Move.Step q) more none in
-    ap (λ (b : Bool). if b then then_did (event_at ((reached c (more ++ seen)).stand p).place) (kinds c (more ++ seen) p) else kinds c (more ++ seen) p) t.0 ∙ others_did c more seen p t.1
+    ap (λ (b : Bool). if b then then_did (event_at ((reached c (more ++ seen)).stand p).phase) (kinds c (more ++ seen) p) else kinds c (more ++ seen) p) t.0 ∙ others_did c more seen p t.1
 others_did c (Move.Begin q call known ∷ more) seen p none = others_did c more seen p (others_move p (Move.Begin q call known) more none).1
 others_did c (Move.Take q ∷ more) seen p none = others_did c more seen p (others_move p (Move.Take q) more none).1
 

@@ -3,7 +3,7 @@ use Rattle.std.proofs.Common.{◌≡◌, ℕ, zero, suc, ◌≤◌, Bool, true, 
 use Rattle.std.specs.List.{AllByRecursion, filter}
 use Rattle.cc_model.specs.Record.{Side, Record, silent}
 use Rattle.cc_model.proofs.Grows.{all-append}
-use Rattle.cc_runs.specs.Names.{Call, Entry, Answer, Setting, Chain, Stand, Place, Move}
+use Rattle.cc_runs.specs.Names.{Call, Entry, Answer, Setting, Chain, Stand, Phase, Move}
 use Rattle.cc_runs.specs.Words.{groups}
 use Rattle.cc_runs.specs.State.{State, chain_of, first_node, noted, appended, word_of}
 use Rattle.cc_runs.specs.Lines.{operation, goes, enters, decides}
@@ -46,13 +46,13 @@ module _ (P : Entry → Type 0) where
   noted_all (Chain.Take g) (Chain.Take k) h e a new all = set_all (λ (s : Side). All s.calls) h.takes g k _ silent (all_appended P (calls_on (Chain.Take g) h) e (all (Chain.Take g)) new) (all (Chain.Take k))
 
   -- a step enters a call that was to exchange, and gives its pass no other
-  goes_on : (c : Setting) (x : Chain) (own found : ℕ) (at : Place) → All (to_exchange at) → All (appended [] (enters at)) × All (to_exchange (goes c x own at found))
+  goes_on : (c : Setting) (x : Chain) (own found : ℕ) (at : Phase) → All (to_exchange at) → All (appended [] (enters at)) × All (to_exchange (goes c x own at found))
   goes_on c x own found at all =
       let is : to_exchange at ≡ filter (λ (z : Entry). true) (appended [] (enters at)) ++ to_exchange (goes c x own at found) = own_step c x own found (λ (z : Entry). true) [] (to_exchange at) at refl (λ e same. refl) in
       let both = all_split P (filter (λ (z : Entry). true) (appended [] (enters at))) (to_exchange (goes c x own at found)) (subst All is all) in
       (subst All (all_kept (enters at)) both.0, both.1)
 
-  either : (b : Bool) (first second : Stand) → All (to_exchange first.place) → All (to_exchange second.place) → All (to_exchange (cond b first second).place)
+  either : (b : Bool) (first second : Stand) → All (to_exchange first.phase) → All (to_exchange second.phase) → All (to_exchange (cond b first second).phase)
   either true first second a z = a
   either false first second a z = z
 
@@ -69,23 +69,23 @@ module _ (c : Setting) where
   IsFew e = e.number ≤ c.config.per_sender
 
   record Few (s : State) : Type 0 where
-    coming : (p : ℕ) → AllByRecursion IsFew (to_exchange (s.stand p).place)
+    coming : (p : ℕ) → AllByRecursion IsFew (to_exchange (s.stand p).phase)
     come : (x : Chain) → AllByRecursion IsFew (calls_on x s.history)
 
   first : Few (opening c)
   first = record {
-    coming = λ p. either IsFew (nat_lt p (passes c)) record { begun = 0; node = first_node c.config p; place = Place.Idle } nowhere tt tt;
+    coming = λ p. either IsFew (nat_lt p (passes c)) record { begun = 0; node = first_node c.config p; phase = Phase.Idle } nowhere tt tt;
     come = λ x. subst (λ (z : Side). AllByRecursion IsFew z.calls) (sym (no_calls (groups c.config) x)) tt;
   }
 
   step : (s : State) (p : ℕ) → Few s → Few (stepped c s p)
   step s p has =
       let at : Stand = s.stand p in
-      let found : ℕ = s.mem (word_of (operation c (chain_of c.config p) at.node at.place)) in
-      let on = goes_on IsFew c (chain_of c.config p) at.node found at.place (has.coming p) in
+      let found : ℕ = s.mem (word_of (operation c (chain_of c.config p) at.node at.phase)) in
+      let on = goes_on IsFew c (chain_of c.config p) at.node found at.phase (has.coming p) in
       record {
         coming = λ q. either IsFew (p == q) (advanced c (chain_of c.config p) at found) (s.stand q) on.1 (has.coming q);
-        come = λ y. noted_all IsFew (chain_of c.config p) y s.history (enters at.place) (decides c at.place found) on.0 has.come;
+        come = λ y. noted_all IsFew (chain_of c.config p) y s.history (enters at.phase) (decides c at.phase found) on.0 has.come;
       }
 
   few_after : (moves : List Move) → IsRun c moves → Few (reached c moves)

@@ -4,7 +4,7 @@ use Rattle.std.specs.List.{AllByRecursion, slice_get}
 use Rattle.cc_model.specs.Record.{Record}
 use Rattle.cc_model.specs.Items.{HasAnswer, calls_of}
 use Rattle.cc_model.specs.Config.{config_fault}
-use Rattle.cc_runs.specs.Names.{Pass, Entry, Item, Answer, SendAnswer, TakeAnswer, Setting, Served, Chain, NodeField, Object, Word, Place, Move}
+use Rattle.cc_runs.specs.Names.{Pass, Entry, Item, Answer, SendAnswer, TakeAnswer, Setting, Served, Chain, NodeField, Object, Word, Phase, Move}
 use Rattle.cc_runs.specs.Codes.{tag_of, body_words, further_words, word, request_in, ret_of}
 use Rattle.cc_runs.specs.State.{State, chain_of, pass_at, word_of}
 use Rattle.cc_runs.specs.Lines.{operation}
@@ -13,51 +13,51 @@ use Rattle.cc_runs.specs.Ready.{WhileUndecided, IsReady}
 use Rattle.cc_runs.specs.OnChain.{passes_on, calls_on, answers_on, FitsIn}
 
 -- between its read of state 0 and its hand-over
-abbrev pub IsCombining : Place → Type 0
-IsCombining (Place.ReadNext round) = Unit {0}
-IsCombining (Place.Counting job service) = Unit {0}
-IsCombining (Place.Sending job service) = Unit {0}
-IsCombining (Place.Taking job service) = Unit {0}
-IsCombining (Place.WriteAnswer job told) = Unit {0}
-IsCombining (Place.WriteAnswerTag job item) = Unit {0}
-IsCombining (Place.WriteAnswerBody job item i) = Unit {0}
-IsCombining (Place.MarkDone job) = Unit {0}
-IsCombining (Place.HandOver at) = Unit {0}
+abbrev pub IsCombining : Phase → Type 0
+IsCombining (Phase.ReadNext round) = Unit {0}
+IsCombining (Phase.Counting job service) = Unit {0}
+IsCombining (Phase.Sending job service) = Unit {0}
+IsCombining (Phase.Taking job service) = Unit {0}
+IsCombining (Phase.WriteAnswer job told) = Unit {0}
+IsCombining (Phase.WriteAnswerTag job item) = Unit {0}
+IsCombining (Phase.WriteAnswerBody job item i) = Unit {0}
+IsCombining (Phase.MarkDone job) = Unit {0}
+IsCombining (Phase.HandOver at) = Unit {0}
 IsCombining _ = ⊥
 
 -- how many requests it has served since then
-abbrev pub served_by : Place → ℕ
-served_by (Place.ReadNext round) = round.served
-served_by (Place.Counting job service) = job.round.served
-served_by (Place.Sending job service) = job.round.served
-served_by (Place.Taking job service) = job.round.served
-served_by (Place.WriteAnswer job told) = job.round.served
-served_by (Place.WriteAnswerTag job item) = job.round.served
-served_by (Place.WriteAnswerBody job item i) = job.round.served
-served_by (Place.MarkDone job) = job.round.served
+abbrev pub served_by : Phase → ℕ
+served_by (Phase.ReadNext round) = round.served
+served_by (Phase.Counting job service) = job.round.served
+served_by (Phase.Sending job service) = job.round.served
+served_by (Phase.Taking job service) = job.round.served
+served_by (Phase.WriteAnswer job told) = job.round.served
+served_by (Phase.WriteAnswerTag job item) = job.round.served
+served_by (Phase.WriteAnswerBody job item i) = job.round.served
+served_by (Phase.MarkDone job) = job.round.served
 served_by _ = 0
 
 -- the nodes that it will touch, with the pass's own, are among the chain's
-abbrev pub AreNodes : ℕ → Place → Type 0
-AreNodes n (Place.WriteTag put request) = put ≤ n
-AreNodes n (Place.WriteBody put request i) = put ≤ n
-AreNodes n (Place.Link put) = put ≤ n
-AreNodes n (Place.ReadNext round) = round.at ≤ n
-AreNodes n (Place.Counting job service) = (job.round.at ≤ n) × (job.next ≤ n)
-AreNodes n (Place.Sending job service) = (job.round.at ≤ n) × (job.next ≤ n)
-AreNodes n (Place.Taking job service) = (job.round.at ≤ n) × (job.next ≤ n)
-AreNodes n (Place.WriteAnswer job told) = (job.round.at ≤ n) × (job.next ≤ n)
-AreNodes n (Place.WriteAnswerTag job item) = (job.round.at ≤ n) × (job.next ≤ n)
-AreNodes n (Place.WriteAnswerBody job item i) = (job.round.at ≤ n) × (job.next ≤ n)
-AreNodes n (Place.MarkDone job) = (job.round.at ≤ n) × (job.next ≤ n)
-AreNodes n (Place.HandOver at) = at ≤ n
+abbrev pub AreNodes : ℕ → Phase → Type 0
+AreNodes n (Phase.WriteTag put request) = put ≤ n
+AreNodes n (Phase.WriteBody put request i) = put ≤ n
+AreNodes n (Phase.Link put) = put ≤ n
+AreNodes n (Phase.ReadNext round) = round.at ≤ n
+AreNodes n (Phase.Counting job service) = (job.round.at ≤ n) × (job.next ≤ n)
+AreNodes n (Phase.Sending job service) = (job.round.at ≤ n) × (job.next ≤ n)
+AreNodes n (Phase.Taking job service) = (job.round.at ≤ n) × (job.next ≤ n)
+AreNodes n (Phase.WriteAnswer job told) = (job.round.at ≤ n) × (job.next ≤ n)
+AreNodes n (Phase.WriteAnswerTag job item) = (job.round.at ≤ n) × (job.next ≤ n)
+AreNodes n (Phase.WriteAnswerBody job item i) = (job.round.at ≤ n) × (job.next ≤ n)
+AreNodes n (Phase.MarkDone job) = (job.round.at ≤ n) × (job.next ≤ n)
+AreNodes n (Phase.HandOver at) = at ≤ n
 AreNodes n _ = Unit {0}
 
 -- the node whose request is in service
-abbrev pub served_node : Place → ℕ
-served_node (Place.Counting job service) = job.round.at
-served_node (Place.Sending job service) = job.round.at
-served_node (Place.Taking job service) = job.round.at
+abbrev pub served_node : Phase → ℕ
+served_node (Phase.Counting job service) = job.round.at
+served_node (Phase.Sending job service) = job.round.at
+served_node (Phase.Taking job service) = job.round.at
 served_node _ = 0
 
 -- a node of the chain holds the request of this call: a take has no request words
@@ -94,21 +94,21 @@ pub record WasTold (what : Served) (h : Record) (who : Pass) (told : Answer) : T
   pub same : FitsIn what answer → told ≡ answer
 
 -- its answer is there, and it reads its words
-abbrev pub IsReading : Place → Type 0
-IsReading Place.ReadAnswer = Unit {0}
-IsReading (Place.ReadAnswerTag at) = Unit {0}
-IsReading (Place.ReadAnswerBody p i) = Unit {0}
+abbrev pub IsReading : Phase → Type 0
+IsReading Phase.ReadAnswer = Unit {0}
+IsReading (Phase.ReadAnswerTag at) = Unit {0}
+IsReading (Phase.ReadAnswerBody p i) = Unit {0}
 IsReading _ = ⊥
 
 -- the word of this answer that it reads next, in its node own
-abbrev pub ReadsWord : Served → State → Chain → ℕ → Answer → Place → Type 0
-ReadsWord what s x own a Place.ReadAnswer = s.mem (Word.Node x own NodeField.Ret) ≡ ret_of what a
-ReadsWord what s x own a (Place.ReadAnswerTag at) = (item : Item) × (a ≡ Answer.Take (TakeAnswer.Got item)) × (s.mem (Word.Node x own NodeField.Tag) ≡ tag_of item)
-ReadsWord what s x own a (Place.ReadAnswerBody p i) = (item : Item) × (a ≡ Answer.Take (TakeAnswer.Got item)) × (s.mem (Word.Node x own (NodeField.Body i)) ≡ word (body_words item) i)
+abbrev pub ReadsWord : Served → State → Chain → ℕ → Answer → Phase → Type 0
+ReadsWord what s x own a Phase.ReadAnswer = s.mem (Word.Node x own NodeField.Ret) ≡ ret_of what a
+ReadsWord what s x own a (Phase.ReadAnswerTag at) = (item : Item) × (a ≡ Answer.Take (TakeAnswer.Got item)) × (s.mem (Word.Node x own NodeField.Tag) ≡ tag_of item)
+ReadsWord what s x own a (Phase.ReadAnswerBody p i) = (item : Item) × (a ≡ Answer.Take (TakeAnswer.Got item)) × (s.mem (Word.Node x own (NodeField.Body i)) ≡ word (body_words item) i)
 ReadsWord what s x own a _ = Unit {0}
 
 -- the last call of this pass is answered in the history, and the word that it reads next is one of that answer
-pub record IsToldBy (what : Served) (s : State) (x : Chain) (own : ℕ) (who : Pass) (at : Place) : Type 0 where
+pub record IsToldBy (what : Served) (s : State) (x : Chain) (own : ℕ) (who : Pass) (at : Phase) : Type 0 where
   pub before : List (Entry × Option Answer)
   pub entry : Entry
   pub answer : Answer
@@ -116,51 +116,51 @@ pub record IsToldBy (what : Served) (s : State) (x : Chain) (own : ℕ) (who : P
   pub word : ReadsWord what s x own answer at
 
 -- out of its chain: from the last word of an answer that it reads to its next exchange
-abbrev pub IsOut : Place → Type 0
-IsOut Place.Idle = Unit {0}
-IsOut (Place.ResetNext call) = Unit {0}
-IsOut (Place.ResetState call) = Unit {0}
-IsOut (Place.Exchange call) = Unit {0}
-IsOut (Place.Finished told) = Unit {0}
+abbrev pub IsOut : Phase → Type 0
+IsOut Phase.Idle = Unit {0}
+IsOut (Phase.ResetNext call) = Unit {0}
+IsOut (Phase.ResetState call) = Unit {0}
+IsOut (Phase.Exchange call) = Unit {0}
+IsOut (Phase.Finished told) = Unit {0}
 IsOut _ = ⊥
 
 -- the laws of the chains of a state
 pub record ChainLaws (c : Setting) (s : State) : Type 0 where
   -- one pass of a chain combines at most
-  pub one : (p q : ℕ) → p < passes c → q < passes c → chain_of c.config p ≡ chain_of c.config q → IsCombining (s.stand p).place → IsCombining (s.stand q).place → p ≡ q
+  pub one : (p q : ℕ) → p < passes c → q < passes c → chain_of c.config p ≡ chain_of c.config q → IsCombining (s.stand p).phase → IsCombining (s.stand q).phase → p ≡ q
   -- it continues only if it has served fewer than the bound, and answers no more than that in all
-  pub bounded : (p : ℕ) → p < passes c → served_by (s.stand p).place < c.config.bound
-  pub within : (p : ℕ) → p < passes c → IsCombining (s.stand p).place →
+  pub bounded : (p : ℕ) → p < passes c → served_by (s.stand p).phase < c.config.bound
+  pub within : (p : ℕ) → p < passes c → IsCombining (s.stand p).phase →
       IsWithinBound c.config.bound (calls_on (chain_of c.config p) s.history) (answers_on (chain_of c.config p) s.history) (pass_at c.config p)
   -- what it serves, before it decides, is the first call without an answer: so answers come in the order of the exchanges
   pub ordered : (x : Chain) → length (answers_on x s.history) ≤ length (calls_on x s.history)
-  pub serves : (p : ℕ) → p < passes c → WhileUndecided (s.stand p).place (ServesNext s (chain_of c.config p) (served_node (s.stand p).place))
+  pub serves : (p : ℕ) → p < passes c → WhileUndecided (s.stand p).phase (ServesNext s (chain_of c.config p) (served_node (s.stand p).phase))
   -- what a call reads as its answer, word by word and in all, is its answer in the history
-  pub reads : (p : ℕ) → p < passes c → IsReading (s.stand p).place → IsToldBy c.served s (chain_of c.config p) (s.stand p).node (pass_at c.config p) (s.stand p).place
-  pub told : (p : ℕ) (told : Answer) → p < passes c → (s.stand p).place ≡ Place.Finished told → WasTold c.served s.history (pass_at c.config p) told
+  pub reads : (p : ℕ) → p < passes c → IsReading (s.stand p).phase → IsToldBy c.served s (chain_of c.config p) (s.stand p).node (pass_at c.config p) (s.stand p).phase
+  pub told : (p : ℕ) (told : Answer) → p < passes c → (s.stand p).phase ≡ Phase.Finished told → WasTold c.served s.history (pass_at c.config p) told
   -- each node that is named is one of the chain, and each link that is read is null or names one
   pub own : (p : ℕ) → p < passes c → (s.stand p).node ≤ passes_on c (chain_of c.config p)
-  pub nodes : (p : ℕ) → p < passes c → AreNodes (passes_on c (chain_of c.config p)) (s.stand p).place
-  pub link : (p at served : ℕ) → p < passes c → (s.stand p).place ≡ Place.ReadNext record { at = at; served = served } → s.mem (Word.Node (chain_of c.config p) at NodeField.Next) ≤ passes_on c (chain_of c.config p) + 1
+  pub nodes : (p : ℕ) → p < passes c → AreNodes (passes_on c (chain_of c.config p)) (s.stand p).phase
+  pub link : (p at served : ℕ) → p < passes c → (s.stand p).phase ≡ Phase.ReadNext record { at = at; served = served } → s.mem (Word.Node (chain_of c.config p) at NodeField.Next) ≤ passes_on c (chain_of c.config p) + 1
   -- a combiner that has served nobody yet finds its own node linked, so it serves its own request first
-  pub own_link : (p at : ℕ) → p < passes c → (s.stand p).place ≡ Place.ReadNext record { at = at; served = 0 } → 0 < s.mem (Word.Node (chain_of c.config p) at NodeField.Next)
+  pub own_link : (p at : ℕ) → p < passes c → (s.stand p).phase ≡ Phase.ReadNext record { at = at; served = 0 } → 0 < s.mem (Word.Node (chain_of c.config p) at NodeField.Next)
   pub tail : (p : ℕ) → p < passes c → (0 < s.mem (Word.Tail (chain_of c.config p))) × (s.mem (Word.Tail (chain_of c.config p)) ≤ passes_on c (chain_of c.config p) + 1)
   -- no two passes of a chain own one node, and nobody owns the node in its tail: so a pass that resets its node resets nobody else's
   pub apart : (p q : ℕ) → p < passes c → q < passes c → chain_of c.config p ≡ chain_of c.config q → (s.stand p).node ≡ (s.stand q).node → p ≡ q
   pub free : (p : ℕ) → p < passes c → s.mem (Word.Tail (chain_of c.config p)) ≢ (s.stand p).node + 1
   -- and while a pass is out of its chain, also when it resets its node, no other pass's step touches that node
-  pub untouched : (p q : ℕ) (f : NodeField) → p < passes c → q < passes c → p ≢ q → IsOut (s.stand p).place →
-      word_of (operation c (chain_of c.config q) (s.stand q).node (s.stand q).place) ≢ Word.Node (chain_of c.config p) (s.stand p).node f
+  pub untouched : (p q : ℕ) (f : NodeField) → p < passes c → q < passes c → p ≢ q → IsOut (s.stand p).phase →
+      word_of (operation c (chain_of c.config q) (s.stand q).node (s.stand q).phase) ≢ Word.Node (chain_of c.config p) (s.stand p).node f
 
 -- they hold after every run
 abbrev pub ChainLawsOfRuns : Type 0
 ChainLawsOfRuns = (c : Setting) → config_fault c.config ≡ Ok tt → (moves : List Move) → IsRun c moves → ChainLaws c (reached c moves)
 
 -- its call has exchanged, and isn't linked to the next node yet
-abbrev pub IsEntering : Place → Type 0
-IsEntering (Place.WriteTag put request) = Unit {0}
-IsEntering (Place.WriteBody put request i) = Unit {0}
-IsEntering (Place.Link put) = Unit {0}
+abbrev pub IsEntering : Phase → Type 0
+IsEntering (Phase.WriteTag put request) = Unit {0}
+IsEntering (Phase.WriteBody put request i) = Unit {0}
+IsEntering (Phase.Link put) = Unit {0}
 IsEntering _ = ⊥
 
 -- the last call of a pass in a history has no answer
@@ -172,12 +172,12 @@ pub record IsLastPending (who : Pass) (h : Record) : Type 0 where
 -- after every run, a call that has exchanged and isn't linked is pending
 abbrev pub CallsWaitForTheirLink : Type 0
 CallsWaitForTheirLink = (c : Setting) → config_fault c.config ≡ Ok tt → (moves : List Move) → IsRun c moves →
-    (p : ℕ) → p < passes c → IsEntering ((reached c moves).stand p).place → IsLastPending (pass_at c.config p) (history_of c moves)
+    (p : ℕ) → p < passes c → IsEntering ((reached c moves).stand p).phase → IsLastPending (pass_at c.config p) (history_of c moves)
 
 -- after every run, each call that the history has of a pass out of its chain has its answer
 abbrev pub CallsEndAnswered : Type 0
 CallsEndAnswered = (c : Setting) → config_fault c.config ≡ Ok tt → (moves : List Move) → IsRun c moves →
-    (p : ℕ) → p < passes c → IsOut ((reached c moves).stand p).place → AllByRecursion HasAnswer (calls_of (pass_at c.config p) (history_of c moves))
+    (p : ℕ) → p < passes c → IsOut ((reached c moves).stand p).phase → AllByRecursion HasAnswer (calls_of (pass_at c.config p) (history_of c moves))
 
 -- the laws of a counter: it hands out the numbers from 0 on, in the order of the exchanges
 pub record CounterLaws (c : Setting) (s : State) : Type 0 where

@@ -41,7 +41,7 @@ with_word body (suc (suc (suc (suc _)))) value = body
 abbrev pub no_words : BodyWords
 no_words = record { first = 0; second = 0; third = 0; fourth = 0 }
 
--- the next place of the step at a word: the next word, while there is one of this many after the first, or on
+-- the phase after the step at a word: the next word, while there is one of this many after the first, or on
 abbrev pub behind : {A : Type 0} → ℕ → ℕ → A → A → A
 behind further index next on = if nat_lt index further then next else on
 

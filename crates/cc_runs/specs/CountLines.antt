@@ -1,11 +1,11 @@
--- The service of a request to the counter: a line for each place of its combiner. It hands out the number
+-- The service of a request to the counter: a line for each phase of its combiner. It hands out the number
 -- that the counter holds, and adds one.
 use Rattle.std.specs.Prelude.{ℕ, ◌+◌, Option}
-use Rattle.cc_runs.specs.Names.{Answer, SendAnswer, Chain, NodeField, Object, Word, Kind, Job, Place, Counting as Service}
-use Rattle.cc_runs.specs.declared.place.Counting.TheVariants.{ReadTag, ReadBody, ReadCount, WriteCount}
+use Rattle.cc_runs.specs.Names.{Answer, SendAnswer, Chain, NodeField, Object, Word, Kind, Job, Phase, Counting as Service}
+use Rattle.cc_runs.specs.declared.phase.Counting.TheVariants.{ReadTag, ReadBody, ReadCount, WriteCount}
 use Rattle.cc_runs.specs.Codes.{further_words, behind}
 use Rattle.cc_runs.specs.State.{Operation}
-use Rattle.cc_runs.specs.ServiceLine.{ServiceLine, On, Decides, load, store, place_of, answer_of}
+use Rattle.cc_runs.specs.ServiceLine.{ServiceLine, On, Decides, load, store, phase_of, answer_of}
 
 -- served is the node with the request
 abbrev pub line : ℕ → Service → ℕ → ServiceLine Service
@@ -22,11 +22,11 @@ kind_of service = (line 0 service 0).kind
 abbrev pub operation : ℕ → Service → Operation
 operation served service = (line served service 0).does
 
-abbrev pub in_service : Job → Service → Place
-in_service job service = Place.Counting job service
+abbrev pub in_service : Job → Service → Phase
+in_service job service = Phase.Counting job service
 
-abbrev pub goes : Job → Service → ℕ → Place
-goes job service found = place_of in_service job (line 0 service found).next
+abbrev pub goes : Job → Service → ℕ → Phase
+goes job service found = phase_of in_service job (line 0 service found).next
 
 abbrev pub decides : Service → ℕ → Option Answer
 decides service found = answer_of (line 0 service found).next

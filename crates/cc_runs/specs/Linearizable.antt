@@ -4,7 +4,7 @@
 use Rattle.std.specs.Prelude.{◌≡◌, ◌⊎◌, ℕ, ◌<◌, ◌≤◌, length, List, [], ◌∷◌, ◌++◌, Some, Ok}
 use Rattle.cc_model.specs.Config.{config_fault}
 use Rattle.cc_model.specs.Record.{Record, empty}
-use Rattle.cc_model.specs.Items.{IsFront, accepted, is_shut, handed, handed_to_all}
+use Rattle.cc_model.specs.Items.{IsPrefix, accepted, is_shut, handed, handed_to_all}
 use Rattle.cc_model.specs.Legal.{IsSenders, IsReceivers}
 use Rattle.cc_model.specs.Sequential.{Exactly}
 use Rattle.cc_runs.specs.Names.{Config, Call, Entry, Answer, Setting, Served, Chain, Move}
@@ -61,8 +61,8 @@ in_order (now ∷ earlier) = now ++ in_order earlier
 -- On each chain every call that is answered in the history has taken effect, with that answer, and each call that has taken
 -- effect is in the history.
 pub record IsOnTime (h effects : Record) : Type 0 where
-  pub calls : (x : Chain) → IsFront (calls_on x effects) (calls_on x h)
-  pub answers : (x : Chain) → IsFront (answers_on x h) (answers_on x effects)
+  pub calls : (x : Chain) → IsPrefix (calls_on x effects) (calls_on x h)
+  pub answers : (x : Chain) → IsPrefix (answers_on x h) (answers_on x effects)
 
 -- so it is at each moment of the run
 abbrev pub IsTimely : Setting → List Move → List (List Effect) → Type 0

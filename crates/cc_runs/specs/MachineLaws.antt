@@ -6,7 +6,7 @@ use Rattle.cc_model.specs.Record.{Record}
 use Rattle.cc_model.specs.Items.{Begins, accepted, handed_to_all}
 use Rattle.cc_model.specs.Legal.{Legal}
 use Rattle.cc_model.specs.Fifo.{Fifo}
-use Rattle.cc_runs.specs.Names.{Config, Answer, SendAnswer, CloseAnswer, TakeAnswer, Setting, Served, ItemField, Object, Word, Place, Sending, Taking, Chain, Move}
+use Rattle.cc_runs.specs.Names.{Config, Answer, SendAnswer, CloseAnswer, TakeAnswer, Setting, Served, ItemField, Object, Word, Phase, Sending, Taking, Chain, Move}
 use Rattle.cc_runs.specs.Words.{groups}
 use Rattle.cc_runs.specs.State.{State, chain_of, pass_at}
 use Rattle.cc_runs.specs.Lines.{group_of}
@@ -49,21 +49,21 @@ IsPreparing (Sending.ReadLast count at) x = at ≡ x
 IsPreparing (Sending.LinkItem count at last) x = at ≡ x
 IsPreparing _ x = ⊥
 
--- a pass at this place does
-abbrev pub Prepares : Place → ℕ → Type 0
-Prepares (Place.Sending job service) x = IsPreparing service x
+-- a pass in this phase does
+abbrev pub Prepares : Phase → ℕ → Type 0
+Prepares (Phase.Sending job service) x = IsPreparing service x
 Prepares _ x = ⊥
 
 -- outside the preparation of a node the items that wait have a busy node each, and the dummy is one more
 abbrev pub BusyNodesAreItems : Type 0
 BusyNodesAreItems = AfterEveryRun (λ c moves. let s : State = reached c moves in
-    ((p x : ℕ) → Prepares (s.stand p).place x → ⊥)
+    ((p x : ℕ) → Prepares (s.stand p).phase x → ⊥)
     → busy_below c.config s.mem (c.config.capacity + 1) + handed_to_all s.history ≡ length (accepted s.history) + 1)
 
 -- and in it the node that is prepared is one more
 abbrev pub PreparedNodeIsBusy : Type 0
 PreparedNodeIsBusy = AfterEveryRun (λ c moves. let s : State = reached c moves in
-    (p x : ℕ) → Prepares (s.stand p).place x
+    (p x : ℕ) → Prepares (s.stand p).phase x
     → busy_below c.config s.mem (c.config.capacity + 1) + handed_to_all s.history ≡ length (accepted s.history) + 2)
 
 -- ---- reuse of list nodes
@@ -73,29 +73,29 @@ abbrev pub links : Sending → List ℕ
 links (Sending.LinkItem count at last) = at ∷ []
 links _ = []
 
--- and a step of a pass at this place
-abbrev pub links_at : Place → List ℕ
-links_at (Place.Sending job service) = links service
+-- and a step of a pass in this phase
+abbrev pub links_at : Phase → List ℕ
+links_at (Phase.Sending job service) = links service
 links_at _ = []
 
 -- the nodes of the list in order, the first dummy and then the node of each accepted item
 abbrev pub linked_nodes : Setting → List Move → List ℕ
 linked_nodes c [] = 0 ∷ []
-linked_nodes c (Move.Step p ∷ earlier) = linked_nodes c earlier ++ links_at ((reached c earlier).stand p).place
+linked_nodes c (Move.Step p ∷ earlier) = linked_nodes c earlier ++ links_at ((reached c earlier).stand p).phase
 linked_nodes c (Move.Begin p call known ∷ earlier) = linked_nodes c earlier
 linked_nodes c (Move.Take p ∷ earlier) = linked_nodes c earlier
 
 -- the node that is reset now: its count of groups, or its link
-abbrev pub Resets : Place → ℕ → Type 0
-Resets (Place.Sending job (Sending.ResetPassed parcel at)) x = at ≡ x
-Resets (Place.Sending job (Sending.ResetItemNext parcel at)) x = at ≡ x
+abbrev pub Resets : Phase → ℕ → Type 0
+Resets (Phase.Sending job (Sending.ResetPassed parcel at)) x = at ≡ x
+Resets (Phase.Sending job (Sending.ResetItemNext parcel at)) x = at ≡ x
 Resets _ x = ⊥
 
 -- A node that was in the list is reset only after the take that went past it was decided: the take with number k goes
 -- from the node at place k to the next one.
 abbrev pub ResetAfterTheTake : Type 0
 ResetAfterTheTake = AfterEveryRun (λ c moves. let s : State = reached c moves in
-    (p x k : ℕ) → Resets (s.stand p).place x → slice_get (linked_nodes c moves) k ≡ Some x → k < handed_to_all s.history)
+    (p x k : ℕ) → Resets (s.stand p).phase x → slice_get (linked_nodes c moves) k ≡ Some x → k < handed_to_all s.history)
 
 -- a take's service holds the dummy for steps to come, and the node after it once its link was read
 abbrev pub Holds : Taking → ℕ → Type 0
@@ -108,14 +108,14 @@ Holds (Taking.WriteHead dummy at parcel) x = (dummy ≡ x) ⊎ (at ≡ x)
 Holds (Taking.WriteTaken dummy parcel) x = dummy ≡ x
 Holds (Taking.AddPassed dummy parcel) x = dummy ≡ x
 
--- a pass at this place does
-abbrev pub HoldsAt : Place → ℕ → Type 0
-HoldsAt (Place.Taking job service) x = Holds service x
+-- a pass in this phase does
+abbrev pub HoldsAt : Phase → ℕ → Type 0
+HoldsAt (Phase.Taking job service) x = Holds service x
 HoldsAt _ x = ⊥
 
 -- from its reset up to its link no take holds a node
 abbrev pub PreparedAlone : Type 0
-PreparedAlone = AfterEveryRun (λ c moves. let s : State = reached c moves in (p q x : ℕ) → Prepares (s.stand p).place x → HoldsAt (s.stand q).place x → ⊥)
+PreparedAlone = AfterEveryRun (λ c moves. let s : State = reached c moves in (p q x : ℕ) → Prepares (s.stand p).phase x → HoldsAt (s.stand q).phase x → ⊥)
 
 -- ---- links and numbers
 
@@ -126,35 +126,35 @@ NamesNode c link = (1 ≤ link) × (link ≤ c.capacity + 1)
 -- A step of a service finds: `last` and `head` name ordinary nodes, and the dummy's next is null or names a node, or the
 -- closing mark. The scan starts at an ordinary node, and from there on up to the last word of its send the node that is
 -- looked at, or was found, is an ordinary one.
-abbrev pub FindsNode : Config → State → Chain → Place → Type 0
-FindsNode c s x (Place.Sending job (Sending.ReadLastToClose total)) = NamesNode c (s.mem (Word.Object Object.Last))
-FindsNode c s x (Place.Sending job (Sending.ReadCursor parcel)) = s.mem (Word.Object Object.Cursor) ≤ c.capacity
-FindsNode c s x (Place.Sending job (Sending.ReadPassed parcel at reads)) = at ≤ c.capacity
-FindsNode c s x (Place.Sending job (Sending.ResetPassed parcel at)) = at ≤ c.capacity
-FindsNode c s x (Place.Sending job (Sending.ResetItemNext parcel at)) = at ≤ c.capacity
-FindsNode c s x (Place.Sending job (Sending.WriteItemTag parcel at)) = at ≤ c.capacity
-FindsNode c s x (Place.Sending job (Sending.WriteItemBody parcel at i)) = at ≤ c.capacity
-FindsNode c s x (Place.Sending job (Sending.ReadLast count at)) = NamesNode c (s.mem (Word.Object Object.Last)) × (at ≤ c.capacity)
-FindsNode c s x (Place.Sending job (Sending.LinkItem count at last)) = at ≤ c.capacity
-FindsNode c s x (Place.Sending job (Sending.WriteLast count at)) = at ≤ c.capacity
-FindsNode c s x (Place.Sending job (Sending.WriteCount count at)) = at ≤ c.capacity
-FindsNode c s x (Place.Sending job (Sending.WriteCursor count at)) = at ≤ c.capacity
-FindsNode c s x (Place.Taking job Taking.ReadHead) = NamesNode c (s.mem (Word.Object (Object.Head (group_of x))))
-FindsNode c s x (Place.Taking job (Taking.ReadDummyNext dummy taken)) = s.mem (Word.Item dummy ItemField.Next) ≤ c.capacity + 2
+abbrev pub FindsNode : Config → State → Chain → Phase → Type 0
+FindsNode c s x (Phase.Sending job (Sending.ReadLastToClose total)) = NamesNode c (s.mem (Word.Object Object.Last))
+FindsNode c s x (Phase.Sending job (Sending.ReadCursor parcel)) = s.mem (Word.Object Object.Cursor) ≤ c.capacity
+FindsNode c s x (Phase.Sending job (Sending.ReadPassed parcel at reads)) = at ≤ c.capacity
+FindsNode c s x (Phase.Sending job (Sending.ResetPassed parcel at)) = at ≤ c.capacity
+FindsNode c s x (Phase.Sending job (Sending.ResetItemNext parcel at)) = at ≤ c.capacity
+FindsNode c s x (Phase.Sending job (Sending.WriteItemTag parcel at)) = at ≤ c.capacity
+FindsNode c s x (Phase.Sending job (Sending.WriteItemBody parcel at i)) = at ≤ c.capacity
+FindsNode c s x (Phase.Sending job (Sending.ReadLast count at)) = NamesNode c (s.mem (Word.Object Object.Last)) × (at ≤ c.capacity)
+FindsNode c s x (Phase.Sending job (Sending.LinkItem count at last)) = at ≤ c.capacity
+FindsNode c s x (Phase.Sending job (Sending.WriteLast count at)) = at ≤ c.capacity
+FindsNode c s x (Phase.Sending job (Sending.WriteCount count at)) = at ≤ c.capacity
+FindsNode c s x (Phase.Sending job (Sending.WriteCursor count at)) = at ≤ c.capacity
+FindsNode c s x (Phase.Taking job Taking.ReadHead) = NamesNode c (s.mem (Word.Object (Object.Head (group_of x))))
+FindsNode c s x (Phase.Taking job (Taking.ReadDummyNext dummy taken)) = s.mem (Word.Item dummy ItemField.Next) ≤ c.capacity + 2
 FindsNode c s x _ = Unit {0}
 
 -- each link that is read is one, and a scan reads ordinary nodes alone
 abbrev pub LinksNameNodes : Type 0
-LinksNameNodes = AfterEveryRun (λ c moves. (p : ℕ) → FindsNode c.config (reached c moves) (chain_of c.config p) ((reached c moves).stand p).place)
+LinksNameNodes = AfterEveryRun (λ c moves. (p : ℕ) → FindsNode c.config (reached c moves) (chain_of c.config p) ((reached c moves).stand p).phase)
 
--- a scan at this place has read this many nodes, with the next one
-abbrev pub scan_reads : Place → ℕ
-scan_reads (Place.Sending job (Sending.ReadPassed parcel at reads)) = reads
+-- a scan in this phase has read this many nodes, with the next one
+abbrev pub scan_reads : Phase → ℕ
+scan_reads (Phase.Sending job (Sending.ReadPassed parcel at reads)) = reads
 scan_reads _ = 0
 
 -- a scan reads at most as many nodes as there are ordinary ones
 abbrev pub ScansAreShort : Type 0
-ScansAreShort = AfterEveryRun (λ c moves. (p : ℕ) → scan_reads ((reached c moves).stand p).place ≤ c.config.capacity + 1)
+ScansAreShort = AfterEveryRun (λ c moves. (p : ℕ) → scan_reads ((reached c moves).stand p).phase ≤ c.config.capacity + 1)
 
 -- a place is below this number, and a count of items at most so great
 abbrev pub AnswerWithin : ℕ → Answer → Type 0
@@ -185,10 +185,10 @@ StepsAreReady = AfterEveryRun (λ c moves. (p : ℕ) → p < passes c → IsRead
 
 -- what a call has read as its answer is the answer of its pass's last call in the history
 abbrev pub AnswersAreTold : Type 0
-AnswersAreTold = AfterEveryRun (λ c moves. (p : ℕ) (told : Answer) → p < passes c → ((reached c moves).stand p).place ≡ Place.Finished told → IsLastAnswer (pass_at c.config p) (history_of c moves) told)
+AnswersAreTold = AfterEveryRun (λ c moves. (p : ℕ) (told : Answer) → p < passes c → ((reached c moves).stand p).phase ≡ Phase.Finished told → IsLastAnswer (pass_at c.config p) (history_of c moves) told)
 
 -- ---- prefixes of runs, whatever is served
 
 -- a prefix of a run is a run, and its history begins the later one
-abbrev pub FrontsBegin : Type 0
-FrontsBegin = (c : Setting) (later earlier : List Move) → IsRun c (later ++ earlier) → IsRun c earlier × Begins (history_of c earlier) (history_of c (later ++ earlier))
+abbrev pub PrefixesBegin : Type 0
+PrefixesBegin = (c : Setting) (later earlier : List Move) → IsRun c (later ++ earlier) → IsRun c earlier × Begins (history_of c earlier) (history_of c (later ++ earlier))

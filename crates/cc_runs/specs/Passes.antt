@@ -27,15 +27,15 @@ then_did Event.Idle before = before
 -- the kinds of a pass's steps in a run, the newest first
 abbrev pub kinds : Setting → List Move → ℕ → List Kind
 kinds c [] p = []
-kinds c (Move.Step q ∷ earlier) p = if q == p then then_did (event_at ((reached c earlier).stand p).place) (kinds c earlier p) else kinds c earlier p
+kinds c (Move.Step q ∷ earlier) p = if q == p then then_did (event_at ((reached c earlier).stand p).phase) (kinds c earlier p) else kinds c earlier p
 kinds c (_ ∷ earlier) p = kinds c earlier p
 
--- moves of others alone leave a pass in its place, with the calls that it began and the steps that it did
+-- moves of others alone leave a pass in its phase, with the calls that it began and the steps that it did
 abbrev pub OthersLeaveAPass : Type 0
 OthersLeaveAPass = (c : Setting) (more seen : List Move) (p : ℕ) → by p more ≡ [] →
     ((reached c (more ++ seen)).stand p ≡ (reached c seen).stand p) × (made c (more ++ seen) p ≡ made c seen p) × (kinds c (more ++ seen) p ≡ kinds c seen p)
 
 -- of a prefix of a run a pass can know no more than of the run
-abbrev pub FrontsKnowNoMore : Type 0
-FrontsKnowNoMore = (c : Setting) → config_fault c.config ≡ Ok tt → (more seen : List Move) → IsRun c (more ++ seen) → (p : ℕ) →
+abbrev pub PrefixesKnowNoMore : Type 0
+PrefixesKnowNoMore = (c : Setting) → config_fault c.config ≡ Ok tt → (more seen : List Move) → IsRun c (more ++ seen) → (p : ℕ) →
     known_at (pass_at c.config p) (history_of c seen) ≤ known_at (pass_at c.config p) (history_of c (more ++ seen))

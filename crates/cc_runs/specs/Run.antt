@@ -1,6 +1,6 @@
 -- A run: begins, steps and answers taken, the newest first; its state, and its history.
 use Rattle.std.specs.Prelude.{◌≢◌, ℕ, ◌+◌, ◌*◌, ◌<◌, ◌≤◌, ◌==◌, nat_lt, if◌then◌else◌, List, [], ◌∷◌}
-use Rattle.cc_runs.specs.Names.{Config, Setting, Served, Call, Word, Object, ItemField, Chain, Event, Stand, Place, Move}
+use Rattle.cc_runs.specs.Names.{Config, Setting, Served, Call, Word, Object, ItemField, Chain, Event, Stand, Phase, Move}
 use Rattle.cc_model.specs.Body.{IsBody}
 use Rattle.cc_model.specs.Record.{Record, empty}
 use Rattle.cc_model.specs.Items.{known_at}
@@ -29,15 +29,15 @@ first_word c (Word.Object (Object.Head g)) = if nat_lt g (groups c) then 1 else 
 first_word c (Word.Item i ItemField.Passed) = if i == 0 then 0 else if nat_lt i (c.capacity + 1) then groups c else 0
 first_word c _ = 0
 
--- no pass has this place: what a list of places shows past its end
+-- no pass is like this: what a list of passes shows past its end
 abbrev pub nowhere : Stand
-nowhere = record { begun = 0; node = 0; place = Place.Idle }
+nowhere = record { begun = 0; node = 0; phase = Phase.Idle }
 
 -- the state at the opening: every pass is idle
 abbrev pub opening : Setting → State
 opening c = record {
   mem = first_word c.config;
-  stand = λ p. if nat_lt p (passes c) then record { begun = 0; node = first_node c.config p; place = Place.Idle } else nowhere;
+  stand = λ p. if nat_lt p (passes c) then record { begun = 0; node = first_node c.config p; phase = Phase.Idle } else nowhere;
   history = empty (groups c.config);
 }
 
@@ -56,12 +56,12 @@ abbrev pub begins : Config → ℕ → Call → ℕ → Stand → Stand
 begins c p call known at = record {
   begun = begun_after call at.begun;
   node = at.node;
-  place = Place.ResetNext record { pass = pass_at c p; call = call; number = number_of call at.begun; known = known };
+  phase = Phase.ResetNext record { pass = pass_at c p; call = call; number = number_of call at.begun; known = known };
 }
 
 -- a pass whose answer was taken
 abbrev pub rests : Stand → Stand
-rests at = record { begun = at.begun; node = at.node; place = Place.Idle }
+rests at = record { begun = at.begun; node = at.node; phase = Phase.Idle }
 
 -- the state after a move
 abbrev pub moved : Setting → State → Move → State
@@ -82,22 +82,22 @@ IsOn Served.List (Chain.Take g) Call.Take = Unit {0}
 IsOn _ _ _ = ⊥
 
 -- the pass has no call
-abbrev pub IsIdle : Place → Type 0
-IsIdle Place.Idle = Unit {0}
+abbrev pub IsIdle : Phase → Type 0
+IsIdle Phase.Idle = Unit {0}
 IsIdle _ = ⊥
 
 -- its call has read its answer
-abbrev pub IsFinished : Place → Type 0
-IsFinished (Place.Finished answer) = Unit {0}
+abbrev pub IsFinished : Phase → Type 0
+IsFinished (Phase.Finished answer) = Unit {0}
 IsFinished _ = ⊥
 
 -- A move that can be made. A pass begins no call while it has one, at most per_sender sends in all, and knows at most
 -- what there is to know; it steps if it has a step.
 abbrev pub May : Setting → State → Move → Type 0
 May c s (Move.Begin p call known) =
-    (p < passes c) × IsOn c.served (chain_of c.config p) call × IsIdle (s.stand p).place × (begun_after call (s.stand p).begun ≤ c.config.per_sender) × (known ≤ known_at (pass_at c.config p) s.history)
-May c s (Move.Step p) = (p < passes c) × (event_at (s.stand p).place ≢ Event.Idle)
-May c s (Move.Take p) = (p < passes c) × IsFinished (s.stand p).place
+    (p < passes c) × IsOn c.served (chain_of c.config p) call × IsIdle (s.stand p).phase × (begun_after call (s.stand p).begun ≤ c.config.per_sender) × (known ≤ known_at (pass_at c.config p) s.history)
+May c s (Move.Step p) = (p < passes c) × (event_at (s.stand p).phase ≢ Event.Idle)
+May c s (Move.Take p) = (p < passes c) × IsFinished (s.stand p).phase
 
 -- each move could be made in the state to which the earlier ones led
 abbrev pub IsRun : Setting → List Move → Type 0

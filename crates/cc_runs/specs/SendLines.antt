@@ -1,11 +1,11 @@
--- The service of a send or a close to the list: a line for each place of its combiner.
+-- The service of a send or a close to the list: a line for each phase of its combiner.
 use Rattle.std.specs.Prelude.{ℕ, zero, suc, ◌+◌, ◌-◌, ◌%◌, ◌==◌, if◌then◌else◌, Option}
-use Rattle.cc_runs.specs.Names.{Config, Answer, SendAnswer, CloseAnswer, Chain, NodeField, ItemField, Object, Word, Kind, Parcel, Request, Job, Place, Sending as Service}
-use Rattle.cc_runs.specs.declared.place.Sending.TheVariants.{ReadTag, ReadBody, ReadShut, ReadTotal, ReadCount, ReadLastToClose, LinkMark, WriteLastMark, WriteShut, ReadCursor, ReadPassed, ResetPassed, ResetItemNext, WriteItemTag, WriteItemBody, ReadLast, LinkItem, WriteLast, WriteCount, WriteCursor}
+use Rattle.cc_runs.specs.Names.{Config, Answer, SendAnswer, CloseAnswer, Chain, NodeField, ItemField, Object, Word, Kind, Parcel, Request, Job, Phase, Sending as Service}
+use Rattle.cc_runs.specs.declared.phase.Sending.TheVariants.{ReadTag, ReadBody, ReadShut, ReadTotal, ReadCount, ReadLastToClose, LinkMark, WriteLastMark, WriteShut, ReadCursor, ReadPassed, ResetPassed, ResetItemNext, WriteItemTag, WriteItemBody, ReadLast, LinkItem, WriteLast, WriteCount, WriteCursor}
 use Rattle.cc_runs.specs.Words.{groups}
 use Rattle.cc_runs.specs.Codes.{further_words, word, no_words, with_asked, behind}
 use Rattle.cc_runs.specs.State.{Operation}
-use Rattle.cc_runs.specs.ServiceLine.{ServiceLine, Next, On, Decides, DecidesAndOn, Tells, load, store, place_of, answer_of}
+use Rattle.cc_runs.specs.ServiceLine.{ServiceLine, Next, On, Decides, DecidesAndOn, Tells, load, store, phase_of, answer_of}
 
 -- the reserved list node
 abbrev pub mark : Config → ℕ
@@ -72,11 +72,11 @@ kind_of service = (line any_config 0 service 0).kind
 abbrev pub operation : Config → ℕ → Service → Operation
 operation c served service = (line c served service 0).does
 
-abbrev pub in_service : Job → Service → Place
-in_service job service = Place.Sending job service
+abbrev pub in_service : Job → Service → Phase
+in_service job service = Phase.Sending job service
 
-abbrev pub goes : Config → Job → Service → ℕ → Place
-goes c job service found = place_of in_service job (line c 0 service found).next
+abbrev pub goes : Config → Job → Service → ℕ → Phase
+goes c job service found = phase_of in_service job (line c 0 service found).next
 
 abbrev pub decides : Config → Service → ℕ → Option Answer
 decides c service found = answer_of (line c 0 service found).next

@@ -1,6 +1,6 @@
 -- The continuations of a service's step, and one line of the table of steps.
 use Rattle.std.specs.Prelude.{ℕ, Option, Some, None}
-use Rattle.cc_runs.specs.Names.{Answer, Kind, Job, Place, Word}
+use Rattle.cc_runs.specs.Names.{Answer, Kind, Job, Phase, Word}
 use Rattle.cc_runs.specs.State.{Operation, Load, Store, Add}
 
 -- A step of a service continues the service; or it decides the answer, which is written next; or both; or it leads to the
@@ -11,12 +11,12 @@ pub data Next (S : Type 0) : Type 0 where
   DecidesAndOn : Answer → S → Next S
   Tells : Answer → Next S
 
--- the place afterwards
-abbrev pub place_of : {S : Type 0} → (Job → S → Place) → Job → Next S → Place
-place_of in_service job (On service) = in_service job service
-place_of in_service job (Decides told) = Place.WriteAnswer job told
-place_of in_service job (DecidesAndOn told service) = in_service job service
-place_of in_service job (Tells told) = Place.WriteAnswer job told
+-- the phase afterwards
+abbrev pub phase_of : {S : Type 0} → (Job → S → Phase) → Job → Next S → Phase
+phase_of in_service job (On service) = in_service job service
+phase_of in_service job (Decides told) = Phase.WriteAnswer job told
+phase_of in_service job (DecidesAndOn told service) = in_service job service
+phase_of in_service job (Tells told) = Phase.WriteAnswer job told
 
 -- the answer that is decided
 abbrev pub answer_of : {S : Type 0} → Next S → Option Answer

@@ -4,7 +4,7 @@ use Rattle.cc_runs.specs.Names.{Config, Entry, Answer, Pass, Chain, Word, Stand}
 use Rattle.cc_model.specs.Record.{Side, Record, of_group, with_sends, with_takes}
 use Rattle.cc_runs.specs.Words.{put}
 
--- the value of each word, the place of each pass, and the calls that have exchanged with the answers decided so far
+-- the value of each word, the phase of each pass, and the calls that have exchanged with the answers decided so far
 pub record State : Type 0 where
   pub mem : Word → ℕ
   pub stand : ℕ → Stand
@@ -22,7 +22,7 @@ pass_at c p = if nat_lt p c.senders then Pass.Sender (p + 1) else Pass.Receiver 
 abbrev pub first_node : Config → ℕ → ℕ
 first_node c p = if nat_lt p c.senders then p + 1 else (p - c.senders) % c.receivers + 1
 
--- pass p is at this place, and every other pass at its own
+-- pass p is like this now, and every other pass as before
 abbrev pub hold : (ℕ → Stand) → ℕ → Stand → ℕ → Stand
 hold stands p stand q = if p == q then stand else stands q
 

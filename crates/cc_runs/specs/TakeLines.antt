@@ -1,10 +1,10 @@
--- The service of a take in group g: a line for each place of its combiner.
+-- The service of a take in group g: a line for each phase of its combiner.
 use Rattle.std.specs.Prelude.{ℕ, zero, suc, ◌+◌, ◌-◌, Option}
-use Rattle.cc_runs.specs.Names.{Answer, TakeAnswer, ItemField, Object, Word, Kind, Job, Place, Taking as Service}
-use Rattle.cc_runs.specs.declared.place.Taking.TheVariants.{ReadHead, ReadTaken, ReadDummyNext, ReadItemTag, ReadItemBody, WriteHead, WriteTaken, AddPassed}
+use Rattle.cc_runs.specs.Names.{Answer, TakeAnswer, ItemField, Object, Word, Kind, Job, Phase, Taking as Service}
+use Rattle.cc_runs.specs.declared.phase.Taking.TheVariants.{ReadHead, ReadTaken, ReadDummyNext, ReadItemTag, ReadItemBody, WriteHead, WriteTaken, AddPassed}
 use Rattle.cc_runs.specs.Codes.{item_in, further_words, no_words, parcel, with_read, behind}
 use Rattle.cc_runs.specs.State.{Operation}
-use Rattle.cc_runs.specs.ServiceLine.{ServiceLine, Next, On, Decides, load, store, add, place_of, answer_of}
+use Rattle.cc_runs.specs.ServiceLine.{ServiceLine, Next, On, Decides, load, store, add, phase_of, answer_of}
 
 -- if no node is after the dummy the list is empty
 abbrev pub by_next : ℕ → ℕ → ℕ → Next Service
@@ -34,11 +34,11 @@ kind_of service = (line 0 service 0).kind
 abbrev pub operation : ℕ → Service → Operation
 operation g service = (line g service 0).does
 
-abbrev pub in_service : Job → Service → Place
-in_service job service = Place.Taking job service
+abbrev pub in_service : Job → Service → Phase
+in_service job service = Phase.Taking job service
 
-abbrev pub goes : Job → Service → ℕ → Place
-goes job service found = place_of in_service job (line 0 service found).next
+abbrev pub goes : Job → Service → ℕ → Phase
+goes job service found = phase_of in_service job (line 0 service found).next
 
 abbrev pub decides : Service → ℕ → Option Answer
 decides service found = answer_of (line 0 service found).next

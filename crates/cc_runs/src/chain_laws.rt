@@ -1,3 +1,4 @@
+//! The laws of the combining chains, after every run.
 ghost use Rattle.cc_runs.specs.CallsMade.{CallsOfRuns, NumbersOfSends};
 ghost use Rattle.cc_runs.specs.ChainLaws.{ChainLawsOfRuns, CounterLawsOfRuns, CallsWaitForTheirLink, CallsEndAnswered};
 

@@ -1,3 +1,4 @@
+//! Why a machine or a queue isn't opened.
 ghost use Rattle.std.specs.Prelude.{◌≡◌};
 ghost use Rattle.cc_runs.specs.Names.{OpenFault};
 

@@ -1,4 +1,4 @@
-//! The runs of the queue's machine: its words, the place of a pass, what each atomic step does, and the laws of every run.
+//! The runs of the queue's machine: its words, the phase of a pass, what each atomic step does, and the laws of every run.
 //!
 //! A machine is one combining chain round a counter, or the queue, with the senders' and the receivers' chains round one
 //! list. The chains are CC-Synch, and the queue is CC-Queue (Fatourou and Kallimanis, PPoPP 2012), which puts them into
@@ -8,11 +8,11 @@
 #![tactic(auto)]
 
 mod chain_laws;
-mod codes;
+mod encoding;
 mod fault;
 mod linear_laws;
 mod list_laws;
-mod place;
+mod phase;
 mod run;
 mod run_laws;
 mod setting;
@@ -22,7 +22,7 @@ pub use chain_laws::{
     calls_end_answered, calls_wait_for_their_link, laws_of_calls, laws_of_chains, laws_of_counters,
     numbers_of_sends,
 };
-pub use codes::{
+pub use encoding::{
     CODE, body_in, body_words, count_word, further_words, item_of, list_reads, packed, request_in,
     ret_of, sender_reads, tag_of, words_in,
 };
@@ -32,15 +32,15 @@ pub use linear_laws::{
     runs_are_linearizable, small_orders_are_told_apart,
 };
 pub use list_laws::{
-    answers_are_told, busy_nodes_are_items, fronts_of_runs_begin, histories_are_fifo,
-    histories_are_legal, links_name_nodes, nodes_are_prepared_alone,
-    nodes_are_reset_after_their_take, numbers_stay_within, prepared_node_is_busy, scans_are_short,
+    answers_are_told, busy_nodes_are_items, histories_are_fifo, histories_are_legal,
+    links_name_nodes, nodes_are_prepared_alone, nodes_are_reset_after_their_take,
+    numbers_stay_within, prefixes_of_runs_begin, prepared_node_is_busy, scans_are_short,
     steps_are_ready,
 };
-pub use place::{
-    BodyWords, Counting, Event, Job, Kind, Parcel, Place, Request, Round, Sending, Stand, Taking,
+pub use phase::{
+    BodyWords, Counting, Event, Job, Kind, Parcel, Phase, Request, Round, Sending, Stand, Taking,
 };
 pub use run::Move;
-pub use run_laws::{fronts_know_no_more, others_leave_a_pass};
+pub use run_laws::{others_leave_a_pass, prefixes_know_no_more};
 pub use setting::{Served, Setting};
 pub use word::{Chain, ItemField, NodeField, Object, Word, address, node_after};

@@ -1,3 +1,4 @@
+//! Every run is linearizable, the orders of its calls agree with real time, and small orders show which answers are right.
 ghost use Rattle.cc_runs.specs.Linearizable.{ExactOrdersGoOn, RunsAreLinearizable, OrdersAgree, OrderKeepsTime, OrderIsRealTime};
 ghost use Rattle.cc_runs.specs.SmallOrders.{SmallOrders};
 

@@ -1,4 +1,5 @@
-ghost use Rattle.cc_runs.specs.MachineLaws.{HistoryIsLegal, HistoryIsFifo, BusyNodesAreItems, PreparedNodeIsBusy, ResetAfterTheTake, PreparedAlone, LinksNameNodes, ScansAreShort, NumbersStayWithin, StepsAreReady, AnswersAreTold, FrontsBegin};
+//! The laws of the list and of the history, after every run.
+ghost use Rattle.cc_runs.specs.MachineLaws.{HistoryIsLegal, HistoryIsFifo, BusyNodesAreItems, PreparedNodeIsBusy, ResetAfterTheTake, PreparedAlone, LinksNameNodes, ScansAreShort, NumbersStayWithin, StepsAreReady, AnswersAreTold, PrefixesBegin};
 
 /// After every run the history is legal: each answer is one that its call may get, and the items handed out are those
 /// accepted, in their order, with at most `capacity` of them between.
@@ -69,6 +70,6 @@ pub fn answers_are_told()
 {}
 
 /// A prefix of a run is a run, and its history begins that of the whole run: calls and answers are only added.
-pub fn fronts_of_runs_begin()
-    ensures { FrontsBegin }
+pub fn prefixes_of_runs_begin()
+    ensures { PrefixesBegin }
 {}

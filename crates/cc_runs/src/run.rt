@@ -1,3 +1,4 @@
+//! The moves of a run.
 use cc_model::Call;
 
 /// A move of a run, by the pass's place in the row of all passes. No value of it is made: it is what a thread that steps

@@ -1,3 +1,4 @@
+//! The words of a topic's table, and the address of each.
 ghost use Rattle.std.specs.Prelude.{◌+◌, ◌%◌, ◌^◌, ◌≡◌, ◌<◌, IsTrue};
 ghost use Rattle.cc_runs.specs.Words as laid;
 ghost use Rattle.cc_runs.specs.Words.{IsSmall, layout_of, exists, size, node_field, item_field, is_node_field, is_item_field};

@@ -1,6 +1,6 @@
 -- The answer that a pass reads is that of its last call in the history.
 use Rattle.std.proofs.Common.{◌≡◌, ℕ, List, ◌∷◌, ◌++◌, None, sym, ap, ◌∙◌, subst}
-use Rattle.cc_steps.specs.Names.{Move, Setting, Stand, Place, Served}
+use Rattle.cc_steps.specs.Names.{Move, Setting, Stand, Phase, Served}
 use Rattle.cc_runs.specs.State.{chain_of, pass_at, word_of}
 use Rattle.cc_runs.specs.Step.{advanced}
 use Rattle.cc_runs.specs.Run.{IsRun, history_of}
@@ -22,20 +22,20 @@ module _ (v : Walk) (found : ℕ) (w : Walk) (f : Found v None found w) (list : 
   abbrev Log : List Move
   Log = f.walked.between ++ v.seen
 
-  leads : (stand_in C (Move.Step P ∷ Log) P).place ≡ leads_to v found
+  leads : (stand_in C (Move.Step P ∷ Log) P).phase ≡ leads_to v found
   leads =
-      ap (λ (x : Stand). x.place) (stepped_stand C P Log)
-      ∙ ap (λ (x : Stand). (advanced C (chain_of C.config P) x (word_in C Log (word_of (does_at C P x)))).place) (stands v w None found f.walked step)
+      ap (λ (x : Stand). x.phase) (stepped_stand C P Log)
+      ∙ ap (λ (x : Stand). (advanced C (chain_of C.config P) x (word_in C Log (word_of (does_at C P x)))).phase) (stands v w None found f.walked step)
       ∙ ap (λ (n : ℕ). leads_to v n) (sym f.found_is)
 
   run_stepped : IsRun C (Move.Step P ∷ Log)
   run_stepped = of_taken C P (Move.Step P ∷ Log) _ (subst (IsRun C) f.walked.seen (run_then v w None found f.walked step))
 
-  told_then : (at : Place) → (stand_in C (Move.Step P ∷ Log) P).place ≡ at → IsToldAt w at
+  told_then : (at : Phase) → (stand_in C (Move.Step P ∷ Log) P).phase ≡ at → IsToldAt w at
   unfolding stand_in
-  told_then (Place.Finished told) is =
+  told_then (Phase.Finished told) is =
       subst (λ (x : Setting × ℕ × Record). IsLastAnswer (pass_at x.0.config x.1) x.2 told)
-      (λ i. (sym (same v w None found f.walked step) i, sym (number v w None found f.walked step) i, (sym (taken_history C P (Move.Step P ∷ Log) (stand_in C (Move.Step P ∷ Log) P).place) ∙ (λ j. history_of (sym (same v w None found f.walked step) j) (sym f.walked.seen j))) i))
+      (λ i. (sym (same v w None found f.walked step) i, sym (number v w None found f.walked step) i, (sym (taken_history C P (Move.Step P ∷ Log) (stand_in C (Move.Step P ∷ Log) P).phase) ∙ (λ j. history_of (sym (same v w None found f.walked step) j) (sym f.walked.seen j))) i))
       (list_answer C list (checked v w None found f.walked step) (Move.Step P ∷ Log) run_stepped P (below v w None found f.walked step) told is)
   told_then _ is = tt
 

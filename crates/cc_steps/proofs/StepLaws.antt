@@ -1,7 +1,7 @@
 -- The laws of every run about one step: nodes that are used again, and calls that wait for their link.
 use Rattle.std.proofs.Common.{◌≡◌, ℕ, List, ◌∷◌, ◌++◌, Option, Some, None, refl, sym, ap, ◌∙◌, subst}
 use Rattle.cc_model.specs.Record.{Record}
-use Rattle.cc_steps.specs.Names.{Call, Move, Setting, Served, Chain, ItemField, NodeField, Word, Kind, Event, Place, Counting, Sending, Taking, Stand}
+use Rattle.cc_steps.specs.Names.{Call, Move, Setting, Served, Chain, ItemField, NodeField, Word, Kind, Event, Phase, Counting, Sending, Taking, Stand}
 use Rattle.cc_runs.proofs.Chains.Facts.{noted_none}
 use Rattle.cc_runs.specs.State.{Operation, Store, chain_of, pass_at, word_of, noted}
 use Rattle.cc_runs.specs.Lines.{operation, event_at, goes, enters, decides}
@@ -19,32 +19,32 @@ use Rattle.cc_steps.proofs.Runs.{taken_history}
 use Rattle.cc_steps.proofs.StepFacts.{same, number, checked, below, run_then, run_here, stands, stands_then}
 
 -- the step is a reset of this node, and leads on to its preparation
-resets_at : (c : Setting) (x : Chain) (b own n : ℕ) (f : ItemField) (at : Place) → event_at at ≡ Event.Did Kind.ResetListNode → operation c x own at ≡ Store (Word.Item n f) 0 → Resets at n × Prepares (goes c x own at 0) n
-resets_at c x b own n f (Place.Sending job (Sending.ResetPassed parcel at)) e o = let is : at ≡ n = cc o in (is, is)
-resets_at c x b own n f (Place.Sending job (Sending.ResetItemNext parcel at)) e o = let is : at ≡ n = cc o in (is, is)
-resets_at c x b own n f (Place.Counting job Counting.ReadTag) e o = absurd (cc e)
-resets_at c x b own n f (Place.Taking job Taking.ReadHead) e o = absurd (cc e)
+resets_at : (c : Setting) (x : Chain) (b own n : ℕ) (f : ItemField) (at : Phase) → event_at at ≡ Event.Did Kind.ResetListNode → operation c x own at ≡ Store (Word.Item n f) 0 → Resets at n × Prepares (goes c x own at 0) n
+resets_at c x b own n f (Phase.Sending job (Sending.ResetPassed parcel at)) e o = let is : at ≡ n = cc o in (is, is)
+resets_at c x b own n f (Phase.Sending job (Sending.ResetItemNext parcel at)) e o = let is : at ≡ n = cc o in (is, is)
+resets_at c x b own n f (Phase.Counting job Counting.ReadTag) e o = absurd (cc e)
+resets_at c x b own n f (Phase.Taking job Taking.ReadHead) e o = absurd (cc e)
 resets_at c x b own n f _ e o = absurd (cc e)
 
 -- the node that is reset is the pass's own
-owns_at : (c : Setting) (x y : Chain) (own n : ℕ) (at : Place) → event_at at ≡ Event.Did Kind.ResetState → operation c x own at ≡ Store (Word.Node y n NodeField.State) 1 → (x ≡ y) × (own ≡ n)
-owns_at c x y own n (Place.ResetState call) e o = (cc o, cc o)
-owns_at c x y own n (Place.Counting job Counting.ReadTag) e o = absurd (cc e)
-owns_at c x y own n (Place.Sending job Sending.ReadTag) e o = absurd (cc e)
-owns_at c x y own n (Place.Taking job Taking.ReadHead) e o = absurd (cc e)
+owns_at : (c : Setting) (x y : Chain) (own n : ℕ) (at : Phase) → event_at at ≡ Event.Did Kind.ResetState → operation c x own at ≡ Store (Word.Node y n NodeField.State) 1 → (x ≡ y) × (own ≡ n)
+owns_at c x y own n (Phase.ResetState call) e o = (cc o, cc o)
+owns_at c x y own n (Phase.Counting job Counting.ReadTag) e o = absurd (cc e)
+owns_at c x y own n (Phase.Sending job Sending.ReadTag) e o = absurd (cc e)
+owns_at c x y own n (Phase.Taking job Taking.ReadHead) e o = absurd (cc e)
 owns_at c x y own n _ e o = absurd (cc e)
 
 -- a link puts nothing into the history, and its call has exchanged
-links_at : (c : Setting) (x : Chain) (h : Record) (at : Place) (found : ℕ) → event_at at ≡ Event.Did Kind.Link → IsEntering at × (noted x h (enters at) (decides c at found) ≡ h)
-links_at c x h (Place.Link put) found e = (tt, noted_none x h)
-links_at c x h (Place.Counting job Counting.ReadTag) found e = absurd (cc e)
-links_at c x h (Place.Sending job Sending.ReadTag) found e = absurd (cc e)
-links_at c x h (Place.Taking job Taking.ReadHead) found e = absurd (cc e)
+links_at : (c : Setting) (x : Chain) (h : Record) (at : Phase) (found : ℕ) → event_at at ≡ Event.Did Kind.Link → IsEntering at × (noted x h (enters at) (decides c at found) ≡ h)
+links_at c x h (Phase.Link put) found e = (tt, noted_none x h)
+links_at c x h (Phase.Counting job Counting.ReadTag) found e = absurd (cc e)
+links_at c x h (Phase.Sending job Sending.ReadTag) found e = absurd (cc e)
+links_at c x h (Phase.Taking job Taking.ReadHead) found e = absurd (cc e)
 links_at c x h _ found e = absurd (cc e)
 
-still_prepares : (n : ℕ) (pl : Place) (at : Stand) → at.place ≡ pl → Prepares pl n → Prepares (rested pl at).place n
-still_prepares n (Place.Finished told) at is p = absurd p
-still_prepares n _ at is p = subst (λ (x : Place). Prepares x n) (sym is) p
+still_prepares : (n : ℕ) (pl : Phase) (at : Stand) → at.phase ≡ pl → Prepares pl n → Prepares (rested pl at).phase n
+still_prepares n (Phase.Finished told) at is p = absurd p
+still_prepares n _ at is p = subst (λ (x : Phase). Prepares x n) (sym is) p
 
 -- a store, which may be the first step of a call
 module _ (v w : Walk) (call : Option Call) (k : Walked v call w) (step : w ≡ walked_to v call 0 w.seen) where
@@ -75,26 +75,26 @@ module _ (v w : Walk) (k : Walked v None w) (step : w ≡ walked_to v None 0 w.s
   Before = k.between ++ v.seen
 
   pub owned : (y : Chain) (n : ℕ) → Steps v Kind.ResetState (Store (Word.Node y n NodeField.State) 1) → HasOwned v None y n w
-  owned y n can = owned_as v w None k step y n (owns_at D (chain_of D.config v.number) y v.stand.node n v.stand.place can.0 can.1)
+  owned y n can = owned_as v w None k step y n (owns_at D (chain_of D.config v.number) y v.stand.node n v.stand.phase can.0 can.1)
 
   pub reused : (n : ℕ) (f : ItemField) → D.served ≡ Served.List → Steps v Kind.ResetListNode (Store (Word.Item n f) 0) → HasReused v n w
   unfolding stand_in
   reused n f list can =
-      let r = resets_at D (chain_of D.config v.number) v.stand.begun v.stand.node n f v.stand.place can.0 can.1 in
+      let r = resets_at D (chain_of D.config v.number) v.stand.begun v.stand.node n f v.stand.phase can.0 can.1 in
       record {
         between = k.between;
         others = k.others;
         seen = k.seen;
-        passed = λ j at. reset_after_the_take D Before list (checked v w None 0 k step) (run_here v w None 0 k step) v.number n j (subst (λ (x : Stand). Resets x.place n) (sym (stands v w None 0 k step)) r.0) at;
+        passed = λ j at. reset_after_the_take D Before list (checked v w None 0 k step) (run_here v w None 0 k step) v.number n j (subst (λ (x : Stand). Resets x.phase n) (sym (stands v w None 0 k step)) r.0) at;
         alone = λ q holds. prepared_alone D w.seen list (checked v w None 0 k step) (run_then v w None 0 k step) v.number q n
-            (subst (λ (x : Stand). Prepares x.place n) (sym (stands_then v w None 0 k step)) (still_prepares n _ (advanced D (chain_of D.config v.number) v.stand 0) refl r.1)) holds;
+            (subst (λ (x : Stand). Prepares x.phase n) (sym (stands_then v w None 0 k step)) (still_prepares n _ (advanced D (chain_of D.config v.number) v.stand 0) refl r.1)) holds;
       }
 
   pub pending : (op : Operation) → Steps v Kind.Link op → IsPendingIn w
   unfolding stand_in word_in
   pending op can =
-      let link : event_at (stand_in D Before v.number).place ≡ Event.Did Kind.Link = subst (λ (x : Stand). event_at x.place ≡ Event.Did Kind.Link) (sym (stands v w None 0 k step)) can.0 in
-      let l = links_at D (chain_of D.config v.number) (history_of D Before) (stand_in D Before v.number).place (word_in D Before (word_of (does_at D v.number (stand_in D Before v.number)))) link in
-      let history : history_of D w.seen ≡ history_of D Before = ap (history_of D) k.seen ∙ taken_history D v.number (Move.Step v.number ∷ Before) (stand_in D (Move.Step v.number ∷ Before) v.number).place ∙ l.1 in
+      let link : event_at (stand_in D Before v.number).phase ≡ Event.Did Kind.Link = subst (λ (x : Stand). event_at x.phase ≡ Event.Did Kind.Link) (sym (stands v w None 0 k step)) can.0 in
+      let l = links_at D (chain_of D.config v.number) (history_of D Before) (stand_in D Before v.number).phase (word_in D Before (word_of (does_at D v.number (stand_in D Before v.number)))) link in
+      let history : history_of D w.seen ≡ history_of D Before = ap (history_of D) k.seen ∙ taken_history D v.number (Move.Step v.number ∷ Before) (stand_in D (Move.Step v.number ∷ Before) v.number).phase ∙ l.1 in
       subst (λ (x : Setting × ℕ × Record). IsLastPending (pass_at x.0.config x.1) x.2) (λ i. (sym (same v w None 0 k step) i, sym (number v w None 0 k step) i, (sym history ∙ (λ j. history_of (sym (same v w None 0 k step) j) w.seen)) i))
       (calls_wait D (checked v w None 0 k step) Before (run_here v w None 0 k step) v.number (below v w None 0 k step) l.0)

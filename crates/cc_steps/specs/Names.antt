@@ -1,14 +1,14 @@
--- The types that specs, proofs and contracts of this crate speak of. A variant comes after its type, as `Place.Idle`.
+-- The types that specs, proofs and contracts of this crate speak of. A variant comes after its type, as `Phase.Idle`.
 pub use Rattle.cc_model.specs.declared.call.Call.{Call}
 pub use Rattle.cc_model.specs.declared.call.Entry.{Entry}
 pub use Rattle.cc_model.specs.declared.config.Config.{Config}
-pub use Rattle.cc_runs.specs.declared.place.Kind.{Kind}
-pub use Rattle.cc_runs.specs.declared.place.Event.{Event}
-pub use Rattle.cc_runs.specs.declared.place.Counting.{Counting}
-pub use Rattle.cc_runs.specs.declared.place.Sending.{Sending}
-pub use Rattle.cc_runs.specs.declared.place.Taking.{Taking}
-pub use Rattle.cc_runs.specs.declared.place.Place.{Place}
-pub use Rattle.cc_runs.specs.declared.place.Stand.{Stand}
+pub use Rattle.cc_runs.specs.declared.phase.Kind.{Kind}
+pub use Rattle.cc_runs.specs.declared.phase.Event.{Event}
+pub use Rattle.cc_runs.specs.declared.phase.Counting.{Counting}
+pub use Rattle.cc_runs.specs.declared.phase.Sending.{Sending}
+pub use Rattle.cc_runs.specs.declared.phase.Taking.{Taking}
+pub use Rattle.cc_runs.specs.declared.phase.Phase.{Phase}
+pub use Rattle.cc_runs.specs.declared.phase.Stand.{Stand}
 pub use Rattle.cc_runs.specs.declared.run.Move.{Move}
 pub use Rattle.cc_runs.specs.declared.setting.Served.{Served}
 pub use Rattle.cc_runs.specs.declared.setting.Setting.{Setting}

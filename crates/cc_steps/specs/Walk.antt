@@ -1,15 +1,15 @@
--- A contract sees of a seat its pass, the run that it has seen, and the place of its pass.
+-- A contract sees of a seat its pass, the run that it has seen, and the phase of its pass.
 use Rattle.std.specs.Prelude.{◌≡◌, ◌≢◌, ℕ, ◌+◌, ◌<◌, List, [], ◌∷◌, ◌++◌, IsTrue, Option, Some, Ok}
 use Rattle.atomic_table.specs.Seated.{TableId}
 use Rattle.atomic_table.specs.declared.shared.Seat.{Seat}
 use Rattle.cc_model.specs.Config.{config_fault}
-use Rattle.cc_steps.specs.Names.{Call, Entry, Setting, Stand, Place, Kind, Event, Move, View, Role}
+use Rattle.cc_steps.specs.Names.{Call, Entry, Setting, Stand, Phase, Kind, Event, Move, View, Role}
 use Rattle.cc_runs.specs.Words.{layout_of, exists}
 use Rattle.cc_runs.specs.State.{Operation, chain_of, pass_at, first_node, word_of}
 use Rattle.cc_runs.specs.Lines.{event_at, goes}
 use Rattle.cc_runs.specs.ChainLaws.{IsLastAnswer}
 use Rattle.cc_runs.specs.ChainLaws.{IsLastPending}
-use Rattle.cc_runs.specs.Ready.{IsPlaceSafe}
+use Rattle.cc_runs.specs.Ready.{IsPhaseSafe}
 use Rattle.cc_runs.specs.Passes.{by, then_did}
 use Rattle.cc_runs.specs.Run.{IsRun, passes, history_of}
 use Rattle.cc_steps.specs.Topic.{Topic}
@@ -17,7 +17,7 @@ use Rattle.cc_steps.specs.Seen.{Onward, Later, Covers, stand_in, word_in, entere
 use Rattle.cc_steps.specs.Shown.{CanStart, stand_of, longer}
 
 -- A pass as plain data: its table and setting, its number in the row of all passes (senders first, from 0), the run that it
--- has seen, its place with its registers, the calls that it began, and the kinds of its steps, the newest first.
+-- has seen, its phase with its registers, the calls that it began, and the kinds of its steps, the newest first.
 pub record Walk : Type 0 where
   pub table_id : TableId
   pub setting : Setting
@@ -27,7 +27,7 @@ pub record Walk : Type 0 where
   pub made : List Entry
   pub did : List Kind
 
--- the data of a view: place, calls and kinds are those of the run that it has seen
+-- the data of a view: phase, calls and kinds are those of the run that it has seen
 abbrev pub walk_of : TableId → View → Walk
 walk_of z v = record {
   table_id = z;
@@ -66,7 +66,7 @@ fresh z p = record {
   setting = z.setting;
   number = p;
   seen = [];
-  stand = record { begun = 0; node = first_node z.setting.config p; place = Place.Idle };
+  stand = record { begun = 0; node = first_node z.setting.config p; phase = Phase.Idle };
   made = [];
   did = [];
 }
@@ -78,13 +78,13 @@ fresh_from z p (w ∷ ws) = (w ≡ fresh z p) × fresh_from z (p + 1) ws
 
 -- the next step of the pass does this
 abbrev pub CanDo : Walk → Operation → Type 0
-CanDo v op = (event_at v.stand.place ≢ Event.Idle) × (does_at v.setting v.number v.stand ≡ op)
+CanDo v op = (event_at v.stand.phase ≢ Event.Idle) × (does_at v.setting v.number v.stand ≡ op)
 
 -- the next step of the pass is of this kind, and does this
 abbrev pub Steps : Walk → Kind → Operation → Type 0
-Steps v kind op = (event_at v.stand.place ≡ Event.Did kind) × (does_at v.setting v.number v.stand ≡ op)
+Steps v kind op = (event_at v.stand.phase ≡ Event.Did kind) × (does_at v.setting v.number v.stand ≡ op)
 
--- the place of the pass in its step
+-- the phase of the pass in its step
 abbrev pub stepping : Walk → Option Call → Stand
 stepping v call = entered v.setting v.number v.seen call v.stand
 
@@ -92,7 +92,7 @@ stepping v call = entered v.setting v.number v.seen call v.stand
 abbrev pub CanBegin : Walk → Call → Operation → Type 0
 CanBegin v call op = CanStart v.setting v.number (Some call) v.stand × (does_at v.setting v.number (stepping v (Some call)) ≡ op)
 
--- the place of the pass after its step, of what that found
+-- the phase of the pass after its step, of what that found
 abbrev pub next_stand : Walk → Option Call → ℕ → Stand
 next_stand v call found = after_step v.setting v.number (stepping v call) found
 
@@ -105,12 +105,12 @@ walked_to v call found seen = record {
   seen = seen;
   stand = next_stand v call found;
   made = with_begun v.setting v.number v.seen call v.stand v.made;
-  did = then_did (event_at (stepping v call).place) v.did;
+  did = then_did (event_at (stepping v call).phase) v.did;
 }
 
 -- as far as the pass has seen, the word of its next step is there, and no number of it leaves its range
 abbrev pub IsReadyToStep : Walk → Type 0
-IsReadyToStep w = IsTrue (exists (layout_of w.setting.config) (word_of (does_at w.setting w.number w.stand))) × IsPlaceSafe w.setting w.stand.node (word_in w.setting w.seen (word_of (does_at w.setting w.number w.stand))) w.stand.place
+IsReadyToStep w = IsTrue (exists (layout_of w.setting.config) (word_of (does_at w.setting w.number w.stand))) × IsPhaseSafe w.setting w.stand.node (word_in w.setting w.seen (word_of (does_at w.setting w.number w.stand))) w.stand.phase
 
 -- the data of the pass are those in the run that it has seen
 abbrev pub IsTrueTo : Walk → Type 0
@@ -133,7 +133,7 @@ pub record Walked (v : Walk) (call : Option Call) (w : Walk) : Type 0 where
 pub record Found (v : Walk) (call : Option Call) (found : ℕ) (w : Walk) : Type 0 where
   pub walked : Walked v call w
   pub found_is : found ≡ word_in v.setting (walked.between ++ v.seen) (word_of (does_at v.setting v.number (stepping v call)))
-  pub safe : IsPlaceSafe v.setting (stepping v call).node found (stepping v call).place
+  pub safe : IsPhaseSafe v.setting (stepping v call).node found (stepping v call).phase
 
 -- It has seen the longer of its own run and another, and that goes on from both. It did nothing.
 pub record HasLooked (v : Walk) (other : List Move) (w : Walk) : Type 0 where
@@ -149,17 +149,17 @@ abbrev pub IsPendingIn : Walk → Type 0
 IsPendingIn w = IsLastPending (pass_at w.setting.config w.number) (history_of w.setting w.seen)
 
 -- an answer that was read and taken is the answer of the pass's last call, in the history of what it has seen
-abbrev pub IsToldAt : Walk → Place → Type 0
-IsToldAt w (Place.Finished told) = IsLastAnswer (pass_at w.setting.config w.number) (history_of w.setting w.seen) told
+abbrev pub IsToldAt : Walk → Phase → Type 0
+IsToldAt w (Phase.Finished told) = IsLastAnswer (pass_at w.setting.config w.number) (history_of w.setting w.seen) told
 IsToldAt w _ = Unit {0}
 
--- the next place of the step, before an answer is taken
-abbrev pub leads_to : Walk → ℕ → Place
-leads_to v found = goes v.setting (chain_of v.setting.config v.number) v.stand.node v.stand.place found
+-- the next phase of the step, before an answer is taken
+abbrev pub leads_to : Walk → ℕ → Phase
+leads_to v found = goes v.setting (chain_of v.setting.config v.number) v.stand.node v.stand.phase found
 
 -- a combiner that has served nobody yet finds its own node linked
-abbrev pub LinksOwn : Place → ℕ → Type 0
-LinksOwn (Place.ReadNext round) found = round.served ≡ 0 → 0 < found
+abbrev pub LinksOwn : Phase → ℕ → Type 0
+LinksOwn (Phase.ReadNext round) found = round.served ≡ 0 → 0 < found
 LinksOwn _ found = Unit {0}
 
 -- Of every seat of a pass holds: its topic's configuration was checked, it is one of the topic's passes, it has seen a run,

@@ -12,9 +12,9 @@ use atomic_table::{Join, Play, Seat, Split};
 use std::marker::Model;
 
 /// A part with the run that was seen is cut off a view.
-struct Cut;
+struct SplitRun;
 
-impl Split<View> for Cut {
+impl Split<View> for SplitRun {
     ghost use Rattle.cc_steps.specs.Shown.{part};
 
     ghost left = { λ v. v };
@@ -68,7 +68,7 @@ pub fn make_note(words: &Words, from: &mut PassSeat) -> Note
 {
     let source = &mut from.seat;
     let shared = &words.table.shared;
-    let part = shared.split_seat::<Cut>(source);
+    let part = shared.split_seat::<SplitRun>(source);
     Note { seat: part }
 }
 
@@ -81,7 +81,7 @@ pub fn again(words: &Words, note: &mut Note) -> Note
 {
     let source = &mut note.seat;
     let shared = &words.table.shared;
-    let part = shared.split_seat::<Cut>(source);
+    let part = shared.split_seat::<SplitRun>(source);
     Note { seat: part }
 }
 

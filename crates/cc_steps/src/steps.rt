@@ -7,7 +7,7 @@
 //!
 //! - `walked` or `found`: moves of other passes came in between, and then this one; the seat has seen that run; and what a
 //!   load found is what the word held in it;
-//! - `step`: the pass is at the next place of the machine's step, with the calls that it began and this kind added to those
+//! - `step`: the pass is in the next phase of the machine's step, with the calls that it began and this kind added to those
 //!   that it did;
 //! - `later`: what was seen before begins what is seen now.
 ghost use Rattle.std.specs.Prelude.{◌≡◌, ◌+◌, ◌<◌, ◌^◌, Some, None};
@@ -117,7 +117,7 @@ pub fn read_next(words: &Words, seat: &mut PassSeat, chain: Chain, node: u64) ->
     ensures found { Found seat.old None result seat.new }
     ensures step { seat.new ≡ walked_to seat.old None result seat.new.seen }
     ensures later { Onward seat.old.seen seat.new.seen }
-    ensures own { LinksOwn seat.old.stand.place result }
+    ensures own { LinksOwn seat.old.stand.phase result }
 {
     operations::load(words, seat, Word::Node(chain, node, NodeField::Next))
 }

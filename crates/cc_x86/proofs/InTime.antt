@@ -36,7 +36,7 @@ module _ (c : Setting) (asks : ℕ → Ask) where
   moves_add [] ts = ([], refl)
   moves_add (t ∷ now) ts =
       let before = moves_add now ts in
-      let m : Move = move_at asks t ((atomic.reached (passes_as_threads c asks) (opened c) (now ++ ts)).own t.thread).place in
+      let m : Move = move_at asks t ((atomic.reached (passes_as_threads c asks) (opened c) (now ++ ts)).own t.thread).phase in
       (m ∷ before.0, ap (λ (l : List Move). m ∷ l) before.1)
 
   in_order_adds : (plain : Plain Stand) (later seen : List buffers.Move) → (more : List Move) × (in_order c asks plain (later ++ seen) ≡ more ++ in_order c asks plain seen)

@@ -5,7 +5,7 @@ use Rattle.cc_x86.specs.Buffered.{Plain}
 use Rattle.cc_x86.specs.Fenced.{IsFenced, turns}
 use Rattle.cc_model.specs.Config.{config_fault}
 use Rattle.cc_model.specs.Legal.{Legal}
-use Rattle.cc_x86.specs.Names.{Setting, Served, Answer, Place, Stand, Move}
+use Rattle.cc_x86.specs.Names.{Setting, Served, Answer, Phase, Stand, Move}
 use Rattle.cc_runs.specs.State.{pass_at}
 use Rattle.cc_runs.specs.ChainLaws.{IsLastAnswer}
 use Rattle.cc_runs.specs.Linearizable.{IsLinearizable}
@@ -45,7 +45,7 @@ RunsAreThoseOfAtomicSteps = WithBuffers IsTheRun
 pub record IsLegalOnX86 (c : Setting) (asks : ℕ → Ask) (plain : Plain Stand) (moves : List buffers.Move) : Type 0 where
   pub legal : Legal c.config (history_of c (in_order c asks plain moves))
   pub told : (p : ℕ) (answer : Answer) → p < passes c
-      → ((buffers.arrived (passes_as_threads c asks) plain (opened c) moves).own p).place ≡ Place.Finished answer
+      → ((buffers.arrived (passes_as_threads c asks) plain (opened c) moves).own p).phase ≡ Phase.Finished answer
       → IsLastAnswer (pass_at c.config p) (history_of c (in_order c asks plain moves)) answer
 
 abbrev pub HistoryIsLegalOnX86 : Type 0

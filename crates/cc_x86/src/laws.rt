@@ -1,3 +1,4 @@
+//! The laws of threads with store buffers: fenced plain stores are not seen, so the laws of runs hold on x86-TSO.
 ghost use Rattle.cc_x86.specs.Fenced.{BuffersAreNotSeen, MostAreFenced};
 ghost use Rattle.cc_x86.specs.OnX86.{HistoryIsLegalOnX86, RunsAreLinearizableOnX86, RunsAreThoseOfAtomicSteps};
 ghost use Rattle.std.specs.Prelude.{ℕ};

@@ -1,3 +1,4 @@
+//! Two litmus tests of the model of store buffers.
 ghost use Rattle.cc_x86.specs.Litmus.{MessagePassing, StoreBuffering};
 
 /// Without the discipline buffers are seen: two threads each write a word and then read the other's, and both may miss what

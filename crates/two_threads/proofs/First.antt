@@ -4,8 +4,8 @@ use Rattle.std.proofs.lemmas.List.{length-map}
 use Rattle.std.specs.List.{slice_get, AllByRecursion}
 use Rattle.cc_model.specs.Config.{group_of}
 use Rattle.cc_model.specs.Record.{Side, Record, of_group}
-use Rattle.cc_model.specs.Items.{IsFront, accepted, accepted_by, accepted_item, sent_item, handed_by, is_pass, is_shut, calls_of}
-use Rattle.cc_model.specs.Legal.{DAnswer, DAnswers, IsSenders, IsReceivers}
+use Rattle.cc_model.specs.Items.{IsPrefix, accepted, accepted_by, accepted_item, sent_item, handed_by, is_pass, is_shut, calls_of}
+use Rattle.cc_model.specs.Legal.{TakeSideAnswer, TakeSideAnswers, IsSenders, IsReceivers}
 use Rattle.cc_model.specs.Fresh.{IsAnswered}
 use Rattle.cc_model.specs.After.{side_of, Tells}
 use Rattle.cc_model.proofs.Fresh.{all_at, d_at, front}
@@ -77,7 +77,7 @@ Gets n told = (item : Item) × (told ≡ TakeAnswer.Got item) × IsFirst n item
 pub got_it : (n : Noted) (told : TakeAnswer) (item : Item) → Gets n told → told ≡ TakeAnswer.Got item → IsFirst n item
 got_it n told item t is = let both : TakeAnswer.Got t.0 ≡ TakeAnswer.Got item = sym t.1 ∙ is in let same : t.0 ≡ item = cc in subst (IsFirst n) same t.2
 
-front_first : (xs ys : List Item) (x y : Item) → IsFront xs ys → slice_get xs 0 ≡ Some x → slice_get ys 0 ≡ Some y → x ≡ y
+front_first : (xs ys : List Item) (x y : Item) → IsPrefix xs ys → slice_get xs 0 ≡ Some x → slice_get ys 0 ≡ Some y → x ≡ y
 front_first [] ys x y f is at = cc
 front_first (z ∷ xs) ys x y f is at =
     let whole : ys ≡ z ∷ (xs ++ f.0) = f.1 in
@@ -90,7 +90,7 @@ some_items : (xs : List Item) (x : Item) → slice_get xs 0 ≡ Some x → 0 < l
 some_items [] x is = cc
 some_items (y ∷ xs) x is = omega arith
 
-gets_first : (cfg : Config) (n : Noted) (later : Record) (who : Pass) (told : TakeAnswer) (known : ℕ) → IsFront (accepted (noted_history n)) (accepted later) → HasFirst n → Tells cfg (noted_history n) later who [] (Answer.Take told) → DAnswer (accepted later) (is_shut later) 0 known (Answer.Take told) → Gets n told
+gets_first : (cfg : Config) (n : Noted) (later : Record) (who : Pass) (told : TakeAnswer) (known : ℕ) → IsPrefix (accepted (noted_history n)) (accepted later) → HasFirst n → Tells cfg (noted_history n) later who [] (Answer.Take told) → TakeSideAnswer (accepted later) (is_shut later) 0 known (Answer.Take told) → Gets n told
 gets_first cfg n later who (TakeAnswer.Got item) known f has tells told =
     let same : has.0 ≡ item = front_first (accepted (noted_history n)) (accepted later) has.0 item f has.1 told.0 in
     (item, refl, subst (IsFirst n) same has.1)
@@ -128,12 +128,12 @@ module _ (n : Noted) (u w : Walk) (told : TakeAnswer) (c : CompletedAfter n u Ca
       let mine : IsReceivers C g (Pass.Receiver r) E.call = subst (λ (p : Pass). IsReceivers C g p E.call) is (all_at (λ (x : Entry). IsReceivers C g x.pass x.call) calls (length c.fresh.before) E of.receivers a.call_is) in
       let all = own_all (λ (x : Entry). IsReceivers C g x.pass x.call) (Pass.Receiver r) (λ x. its_receiver C r one (receiver_low C g r E.call mine) x.pass x.call) calls of.receivers in
       let first : c.fresh.before ≡ [] = none_before calls c.fresh.before E (sym all ∙ count) a.call_is in
-      let answers = subst (λ (l : List Answer). DAnswers (accepted H) (is_shut H) 0 calls l) a.answers_are of.answers in
+      let answers = subst (λ (l : List Answer). TakeSideAnswers (accepted H) (is_shut H) 0 calls l) a.answers_are of.answers in
       let told_so = d_at (accepted H) (is_shut H) 0 calls c.fresh.before a.behind E (Answer.Take told) answers a.call_is in
       let goes = noted_goes_on n w (heeded_stays n c.heeding w (E ∷ []) c.heeded c.completed.stands) in
       gets_first C n H E.pass told E.known (front C (noted_history n) H goes) has
       (subst (λ (l : List Answer). Tells C (noted_history n) H E.pass l (Answer.Take told)) first c.fresh.tells)
-      (subst (λ (l : List Answer). DAnswer (accepted H) (is_shut H) (0 + length (handed_by l)) E.known (Answer.Take told)) first told_so)
+      (subst (λ (l : List Answer). TakeSideAnswer (accepted H) (is_shut H) (0 + length (handed_by l)) E.known (Answer.Take told)) first told_so)
 
   by_pass : (who : Pass) → E.pass ≡ who → Gets n told
   by_pass (Pass.Receiver r) is =

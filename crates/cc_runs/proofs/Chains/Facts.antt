@@ -3,7 +3,7 @@ use Rattle.std.proofs.Common.{◌≡◌, ◌⊎◌, ℕ, ◌+◌, ◌≤◌, Boo
 use Rattle.std.proofs.lemmas.Bool.{eqb-true, eq-eqb}
 use Rattle.std.proofs.lemmas.List.{set-get_or, get_or-set_same, length-set}
 use Rattle.cc_model.specs.Record.{Side, Record, silent}
-use Rattle.cc_runs.specs.Names.{Entry, Item, Answer, TakeAnswer, Setting, Served, Chain, Job, Place}
+use Rattle.cc_runs.specs.Names.{Entry, Item, Answer, TakeAnswer, Setting, Served, Chain, Job, Phase}
 use Rattle.cc_runs.specs.Codes.{item_of, tag_of, further_words, request_in, ret_of, code_of, value_of}
 use Rattle.cc_runs.specs.State.{side, with_side, noted}
 use Rattle.cc_runs.specs.Lines.{serves, after_exchange, after_answer, after_ret}
@@ -26,21 +26,21 @@ keeps_side (Chain.Take g) Chain.Send h now i = i
 keeps_side (Chain.Take g) (Chain.Take k) h now i = omega (arith, i, length-set h.takes k now)
 
 -- a place with no register but a combiner's
-pub record IsFree (c : Setting) (x : Chain) (p : ℕ) (at : Place) : Type 0 where
+pub record IsFree (c : Setting) (x : Chain) (p : ℕ) (at : Phase) : Type 0 where
   pub call : HasCall c x p at
   pub read : (a : Answer) → HasRead c.served x a at
   pub unfinished : IsFinished at → ⊥
 
-pub free_at : (c : Setting) (x : Chain) (p own : ℕ) (at : Place) → (post_of x own at).rank ≡ 5 → IsFree c x p at
-free_at c x p own (Place.ReadNext round) e = record { call = tt; read = λ a. tt; unfinished = λ f. f }
-free_at c x p own (Place.Counting job service) e = record { call = tt; read = λ a. tt; unfinished = λ f. f }
-free_at c x p own (Place.Sending job service) e = record { call = tt; read = λ a. tt; unfinished = λ f. f }
-free_at c x p own (Place.Taking job service) e = record { call = tt; read = λ a. tt; unfinished = λ f. f }
-free_at c x p own (Place.WriteAnswer job told) e = record { call = tt; read = λ a. tt; unfinished = λ f. f }
-free_at c x p own (Place.WriteAnswerTag job item) e = record { call = tt; read = λ a. tt; unfinished = λ f. f }
-free_at c x p own (Place.WriteAnswerBody job item i) e = record { call = tt; read = λ a. tt; unfinished = λ f. f }
-free_at c x p own (Place.MarkDone job) e = record { call = tt; read = λ a. tt; unfinished = λ f. f }
-free_at c x p own (Place.HandOver at) e = record { call = tt; read = λ a. tt; unfinished = λ f. f }
+pub free_at : (c : Setting) (x : Chain) (p own : ℕ) (at : Phase) → (post_of x own at).rank ≡ 5 → IsFree c x p at
+free_at c x p own (Phase.ReadNext round) e = record { call = tt; read = λ a. tt; unfinished = λ f. f }
+free_at c x p own (Phase.Counting job service) e = record { call = tt; read = λ a. tt; unfinished = λ f. f }
+free_at c x p own (Phase.Sending job service) e = record { call = tt; read = λ a. tt; unfinished = λ f. f }
+free_at c x p own (Phase.Taking job service) e = record { call = tt; read = λ a. tt; unfinished = λ f. f }
+free_at c x p own (Phase.WriteAnswer job told) e = record { call = tt; read = λ a. tt; unfinished = λ f. f }
+free_at c x p own (Phase.WriteAnswerTag job item) e = record { call = tt; read = λ a. tt; unfinished = λ f. f }
+free_at c x p own (Phase.WriteAnswerBody job item i) e = record { call = tt; read = λ a. tt; unfinished = λ f. f }
+free_at c x p own (Phase.MarkDone job) e = record { call = tt; read = λ a. tt; unfinished = λ f. f }
+free_at c x p own (Phase.HandOver at) e = record { call = tt; read = λ a. tt; unfinished = λ f. f }
 free_at c x p own _ e = absurd (omega arith)
 
 -- after an exchange
@@ -64,11 +64,11 @@ answers_it Served.Counter (Chain.Take g) e a (Answer.Take (TakeAnswer.Got item))
 answers_it s x e a _ job same is = tt
 
 -- a request is marked
-pub done_it : (s : Served) (x : Chain) (e : Entry) (a : Answer) (job : Job) (b : Bool) → HasService s x e a (cond b (Place.HandOver job.next) (Place.ReadNext record { at = job.next; served = job.round.served + 1 }))
+pub done_it : (s : Served) (x : Chain) (e : Entry) (a : Answer) (job : Job) (b : Bool) → HasService s x e a (cond b (Phase.HandOver job.next) (Phase.ReadNext record { at = job.next; served = job.round.served + 1 }))
 done_it s x e a job true = tt
 done_it s x e a job false = tt
 
-pub done_rank : (x : Chain) (own : ℕ) (job : Job) (b : Bool) → (post_of x own (cond b (Place.HandOver job.next) (Place.ReadNext record { at = job.next; served = job.round.served + 1 }))).rank ≡ 5
+pub done_rank : (x : Chain) (own : ℕ) (job : Job) (b : Bool) → (post_of x own (cond b (Phase.HandOver job.next) (Phase.ReadNext record { at = job.next; served = job.round.served + 1 }))).rank ≡ 5
 done_rank x own job true = refl
 done_rank x own job false = refl
 
@@ -99,20 +99,20 @@ got_item Served.List g (Answer.Take (TakeAnswer.Ended total)) is code = absurd (
 got_item _ g _ is code = absurd is
 
 -- what is read after the first word: the end, or an item to come
-pub record ReadsOn (c : Setting) (s : Served) (g p own : ℕ) (a : Answer) (at : Place) : Type 0 where
+pub record ReadsOn (c : Setting) (s : Served) (g p own : ℕ) (a : Answer) (at : Phase) : Type 0 where
   pub call : HasCall c (Chain.Take g) p at
   pub post : post_of (Chain.Take g) own at ≡ out 6 own
   pub read : HasRead s (Chain.Take g) a at
   pub unfinished : IsFinished at → ⊥
 
-pub record ReadsAll (c : Setting) (s : Served) (g p own : ℕ) (a : Answer) (at : Place) : Type 0 where
+pub record ReadsAll (c : Setting) (s : Served) (g p own : ℕ) (a : Answer) (at : Phase) : Type 0 where
   pub call : HasCall c (Chain.Take g) p at
   pub post : post_of (Chain.Take g) own at ≡ out 0 own
   pub read : HasRead s (Chain.Take g) a at
 
 reads_by : (c : Setting) (s : Served) (g p own : ℕ) (a : Answer) (one two : Bool) → (code_of (ret_of s a) == 1) ≡ one → (code_of (ret_of s a) == 2) ≡ two →
-    ReadsOn c s g p own a (cond one (Place.ReadAnswerTag (value_of (ret_of s a))) (cond two (Place.Finished (Answer.Take TakeAnswer.Empty)) (Place.Finished (Answer.Take (TakeAnswer.Ended (value_of (ret_of s a)))))))
-    ⊎ ReadsAll c s g p own a (cond one (Place.ReadAnswerTag (value_of (ret_of s a))) (cond two (Place.Finished (Answer.Take TakeAnswer.Empty)) (Place.Finished (Answer.Take (TakeAnswer.Ended (value_of (ret_of s a)))))))
+    ReadsOn c s g p own a (cond one (Phase.ReadAnswerTag (value_of (ret_of s a))) (cond two (Phase.Finished (Answer.Take TakeAnswer.Empty)) (Phase.Finished (Answer.Take (TakeAnswer.Ended (value_of (ret_of s a)))))))
+    ⊎ ReadsAll c s g p own a (cond one (Phase.ReadAnswerTag (value_of (ret_of s a))) (cond two (Phase.Finished (Answer.Take TakeAnswer.Empty)) (Phase.Finished (Answer.Take (TakeAnswer.Ended (value_of (ret_of s a)))))))
 reads_by c s g p own a true two is_one is_two = inl record { call = tt; post = refl; read = (eqb-true (code_of (ret_of s a)) 1 is_one, refl); unfinished = λ f. f }
 reads_by c s g p own a false true is_one is_two = inr record { call = tt; post = refl; read = sym (λ i. cond (is_one i) (Answer.Take (TakeAnswer.Got (item_of (value_of (ret_of s a)) (tag_word a) (words_told a)))) (cond (is_two i) (Answer.Take TakeAnswer.Empty) (Answer.Take (TakeAnswer.Ended (value_of (ret_of s a)))))) }
 reads_by c s g p own a false false is_one is_two = inr record { call = tt; post = refl; read = sym (λ i. cond (is_one i) (Answer.Take (TakeAnswer.Got (item_of (value_of (ret_of s a)) (tag_word a) (words_told a)))) (cond (is_two i) (Answer.Take TakeAnswer.Empty) (Answer.Take (TakeAnswer.Ended (value_of (ret_of s a)))))) }
@@ -124,6 +124,6 @@ pub reads_item : (s : Served) (g : ℕ) (a : Answer) → code_of (ret_of s a) �
 reads_item s g a code = ap (λ (b : Bool). cond b (Answer.Take (TakeAnswer.Got (item_of (value_of (ret_of s a)) (tag_word a) (words_told a)))) (cond (code_of (ret_of s a) == 2) (Answer.Take TakeAnswer.Empty) (Answer.Take (TakeAnswer.Ended (value_of (ret_of s a)))))) (eq-eqb (code_of (ret_of s a)) 1 code)
 
 -- each pass has one node
-pub own_node : (x : Chain) (own : ℕ) (at : Place) → (post_of x own at).node ≡ own
-own_node x own (Place.Exchange call) = refl
+pub own_node : (x : Chain) (own : ℕ) (at : Phase) → (post_of x own at).node ≡ own
+own_node x own (Phase.Exchange call) = refl
 own_node x own _ = refl

@@ -97,9 +97,9 @@ module _ (c : Setting) (x : Chain) (calls : List Entry) (answers : List Answer) 
 
   -- nobody but p changes, and p has nothing to read yet
   pub ties_entered : (e : Entry) (own : ℕ) (there : Stand) → IsCall c x p e → stand' p ≡ there → ((q : ℕ) → q ≢ p → stand' q ≡ stand q) → g.server ≢ p + 1 → ((q : ℕ) → g.server ≡ q + 1 → q < members c x) →
-      g.marked ≤ g.answers → g.answers ≤ g.calls → ((q : ℕ) → q < members c x → IsFinished (stand q).place → g.at q < g.calls) →
+      g.marked ≤ g.answers → g.answers ≤ g.calls → ((q : ℕ) → q < members c x → IsFinished (stand q).phase → g.at q < g.calls) →
       ((q : ℕ) → g.server ≡ q + 1 → 1 ≤ (post_at x (stand q)).stage → (post_at x (stand q)).stage ≤ 2 → g.marked < g.calls) →
-      HasCall c x p there.place → ((a : Answer) → HasRead c.served x a there.place) → (IsFinished there.place → ⊥) → Ties c x (more_calls e) answers stand' (extended x g p e own)
+      HasCall c x p there.phase → ((a : Answer) → HasRead c.served x a there.phase) → (IsFinished there.phase → ⊥) → Ties c x (more_calls e) answers stand' (extended x g p e own)
   ties_entered e own there is here others not_server server_in order order2 ended_in busy call reads none = record {
     calls_are = length_push calls e ∙ ap (λ (z : ℕ). z + 1) ties.calls_are;
     answers_are = ties.answers_are;
@@ -114,26 +114,26 @@ module _ (c : Setting) (x : Chain) (calls : List Entry) (answers : List Answer) 
     told = ties.told;
     told_long = ties.told_long;
     begun = λ q qn. elim (cases_eq q p) [
-      | inl same ↦ subst (λ (z : Stand). HasCall c x q z.place) (sym here ∙ ap stand' (sym same)) (subst (λ (z : ℕ). HasCall c x z there.place) (sym same) call)
-      | inr ne ↦ subst (λ (z : Stand). HasCall c x q z.place) (sym (others q ne)) (ties.begun q qn)
+      | inl same ↦ subst (λ (z : Stand). HasCall c x q z.phase) (sym here ∙ ap stand' (sym same)) (subst (λ (z : ℕ). HasCall c x z there.phase) (sym same) call)
+      | inr ne ↦ subst (λ (z : Stand). HasCall c x q z.phase) (sym (others q ne)) (ties.begun q qn)
     ];
     served = λ q a. elim (cases_eq q p) [
       | inl same ↦ absurd (not_server (a ∙ ap (λ (z : ℕ). z + 1) same))
       | inr ne ↦
-          subst (λ (z : Stand). HasService c.served x (call_at (more_calls e) g.marked) (answer_at answers g.marked) z.place) (sym (others q ne))
-          (service_call c.served x (stand q).node (call_at calls g.marked) (call_at (more_calls e) g.marked) (answer_at answers g.marked) (stand q).place
+          subst (λ (z : Stand). HasService c.served x (call_at (more_calls e) g.marked) (answer_at answers g.marked) z.phase) (sym (others q ne))
+          (service_call c.served x (stand q).node (call_at calls g.marked) (call_at (more_calls e) g.marked) (answer_at answers g.marked) (stand q).phase
           (λ low high. sym (call_old calls e g.calls g.marked ties.calls_are (busy q a low high))) (ties.served q a))
     ];
     read = λ q qn. elim (cases_eq q p) [
-      | inl same ↦ subst (λ (z : Stand). HasRead c.served x (answer_at answers ((extended x g p e own).at q)) z.place) (sym here ∙ ap stand' (sym same)) (reads (answer_at answers ((extended x g p e own).at q)))
+      | inl same ↦ subst (λ (z : Stand). HasRead c.served x (answer_at answers ((extended x g p e own).at q)) z.phase) (sym here ∙ ap stand' (sym same)) (reads (answer_at answers ((extended x g p e own).at q)))
       | inr ne ↦
-          subst (λ (z : Stand). HasRead c.served x (answer_at answers ((extended x g p e own).at q)) z.place) (sym (others q ne))
-          (subst (λ (z : ℕ). HasRead c.served x (answer_at answers z) (stand q).place) (sym (changed_away g.at p g.calls q ne)) (ties.read q qn))
+          subst (λ (z : Stand). HasRead c.served x (answer_at answers ((extended x g p e own).at q)) z.phase) (sym (others q ne))
+          (subst (λ (z : ℕ). HasRead c.served x (answer_at answers z) (stand q).phase) (sym (changed_away g.at p g.calls q ne)) (ties.read q qn))
     ];
     ended = λ q qn f. elim (cases_eq q p) [
-      | inl same ↦ absurd (none (subst (λ (z : Stand). IsFinished z.place) (ap stand' same ∙ here) f))
+      | inl same ↦ absurd (none (subst (λ (z : Stand). IsFinished z.phase) (ap stand' same ∙ here) f))
       | inr ne ↦
-          let was : IsFinished (stand q).place = subst (λ (z : Stand). IsFinished z.place) (others q ne) f in
+          let was : IsFinished (stand q).phase = subst (λ (z : Stand). IsFinished z.phase) (others q ne) f in
           let old : (g.at q < g.marked) × (g.pass_of (g.at q) ≡ q) = ties.ended q qn was in
           let same_at : changed g.at p g.calls q ≡ g.at q = changed_away g.at p g.calls q ne in
           (omega (arith, same_at, old.0), ap (λ (z : ℕ). changed g.pass_of g.calls p z) same_at ∙ changed_away g.pass_of g.calls p (g.at q) (λ last. omega (arith, last, old.0)) ∙ old.1)
@@ -161,7 +161,7 @@ module _ (c : Setting) (x : Chain) (calls : List Entry) (answers : List Answer) 
 
   pub ties_answered : (a : Answer) (there : Stand) → IsAnswer c.served x a → stand' p ≡ there → ((q : ℕ) → q ≢ p → stand' q ≡ stand q) → g.server ≡ p + 1 → g.answers ≡ g.marked →
       ((q : ℕ) → q < members c x → (post_at x (stand q)).rank ≡ 6 → g.at q < g.marked) →
-      HasCall c x p there.place → ((a : Answer) → HasRead c.served x a there.place) → (IsFinished there.place → ⊥) → HasService c.served x (call_at calls g.marked) a there.place →
+      HasCall c x p there.phase → ((a : Answer) → HasRead c.served x a there.phase) → (IsFinished there.phase → ⊥) → HasService c.served x (call_at calls g.marked) a there.phase →
       Ties c x calls (more_answers a) stand' (answered c.served x g a)
   ties_answered a there is here others me even late call reads none serves = record {
     calls_are = ties.calls_are;
@@ -187,25 +187,25 @@ module _ (c : Setting) (x : Chain) (calls : List Entry) (answers : List Answer) 
       | inr ne ↦ changed_away g.told_long g.answers (answer_long a) k ne ∙ ties.told_long k (omega arith) ∙ ap answer_long (sym (answer_old answers a g.answers k ties.answers_are (omega arith)))
     ];
     begun = λ q qn. elim (cases_eq q p) [
-      | inl same ↦ subst (λ (z : Stand). HasCall c x q z.place) (sym here ∙ ap stand' (sym same)) (subst (λ (z : ℕ). HasCall c x z there.place) (sym same) call)
-      | inr ne ↦ subst (λ (z : Stand). HasCall c x q z.place) (sym (others q ne)) (ties.begun q qn)
+      | inl same ↦ subst (λ (z : Stand). HasCall c x q z.phase) (sym here ∙ ap stand' (sym same)) (subst (λ (z : ℕ). HasCall c x z there.phase) (sym same) call)
+      | inr ne ↦ subst (λ (z : Stand). HasCall c x q z.phase) (sym (others q ne)) (ties.begun q qn)
     ];
     served = λ q b. elim (cases_eq q p) [
       | inl same ↦
-          subst (λ (z : Stand). HasService c.served x (call_at calls g.marked) (answer_at (more_answers a) g.marked) z.place) (sym here ∙ ap stand' (sym same))
-          (subst (λ (z : Answer). HasService c.served x (call_at calls g.marked) z there.place) (sym (ap (λ (z : ℕ). answer_at (more_answers a) z) (sym even) ∙ answer_new answers a g.answers ties.answers_are)) serves)
+          subst (λ (z : Stand). HasService c.served x (call_at calls g.marked) (answer_at (more_answers a) g.marked) z.phase) (sym here ∙ ap stand' (sym same))
+          (subst (λ (z : Answer). HasService c.served x (call_at calls g.marked) z there.phase) (sym (ap (λ (z : ℕ). answer_at (more_answers a) z) (sym even) ∙ answer_new answers a g.answers ties.answers_are)) serves)
       | inr ne ↦ absurd (ne (omega (arith, me, b)))
     ];
     read = λ q qn. elim (cases_eq q p) [
-      | inl same ↦ subst (λ (z : Stand). HasRead c.served x (answer_at (more_answers a) (g.at q)) z.place) (sym here ∙ ap stand' (sym same)) (reads (answer_at (more_answers a) (g.at q)))
+      | inl same ↦ subst (λ (z : Stand). HasRead c.served x (answer_at (more_answers a) (g.at q)) z.phase) (sym here ∙ ap stand' (sym same)) (reads (answer_at (more_answers a) (g.at q)))
       | inr ne ↦
-          subst (λ (z : Stand). HasRead c.served x (answer_at (more_answers a) (g.at q)) z.place) (sym (others q ne))
-          (reader_answer c.served x (stand q).node (answer_at answers (g.at q)) (answer_at (more_answers a) (g.at q)) (stand q).place
+          subst (λ (z : Stand). HasRead c.served x (answer_at (more_answers a) (g.at q)) z.phase) (sym (others q ne))
+          (reader_answer c.served x (stand q).node (answer_at answers (g.at q)) (answer_at (more_answers a) (g.at q)) (stand q).phase
           (λ six. sym (answer_old answers a g.answers (g.at q) ties.answers_are (omega (arith, late q qn six))))
           (λ f. let old = ties.ended q qn f in sym (answer_old answers a g.answers (g.at q) ties.answers_are (omega (arith, old.0)))) (ties.read q qn))
     ];
     ended = λ q qn f. elim (cases_eq q p) [
-      | inl same ↦ absurd (none (subst (λ (z : Stand). IsFinished z.place) (ap stand' same ∙ here) f))
-      | inr ne ↦ ties.ended q qn (subst (λ (z : Stand). IsFinished z.place) (others q ne) f)
+      | inl same ↦ absurd (none (subst (λ (z : Stand). IsFinished z.phase) (ap stand' same ∙ here) f))
+      | inr ne ↦ ties.ended q qn (subst (λ (z : Stand). IsFinished z.phase) (others q ne) f)
     ];
   }

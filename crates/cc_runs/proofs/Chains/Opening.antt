@@ -5,7 +5,7 @@ use Rattle.std.proofs.lemmas.Nat.{mod-mul-add, mul-add-lt}
 use Rattle.std.proofs.Math.Nat.{mul_comm}
 use Rattle.std.proofs.lemmas.List.{length-replicate}
 use Rattle.cc_model.specs.Record.{Side, silent, empty}
-use Rattle.cc_runs.specs.Names.{Config, Setting, Served, Chain, Word, Stand, Place}
+use Rattle.cc_runs.specs.Names.{Config, Setting, Served, Chain, Word, Stand, Phase}
 use Rattle.cc_runs.specs.Words.{groups}
 use Rattle.cc_runs.specs.State.{side, first_node}
 use Rattle.cc_runs.specs.Run.{first_word, opening, passes, passes_of, nowhere, IsFinished}
@@ -18,7 +18,7 @@ use Rattle.cc_runs.proofs.Chains.Others.{group_in}
 
 -- the place of a pass of the chain
 abbrev placed : Setting → ℕ → ℕ → Stand
-placed c p node = record { begun = 0; node = node; place = Place.Idle }
+placed c p node = record { begun = 0; node = node; phase = Phase.Idle }
 
 stood : (c : Setting) (p : ℕ) → p < passes c → (opening c).stand p ≡ placed c p (first_node c.config p)
 stood c p less = ap (λ (b : Bool). cond b (placed c p (first_node c.config p)) nowhere) (lt-ltb p (passes c) less)
@@ -105,10 +105,10 @@ module _ (c : Setting) (x : Chain) (ok : IsChain c x) where
     answered = λ k l. absurd (omega arith);
     told = λ k j l. absurd (omega arith);
     told_long = λ k l. absurd (omega arith);
-    begun = λ q qn. subst (λ (z : Stand). HasCall c x q z.place) (sym (stands q qn)) tt;
+    begun = λ q qn. subst (λ (z : Stand). HasCall c x q z.phase) (sym (stands q qn)) tt;
     served = λ q a. absurd (omega arith);
-    read = λ q qn. subst (λ (z : Stand). HasRead c.served x (answer_at [] 0) z.place) (sym (stands q qn)) tt;
-    ended = λ q qn f. absurd (subst (λ (z : Stand). IsFinished z.place) (stands q qn) f);
+    read = λ q qn. subst (λ (z : Stand). HasRead c.served x (answer_at [] 0) z.phase) (sym (stands q qn)) tt;
+    ended = λ q qn f. absurd (subst (λ (z : Stand). IsFinished z.phase) (stands q qn) f);
   }
 
 -- nothing is called at the opening

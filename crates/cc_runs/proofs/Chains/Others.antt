@@ -7,7 +7,7 @@ use Rattle.std.proofs.lemmas.List.{get_or-set_other}
 use Rattle.std.proofs.lemmas.Nat.{div-mul-add, div-add-mod'}
 use Rattle.std.proofs.Math.Nat.{mod-lt, div-lt_iff_lt-mul}
 use Rattle.cc_model.specs.Record.{Side, Record, silent}
-use Rattle.cc_runs.specs.Names.{Config, Entry, Answer, Setting, Served, Chain, NodeField, Word, Stand, Place}
+use Rattle.cc_runs.specs.Names.{Config, Entry, Answer, Setting, Served, Chain, NodeField, Word, Stand, Phase}
 use Rattle.cc_runs.specs.Words.{groups, put, same, same_chain, same_field}
 use Rattle.cc_runs.specs.Codes.{tag_of, body_words, word, ret_of}
 use Rattle.cc_runs.specs.State.{State, chain_of, side, with_side, hold, stored, word_of}
@@ -47,27 +47,27 @@ put_tail : (mem : Word → ℕ) (x y : Chain) (value : ℕ) → IsOther x y → 
 put_tail mem x y value o = ap (λ (b : Bool). cond b value (mem (Word.Tail x))) (other_off x y o)
 
 module _ (c : Setting) (mem : Word → ℕ) (x y : Chain) (o : IsOther x y) (own : ℕ) where
-  other_tail : (at : Place) → stored mem (operation c y own at) (Word.Tail x) ≡ mem (Word.Tail x)
-  other_tail (Place.Exchange call) = put_tail mem x y (own + 1) o
-  other_tail (Place.Counting job service) = count_tail c mem x job.round.at service
-  other_tail (Place.Sending job service) = send_tail c mem x job.round.at service
-  other_tail (Place.Taking job service) = take_tail c mem x (group_of y) service
+  other_tail : (at : Phase) → stored mem (operation c y own at) (Word.Tail x) ≡ mem (Word.Tail x)
+  other_tail (Phase.Exchange call) = put_tail mem x y (own + 1) o
+  other_tail (Phase.Counting job service) = count_tail c mem x job.round.at service
+  other_tail (Phase.Sending job service) = send_tail c mem x job.round.at service
+  other_tail (Phase.Taking job service) = take_tail c mem x (group_of y) service
   other_tail _ = refl
 
-  other_words : (i : ℕ) (f : NodeField) (at : Place) → stored mem (operation c y own at) (Word.Node x i f) ≡ mem (Word.Node x i f)
-  other_words i f (Place.ResetNext call) = put_other mem x y own i NodeField.Next f 0 o
-  other_words i f (Place.ResetState call) = put_other mem x y own i NodeField.State f 1 o
-  other_words i f (Place.WriteTag put request) = put_other mem x y own i NodeField.Tag f request.tag o
-  other_words i f (Place.WriteBody put request j) = put_other mem x y own i (NodeField.Body j) f (word request.body j) o
-  other_words i f (Place.Link put) = put_other mem x y own i NodeField.Next f (put + 1) o
-  other_words i f (Place.Counting job service) = count_words c mem x job.round.at i f service
-  other_words i f (Place.Sending job service) = send_words c mem x job.round.at i f service
-  other_words i f (Place.Taking job service) = take_words c mem x (group_of y) i f service
-  other_words i f (Place.WriteAnswer job told) = put_other mem x y job.round.at i NodeField.Ret f (ret_of c.served told) o
-  other_words i f (Place.WriteAnswerTag job item) = put_other mem x y job.round.at i NodeField.Tag f (tag_of item) o
-  other_words i f (Place.WriteAnswerBody job item j) = put_other mem x y job.round.at i (NodeField.Body j) f (word (body_words item) j) o
-  other_words i f (Place.MarkDone job) = put_other mem x y job.round.at i NodeField.State f 2 o
-  other_words i f (Place.HandOver at) = put_other mem x y at i NodeField.State f 0 o
+  other_words : (i : ℕ) (f : NodeField) (at : Phase) → stored mem (operation c y own at) (Word.Node x i f) ≡ mem (Word.Node x i f)
+  other_words i f (Phase.ResetNext call) = put_other mem x y own i NodeField.Next f 0 o
+  other_words i f (Phase.ResetState call) = put_other mem x y own i NodeField.State f 1 o
+  other_words i f (Phase.WriteTag put request) = put_other mem x y own i NodeField.Tag f request.tag o
+  other_words i f (Phase.WriteBody put request j) = put_other mem x y own i (NodeField.Body j) f (word request.body j) o
+  other_words i f (Phase.Link put) = put_other mem x y own i NodeField.Next f (put + 1) o
+  other_words i f (Phase.Counting job service) = count_words c mem x job.round.at i f service
+  other_words i f (Phase.Sending job service) = send_words c mem x job.round.at i f service
+  other_words i f (Phase.Taking job service) = take_words c mem x (group_of y) i f service
+  other_words i f (Phase.WriteAnswer job told) = put_other mem x y job.round.at i NodeField.Ret f (ret_of c.served told) o
+  other_words i f (Phase.WriteAnswerTag job item) = put_other mem x y job.round.at i NodeField.Tag f (tag_of item) o
+  other_words i f (Phase.WriteAnswerBody job item j) = put_other mem x y job.round.at i (NodeField.Body j) f (word (body_words item) j) o
+  other_words i f (Phase.MarkDone job) = put_other mem x y job.round.at i NodeField.State f 2 o
+  other_words i f (Phase.HandOver at) = put_other mem x y at i NodeField.State f 0 o
   other_words i f _ = refl
 
 -- the history of a chain doesn't get the other's calls and answers
@@ -94,8 +94,8 @@ unseen c x s t w tail words same there stands =
 -- a step of a pass of the other chain
 pub other_step : (c : Setting) (x y : Chain) → IsOther x y → (s : State) (p : ℕ) (at : Stand) → ((q : ℕ) → q < members c x → pass_on c x q ≢ p) → Holds c x s → Holds c x (stepped_from c s y p at)
 other_step c x y o s p at away w =
-    unseen c x s (stepped_from c s y p at) w (other_tail c s.mem x y o at.node at.place) (λ i f. other_words c s.mem x y o at.node i f at.place) (side_other x y s.history _ o) (keeps_side x y s.history _ w.side_in)
-    (λ q qn. hold_apart s.stand p (pass_on c x q) (advanced c y at (s.mem (word_of (operation c y at.node at.place)))) (away q qn))
+    unseen c x s (stepped_from c s y p at) w (other_tail c s.mem x y o at.node at.phase) (λ i f. other_words c s.mem x y o at.node i f at.phase) (side_other x y s.history _ o) (keeps_side x y s.history _ w.side_in)
+    (λ q qn. hold_apart s.stand p (pass_on c x q) (advanced c y at (s.mem (word_of (operation c y at.node at.phase)))) (away q qn))
 
 -- a move that puts a pass elsewhere and does nothing more
 abbrev pub put_there : State → ℕ → Stand → State
@@ -104,7 +104,7 @@ put_there s p there = record { mem = s.mem; stand = hold s.stand p there; histor
 pub other_put : (c : Setting) (x : Chain) (s : State) (p : ℕ) (there : Stand) → ((q : ℕ) → q < members c x → pass_on c x q ≢ p) → Holds c x s → Holds c x (put_there s p there)
 other_put c x s p there away w = unseen c x s (put_there s p there) w refl (λ i f. refl) refl w.side_in (λ q qn. hold_apart s.stand p (pass_on c x q) there (away q qn))
 
-pub own_put : (c : Setting) (x : Chain) (s : State) (p : ℕ) (there : Stand) → (w : Holds c x s) → post_at x there ≡ post_at x (s.stand (pass_on c x p)) → Moves c x s w.ghost p w.ghost.marked w.ghost.server there.place →
+pub own_put : (c : Setting) (x : Chain) (s : State) (p : ℕ) (there : Stand) → (w : Holds c x s) → post_at x there ≡ post_at x (s.stand (pass_on c x p)) → Moves c x s w.ghost p w.ghost.marked w.ghost.server there.phase →
     Holds c x (put_there s (pass_on c x p) there)
 own_put c x s p there w same m =
     let others : (q : ℕ) → q ≢ p → (put_there s (pass_on c x p) there).stand (pass_on c x q) ≡ s.stand (pass_on c x q) = λ q ne. hold_apart s.stand (pass_on c x p) (pass_on c x q) there (pass_apart c x p q ne) in

@@ -7,7 +7,7 @@ use Rattle.std.specs.List.{filter, flat_map}
 use Rattle.std.proofs.lemmas.Nat.{div-mul-add}
 use Rattle.cc_model.specs.Record.{Side, Record, silent}
 use Rattle.cc_model.specs.Items.{is_pass, answered, calls_of}
-use Rattle.cc_runs.specs.Names.{Pass, Entry, Answer, Setting, Chain, Place}
+use Rattle.cc_runs.specs.Names.{Pass, Entry, Answer, Setting, Chain, Phase}
 use Rattle.cc_runs.specs.State.{State, side, pass_at}
 use Rattle.cc_runs.proofs.Chains.Others.{IsOther}
 use Rattle.cc_runs.specs.Run.{IsFinished}
@@ -174,10 +174,10 @@ pub record HasTold (c : Setting) (x : Chain) (h : Record) (who : Pass) (told : A
   pub sided : IsAnswer c.served x (answer_at (answers_on x h) number)
   pub read : told ≡ reads c.served x (answer_at (answers_on x h) number)
 
-pub told_on : (c : Setting) (x : Chain) (s : State) (w : Holds c x s) → NotOther c x s.history → (n : ℕ) → n < members c x → (told : Answer) → (s.stand (pass_on c x n)).place ≡ Place.Finished told →
+pub told_on : (c : Setting) (x : Chain) (s : State) (w : Holds c x s) → NotOther c x s.history → (n : ℕ) → n < members c x → (told : Answer) → (s.stand (pass_on c x n)).phase ≡ Phase.Finished told →
     HasTold c x s.history (pass_at c.config (pass_on c x n)) told
 told_on c x s w none n inside told e =
-    let ended : (w.ghost.at n < w.ghost.marked) × (w.ghost.pass_of (w.ghost.at n) ≡ n) = w.ties.ended n inside (subst (λ (z : Place). IsFinished z) (sym e) tt) in
+    let ended : (w.ghost.at n < w.ghost.marked) × (w.ghost.pass_of (w.ghost.at n) ≡ n) = w.ties.ended n inside (subst (λ (z : Phase). IsFinished z) (sym e) tt) in
     let a : HasAnswer c x s.history (pass_at c.config (pass_on c x n)) (w.ghost.at n) = answer_on c x s w none n inside ended.0 ended.1 in
     record {
       number = w.ghost.at n;
@@ -185,5 +185,5 @@ told_on c x s w none n inside told e =
       before = a.before;
       last = a.last;
       sided = a.sided;
-      read = subst (λ (z : Place). HasRead c.served x (answer_at (answers_on x s.history) (w.ghost.at n)) z) e (w.ties.read n inside);
+      read = subst (λ (z : Phase). HasRead c.served x (answer_at (answers_on x s.history) (w.ghost.at n)) z) e (w.ties.read n inside);
     }

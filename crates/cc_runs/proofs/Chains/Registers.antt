@@ -1,6 +1,6 @@
 -- The registers at the places of a chain's passes, and their relation to the history.
 use Rattle.std.proofs.Common.{◌≡◌, ◌≤◌, ◌<◌, ◌+◌, ℕ, length, ◌==◌, if◌then◌else◌, List, get_or}
-use Rattle.cc_runs.specs.Names.{Entry, Pass, Call, Answer, SendAnswer, CloseAnswer, TakeAnswer, Setting, Served, Chain, BodyWords, Counting, Sending, Place}
+use Rattle.cc_runs.specs.Names.{Entry, Pass, Call, Answer, SendAnswer, CloseAnswer, TakeAnswer, Setting, Served, Chain, BodyWords, Counting, Sending, Phase}
 use Rattle.cc_runs.specs.Codes.{item_of, tag_of, body_words, no_words, further_words, word, request_in, ret_of, code_of, value_of, sender_reads}
 use Rattle.cc_model.specs.Record.{Record}
 use Rattle.cc_runs.specs.Words.{groups}
@@ -63,12 +63,12 @@ Takes Served.List (Chain.Take g) = Unit {0}
 Takes _ _ = ⊥
 
 -- a pass with a call that hasn't exchanged keeps it, and only a sender writes a request
-abbrev pub HasCall : Setting → Chain → ℕ → Place → Type 0
-HasCall c x p (Place.ResetNext call) = IsCall c x p call
-HasCall c x p (Place.ResetState call) = IsCall c x p call
-HasCall c x p (Place.Exchange call) = IsCall c x p call
-HasCall c x p (Place.WriteTag put request) = OnSend x
-HasCall c x p (Place.WriteBody put request i) = OnSend x × (i ≤ further_words request.tag)
+abbrev pub HasCall : Setting → Chain → ℕ → Phase → Type 0
+HasCall c x p (Phase.ResetNext call) = IsCall c x p call
+HasCall c x p (Phase.ResetState call) = IsCall c x p call
+HasCall c x p (Phase.Exchange call) = IsCall c x p call
+HasCall c x p (Phase.WriteTag put request) = OnSend x
+HasCall c x p (Phase.WriteBody put request i) = OnSend x × (i ≤ further_words request.tag)
 HasCall c x p _ = Unit {0}
 
 -- what a call of this chain can be answered
@@ -111,13 +111,13 @@ HasCount (Counting.ReadBody tag i) = i ≤ further_words tag
 HasCount _ = Unit {0}
 
 -- a combiner serves what its chain serves, here the call e, which is answered a
-abbrev pub HasService : Served → Chain → Entry → Answer → Place → Type 0
-HasService served x e a (Place.Counting job service) = Counts served x × HasCount service
-HasService served x e a (Place.Sending job service) = Sends served x (HasSend e a service)
-HasService served x e a (Place.Taking job service) = Takes served x
-HasService served x e a (Place.WriteAnswer job told) = a ≡ told
-HasService served x e a (Place.WriteAnswerTag job item) = OnTake x (a ≡ Answer.Take (TakeAnswer.Got item))
-HasService served x e a (Place.WriteAnswerBody job item i) = OnTake x ((a ≡ Answer.Take (TakeAnswer.Got item)) × (i ≤ further_words (tag_of item)))
+abbrev pub HasService : Served → Chain → Entry → Answer → Phase → Type 0
+HasService served x e a (Phase.Counting job service) = Counts served x × HasCount service
+HasService served x e a (Phase.Sending job service) = Sends served x (HasSend e a service)
+HasService served x e a (Phase.Taking job service) = Takes served x
+HasService served x e a (Phase.WriteAnswer job told) = a ≡ told
+HasService served x e a (Phase.WriteAnswerTag job item) = OnTake x (a ≡ Answer.Take (TakeAnswer.Got item))
+HasService served x e a (Phase.WriteAnswerBody job item i) = OnTake x ((a ≡ Answer.Take (TakeAnswer.Got item)) × (i ≤ further_words (tag_of item)))
 HasService served x e a _ = Unit {0}
 
 -- the words of an answer
@@ -145,9 +145,9 @@ reads served Chain.Send a = sender_reads served (ret_of served a)
 reads served (Chain.Take g) a = take_reads (ret_of served a) (tag_word a) (words_told a)
 
 -- a call that is answered a has read so much of it
-abbrev pub HasRead : Served → Chain → Answer → Place → Type 0
-HasRead served x a (Place.ReadAnswerTag at) = OnTake x ((code_of (ret_of served a) ≡ 1) × (at ≡ value_of (ret_of served a)))
-HasRead served x a (Place.ReadAnswerBody p i) =
+abbrev pub HasRead : Served → Chain → Answer → Phase → Type 0
+HasRead served x a (Phase.ReadAnswerTag at) = OnTake x ((code_of (ret_of served a) ≡ 1) × (at ≡ value_of (ret_of served a)))
+HasRead served x a (Phase.ReadAnswerBody p i) =
     OnTake x ((code_of (ret_of served a) ≡ 1) × (p.place ≡ value_of (ret_of served a)) × (p.tag ≡ tag_word a) × (i ≤ further_words p.tag) × ((j : ℕ) → j < i → word p.body j ≡ word (words_told a) j))
-HasRead served x a (Place.Finished told) = told ≡ reads served x a
+HasRead served x a (Phase.Finished told) = told ≡ reads served x a
 HasRead served x a _ = Unit {0}

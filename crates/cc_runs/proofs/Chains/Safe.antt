@@ -2,7 +2,7 @@
 use Rattle.std.proofs.Common.{◌≡◌, ℕ, ◌+◌, ◌^◌, ◌<◌, ◌≤◌, ◌&&◌, nat_lt, refl, ap, sym, ◌∙◌, subst, arith, length, IsTrue, true, Bool}
 use Rattle.std.proofs.lemmas.Bool.{cases_eq, lt-ltb}
 use Rattle.cc_model.specs.Record.{Record}
-use Rattle.cc_runs.specs.Names.{Answer, Setting, Chain, NodeField, Word, Stand, Round, Job, Sending, Place}
+use Rattle.cc_runs.specs.Names.{Answer, Setting, Chain, NodeField, Word, Stand, Round, Job, Sending, Phase}
 use Rattle.cc_runs.specs.Codes.{tag_of, further_words, ret_of}
 use Rattle.cc_runs.specs.Words.{groups, layout_of, is_node_field, exists}
 use Rattle.cc_runs.specs.State.{State}
@@ -39,10 +39,10 @@ few_members c Chain.Send r = r.senders.1
 few_members c (Chain.Take g) r = r.receivers.1
 
 -- a place of a service, if the served object has a word in it
-abbrev pub IsService : Place → Type 0
-IsService (Place.Counting job service) = Unit {0}
-IsService (Place.Sending job service) = Unit {0}
-IsService (Place.Taking job service) = Unit {0}
+abbrev pub IsService : Phase → Type 0
+IsService (Phase.Counting job service) = Unit {0}
+IsService (Phase.Sending job service) = Unit {0}
+IsService (Phase.Taking job service) = Unit {0}
 IsService _ = ⊥
 
 open_call : (x : Chain) (h : Record) → length (answers_on x h) < length (calls_on x h) → HasOpenCall h x
@@ -56,36 +56,36 @@ pub send_low : (service : Sending) → send_stage service ≤ 2
 send_low service = (send_in service).1
 
 module _ (c : Setting) (x : Chain) (ok : IsChain c x) (r : InRange c.config) (s : State) (p own begun : ℕ) (inside : p < members c x) (w : Holds c x s) where
-  abbrev At : Place → Type 0
-  At at = s.stand (pass_on c x p) ≡ record { begun = begun; node = own; place = at }
+  abbrev At : Phase → Type 0
+  At at = s.stand (pass_on c x p) ≡ record { begun = begun; node = own; phase = at }
 
-  seen : (at : Place) → At at → post_at x (s.stand (pass_on c x p)) ≡ post_of x own at
+  seen : (at : Phase) → At at → post_at x (s.stand (pass_on c x p)) ≡ post_of x own at
   seen at e = ap (λ (z : Stand). post_at x z) e
 
-  pub own_in : (at : Place) → At at → own ≤ members c x
+  pub own_in : (at : Phase) → At at → own ≤ members c x
   own_in at e = subst (λ (z : ℕ). z ≤ members c x) (ap (λ z. z.node) (seen at e) ∙ own_node x own at) (w.inv.nodes.node_in p inside)
 
   chain_in : (k : ℕ) → w.ghost.marked ≤ k → k ≤ w.ghost.calls → w.ghost.chain k ≤ members c x
   chain_in k a b = grind (arith, cases_eq k w.ghost.calls, w.inv.nodes.last_in, w.inv.calls.open_node k, w.inv.calls.open_pass k, w.inv.nodes.node_in (w.ghost.pass_of k))
 
-  pub put_in : (at : Place) → At at → (post_of x own at).rank ≡ 3 → (post_of x own at).put ≤ members c x
+  pub put_in : (at : Phase) → At at → (post_of x own at).rank ≡ 3 → (post_of x own at).put ≤ members c x
   put_in at e three =
       let is : post_at x (s.stand (pass_on c x p)) ≡ post_of x own at = seen at e in
       let rank : (post_at x (s.stand (pass_on c x p))).rank ≡ 3 = ap (λ z. z.rank) is ∙ three in
       omega (arith, ap (λ z. z.put) is, w.inv.links.put_is p inside rank, chain_in (w.ghost.at p + 1) (omega (arith, w.inv.passes.early p inside rank)) (omega (arith, w.inv.passes.at_in p inside (omega (arith, rank)))))
 
-  pub me : (at : Place) → At at → (post_of x own at).rank ≡ 5 → w.ghost.server ≡ p + 1
+  pub me : (at : Phase) → At at → (post_of x own at).rank ≡ 5 → w.ghost.server ≡ p + 1
   me at e five = w.inv.server.server_is p inside (ap (λ z. z.rank) (seen at e) ∙ five)
 
-  pub target_in : (at : Place) → At at → (post_of x own at).rank ≡ 5 → (post_of x own at).target ≤ members c x
+  pub target_in : (at : Phase) → At at → (post_of x own at).rank ≡ 5 → (post_of x own at).target ≤ members c x
   target_in at e five =
       let mine : w.ghost.server ≡ p + 1 = me at e five in
       omega (arith, ap (λ z. z.target) (seen at e), w.inv.server.server_target p mine, chain_in w.ghost.marked (omega arith) (omega (arith, w.inv.calls.in_order, w.inv.calls.in_order2)))
 
-  pub served_in : (at : Place) → At at → (post_of x own at).rank ≡ 5 → (post_of x own at).stage ≤ 2 → (post_of x own at).served < c.config.bound
+  pub served_in : (at : Phase) → At at → (post_of x own at).rank ≡ 5 → (post_of x own at).stage ≤ 2 → (post_of x own at).served < c.config.bound
   served_in at e five low = omega (arith, ap (λ z. z.served) (seen at e), w.inv.server.server_bound p (me at e five) (omega (arith, ap (λ z. z.stage) (seen at e))))
 
-  pub next_in : (at : Place) (next : ℕ) → At at → (post_of x own at).rank ≡ 5 → 1 ≤ (post_of x own at).stage → (post_of x own at).stage ≤ 2 → (post_of x own at).next ≡ next + 1 → next ≤ members c x
+  pub next_in : (at : Phase) (next : ℕ) → At at → (post_of x own at).rank ≡ 5 → 1 ≤ (post_of x own at).stage → (post_of x own at).stage ≤ 2 → (post_of x own at).next ≡ next + 1 → next ≤ members c x
   next_in at next e five low high is =
       let mine : w.ghost.server ≡ p + 1 = me at e five in
       let stage : (post_at x (s.stand (pass_on c x p))).stage ≡ (post_of x own at).stage = ap (λ z. z.stage) (seen at e) in
@@ -93,10 +93,10 @@ module _ (c : Setting) (x : Chain) (ok : IsChain c x) (r : InRange c.config) (s 
       omega (arith, ap (λ z. z.next) (seen at e), w.inv.serving.serving_next p mine (omega (arith, stage)) (omega (arith, stage)), chain_in (w.ghost.marked + 1) (omega arith) (omega arith))
 
   -- the link that a combiner reads
-  pub link_in : (round : Round) → At (Place.ReadNext round) → s.mem (Word.Node x round.at NodeField.Next) ≤ members c x + 1
+  pub link_in : (round : Round) → At (Phase.ReadNext round) → s.mem (Word.Node x round.at NodeField.Next) ≤ members c x + 1
   link_in round e =
-      let is : post_at x (s.stand (pass_on c x p)) ≡ post_of x own (Place.ReadNext round) = seen (Place.ReadNext round) e in
-      let mine : w.ghost.server ≡ p + 1 = me (Place.ReadNext round) e refl in
+      let is : post_at x (s.stand (pass_on c x p)) ≡ post_of x own (Phase.ReadNext round) = seen (Phase.ReadNext round) e in
+      let mine : w.ghost.server ≡ p + 1 = me (Phase.ReadNext round) e refl in
       let target : round.at ≡ w.ghost.chain w.ghost.marked = sym (ap (λ z. z.target) is) ∙ w.inv.server.server_target p mine in
       grind (
         arith,
@@ -116,10 +116,10 @@ module _ (c : Setting) (x : Chain) (ok : IsChain c x) (r : InRange c.config) (s 
       )
 
   -- a combiner that has served nobody yet finds its own node linked
-  pub own_link_in : (at : ℕ) → At (Place.ReadNext record { at = at; served = 0 }) → 0 < s.mem (Word.Node x at NodeField.Next)
+  pub own_link_in : (at : ℕ) → At (Phase.ReadNext record { at = at; served = 0 }) → 0 < s.mem (Word.Node x at NodeField.Next)
   own_link_in at e =
-      let is : post_at x (s.stand (pass_on c x p)) ≡ post_of x own (Place.ReadNext record { at = at; served = 0 }) = seen (Place.ReadNext record { at = at; served = 0 }) e in
-      let mine : w.ghost.server ≡ p + 1 = me (Place.ReadNext record { at = at; served = 0 }) e refl in
+      let is : post_at x (s.stand (pass_on c x p)) ≡ post_of x own (Phase.ReadNext record { at = at; served = 0 }) = seen (Phase.ReadNext record { at = at; served = 0 }) e in
+      let mine : w.ghost.server ≡ p + 1 = me (Phase.ReadNext record { at = at; served = 0 }) e refl in
       let rank : (post_at x (s.stand (pass_on c x p))).rank ≡ 5 = ap (λ z. z.rank) is in
       let first : w.ghost.at p ≡ w.ghost.marked = omega (arith, ap (λ z. z.served) is, w.inv.server.server_at p mine (omega (arith, ap (λ z. z.stage) is))) in
       let more : w.ghost.marked < w.ghost.calls = omega (arith, w.inv.passes.at_in p inside (omega (arith, rank))) in
@@ -129,64 +129,64 @@ module _ (c : Setting) (x : Chain) (ok : IsChain c x) (r : InRange c.config) (s 
       omega (arith, w.inv.links.linked p inside (omega (arith, rank)) (omega arith), ap (λ (z : ℕ). s.mem (Word.Node x z NodeField.Next)) node_is)
 
   -- the request in service has no answer before the step that decides it
-  pub unanswered : (at : Place) → At at → (post_of x own at).rank ≡ 5 → (post_of x own at).stage ≡ 1 → length (answers_on x s.history) < length (calls_on x s.history)
+  pub unanswered : (at : Phase) → At at → (post_of x own at).rank ≡ 5 → (post_of x own at).stage ≡ 1 → length (answers_on x s.history) < length (calls_on x s.history)
   unanswered at e five one =
       let mine : w.ghost.server ≡ p + 1 = me at e five in
       let stage : (post_at x (s.stand (pass_on c x p))).stage ≡ 1 = ap (λ z. z.stage) (seen at e) ∙ one in
       omega (arith, w.ties.calls_are, w.ties.answers_are, w.inv.serving.undecided p mine (λ two. omega (arith, stage)), w.inv.serving.serving p mine (omega (arith, stage)) (omega (arith, stage)))
 
   -- and from that step on the call that is marked next has this answer
-  pub answer_in : (at : Place) → At at → (post_of x own at).rank ≡ 5 → (post_of x own at).stage ≡ 2 → w.ghost.marked < length (answers_on x s.history)
+  pub answer_in : (at : Phase) → At at → (post_of x own at).rank ≡ 5 → (post_of x own at).stage ≡ 2 → w.ghost.marked < length (answers_on x s.history)
   answer_in at e five two = omega (arith, w.ties.answers_are, w.inv.serving.decided p (me at e five) (ap (λ z. z.stage) (seen at e) ∙ two))
 
   abbrev Fit : Type 0
   Fit = (k : ℕ) → k < length (answers_on x s.history) → ret_of c.served (answer_at (answers_on x s.history) k) < 2 ^ 64
 
-  told_fits : (job : Job) (told : Answer) → At (Place.WriteAnswer job told) → Fit → ret_of c.served told < 2 ^ 64
+  told_fits : (job : Job) (told : Answer) → At (Phase.WriteAnswer job told) → Fit → ret_of c.served told < 2 ^ 64
   told_fits job told e fit =
-      let is : answer_at (answers_on x s.history) w.ghost.marked ≡ told = subst (λ (z : Stand). HasService c.served x (call_at (calls_on x s.history) w.ghost.marked) (answer_at (answers_on x s.history) w.ghost.marked) z.place) e (w.ties.served p (me (Place.WriteAnswer job told) e refl)) in
-      subst (λ (z : Answer). ret_of c.served z < 2 ^ 64) is (fit w.ghost.marked (answer_in (Place.WriteAnswer job told) e refl refl))
+      let is : answer_at (answers_on x s.history) w.ghost.marked ≡ told = subst (λ (z : Stand). HasService c.served x (call_at (calls_on x s.history) w.ghost.marked) (answer_at (answers_on x s.history) w.ghost.marked) z.phase) e (w.ties.served p (me (Phase.WriteAnswer job told) e refl)) in
+      subst (λ (z : Answer). ret_of c.served z < 2 ^ 64) is (fit w.ghost.marked (answer_in (Phase.WriteAnswer job told) e refl refl))
 
-  pub safe_at : (at : Place) → At at → Fit → (IsService at → IsSafe c s x own at) → IsSafe c s x own at
-  safe_at Place.Idle e fit served = record { word = tail_exists c x ok; numbers = tt }
-  safe_at (Place.ResetNext call) e fit served = record { word = node_exists c x ok own NodeField.Next refl (own_in (Place.ResetNext call) e); numbers = tt }
-  safe_at (Place.ResetState call) e fit served = record { word = node_exists c x ok own NodeField.State refl (own_in (Place.ResetState call) e); numbers = tt }
-  safe_at (Place.Exchange call) e fit served = record { word = tail_exists c x ok; numbers = (omega (arith, w.inv.nodes.tail_is), omega (arith, own_in (Place.Exchange call) e, few_members c x r)) }
-  safe_at (Place.WriteTag put request) e fit served = record { word = node_exists c x ok own NodeField.Tag refl (own_in (Place.WriteTag put request) e); numbers = tt }
-  safe_at (Place.WriteBody put request i) e fit served =
-      let has : OnSend x × (i ≤ further_words request.tag) = subst (λ (z : Stand). HasCall c x p z.place) e (w.ties.begun p inside) in
-      record { word = node_exists c x ok own (NodeField.Body i) (four_words i request.tag has.1) (own_in (Place.WriteBody put request i) e); numbers = tt }
-  safe_at (Place.Link put) e fit served = record { word = node_exists c x ok own NodeField.Next refl (own_in (Place.Link put) e); numbers = omega (arith, put_in (Place.Link put) e refl, few_members c x r) }
-  safe_at Place.ReadState e fit served = record { word = node_exists c x ok own NodeField.State refl (own_in Place.ReadState e); numbers = tt }
-  safe_at (Place.ReadNext round) e fit served = record { word = node_exists c x ok round.at NodeField.Next refl (target_in (Place.ReadNext round) e refl); numbers = tt }
-  safe_at (Place.Counting job service) e fit served = served tt
-  safe_at (Place.Sending job service) e fit served = served tt
-  safe_at (Place.Taking job service) e fit served = served tt
-  safe_at (Place.WriteAnswer job told) e fit served = record { word = node_exists c x ok job.round.at NodeField.Ret refl (target_in (Place.WriteAnswer job told) e refl); numbers = told_fits job told e fit }
-  safe_at (Place.WriteAnswerTag job item) e fit served = record { word = node_exists c x ok job.round.at NodeField.Tag refl (target_in (Place.WriteAnswerTag job item) e refl); numbers = tt }
-  safe_at (Place.WriteAnswerBody job item i) e fit served =
-      let has = on_take x _ (subst (λ (z : Stand). HasService c.served x (call_at (calls_on x s.history) w.ghost.marked) (answer_at (answers_on x s.history) w.ghost.marked) z.place) e (w.ties.served p (me (Place.WriteAnswerBody job item i) e refl))) in
-      record { word = node_exists c x ok job.round.at (NodeField.Body i) (four_words i (tag_of item) has.1) (target_in (Place.WriteAnswerBody job item i) e refl); numbers = tt }
-  safe_at (Place.MarkDone job) e fit served = record { word = node_exists c x ok job.round.at NodeField.State refl (target_in (Place.MarkDone job) e refl); numbers = omega (arith, served_in (Place.MarkDone job) e refl (omega arith), r.bound) }
-  safe_at (Place.HandOver at) e fit served = record { word = node_exists c x ok at NodeField.State refl (target_in (Place.HandOver at) e refl); numbers = tt }
-  safe_at Place.ReadAnswer e fit served = record { word = node_exists c x ok own NodeField.Ret refl (own_in Place.ReadAnswer e); numbers = tt }
-  safe_at (Place.ReadAnswerTag at) e fit served = record { word = node_exists c x ok own NodeField.Tag refl (own_in (Place.ReadAnswerTag at) e); numbers = tt }
-  safe_at (Place.ReadAnswerBody at i) e fit served =
-      let has = on_take x _ (subst (λ (z : Stand). HasRead c.served x (answer_at (answers_on x s.history) (w.ghost.at p)) z.place) e (w.ties.read p inside)) in
-      record { word = node_exists c x ok own (NodeField.Body i) (four_words i at.tag has.3) (own_in (Place.ReadAnswerBody at i) e); numbers = tt }
-  safe_at (Place.Finished told) e fit served = record { word = tail_exists c x ok; numbers = tt }
+  pub safe_at : (at : Phase) → At at → Fit → (IsService at → IsSafe c s x own at) → IsSafe c s x own at
+  safe_at Phase.Idle e fit served = record { word = tail_exists c x ok; numbers = tt }
+  safe_at (Phase.ResetNext call) e fit served = record { word = node_exists c x ok own NodeField.Next refl (own_in (Phase.ResetNext call) e); numbers = tt }
+  safe_at (Phase.ResetState call) e fit served = record { word = node_exists c x ok own NodeField.State refl (own_in (Phase.ResetState call) e); numbers = tt }
+  safe_at (Phase.Exchange call) e fit served = record { word = tail_exists c x ok; numbers = (omega (arith, w.inv.nodes.tail_is), omega (arith, own_in (Phase.Exchange call) e, few_members c x r)) }
+  safe_at (Phase.WriteTag put request) e fit served = record { word = node_exists c x ok own NodeField.Tag refl (own_in (Phase.WriteTag put request) e); numbers = tt }
+  safe_at (Phase.WriteBody put request i) e fit served =
+      let has : OnSend x × (i ≤ further_words request.tag) = subst (λ (z : Stand). HasCall c x p z.phase) e (w.ties.begun p inside) in
+      record { word = node_exists c x ok own (NodeField.Body i) (four_words i request.tag has.1) (own_in (Phase.WriteBody put request i) e); numbers = tt }
+  safe_at (Phase.Link put) e fit served = record { word = node_exists c x ok own NodeField.Next refl (own_in (Phase.Link put) e); numbers = omega (arith, put_in (Phase.Link put) e refl, few_members c x r) }
+  safe_at Phase.ReadState e fit served = record { word = node_exists c x ok own NodeField.State refl (own_in Phase.ReadState e); numbers = tt }
+  safe_at (Phase.ReadNext round) e fit served = record { word = node_exists c x ok round.at NodeField.Next refl (target_in (Phase.ReadNext round) e refl); numbers = tt }
+  safe_at (Phase.Counting job service) e fit served = served tt
+  safe_at (Phase.Sending job service) e fit served = served tt
+  safe_at (Phase.Taking job service) e fit served = served tt
+  safe_at (Phase.WriteAnswer job told) e fit served = record { word = node_exists c x ok job.round.at NodeField.Ret refl (target_in (Phase.WriteAnswer job told) e refl); numbers = told_fits job told e fit }
+  safe_at (Phase.WriteAnswerTag job item) e fit served = record { word = node_exists c x ok job.round.at NodeField.Tag refl (target_in (Phase.WriteAnswerTag job item) e refl); numbers = tt }
+  safe_at (Phase.WriteAnswerBody job item i) e fit served =
+      let has = on_take x _ (subst (λ (z : Stand). HasService c.served x (call_at (calls_on x s.history) w.ghost.marked) (answer_at (answers_on x s.history) w.ghost.marked) z.phase) e (w.ties.served p (me (Phase.WriteAnswerBody job item i) e refl))) in
+      record { word = node_exists c x ok job.round.at (NodeField.Body i) (four_words i (tag_of item) has.1) (target_in (Phase.WriteAnswerBody job item i) e refl); numbers = tt }
+  safe_at (Phase.MarkDone job) e fit served = record { word = node_exists c x ok job.round.at NodeField.State refl (target_in (Phase.MarkDone job) e refl); numbers = omega (arith, served_in (Phase.MarkDone job) e refl (omega arith), r.bound) }
+  safe_at (Phase.HandOver at) e fit served = record { word = node_exists c x ok at NodeField.State refl (target_in (Phase.HandOver at) e refl); numbers = tt }
+  safe_at Phase.ReadAnswer e fit served = record { word = node_exists c x ok own NodeField.Ret refl (own_in Phase.ReadAnswer e); numbers = tt }
+  safe_at (Phase.ReadAnswerTag at) e fit served = record { word = node_exists c x ok own NodeField.Tag refl (own_in (Phase.ReadAnswerTag at) e); numbers = tt }
+  safe_at (Phase.ReadAnswerBody at i) e fit served =
+      let has = on_take x _ (subst (λ (z : Stand). HasRead c.served x (answer_at (answers_on x s.history) (w.ghost.at p)) z.phase) e (w.ties.read p inside)) in
+      record { word = node_exists c x ok own (NodeField.Body i) (four_words i at.tag has.3) (own_in (Phase.ReadAnswerBody at i) e); numbers = tt }
+  safe_at (Phase.Finished told) e fit served = record { word = tail_exists c x ok; numbers = tt }
 
-  send_open : (job : Job) (service : Sending) → At (Place.Sending job service) → WhileUndecided (Place.Sending job service) (HasOpenCall s.history x)
+  send_open : (job : Job) (service : Sending) → At (Phase.Sending job service) → WhileUndecided (Phase.Sending job service) (HasOpenCall s.history x)
   send_open job (Sending.WriteLastMark total) e = tt
   send_open job (Sending.WriteShut total) e = tt
   send_open job (Sending.WriteLast at on) e = tt
   send_open job (Sending.WriteCount at on) e = tt
   send_open job (Sending.WriteCursor at on) e = tt
-  send_open job Sending.ReadTag e = open_call x s.history (unanswered (Place.Sending job Sending.ReadTag) e refl refl)
-  send_open job service e = open_call x s.history (unanswered (Place.Sending job service) e refl refl)
+  send_open job Sending.ReadTag e = open_call x s.history (unanswered (Phase.Sending job Sending.ReadTag) e refl refl)
+  send_open job service e = open_call x s.history (unanswered (Phase.Sending job service) e refl refl)
 
-  pub open_at : (at : Place) → At at → IsOpenAt s.history x at
-  open_at (Place.Counting job service) e = open_call x s.history (unanswered (Place.Counting job service) e refl refl)
-  open_at (Place.Sending job service) e = send_open job service e
-  open_at (Place.Taking job service) e = open_call x s.history (unanswered (Place.Taking job service) e refl refl)
+  pub open_at : (at : Phase) → At at → IsOpenAt s.history x at
+  open_at (Phase.Counting job service) e = open_call x s.history (unanswered (Phase.Counting job service) e refl refl)
+  open_at (Phase.Sending job service) e = send_open job service e
+  open_at (Phase.Taking job service) e = open_call x s.history (unanswered (Phase.Taking job service) e refl refl)
   open_at _ e = tt

@@ -1,7 +1,7 @@
 -- Each step of a combiner, and of a call that reads its answer, keeps what holds of the chain.
 use Rattle.std.proofs.Common.{◌≡◌, ℕ, ◌+◌, ◌<◌, ◌≤◌, ◌==◌, refl, ap, sym, ◌∙◌, subst, arith, Some, None, List}
 use Rattle.cc_model.specs.Record.{Side, Record}
-use Rattle.cc_runs.specs.Names.{Entry, Answer, Setting, Chain, NodeField, Word, Stand, Job, Place}
+use Rattle.cc_runs.specs.Names.{Entry, Answer, Setting, Chain, NodeField, Word, Stand, Job, Phase}
 use Rattle.cc_runs.specs.Codes.{ret_of}
 use Rattle.cc_runs.specs.State.{State, noted}
 use Rattle.cc_runs.specs.Lines.{goes, node_after, enters, decides, after_answer, after_done}
@@ -20,13 +20,13 @@ use Rattle.cc_runs.proofs.Chains.Facts.{side_same, keeps_side, IsFree, free_at, 
 use Rattle.cc_runs.proofs.Chains.Steps.{Here, next, found_at, goes_on, stays_in, mine, others}
 
 module _ (c : Setting) (x : Chain) (ok : IsChain c x) (some : 0 < c.config.bound) (s : State) (p begun own : ℕ) (inside : p < members c x) (w : Holds c x s) where
-  abbrev pub At : Place → Type 0
+  abbrev pub At : Phase → Type 0
   At at = Here c x ok some s p begun own inside w at
 
-  abbrev pub then : Place → State
+  abbrev pub then : Phase → State
   then at = next c x ok some s p begun own inside w at
 
-  abbrev pub finds : Place → ℕ
+  abbrev pub finds : Phase → ℕ
   finds at = found_at c x ok some s p begun own inside w at
 
   abbrev pub the_call : Entry
@@ -35,18 +35,18 @@ module _ (c : Setting) (x : Chain) (ok : IsChain c x) (some : 0 < c.config.bound
   abbrev pub the_answer : Answer
   the_answer = answer_at (answers_on x s.history) w.ghost.marked
 
-  pub seen : (at : Place) → At at → post_at x (s.stand (pass_on c x p)) ≡ post_of x own at
+  pub seen : (at : Phase) → At at → post_at x (s.stand (pass_on c x p)) ≡ post_of x own at
   seen at e = ap (λ (z : Stand). post_at x z) e
 
   -- who combines, combines
-  pub me : (at : Place) → At at → (post_of x own at).rank ≡ 5 → w.ghost.server ≡ p + 1
+  pub me : (at : Phase) → At at → (post_of x own at).rank ≡ 5 → w.ghost.server ≡ p + 1
   me at e five = w.inv.server.server_is p inside (ap (λ z. z.rank) (seen at e) ∙ five)
 
-  pub serves_at : (at : Place) → At at → (post_of x own at).rank ≡ 5 → HasService c.served x the_call the_answer at
-  serves_at at e five = subst (λ (z : Stand). HasService c.served x the_call the_answer z.place) e (w.ties.served p (me at e five))
+  pub serves_at : (at : Phase) → At at → (post_of x own at).rank ≡ 5 → HasService c.served x the_call the_answer at
+  serves_at at e five = subst (λ (z : Stand). HasService c.served x the_call the_answer z.phase) e (w.ties.served p (me at e five))
 
   -- the words of the request that is served
-  pub request_at : (at : Place) (job : Job) (j : ℕ) → At at → post_of x own at ≡ serving own job 1 0 → j < request_long x the_call →
+  pub request_at : (at : Phase) (job : Job) (j : ℕ) → At at → post_of x own at ≡ serving own job 1 0 → j < request_long x the_call →
       request_words x (λ (f : NodeField). s.mem (Word.Node x job.round.at f)) j ≡ asked_words x the_call j
   request_at at job j e is less =
       let now : post_at x (s.stand (pass_on c x p)) ≡ serving own job 1 0 = seen at e ∙ is in
@@ -62,7 +62,7 @@ module _ (c : Setting) (x : Chain) (ok : IsChain c x) (some : 0 < c.config.bound
       ap (λ (z : ℕ). request_words x (λ (f : NodeField). s.mem (Word.Node x z f)) j) (target ∙ sym node_is) ∙ written ∙ ap (λ (z : ℕ). w.ghost.asked z j) at_is ∙ w.ties.asked w.ghost.marked j busy
 
   -- a step of a service
-  quietly : (at : Place) (job : Job) → At at → (post_of x own at).rank ≡ 5 → enters at ≡ None → decides c at (finds at) ≡ None → node_after own at (finds at) ≡ own →
+  quietly : (at : Phase) (job : Job) → At at → (post_of x own at).rank ≡ 5 → enters at ≡ None → decides c at (finds at) ≡ None → node_after own at (finds at) ≡ own →
       post_of x own (goes c x own at (finds at)) ≡ post_of x own at → (HasService c.served x the_call the_answer at → HasService c.served x the_call the_answer (goes c x own at (finds at))) →
       (then at).mem (Word.Tail x) ≡ s.mem (Word.Tail x) → ((i : ℕ) (f : NodeField) → (then at).mem (Word.Node x i f) ≡ s.mem (Word.Node x i f)) → Holds c x (then at)
   quietly at job e five enter none keeps_node same serve tail words =
@@ -71,7 +71,7 @@ module _ (c : Setting) (x : Chain) (ok : IsChain c x) (some : 0 < c.config.bound
       (bridge.stays c x s p begun own (members c x) at e (ap (λ (z : ℕ). post_of x z (goes c x own at (finds at))) keeps_node ∙ same) tail words))
       (stays_in c x ok some s p begun own inside w (goes c x own at (finds at)) (free_at c x p own (goes c x own at (finds at)) (ap (λ z. z.rank) same ∙ five)) (λ a. serve (serves_at at e five)))
 
-  decides_now : (at : Place) (job : Job) (a : Answer) → At at → enters at ≡ None → decides c at (finds at) ≡ Some a → node_after own at (finds at) ≡ own →
+  decides_now : (at : Phase) (job : Job) (a : Answer) → At at → enters at ≡ None → decides c at (finds at) ≡ Some a → node_after own at (finds at) ≡ own →
       post_of x own at ≡ serving own job 1 0 → post_of x own (goes c x own at (finds at)) ≡ serving own job 2 0 → IsAnswer c.served x a → HasService c.served x the_call a (goes c x own at (finds at)) →
       (then at).mem (Word.Tail x) ≡ s.mem (Word.Tail x) → ((i : ℕ) (f : NodeField) → (then at).mem (Word.Node x i f) ≡ s.mem (Word.Node x i f)) → Holds c x (then at)
   decides_now at job a e enter tells keeps_node first second is serve tail words =
@@ -93,20 +93,20 @@ module _ (c : Setting) (x : Chain) (ok : IsChain c x) (some : 0 < c.config.bound
         side_in = keeps_side x x s.history _ w.side_in;
       }
 
-  pub service : (at : Place) (job : Job) → At at → (post_of x own at).rank ≡ 5 → enters at ≡ None → node_after own at (finds at) ≡ own → Outcome c.served x job the_call at (goes c x own at (finds at)) (decides c at (finds at)) →
+  pub service : (at : Phase) (job : Job) → At at → (post_of x own at).rank ≡ 5 → enters at ≡ None → node_after own at (finds at) ≡ own → Outcome c.served x job the_call at (goes c x own at (finds at)) (decides c at (finds at)) →
       (then at).mem (Word.Tail x) ≡ s.mem (Word.Tail x) → ((i : ℕ) (f : NodeField) → (then at).mem (Word.Node x i f) ≡ s.mem (Word.Node x i f)) → Holds c x (then at)
   service at job e five enter keeps_node (quiet none same serve) tail words = quietly at job e five enter none keeps_node (same own) (serve the_answer) tail words
   service at job e five enter keeps_node (decided a tells first second is serve) tail words = decides_now at job a e enter tells keeps_node (first own) (second own) is serve tail words
 
   -- the answer that is decided
-  pub told_of : (at : Place) → At at → (post_of x own at).rank ≡ 5 → (post_of x own at).stage ≡ 2 →
+  pub told_of : (at : Phase) → At at → (post_of x own at).rank ≡ 5 → (post_of x own at).stage ≡ 2 →
       (w.ghost.marked < w.ghost.answers) × (w.ghost.told_long w.ghost.marked ≡ answer_long the_answer) × ((j : ℕ) → w.ghost.told w.ghost.marked j ≡ coded_words c.served x the_answer j) × IsAnswer c.served x the_answer
   told_of at e five two =
       let less : w.ghost.marked < w.ghost.answers = omega (arith, w.inv.serving.decided p (me at e five) (ap (λ z. z.stage) (seen at e) ∙ two)) in
       (less, w.ties.told_long w.ghost.marked less, (λ j. w.ties.told w.ghost.marked j less), w.ties.answered w.ghost.marked less)
 
   -- an answer word is written
-  pub tells : (at there : Place) (long word told : ℕ) → At at → (post_of x own at).rank ≡ 5 → (post_of x own at).stage ≡ 2 → (post_of x own at).told ≡ told → goes c x own at (finds at) ≡ there →
+  pub tells : (at there : Phase) (long word told : ℕ) → At at → (post_of x own at).rank ≡ 5 → (post_of x own at).stage ≡ 2 → (post_of x own at).told ≡ told → goes c x own at (finds at) ≡ there →
       enters at ≡ None → decides c at (finds at) ≡ None → (post_of x own there).rank ≡ 5 → Tells long (view c x s) (view c x (then at)) p word → long ≡ answer_long the_answer → word ≡ coded_words c.served x the_answer told →
       HasService c.served x the_call the_answer there → Holds c x (then at)
   tells at there long word told e five two count go enter none next_five t long_is word_is serve =
@@ -119,23 +119,23 @@ module _ (c : Setting) (x : Chain) (ok : IsChain c x) (some : 0 < c.config.bound
       (subst (λ (z : ℕ). Tells long (view c x s) (view c x (then at)) p z) word_now t)))
       (stays_in c x ok some s p begun own inside w there (free_at c x p own there next_five) (λ a. serve))
 
-  pub write_answer : (job : Job) (told : Answer) → At (Place.WriteAnswer job told) → Holds c x (then (Place.WriteAnswer job told))
+  pub write_answer : (job : Job) (told : Answer) → At (Phase.WriteAnswer job told) → Holds c x (then (Phase.WriteAnswer job told))
   write_answer job told e =
-      let is : the_answer ≡ told = serves_at (Place.WriteAnswer job told) e refl in
-      let k = told_of (Place.WriteAnswer job told) e refl refl in
-      tells (Place.WriteAnswer job told) (after_answer job told) (answer_long told) (ret_of c.served told) 0 e refl refl refl refl refl refl (ap (λ z. z.rank) (after_answer_post x own job told))
+      let is : the_answer ≡ told = serves_at (Phase.WriteAnswer job told) e refl in
+      let k = told_of (Phase.WriteAnswer job told) e refl refl in
+      tells (Phase.WriteAnswer job told) (after_answer job told) (answer_long told) (ret_of c.served told) 0 e refl refl refl refl refl refl (ap (λ z. z.rank) (after_answer_post x own job told))
       (bridge.write_answer c x s p begun own job told e) (ap answer_long (sym is)) (sym (coded_first c.served x told) ∙ ap (λ (z : Answer). coded_words c.served x z 0) (sym is))
       (answers_it c.served x the_call the_answer told job is (subst (λ (z : Answer). IsAnswer c.served x z) is k.3))
 
-  pub mark : (job : Job) → At (Place.MarkDone job) → Holds c x (then (Place.MarkDone job))
+  pub mark : (job : Job) → At (Phase.MarkDone job) → Holds c x (then (Phase.MarkDone job))
   mark job e =
-      let k = told_of (Place.MarkDone job) e refl refl in
+      let k = told_of (Phase.MarkDone job) e refl refl in
       let few : w.ghost.told_long w.ghost.marked ≤ all_told = omega (arith, k.1, some_words the_answer) in
       let rank : (post_of x own (after_done c.config.bound job)).rank ≡ 5 = done_rank x own job (job.round.served + 1 == c.config.bound) in
       let free : IsFree c x p (after_done c.config.bound job) = free_at c x p own (after_done c.config.bound job) rank in
-      let mine_is : w.ghost.server ≡ p + 1 = me (Place.MarkDone job) e refl in
-      goes_on c x ok some s p begun own inside w (Place.MarkDone job) (after_done c.config.bound job) (w.ghost.marked + 1) w.ghost.server refl refl refl
-      (by_combiner.marks (members c x) c.config.bound (view c x s) (view c x (then (Place.MarkDone job))) w.ghost p inside w.inv
+      let mine_is : w.ghost.server ≡ p + 1 = me (Phase.MarkDone job) e refl in
+      goes_on c x ok some s p begun own inside w (Phase.MarkDone job) (after_done c.config.bound job) (w.ghost.marked + 1) w.ghost.server refl refl refl
+      (by_combiner.marks (members c x) c.config.bound (view c x s) (view c x (then (Phase.MarkDone job))) w.ghost p inside w.inv
       (bridge.mark c x s p begun own job e (w.ghost.told_long w.ghost.marked) few))
       record {
         onward = omega arith;
@@ -146,8 +146,8 @@ module _ (c : Setting) (x : Chain) (ok : IsChain c x) (some : 0 < c.config.bound
         keep = λ q ne a. absurd (ne (omega (arith, mine_is)));
       }
 
-  pub hand_over : (at : ℕ) → At (Place.HandOver at) → Holds c x (then (Place.HandOver at))
+  pub hand_over : (at : ℕ) → At (Phase.HandOver at) → Holds c x (then (Phase.HandOver at))
   hand_over at e =
-      goes_on c x ok some s p begun own inside w (Place.HandOver at) Place.ReadAnswer w.ghost.marked 0 refl refl refl
-      (by_combiner.hands (members c x) c.config.bound (view c x s) (view c x (then (Place.HandOver at))) w.ghost p inside w.inv (bridge.hand_over c x s p begun own at e))
+      goes_on c x ok some s p begun own inside w (Phase.HandOver at) Phase.ReadAnswer w.ghost.marked 0 refl refl refl
+      (by_combiner.hands (members c x) c.config.bound (view c x s) (view c x (then (Phase.HandOver at))) w.ghost p inside w.inv (bridge.hand_over c x s p begun own at e))
       record { onward = omega arith; call = tt; read = tt; ended = λ f. absurd f; serves = λ a. absurd (omega arith); keep = λ q ne a. absurd (omega arith) }

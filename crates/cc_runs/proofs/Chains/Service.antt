@@ -1,6 +1,6 @@
 -- A step of a service: it goes on, or decides the answer.
 use Rattle.std.proofs.Common.{◌≡◌, ℕ, zero, suc, ◌+◌, ◌≤◌, Bool, true, false, ◌==◌, cond, refl, arith, Option, Some, None}
-use Rattle.cc_runs.specs.Names.{Entry, Answer, SendAnswer, CloseAnswer, TakeAnswer, Setting, Served, Chain, NodeField, Word, Job, Request, Parcel, Counting, Sending, Taking, Place}
+use Rattle.cc_runs.specs.Names.{Entry, Answer, SendAnswer, CloseAnswer, TakeAnswer, Setting, Served, Chain, NodeField, Word, Job, Request, Parcel, Counting, Sending, Taking, Phase}
 use Rattle.cc_runs.specs.Codes.{request_in, further_words, word, with_asked}
 use Rattle.cc_runs.specs.Words.{groups}
 use Rattle.cc_runs.specs.State.{stored}
@@ -8,14 +8,14 @@ use Rattle.cc_runs.specs.CountLines as count_side
 use Rattle.cc_runs.specs.SendLines as send_side
 use Rattle.cc_runs.specs.TakeLines as take_side
 use Rattle.cc_runs.specs.SendLines.{after}
-use Rattle.cc_runs.specs.ServiceLine.{Next, On, Decides, place_of, answer_of}
+use Rattle.cc_runs.specs.ServiceLine.{Next, On, Decides, phase_of, answer_of}
 use Rattle.cc_runs.proofs.Chains.View.{post_of, serving}
 use Rattle.cc_runs.proofs.Bodies.{few_further}
 use Rattle.cc_runs.proofs.ReadWords.{next_word, behind_word}
 use Rattle.cc_runs.proofs.Chains.Registers.{HasService, HasAsked, IsAnswer}
 
 -- the step from here to there, of the service of call e, whose answer, once decided, is a
-pub data Outcome (served : Served) (x : Chain) (job : Job) (e : Entry) (here there : Place) (decided : Option Answer) : Type 0 where
+pub data Outcome (served : Served) (x : Chain) (job : Job) (e : Entry) (here there : Phase) (decided : Option Answer) : Type 0 where
   quiet : decided ≡ None → ((own : ℕ) → post_of x own there ≡ post_of x own here) → ((a : Answer) → HasService served x e a here → HasService served x e a there) → Outcome served x job e here there decided
   decides : (a : Answer) → decided ≡ Some a → ((own : ℕ) → post_of x own here ≡ serving own job 1 0) → ((own : ℕ) → post_of x own there ≡ serving own job 2 0) → IsAnswer served x a → HasService served x e a there → Outcome served x job e here there decided
 
@@ -27,7 +27,7 @@ FindsRequest e _ found = Unit {0}
 
 module _ (c : Setting) (job : Job) (e : Entry) where
   abbrev Sends : Sending → Next Sending → Type 0
-  Sends service next = Outcome Served.List Chain.Send job e (Place.Sending job service) (place_of send_side.in_service job next) (answer_of next)
+  Sends service next = Outcome Served.List Chain.Send job e (Phase.Sending job service) (phase_of send_side.in_service job next) (answer_of next)
 
   shut_closed : (request : Request) (b : Bool) → Sends (Sending.ReadShut request) (cond b (On Sending.ReadTotal) (Decides (Answer.Send SendAnswer.Closed)))
   shut_closed request true = quiet refl (λ own. refl) (λ a r. tt)
@@ -74,21 +74,21 @@ module _ (c : Setting) (job : Job) (e : Entry) where
   sends _ found f = quiet refl (λ own. refl) (λ a r. r)
 
   abbrev Takes : ℕ → Taking → ℕ → Type 0
-  Takes g service found = Outcome Served.List (Chain.Take g) job e (Place.Taking job service) (take_side.goes job service found) (take_side.decides service found)
+  Takes g service found = Outcome Served.List (Chain.Take g) job e (Phase.Taking job service) (take_side.goes job service found) (take_side.decides service found)
 
   pub takes : (g : ℕ) (service : Taking) (found : ℕ) → Takes g service found
   takes g (Taking.ReadDummyNext dummy taken) zero = decides (Answer.Take TakeAnswer.Empty) refl (λ own. refl) (λ own. refl) tt refl
   takes g (Taking.ReadItemTag dummy taken at) zero = decides (Answer.Take (TakeAnswer.Ended taken)) refl (λ own. refl) (λ own. refl) tt refl
   takes g (Taking.ReadItemBody dummy at p i) found =
-      behind_word (λ (z : Taking). Outcome Served.List (Chain.Take g) job e (Place.Taking job (Taking.ReadItemBody dummy at p i)) (Place.Taking job z) None) (further_words p.tag) i _ _
+      behind_word (λ (z : Taking). Outcome Served.List (Chain.Take g) job e (Phase.Taking job (Taking.ReadItemBody dummy at p i)) (Phase.Taking job z) None) (further_words p.tag) i _ _
       (λ more. quiet refl (λ own. refl) (λ a r. tt)) (λ last. quiet refl (λ own. refl) (λ a r. tt))
   takes g (Taking.AddPassed dummy parcel) found = decides _ refl (λ own. refl) (λ own. refl) tt refl
   takes g _ _ = quiet refl (λ own. refl) (λ a r. tt)
 
-  pub counts : (service : Counting) (found : ℕ) → Outcome Served.Counter Chain.Send job e (Place.Counting job service) (count_side.goes job service found) (count_side.decides service found)
+  pub counts : (service : Counting) (found : ℕ) → Outcome Served.Counter Chain.Send job e (Phase.Counting job service) (count_side.goes job service found) (count_side.decides service found)
   counts Counting.ReadTag found = quiet refl (λ own. refl) (λ a r. (tt, omega arith))
   counts (Counting.ReadBody tag i) found =
-      behind_word (λ (z : Counting). Outcome Served.Counter Chain.Send job e (Place.Counting job (Counting.ReadBody tag i)) (Place.Counting job z) None) (further_words tag) i _ _
+      behind_word (λ (z : Counting). Outcome Served.Counter Chain.Send job e (Phase.Counting job (Counting.ReadBody tag i)) (Phase.Counting job z) None) (further_words tag) i _ _
       (λ more. quiet refl (λ own. refl) (λ a r. (tt, omega (arith, more)))) (λ last. quiet refl (λ own. refl) (λ a r. (tt, tt)))
   counts Counting.ReadCount found = quiet refl (λ own. refl) (λ a r. (tt, tt))
   counts (Counting.WriteCount count) found = decides (Answer.Send (SendAnswer.Accepted count)) refl (λ own. refl) (λ own. refl) tt refl

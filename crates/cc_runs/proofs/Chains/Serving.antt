@@ -4,7 +4,7 @@ use Rattle.std.specs.List.{slice_get}
 use Rattle.std.proofs.lemmas.Bool.{cases_lt, cases_eq}
 use Rattle.std.proofs.lemmas.Option.{slice_get-get_or}
 use Rattle.std.proofs.Math.Nat.{div-lt_iff_lt-mul}
-use Rattle.cc_runs.specs.Names.{Config, Entry, Setting, Served, Chain, NodeField, Word, Job, Stand, Counting, Sending, Taking, Place, Move}
+use Rattle.cc_runs.specs.Names.{Config, Entry, Setting, Served, Chain, NodeField, Word, Job, Stand, Counting, Sending, Taking, Phase, Move}
 use Rattle.cc_runs.specs.State.{State, chain_of}
 use Rattle.cc_runs.specs.Words.{groups}
 use Rattle.cc_runs.specs.Run.{IsRun, reached, passes, passes_of}
@@ -53,8 +53,8 @@ on_chain c p less = on_by c p (which c (chain_of c.config p) (chain_is c p less)
 abbrev pub Combines : Stand → Type 0
 Combines at = (post_at Chain.Send at).rank ≡ 5
 
-same_rank : (x y : Chain) (own : ℕ) (at : Place) → (post_of x own at).rank ≡ (post_of y own at).rank
-same_rank x y own (Place.Link put) = refl
+same_rank : (x y : Chain) (own : ℕ) (at : Phase) → (post_of x own at).rank ≡ (post_of y own at).rank
+same_rank x y own (Phase.Link put) = refl
 same_rank x y own _ = refl
 
 module _ (c : Setting) (s : State) (k : Chains c s) where
@@ -62,8 +62,8 @@ module _ (c : Setting) (s : State) (k : Chains c s) where
   pub one_on : (x : Chain) → IsChain c x → (p q : ℕ) → IsOn c x p → IsOn c x q → Combines (s.stand p) → Combines (s.stand q) → p ≡ q
   one_on x ok p q on_p on_q a b =
       let w : Holds c x s = k.holds x ok in
-      let first : (post_at x (s.stand (pass_on c x on_p.number))).rank ≡ 5 = subst (λ (z : ℕ). (post_at x (s.stand z)).rank ≡ 5) on_p.pass_is (same_rank x Chain.Send (s.stand p).node (s.stand p).place ∙ a) in
-      let second : (post_at x (s.stand (pass_on c x on_q.number))).rank ≡ 5 = subst (λ (z : ℕ). (post_at x (s.stand z)).rank ≡ 5) on_q.pass_is (same_rank x Chain.Send (s.stand q).node (s.stand q).place ∙ b) in
+      let first : (post_at x (s.stand (pass_on c x on_p.number))).rank ≡ 5 = subst (λ (z : ℕ). (post_at x (s.stand z)).rank ≡ 5) on_p.pass_is (same_rank x Chain.Send (s.stand p).node (s.stand p).phase ∙ a) in
+      let second : (post_at x (s.stand (pass_on c x on_q.number))).rank ≡ 5 = subst (λ (z : ℕ). (post_at x (s.stand z)).rank ≡ 5) on_q.pass_is (same_rank x Chain.Send (s.stand q).node (s.stand q).phase ∙ b) in
       let same : on_p.number ≡ on_q.number = omega (arith, w.inv.server.server_is on_p.number on_p.inside first, w.inv.server.server_is on_q.number on_q.inside second) in
       on_p.pass_is ∙ ap (λ (z : ℕ). pass_on c x z) same ∙ sym on_q.pass_is
 
@@ -76,49 +76,49 @@ module _ (c : Setting) (s : State) (k : Chains c s) where
   the_holds p less = k.holds (chain_of c.config p) (chain_is c p less)
 
   serves_what : (p : ℕ) (less : p < passes c) → Combines (s.stand p) →
-      HasService c.served (chain_of c.config p) (call_at (calls_on (chain_of c.config p) s.history) (the_holds p less).ghost.marked) (answer_at (answers_on (chain_of c.config p) s.history) (the_holds p less).ghost.marked) (s.stand p).place
+      HasService c.served (chain_of c.config p) (call_at (calls_on (chain_of c.config p) s.history) (the_holds p less).ghost.marked) (answer_at (answers_on (chain_of c.config p) s.history) (the_holds p less).ghost.marked) (s.stand p).phase
   serves_what p less five =
       let x : Chain = chain_of c.config p in
       let w : Holds c (chain_of c.config p) s = the_holds p less in
       let on : IsOn c (chain_of c.config p) p = on_chain c p less in
       let rank : (post_at (chain_of c.config p) (s.stand (pass_on c (chain_of c.config p) on.number))).rank ≡ 5 =
-      subst (λ (z : ℕ). (post_at (chain_of c.config p) (s.stand z)).rank ≡ 5) on.pass_is (same_rank (chain_of c.config p) Chain.Send (s.stand p).node (s.stand p).place ∙ five) in
+      subst (λ (z : ℕ). (post_at (chain_of c.config p) (s.stand z)).rank ≡ 5) on.pass_is (same_rank (chain_of c.config p) Chain.Send (s.stand p).node (s.stand p).phase ∙ five) in
       let mine : w.ghost.server ≡ on.number + 1 = w.inv.server.server_is on.number on.inside rank in
-      subst (λ (z : ℕ). HasService c.served (chain_of c.config p) (call_at (calls_on (chain_of c.config p) s.history) w.ghost.marked) (answer_at (answers_on (chain_of c.config p) s.history) w.ghost.marked) (s.stand z).place)
+      subst (λ (z : ℕ). HasService c.served (chain_of c.config p) (call_at (calls_on (chain_of c.config p) s.history) w.ghost.marked) (answer_at (answers_on (chain_of c.config p) s.history) w.ghost.marked) (s.stand z).phase)
       (sym on.pass_is) (w.ties.served on.number mine)
 
-  pub sending_where : (p : ℕ) (job : Job) (service : Sending) → p < passes c → (s.stand p).place ≡ Place.Sending job service → (c.served ≡ Served.List) × (chain_of c.config p ≡ Chain.Send)
+  pub sending_where : (p : ℕ) (job : Job) (service : Sending) → p < passes c → (s.stand p).phase ≡ Phase.Sending job service → (c.served ≡ Served.List) × (chain_of c.config p ≡ Chain.Send)
   sending_where p job service less e =
       sends_where c.served (chain_of c.config p) (HasSend (call_at (calls_on (chain_of c.config p) s.history) (the_holds p less).ghost.marked) (answer_at (answers_on (chain_of c.config p) s.history) (the_holds p less).ghost.marked) service)
-      (subst (λ (z : Place). HasService c.served (chain_of c.config p) (call_at (calls_on (chain_of c.config p) s.history) (the_holds p less).ghost.marked) (answer_at (answers_on (chain_of c.config p) s.history) (the_holds p less).ghost.marked) z) e
-      (serves_what p less (ap (λ (z : Place). (post_of Chain.Send (s.stand p).node z).rank) e)))
+      (subst (λ (z : Phase). HasService c.served (chain_of c.config p) (call_at (calls_on (chain_of c.config p) s.history) (the_holds p less).ghost.marked) (answer_at (answers_on (chain_of c.config p) s.history) (the_holds p less).ghost.marked) z) e
+      (serves_what p less (ap (λ (z : Phase). (post_of Chain.Send (s.stand p).node z).rank) e)))
 
-  pub counting_where : (p : ℕ) (job : Job) (service : Counting) → p < passes c → (s.stand p).place ≡ Place.Counting job service → (c.served ≡ Served.Counter) × (chain_of c.config p ≡ Chain.Send)
+  pub counting_where : (p : ℕ) (job : Job) (service : Counting) → p < passes c → (s.stand p).phase ≡ Phase.Counting job service → (c.served ≡ Served.Counter) × (chain_of c.config p ≡ Chain.Send)
   counting_where p job service less e =
       counts_where c.served (chain_of c.config p)
-      (subst (λ (z : Place). HasService c.served (chain_of c.config p) (call_at (calls_on (chain_of c.config p) s.history) (the_holds p less).ghost.marked) (answer_at (answers_on (chain_of c.config p) s.history) (the_holds p less).ghost.marked) z) e
-      (serves_what p less (ap (λ (z : Place). (post_of Chain.Send (s.stand p).node z).rank) e))).0
+      (subst (λ (z : Phase). HasService c.served (chain_of c.config p) (call_at (calls_on (chain_of c.config p) s.history) (the_holds p less).ghost.marked) (answer_at (answers_on (chain_of c.config p) s.history) (the_holds p less).ghost.marked) z) e
+      (serves_what p less (ap (λ (z : Phase). (post_of Chain.Send (s.stand p).node z).rank) e))).0
 
   -- one service of a side at most
-  pub one_sending : (p q : ℕ) (job job2 : Job) (service service2 : Sending) → p < passes c → q < passes c → (s.stand p).place ≡ Place.Sending job service → (s.stand q).place ≡ Place.Sending job2 service2 → p ≡ q
+  pub one_sending : (p q : ℕ) (job job2 : Job) (service service2 : Sending) → p < passes c → q < passes c → (s.stand p).phase ≡ Phase.Sending job service → (s.stand q).phase ≡ Phase.Sending job2 service2 → p ≡ q
   one_sending p q job job2 service service2 pn qn a b =
-      one_combiner p q pn qn ((sending_where p job service pn a).1 ∙ sym (sending_where q job2 service2 qn b).1) (ap (λ (z : Place). (post_of Chain.Send (s.stand p).node z).rank) a) (ap (λ (z : Place). (post_of Chain.Send (s.stand q).node z).rank) b)
+      one_combiner p q pn qn ((sending_where p job service pn a).1 ∙ sym (sending_where q job2 service2 qn b).1) (ap (λ (z : Phase). (post_of Chain.Send (s.stand p).node z).rank) a) (ap (λ (z : Phase). (post_of Chain.Send (s.stand q).node z).rank) b)
 
-  pub one_taking : (p q : ℕ) (job job2 : Job) (service service2 : Taking) → p < passes c → q < passes c → chain_of c.config p ≡ chain_of c.config q → (s.stand p).place ≡ Place.Taking job service → (s.stand q).place ≡ Place.Taking job2 service2 → p ≡ q
+  pub one_taking : (p q : ℕ) (job job2 : Job) (service service2 : Taking) → p < passes c → q < passes c → chain_of c.config p ≡ chain_of c.config q → (s.stand p).phase ≡ Phase.Taking job service → (s.stand q).phase ≡ Phase.Taking job2 service2 → p ≡ q
   one_taking p q job job2 service service2 pn qn same a b =
       one_combiner p q pn qn same
-      (ap (λ (z : Place). (post_of Chain.Send (s.stand p).node z).rank) a) (ap (λ (z : Place). (post_of Chain.Send (s.stand q).node z).rank) b)
+      (ap (λ (z : Phase). (post_of Chain.Send (s.stand p).node z).rank) a) (ap (λ (z : Phase). (post_of Chain.Send (s.stand q).node z).rank) b)
 
   -- the request in service is that of the first call without an answer
-  module _ (x : Chain) (ok : IsChain c x) (p : ℕ) (on : IsOn c x p) (at : Place) (job : Job) (e : (s.stand p).place ≡ at) (undecided : (own : ℕ) → post_of x own at ≡ serving own job 1 0) where
+  module _ (x : Chain) (ok : IsChain c x) (p : ℕ) (on : IsOn c x p) (at : Phase) (job : Job) (e : (s.stand p).phase ≡ at) (undecided : (own : ℕ) → post_of x own at ≡ serving own job 1 0) where
     w : Holds c x s
     w = k.holds x ok
 
     abbrev P : ℕ
     P = pass_on c x on.number
 
-    here : s.stand (pass_on c x on.number) ≡ record { begun = (s.stand (pass_on c x on.number)).begun; node = (s.stand (pass_on c x on.number)).node; place = at }
-    here = λ i. record { begun = (s.stand (pass_on c x on.number)).begun; node = (s.stand (pass_on c x on.number)).node; place = (ap (λ (z : ℕ). (s.stand z).place) (sym on.pass_is) ∙ e) i }
+    here : s.stand (pass_on c x on.number) ≡ record { begun = (s.stand (pass_on c x on.number)).begun; node = (s.stand (pass_on c x on.number)).node; phase = at }
+    here = λ i. record { begun = (s.stand (pass_on c x on.number)).begun; node = (s.stand (pass_on c x on.number)).node; phase = (ap (λ (z : ℕ). (s.stand z).phase) (sym on.pass_is) ∙ e) i }
 
     is_serving : post_at x (s.stand (pass_on c x on.number)) ≡ serving (s.stand (pass_on c x on.number)).node job 1 0
     is_serving = ap (λ (z : Stand). post_at x z) here ∙ undecided (s.stand (pass_on c x on.number)).node
@@ -138,7 +138,7 @@ module _ (c : Setting) (s : State) (k : Chains c s) where
     next_service a is =
         subst (λ (z : Entry). HasService c.served x z (answer_at (answers_on x s.history) (length (answers_on x s.history))) at) (sym is)
         (subst (λ (n : ℕ). HasService c.served x (call_at (calls_on x s.history) n) (answer_at (answers_on x s.history) n) at) (sym even)
-        (subst (λ (z : Stand). HasService c.served x (call_at (calls_on x s.history) (k.holds x ok).ghost.marked) (answer_at (answers_on x s.history) (k.holds x ok).ghost.marked) z.place) here ((k.holds x ok).ties.served on.number mine)))
+        (subst (λ (z : Stand). HasService c.served x (call_at (calls_on x s.history) (k.holds x ok).ghost.marked) (answer_at (answers_on x s.history) (k.holds x ok).ghost.marked) z.phase) here ((k.holds x ok).ties.served on.number mine)))
 
     pub next_words : (j : ℕ) → j < request_long x (call_at (calls_on x s.history) (length (answers_on x s.history))) → request_words x (λ (f : NodeField). s.mem (Word.Node x job.round.at f)) j ≡ asked_words x (call_at (calls_on x s.history) (length (answers_on x s.history))) j
     next_words j less =

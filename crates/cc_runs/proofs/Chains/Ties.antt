@@ -1,7 +1,7 @@
 -- The ties of a chain to the history, and those of them that a step keeps.
 use Rattle.std.proofs.Common.{◌≡◌, ◌≢◌, ℕ, ◌+◌, ◌<◌, ◌≤◌, List, length, refl, ap, sym, ◌∙◌, subst, arith, inl, inr}
 use Rattle.std.proofs.lemmas.Bool.{cases_eq}
-use Rattle.cc_runs.specs.Names.{Entry, Answer, Setting, Served, Chain, Stand, Sending, Place}
+use Rattle.cc_runs.specs.Names.{Entry, Answer, Setting, Served, Chain, Stand, Sending, Phase}
 use Rattle.cc_runs.specs.State.{State}
 use Rattle.cc_runs.specs.Run.{IsFinished}
 use Rattle.cc_runs.proofs.Combining.Chain.{Ghost}
@@ -21,10 +21,10 @@ pub record Ties (c : Setting) (x : Chain) (calls : List Entry) (answers : List A
   pub told : (k j : ℕ) → k < g.answers → g.told k j ≡ coded_words c.served x (answer_at answers k) j
   pub told_long : (k : ℕ) → k < g.answers → g.told_long k ≡ answer_long (answer_at answers k)
   -- and the passes keep what they read and wrote
-  pub begun : (q : ℕ) → q < members c x → HasCall c x q (stand q).place
-  pub served : (q : ℕ) → g.server ≡ q + 1 → HasService c.served x (call_at calls g.marked) (answer_at answers g.marked) (stand q).place
-  pub read : (q : ℕ) → q < members c x → HasRead c.served x (answer_at answers (g.at q)) (stand q).place
-  pub ended : (q : ℕ) → q < members c x → IsFinished (stand q).place → (g.at q < g.marked) × (g.pass_of (g.at q) ≡ q)
+  pub begun : (q : ℕ) → q < members c x → HasCall c x q (stand q).phase
+  pub served : (q : ℕ) → g.server ≡ q + 1 → HasService c.served x (call_at calls g.marked) (answer_at answers g.marked) (stand q).phase
+  pub read : (q : ℕ) → q < members c x → HasRead c.served x (answer_at answers (g.at q)) (stand q).phase
+  pub ended : (q : ℕ) → q < members c x → IsFinished (stand q).phase → (g.at q < g.marked) × (g.pass_of (g.at q) ≡ q)
 
 -- the passes of a chain
 abbrev pub stands_on : Setting → Chain → State → ℕ → Stand
@@ -46,15 +46,15 @@ send_in (Sending.WriteCursor place at) = omega arith
 send_in _ = omega arith
 
 -- only a service asks which call it serves
-pub service_call : (served : Served) (x : Chain) (own : ℕ) (e e' : Entry) (a : Answer) (at : Place) → (1 ≤ (post_of x own at).stage → (post_of x own at).stage ≤ 2 → e ≡ e') → HasService served x e a at → HasService served x e' a at
-service_call served x own e e' a (Place.Sending job service) same h = let i = send_in service in subst (λ (z : Entry). Sends served x (HasSend z a service)) (same i.0 i.1) h
+pub service_call : (served : Served) (x : Chain) (own : ℕ) (e e' : Entry) (a : Answer) (at : Phase) → (1 ≤ (post_of x own at).stage → (post_of x own at).stage ≤ 2 → e ≡ e') → HasService served x e a at → HasService served x e' a at
+service_call served x own e e' a (Phase.Sending job service) same h = let i = send_in service in subst (λ (z : Entry). Sends served x (HasSend z a service)) (same i.0 i.1) h
 service_call served x own e e' a at same h = h
 
 -- only a reader asks for its answer
-pub reader_answer : (served : Served) (x : Chain) (own : ℕ) (a a' : Answer) (at : Place) → ((post_of x own at).rank ≡ 6 → a ≡ a') → (IsFinished at → a ≡ a') → HasRead served x a at → HasRead served x a' at
-reader_answer served x own a a' (Place.ReadAnswerTag at) same ended h = subst (λ (z : Answer). HasRead served x z (Place.ReadAnswerTag at)) (same refl) h
-reader_answer served x own a a' (Place.ReadAnswerBody p i) same ended h = subst (λ (z : Answer). HasRead served x z (Place.ReadAnswerBody p i)) (same refl) h
-reader_answer served x own a a' (Place.Finished told) same ended h = subst (λ (z : Answer). HasRead served x z (Place.Finished told)) (ended tt) h
+pub reader_answer : (served : Served) (x : Chain) (own : ℕ) (a a' : Answer) (at : Phase) → ((post_of x own at).rank ≡ 6 → a ≡ a') → (IsFinished at → a ≡ a') → HasRead served x a at → HasRead served x a' at
+reader_answer served x own a a' (Phase.ReadAnswerTag at) same ended h = subst (λ (z : Answer). HasRead served x z (Phase.ReadAnswerTag at)) (same refl) h
+reader_answer served x own a a' (Phase.ReadAnswerBody p i) same ended h = subst (λ (z : Answer). HasRead served x z (Phase.ReadAnswerBody p i)) (same refl) h
+reader_answer served x own a a' (Phase.Finished told) same ended h = subst (λ (z : Answer). HasRead served x z (Phase.Finished told)) (ended tt) h
 reader_answer served x own a a' at same ended h = h
 
 module _ (c : Setting) (x : Chain) (calls : List Entry) (answers : List Answer) (stand stand' : ℕ → Stand) (g : Ghost) (p : ℕ) (ties : Ties c x calls answers stand g) where
@@ -70,16 +70,16 @@ module _ (c : Setting) (x : Chain) (calls : List Entry) (answers : List Answer) 
     answered = ties.answered;
     told = ties.told;
     told_long = ties.told_long;
-    begun = λ q qn. subst (λ (z : Stand). HasCall c x q z.place) (sym (same q qn)) (ties.begun q qn);
-    served = λ q a. subst (λ (z : Stand). HasService c.served x (call_at calls g.marked) (answer_at answers g.marked) z.place) (sym (same q (server_in q a))) (ties.served q a);
-    read = λ q qn. subst (λ (z : Stand). HasRead c.served x (answer_at answers (g.at q)) z.place) (sym (same q qn)) (ties.read q qn);
-    ended = λ q qn f. ties.ended q qn (subst (λ (z : Stand). IsFinished z.place) (same q qn) f);
+    begun = λ q qn. subst (λ (z : Stand). HasCall c x q z.phase) (sym (same q qn)) (ties.begun q qn);
+    served = λ q a. subst (λ (z : Stand). HasService c.served x (call_at calls g.marked) (answer_at answers g.marked) z.phase) (sym (same q (server_in q a))) (ties.served q a);
+    read = λ q qn. subst (λ (z : Stand). HasRead c.served x (answer_at answers (g.at q)) z.phase) (sym (same q qn)) (ties.read q qn);
+    ended = λ q qn f. ties.ended q qn (subst (λ (z : Stand). IsFinished z.phase) (same q qn) f);
   }
 
   -- pass p is there now, and the history is as it was
   pub ties_moved : (there : Stand) (marked server : ℕ) → stand' p ≡ there → ((q : ℕ) → q ≢ p → stand' q ≡ stand q) → g.marked ≤ marked →
-      HasCall c x p there.place → HasRead c.served x (answer_at answers (g.at p)) there.place → (IsFinished there.place → (g.at p < marked) × (g.pass_of (g.at p) ≡ p)) →
-      (server ≡ p + 1 → HasService c.served x (call_at calls marked) (answer_at answers marked) there.place) →
+      HasCall c x p there.phase → HasRead c.served x (answer_at answers (g.at p)) there.phase → (IsFinished there.phase → (g.at p < marked) × (g.pass_of (g.at p) ≡ p)) →
+      (server ≡ p + 1 → HasService c.served x (call_at calls marked) (answer_at answers marked) there.phase) →
       ((q : ℕ) → q ≢ p → server ≡ q + 1 → (g.server ≡ q + 1) × (g.marked ≡ marked)) →
       Ties c x calls answers stand' (record g { marked = marked; server = server })
   ties_moved there marked server here others more call read ended serves keep = record {
@@ -93,21 +93,21 @@ module _ (c : Setting) (x : Chain) (calls : List Entry) (answers : List Answer) 
     told = ties.told;
     told_long = ties.told_long;
     begun = λ q qn. elim (cases_eq q p) [
-      | inl is ↦ subst (λ (z : Stand). HasCall c x q z.place) (sym here ∙ ap stand' (sym is)) (subst (λ (z : ℕ). HasCall c x z there.place) (sym is) call)
-      | inr ne ↦ subst (λ (z : Stand). HasCall c x q z.place) (sym (others q ne)) (ties.begun q qn)
+      | inl is ↦ subst (λ (z : Stand). HasCall c x q z.phase) (sym here ∙ ap stand' (sym is)) (subst (λ (z : ℕ). HasCall c x z there.phase) (sym is) call)
+      | inr ne ↦ subst (λ (z : Stand). HasCall c x q z.phase) (sym (others q ne)) (ties.begun q qn)
     ];
     served = λ q a. elim (cases_eq q p) [
-      | inl is ↦ subst (λ (z : Stand). HasService c.served x (call_at calls marked) (answer_at answers marked) z.place) (sym here ∙ ap stand' (sym is)) (serves (a ∙ ap (λ (z : ℕ). z + 1) is))
+      | inl is ↦ subst (λ (z : Stand). HasService c.served x (call_at calls marked) (answer_at answers marked) z.phase) (sym here ∙ ap stand' (sym is)) (serves (a ∙ ap (λ (z : ℕ). z + 1) is))
       | inr ne ↦
           let k = keep q ne a in
-          subst (λ (z : ℕ). HasService c.served x (call_at calls z) (answer_at answers z) (stand' q).place) k.1 (subst (λ (z : Stand). HasService c.served x (call_at calls g.marked) (answer_at answers g.marked) z.place) (sym (others q ne)) (ties.served q k.0))
+          subst (λ (z : ℕ). HasService c.served x (call_at calls z) (answer_at answers z) (stand' q).phase) k.1 (subst (λ (z : Stand). HasService c.served x (call_at calls g.marked) (answer_at answers g.marked) z.phase) (sym (others q ne)) (ties.served q k.0))
     ];
     read = λ q qn. elim (cases_eq q p) [
-      | inl is ↦ subst (λ (z : Stand). HasRead c.served x (answer_at answers (g.at q)) z.place) (sym here ∙ ap stand' (sym is)) (subst (λ (z : ℕ). HasRead c.served x (answer_at answers (g.at z)) there.place) (sym is) read)
-      | inr ne ↦ subst (λ (z : Stand). HasRead c.served x (answer_at answers (g.at q)) z.place) (sym (others q ne)) (ties.read q qn)
+      | inl is ↦ subst (λ (z : Stand). HasRead c.served x (answer_at answers (g.at q)) z.phase) (sym here ∙ ap stand' (sym is)) (subst (λ (z : ℕ). HasRead c.served x (answer_at answers (g.at z)) there.phase) (sym is) read)
+      | inr ne ↦ subst (λ (z : Stand). HasRead c.served x (answer_at answers (g.at q)) z.phase) (sym (others q ne)) (ties.read q qn)
     ];
     ended = λ q qn f. elim (cases_eq q p) [
-      | inl is ↦ subst (λ (z : ℕ). (g.at z < marked) × (g.pass_of (g.at z) ≡ z)) (sym is) (ended (subst (λ (z : Stand). IsFinished z.place) (ap stand' is ∙ here) f))
-      | inr ne ↦ let old = ties.ended q qn (subst (λ (z : Stand). IsFinished z.place) (others q ne) f) in (omega (arith, old.0), old.1)
+      | inl is ↦ subst (λ (z : ℕ). (g.at z < marked) × (g.pass_of (g.at z) ≡ z)) (sym is) (ended (subst (λ (z : Stand). IsFinished z.phase) (ap stand' is ∙ here) f))
+      | inr ne ↦ let old = ties.ended q qn (subst (λ (z : Stand). IsFinished z.phase) (others q ne) f) in (omega (arith, old.0), old.1)
     ];
   }

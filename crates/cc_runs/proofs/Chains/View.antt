@@ -1,6 +1,6 @@
 -- A chain of a state, as the abstract chain sees it.
 use Rattle.std.proofs.Common.{ℕ, zero, suc, ◌+◌, ◌*◌}
-use Rattle.cc_runs.specs.Names.{Setting, Chain, NodeField, Word, Job, Request, Stand, Sending, Place, Entry, Answer, TakeAnswer}
+use Rattle.cc_runs.specs.Names.{Setting, Chain, NodeField, Word, Job, Request, Stand, Sending, Phase, Entry, Answer, TakeAnswer}
 use Rattle.cc_runs.specs.Codes.{request_in, further_words, tag_of}
 use Rattle.cc_runs.specs.State.{State}
 pub use Rattle.cc_runs.specs.OnChain.{passes_on as members}
@@ -97,31 +97,31 @@ send_stage (Sending.WriteCount place at) = 2
 send_stage (Sending.WriteCursor place at) = 2
 send_stage _ = 1
 
-abbrev pub post_of : Chain → ℕ → Place → Post
-post_of x own Place.Idle = out 0 own
-post_of x own (Place.ResetNext call) = out 0 own
-post_of x own (Place.ResetState call) = out 1 own
-post_of x own (Place.Exchange call) = out 2 own
-post_of x own (Place.WriteTag put request) = entering own put (asks_in request) 0
-post_of x own (Place.WriteBody put request i) = entering own put (asks_in request) (suc i)
-post_of x own (Place.Link put) = entering own put no_word (all_wrote x)
-post_of x own Place.ReadState = out 4 own
-post_of x own (Place.ReadNext round) = resting own round.at round.served 0
-post_of x own (Place.Counting job service) = serving own job 1 0
-post_of x own (Place.Sending job service) = serving own job (send_stage service) 0
-post_of x own (Place.Taking job service) = serving own job 1 0
-post_of x own (Place.WriteAnswer job told) = serving own job 2 0
-post_of x own (Place.WriteAnswerTag job item) = serving own job 2 1
-post_of x own (Place.WriteAnswerBody job item i) = serving own job 2 (suc (suc i))
-post_of x own (Place.MarkDone job) = serving own job 2 all_told
-post_of x own (Place.HandOver at) = resting own at 0 3
-post_of x own Place.ReadAnswer = out 6 own
-post_of x own (Place.ReadAnswerTag at) = out 6 own
-post_of x own (Place.ReadAnswerBody p i) = out 6 own
-post_of x own (Place.Finished told) = out 0 own
+abbrev pub post_of : Chain → ℕ → Phase → Post
+post_of x own Phase.Idle = out 0 own
+post_of x own (Phase.ResetNext call) = out 0 own
+post_of x own (Phase.ResetState call) = out 1 own
+post_of x own (Phase.Exchange call) = out 2 own
+post_of x own (Phase.WriteTag put request) = entering own put (asks_in request) 0
+post_of x own (Phase.WriteBody put request i) = entering own put (asks_in request) (suc i)
+post_of x own (Phase.Link put) = entering own put no_word (all_wrote x)
+post_of x own Phase.ReadState = out 4 own
+post_of x own (Phase.ReadNext round) = resting own round.at round.served 0
+post_of x own (Phase.Counting job service) = serving own job 1 0
+post_of x own (Phase.Sending job service) = serving own job (send_stage service) 0
+post_of x own (Phase.Taking job service) = serving own job 1 0
+post_of x own (Phase.WriteAnswer job told) = serving own job 2 0
+post_of x own (Phase.WriteAnswerTag job item) = serving own job 2 1
+post_of x own (Phase.WriteAnswerBody job item i) = serving own job 2 (suc (suc i))
+post_of x own (Phase.MarkDone job) = serving own job 2 all_told
+post_of x own (Phase.HandOver at) = resting own at 0 3
+post_of x own Phase.ReadAnswer = out 6 own
+post_of x own (Phase.ReadAnswerTag at) = out 6 own
+post_of x own (Phase.ReadAnswerBody p i) = out 6 own
+post_of x own (Phase.Finished told) = out 0 own
 
 abbrev pub post_at : Chain → Stand → Post
-post_at x at = post_of x at.node at.place
+post_at x at = post_of x at.node at.phase
 
 abbrev pub view : Setting → Chain → State → Seen
 view c x s = record { tail = s.mem (Word.Tail x); node = λ i. cell_of x (λ f. s.mem (Word.Node x i f)); post = λ p. post_at x (s.stand (pass_on c x p)) }

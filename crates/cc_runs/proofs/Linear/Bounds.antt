@@ -14,8 +14,8 @@ use Rattle.cc_runs.specs.OnChain.{IsThere}
 use Rattle.cc_runs.specs.Linearizable.{Effect, replay, handed_on, AnswersAfter, IsExact, ExactOrdersGoOn}
 use Rattle.cc_runs.proofs.Chains.Opening.{no_calls}
 use Rattle.cc_runs.proofs.ListRuns.Decided.{group_mine, group_other}
-use Rattle.cc_runs.proofs.RunFronts.{begins_noted}
-use Rattle.cc_runs.proofs.KnownFronts.{known_grow}
+use Rattle.cc_runs.proofs.RunPrefixes.{begins_noted}
+use Rattle.cc_runs.proofs.KnownPrefixes.{known_grow}
 use Rattle.cc_runs.proofs.Linear.Replay.{accepted_by_calls, replay_groups, replay_even}
 
 -- at most `capacity` items wait, and no group was handed more than was accepted

@@ -3,7 +3,7 @@ use Rattle.std.proofs.Common.{◌≡◌, ℕ, ◌+◌, ◌<◌, false, List, len
 use Rattle.std.proofs.lemmas.Bool.{cases_eq, cases_lt}
 use Rattle.cc_model.specs.Config.{config_fault}
 use Rattle.cc_model.specs.Items.{accepted, handed, is_shut}
-use Rattle.cc_runs.specs.Names.{Config, Chain, ItemField, Word, Job, Place, Taking, Move}
+use Rattle.cc_runs.specs.Names.{Config, Chain, ItemField, Word, Job, Phase, Taking, Move}
 use Rattle.cc_runs.specs.Words.{groups}
 use Rattle.cc_runs.specs.State.{State, chain_of}
 use Rattle.cc_runs.specs.Run.{IsRun, reached, history_of}
@@ -29,7 +29,7 @@ module _ (c life n : ℕ) (v : Queue) (g : Ghosts) (i : LInv c life n v g) (s : 
   unshut = grind (arith, cases_eq g.shut 0, cases_eq g.shut 1, dummy, no_more, i.links.end_shut, i.branch.shut_most)
 
 pub empty : (c : Config) → config_fault c ≡ Ok tt → (moves : List Move) → IsRun (lists c) moves → (p y : ℕ) → chain_of c p ≡ Chain.Take y → y < groups c → (job : Job) (dummy taken : ℕ)
-    → ((reached (lists c) moves).stand p).place ≡ Place.Taking job (Taking.ReadDummyNext dummy taken) → (reached (lists c) moves).mem (Word.Item dummy ItemField.Next) ≡ 0
+    → ((reached (lists c) moves).stand p).phase ≡ Phase.Taking job (Taking.ReadDummyNext dummy taken) → (reached (lists c) moves).mem (Word.Item dummy ItemField.Next) ≡ 0
     → (is_shut (history_of (lists c) moves) ≡ false) × (length (handed (history_of (lists c) moves) y) ≡ length (accepted (history_of (lists c) moves)))
 empty c checked moves run p y chain inside job dummy taken stands null =
     let s : State = reached (lists c) moves in

@@ -7,7 +7,7 @@ use Rattle.cc_model.specs.Config.{config_fault}
 use Rattle.cc_model.specs.Items.{Begins, accepted, accepted_by, handed_to_all}
 use Rattle.cc_model.specs.Legal.{Legal}
 use Rattle.cc_model.proofs.Grows.{accepted_calls_more}
-use Rattle.cc_runs.specs.Names.{Config, ItemField, Word, Job, Parcel, Place, Sending, Move}
+use Rattle.cc_runs.specs.Names.{Config, ItemField, Word, Job, Parcel, Phase, Sending, Move}
 use Rattle.cc_runs.specs.Words.{groups}
 use Rattle.cc_runs.specs.State.{State}
 use Rattle.cc_runs.specs.Run.{IsRun, reached, passes, history_of}
@@ -57,7 +57,7 @@ module _ (c : Config) (checked : config_fault c ≡ Ok tt) (moves : List Move) (
 
 -- the last read of a scan finds a busy node
 module _ (c : Config) (checked : config_fault c ≡ Ok tt) (moves : List Move) (run : IsRun (lists c) moves) (p : ℕ) (less : p < passes (lists c)) (job : Job) (parcel : Parcel) (at reads : ℕ)
-    (stands : ((reached (lists c) moves).stand p).place ≡ Place.Sending job (Sending.ReadPassed parcel at reads)) (ne : (reached (lists c) moves).mem (Word.Item at ItemField.Passed) ≢ groups c) (all : reads ≡ c.capacity + 1) where
+    (stands : ((reached (lists c) moves).stand p).phase ≡ Phase.Sending job (Sending.ReadPassed parcel at reads)) (ne : (reached (lists c) moves).mem (Word.Item at ItemField.Passed) ≢ groups c) (all : reads ≡ c.capacity + 1) where
   a : AfterRun c moves
   a = after_runs c (in_range c checked) moves run
 

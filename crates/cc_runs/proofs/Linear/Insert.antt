@@ -8,10 +8,10 @@ use Rattle.cc_model.proofs.Grows.{get_front}
 use Rattle.cc_runs.specs.Names.{Config, Entry, Answer, Setting, Chain, Move}
 use Rattle.cc_runs.specs.State.{noted}
 use Rattle.cc_runs.specs.Run.{IsRun, history_of}
-use Rattle.cc_runs.proofs.RunFronts.{fronts_begin, front_more}
+use Rattle.cc_runs.proofs.RunPrefixes.{prefixes_begin, prefix_more}
 use Rattle.cc_runs.specs.Linearizable.{Effect, replay, AnswersAfter, IsExact, in_order, IsPart}
 use Rattle.cc_runs.proofs.Linear.Part.{part_self, part_more, part_behind}
-use Rattle.cc_runs.proofs.Linear.Replay.{front_next, front_length, replay_groups, replay_even, answers_alike, Timed, timed_alike, full, with_full, full_alike}
+use Rattle.cc_runs.proofs.Linear.Replay.{front_next, prefix_length, replay_groups, replay_even, answers_alike, Timed, timed_alike, full, with_full, full_alike}
 
 -- the effects of a run, at each moment
 abbrev pub AreTimed : Setting → List Move → List (List Effect) → Type 0
@@ -59,7 +59,7 @@ module _ (c : Config) (m : ℕ) (some : c.groups ≡ m + 1) (e : Entry) where
   full_timed : (h r : Record) → Timed h r → slice_get h.sends.calls (length r.sends.calls) ≡ Some e → Timed h (with_full r e)
   full_timed h r t next = record {
     send_calls = front_next r.sends.calls h.sends.calls (length r.sends.calls) e t.send_calls refl next;
-    send_answers = front_more h.sends.answers r.sends.answers (r.sends.answers ++ full ∷ []) t.send_answers (full ∷ [], refl);
+    send_answers = prefix_more h.sends.answers r.sends.answers (r.sends.answers ++ full ∷ []) t.send_answers (full ∷ [], refl);
     take_calls = t.take_calls;
     take_answers = t.take_answers;
   }
@@ -78,8 +78,8 @@ module _ (c : Setting) (m : ℕ) (some : c.config.groups ≡ m + 1) (first : Mov
   at_least : (more : List Move) (effects : List (List Effect)) → IsRun c (more ++ first ∷ before) → AreTimed c (more ++ first ∷ before) effects → length h0.sends.answers ≤ length (replay c.config.groups (in_order effects)).sends.answers
   at_least [] [] run t = absurd t
   at_least (x ∷ more) [] run t = absurd t
-  at_least [] (now ∷ old) run t = front_length _ _ t.1.send_answers
-  at_least (x ∷ more) (now ∷ old) run t = omega (arith, front_length _ _ t.1.send_answers, front_length _ _ (fronts_begin c (x ∷ more) (first ∷ before) run).1.sends.answers)
+  at_least [] (now ∷ old) run t = prefix_length _ _ t.1.send_answers
+  at_least (x ∷ more) (now ∷ old) run t = omega (arith, prefix_length _ _ t.1.send_answers, prefix_length _ _ (prefixes_begin c (x ∷ more) (first ∷ before) run).1.sends.answers)
 
   module _ (many : length h0.takes ≡ m + 1) (next : slice_get h0.sends.calls (length h0.sends.answers) ≡ Some e) (of : IsSenders c.config e.pass e.call) (fits : AnswersAfter c.config h0 Chain.Send e.call full) where
     pub put_in : (more : List Move) (effects : List (List Effect)) → IsRun c (more ++ first ∷ before) → AreTimed c (more ++ first ∷ before) effects → IsExact c.config (in_order effects)
@@ -90,7 +90,7 @@ module _ (c : Setting) (m : ℕ) (some : c.config.groups ≡ m + 1) (first : Mov
         let es : List Effect = now ++ in_order old in
         let r : Record = replay c.config.groups es in
         let even : length r.sends.calls ≡ length r.sends.answers = (replay_even c.config.groups es).0 in
-        let same : length r.sends.calls ≡ length h0.sends.answers = omega (arith, even, less, front_length _ _ t.1.send_answers) in
+        let same : length r.sends.calls ≡ length h0.sends.answers = omega (arith, even, less, prefix_length _ _ t.1.send_answers) in
         record {
           later = (record { chain = Chain.Send; entry = e; answer = full } ∷ now) ∷ old;
           timed = (t.0, full_timed c.config m some e h0 r t.1 (ap (λ (k : ℕ). slice_get h0.sends.calls k) same ∙ next));
@@ -102,7 +102,7 @@ module _ (c : Setting) (m : ℕ) (some : c.config.groups ≡ m + 1) (first : Mov
         let es : List Effect = now ++ in_order old in
         let r : Record = replay c.config.groups es in
         let h : Record = history_of c (x ∷ more ++ first ∷ before) in
-        let b : Begins h0 h = (fronts_begin c (x ∷ more) (first ∷ before) run).1 in
+        let b : Begins h0 h = (prefixes_begin c (x ∷ more) (first ∷ before) run).1 in
         let even : length r.sends.calls ≡ length r.sends.answers = (replay_even c.config.groups es).0 in
         let same : length r.sends.calls ≡ length h0.sends.answers = omega (arith, even, less, at_least (x ∷ more) (now ∷ old) run t) in
         let up : length (replay c.config.groups (in_order old)).sends.answers ≤ length r.sends.answers = sends_up c.config.groups now (in_order old) in

@@ -5,10 +5,10 @@ use Rattle.std.proofs.lemmas.Option.{slice_get-get_or}
 use Rattle.std.specs.List.{AllByRecursion, slice_get, list_any}
 use Rattle.cc_model.specs.Config.{config_fault}
 use Rattle.cc_model.specs.Record.{Side, Record, of_group}
-use Rattle.cc_model.specs.Items.{IsFront, Begins, accepted, accepted_item, is_shut, shuts, handed, handed_to_all}
-use Rattle.cc_model.specs.Legal.{Legal, EAnswer, DAnswer, DAnswers, IsSenders, IsReceivers}
+use Rattle.cc_model.specs.Items.{IsPrefix, Begins, accepted, accepted_item, is_shut, shuts, handed, handed_to_all}
+use Rattle.cc_model.specs.Legal.{Legal, SendSideAnswer, TakeSideAnswer, TakeSideAnswers, IsSenders, IsReceivers}
 use Rattle.cc_model.proofs.Grows.{get_front, accepted_more}
-use Rattle.cc_runs.specs.Names.{Config, Call, Pass, Entry, Item, Answer, SendAnswer, TakeAnswer, Setting, Chain, ItemField, Word, Place, Move}
+use Rattle.cc_runs.specs.Names.{Config, Call, Pass, Entry, Item, Answer, SendAnswer, TakeAnswer, Setting, Chain, ItemField, Word, Phase, Move}
 use Rattle.cc_runs.specs.Words.{groups}
 use Rattle.cc_runs.specs.State.{State, chain_of, pass_at, noted, word_of}
 use Rattle.cc_runs.specs.Lines.{enters, decides, operation}
@@ -16,7 +16,7 @@ use Rattle.cc_runs.specs.OnChain.{calls_on, answers_on}
 use Rattle.cc_runs.specs.ChainLaws.{ServesNext, served_node}
 use Rattle.cc_runs.specs.Run.{IsRun, reached, history_of}
 use Rattle.cc_runs.proofs.Ranges.{in_range}
-use Rattle.cc_runs.proofs.RunFronts.{fronts_begin, front_more, front_self}
+use Rattle.cc_runs.proofs.RunPrefixes.{prefixes_begin, prefix_more, prefix_self}
 use Rattle.cc_runs.proofs.ChainLaws.{chain_laws}
 use Rattle.cc_runs.proofs.LinkedList.Busy as busy
 use Rattle.cc_runs.proofs.ListRuns.View.{queue_of}
@@ -32,7 +32,7 @@ use Rattle.cc_runs.proofs.Linear.Scan.{Waits, start, begun}
 use Rattle.cc_runs.proofs.Linear.Full as scan
 use Rattle.cc_runs.proofs.Linear.Full.{same_accepted, since}
 use Rattle.cc_runs.proofs.Linear.Empty.{empty}
-use Rattle.cc_runs.proofs.Linear.Replay.{front_next, front_length, front_same, replay_groups, replay_even, Alike, answers_alike, Timed, timed_alike, full, with_full}
+use Rattle.cc_runs.proofs.Linear.Replay.{front_next, prefix_length, front_same, replay_groups, replay_even, Alike, answers_alike, Timed, timed_alike, full, with_full}
 use Rattle.cc_runs.proofs.Linear.Insert.{AreTimed, PutIn, put_in}
 use Rattle.cc_runs.proofs.Linear.Decided.{e_last, d_last, send_exact, full_exact, take_exact, accepts_one, open_of, enters_none, FromNull, IsTakePlace, empty_from, FromScan, IsSendPlace, full_from}
 
@@ -52,14 +52,14 @@ is_full (Answer.Send SendAnswer.Spent) = inr (λ e. cc)
 is_full (Answer.Close a) = inr (λ e. cc)
 is_full (Answer.Take a) = inr (λ e. cc)
 
-send_place : (h : Record) (pass : Pass) (begun : ℕ) (place : Place) → Well h Chain.Send pass begun place → IsSendPlace place
-send_place h pass begun (Place.Taking job service) w = w
-send_place h pass begun (Place.Counting job service) w = w
+send_place : (h : Record) (pass : Pass) (begun : ℕ) (place : Phase) → Well h Chain.Send pass begun place → IsSendPlace place
+send_place h pass begun (Phase.Taking job service) w = w
+send_place h pass begun (Phase.Counting job service) w = w
 send_place h pass begun _ w = tt
 
-take_place : (h : Record) (y : ℕ) (pass : Pass) (begun : ℕ) (place : Place) → Well h (Chain.Take y) pass begun place → IsTakePlace place
-take_place h y pass begun (Place.Sending job service) w = absurd (cc)
-take_place h y pass begun (Place.Counting job service) w = w
+take_place : (h : Record) (y : ℕ) (pass : Pass) (begun : ℕ) (place : Phase) → Well h (Chain.Take y) pass begun place → IsTakePlace place
+take_place h y pass begun (Phase.Sending job service) w = absurd (cc)
+take_place h y pass begun (Phase.Counting job service) w = w
 take_place h y pass begun _ w = tt
 
 is_take : (c : Config) (y : ℕ) (pass : Pass) (k : Call) → IsReceivers c y pass k → k ≡ Call.Take
@@ -97,11 +97,11 @@ module _ (c : Config) (checked : config_fault c ≡ Ok tt) where
       let h : Record = history_of (lists c) earlier in
       let later : Record = history_of (lists c) (mv ∷ earlier) in
       let r : Record = replay c.groups (in_order k.effects) in
-      let b : Begins h later = (fronts_begin (lists c) (mv ∷ []) earlier run).1 in
+      let b : Begins h later = (prefixes_begin (lists c) (mv ∷ []) earlier run).1 in
       let t : Timed later r = record {
-        send_calls = front_more r.sends.calls h.sends.calls later.sends.calls k.last.send_calls b.sends.calls;
-        send_answers = subst (λ (l : List Answer). IsFront l r.sends.answers) (sym sends) k.last.send_answers;
-        take_calls = λ g. front_more (of_group r g).calls (of_group h g).calls (of_group later g).calls (k.last.take_calls g) (b.takes g).calls;
+        send_calls = prefix_more r.sends.calls h.sends.calls later.sends.calls k.last.send_calls b.sends.calls;
+        send_answers = subst (λ (l : List Answer). IsPrefix l r.sends.answers) (sym sends) k.last.send_answers;
+        take_calls = λ g. prefix_more (of_group r g).calls (of_group h g).calls (of_group later g).calls (k.last.take_calls g) (b.takes g).calls;
         take_answers = λ g. k.last.take_answers g ∙ sym (takes g);
       } in
       (record { effects = [] ∷ k.effects; timed = (k.timed, t); exact = k.exact; last = t; whole = omega (arith, k.whole, ap length sends) }, part_self (in_order k.effects))
@@ -122,8 +122,8 @@ module _ (c : Config) (checked : config_fault c ≡ Ok tt) where
     abbrev h : Record
     h = s.history
 
-    abbrev place : Place
-    place = (s.stand p).place
+    abbrev place : Phase
+    place = (s.stand p).phase
 
     abbrev found : ℕ
     found = s.mem (word_of (operation (lists c) (chain_of c p) (s.stand p).node place))
@@ -159,13 +159,13 @@ module _ (c : Config) (checked : config_fault c ≡ Ok tt) where
         is_senders : IsSenders c entry.pass entry.call
         is_senders = all_get (λ (z : Entry). IsSenders c z.pass z.call) h.sends.calls (length h.sends.answers) entry law.senders next
 
-        told : EAnswer c (length (accepted h)) (is_shut h) entry.known entry.call a
-        told = subst (λ (n : ℕ). EAnswer c n (is_shut h) entry.known entry.call a) (zero-add _) (e_last c 0 false h.sends.calls h.sends.answers entry a law.answers next)
+        told : SendSideAnswer c (length (accepted h)) (is_shut h) entry.known entry.call a
+        told = subst (λ (n : ℕ). SendSideAnswer c n (is_shut h) entry.known entry.call a) (zero-add _) (e_last c 0 false h.sends.calls h.sends.answers entry a law.answers next)
 
         more_room : (at : ℕ) → a ≡ Answer.Send (SendAnswer.Accepted at) → length (accepted h) < handed_to_all h + c.capacity
         more_room at is =
             let one : length (accepted_item entry (Answer.Send (SendAnswer.Accepted at))) ≡ 1 = accepts_one c (length (accepted h)) entry.known (is_shut h) entry.pass entry.call entry.number at
-            is_senders (subst (λ (z : Answer). EAnswer c (length (accepted h)) (is_shut h) entry.known entry.call z) is told) in
+            is_senders (subst (λ (z : Answer). SendSideAnswer c (length (accepted h)) (is_shut h) entry.known entry.call z) is told) in
             omega (
               arith,
               subst (λ (z : Record). length (accepted z) ≤ handed_to_all z + c.capacity) later_is (room (Move.Step p ∷ earlier) run),
@@ -205,7 +205,7 @@ module _ (c : Config) (checked : config_fault c ≡ Ok tt) where
           from = full_from c place found (send_place h (pass_at c p) (s.stand p).begun place (subst (λ (x : Chain). Well h x (pass_at c p) (s.stand p).begun place) of.chain_is well)) (e ∙ ap Some is)
 
           ne : s.mem (Word.Item from.at ItemField.Passed) ≢ groups c
-          ne z = from.busy (ap (λ (q : Place). s.mem (word_of (operation (lists c) (chain_of c p) (s.stand p).node q))) from.place_is ∙ z)
+          ne z = from.busy (ap (λ (q : Phase). s.mem (word_of (operation (lists c) (chain_of c p) (s.stand p).node q))) from.place_is ∙ z)
 
           w : Waits c earlier
           w = since c checked earlier run.0 p run.1.0 from.job from.parcel from.at from.reads from.place_is ne from.all
@@ -225,8 +225,8 @@ module _ (c : Config) (checked : config_fault c ≡ Ok tt) where
 
           fits_full : AnswersAfter c h0 Chain.Send entry.call full
           fits_full = full_exact c (accepted h0) (is_shut h0) 0 (handed_to_all h0) entry.known entry.call
-              (subst (λ (b : Bool). EAnswer c (length (accepted h0)) b entry.known entry.call full) (ap (list_any shuts) w.same)
-              (subst (λ (l : List Item). EAnswer c (length l) (is_shut h) entry.known entry.call full) items (subst (λ (z : Answer). EAnswer c (length (accepted h)) (is_shut h) entry.known entry.call z) is told)))
+              (subst (λ (b : Bool). SendSideAnswer c (length (accepted h0)) b entry.known entry.call full) (ap (list_any shuts) w.same)
+              (subst (λ (l : List Item). SendSideAnswer c (length l) (is_shut h) entry.known entry.call full) items (subst (λ (z : Answer). SendSideAnswer c (length (accepted h)) (is_shut h) entry.known entry.call z) is told)))
               room_full
 
           next0 : slice_get h0.sends.calls (length h0.sends.answers) ≡ Some entry
@@ -293,9 +293,9 @@ module _ (c : Config) (checked : config_fault c ≡ Ok tt) where
         take_law : Legal c after_take
         take_law = subst (λ (z : Record). Legal c z) take_later (legal c (reached (lists c) (Move.Step p ∷ earlier)) (after_runs c (in_range c checked) (Move.Step p ∷ earlier) run).whole)
 
-        take_told : DAnswer (accepted h) (is_shut h) (length (handed h y)) entry.known a
-        take_told = subst (λ (n : ℕ). DAnswer (accepted h) (is_shut h) n entry.known a) (zero-add _)
-            (d_last (accepted h) (is_shut h) 0 (of_group h y).calls (of_group h y).answers entry a (subst (λ (z : Side). DAnswers (accepted h) (is_shut h) 0 z.calls z.answers) (group_mine h y mine side_in) (take_law.takes y inside).answers) take_next)
+        take_told : TakeSideAnswer (accepted h) (is_shut h) (length (handed h y)) entry.known a
+        take_told = subst (λ (n : ℕ). TakeSideAnswer (accepted h) (is_shut h) n entry.known a) (zero-add _)
+            (d_last (accepted h) (is_shut h) 0 (of_group h y).calls (of_group h y).answers entry a (subst (λ (z : Side). TakeSideAnswers (accepted h) (is_shut h) 0 z.calls z.answers) (group_mine h y mine side_in) (take_law.takes y inside).answers) take_next)
 
         is_receivers : IsReceivers c y entry.pass entry.call
         is_receivers = all_get (λ (z : Entry). IsReceivers c y z.pass z.call) (of_group h y).calls (length (of_group h y).answers) entry
@@ -308,7 +308,7 @@ module _ (c : Config) (checked : config_fault c ≡ Ok tt) where
         none_left is =
             let from : FromNull place found = empty_from c place found (take_place h y (pass_at c p) (s.stand p).begun place (subst (λ (x : Chain). Well h x (pass_at c p) (s.stand p).begun place) of.chain_is well)) (e ∙ ap Some is) in
             empty c checked earlier run.0 p y of.chain_is inside from.job from.dummy from.taken from.place_is
-            (ap (λ (q : Place). s.mem (word_of (operation (lists c) (chain_of c p) (s.stand p).node q))) (sym from.place_is) ∙ from.null)
+            (ap (λ (q : Phase). s.mem (word_of (operation (lists c) (chain_of c p) (s.stand p).node q))) (sym from.place_is) ∙ from.null)
 
         take_fits : AnswersAfter c h (Chain.Take y) entry.call a
         take_fits = subst (λ (k : Call). AnswersAfter c h (Chain.Take y) k a) (sym call_is) (take_exact c (accepted h) (is_shut h) (length (handed h y)) (handed_to_all h) entry.known a take_told none_left)
@@ -324,7 +324,7 @@ module _ (c : Config) (checked : config_fault c ≡ Ok tt) where
           r_in = omega (arith, inside, replay_groups c.groups (in_order k.effects))
 
           abbrev Group : ℕ → Side → Side → Type 0
-          Group g of_h of_r = IsFront of_r.calls of_h.calls × (of_r.answers ≡ of_h.answers)
+          Group g of_h of_r = IsPrefix of_r.calls of_h.calls × (of_r.answers ≡ of_h.answers)
 
           even_in : length (of_group r y).calls ≡ length (of_group r y).answers
           even_in = (replay_even c.groups (in_order k.effects)).1 y r_in
@@ -388,7 +388,7 @@ module _ (c : Config) (checked : config_fault c ≡ Ok tt) where
     effects = [];
     timed = tt;
     exact = tt;
-    last = record { send_calls = front_self []; send_answers = front_self []; take_calls = λ g. front_self _; take_answers = λ g. refl };
+    last = record { send_calls = prefix_self []; send_answers = prefix_self []; take_calls = λ g. prefix_self _; take_answers = λ g. refl };
     whole = omega arith;
   }
   lin (mv ∷ earlier) run = (grows mv earlier run (lin earlier run.0)).0
@@ -406,11 +406,11 @@ module _ (c : Config) (checked : config_fault c ≡ Ok tt) where
 on_time : (h r : Record) → Timed h r → IsOnTime h r
 on_time h r t = record { calls = calls; answers = answers }
   where
-    calls : (x : Chain) → IsFront (calls_on x r) (calls_on x h)
+    calls : (x : Chain) → IsPrefix (calls_on x r) (calls_on x h)
     calls Chain.Send = t.send_calls
     calls (Chain.Take g) = t.take_calls g
 
-    answers : (x : Chain) → IsFront (answers_on x h) (answers_on x r)
+    answers : (x : Chain) → IsPrefix (answers_on x h) (answers_on x r)
     answers Chain.Send = t.send_answers
     answers (Chain.Take g) = ([], t.take_answers g ∙ sym (append-nil (of_group h g).answers))
 
@@ -442,7 +442,7 @@ orders_agree c serves checked =
 -- ---- the order keeps the time
 
 silent_on_time : (h : Record) → IsOnTime h h
-silent_on_time h = record { calls = λ x. front_self (calls_on x h); answers = λ x. front_self (answers_on x h) }
+silent_on_time h = record { calls = λ x. prefix_self (calls_on x h); answers = λ x. prefix_self (answers_on x h) }
 
 cut_at : (c : Setting) (seen : List Move) (effects : List (List Effect)) → IsTimely c seen effects → Cut c seen (in_order effects)
 cut_at c [] [] t = record { after = []; before = []; split = refl; on_time = silent_on_time (history_of c []) }
@@ -467,6 +467,6 @@ order_is_real_time c later seen effects l x y i j answered entered =
       after = k.after;
       before = k.before;
       split = k.split;
-      first = omega (arith, answered, front_length (answers_on x (history_of c seen)) (answers_on x (replay c.config.groups k.before)) (k.on_time.answers x));
-      second = omega (arith, entered, front_length (calls_on y (replay c.config.groups k.before)) (calls_on y (history_of c seen)) (k.on_time.calls y));
+      first = omega (arith, answered, prefix_length (answers_on x (history_of c seen)) (answers_on x (replay c.config.groups k.before)) (k.on_time.answers x));
+      second = omega (arith, entered, prefix_length (calls_on y (replay c.config.groups k.before)) (calls_on y (history_of c seen)) (k.on_time.calls y));
     }

@@ -4,7 +4,7 @@ use Rattle.std.proofs.lemmas.Bool.{cases_eq}
 use Rattle.std.proofs.lemmas.List.{length-set, length-replicate}
 use Rattle.std.specs.List.{slice_get, list_any}
 use Rattle.cc_model.specs.Record.{Side, Record, empty, of_group}
-use Rattle.cc_model.specs.Items.{IsFront, accepted, accepted_by, accepted_item, is_shut, shuts, handed, handed_by, handed_to_all}
+use Rattle.cc_model.specs.Items.{IsPrefix, accepted, accepted_by, accepted_item, is_shut, shuts, handed, handed_by, handed_to_all}
 use Rattle.cc_model.proofs.Grows.{any-append}
 use Rattle.cc_runs.specs.Names.{Config, Call, Entry, Item, Answer, SendAnswer, Chain}
 use Rattle.cc_runs.specs.State.{noted}
@@ -17,21 +17,21 @@ use Rattle.cc_runs.specs.Linearizable.{Effect, replay, handed_on, AnswersAfter}
 -- ---- prefixes
 
 -- the next element
-pub front_next : {X : Type 0} (xs ys : List X) (n : ℕ) (x : X) → IsFront xs ys → n ≡ length xs → slice_get ys n ≡ Some x → IsFront (xs ++ x ∷ []) ys
+pub front_next : {X : Type 0} (xs ys : List X) (n : ℕ) (x : X) → IsPrefix xs ys → n ≡ length xs → slice_get ys n ≡ Some x → IsPrefix (xs ++ x ∷ []) ys
 front_next {X} xs ys n x f is got = by_rest xs f.0 x (ap (λ (k : ℕ). slice_get (xs ++ f.0) k) (sym is) ∙ ap (λ (l : List X). slice_get l n) (sym f.1) ∙ got) f.1
   where
-    at_end : (xs rest : List X) (x : X) → slice_get (xs ++ rest) (length xs) ≡ Some x → IsFront (xs ++ x ∷ []) (xs ++ rest)
+    at_end : (xs rest : List X) (x : X) → slice_get (xs ++ rest) (length xs) ≡ Some x → IsPrefix (xs ++ x ∷ []) (xs ++ rest)
     at_end [] [] x e = absurd (cc)
     at_end [] (y ∷ rest) x e = let same : y ≡ x = cc in (rest, ap (λ (z : X). z ∷ rest) same)
-    at_end (y ∷ xs) rest x e = let more : IsFront (xs ++ x ∷ []) (xs ++ rest) = at_end xs rest x e in (more.0, ap (λ (l : List X). y ∷ l) more.1)
+    at_end (y ∷ xs) rest x e = let more : IsPrefix (xs ++ x ∷ []) (xs ++ rest) = at_end xs rest x e in (more.0, ap (λ (l : List X). y ∷ l) more.1)
 
-    by_rest : (xs rest : List X) (x : X) → slice_get (xs ++ rest) (length xs) ≡ Some x → ys ≡ xs ++ rest → IsFront (xs ++ x ∷ []) ys
-    by_rest xs rest x e is = subst (λ (l : List X). IsFront (xs ++ x ∷ []) l) (sym is) (at_end xs rest x e)
+    by_rest : (xs rest : List X) (x : X) → slice_get (xs ++ rest) (length xs) ≡ Some x → ys ≡ xs ++ rest → IsPrefix (xs ++ x ∷ []) ys
+    by_rest xs rest x e is = subst (λ (l : List X). IsPrefix (xs ++ x ∷ []) l) (sym is) (at_end xs rest x e)
 
-pub front_length : {X : Type 0} (xs ys : List X) → IsFront xs ys → length xs ≤ length ys
-front_length xs ys f = omega (arith, ap length f.1, length-append xs f.0)
+pub prefix_length : {X : Type 0} (xs ys : List X) → IsPrefix xs ys → length xs ≤ length ys
+prefix_length xs ys f = omega (arith, ap length f.1, length-append xs f.0)
 
-pub front_same : {X : Type 0} (xs ys : List X) → IsFront xs ys → length ys ≤ length xs → ys ≡ xs
+pub front_same : {X : Type 0} (xs ys : List X) → IsPrefix xs ys → length ys ≤ length xs → ys ≡ xs
 front_same {X} xs ys f less = f.1 ∙ by_rest f.0 (omega (arith, ap length f.1, length-append xs f.0, less))
   where
     by_rest : (rest : List X) → length rest ≡ 0 → xs ++ rest ≡ xs
@@ -102,9 +102,9 @@ same_least h r m hn rn same =
 
 -- the takes of each group took effect as they are answered; of the sends some may have that will be answered
 pub record Timed (h r : Record) : Type 0 where
-  pub send_calls : IsFront r.sends.calls h.sends.calls
-  pub send_answers : IsFront h.sends.answers r.sends.answers
-  pub take_calls : (g : ℕ) → IsFront (of_group r g).calls (of_group h g).calls
+  pub send_calls : IsPrefix r.sends.calls h.sends.calls
+  pub send_answers : IsPrefix h.sends.answers r.sends.answers
+  pub take_calls : (g : ℕ) → IsPrefix (of_group r g).calls (of_group h g).calls
   pub take_answers : (g : ℕ) → (of_group r g).answers ≡ (of_group h g).answers
 
 -- calls after the last answer accept nothing

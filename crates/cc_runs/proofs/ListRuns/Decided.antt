@@ -5,22 +5,22 @@ use Rattle.std.proofs.lemmas.List.{get_or-set_same, get_or-set_other}
 use Rattle.std.specs.List.{slice_get}
 use Rattle.cc_model.specs.Record.{Side, Record, silent, of_group, with_answer, with_sends, with_takes}
 use Rattle.cc_model.specs.Items.{accepted, accepted_item, is_shut, shuts, handed, handed_by, handed_item}
-use Rattle.cc_model.specs.Legal.{EAnswer, EAnswers, DAnswer, DAnswers}
+use Rattle.cc_model.specs.Legal.{SendSideAnswer, SendSideAnswers, TakeSideAnswer, TakeSideAnswers}
 use Rattle.cc_runs.specs.Names.{Config, Call, Entry, Item, Answer, SendAnswer, CloseAnswer}
 use Rattle.cc_model.proofs.Grows.{any-append, accepted_more, e_answer_more, d_answer_more, d_items_more, handed_by-append}
 
 -- the answers of all sides are legal
-pub record Lawful (c : Config) (h : Record) : Type 0 where
-  pub sends : EAnswers c 0 false h.sends.calls h.sends.answers
-  pub takes : (y : ℕ) → DAnswers (accepted h) (is_shut h) 0 (of_group h y).calls (of_group h y).answers
+pub record LegalSoFar (c : Config) (h : Record) : Type 0 where
+  pub sends : SendSideAnswers c 0 false h.sends.calls h.sends.answers
+  pub takes : (y : ℕ) → TakeSideAnswers (accepted h) (is_shut h) 0 (of_group h y).calls (of_group h y).answers
 
 -- once shut, no answer accepts
-closed_item : (c : Config) (n known : ℕ) (k : Call) (e : Entry) (a : Answer) → EAnswer c n true known k a → accepted_item e a ≡ []
+closed_item : (c : Config) (n known : ℕ) (k : Call) (e : Entry) (a : Answer) → SendSideAnswer c n true known k a → accepted_item e a ≡ []
 closed_item c n known (Call.Send body) e (Answer.Send SendAnswer.Closed) h = refl
 closed_item c n known Call.Close e (Answer.Close (CloseAnswer.Already total)) h = refl
 closed_item _ _ _ _ _ _ h = absurd h
 
-closed_none : (c : Config) (n known : ℕ) (k : Call) (e : Entry) (a : Answer) (shut : Bool) → EAnswer c n shut known k a → shut ≡ true → accepted_item e a ≡ []
+closed_none : (c : Config) (n known : ℕ) (k : Call) (e : Entry) (a : Answer) (shut : Bool) → SendSideAnswer c n shut known k a → shut ≡ true → accepted_item e a ≡ []
 closed_none c n known k e a true h is = closed_item c n known k e a h
 closed_none c n known k e a false h is = cc
 
@@ -30,19 +30,19 @@ closed_none c n known k e a false h is = cc
 abbrev pub told_send : Record → Answer → Record
 told_send h a = with_sends h (with_answer h.sends a)
 
-module _ (c : Config) (h : Record) (lawful : Lawful c h) (e : Entry) (a : Answer) (is : slice_get h.sends.calls (length h.sends.answers) ≡ Some e) where
+module _ (c : Config) (h : Record) (legal : LegalSoFar c h) (e : Entry) (a : Answer) (is : slice_get h.sends.calls (length h.sends.answers) ≡ Some e) where
   pub e_accepted : accepted (told_send h a) ≡ accepted h ++ accepted_item e a
   e_accepted = accepted_more h.sends.calls h.sends.answers e a is
 
   pub e_shut : is_shut (told_send h a) ≡ is_shut h || (shuts a || false)
   e_shut = any-append shuts h.sends.answers (a ∷ [])
 
-  pub e_decided : EAnswer c (length (accepted h)) (is_shut h) e.known e.call a → Lawful c (told_send h a)
+  pub e_decided : SendSideAnswer c (length (accepted h)) (is_shut h) e.known e.call a → LegalSoFar c (told_send h a)
   e_decided fits = record {
-    sends = e_answer_more c 0 false h.sends.calls h.sends.answers e a lawful.sends is (rw zero-add fits);
+    sends = e_answer_more c 0 false h.sends.calls h.sends.answers e a legal.sends is (rw zero-add fits);
     takes = λ y.
-        let takes : DAnswers (accepted h ++ accepted_item e a) (is_shut h || (shuts a || false)) 0 (of_group h y).calls (of_group h y).answers =
-        d_items_more (accepted h) (accepted_item e a) (is_shut h) (shuts a || false) 0 (of_group h y).calls (of_group h y).answers (closed_none c (length (accepted h)) e.known e.call e a (is_shut h) fits) (lawful.takes y) in
+        let takes : TakeSideAnswers (accepted h ++ accepted_item e a) (is_shut h || (shuts a || false)) 0 (of_group h y).calls (of_group h y).answers =
+        d_items_more (accepted h) (accepted_item e a) (is_shut h) (shuts a || false) 0 (of_group h y).calls (of_group h y).answers (closed_none c (length (accepted h)) e.known e.call e a (is_shut h) fits) (legal.takes y) in
         rw (e_accepted, e_shut) takes;
   }
 
@@ -59,7 +59,7 @@ group_other h y x now ne = get_or-set_other h.takes y x now silent ne
 abbrev pub told_take : Record → ℕ → Answer → Record
 told_take h y a = with_takes h y (with_answer (of_group h y) a)
 
-module _ (c : Config) (h : Record) (lawful : Lawful c h) (y : ℕ) (inside : y < length h.takes) (e : Entry) (a : Answer) (is : slice_get (of_group h y).calls (length (of_group h y).answers) ≡ Some e) where
+module _ (c : Config) (h : Record) (legal : LegalSoFar c h) (y : ℕ) (inside : y < length h.takes) (e : Entry) (a : Answer) (is : slice_get (of_group h y).calls (length (of_group h y).answers) ≡ Some e) where
   pub d_handed : handed (told_take h y a) y ≡ handed h y ++ handed_item a
   d_handed =
       ap (λ (s : Side). handed_by s.answers) (group_mine h y (with_answer (of_group h y) a) inside)
@@ -68,17 +68,17 @@ module _ (c : Config) (h : Record) (lawful : Lawful c h) (y : ℕ) (inside : y <
   pub d_others : (x : ℕ) → x ≢ y → handed (told_take h y a) x ≡ handed h x
   d_others x ne = ap (λ (s : Side). handed_by s.answers) (group_other h y x (with_answer (of_group h y) a) ne)
 
-  pub d_decided : DAnswer (accepted h) (is_shut h) (length (handed h y)) e.known a → Lawful c (told_take h y a)
+  pub d_decided : TakeSideAnswer (accepted h) (is_shut h) (length (handed h y)) e.known a → LegalSoFar c (told_take h y a)
   d_decided fits = record {
-    sends = lawful.sends;
+    sends = legal.sends;
     takes = λ x. elim (cases_eq x y) [
       | inl same ↦ subst (λ (z : ℕ). Takes z (of_group (told_take h y a) z)) (sym same) (subst (λ (s : Side). Takes y s) (sym (group_mine h y (with_answer (of_group h y) a) inside)) mine)
-      | inr ne ↦ subst (λ (s : Side). Takes x s) (sym (group_other h y x (with_answer (of_group h y) a) ne)) (lawful.takes x)
+      | inr ne ↦ subst (λ (s : Side). Takes x s) (sym (group_other h y x (with_answer (of_group h y) a) ne)) (legal.takes x)
     ];
   }
     where
       Takes : ℕ → Side → Type 0
-      Takes x s = DAnswers (accepted h) (is_shut h) 0 s.calls s.answers
+      Takes x s = TakeSideAnswers (accepted h) (is_shut h) 0 s.calls s.answers
 
-      mine : DAnswers (accepted h) (is_shut h) 0 (of_group h y).calls ((of_group h y).answers ++ a ∷ [])
-      mine = d_answer_more (accepted h) (is_shut h) 0 (of_group h y).calls (of_group h y).answers e a (lawful.takes y) is (rw zero-add fits)
+      mine : TakeSideAnswers (accepted h) (is_shut h) 0 (of_group h y).calls ((of_group h y).answers ++ a ∷ [])
+      mine = d_answer_more (accepted h) (is_shut h) 0 (of_group h y).calls (of_group h y).answers e a (legal.takes y) is (rw zero-add fits)

@@ -2,7 +2,7 @@
 use Rattle.std.proofs.Common.{◌≡◌, ◌≢◌, ℕ, ◌+◌, ◌<◌, ◌≤◌, inl, inr, refl, sym, ap, ◌∙◌, subst, arith}
 use Rattle.std.proofs.lemmas.Bool.{cases_eq, cases_lt}
 use Rattle.cc_model.specs.Items.{handed_to_all}
-use Rattle.cc_runs.specs.Names.{Config, Entry, Chain, NodeField, Word, Job, Place, Sending, Stand, Request}
+use Rattle.cc_runs.specs.Names.{Config, Entry, Chain, NodeField, Word, Job, Phase, Sending, Stand, Request}
 use Rattle.cc_runs.specs.State.{State, chain_of, hold}
 use Rattle.cc_runs.specs.Codes.{request_in, further_words, word, with_asked}
 use Rattle.cc_runs.proofs.Bodies.{few_further}
@@ -27,20 +27,20 @@ begun_or_none e from Sending.ReadTag not = refl
 begun_or_none e from (Sending.ReadBody request i) not = refl
 begun_or_none e from _ not = absurd (not tt)
 
-stage_none : (e : Entry) (from : ℕ) (at : Place) → (IsServing at → ⊥) → (enq_at e from at).stage ≡ 0
-stage_none e from (Place.Sending job service) not = begun_or_none e from service not
+stage_none : (e : Entry) (from : ℕ) (at : Phase) → (IsServing at → ⊥) → (enq_at e from at).stage ≡ 0
+stage_none e from (Phase.Sending job service) not = begun_or_none e from service not
 stage_none e from _ not = refl
 
-serving_sends : (at : Place) → IsServing at → IsSending at
-serving_sends (Place.Sending job service) u = tt
+serving_sends : (at : Phase) → IsServing at → IsSending at
+serving_sends (Phase.Sending job service) u = tt
 serving_sends _ u = absurd u
 
-idle_serves : (at : Place) → IsIdle at → IsServing at → ⊥
-idle_serves Place.Idle idle u = u
+idle_serves : (at : Phase) → IsIdle at → IsServing at → ⊥
+idle_serves Phase.Idle idle u = u
 idle_serves _ idle u = idle
 
-module _ (c : Config) (s : State) (p begun own : ℕ) (job : Job) (request : Request) (i : ℕ) (last : further_words request.tag ≤ i) (stands : (s.stand p).place ≡ Place.Sending job (Sending.ReadBody request i)) (within : p < passes (lists c)) (facts : ChainFacts (lists c) s)
-    (outside : (q : ℕ) → passes (lists c) ≤ q → IsIdle (s.stand q).place) (callers : (e : Entry) → IsNextSend s.history e → Caller c e × (e.known ≤ handed_to_all s.history)) (k : Parts c s) where
+module _ (c : Config) (s : State) (p begun own : ℕ) (job : Job) (request : Request) (i : ℕ) (last : further_words request.tag ≤ i) (stands : (s.stand p).phase ≡ Phase.Sending job (Sending.ReadBody request i)) (within : p < passes (lists c)) (facts : ChainFacts (lists c) s)
+    (outside : (q : ℕ) → passes (lists c) ≤ q → IsIdle (s.stand q).phase) (callers : (e : Entry) → IsNextSend s.history e → Caller c e × (e.known ≤ handed_to_all s.history)) (k : Parts c s) where
   abbrev d : Duty
   d = k.duty
 
@@ -50,11 +50,11 @@ module _ (c : Config) (s : State) (p begun own : ℕ) (job : Job) (request : Req
   abbrev whole : Request
   whole = with_asked request i found
 
-  abbrev there : Place
-  there = Place.Sending job (Sending.ReadShut whole)
+  abbrev there : Phase
+  there = Phase.Sending job (Sending.ReadShut whole)
 
   abbrev now : Stand
-  now = record { begun = begun; node = own; place = there }
+  now = record { begun = begun; node = own; phase = there }
 
   abbrev t : State
   t = record { mem = s.mem; stand = hold s.stand p now; history = s.history }
@@ -69,15 +69,15 @@ module _ (c : Config) (s : State) (p begun own : ℕ) (job : Job) (request : Req
   to = record { e_pass = p; e_call = read.0; from = d.from; d_pass = d.d_pass; d_call = d.d_call }
 
   -- no other pass serves
-  alone : (q : ℕ) → p ≢ q → IsServing (s.stand q).place → ⊥
+  alone : (q : ℕ) → p ≢ q → IsServing (s.stand q).phase → ⊥
   alone q ne u = elim (cases_lt q (passes (lists c))) [
-    | inl l ↦ ne (facts.one_sending p q within l (subst (λ (z : Place). IsSending z) (sym stands) tt) (serving_sends (s.stand q).place u))
-    | inr l ↦ idle_serves (s.stand q).place (outside q l) u
+    | inl l ↦ ne (facts.one_sending p q within l (subst (λ (z : Phase). IsSending z) (sym stands) tt) (serving_sends (s.stand q).phase u))
+    | inr l ↦ idle_serves (s.stand q).phase (outside q l) u
   ]
 
-  rests : IsServing (s.stand d.e_pass).place → ⊥
+  rests : IsServing (s.stand d.e_pass).phase → ⊥
   rests u = elim (cases_eq p d.e_pass) [
-    | inl same ↦ subst (λ (z : Place). IsServing z) (ap (λ (q : ℕ). (s.stand q).place) (sym same) ∙ stands) u
+    | inl same ↦ subst (λ (z : Phase). IsServing z) (ap (λ (q : ℕ). (s.stand q).phase) (sym same) ∙ stands) u
     | inr ne ↦ alone d.e_pass ne u
   ]
 
@@ -91,17 +91,17 @@ module _ (c : Config) (s : State) (p begun own : ℕ) (job : Job) (request : Req
   known = omega (arith, (callers read.0 read.1).1, least_is k.told s.history (further c) k.list.counted (omega (arith, k.ties.many, k.ties.some)) k.ties.handed_is)
 
   enters : LInv c.capacity c.life (further c + 1) after k.told
-  enters = keeps.enters s.mem d to _ regs c (further c + 1) k.told whole (stage_none d.e_call d.from (s.stand d.e_pass).place rests) k.ties.tells_is known refl k.list.inv
+  enters = keeps.enters s.mem d to _ regs c (further c + 1) k.told whole (stage_none d.e_call d.from (s.stand d.e_pass).phase rests) k.ties.tells_is known refl k.list.inv
 
-  here : (t.stand p).place ≡ there
-  here = ap (λ (z : Stand). z.place) (hold_here s.stand p now)
+  here : (t.stand p).phase ≡ there
+  here = ap (λ (z : Stand). z.phase) (hold_here s.stand p now)
 
   same_regs : regs_of t.stand to ≡ regs
-  same_regs = λ i y. hold_same (λ (z : Stand). regs_at z.place) s.stand p now (ap regs_at (sym stands)) (d.d_pass y) i
+  same_regs = λ i y. hold_same (λ (z : Stand). regs_at z.phase) s.stand p now (ap regs_at (sym stands)) (d.d_pass y) i
 
   same_queue : queue_of t to ≡ after
   same_queue =
-      ap (λ (z : Place). queue_from t.mem to (enq_at to.e_call to.from z) (regs_of t.stand to)) here
+      ap (λ (z : Phase). queue_from t.mem to (enq_at to.e_call to.from z) (regs_of t.stand to)) here
       ∙ ap (λ (r : ℕ → Regs). queue_from t.mem to (enq_at to.e_call to.from there) r) same_regs
 
   list : ListHolds c.capacity c.life (further c) (queue_of t to) k.told
@@ -114,14 +114,14 @@ module _ (c : Config) (s : State) (p begun own : ℕ) (job : Job) (request : Req
       told = k.told;
       list = list;
       serving = record {
-        e_only = hold_all (λ (q : ℕ) (z : Stand). q ≢ p → IsServing z.place → ⊥) s.stand p now (λ ne u. ne refl) (λ q ne n u. alone q ne u);
+        e_only = hold_all (λ (q : ℕ) (z : Stand). q ≢ p → IsServing z.phase → ⊥) s.stand p now (λ ne u. ne refl) (λ q ne n u. alone q ne u);
         d_mine = k.serving.d_mine;
-        d_only = λ y. hold_all (λ (q : ℕ) (z : Stand). chain_of c q ≡ Chain.Take y → q ≢ d.d_pass y → IsTaking z.place → ⊥) s.stand p now (λ e ne u. u) (λ q ne e n u. k.serving.d_only y q e n u);
+        d_only = λ y. hold_all (λ (q : ℕ) (z : Stand). chain_of c q ≡ Chain.Take y → q ≢ d.d_pass y → IsTaking z.phase → ⊥) s.stand p now (λ e ne u. u) (λ q ne e n u. k.serving.d_only y q e n u);
         caller = (callers read.0 read.1).0;
-        reads = subst (λ (z : Place). ReadsAt c to.e_call to.from z) (sym here) asked;
+        reads = subst (λ (z : Phase). ReadsAt c to.e_call to.from z) (sym here) asked;
         next_send = λ u. read.1;
-        next_take = λ y. hold_all (λ (q : ℕ) (z : Stand). q ≡ d.d_pass y → IsTaking z.place → IsNextTake s.history y (d.d_call y)) s.stand p now (λ e u. absurd u)
-            (λ q ne e u. k.serving.next_take y (subst (λ (j : ℕ). IsTaking (s.stand j).place) e u)) (d.d_pass y) refl;
+        next_take = λ y. hold_all (λ (q : ℕ) (z : Stand). q ≡ d.d_pass y → IsTaking z.phase → IsNextTake s.history y (d.d_call y)) s.stand p now (λ e u. absurd u)
+            (λ q ne e u. k.serving.next_take y (subst (λ (j : ℕ). IsTaking (s.stand j).phase) e u)) (d.d_pass y) refl;
       };
       ties = k.ties;
     };

@@ -2,7 +2,7 @@
 use Rattle.std.proofs.Common.{◌≡◌, ◌≢◌, ℕ, ◌+◌, ◌<◌, ◌≤◌, inl, inr, refl, sym, ap, ◌∙◌, subst, arith}
 use Rattle.std.proofs.lemmas.Bool.{cases_eq, cases_lt}
 use Rattle.cc_model.specs.Items.{entries}
-use Rattle.cc_runs.specs.Names.{Config, Entry, Job, Round, Place, Taking, Stand, Chain}
+use Rattle.cc_runs.specs.Names.{Config, Entry, Job, Round, Phase, Taking, Stand, Chain}
 use Rattle.cc_runs.specs.State.{State, chain_of, hold}
 use Rattle.cc_runs.specs.Words.{groups}
 use Rattle.cc_runs.specs.Lines.{group_of}
@@ -18,35 +18,35 @@ use Rattle.cc_runs.proofs.ListRuns.Ties.{further, ReadsAt, IsServing, IsUndecide
 use Rattle.cc_runs.proofs.ListRuns.Facts.{lists, ChainFacts}
 use Rattle.cc_runs.proofs.ListRuns.Invariant.{Parts, Onward}
 
-idle_takes : (at : Place) → IsIdle at → IsTaking at → ⊥
-idle_takes Place.Idle idle u = u
+idle_takes : (at : Phase) → IsIdle at → IsTaking at → ⊥
+idle_takes Phase.Idle idle u = u
 idle_takes _ idle u = idle
 
 -- if no take is served the stage is 0
-take_regs_none : (at : Place) → (IsTaking at → ⊥) → (regs_at at).stage ≡ 0
-take_regs_none (Place.Taking job service) not = absurd (not tt)
+take_regs_none : (at : Phase) → (IsTaking at → ⊥) → (regs_at at).stage ≡ 0
+take_regs_none (Phase.Taking job service) not = absurd (not tt)
 take_regs_none _ not = refl
 
-module _ (c : Config) (s : State) (p begun own y : ℕ) (chain : chain_of c p ≡ Chain.Take y) (inside : y < groups c) (round : Round) (next : ℕ) (stands : (s.stand p).place ≡ Place.ReadNext round) (within : p < passes (lists c))
-    (outside : (q : ℕ) → passes (lists c) ≤ q → IsIdle (s.stand q).place) (callers : (e : Entry) → IsNextTake s.history y e → e.known ≤ entries s.history) (k : Parts c s) where
+module _ (c : Config) (s : State) (p begun own y : ℕ) (chain : chain_of c p ≡ Chain.Take y) (inside : y < groups c) (round : Round) (next : ℕ) (stands : (s.stand p).phase ≡ Phase.ReadNext round) (within : p < passes (lists c))
+    (outside : (q : ℕ) → passes (lists c) ≤ q → IsIdle (s.stand q).phase) (callers : (e : Entry) → IsNextTake s.history y e → e.known ≤ entries s.history) (k : Parts c s) where
   abbrev d : Duty
   d = k.duty
 
   abbrev job : Job
   job = record { round = round; next = next }
 
-  abbrev there : Place
-  there = Place.Taking job Taking.ReadHead
+  abbrev there : Phase
+  there = Phase.Taking job Taking.ReadHead
 
   abbrev now : Stand
-  now = record { begun = begun; node = own; place = there }
+  now = record { begun = begun; node = own; phase = there }
 
   abbrev t : State
   t = record { mem = s.mem; stand = hold s.stand p now; history = s.history }
 
   module _ (facts : ChainFacts (lists c) t) where
-    here : (t.stand p).place ≡ there
-    here = ap (λ (z : Stand). z.place) (hold_here s.stand p now)
+    here : (t.stand p).phase ≡ there
+    here = ap (λ (z : Stand). z.phase) (hold_here s.stand p now)
 
     read : (e : Entry) × IsNextTake s.history y e
     read = facts.read_head p job y within chain here
@@ -55,20 +55,20 @@ module _ (c : Config) (s : State) (p begun own y : ℕ) (chain : chain_of c p �
     to = record { e_pass = d.e_pass; e_call = d.e_call; from = d.from; d_pass = changed d.d_pass y p; d_call = changed d.d_call y read.0 }
 
     -- no other pass of the group takes
-    alone : (q : ℕ) → chain_of c q ≡ Chain.Take y → p ≢ q → IsTaking (s.stand q).place → ⊥
+    alone : (q : ℕ) → chain_of c q ≡ Chain.Take y → p ≢ q → IsTaking (s.stand q).phase → ⊥
     alone q on ne u = elim (cases_lt q (passes (lists c))) [
-      | inl l ↦ ne (facts.one_taking p q within l (chain ∙ sym on) (subst (λ (z : Place). IsTaking z) (sym here) tt) (subst (λ (z : Stand). IsTaking z.place) (sym (hold_other s.stand p q now ne)) u))
-      | inr l ↦ idle_takes (s.stand q).place (outside q l) u
+      | inl l ↦ ne (facts.one_taking p q within l (chain ∙ sym on) (subst (λ (z : Phase). IsTaking z) (sym here) tt) (subst (λ (z : Stand). IsTaking z.phase) (sym (hold_other s.stand p q now ne)) u))
+      | inr l ↦ idle_takes (s.stand q).phase (outside q l) u
     ]
 
-    rests : IsTaking (s.stand (d.d_pass y)).place → ⊥
+    rests : IsTaking (s.stand (d.d_pass y)).phase → ⊥
     rests u = elim (cases_eq p (d.d_pass y)) [
-      | inl same ↦ subst (λ (z : Place). IsTaking z) (ap (λ (q : ℕ). (s.stand q).place) (sym same) ∙ stands) u
+      | inl same ↦ subst (λ (z : Phase). IsTaking z) (ap (λ (q : ℕ). (s.stand q).phase) (sym same) ∙ stands) u
       | inr ne ↦ alone (d.d_pass y) (k.serving.d_mine y) ne u
     ]
 
     abbrev enq : Enq
-    enq = enq_at d.e_call d.from (s.stand d.e_pass).place
+    enq = enq_at d.e_call d.from (s.stand d.e_pass).phase
 
     abbrev after : Queue
     after = queue_from s.mem to enq (regs_of t.stand to)
@@ -82,30 +82,30 @@ module _ (c : Config) (s : State) (p begun own y : ℕ) (chain : chain_of c p �
     stand_away : (q : ℕ) → q ≢ y → t.stand (changed d.d_pass y p q) ≡ s.stand (d.d_pass q)
     stand_away q ne = ap t.stand (changed_away d.d_pass y p q ne) ∙ hold_other s.stand p (d.d_pass q) now (apart q ne)
 
-    stand_mine : (t.stand (changed d.d_pass y p y)).place ≡ there
-    stand_mine = ap (λ (z : ℕ). (t.stand z).place) mine ∙ here
+    stand_mine : (t.stand (changed d.d_pass y p y)).phase ≡ there
+    stand_mine = ap (λ (z : ℕ). (t.stand z).phase) mine ∙ here
 
     call_is : changed d.d_call y read.0 y ≡ read.0
     call_is = changed_here d.d_call y read.0 y refl
 
     enters : LInv c.capacity c.life (further c + 1) after k.told
-    enters = keeps.enters s.mem d to enq (regs_of s.stand d) (regs_of t.stand to) c (further c + 1) k.told y (λ q ne. (ap (λ (z : Stand). regs_at z.place) (stand_away q ne), changed_away d.d_call y read.0 q ne))
-        (take_regs_none (s.stand (d.d_pass y)).place rests) (ap regs_at stand_mine) (let same : (changed d.d_call y read.0 y).known ≡ read.0.known = ap (λ (z : Entry). z.known) call_is in omega (arith, same, callers read.0 read.1, k.ties.accepted_is, k.ties.shut_is)) k.list.inv
+    enters = keeps.enters s.mem d to enq (regs_of s.stand d) (regs_of t.stand to) c (further c + 1) k.told y (λ q ne. (ap (λ (z : Stand). regs_at z.phase) (stand_away q ne), changed_away d.d_call y read.0 q ne))
+        (take_regs_none (s.stand (d.d_pass y)).phase rests) (ap regs_at stand_mine) (let same : (changed d.d_call y read.0 y).known ≡ read.0.known = ap (λ (z : Entry). z.known) call_is in omega (arith, same, callers read.0 read.1, k.ties.accepted_is, k.ties.shut_is)) k.list.inv
 
-    same_enq : enq_at d.e_call d.from (t.stand d.e_pass).place ≡ enq
-    same_enq = hold_same (λ (z : Stand). enq_at d.e_call d.from z.place) s.stand p now (ap (λ (z : Place). enq_at d.e_call d.from z) (sym stands)) d.e_pass
+    same_enq : enq_at d.e_call d.from (t.stand d.e_pass).phase ≡ enq
+    same_enq = hold_same (λ (z : Stand). enq_at d.e_call d.from z.phase) s.stand p now (ap (λ (z : Phase). enq_at d.e_call d.from z) (sym stands)) d.e_pass
 
     same_queue : queue_of t to ≡ after
     same_queue = ap (λ (e : Enq). queue_from t.mem to e (regs_of t.stand to)) same_enq
 
-    next_at : (x : ℕ) → IsTaking (t.stand (changed d.d_pass y p x)).place → IsNextTake s.history x (changed d.d_call y read.0 x)
+    next_at : (x : ℕ) → IsTaking (t.stand (changed d.d_pass y p x)).phase → IsNextTake s.history x (changed d.d_call y read.0 x)
     next_at x = elim (cases_eq x y) [
       | inl same ↦ λ u. subst (λ (z : ℕ). IsNextTake s.history z (changed d.d_call y read.0 z)) (sym same) (subst (λ (e : Entry). IsNextTake s.history y e) (sym call_is) read.1)
-      | inr ne ↦ λ u. subst (λ (e : Entry). IsNextTake s.history x e) (sym (changed_away d.d_call y read.0 x ne)) (k.serving.next_take x (subst (λ (z : Stand). IsTaking z.place) (stand_away x ne) u))
+      | inr ne ↦ λ u. subst (λ (e : Entry). IsNextTake s.history x e) (sym (changed_away d.d_call y read.0 x ne)) (k.serving.next_take x (subst (λ (z : Stand). IsTaking z.phase) (stand_away x ne) u))
     ]
 
-    only : (x q : ℕ) → chain_of c q ≡ Chain.Take x → q ≢ changed d.d_pass y p x → IsTaking (t.stand q).place → ⊥
-    only x = hold_all (λ (q : ℕ) (z : Stand). chain_of c q ≡ Chain.Take x → q ≢ changed d.d_pass y p x → IsTaking z.place → ⊥) s.stand p now
+    only : (x q : ℕ) → chain_of c q ≡ Chain.Take x → q ≢ changed d.d_pass y p x → IsTaking (t.stand q).phase → ⊥
+    only x = hold_all (λ (q : ℕ) (z : Stand). chain_of c q ≡ Chain.Take x → q ≢ changed d.d_pass y p x → IsTaking z.phase → ⊥) s.stand p now
         (λ e ne u. ne (sym mine ∙ ap (changed d.d_pass y p) (ap group_of (sym chain ∙ e))))
         (λ q off e. elim (cases_eq x y) [
           | inl same ↦ λ ne u. alone q (e ∙ ap Chain.Take same) off u
@@ -119,14 +119,14 @@ module _ (c : Config) (s : State) (p begun own y : ℕ) (chain : chain_of c p �
         told = k.told;
         list = subst (λ (v : Queue). ListHolds c.capacity c.life (further c) v k.told) (sym same_queue) (record { inv = enters; counted = k.list.counted });
         serving = record {
-          e_only = hold_all (λ (q : ℕ) (z : Stand). q ≢ d.e_pass → IsServing z.place → ⊥) s.stand p now (λ ne u. u) (λ q ne n u. k.serving.e_only q n u);
+          e_only = hold_all (λ (q : ℕ) (z : Stand). q ≢ d.e_pass → IsServing z.phase → ⊥) s.stand p now (λ ne u. u) (λ q ne n u. k.serving.e_only q n u);
           d_mine = changed_all (λ (x : ℕ) (q : ℕ). chain_of c q ≡ Chain.Take x) d.d_pass y p chain (λ x ne. k.serving.d_mine x);
           d_only = only;
           caller = k.serving.caller;
-          reads = hold_all (λ (q : ℕ) (z : Stand). q ≡ d.e_pass → ReadsAt c d.e_call d.from z.place) s.stand p now (λ e. tt)
-              (λ q ne e. subst (λ (j : ℕ). ReadsAt c d.e_call d.from (s.stand j).place) (sym e) k.serving.reads) d.e_pass refl;
-          next_send = hold_all (λ (q : ℕ) (z : Stand). q ≡ d.e_pass → IsUndecidedAt z.place → IsNextSend s.history d.e_call) s.stand p now (λ e u. absurd u)
-              (λ q ne e u. k.serving.next_send (subst (λ (j : ℕ). IsUndecidedAt (s.stand j).place) e u)) d.e_pass refl;
+          reads = hold_all (λ (q : ℕ) (z : Stand). q ≡ d.e_pass → ReadsAt c d.e_call d.from z.phase) s.stand p now (λ e. tt)
+              (λ q ne e. subst (λ (j : ℕ). ReadsAt c d.e_call d.from (s.stand j).phase) (sym e) k.serving.reads) d.e_pass refl;
+          next_send = hold_all (λ (q : ℕ) (z : Stand). q ≡ d.e_pass → IsUndecidedAt z.phase → IsNextSend s.history d.e_call) s.stand p now (λ e u. absurd u)
+              (λ q ne e u. k.serving.next_send (subst (λ (j : ℕ). IsUndecidedAt (s.stand j).phase) e u)) d.e_pass refl;
           next_take = next_at;
         };
         ties = k.ties;

@@ -1,7 +1,7 @@
 -- Which answers a call of a sender may get, by the tag of its request; and the item that it sends.
 use Rattle.std.proofs.Common.{◌≡◌, ◌≢◌, ℕ, ◌+◌, ◌^◌, ◌<◌, ◌≤◌, [], ◌∷◌, true, false, refl, sym, arith}
 use Rattle.cc_model.specs.Items.{sent_item}
-use Rattle.cc_model.specs.Legal.{EAnswer, IsSenders}
+use Rattle.cc_model.specs.Legal.{SendSideAnswer, IsSenders}
 use Rattle.cc_model.specs.Body.{HasBody}
 use Rattle.cc_runs.specs.Names.{Body, Config, Entry, Pass, Call, Answer, SendAnswer, CloseAnswer}
 use Rattle.cc_runs.specs.Codes.{packed, item_of, request_of, request_in}
@@ -22,32 +22,32 @@ pub record FitsTag (e : Entry) : Type 0 where
 sent_tag : (s number : ℕ) (b : Body) → 1 ≤ s → s < 2 ^ 16 → packed s number b ≢ 0
 sent_tag s number b low few z = omega (arith, low, few, z)
 
-pub closed_fits : (c : Config) (n known : ℕ) (p : Pass) (k : Call) (number : ℕ) → IsSenders c p k → (request_of p k number).tag ≢ 0 → EAnswer c n true known k (Answer.Send SendAnswer.Closed)
+pub closed_fits : (c : Config) (n known : ℕ) (p : Pass) (k : Call) (number : ℕ) → IsSenders c p k → (request_of p k number).tag ≢ 0 → SendSideAnswer c n true known k (Answer.Send SendAnswer.Closed)
 closed_fits c n known (Pass.Sender s) (Call.Send body) number is ne = tt
 closed_fits c n known (Pass.Sender s) Call.Close number is ne = absurd (ne refl)
 closed_fits _ _ _ _ _ _ is ne = absurd is
 
-pub already_fits : (c : Config) (n known : ℕ) (p : Pass) (k : Call) (number total : ℕ) → IsSenders c p k → sender_number p < 2 ^ 16 → (request_of p k number).tag ≡ 0 → total ≡ n → EAnswer c n true known k (Answer.Close (CloseAnswer.Already total))
+pub already_fits : (c : Config) (n known : ℕ) (p : Pass) (k : Call) (number total : ℕ) → IsSenders c p k → sender_number p < 2 ^ 16 → (request_of p k number).tag ≡ 0 → total ≡ n → SendSideAnswer c n true known k (Answer.Close (CloseAnswer.Already total))
 already_fits c n known (Pass.Sender s) (Call.Send body) number total is few z same = absurd (sent_tag s number body is.0 few z)
 already_fits c n known (Pass.Sender s) Call.Close number total is few z same = same
 already_fits _ _ _ _ _ _ _ is few z same = absurd is
 
-pub shut_fits : (c : Config) (n known : ℕ) (p : Pass) (k : Call) (number total : ℕ) → IsSenders c p k → sender_number p < 2 ^ 16 → (request_of p k number).tag ≡ 0 → total ≡ n → EAnswer c n false known k (Answer.Close (CloseAnswer.Shut total))
+pub shut_fits : (c : Config) (n known : ℕ) (p : Pass) (k : Call) (number total : ℕ) → IsSenders c p k → sender_number p < 2 ^ 16 → (request_of p k number).tag ≡ 0 → total ≡ n → SendSideAnswer c n false known k (Answer.Close (CloseAnswer.Shut total))
 shut_fits c n known (Pass.Sender s) (Call.Send body) number total is few z same = absurd (sent_tag s number body is.0 few z)
 shut_fits c n known (Pass.Sender s) Call.Close number total is few z same = same
 shut_fits _ _ _ _ _ _ _ is few z same = absurd is
 
-pub spent_fits : (c : Config) (n known : ℕ) (p : Pass) (k : Call) (number : ℕ) → IsSenders c p k → (request_of p k number).tag ≢ 0 → n ≡ c.life → EAnswer c n false known k (Answer.Send SendAnswer.Spent)
+pub spent_fits : (c : Config) (n known : ℕ) (p : Pass) (k : Call) (number : ℕ) → IsSenders c p k → (request_of p k number).tag ≢ 0 → n ≡ c.life → SendSideAnswer c n false known k (Answer.Send SendAnswer.Spent)
 spent_fits c n known (Pass.Sender s) (Call.Send body) number is ne same = same
 spent_fits c n known (Pass.Sender s) Call.Close number is ne same = absurd (ne refl)
 spent_fits _ _ _ _ _ _ is ne same = absurd is
 
-pub full_fits : (c : Config) (n known : ℕ) (p : Pass) (k : Call) (number : ℕ) → IsSenders c p k → (request_of p k number).tag ≢ 0 → n ≢ c.life → known + c.capacity ≤ n → EAnswer c n false known k (Answer.Send SendAnswer.Full)
+pub full_fits : (c : Config) (n known : ℕ) (p : Pass) (k : Call) (number : ℕ) → IsSenders c p k → (request_of p k number).tag ≢ 0 → n ≢ c.life → known + c.capacity ≤ n → SendSideAnswer c n false known k (Answer.Send SendAnswer.Full)
 full_fits c n known (Pass.Sender s) (Call.Send body) number is ne room full = (room, full)
 full_fits c n known (Pass.Sender s) Call.Close number is ne room full = absurd (ne refl)
 full_fits _ _ _ _ _ _ is ne room full = absurd is
 
-pub accepted_fits : (c : Config) (n known : ℕ) (p : Pass) (k : Call) (number place : ℕ) → IsSenders c p k → (request_of p k number).tag ≢ 0 → n ≢ c.life → place ≡ n → EAnswer c n false known k (Answer.Send (SendAnswer.Accepted place))
+pub accepted_fits : (c : Config) (n known : ℕ) (p : Pass) (k : Call) (number place : ℕ) → IsSenders c p k → (request_of p k number).tag ≢ 0 → n ≢ c.life → place ≡ n → SendSideAnswer c n false known k (Answer.Send (SendAnswer.Accepted place))
 accepted_fits c n known (Pass.Sender s) (Call.Send body) number place is ne room same = (room, same)
 accepted_fits c n known (Pass.Sender s) Call.Close number place is ne room same = absurd (ne refl)
 accepted_fits _ _ _ _ _ _ _ is ne room same = absurd is

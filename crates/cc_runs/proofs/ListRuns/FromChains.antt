@@ -1,7 +1,7 @@
 -- The facts that the list needs of its two chains hold after every run; and so does the list's
 -- invariant.
 use Rattle.std.proofs.Common.{◌≡◌, List, Some, length, refl, sym, ap, subst, arith}
-use Rattle.cc_runs.specs.Names.{Config, Setting, Served, Job, Place, Sending, Taking, Entry, Chain, Move}
+use Rattle.cc_runs.specs.Names.{Config, Setting, Served, Job, Phase, Sending, Taking, Entry, Chain, Move}
 use Rattle.cc_runs.specs.State.{State}
 use Rattle.cc_runs.specs.OnChain.{calls_on, answers_on}
 use Rattle.std.specs.List.{slice_get}
@@ -14,12 +14,12 @@ use Rattle.cc_runs.proofs.ListRuns.Ties.{IsTaking}
 use Rattle.cc_runs.proofs.ListRuns.Facts.{lists, IsSending, ChainFacts}
 use Rattle.cc_runs.proofs.ListRuns.Runs.{AfterRun, after_run}
 
-sending_is : (at : Place) → IsSending at → (job : Job) × (service : Sending) × (at ≡ Place.Sending job service)
-sending_is (Place.Sending job service) u = (job, service, refl)
+sending_is : (at : Phase) → IsSending at → (job : Job) × (service : Sending) × (at ≡ Phase.Sending job service)
+sending_is (Phase.Sending job service) u = (job, service, refl)
 sending_is _ u = absurd u
 
-taking_is : (at : Place) → IsTaking at → (job : Job) × (service : Taking) × (at ≡ Place.Taking job service)
-taking_is (Place.Taking job service) u = (job, service, refl)
+taking_is : (at : Phase) → IsTaking at → (job : Job) × (service : Taking) × (at ≡ Phase.Taking job service)
+taking_is (Phase.Taking job service) u = (job, service, refl)
 taking_is _ u = absurd u
 
 pub chain_facts : (c : Config) → InRange c → (moves : List Move) → IsRun (lists c) moves → ChainFacts (lists c) (reached (lists c) moves)
@@ -28,12 +28,12 @@ chain_facts c fits moves run =
     let k : Chains (lists c) (reached (lists c) moves) = chains_hold (lists c) (omega (arith, fits.bound)) moves run in
     record {
       one_sending = λ p q a b u v.
-          let x : (job : Job) × (service : Sending) × (((reached (lists c) moves).stand p).place ≡ Place.Sending job service) = sending_is ((reached (lists c) moves).stand p).place u in
-          let y : (job : Job) × (service : Sending) × (((reached (lists c) moves).stand q).place ≡ Place.Sending job service) = sending_is ((reached (lists c) moves).stand q).place v in
+          let x : (job : Job) × (service : Sending) × (((reached (lists c) moves).stand p).phase ≡ Phase.Sending job service) = sending_is ((reached (lists c) moves).stand p).phase u in
+          let y : (job : Job) × (service : Sending) × (((reached (lists c) moves).stand q).phase ≡ Phase.Sending job service) = sending_is ((reached (lists c) moves).stand q).phase v in
           serving.one_sending (lists c) (reached (lists c) moves) k p q x.0 y.0 x.1 y.1 a b x.2 y.2;
       one_taking = λ p q a b same u v.
-          let x : (job : Job) × (service : Taking) × (((reached (lists c) moves).stand p).place ≡ Place.Taking job service) = taking_is ((reached (lists c) moves).stand p).place u in
-          let y : (job : Job) × (service : Taking) × (((reached (lists c) moves).stand q).place ≡ Place.Taking job service) = taking_is ((reached (lists c) moves).stand q).place v in
+          let x : (job : Job) × (service : Taking) × (((reached (lists c) moves).stand p).phase ≡ Phase.Taking job service) = taking_is ((reached (lists c) moves).stand p).phase u in
+          let y : (job : Job) × (service : Taking) × (((reached (lists c) moves).stand q).phase ≡ Phase.Taking job service) = taking_is ((reached (lists c) moves).stand q).phase v in
           serving.one_taking (lists c) (reached (lists c) moves) k p q x.0 y.0 x.1 y.1 a b same x.2 y.2;
       read_body = λ p job request i less is. for_list.read_body (lists c) (reached (lists c) moves) k p job less request i is;
       read_head = λ p job y less chain is.

@@ -6,7 +6,7 @@ use Rattle.std.specs.List.{slice_get}
 use Rattle.cc_model.specs.Config.{config_fault}
 use Rattle.cc_model.specs.Items.{accepted, handed_to_all}
 use Rattle.cc_model.specs.Legal.{Legal}
-use Rattle.cc_runs.specs.Names.{Config, Entry, Setting, ItemField, Word, Job, Parcel, Place, Sending, Taking, Chain, Object, Move}
+use Rattle.cc_runs.specs.Names.{Config, Entry, Setting, ItemField, Word, Job, Parcel, Phase, Sending, Taking, Chain, Object, Move}
 use Rattle.cc_model.proofs.InOrder.{fifo}
 use Rattle.cc_runs.specs.Words.{groups}
 use Rattle.cc_runs.specs.State.{State, chain_of, pass_at}
@@ -74,8 +74,8 @@ preparing_in e from (Sending.ReadLast count at) low high = refl
 preparing_in e from (Sending.LinkItem count at last) low high = refl
 preparing_in e from _ low high = absurd (omega (arith, low, high))
 
-preparing_at : (e : Entry) (from : ℕ) (at : Place) → 7 ≤ (enq_at e from at).stage → (enq_at e from at).stage ≤ 10 → Prepares at (enq_at e from at).found
-preparing_at e from (Place.Sending job service) low high = preparing_in e from service low high
+preparing_at : (e : Entry) (from : ℕ) (at : Phase) → 7 ≤ (enq_at e from at).stage → (enq_at e from at).stage ≤ 10 → Prepares at (enq_at e from at).found
+preparing_at e from (Phase.Sending job service) low high = preparing_in e from service low high
 preparing_at e from _ low high = absurd (omega (arith, low))
 
 module _ (c : Config) (moves : List Move) (a : AfterRun c moves) where
@@ -97,13 +97,13 @@ module _ (c : Config) (moves : List Move) (a : AfterRun c moves) where
   passed_most : (x : ℕ) → x < c.capacity + 1 → s.mem (Word.Item x ItemField.Passed) ≤ further c + 1
   passed_most x l = busy.passed_most c.capacity c.life (further c + 1) (queue_of s k.duty) g i x (omega (arith, l))
 
-  busy_items : ((p x : ℕ) → Prepares (s.stand p).place x → ⊥) → busy_below c s.mem (c.capacity + 1) + handed_to_all s.history ≡ length (accepted s.history) + 1
+  busy_items : ((p x : ℕ) → Prepares (s.stand p).phase x → ⊥) → busy_below c s.mem (c.capacity + 1) + handed_to_all s.history ≡ length (accepted s.history) + 1
   busy_items none =
-      let rest : (x : ℕ) → x ≤ c.capacity → g.role x ≢ 1 = λ x l one. none k.duty.e_pass _ (preparing_at k.duty.e_call k.duty.from (s.stand k.duty.e_pass).place (i.nodes.prep_low x l one) (i.nodes.prep_high x l one)) in
+      let rest : (x : ℕ) → x ≤ c.capacity → g.role x ≢ 1 = λ x l one. none k.duty.e_pass _ (preparing_at k.duty.e_call k.duty.from (s.stand k.duty.e_pass).phase (i.nodes.prep_low x l one) (i.nodes.prep_high x l one)) in
       omega (arith, all_busy c s.mem (c.capacity + 1) k.ties.some passed_most, busy.busy_nodes_are c.capacity c.life (further c + 1) (queue_of s k.duty) g i, busy.busy_count c.capacity c.life (further c + 1) (queue_of s k.duty) g i rest, handed_least, k.ties.accepted_is)
 
   -- while a node is in preparation
-  module _ (p : ℕ) (job : Job) (service : Sending) (x : ℕ) (stands : (s.stand p).place ≡ Place.Sending job service) (prepares : IsPreparing service x) where
+  module _ (p : ℕ) (job : Job) (service : Sending) (x : ℕ) (stands : (s.stand p).phase ≡ Phase.Sending job service) (prepares : IsPreparing service x) where
     here : Preparing k.duty.e_call k.duty.from service x
     here = preparing_is k.duty.e_call k.duty.from service x prepares
 
@@ -118,17 +118,17 @@ module _ (c : Config) (moves : List Move) (a : AfterRun c moves) where
     busy_prepared =
         omega (arith, all_busy c s.mem (c.capacity + 1) k.ties.some passed_most, busy.busy_nodes_are c.capacity c.life (further c + 1) (send_queue c s p job service stands here.begun k) g v, busy.busy_count_prep c.capacity c.life (further c + 1) (send_queue c s p job service stands here.begun k) g v here.low here.high, handed_least, k.ties.accepted_is)
 
-  prepared_at : (at : Place) (p x : ℕ) → (s.stand p).place ≡ at → Prepares at x → (x ≤ c.capacity) × (g.role x ≡ 1)
-  prepared_at (Place.Sending job service) p x stands h = prepared p job service x stands h
+  prepared_at : (at : Phase) (p x : ℕ) → (s.stand p).phase ≡ at → Prepares at x → (x ≤ c.capacity) × (g.role x ≡ 1)
+  prepared_at (Phase.Sending job service) p x stands h = prepared p job service x stands h
   prepared_at _ p x stands h = absurd h
 
-  busy_at : (at : Place) (p x : ℕ) → (s.stand p).place ≡ at → Prepares at x → busy_below c s.mem (c.capacity + 1) + handed_to_all s.history ≡ length (accepted s.history) + 2
-  busy_at (Place.Sending job service) p x stands h = busy_prepared p job service x stands h
+  busy_at : (at : Phase) (p x : ℕ) → (s.stand p).phase ≡ at → Prepares at x → busy_below c s.mem (c.capacity + 1) + handed_to_all s.history ≡ length (accepted s.history) + 2
+  busy_at (Phase.Sending job service) p x stands h = busy_prepared p job service x stands h
   busy_at _ p x stands h = absurd h
 
   -- ---- reuse
 
-  module _ (p : ℕ) (job : Job) (parcel : Parcel) (x : ℕ) (stands : (s.stand p).place ≡ Place.Sending job (Sending.ResetPassed parcel x)) where
+  module _ (p : ℕ) (job : Job) (parcel : Parcel) (x : ℕ) (stands : (s.stand p).phase ≡ Phase.Sending job (Sending.ResetPassed parcel x)) where
     j : LInv c.capacity c.life (further c + 1) (send_queue c s p job (Sending.ResetPassed parcel x) stands tt k) g
     j = send_holds c s p job (Sending.ResetPassed parcel x) stands tt k
 
@@ -148,7 +148,7 @@ module _ (c : Config) (moves : List Move) (a : AfterRun c moves) where
         live n high low same = grind (arith, same, free, j.live.live_in n, j.live.live_role n, j.live.live_pos n, j.nodes.passed_is x, j.hands.by_some n)
 
   -- a node in preparation has left the list
-  prepared_past : (job : Job) (p x n : ℕ) (parcel : Parcel) → (s.stand p).place ≡ Place.Sending job (Sending.ResetItemNext parcel x) → slice_get (linked_nodes (lists c) moves) n ≡ Some x → n < handed_to_all s.history
+  prepared_past : (job : Job) (p x n : ℕ) (parcel : Parcel) → (s.stand p).phase ≡ Phase.Sending job (Sending.ResetItemNext parcel x) → slice_get (linked_nodes (lists c) moves) n ≡ Some x → n < handed_to_all s.history
   prepared_past job p x n parcel stands is =
       let role : g.role x ≡ 1 = (prepared p job (Sending.ResetItemNext parcel x) x stands refl).1 in
       let within : n ≤ g.accepted = omega (arith, slice_get_within (linked_nodes (lists c) moves) n x is, a.linked.many) in
@@ -158,11 +158,11 @@ module _ (c : Config) (moves : List Move) (a : AfterRun c moves) where
         | inr l ↦ let two : g.role (g.node n) ≡ 2 = i.live.live_role n l within in absurd (omega (arith, two, role, ap g.role same))
       ]
 
-  resets : (at : Place) (p x n : ℕ) → (s.stand p).place ≡ at → slice_get (linked_nodes (lists c) moves) n ≡ Some x → Resets at x → n < handed_to_all s.history
-  resets (Place.Sending job (Sending.ResetPassed parcel at)) p x n stands is same = reset_past p job parcel x (stands ∙ ap (λ (y : ℕ). Place.Sending job (Sending.ResetPassed parcel y)) same) n is
-  resets (Place.Sending job (Sending.ResetItemNext parcel at)) p x n stands is same =
-      prepared_past job p x n parcel (stands ∙ ap (λ (y : ℕ). Place.Sending job (Sending.ResetItemNext parcel y)) same) is
-  resets (Place.Sending job _) p x n stands is same = absurd same
+  resets : (at : Phase) (p x n : ℕ) → (s.stand p).phase ≡ at → slice_get (linked_nodes (lists c) moves) n ≡ Some x → Resets at x → n < handed_to_all s.history
+  resets (Phase.Sending job (Sending.ResetPassed parcel at)) p x n stands is same = reset_past p job parcel x (stands ∙ ap (λ (y : ℕ). Phase.Sending job (Sending.ResetPassed parcel y)) same) n is
+  resets (Phase.Sending job (Sending.ResetItemNext parcel at)) p x n stands is same =
+      prepared_past job p x n parcel (stands ∙ ap (λ (y : ℕ). Phase.Sending job (Sending.ResetItemNext parcel y)) same) is
+  resets (Phase.Sending job _) p x n stands is same = absurd same
   resets _ p x n stands is same = absurd same
 
   -- ---- what a take holds isn't in preparation
@@ -173,19 +173,19 @@ module _ (c : Config) (moves : List Move) (a : AfterRun c moves) where
     pub chain : chain_of c p ≡ Chain.Take group
     pub inside : group < groups c
 
-  not_idle : (p : ℕ) (job : Job) (service : Taking) → (s.stand p).place ≡ Place.Taking job service → p < passes (lists c)
+  not_idle : (p : ℕ) (job : Job) (service : Taking) → (s.stand p).phase ≡ Phase.Taking job service → p < passes (lists c)
   not_idle p job service stands = elim (cases_lt p (passes (lists c))) [
     | inl l ↦ l
-    | inr l ↦ absurd (subst (λ (z : Place). IsIdle z) stands (a.whole.posts.outside p l))
+    | inr l ↦ absurd (subst (λ (z : Phase). IsIdle z) stands (a.whole.posts.outside p l))
   ]
 
-  pub taker : (p : ℕ) (job : Job) (service : Taking) → (s.stand p).place ≡ Place.Taking job service → Taker p
+  pub taker : (p : ℕ) (job : Job) (service : Taking) → (s.stand p).phase ≡ Phase.Taking job service → Taker p
   taker p job service stands = elim (of_side c p) [
-    | inl of ↦ absurd (subst (λ (x : Chain). IsTakes x) of.chain_is (subst (λ (z : Place). Well s.history (chain_of c p) (pass_at c p) (s.stand p).begun z) stands (a.whole.posts.well p)))
+    | inl of ↦ absurd (subst (λ (x : Chain). IsTakes x) of.chain_is (subst (λ (z : Phase). Well s.history (chain_of c p) (pass_at c p) (s.stand p).begun z) stands (a.whole.posts.well p)))
     | inr of ↦ record { group = (p - c.senders) / c.receivers; chain = of.chain_is; inside = group_in c p (not_idle p job service stands) of }
   ]
 
-  module _ (p : ℕ) (job : Job) (service : Taking) (stands : (s.stand p).place ≡ Place.Taking job service) where
+  module _ (p : ℕ) (job : Job) (service : Taking) (stands : (s.stand p).phase ≡ Phase.Taking job service) where
     abbrev y : ℕ
     y = (taker p job service stands).group
 
@@ -223,7 +223,7 @@ module _ (c : Config) (moves : List Move) (a : AfterRun c moves) where
         let same : (regs_of s.stand k.duty y).dummy ≡ dummy = ap (λ (z : Regs). z.dummy) (regs ∙ ap regs_in e) in
         subst (λ (z : ℕ). s.mem (Word.Item z ItemField.Next) ≤ c.capacity + 2) same (limits.next_link c.capacity c.life (further c + 1) (queue_of s k.duty) g i y group_below (stage ∙ ap (λ (z : Taking). (regs_in z).stage) e))
 
-  held_linked : (service : Taking) (p : ℕ) (job : Job) (x : ℕ) → (s.stand p).place ≡ Place.Taking job service → x ≤ c.capacity → Holds service x → g.role x ≡ 2
+  held_linked : (service : Taking) (p : ℕ) (job : Job) (x : ℕ) → (s.stand p).phase ≡ Phase.Taking job service → x ≤ c.capacity → Holds service x → g.role x ≡ 2
   held_linked Taking.ReadHead p job x stands within h = absurd h
   held_linked (Taking.ReadTaken dummy) p job x stands within h = ap g.role (sym h) ∙ dummy_linked p job (Taking.ReadTaken dummy) stands (omega arith)
   held_linked (Taking.ReadDummyNext dummy taken) p job x stands within h = ap g.role (sym h) ∙ dummy_linked p job (Taking.ReadDummyNext dummy taken) stands (omega arith)
@@ -236,75 +236,75 @@ module _ (c : Config) (moves : List Move) (a : AfterRun c moves) where
   held_linked (Taking.WriteTaken dummy parcel) p job x stands within h = ap g.role (sym h) ∙ dummy_linked p job (Taking.WriteTaken dummy parcel) stands (omega arith)
   held_linked (Taking.AddPassed dummy parcel) p job x stands within h = ap g.role (sym h) ∙ dummy_linked p job (Taking.AddPassed dummy parcel) stands (omega arith)
 
-  held_at : (at : Place) (p x : ℕ) → (s.stand p).place ≡ at → x ≤ c.capacity → HoldsAt at x → g.role x ≡ 2
-  held_at (Place.Taking job service) p x stands within h = held_linked service p job x stands within h
+  held_at : (at : Phase) (p x : ℕ) → (s.stand p).phase ≡ at → x ≤ c.capacity → HoldsAt at x → g.role x ≡ 2
+  held_at (Phase.Taking job service) p x stands within h = held_linked service p job x stands within h
   held_at _ p x stands within h = absurd h
 
-  alone : (p q x : ℕ) → Prepares (s.stand p).place x → HoldsAt (s.stand q).place x → ⊥
+  alone : (p q x : ℕ) → Prepares (s.stand p).phase x → HoldsAt (s.stand q).phase x → ⊥
   alone p q x prepares holds =
-      let one : (x ≤ c.capacity) × (g.role x ≡ 1) = prepared_at (s.stand p).place p x refl prepares in
-      let two : g.role x ≡ 2 = held_at (s.stand q).place q x refl one.0 holds in
+      let one : (x ≤ c.capacity) × (g.role x ≡ 1) = prepared_at (s.stand p).phase p x refl prepares in
+      let two : g.role x ≡ 2 = held_at (s.stand q).phase q x refl one.0 holds in
       omega (arith, one, two)
 
   -- ---- links and scans
 
-  finds : (at : Place) (p : ℕ) → (s.stand p).place ≡ at → FindsNode c s (chain_of c p) at
-  finds (Place.Sending job (Sending.ReadLastToClose total)) p stands =
+  finds : (at : Phase) (p : ℕ) → (s.stand p).phase ≡ at → FindsNode c s (chain_of c p) at
+  finds (Phase.Sending job (Sending.ReadLastToClose total)) p stands =
       let l : (0 < s.mem _) × (s.mem _ ≤ c.capacity + 1) = limits.lastc_link c.capacity c.life (further c + 1) _ g (send_holds c s p job (Sending.ReadLastToClose total) stands tt k) refl in (omega (arith, l.0), l.1)
-  finds (Place.Sending job (Sending.ReadLast count at)) p stands =
+  finds (Phase.Sending job (Sending.ReadLast count at)) p stands =
       let l : (0 < s.mem _) × (s.mem _ ≤ c.capacity + 1) = limits.last_link c.capacity c.life (further c + 1) _ g (send_holds c s p job (Sending.ReadLast count at) stands tt k) refl in
       ((omega (arith, l.0), l.1), (send_holds c s p job (Sending.ReadLast count at) stands tt k).found.found_in (omega arith) (omega arith))
-  finds (Place.Sending job (Sending.ReadCursor parcel)) p stands = (send_holds c s p job (Sending.ReadCursor parcel) stands tt k).words.cursor_in
-  finds (Place.Sending job (Sending.ReadPassed parcel at reads)) p stands =
+  finds (Phase.Sending job (Sending.ReadCursor parcel)) p stands = (send_holds c s p job (Sending.ReadCursor parcel) stands tt k).words.cursor_in
+  finds (Phase.Sending job (Sending.ReadPassed parcel at reads)) p stands =
       let scanned : Scanned c k.duty.from at reads = (send_reads c s p job (Sending.ReadPassed parcel at reads) stands tt k).1 in scanned.within
-  finds (Place.Sending job (Sending.ResetPassed parcel at)) p stands = (send_holds c s p job (Sending.ResetPassed parcel at) stands tt k).found.found_in (omega arith) (omega arith)
-  finds (Place.Sending job (Sending.ResetItemNext parcel at)) p stands = (send_holds c s p job (Sending.ResetItemNext parcel at) stands tt k).found.found_in (omega arith) (omega arith)
-  finds (Place.Sending job (Sending.WriteItemTag parcel at)) p stands = (send_holds c s p job (Sending.WriteItemTag parcel at) stands tt k).found.found_in (omega arith) (omega arith)
-  finds (Place.Sending job (Sending.WriteItemBody parcel at i)) p stands = (send_holds c s p job (Sending.WriteItemBody parcel at i) stands tt k).found.found_in (omega arith) (omega arith)
-  finds (Place.Sending job (Sending.LinkItem count at last)) p stands = (send_holds c s p job (Sending.LinkItem count at last) stands tt k).found.found_in (omega arith) (omega arith)
-  finds (Place.Sending job (Sending.WriteLast count at)) p stands = (send_holds c s p job (Sending.WriteLast count at) stands tt k).found.found_in (omega arith) (omega arith)
-  finds (Place.Sending job (Sending.WriteCount count at)) p stands = (send_holds c s p job (Sending.WriteCount count at) stands tt k).found.found_in (omega arith) (omega arith)
-  finds (Place.Sending job (Sending.WriteCursor count at)) p stands = (send_holds c s p job (Sending.WriteCursor count at) stands tt k).found.found_in (omega arith) (omega arith)
-  finds (Place.Taking job Taking.ReadHead) p stands = head_in p job Taking.ReadHead stands refl
-  finds (Place.Taking job (Taking.ReadDummyNext dummy taken)) p stands = next_in p job (Taking.ReadDummyNext dummy taken) stands dummy taken refl
+  finds (Phase.Sending job (Sending.ResetPassed parcel at)) p stands = (send_holds c s p job (Sending.ResetPassed parcel at) stands tt k).found.found_in (omega arith) (omega arith)
+  finds (Phase.Sending job (Sending.ResetItemNext parcel at)) p stands = (send_holds c s p job (Sending.ResetItemNext parcel at) stands tt k).found.found_in (omega arith) (omega arith)
+  finds (Phase.Sending job (Sending.WriteItemTag parcel at)) p stands = (send_holds c s p job (Sending.WriteItemTag parcel at) stands tt k).found.found_in (omega arith) (omega arith)
+  finds (Phase.Sending job (Sending.WriteItemBody parcel at i)) p stands = (send_holds c s p job (Sending.WriteItemBody parcel at i) stands tt k).found.found_in (omega arith) (omega arith)
+  finds (Phase.Sending job (Sending.LinkItem count at last)) p stands = (send_holds c s p job (Sending.LinkItem count at last) stands tt k).found.found_in (omega arith) (omega arith)
+  finds (Phase.Sending job (Sending.WriteLast count at)) p stands = (send_holds c s p job (Sending.WriteLast count at) stands tt k).found.found_in (omega arith) (omega arith)
+  finds (Phase.Sending job (Sending.WriteCount count at)) p stands = (send_holds c s p job (Sending.WriteCount count at) stands tt k).found.found_in (omega arith) (omega arith)
+  finds (Phase.Sending job (Sending.WriteCursor count at)) p stands = (send_holds c s p job (Sending.WriteCursor count at) stands tt k).found.found_in (omega arith) (omega arith)
+  finds (Phase.Taking job Taking.ReadHead) p stands = head_in p job Taking.ReadHead stands refl
+  finds (Phase.Taking job (Taking.ReadDummyNext dummy taken)) p stands = next_in p job (Taking.ReadDummyNext dummy taken) stands dummy taken refl
   finds _ p stands = tt
 
-  scans : (at : Place) (p : ℕ) → (s.stand p).place ≡ at → scan_reads at ≤ c.capacity + 1
-  scans (Place.Sending job (Sending.ReadPassed parcel at reads)) p stands =
+  scans : (at : Phase) (p : ℕ) → (s.stand p).phase ≡ at → scan_reads at ≤ c.capacity + 1
+  scans (Phase.Sending job (Sending.ReadPassed parcel at reads)) p stands =
       let scanned : Scanned c k.duty.from at reads = (send_reads c s p job (Sending.ReadPassed parcel at reads) stands tt k).1 in scanned.most
-  scans (Place.Sending job _) p stands = omega arith
+  scans (Phase.Sending job _) p stands = omega arith
   scans _ p stands = omega arith
 
 -- ---- the laws
 
 pub busy_nodes_are_items : BusyNodesAreItems
 busy_nodes_are_items c moves serves checked run =
-    of_setting (λ (z : Setting). config_fault z.config ≡ Ok tt → IsRun z moves → ((p x : ℕ) → Prepares ((reached z moves).stand p).place x → ⊥)
+    of_setting (λ (z : Setting). config_fault z.config ≡ Ok tt → IsRun z moves → ((p x : ℕ) → Prepares ((reached z moves).stand p).phase x → ⊥)
     → busy_below z.config (reached z moves).mem (z.config.capacity + 1) + handed_to_all (reached z moves).history ≡ length (accepted (reached z moves).history) + 1) c serves
     (λ ok r. busy_items c.config moves (after_runs c.config (in_range c.config ok) moves r)) checked run
 
 pub prepared_node_is_busy : PreparedNodeIsBusy
 prepared_node_is_busy c moves serves checked run =
-    of_setting (λ (z : Setting). config_fault z.config ≡ Ok tt → IsRun z moves → (p x : ℕ) → Prepares ((reached z moves).stand p).place x
+    of_setting (λ (z : Setting). config_fault z.config ≡ Ok tt → IsRun z moves → (p x : ℕ) → Prepares ((reached z moves).stand p).phase x
     → busy_below z.config (reached z moves).mem (z.config.capacity + 1) + handed_to_all (reached z moves).history ≡ length (accepted (reached z moves).history) + 2) c serves
-    (λ ok r p x. busy_at c.config moves (after_runs c.config (in_range c.config ok) moves r) ((reached (lists c.config) moves).stand p).place p x refl) checked run
+    (λ ok r p x. busy_at c.config moves (after_runs c.config (in_range c.config ok) moves r) ((reached (lists c.config) moves).stand p).phase p x refl) checked run
 
 pub reset_after_the_take : ResetAfterTheTake
 reset_after_the_take c moves serves checked run =
-    of_setting (λ (z : Setting). config_fault z.config ≡ Ok tt → IsRun z moves → (p x k : ℕ) → Resets ((reached z moves).stand p).place x → slice_get (linked_nodes z moves) k ≡ Some x → k < handed_to_all (reached z moves).history) c serves
-    (λ ok r p x k resetting is. resets c.config moves (after_runs c.config (in_range c.config ok) moves r) ((reached (lists c.config) moves).stand p).place p x k refl is resetting) checked run
+    of_setting (λ (z : Setting). config_fault z.config ≡ Ok tt → IsRun z moves → (p x k : ℕ) → Resets ((reached z moves).stand p).phase x → slice_get (linked_nodes z moves) k ≡ Some x → k < handed_to_all (reached z moves).history) c serves
+    (λ ok r p x k resetting is. resets c.config moves (after_runs c.config (in_range c.config ok) moves r) ((reached (lists c.config) moves).stand p).phase p x k refl is resetting) checked run
 
 pub prepared_alone : PreparedAlone
 prepared_alone c moves serves checked run =
-    of_setting (λ (z : Setting). config_fault z.config ≡ Ok tt → IsRun z moves → (p q x : ℕ) → Prepares ((reached z moves).stand p).place x → HoldsAt ((reached z moves).stand q).place x → ⊥) c serves
+    of_setting (λ (z : Setting). config_fault z.config ≡ Ok tt → IsRun z moves → (p q x : ℕ) → Prepares ((reached z moves).stand p).phase x → HoldsAt ((reached z moves).stand q).phase x → ⊥) c serves
     (λ ok r. alone c.config moves (after_runs c.config (in_range c.config ok) moves r)) checked run
 
 pub links_name_nodes : LinksNameNodes
 links_name_nodes c moves serves checked run =
-    of_setting (λ (z : Setting). config_fault z.config ≡ Ok tt → IsRun z moves → (p : ℕ) → FindsNode z.config (reached z moves) (chain_of z.config p) ((reached z moves).stand p).place) c serves
-    (λ ok r p. finds c.config moves (after_runs c.config (in_range c.config ok) moves r) ((reached (lists c.config) moves).stand p).place p refl) checked run
+    of_setting (λ (z : Setting). config_fault z.config ≡ Ok tt → IsRun z moves → (p : ℕ) → FindsNode z.config (reached z moves) (chain_of z.config p) ((reached z moves).stand p).phase) c serves
+    (λ ok r p. finds c.config moves (after_runs c.config (in_range c.config ok) moves r) ((reached (lists c.config) moves).stand p).phase p refl) checked run
 
 pub scans_are_short : ScansAreShort
 scans_are_short c moves serves checked run =
-    of_setting (λ (z : Setting). config_fault z.config ≡ Ok tt → IsRun z moves → (p : ℕ) → scan_reads ((reached z moves).stand p).place ≤ z.config.capacity + 1) c serves
-    (λ ok r p. scans c.config moves (after_runs c.config (in_range c.config ok) moves r) ((reached (lists c.config) moves).stand p).place p refl) checked run
+    of_setting (λ (z : Setting). config_fault z.config ≡ Ok tt → IsRun z moves → (p : ℕ) → scan_reads ((reached z moves).stand p).phase ≤ z.config.capacity + 1) c serves
+    (λ ok r p. scans c.config moves (after_runs c.config (in_range c.config ok) moves r) ((reached (lists c.config) moves).stand p).phase p refl) checked run

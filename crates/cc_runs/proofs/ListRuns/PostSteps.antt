@@ -6,7 +6,7 @@ use Rattle.cc_model.specs.Items.{known_at, handed_to_all, entries}
 use Rattle.std.specs.List.{AllByRecursion}
 use Rattle.cc_model.specs.Config.{group_of}
 use Rattle.cc_model.specs.Legal.{IsSenders, IsReceivers, CountsFrom, send_number, send_numbers}
-use Rattle.cc_runs.specs.Names.{Config, Pass, Call, Entry, Served, Chain, Word, Job, Round, Place, Sending, Taking, Stand}
+use Rattle.cc_runs.specs.Names.{Config, Pass, Call, Entry, Served, Chain, Word, Job, Round, Phase, Sending, Taking, Stand}
 use Rattle.cc_model.proofs.Grows.{all-append, counts_more, send_numbers-append}
 use Rattle.cc_runs.specs.Words.{groups}
 use Rattle.cc_runs.specs.State.{State, chain_of, pass_at, hold}
@@ -25,17 +25,17 @@ use Rattle.cc_runs.proofs.Leads.{leads}
 -- ---- the places after a service's steps
 
 -- a place in the service of chain x, or after it
-record Kept (x : Chain) (at : Place) : Type 0 where
+record Kept (x : Chain) (at : Phase) : Type 0 where
   well : (h : Record) (pass : Pass) (begun : ℕ) → Well h x pass begun at
   waits_none : waits at ≡ 0
 
-sends : (x : Chain) (job : Job) (service : Sending) → x ≡ Chain.Send → Kept x (Place.Sending job service)
+sends : (x : Chain) (job : Job) (service : Sending) → x ≡ Chain.Send → Kept x (Phase.Sending job service)
 sends x job service e = record { well = λ h pass begun. e; waits_none = refl }
 
-takes : (x : Chain) (job : Job) (service : Taking) → IsTakes x → Kept x (Place.Taking job service)
+takes : (x : Chain) (job : Job) (service : Taking) → IsTakes x → Kept x (Phase.Taking job service)
 takes x job service e = record { well = λ h pass begun. e; waits_none = refl }
 
-over : (x : Chain) (job : Job) (told : _) → Kept x (Place.WriteAnswer job told)
+over : (x : Chain) (job : Job) (told : _) → Kept x (Phase.WriteAnswer job told)
 over x job told = record { well = λ h pass begun. tt; waits_none = refl }
 
 send_kept : (c : Config) (x : Chain) (job : Job) (service : Sending) (found : ℕ) → x ≡ Chain.Send → Kept x (send_side.goes c job service found)
@@ -55,31 +55,31 @@ exchange_kept (Chain.Take g) own e = record { well = λ h pass begun. tt; waits_
 
 -- ---- the places after each step
 
-pub next_well : (c : Config) (x : Chain) (own : ℕ) (at : Place) (found : ℕ) (h later : Record) (pass : Pass) (begun : ℕ) → known_at pass h ≤ known_at pass later → Well h x pass begun at → Well later x pass begun (goes (lists c) x own at found)
-next_well c x own (Place.ResetNext e) found h later pass begun up w = well_grows h later x pass begun (Place.ResetState e) up w
-next_well c x own (Place.ResetState e) found h later pass begun up w = well_grows h later x pass begun (Place.Exchange e) up w
-next_well c x own (Place.Exchange e) found h later pass begun up w = (exchange_kept x own e).well later pass begun
-next_well c x own (Place.ReadNext round) found h later pass begun up w = (next_kept x round found).well later pass begun
-next_well c x own (Place.Sending job service) found h later pass begun up w = (send_kept c x job service found w).well later pass begun
-next_well c x own (Place.Taking job service) found h later pass begun up w = (take_kept x job service found w).well later pass begun
-next_well c x own (Place.Counting job service) found h later pass begun up w = absurd w
-next_well c x own Place.Idle found h later pass begun up w = tt
+pub next_well : (c : Config) (x : Chain) (own : ℕ) (at : Phase) (found : ℕ) (h later : Record) (pass : Pass) (begun : ℕ) → known_at pass h ≤ known_at pass later → Well h x pass begun at → Well later x pass begun (goes (lists c) x own at found)
+next_well c x own (Phase.ResetNext e) found h later pass begun up w = well_grows h later x pass begun (Phase.ResetState e) up w
+next_well c x own (Phase.ResetState e) found h later pass begun up w = well_grows h later x pass begun (Phase.Exchange e) up w
+next_well c x own (Phase.Exchange e) found h later pass begun up w = (exchange_kept x own e).well later pass begun
+next_well c x own (Phase.ReadNext round) found h later pass begun up w = (next_kept x round found).well later pass begun
+next_well c x own (Phase.Sending job service) found h later pass begun up w = (send_kept c x job service found w).well later pass begun
+next_well c x own (Phase.Taking job service) found h later pass begun up w = (take_kept x job service found w).well later pass begun
+next_well c x own (Phase.Counting job service) found h later pass begun up w = absurd w
+next_well c x own Phase.Idle found h later pass begun up w = tt
 next_well c x own at found h later pass begun up w = (plain_goes c x own at found tt).well later x pass begun
 
 -- an exchange ends the wait
-abbrev pub waits_after : Place → ℕ
-waits_after (Place.Exchange e) = 0
+abbrev pub waits_after : Phase → ℕ
+waits_after (Phase.Exchange e) = 0
 waits_after at = waits at
 
-pub next_waits : (c : Config) (x : Chain) (own : ℕ) (at : Place) (found : ℕ) (h : Record) (pass : Pass) (begun : ℕ) → Well h x pass begun at → waits (goes (lists c) x own at found) ≡ waits_after at
-next_waits c x own (Place.ResetNext e) found h pass begun w = refl
-next_waits c x own (Place.ResetState e) found h pass begun w = refl
-next_waits c x own (Place.Exchange e) found h pass begun w = (exchange_kept x own e).waits_none
-next_waits c x own (Place.ReadNext round) found h pass begun w = (next_kept x round found).waits_none
-next_waits c x own (Place.Sending job service) found h pass begun w = (send_kept c x job service found w).waits_none
-next_waits c x own (Place.Taking job service) found h pass begun w = (take_kept x job service found w).waits_none
-next_waits c x own (Place.Counting job service) found h pass begun w = absurd w
-next_waits c x own Place.Idle found h pass begun w = refl
+pub next_waits : (c : Config) (x : Chain) (own : ℕ) (at : Phase) (found : ℕ) (h : Record) (pass : Pass) (begun : ℕ) → Well h x pass begun at → waits (goes (lists c) x own at found) ≡ waits_after at
+next_waits c x own (Phase.ResetNext e) found h pass begun w = refl
+next_waits c x own (Phase.ResetState e) found h pass begun w = refl
+next_waits c x own (Phase.Exchange e) found h pass begun w = (exchange_kept x own e).waits_none
+next_waits c x own (Phase.ReadNext round) found h pass begun w = (next_kept x round found).waits_none
+next_waits c x own (Phase.Sending job service) found h pass begun w = (send_kept c x job service found w).waits_none
+next_waits c x own (Phase.Taking job service) found h pass begun w = (take_kept x job service found w).waits_none
+next_waits c x own (Phase.Counting job service) found h pass begun w = absurd w
+next_waits c x own Phase.Idle found h pass begun w = refl
 next_waits c x own at found h pass begun w = (plain_goes c x own at found tt).waits_none
 
 -- ---- pass p goes on, in a history of which no less is known
@@ -88,16 +88,16 @@ module _ (c : Config) (s : State) (p : ℕ) (now : Stand) (mem' : Word → ℕ) 
   abbrev t : State
   t = record { mem = mem'; stand = hold s.stand p now; history = later }
 
-  pub posts_on : now.begun ≤ c.per_sender → Well later (chain_of c p) (pass_at c p) now.begun now.place
-      → (p < c.senders → length (send_numbers (p + 1) later.sends.calls) + waits now.place ≡ now.begun)
+  pub posts_on : now.begun ≤ c.per_sender → Well later (chain_of c p) (pass_at c p) now.begun now.phase
+      → (p < c.senders → length (send_numbers (p + 1) later.sends.calls) + waits now.phase ≡ now.begun)
       → ((q : ℕ) → p ≢ q → length (send_numbers (q + 1) later.sends.calls) ≡ length (send_numbers (q + 1) s.history.sends.calls))
       → Posts c t
   posts_on limit well sent others = record {
-    well = hold_all (λ (q : ℕ) (z : Stand). Well later (chain_of c q) (pass_at c q) z.begun z.place) s.stand p now well
-        (λ q ne. well_grows s.history later (chain_of c q) (pass_at c q) (s.stand q).begun (s.stand q).place (up (pass_at c q)) (posts.well q));
-    outside = hold_all (λ (q : ℕ) (z : Stand). passes (lists c) ≤ q → IsIdle z.place) s.stand p now (λ l. absurd (omega (arith, l, within))) (λ q ne. posts.outside q);
+    well = hold_all (λ (q : ℕ) (z : Stand). Well later (chain_of c q) (pass_at c q) z.begun z.phase) s.stand p now well
+        (λ q ne. well_grows s.history later (chain_of c q) (pass_at c q) (s.stand q).begun (s.stand q).phase (up (pass_at c q)) (posts.well q));
+    outside = hold_all (λ (q : ℕ) (z : Stand). passes (lists c) ≤ q → IsIdle z.phase) s.stand p now (λ l. absurd (omega (arith, l, within))) (λ q ne. posts.outside q);
     limit = hold_all (λ (q : ℕ) (z : Stand). z.begun ≤ c.per_sender) s.stand p now limit (λ q ne. posts.limit q);
-    sent = hold_all (λ (q : ℕ) (z : Stand). q < c.senders → length (send_numbers (q + 1) later.sends.calls) + waits z.place ≡ z.begun) s.stand p now sent (λ q ne l. omega (arith, others q ne, posts.sent q l));
+    sent = hold_all (λ (q : ℕ) (z : Stand). q < c.senders → length (send_numbers (q + 1) later.sends.calls) + waits z.phase ≡ z.begun) s.stand p now sent (λ q ne l. omega (arith, others q ne, posts.sent q l));
   }
 
 -- ---- the same calls, in a history of which no less is known

@@ -6,7 +6,7 @@ use Rattle.std.specs.List.{AllByRecursion, slice_get}
 use Rattle.cc_model.specs.Record.{Record, of_group}
 use Rattle.cc_model.specs.Items.{known_at, handed_to_all, entries}
 use Rattle.cc_model.specs.Legal.{IsSenders, IsReceivers, CountsFrom, send_numbers}
-use Rattle.cc_runs.specs.Names.{Config, Pass, Call, Entry, Served, Chain, Place}
+use Rattle.cc_runs.specs.Names.{Config, Pass, Call, Entry, Served, Chain, Phase}
 use Rattle.cc_runs.specs.State.{State, chain_of, pass_at}
 use Rattle.cc_runs.specs.Run.{passes, IsOn, IsIdle}
 use Rattle.cc_runs.specs.Words.{groups}
@@ -32,13 +32,13 @@ IsTakes Chain.Send = ⊥
 IsTakes (Chain.Take g) = Unit {0}
 
 -- at each place
-abbrev pub Well : Record → Chain → Pass → ℕ → Place → Type 0
-Well h x pass begun (Place.ResetNext e) = Begun h x pass begun e
-Well h x pass begun (Place.ResetState e) = Begun h x pass begun e
-Well h x pass begun (Place.Exchange e) = Begun h x pass begun e
-Well h x pass begun (Place.Sending job service) = x ≡ Chain.Send
-Well h x pass begun (Place.Taking job service) = IsTakes x
-Well h x pass begun (Place.Counting job service) = ⊥
+abbrev pub Well : Record → Chain → Pass → ℕ → Phase → Type 0
+Well h x pass begun (Phase.ResetNext e) = Begun h x pass begun e
+Well h x pass begun (Phase.ResetState e) = Begun h x pass begun e
+Well h x pass begun (Phase.Exchange e) = Begun h x pass begun e
+Well h x pass begun (Phase.Sending job service) = x ≡ Chain.Send
+Well h x pass begun (Phase.Taking job service) = IsTakes x
+Well h x pass begun (Phase.Counting job service) = ⊥
 Well h x pass begun _ = Unit {0}
 
 -- 1 for a send
@@ -47,17 +47,17 @@ is_send (Call.Send body) = 1
 is_send _ = 0
 
 -- 1 if a send is begun and hasn't exchanged
-abbrev pub waits : Place → ℕ
-waits (Place.ResetNext e) = is_send e.call
-waits (Place.ResetState e) = is_send e.call
-waits (Place.Exchange e) = is_send e.call
+abbrev pub waits : Phase → ℕ
+waits (Phase.ResetNext e) = is_send e.call
+waits (Phase.ResetState e) = is_send e.call
+waits (Phase.Exchange e) = is_send e.call
 waits _ = 0
 
 pub record Posts (c : Config) (s : State) : Type 0 where
-  pub well : (p : ℕ) → Well s.history (chain_of c p) (pass_at c p) (s.stand p).begun (s.stand p).place
-  pub outside : (p : ℕ) → passes (lists c) ≤ p → IsIdle (s.stand p).place
+  pub well : (p : ℕ) → Well s.history (chain_of c p) (pass_at c p) (s.stand p).begun (s.stand p).phase
+  pub outside : (p : ℕ) → passes (lists c) ≤ p → IsIdle (s.stand p).phase
   pub limit : (p : ℕ) → (s.stand p).begun ≤ c.per_sender
-  pub sent : (p : ℕ) → p < c.senders → length (send_numbers (p + 1) s.history.sends.calls) + waits (s.stand p).place ≡ (s.stand p).begun
+  pub sent : (p : ℕ) → p < c.senders → length (send_numbers (p + 1) s.history.sends.calls) + waits (s.stand p).phase ≡ (s.stand p).begun
 
 -- the calls that have exchanged
 pub record Calls (c : Config) (h : Record) : Type 0 where
@@ -111,10 +111,10 @@ all_map P Q (y ∷ xs) to all = (to y all.0, all_map P Q xs to all.1)
 begun_grows : (h later : Record) (x : Chain) (pass : Pass) (begun : ℕ) (e : Entry) → known_at pass h ≤ known_at pass later → Begun h x pass begun e → Begun later x pass begun e
 begun_grows h later x pass begun e up b = record { pass_is = b.pass_is; on = b.on; number_is = b.number_is; known_in = omega (arith, b.known_in, up) }
 
-pub well_grows : (h later : Record) (x : Chain) (pass : Pass) (begun : ℕ) (at : Place) → known_at pass h ≤ known_at pass later → Well h x pass begun at → Well later x pass begun at
-well_grows h later x pass begun (Place.ResetNext e) up w = begun_grows h later x pass begun e up w
-well_grows h later x pass begun (Place.ResetState e) up w = begun_grows h later x pass begun e up w
-well_grows h later x pass begun (Place.Exchange e) up w = begun_grows h later x pass begun e up w
+pub well_grows : (h later : Record) (x : Chain) (pass : Pass) (begun : ℕ) (at : Phase) → known_at pass h ≤ known_at pass later → Well h x pass begun at → Well later x pass begun at
+well_grows h later x pass begun (Phase.ResetNext e) up w = begun_grows h later x pass begun e up w
+well_grows h later x pass begun (Phase.ResetState e) up w = begun_grows h later x pass begun e up w
+well_grows h later x pass begun (Phase.Exchange e) up w = begun_grows h later x pass begun e up w
 well_grows h later x pass begun _ up w = w
 
 pub known_grows : (h later : Record) (pass : Pass) → handed_to_all h ≤ handed_to_all later → entries h ≤ entries later → known_at pass h ≤ known_at pass later

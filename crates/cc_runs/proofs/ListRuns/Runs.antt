@@ -5,8 +5,8 @@ use Rattle.std.specs.List.{AllByRecursion, slice_get}
 use Rattle.std.proofs.lemmas.List.{length-replicate}
 use Rattle.cc_model.specs.Record.{Side, Record, silent, of_group}
 use Rattle.cc_model.specs.Items.{known_at, accepted, is_shut, handed_by, handed_to_all, entries}
-use Rattle.cc_model.specs.Legal.{Legal, DAnswers, IsReceivers, send_numbers}
-use Rattle.cc_runs.specs.Names.{Config, Pass, Call, Chain, Place, Stand, Move, Entry}
+use Rattle.cc_model.specs.Legal.{Legal, TakeSideAnswers, IsReceivers, send_numbers}
+use Rattle.cc_runs.specs.Names.{Config, Pass, Call, Chain, Phase, Stand, Move, Entry}
 use Rattle.cc_runs.specs.State.{State, appended, chain_of, pass_at, first_node, word_of}
 use Rattle.cc_runs.specs.Lines.{operation, goes, enters, decides}
 use Rattle.cc_runs.specs.Step.{stepped_from}
@@ -88,13 +88,13 @@ module _ (c : Config) (fits : InRange c) (s : State) (p begun own : ℕ) (within
   abbrev h : Record
   h = s.history
 
-  abbrev stand_at : Place → Stand
-  stand_at at = record { begun = begun; node = own; place = at }
+  abbrev stand_at : Phase → Stand
+  stand_at at = record { begun = begun; node = own; phase = at }
 
-  abbrev to : Chain → Place → State
+  abbrev to : Chain → Phase → State
   to x at = stepped_from (lists c) s x p (stand_at at)
 
-  abbrev finds : Chain → Place → ℕ
+  abbrev finds : Chain → Phase → ℕ
   finds x at = s.mem (word_of (operation (lists c) x own at))
 
   few_sends : c.per_sender < 2 ^ 32
@@ -103,30 +103,30 @@ module _ (c : Config) (fits : InRange c) (s : State) (p begun own : ℕ) (within
   few_senders : c.senders < 2 ^ 16
   few_senders = omega (arith, fits.senders)
 
-  limit_at : (at : Place) → s.stand p ≡ stand_at at → begun ≤ c.per_sender
+  limit_at : (at : Phase) → s.stand p ≡ stand_at at → begun ≤ c.per_sender
   limit_at at stands = subst (λ (z : Stand). z.begun ≤ c.per_sender) stands (w.posts.limit p)
 
   module _ (of : OfSend c p) where
-    well_at : (at : Place) → s.stand p ≡ stand_at at → Well h Chain.Send (Pass.Sender (p + 1)) begun at
-    well_at at stands = subst (λ (x : Chain). Well h x (Pass.Sender (p + 1)) begun at) of.chain_is (subst (λ (z : Pass). Well h (chain_of c p) z begun at) of.pass_is (subst (λ (z : Stand). Well h (chain_of c p) (pass_at c p) z.begun z.place) stands (w.posts.well p)))
+    well_at : (at : Phase) → s.stand p ≡ stand_at at → Well h Chain.Send (Pass.Sender (p + 1)) begun at
+    well_at at stands = subst (λ (x : Chain). Well h x (Pass.Sender (p + 1)) begun at) of.chain_is (subst (λ (z : Pass). Well h (chain_of c p) z begun at) of.pass_is (subst (λ (z : Stand). Well h (chain_of c p) (pass_at c p) z.begun z.phase) stands (w.posts.well p)))
 
-    sent_at : (at : Place) → s.stand p ≡ stand_at at → length (send_numbers (p + 1) h.sends.calls) + waits at ≡ begun
-    sent_at at stands = subst (λ (z : Stand). length (send_numbers (p + 1) h.sends.calls) + waits z.place ≡ z.begun) stands (w.posts.sent p of.within)
+    sent_at : (at : Phase) → s.stand p ≡ stand_at at → length (send_numbers (p + 1) h.sends.calls) + waits at ≡ begun
+    sent_at at stands = subst (λ (z : Stand). length (send_numbers (p + 1) h.sends.calls) + waits z.phase ≡ z.begun) stands (w.posts.sent p of.within)
 
-    send_well : (at : Place) (later : Record) → s.stand p ≡ stand_at at → ((pass : Pass) → known_at pass h ≤ known_at pass later) → Well later (chain_of c p) (pass_at c p) begun (goes (lists c) Chain.Send own at (finds Chain.Send at))
+    send_well : (at : Phase) (later : Record) → s.stand p ≡ stand_at at → ((pass : Pass) → known_at pass h ≤ known_at pass later) → Well later (chain_of c p) (pass_at c p) begun (goes (lists c) Chain.Send own at (finds Chain.Send at))
     send_well at later stands up = subst (λ (x : Chain). Well later x (pass_at c p) begun (goes (lists c) Chain.Send own at (finds Chain.Send at))) (sym of.chain_is) (subst (λ (z : Pass). Well later Chain.Send z begun (goes (lists c) Chain.Send own at (finds Chain.Send at))) (sym of.pass_is)
         (next_well c Chain.Send own at (finds Chain.Send at) h later (Pass.Sender (p + 1)) begun (up (Pass.Sender (p + 1))) (well_at at stands)))
 
-    send_rest : (at : Place) → s.stand p ≡ stand_at at → OnwardBy c s w.parts (to Chain.Send at) (links_at at) → Posts c (to Chain.Send at) × Calls c (to Chain.Send at).history
-    send_rest (Place.Exchange e) stands on =
-        let later : Record = (to Chain.Send (Place.Exchange e)).history in
-        let b : Begun h Chain.Send (Pass.Sender (p + 1)) begun e = well_at (Place.Exchange e) stands in
-        let up = handed_up c s (to Chain.Send (Place.Exchange e)) w.parts _ on in
-        let d_up = entries_up c s (to Chain.Send (Place.Exchange e)) w.parts _ on in
-        let known = known_up c s (to Chain.Send (Place.Exchange e)) w.parts _ on in
-        let limit = limit_at (Place.Exchange e) stands in
-        let sent = sent_at (Place.Exchange e) stands in (
-          posts_on c s p _ _ _ w.posts within known limit (send_well (Place.Exchange e) _ stands known)
+    send_rest : (at : Phase) → s.stand p ≡ stand_at at → OnwardBy c s w.parts (to Chain.Send at) (links_at at) → Posts c (to Chain.Send at) × Calls c (to Chain.Send at).history
+    send_rest (Phase.Exchange e) stands on =
+        let later : Record = (to Chain.Send (Phase.Exchange e)).history in
+        let b : Begun h Chain.Send (Pass.Sender (p + 1)) begun e = well_at (Phase.Exchange e) stands in
+        let up = handed_up c s (to Chain.Send (Phase.Exchange e)) w.parts _ on in
+        let d_up = entries_up c s (to Chain.Send (Phase.Exchange e)) w.parts _ on in
+        let known = known_up c s (to Chain.Send (Phase.Exchange e)) w.parts _ on in
+        let limit = limit_at (Phase.Exchange e) stands in
+        let sent = sent_at (Phase.Exchange e) stands in (
+          posts_on c s p _ _ _ w.posts within known limit (send_well (Phase.Exchange e) _ stands known)
               (λ l. omega (arith, own_sent c h later p begun e refl (λ y. refl) up d_up of.within b limit few_sends few_senders sent w.calls))
               (other_sent c h later p begun e refl (λ y. refl) up d_up of.within b limit few_sends few_senders sent w.calls),
           e_calls_on c h later p begun e refl (λ y. refl) up d_up of.within b limit few_sends few_senders sent w.calls,
@@ -139,7 +139,7 @@ module _ (c : Config) (fits : InRange c) (s : State) (p begun own : ℕ) (within
           calls_on c h _ refl (λ y. refl) (handed_up c s (to Chain.Send at) w.parts _ on) (entries_up c s (to Chain.Send at) w.parts _ on) w.calls,
         )
 
-    send_whole : (at : Place) → s.stand p ≡ stand_at at → ChainFacts (lists c) s → Goes c s w (to Chain.Send at) (links_at at)
+    send_whole : (at : Phase) → s.stand p ≡ stand_at at → ChainFacts (lists c) s → Goes c s w (to Chain.Send at) (links_at at)
     send_whole at stands facts =
         let on : OnwardBy c s w.parts (to Chain.Send at) (links_at at) = send_step c s p begun own within w.parts w.posts w.calls at stands (well_at at stands) facts in
         let rest : Posts c (to Chain.Send at) × Calls c (to Chain.Send at).history = send_rest at stands on in
@@ -155,15 +155,15 @@ module _ (c : Config) (fits : InRange c) (s : State) (p begun own : ℕ) (within
     side_in : y < length h.takes
     side_in = omega (arith, inside, w.parts.ties.many)
 
-    take_well_at : (at : Place) → s.stand p ≡ stand_at at → Well h (Chain.Take y) (pass_at c p) begun at
-    take_well_at at stands = subst (λ (x : Chain). Well h x (pass_at c p) begun at) of.chain_is (subst (λ (z : Stand). Well h (chain_of c p) (pass_at c p) z.begun z.place) stands (w.posts.well p))
+    take_well_at : (at : Phase) → s.stand p ≡ stand_at at → Well h (Chain.Take y) (pass_at c p) begun at
+    take_well_at at stands = subst (λ (x : Chain). Well h x (pass_at c p) begun at) of.chain_is (subst (λ (z : Stand). Well h (chain_of c p) (pass_at c p) z.begun z.phase) stands (w.posts.well p))
 
-    take_well : (at : Place) (later : Record) → s.stand p ≡ stand_at at → ((pass : Pass) → known_at pass h ≤ known_at pass later) → Well later (chain_of c p) (pass_at c p) begun (goes (lists c) (Chain.Take y) own at (finds (Chain.Take y) at))
+    take_well : (at : Phase) (later : Record) → s.stand p ≡ stand_at at → ((pass : Pass) → known_at pass h ≤ known_at pass later) → Well later (chain_of c p) (pass_at c p) begun (goes (lists c) (Chain.Take y) own at (finds (Chain.Take y) at))
     take_well at later stands up = subst (λ (x : Chain). Well later x (pass_at c p) begun (goes (lists c) (Chain.Take y) own at (finds (Chain.Take y) at))) (sym of.chain_is)
         (next_well c (Chain.Take y) own at (finds (Chain.Take y) at) h later (pass_at c p) begun (up (pass_at c p)) (take_well_at at stands))
 
     -- a step that enters no call leaves the calls
-    same_calls : (at : Place) → enters at ≡ None → (x : ℕ) → (of_group (to (Chain.Take y) at).history x).calls ≡ (of_group h x).calls
+    same_calls : (at : Phase) → enters at ≡ None → (x : ℕ) → (of_group (to (Chain.Take y) at).history x).calls ≡ (of_group h x).calls
     same_calls at none x =
         let found : ℕ = finds (Chain.Take y) at in
         let now : Side = record { calls = appended (of_group h y).calls (enters at); answers = appended (of_group h y).answers (decides (lists c) at found) } in
@@ -172,7 +172,7 @@ module _ (c : Config) (fits : InRange c) (s : State) (p begun own : ℕ) (within
           | inr ne ↦ ap (λ (z : Side). z.calls) (group_other h y x now ne)
         ]
 
-    take_still : (at : Place) → enters at ≡ None → s.stand p ≡ stand_at at → OnwardBy c s w.parts (to (Chain.Take y) at) (links_at at) → Posts c (to (Chain.Take y) at) × Calls c (to (Chain.Take y) at).history
+    take_still : (at : Phase) → enters at ≡ None → s.stand p ≡ stand_at at → OnwardBy c s w.parts (to (Chain.Take y) at) (links_at at) → Posts c (to (Chain.Take y) at) × Calls c (to (Chain.Take y) at).history
     take_still at none stands on =
         let known = known_up c s (to (Chain.Take y) at) w.parts _ on in (
           posts_on c s p _ _ _ w.posts within known (limit_at at stands) (take_well at _ stands known)
@@ -181,28 +181,28 @@ module _ (c : Config) (fits : InRange c) (s : State) (p begun own : ℕ) (within
           calls_on c h _ refl (same_calls at none) (handed_up c s (to (Chain.Take y) at) w.parts _ on) (entries_up c s (to (Chain.Take y) at) w.parts _ on) w.calls,
         )
 
-    take_rest : (at : Place) → s.stand p ≡ stand_at at → OnwardBy c s w.parts (to (Chain.Take y) at) (links_at at) → Posts c (to (Chain.Take y) at) × Calls c (to (Chain.Take y) at).history
-    take_rest (Place.Exchange e) stands on =
-        let later : Record = (to (Chain.Take y) (Place.Exchange e)).history in
-        let b : Begun h (Chain.Take y) (Pass.Receiver (p - c.senders + 1)) begun e = subst (λ (z : Pass). Begun h (Chain.Take y) z begun e) of.pass_is (take_well_at (Place.Exchange e) stands) in
-        let up = handed_up c s (to (Chain.Take y) (Place.Exchange e)) w.parts _ on in
-        let d_up = entries_up c s (to (Chain.Take y) (Place.Exchange e)) w.parts _ on in
-        let known = known_up c s (to (Chain.Take y) (Place.Exchange e)) w.parts _ on in
+    take_rest : (at : Phase) → s.stand p ≡ stand_at at → OnwardBy c s w.parts (to (Chain.Take y) at) (links_at at) → Posts c (to (Chain.Take y) at) × Calls c (to (Chain.Take y) at).history
+    take_rest (Phase.Exchange e) stands on =
+        let later : Record = (to (Chain.Take y) (Phase.Exchange e)).history in
+        let b : Begun h (Chain.Take y) (Pass.Receiver (p - c.senders + 1)) begun e = subst (λ (z : Pass). Begun h (Chain.Take y) z begun e) of.pass_is (take_well_at (Phase.Exchange e) stands) in
+        let up = handed_up c s (to (Chain.Take y) (Phase.Exchange e)) w.parts _ on in
+        let d_up = entries_up c s (to (Chain.Take y) (Phase.Exchange e)) w.parts _ on in
+        let known = known_up c s (to (Chain.Take y) (Phase.Exchange e)) w.parts _ on in
         let back : p - c.senders + 1 - 1 ≡ p - c.senders = omega arith in (
-          posts_on c s p _ _ _ w.posts within known (limit_at (Place.Exchange e) stands) (take_well (Place.Exchange e) _ stands known)
+          posts_on c s p _ _ _ w.posts within known (limit_at (Phase.Exchange e) stands) (take_well (Phase.Exchange e) _ stands known)
               (λ l. absurd (omega (arith, l, of.low)))
               (λ q ne. refl),
           d_calls_on c h later y (p - c.senders + 1) begun e refl (called_mine c h y e side_in) (called_others c h y e side_in) up d_up (omega arith) (omega (arith, within, of.low)) (ap (λ (k : ℕ). k / c.receivers) back) b w.calls,
         )
     take_rest at stands on = take_still at refl stands on
 
-    take_whole : (at : Place) → s.stand p ≡ stand_at at → ChainFacts (lists c) (to (Chain.Take y) at) → Goes c s w (to (Chain.Take y) at) (links_at at)
+    take_whole : (at : Phase) → s.stand p ≡ stand_at at → ChainFacts (lists c) (to (Chain.Take y) at) → Goes c s w (to (Chain.Take y) at) (links_at at)
     take_whole at stands facts =
         let on : OnwardBy c s w.parts (to (Chain.Take y) at) (links_at at) = take_step c s p begun own within w.parts w.posts w.calls y of.chain_is inside at stands (take_well_at at stands) facts in
         let rest : Posts c (to (Chain.Take y) at) × Calls c (to (Chain.Take y) at).history = take_rest at stands on in
         record { whole = record { parts = on.parts; posts = rest.0; calls = rest.1 }; linked = on.linked }
 
-  step_on : (at : Place) → s.stand p ≡ stand_at at → ChainFacts (lists c) s → ChainFacts (lists c) (to (chain_of c p) at) → Goes c s w (to (chain_of c p) at) (links_at at)
+  step_on : (at : Phase) → s.stand p ≡ stand_at at → ChainFacts (lists c) s → ChainFacts (lists c) (to (chain_of c p) at) → Goes c s w (to (chain_of c p) at) (links_at at)
   step_on at stands before after = elim (of_side c p) [
     | inl of ↦ subst (λ (x : Chain). Goes c s w (to x at) (links_at at)) (sym of.chain_is) (send_whole of at stands before)
     | inr of ↦ subst (λ (x : Chain). Goes c s w (to x at) (links_at at)) (sym of.chain_is) (take_whole of at stands (subst (λ (x : Chain). ChainFacts (lists c) (to x at)) of.chain_is after))
@@ -210,20 +210,20 @@ module _ (c : Config) (fits : InRange c) (s : State) (p begun own : ℕ) (within
 
 -- ---- a call is begun, or its answer taken
 
-idle_still : (at : Place) → IsIdle at → StillSend at × StillTake at
-idle_still Place.Idle u = (still_send Place.Idle tt, still_take Place.Idle tt)
+idle_still : (at : Phase) → IsIdle at → StillSend at × StillTake at
+idle_still Phase.Idle u = (still_send Phase.Idle tt, still_take Phase.Idle tt)
 idle_still _ u = absurd u
 
-finished_still : (at : Place) → IsFinished at → StillSend at × StillTake at
-finished_still (Place.Finished told) u = (still_send (Place.Finished told) tt, still_take (Place.Finished told) tt)
+finished_still : (at : Phase) → IsFinished at → StillSend at × StillTake at
+finished_still (Phase.Finished told) u = (still_send (Phase.Finished told) tt, still_take (Phase.Finished told) tt)
 finished_still _ u = absurd u
 
-idle_waits : (at : Place) → IsIdle at → waits at ≡ 0
-idle_waits Place.Idle u = refl
+idle_waits : (at : Phase) → IsIdle at → waits at ≡ 0
+idle_waits Phase.Idle u = refl
 idle_waits _ u = absurd u
 
-finished_waits : (at : Place) → IsFinished at → waits at ≡ 0
-finished_waits (Place.Finished told) u = refl
+finished_waits : (at : Phase) → IsFinished at → waits at ≡ 0
+finished_waits (Phase.Finished told) u = refl
 finished_waits _ u = absurd u
 
 numbered : (k : Call) (begun : ℕ) → HasNumber k (number_of k begun) (begun_after k begun)
@@ -239,15 +239,15 @@ one_more Call.Take begun = omega arith
 begin_on : (c : Config) (s : State) (p : ℕ) (k : Call) (known : ℕ) → May (lists c) s (Move.Begin p k known) → (w : Whole c s) → Goes c s w (moved (lists c) s (Move.Begin p k known)) []
 begin_on c s p k known may w =
     let now : Stand = begins c p k known (s.stand p) in
-    let still : StillSend (s.stand p).place × StillTake (s.stand p).place = idle_still (s.stand p).place may.2 in
+    let still : StillSend (s.stand p).phase × StillTake (s.stand p).phase = idle_still (s.stand p).phase may.2 in
     let on : Onward c s w.parts (moved (lists c) s (Move.Begin p k known)) =
-    quiet c s p (begins c p k known (s.stand p)) s.mem s.history w.parts still.0 still.1 (still_send (Place.ResetNext _) tt) (still_take (Place.ResetNext _) tt) (λ d e r. refl) (λ e n. n) (λ y e n. n) (λ t. t) in
+    quiet c s p (begins c p k known (s.stand p)) s.mem s.history w.parts still.0 still.1 (still_send (Phase.ResetNext _) tt) (still_take (Phase.ResetNext _) tt) (λ d e r. refl) (λ e n. n) (λ y e n. n) (λ t. t) in
     record {
       whole = record {
         parts = on.parts;
         posts = posts_on c s p (begins c p k known (s.stand p)) s.mem s.history w.posts may.0 (λ pass. omega arith) may.3
             (record { pass_is = refl; on = may.1; number_is = numbered k (s.stand p).begun; known_in = may.4 })
-            (λ l. omega (arith, w.posts.sent p l, idle_waits (s.stand p).place may.2, one_more k (s.stand p).begun))
+            (λ l. omega (arith, w.posts.sent p l, idle_waits (s.stand p).phase may.2, one_more k (s.stand p).begun))
             (λ q ne. refl);
         calls = w.calls;
       };
@@ -256,14 +256,14 @@ begin_on c s p k known may w =
 
 answer_on : (c : Config) (s : State) (p : ℕ) → May (lists c) s (Move.Take p) → (w : Whole c s) → Goes c s w (moved (lists c) s (Move.Take p)) []
 answer_on c s p may w =
-    let still : StillSend (s.stand p).place × StillTake (s.stand p).place = finished_still (s.stand p).place may.1 in
+    let still : StillSend (s.stand p).phase × StillTake (s.stand p).phase = finished_still (s.stand p).phase may.1 in
     let on : Onward c s w.parts (moved (lists c) s (Move.Take p)) =
-    quiet c s p (rests (s.stand p)) s.mem s.history w.parts still.0 still.1 (still_send Place.Idle tt) (still_take Place.Idle tt) (λ d e r. refl) (λ e n. n) (λ y e n. n) (λ t. t) in
+    quiet c s p (rests (s.stand p)) s.mem s.history w.parts still.0 still.1 (still_send Phase.Idle tt) (still_take Phase.Idle tt) (λ d e r. refl) (λ e n. n) (λ y e n. n) (λ t. t) in
     record {
       whole = record {
         parts = on.parts;
         posts = posts_on c s p (rests (s.stand p)) s.mem s.history w.posts may.0 (λ pass. omega arith) (w.posts.limit p) tt
-            (λ l. omega (arith, w.posts.sent p l, finished_waits (s.stand p).place may.1))
+            (λ l. omega (arith, w.posts.sent p l, finished_waits (s.stand p).phase may.1))
             (λ q ne. refl);
         calls = w.calls;
       };
@@ -282,17 +282,17 @@ module _ (c : Config) (fits : InRange c) where
   abbrev told0 : Ghosts
   told0 = open_list.opening long_of
 
-  idle0 : (p : ℕ) → (s0.stand p).place ≡ Place.Idle
+  idle0 : (p : ℕ) → (s0.stand p).phase ≡ Phase.Idle
   idle0 p = by_case (nat_lt p (passes (lists c)))
     where
-      by_case : (b : Bool) → (if b then record { begun = 0; node = first_node c p; place = Place.Idle } else nowhere).place ≡ Place.Idle
+      by_case : (b : Bool) → (if b then record { begun = 0; node = first_node c p; phase = Phase.Idle } else nowhere).phase ≡ Phase.Idle
       by_case true = refl
       by_case false = refl
 
   begun0 : (p : ℕ) → (s0.stand p).begun ≡ 0
   begun0 p = by_case (nat_lt p (passes (lists c)))
     where
-      by_case : (b : Bool) → (if b then record { begun = 0; node = first_node c p; place = Place.Idle } else nowhere).begun ≡ 0
+      by_case : (b : Bool) → (if b then record { begun = 0; node = first_node c p; phase = Phase.Idle } else nowhere).begun ≡ 0
       by_case true = refl
       by_case false = refl
 
@@ -341,7 +341,7 @@ module _ (c : Config) (fits : InRange c) where
 
   same_queue0 : queue_of s0 duty0 ≡ queue0
   same_queue0 =
-      ap (λ (z : Place). queue_from (first_word c) duty0 (enq_at duty0.e_call duty0.from z) (regs_of s0.stand duty0)) (idle0 0)
+      ap (λ (z : Phase). queue_from (first_word c) duty0 (enq_at duty0.e_call duty0.from z) (regs_of s0.stand duty0)) (idle0 0)
       ∙ ap (λ (r : ℕ → Regs). queue_from (first_word c) duty0 (resting duty0.e_call duty0.from) r) (λ i y. regs_at (idle0 (duty0.d_pass y) i))
 
   -- nothing is called yet
@@ -357,13 +357,13 @@ module _ (c : Config) (fits : InRange c) where
     told = told0;
     list = subst (λ (v : Queue). ListHolds c.capacity c.life (further c) v told0) (sym same_queue0) list0;
     serving = record {
-      e_only = λ q ne u. subst (λ (z : Place). IsServing z) (idle0 q) u;
+      e_only = λ q ne u. subst (λ (z : Phase). IsServing z) (idle0 q) u;
       d_mine = λ y. receiver_chain c (c.senders + (y * c.receivers + 0)) (omega arith) ∙ ap Chain.Take (group_is c y 0 (omega (arith, fits.receivers)));
-      d_only = λ y q on ne u. subst (λ (z : Place). IsTaking z) (idle0 q) u;
+      d_only = λ y q on ne u. subst (λ (z : Phase). IsTaking z) (idle0 q) u;
       caller = record { senders = (omega arith, fits.senders.0); small = record { sender = omega arith; number = omega arith; body = tt } };
-      reads = subst (λ (z : Place). ReadsAt c duty0.e_call duty0.from z) (sym (idle0 0)) tt;
-      next_send = λ u. absurd (subst (λ (z : Place). IsUndecidedAt z) (idle0 0) u);
-      next_take = λ y u. absurd (subst (λ (z : Place). IsTaking z) (idle0 (duty0.d_pass y)) u);
+      reads = subst (λ (z : Phase). ReadsAt c duty0.e_call duty0.from z) (sym (idle0 0)) tt;
+      next_send = λ u. absurd (subst (λ (z : Phase). IsUndecidedAt z) (idle0 0) u);
+      next_take = λ y u. absurd (subst (λ (z : Phase). IsTaking z) (idle0 (duty0.d_pass y)) u);
     };
     ties = record {
       some = omega (arith, fits.groups);
@@ -373,7 +373,7 @@ module _ (c : Config) (fits : InRange c) where
       shut_is = zero0.shut;
       tells_is = open_list.opening_tells long_of;
       items_are = λ k l. absurd (omega (arith, l, zero0.accepted));
-      lawful = record { sends = tt; takes = λ y. subst (λ (z : Side). DAnswers (accepted s0.history) (is_shut s0.history) 0 z.calls z.answers) (sym (silent0 y)) tt };
+      legal = record { sends = tt; takes = λ y. subst (λ (z : Side). TakeSideAnswers (accepted s0.history) (is_shut s0.history) 0 z.calls z.answers) (sym (silent0 y)) tt };
     };
   }
 
@@ -381,8 +381,8 @@ module _ (c : Config) (fits : InRange c) where
   whole0 = record {
     parts = parts0;
     posts = record {
-      well = λ p. subst (λ (z : Place). Well s0.history (chain_of c p) (pass_at c p) (s0.stand p).begun z) (sym (idle0 p)) tt;
-      outside = λ p l. subst (λ (z : Place). IsIdle z) (sym (idle0 p)) tt;
+      well = λ p. subst (λ (z : Phase). Well s0.history (chain_of c p) (pass_at c p) (s0.stand p).begun z) (sym (idle0 p)) tt;
+      outside = λ p l. subst (λ (z : Phase). IsIdle z) (sym (idle0 p)) tt;
       limit = λ p. omega (arith, begun0 p);
       sent = λ p l. omega (arith, begun0 p, ap waits (idle0 p));
     };
@@ -423,9 +423,9 @@ after_run c fits facts (Move.Take p ∷ earlier) r =
 after_run c fits facts (Move.Step p ∷ earlier) r =
     let before : AfterRun c earlier = after_run c fits facts earlier r.0 in
     let s : Stand = (reached (lists c) earlier).stand p in
-    let on : Goes c (reached (lists c) earlier) before.whole (reached (lists c) (Move.Step p ∷ earlier)) (links_at ((reached (lists c) earlier).stand p).place) =
-    step_on c fits (reached (lists c) earlier) p ((reached (lists c) earlier).stand p).begun ((reached (lists c) earlier).stand p).node r.1.0 before.whole ((reached (lists c) earlier).stand p).place refl (facts earlier r.0) (facts (Move.Step p ∷ earlier) r) in
-    record { whole = on.whole; linked = linked_on (linked_nodes (lists c) earlier) (links_at ((reached (lists c) earlier).stand p).place) before.whole.parts.told on.whole.parts.told before.linked on.linked }
+    let on : Goes c (reached (lists c) earlier) before.whole (reached (lists c) (Move.Step p ∷ earlier)) (links_at ((reached (lists c) earlier).stand p).phase) =
+    step_on c fits (reached (lists c) earlier) p ((reached (lists c) earlier).stand p).begun ((reached (lists c) earlier).stand p).node r.1.0 before.whole ((reached (lists c) earlier).stand p).phase refl (facts earlier r.0) (facts (Move.Step p ∷ earlier) r) in
+    record { whole = on.whole; linked = linked_on (linked_nodes (lists c) earlier) (links_at ((reached (lists c) earlier).stand p).phase) before.whole.parts.told on.whole.parts.told before.linked on.linked }
 
 -- ---- the history is legal
 
@@ -434,7 +434,7 @@ legal c s w =
     let k : Parts c s = w.parts in
     let room : k.told.accepted ≤ k.told.least + c.capacity = busy.room c.capacity c.life (further c + 1) (queue_of s k.duty) k.told k.list.inv in
     record {
-      answers = k.ties.lawful.sends;
+      answers = k.ties.legal.sends;
       senders = w.calls.senders;
       numbers = w.calls.numbers;
       groups = k.ties.many;
@@ -443,7 +443,7 @@ legal c s w =
           let in_order : k.told.handed y ≤ k.told.accepted = k.list.inv.hands.order y below in
           let least : k.told.least ≤ k.told.handed y = k.list.inv.hands.least_is y below in
           record {
-            answers = k.ties.lawful.takes y;
+            answers = k.ties.legal.takes y;
             receivers = w.calls.receivers y;
             within = omega (arith, in_order, k.ties.accepted_is, k.ties.handed_is y);
             room = omega (arith, room, least, k.ties.accepted_is, k.ties.handed_is y);

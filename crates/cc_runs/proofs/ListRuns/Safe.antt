@@ -1,7 +1,7 @@
 -- A step of a service finds its words, and no number of the list leaves its range.
 use Rattle.std.proofs.Common.{◌≡◌, ℕ, suc, ◌+◌, ◌<◌, ◌≤◌, ◌&&◌, Bool, nat_lt, inl, inr, IsTrue, refl, sym, ap, ◌∙◌, subst, arith}
 use Rattle.std.proofs.lemmas.Bool.{cases_eq, cases_lt, lt-ltb}
-use Rattle.cc_runs.specs.Names.{Config, Chain, ItemField, Word, Job, Parcel, Place, Sending, Taking}
+use Rattle.cc_runs.specs.Names.{Config, Chain, ItemField, Word, Job, Parcel, Phase, Sending, Taking}
 use Rattle.cc_runs.specs.Words.{groups, layout_of, is_item_field, exists}
 use Rattle.cc_runs.proofs.Bodies.{few_further}
 use Rattle.cc_runs.proofs.Chains.Safe.{four_words}
@@ -21,34 +21,34 @@ item_exists c i f part l = ap (λ (b : Bool). b && is_item_field f) (lt-ltb i (c
 
 -- ---- the list's invariant, if pass p serves a send or a close
 
-module _ (c : Config) (s : State) (p : ℕ) (job : Job) (service : Sending) (stands : (s.stand p).place ≡ Place.Sending job service) (on : IsBegun service) (k : Parts c s) where
+module _ (c : Config) (s : State) (p : ℕ) (job : Job) (service : Sending) (stands : (s.stand p).phase ≡ Phase.Sending job service) (on : IsBegun service) (k : Parts c s) where
   abbrev d : Duty
   d = k.duty
 
   mine : p ≡ d.e_pass
-  mine = elim (cases_eq p d.e_pass) [ inl e ↦ e | inr ne ↦ absurd (k.serving.e_only p ne (subst (λ (z : Place). IsServing z) (sym stands) on)) ]
+  mine = elim (cases_eq p d.e_pass) [ inl e ↦ e | inr ne ↦ absurd (k.serving.e_only p ne (subst (λ (z : Phase). IsServing z) (sym stands) on)) ]
 
-  stands_there : (s.stand d.e_pass).place ≡ Place.Sending job service
-  stands_there = ap (λ (q : ℕ). (s.stand q).place) (sym mine) ∙ stands
+  stands_there : (s.stand d.e_pass).phase ≡ Phase.Sending job service
+  stands_there = ap (λ (q : ℕ). (s.stand q).phase) (sym mine) ∙ stands
 
   abbrev pub send_queue : Queue
   send_queue = queue_from s.mem d (enq_in d.e_call d.from service) (regs_of s.stand d)
 
   pub send_holds : LInv c.capacity c.life (further c + 1) send_queue k.told
-  send_holds = subst (λ (z : Place). LInv c.capacity c.life (further c + 1) (queue_from s.mem d (enq_at d.e_call d.from z) (regs_of s.stand d)) k.told) stands_there k.list.inv
+  send_holds = subst (λ (z : Phase). LInv c.capacity c.life (further c + 1) (queue_from s.mem d (enq_at d.e_call d.from z) (regs_of s.stand d)) k.told) stands_there k.list.inv
 
   pub send_reads : Reads c d.e_call d.from service
-  send_reads = subst (λ (z : Place). ReadsAt c d.e_call d.from z) stands_there k.serving.reads
+  send_reads = subst (λ (z : Phase). ReadsAt c d.e_call d.from z) stands_there k.serving.reads
 
 -- ---- and if it serves a take of group y
 
-module _ (c : Config) (s : State) (p y : ℕ) (chain : chain_of c p ≡ Chain.Take y) (job : Job) (service : Taking) (stands : (s.stand p).place ≡ Place.Taking job service) (k : Parts c s) where
+module _ (c : Config) (s : State) (p y : ℕ) (chain : chain_of c p ≡ Chain.Take y) (job : Job) (service : Taking) (stands : (s.stand p).phase ≡ Phase.Taking job service) (k : Parts c s) where
   mine_take : p ≡ k.duty.d_pass y
-  mine_take = elim (cases_eq p (k.duty.d_pass y)) [ inl e ↦ e | inr ne ↦ absurd (k.serving.d_only y p chain ne (subst (λ (z : Place). IsTaking z) (sym stands) tt)) ]
+  mine_take = elim (cases_eq p (k.duty.d_pass y)) [ inl e ↦ e | inr ne ↦ absurd (k.serving.d_only y p chain ne (subst (λ (z : Phase). IsTaking z) (sym stands) tt)) ]
 
   -- the registers of the group's service
   pub take_regs : regs_of s.stand k.duty y ≡ regs_in service
-  take_regs = ap regs_at (ap (λ (q : ℕ). (s.stand q).place) (sym mine_take) ∙ stands)
+  take_regs = ap regs_at (ap (λ (q : ℕ). (s.stand q).phase) (sym mine_take) ∙ stands)
 
 -- ---- a node that the services name is there
 
@@ -68,7 +68,7 @@ module _ (c : Config) (mem : Word → ℕ) (d : Duty) (e : Enq) (r : ℕ → Reg
 -- ---- each step of the two services, but for the loads of a request
 
 module _ (c : Config) (r : InRange c) (s : State) (p : ℕ) (k : Parts c s) where
-  pub send_safe : (own : ℕ) (job : Job) (service : Sending) → (s.stand p).place ≡ Place.Sending job service → IsBegun service → IsSafe (lists c) s Chain.Send own (Place.Sending job service)
+  pub send_safe : (own : ℕ) (job : Job) (service : Sending) → (s.stand p).phase ≡ Phase.Sending job service → IsBegun service → IsSafe (lists c) s Chain.Send own (Phase.Sending job service)
   send_safe own job Sending.ReadTag e on = absurd on
   send_safe own job (Sending.ReadBody request i) e on = absurd on
   send_safe own job (Sending.ReadLastToClose total) e on = record { word = refl; numbers = (limits.lastc_link c.capacity c.life (further c + 1) _ k.told (send_holds c s p job (Sending.ReadLastToClose total) e tt k) refl).0 }
@@ -112,22 +112,22 @@ module _ (c : Config) (r : InRange c) (s : State) (p : ℕ) (k : Parts c s) wher
     word_in : IsTrue (nat_lt y (groups c))
     word_in = lt-ltb y (groups c) inside
 
-    dummy_at : (job : Job) (service : Taking) → (s.stand p).place ≡ Place.Taking job service → 2 ≤ (regs_in service).stage → (regs_in service).dummy ≤ c.capacity
+    dummy_at : (job : Job) (service : Taking) → (s.stand p).phase ≡ Phase.Taking job service → 2 ≤ (regs_in service).stage → (regs_in service).dummy ≤ c.capacity
     dummy_at job service e low =
         let same = take_regs c s p y chain job service e k in
         subst (λ (z : Regs). z.dummy ≤ c.capacity) same (dummy_in c s.mem k.duty _ (regs_of s.stand k.duty) k.told k.list.inv y below (subst (λ (z : Regs). 2 ≤ z.stage) (sym same) low))
 
-    after_at : (job : Job) (service : Taking) → (s.stand p).place ≡ Place.Taking job service → 4 ≤ (regs_in service).stage → (regs_in service).stage ≤ 5 → (regs_in service).after ≤ c.capacity + 2
+    after_at : (job : Job) (service : Taking) → (s.stand p).phase ≡ Phase.Taking job service → 4 ≤ (regs_in service).stage → (regs_in service).stage ≤ 5 → (regs_in service).after ≤ c.capacity + 2
     after_at job service e low high =
         let same = take_regs c s p y chain job service e k in
         subst (λ (z : Regs). z.after ≤ c.capacity + 2) same
         (after_in c s.mem k.duty _ (regs_of s.stand k.duty) k.told k.list.inv y below (subst (λ (z : Regs). 4 ≤ z.stage) (sym same) low) (subst (λ (z : Regs). z.stage ≤ 5) (sym same) high))
 
-    stage_at : (job : Job) (service : Taking) → (s.stand p).place ≡ Place.Taking job service → (regs_of s.stand k.duty y).stage ≡ (regs_in service).stage
+    stage_at : (job : Job) (service : Taking) → (s.stand p).phase ≡ Phase.Taking job service → (regs_of s.stand k.duty y).stage ≡ (regs_in service).stage
     stage_at job service e = ap (λ (z : Regs). z.stage) (take_regs c s p y chain job service e k)
 
     -- a word of an item's body that its tag counts
-    word_at : (job : Job) (dummy at : ℕ) (parcel : Parcel) (i : ℕ) → (s.stand p).place ≡ Place.Taking job (Taking.ReadItemBody dummy at parcel i) → i < 4
+    word_at : (job : Job) (dummy at : ℕ) (parcel : Parcel) (i : ℕ) → (s.stand p).phase ≡ Phase.Taking job (Taking.ReadItemBody dummy at parcel i) → i < 4
     word_at job dummy at parcel i e =
         let is : regs_of s.stand k.duty y ≡ regs_in (Taking.ReadItemBody dummy at parcel i) = take_regs c s p y chain job (Taking.ReadItemBody dummy at parcel i) e k in
         let stage : (regs_of s.stand k.duty y).stage ≡ 4 = ap (λ (z : Regs). z.stage) is in
@@ -138,7 +138,7 @@ module _ (c : Config) (r : InRange c) (s : State) (p : ℕ) (k : Parts c s) wher
           | inr less ↦ absurd (omega (arith, got, k.list.inv.takes.read_none y below stage (omega (arith, less, k.list.inv.hands.order y below))))
         ]
 
-    pub take_safe : (own : ℕ) (job : Job) (service : Taking) → (s.stand p).place ≡ Place.Taking job service → IsSafe (lists c) s (Chain.Take y) own (Place.Taking job service)
+    pub take_safe : (own : ℕ) (job : Job) (service : Taking) → (s.stand p).phase ≡ Phase.Taking job service → IsSafe (lists c) s (Chain.Take y) own (Phase.Taking job service)
     take_safe own job Taking.ReadHead e = record { word = word_in; numbers = (limits.head_link c.capacity c.life (further c + 1) _ k.told k.list.inv y below (stage_at job Taking.ReadHead e)).0 }
     take_safe own job (Taking.ReadTaken dummy) e = record { word = word_in; numbers = tt }
     take_safe own job (Taking.ReadDummyNext dummy taken) e = record { word = item_exists c dummy ItemField.Next refl (omega (arith, dummy_at job (Taking.ReadDummyNext dummy taken) e (omega arith))); numbers = tt }

@@ -5,8 +5,8 @@ use Rattle.std.proofs.Math.Nat.{mod-eq_of_lt, mod_self}
 use Rattle.std.specs.List.{slice_get}
 use Rattle.cc_model.specs.Record.{Record}
 use Rattle.cc_model.specs.Items.{accepted, accepted_item, is_shut, shuts}
-use Rattle.cc_model.specs.Legal.{EAnswer, IsSenders}
-use Rattle.cc_runs.specs.Names.{Config, Entry, Item, Answer, SendAnswer, CloseAnswer, Chain, ItemField, Object, Word, Request, Parcel, Job, Place, Sending, BodyWords}
+use Rattle.cc_model.specs.Legal.{SendSideAnswer, IsSenders}
+use Rattle.cc_runs.specs.Names.{Config, Entry, Item, Answer, SendAnswer, CloseAnswer, Chain, ItemField, Object, Word, Request, Parcel, Job, Phase, Sending, BodyWords}
 use Rattle.cc_model.proofs.Grows.{get_front, get_last}
 use Rattle.cc_runs.specs.Words.{groups, put}
 use Rattle.cc_runs.specs.State.{noted, word_of, stored}
@@ -29,7 +29,7 @@ use Rattle.cc_runs.proofs.ListRuns.Decided.{told_send, e_accepted, e_shut, e_dec
 use Rattle.cc_runs.proofs.ListRuns.Ties.{Ties, further, body_at, item_same, Scanned, Reads, ReadsAt, IsUndecided, IsUndecidedAt, IsBegun, IsNextSend, Linked, ties_same, shut_number, shut_true, shut_false}
 
 -- what such a step leads to
-pub record TurnBy (c : Config) (mem : Word → ℕ) (d : Duty) (r : ℕ → Regs) (h : Record) (g : Ghosts) (at : Place) (new : List ℕ) : Type 0 where
+pub record TurnBy (c : Config) (mem : Word → ℕ) (d : Duty) (r : ℕ → Regs) (h : Record) (g : Ghosts) (at : Phase) (new : List ℕ) : Type 0 where
   pub from : ℕ
   pub told : Ghosts
   pub list : ListHolds c.capacity c.life (further c) (queue_from mem d (enq_at d.e_call from at) r) told
@@ -41,7 +41,7 @@ pub record TurnBy (c : Config) (mem : Word → ℕ) (d : Duty) (r : ℕ → Regs
   pub linked : Linked g told new
 
 -- if it links no node
-abbrev pub Turn : Config → (Word → ℕ) → Duty → (ℕ → Regs) → Record → Ghosts → Place → Type 0
+abbrev pub Turn : Config → (Word → ℕ) → Duty → (ℕ → Regs) → Record → Ghosts → Phase → Type 0
 Turn c mem d r h g at = TurnBy c mem d r h g at []
 
 -- the served call is one of a sender
@@ -86,13 +86,13 @@ module _ (c : Config) (mem : Word → ℕ) (d : Duty) (r : ℕ → Regs) (h : Re
   AtStep m service = queue_from m d (enq_in d.e_call d.from service) r
 
   abbrev AtRest : (Word → ℕ) → Queue
-  AtRest m = queue_from m d (enq_at d.e_call d.from Place.Idle) r
+  AtRest m = queue_from m d (enq_at d.e_call d.from Phase.Idle) r
 
   abbrev Has : Queue → Ghosts → Type 0
   Has v told = ListHolds c.capacity c.life (further c) v told
 
   -- on in the service, with no ghost moved
-  on : (m : Word → ℕ) (there : Sending) → grow.Counted (further c) g → LInv c.capacity c.life (further c + 1) (AtStep m there) g → Reads c d.e_call d.from there → (IsUndecided there → IsNextSend h d.e_call) → Turn c m d r h g (Place.Sending job there)
+  on : (m : Word → ℕ) (there : Sending) → grow.Counted (further c) g → LInv c.capacity c.life (further c + 1) (AtStep m there) g → Reads c d.e_call d.from there → (IsUndecided there → IsNextSend h d.e_call) → Turn c m d r h g (Phase.Sending job there)
   on m there counted inv reads asked = record {
     from = d.from;
     told = g;
@@ -106,7 +106,7 @@ module _ (c : Config) (mem : Word → ℕ) (d : Duty) (r : ℕ → Regs) (h : Re
   }
 
   -- to the end of the service, with no ghost moved
-  over : (m : Word → ℕ) (told : Answer) → grow.Counted (further c) g → LInv c.capacity c.life (further c + 1) (AtRest m) g → Turn c m d r h g (Place.WriteAnswer job told)
+  over : (m : Word → ℕ) (told : Answer) → grow.Counted (further c) g → LInv c.capacity c.life (further c + 1) (AtRest m) g → Turn c m d r h g (Phase.WriteAnswer job told)
   over m told counted inv = record {
     from = d.from;
     told = g;
@@ -121,7 +121,7 @@ module _ (c : Config) (mem : Word → ℕ) (d : Duty) (r : ℕ → Regs) (h : Re
 
   -- an answer that accepts nothing and doesn't shut
   answered : (m : Word → ℕ) (told : Answer) → grow.Counted (further c) g → LInv c.capacity c.life (further c + 1) (AtRest m) g
-      → IsNextSend h d.e_call → accepted_item d.e_call told ≡ [] → shuts told ≡ false → EAnswer c (length (accepted h)) (is_shut h) d.e_call.known d.e_call.call told → Turn c m d r (told_send h told) g (Place.WriteAnswer job told)
+      → IsNextSend h d.e_call → accepted_item d.e_call told ≡ [] → shuts told ≡ false → SendSideAnswer c (length (accepted h)) (is_shut h) d.e_call.known d.e_call.call told → Turn c m d r (told_send h told) g (Phase.WriteAnswer job told)
   answered m told counted inv asked none open_ fits = record {
     from = d.from;
     told = g;
@@ -131,23 +131,23 @@ module _ (c : Config) (mem : Word → ℕ) (d : Duty) (r : ℕ → Regs) (h : Re
     reads = tt;
     next_call = λ no. absurd no;
     ties = ties_same c h (told_send h told) g ties refl
-        (e_accepted c h ties.lawful d.e_call told asked ∙ ap (λ (l : List Item). accepted h ++ l) none ∙ append-nil (accepted h))
-        (e_shut c h ties.lawful d.e_call told asked ∙ ap (λ (b : Bool). is_shut h || (b || false)) open_ ∙ or_false (is_shut h))
+        (e_accepted c h ties.legal d.e_call told asked ∙ ap (λ (l : List Item). accepted h ++ l) none ∙ append-nil (accepted h))
+        (e_shut c h ties.legal d.e_call told asked ∙ ap (λ (b : Bool). is_shut h || (b || false)) open_ ∙ or_false (is_shut h))
         (λ y. refl)
-        (e_decided c h ties.lawful d.e_call told asked fits);
+        (e_decided c h ties.legal d.e_call told asked fits);
     linked = (refl, λ j l. refl);
   }
 
   -- the answer's place in the history is open or shut as the list is
-  fits_shut : (told : Answer) → g.shut ≡ 1 → EAnswer c (length (accepted h)) true d.e_call.known d.e_call.call told → EAnswer c (length (accepted h)) (is_shut h) d.e_call.known d.e_call.call told
-  fits_shut told one fits = subst (λ (b : Bool). EAnswer c (length (accepted h)) b d.e_call.known d.e_call.call told) (sym (shut_true (is_shut h) (sym ties.shut_is ∙ one))) fits
+  fits_shut : (told : Answer) → g.shut ≡ 1 → SendSideAnswer c (length (accepted h)) true d.e_call.known d.e_call.call told → SendSideAnswer c (length (accepted h)) (is_shut h) d.e_call.known d.e_call.call told
+  fits_shut told one fits = subst (λ (b : Bool). SendSideAnswer c (length (accepted h)) b d.e_call.known d.e_call.call told) (sym (shut_true (is_shut h) (sym ties.shut_is ∙ one))) fits
 
-  fits_open : (told : Answer) → g.shut ≡ 0 → EAnswer c (length (accepted h)) false d.e_call.known d.e_call.call told → EAnswer c (length (accepted h)) (is_shut h) d.e_call.known d.e_call.call told
-  fits_open told none fits = subst (λ (b : Bool). EAnswer c (length (accepted h)) b d.e_call.known d.e_call.call told) (sym (shut_false (is_shut h) (sym ties.shut_is ∙ none))) fits
+  fits_open : (told : Answer) → g.shut ≡ 0 → SendSideAnswer c (length (accepted h)) false d.e_call.known d.e_call.call told → SendSideAnswer c (length (accepted h)) (is_shut h) d.e_call.known d.e_call.call told
+  fits_open told none fits = subst (λ (b : Bool). SendSideAnswer c (length (accepted h)) b d.e_call.known d.e_call.call told) (sym (shut_false (is_shut h) (sym ties.shut_is ∙ none))) fits
 
   -- what a load of the service leads to
   abbrev Leads : line.Next Sending → Type 0
-  Leads next = Turn c mem d r (noted Chain.Send h None (line.answer_of next)) g (line.place_of in_service job next)
+  Leads next = Turn c mem d r (noted Chain.Send h None (line.answer_of next)) g (line.phase_of in_service job next)
 
   abbrev tag_asked : ℕ
   tag_asked = (request_in d.e_call).tag
@@ -172,7 +172,7 @@ module _ (c : Config) (mem : Word → ℕ) (d : Duty) (r : ℕ → Regs) (h : Re
   -- ---- the loads of count
 
   read_total : Has (AtStep mem Sending.ReadTotal) g → IsNextSend h d.e_call
-      → Turn c mem d r (told_send h (Answer.Close (CloseAnswer.Already (mem (Word.Object Object.Count))))) g (Place.WriteAnswer job (Answer.Close (CloseAnswer.Already (mem (Word.Object Object.Count)))))
+      → Turn c mem d r (told_send h (Answer.Close (CloseAnswer.Already (mem (Word.Object Object.Count))))) g (Phase.WriteAnswer job (Answer.Close (CloseAnswer.Already (mem (Word.Object Object.Count)))))
   read_total has next =
       let known : (mem (Word.Object Object.Count) ≡ g.accepted) × (g.shut ≡ 1) × (tag_asked ≡ 0) = decide.already c.capacity c.life (further c + 1) (AtStep mem Sending.ReadTotal) g has.inv refl in
       answered mem (Answer.Close (CloseAnswer.Already (mem (Word.Object Object.Count)))) has.counted (keeps.read_total mem d r c (further c + 1) g has.inv) next refl refl
@@ -235,11 +235,11 @@ module _ (c : Config) (mem : Word → ℕ) (d : Duty) (r : ℕ → Regs) (h : Re
     shut_is = s ∙ ties.shut_is;
     tells_is = t ∙ ties.tells_is;
     items_are = λ k l. ties.items_are k (omega (arith, l, a)) ∙ sym (ap Some (item_same k (told.items k) (g.items k) (i k)));
-    lawful = ties.lawful;
+    legal = ties.legal;
   }
 
   reset_passed : (parcel : Parcel) (at : ℕ) → Has (AtStep mem (Sending.ResetPassed parcel at)) g → HasRequest d.e_call parcel.tag parcel.body → IsNextSend h d.e_call
-      → Turn c (put mem (Word.Item at ItemField.Passed) 0) d r h g (Place.Sending job (Sending.ResetItemNext parcel at))
+      → Turn c (put mem (Word.Item at ItemField.Passed) 0) d r h g (Phase.Sending job (Sending.ResetItemNext parcel at))
   reset_passed parcel at has asked next =
       let v : Queue = AtStep mem (Sending.ResetPassed parcel at) in
       let told : Ghosts = grow.preparing v g in
@@ -277,11 +277,11 @@ module _ (c : Config) (mem : Word → ℕ) (d : Duty) (r : ℕ → Regs) (h : Re
     known : (count ≡ g.accepted) × (g.accepted < c.life) × (g.shut ≡ 0) × (tag_asked ≢ 0)
     known = decide.accepted c.capacity c.life (further c + 1) before g has.inv refl
 
-    fits : EAnswer c (length (accepted h)) (is_shut h) d.e_call.known d.e_call.call a
+    fits : SendSideAnswer c (length (accepted h)) (is_shut h) d.e_call.known d.e_call.call a
     fits = fits_open a known.2 (accepted_fits c (length (accepted h)) d.e_call.known d.e_call.pass d.e_call.call d.e_call.number count caller.senders known.3 (λ z. omega (arith, z, known, ties.accepted_is)) (known.0 ∙ ties.accepted_is))
 
     now : accepted (told_send h a) ≡ accepted h ++ it ∷ []
-    now = e_accepted c h ties.lawful d.e_call a next ∙ ap (λ (l : List Item). accepted h ++ l) (item_sent c d.e_call count caller.senders caller.small known.3)
+    now = e_accepted c h ties.legal d.e_call a next ∙ ap (λ (l : List Item). accepted h ++ l) (item_sent c d.e_call count caller.senders caller.small known.3)
 
     new_item : (k : ℕ) → k ≡ g.accepted → slice_get (accepted (told_send h a)) k ≡ Some (item_of k (told.items k 0) (body_at (told.items k)))
     new_item k same =
@@ -301,7 +301,7 @@ module _ (c : Config) (mem : Word → ℕ) (d : Duty) (r : ℕ → Regs) (h : Re
     old_item k l ne =
         rw now (get_front (accepted h) (it ∷ []) k (item_of k (g.items k 0) (body_at (g.items k))) (ties.items_are k l) ∙ sym (ap Some (item_same k (told.items k) (g.items k) (λ j. u.items k j ne))))
 
-    link_item : TurnBy c (put mem (Word.Item last ItemField.Next) (at + 1)) d r (told_send h a) g (Place.Sending job (Sending.WriteLast count at)) (at ∷ [])
+    link_item : TurnBy c (put mem (Word.Item last ItemField.Next) (at + 1)) d r (told_send h a) g (Phase.Sending job (Sending.WriteLast count at)) (at ∷ [])
     link_item = record {
       from = d.from;
       told = told;
@@ -315,10 +315,10 @@ module _ (c : Config) (mem : Word → ℕ) (d : Duty) (r : ℕ → Regs) (h : Re
         many = ties.many;
         accepted_is = omega (arith, u.accepted, ties.accepted_is, ap length now, length-append (accepted h) (it ∷ []));
         handed_is = λ y. u.hands.handed y ∙ ties.handed_is y;
-        shut_is = u.shut ∙ ties.shut_is ∙ ap shut_number (sym (e_shut c h ties.lawful d.e_call a next ∙ or_false (is_shut h)));
+        shut_is = u.shut ∙ ties.shut_is ∙ ap shut_number (sym (e_shut c h ties.legal d.e_call a next ∙ or_false (is_shut h)));
         tells_is = (λ i a. u.tells a i) ∙ ties.tells_is;
         items_are = λ k l. elim (cases_eq k g.accepted) [ inl same ↦ new_item k same | inr ne ↦ old_item k (omega (arith, l, ne, u.accepted)) ne ];
-        lawful = e_decided c h ties.lawful d.e_call a next fits;
+        legal = e_decided c h ties.legal d.e_call a next fits;
       };
       linked = (refl, u.accepted, u.node_now, λ j l. u.node j (λ z. omega (arith, z, l)));
     }
@@ -341,13 +341,13 @@ module _ (c : Config) (mem : Word → ℕ) (d : Duty) (r : ℕ → Regs) (h : Re
     known_mark : (total ≡ g.accepted) × (g.shut ≡ 0) × (tag_asked ≡ 0)
     known_mark = decide.shuts c.capacity c.life (further c + 1) before_mark g has.inv refl
 
-    fits_mark : EAnswer c (length (accepted h)) (is_shut h) d.e_call.known d.e_call.call shut_told
+    fits_mark : SendSideAnswer c (length (accepted h)) (is_shut h) d.e_call.known d.e_call.call shut_told
     fits_mark = fits_open shut_told known_mark.1 (shut_fits c (length (accepted h)) d.e_call.known d.e_call.pass d.e_call.call d.e_call.number total caller.senders caller.small.sender known_mark.2 (known_mark.0 ∙ ties.accepted_is))
 
     now_mark : accepted (told_send h shut_told) ≡ accepted h
-    now_mark = e_accepted c h ties.lawful d.e_call shut_told next ∙ append-nil (accepted h)
+    now_mark = e_accepted c h ties.legal d.e_call shut_told next ∙ append-nil (accepted h)
 
-    link_mark : Turn c (put mem (Word.Item last ItemField.Next) (mark c + 1)) d r (told_send h shut_told) g (Place.Sending job (Sending.WriteLastMark total))
+    link_mark : Turn c (put mem (Word.Item last ItemField.Next) (mark c + 1)) d r (told_send h shut_told) g (Phase.Sending job (Sending.WriteLastMark total))
     link_mark = record {
       from = d.from;
       told = told_mark;
@@ -361,10 +361,10 @@ module _ (c : Config) (mem : Word → ℕ) (d : Duty) (r : ℕ → Regs) (h : Re
         many = ties.many;
         accepted_is = shuts_it.accepted ∙ ties.accepted_is ∙ ap length (sym now_mark);
         handed_is = λ y. shuts_it.hands.handed y ∙ ties.handed_is y;
-        shut_is = shuts_it.shut ∙ ap shut_number (sym (e_shut c h ties.lawful d.e_call shut_told next ∙ or_true (is_shut h)));
+        shut_is = shuts_it.shut ∙ ap shut_number (sym (e_shut c h ties.legal d.e_call shut_told next ∙ or_true (is_shut h)));
         tells_is = (λ i a. shuts_it.tells a i) ∙ ties.tells_is;
         items_are = λ k l. rw now_mark (ties.items_are k (omega (arith, l, shuts_it.accepted)) ∙ sym (ap Some (item_same k (told_mark.items k) (g.items k) (shuts_it.items k))));
-        lawful = e_decided c h ties.lawful d.e_call shut_told next fits_mark;
+        legal = e_decided c h ties.legal d.e_call shut_told next fits_mark;
       };
       linked = (shuts_it.accepted, λ j l. shuts_it.node j);
     }
@@ -372,7 +372,7 @@ module _ (c : Config) (mem : Word → ℕ) (d : Duty) (r : ℕ → Regs) (h : Re
   -- ---- the load of the cursor: the scan begins there
 
   read_cursor : (parcel : Parcel) (found : ℕ) → mem (Word.Object Object.Cursor) ≡ found → Has (AtStep mem (Sending.ReadCursor parcel)) g → HasRequest d.e_call parcel.tag parcel.body → IsNextSend h d.e_call
-      → Turn c mem d r h g (Place.Sending job (Sending.ReadPassed parcel found 1))
+      → Turn c mem d r h g (Phase.Sending job (Sending.ReadPassed parcel found 1))
   read_cursor parcel found e has asked next =
       let within : mem (Word.Object Object.Cursor) ≤ c.capacity = has.inv.words.cursor_in in
       record {
@@ -403,12 +403,12 @@ module _ (c : Config) (mem : Word → ℕ) (d : Duty) (r : ℕ → Regs) (h : Re
   send_turn Sending.ReadTag found low e n = absurd low
   send_turn (Sending.ReadBody request i) found low e n = absurd low
   send_turn (Sending.ReadShut q) found low e n = read_shut q found e n.0 n.1 (n.2 tt)
-  send_turn Sending.ReadTotal found low e n = subst (λ (k : ℕ). Turn c mem d r (told_send h (Answer.Close (CloseAnswer.Already k))) g (Place.WriteAnswer job (Answer.Close (CloseAnswer.Already k)))) e (read_total n.0 (n.2 tt))
+  send_turn Sending.ReadTotal found low e n = subst (λ (k : ℕ). Turn c mem d r (told_send h (Answer.Close (CloseAnswer.Already k))) g (Phase.WriteAnswer job (Answer.Close (CloseAnswer.Already k)))) e (read_total n.0 (n.2 tt))
   send_turn (Sending.ReadCount q) found low e n =
       subst (λ (k : ℕ). Leads (by_count c q k)) e (close_branch q (q.tag == 0) refl n.0 n.1 (n.2 tt))
   send_turn (Sending.ReadLastToClose total) found low e n =
       let link : (0 < mem (Word.Object Object.Last)) × (mem (Word.Object Object.Last) ≤ c.capacity + 1) = limits.lastc_link c.capacity c.life (further c + 1) (AtStep mem (Sending.ReadLastToClose total)) g n.0.inv refl in
-      subst (λ (k : ℕ). Turn c mem d r h g (Place.Sending job (Sending.LinkMark total (k - 1)))) e (on mem (Sending.LinkMark total (mem (Word.Object Object.Last) - 1)) n.0.counted (keeps.read_last_to_close mem d r c (further c + 1) g total link.0 n.0.inv) tt (λ u. n.2 tt))
+      subst (λ (k : ℕ). Turn c mem d r h g (Phase.Sending job (Sending.LinkMark total (k - 1)))) e (on mem (Sending.LinkMark total (mem (Word.Object Object.Last) - 1)) n.0.counted (keeps.read_last_to_close mem d r c (further c + 1) g total link.0 n.0.inv) tt (λ u. n.2 tt))
   send_turn (Sending.LinkMark total last) found low e n = link_mark total last n.0 (n.2 tt)
   send_turn (Sending.WriteLastMark total) found low e n = on _ (Sending.WriteShut total) n.0.counted (keeps.write_last_mark mem d r c (further c + 1) g total n.0.inv) tt (λ no. absurd no)
   send_turn (Sending.WriteShut total) found low e n = over _ (Answer.Close (CloseAnswer.Shut total)) n.0.counted (keeps.write_shut mem d r c (further c + 1) g total n.0.inv)
@@ -422,7 +422,7 @@ module _ (c : Config) (mem : Word → ℕ) (d : Duty) (r : ℕ → Regs) (h : Re
       on _ _ n.0.counted (keeps.write_body mem d r c (further c + 1) g parcel at i n.1.0 n.1.1 n.0.inv) (word_reads parcel at i n.1.0) (λ u. n.2 tt)
   send_turn (Sending.ReadLast count at) found low e n =
       let link : (0 < mem (Word.Object Object.Last)) × (mem (Word.Object Object.Last) ≤ c.capacity + 1) = limits.last_link c.capacity c.life (further c + 1) (AtStep mem (Sending.ReadLast count at)) g n.0.inv refl in
-      subst (λ (k : ℕ). Turn c mem d r h g (Place.Sending job (Sending.LinkItem count at (k - 1)))) e (on mem (Sending.LinkItem count at (mem (Word.Object Object.Last) - 1)) n.0.counted (keeps.read_last mem d r c (further c + 1) g count at link.0 n.0.inv) tt (λ u. n.2 tt))
+      subst (λ (k : ℕ). Turn c mem d r h g (Phase.Sending job (Sending.LinkItem count at (k - 1)))) e (on mem (Sending.LinkItem count at (mem (Word.Object Object.Last) - 1)) n.0.counted (keeps.read_last mem d r c (further c + 1) g count at link.0 n.0.inv) tt (λ u. n.2 tt))
   send_turn (Sending.LinkItem count at last) found low e n = link_item count at last n.0 (n.2 tt)
   send_turn (Sending.WriteLast count at) found low e n = on _ (Sending.WriteCount count at) n.0.counted (keeps.write_last mem d r c (further c + 1) g count at n.0.inv) tt (λ no. absurd no)
   send_turn (Sending.WriteCount count at) found low e n = on _ (Sending.WriteCursor count at) n.0.counted (keeps.write_count mem d r c (further c + 1) g count at n.0.inv) tt (λ no. absurd no)

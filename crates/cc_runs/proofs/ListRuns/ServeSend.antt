@@ -1,7 +1,7 @@
 -- A step of the service of a send or a close keeps the list's invariant of the state.
 use Rattle.std.proofs.Common.{◌≡◌, ◌≢◌, ℕ, None, inl, inr, refl, sym, ap, ◌∙◌, subst}
 use Rattle.std.proofs.lemmas.Bool.{cases_eq}
-use Rattle.cc_runs.specs.Names.{Config, Chain, Job, Place, Sending, Stand}
+use Rattle.cc_runs.specs.Names.{Config, Chain, Job, Phase, Sending, Stand}
 use Rattle.cc_runs.specs.State.{State, chain_of, word_of, stored, noted}
 use Rattle.cc_runs.specs.SendLines as send_side
 use Rattle.cc_runs.specs.Step.{stepped_from}
@@ -16,50 +16,50 @@ use Rattle.cc_runs.proofs.ListRuns.Facts.{lists}
 use Rattle.cc_runs.proofs.ListRuns.Untouched.{StillTake, send_still}
 use Rattle.cc_runs.proofs.ListRuns.Invariant.{Parts, OnwardBy}
 
-module _ (c : Config) (s : State) (p begun own : ℕ) (job : Job) (service : Sending) (at : s.stand p ≡ record { begun = begun; node = own; place = Place.Sending job service }) (on : IsBegun service) (k : Parts c s) where
+module _ (c : Config) (s : State) (p begun own : ℕ) (job : Job) (service : Sending) (at : s.stand p ≡ record { begun = begun; node = own; phase = Phase.Sending job service }) (on : IsBegun service) (k : Parts c s) where
   abbrev d : Duty
   d = k.duty
 
   abbrev t : State
-  t = stepped_from (lists c) s Chain.Send p (record { begun = begun; node = own; place = Place.Sending job service })
+  t = stepped_from (lists c) s Chain.Send p (record { begun = begun; node = own; phase = Phase.Sending job service })
 
   abbrev found : ℕ
   found = s.mem (word_of (send_side.operation c job.round.at service))
 
-  abbrev there : Place
+  abbrev there : Phase
   there = send_side.goes c job service found
 
   abbrev regs : ℕ → Regs
   regs = regs_of s.stand d
 
-  stands : (s.stand p).place ≡ Place.Sending job service
-  stands = ap (λ (z : Stand). z.place) at
+  stands : (s.stand p).phase ≡ Phase.Sending job service
+  stands = ap (λ (z : Stand). z.phase) at
 
   mine : p ≡ d.e_pass
-  mine = elim (cases_eq p d.e_pass) [ inl e ↦ e | inr ne ↦ absurd (k.serving.e_only p ne (subst (λ (z : Place). IsServing z) (sym stands) on)) ]
+  mine = elim (cases_eq p d.e_pass) [ inl e ↦ e | inr ne ↦ absurd (k.serving.e_only p ne (subst (λ (z : Phase). IsServing z) (sym stands) on)) ]
 
-  stands_there : (s.stand d.e_pass).place ≡ Place.Sending job service
-  stands_there = ap (λ (q : ℕ). (s.stand q).place) (sym mine) ∙ stands
+  stands_there : (s.stand d.e_pass).phase ≡ Phase.Sending job service
+  stands_there = ap (λ (q : ℕ). (s.stand q).phase) (sym mine) ∙ stands
 
   turn : send_turn.TurnBy c (stored s.mem (send_side.operation c job.round.at service)) d regs (noted Chain.Send s.history None (send_side.decides c service found)) k.told there (links service)
   turn = send_turn.send_turn c s.mem d regs s.history k.told k.ties k.serving.caller job service found on refl (
-    subst (λ (z : Place). ListHolds c.capacity c.life (further c) (queue_from s.mem d (enq_at d.e_call d.from z) regs) k.told) stands_there k.list,
-    subst (λ (z : Place). ReadsAt c d.e_call d.from z) stands_there k.serving.reads,
-    subst (λ (z : Place). IsUndecidedAt z → IsNextSend s.history d.e_call) stands_there k.serving.next_send,
+    subst (λ (z : Phase). ListHolds c.capacity c.life (further c) (queue_from s.mem d (enq_at d.e_call d.from z) regs) k.told) stands_there k.list,
+    subst (λ (z : Phase). ReadsAt c d.e_call d.from z) stands_there k.serving.reads,
+    subst (λ (z : Phase). IsUndecidedAt z → IsNextSend s.history d.e_call) stands_there k.serving.next_send,
   )
 
-  now : (t.stand d.e_pass).place ≡ there
-  now = ap (λ (q : ℕ). (t.stand q).place) (sym mine) ∙ ap (λ (z : Stand). z.place) (hold_here s.stand p _)
+  now : (t.stand d.e_pass).phase ≡ there
+  now = ap (λ (q : ℕ). (t.stand q).phase) (sym mine) ∙ ap (λ (z : Stand). z.phase) (hold_here s.stand p _)
 
   still : StillTake there
   still = send_still c job service found
 
   same_regs : regs_of t.stand d ≡ regs
-  same_regs = λ i y. hold_same (λ (z : Stand). regs_at z.place) s.stand p (record { begun = begun; node = own; place = there }) (still.regs_are ∙ ap regs_at (sym stands)) (d.d_pass y) i
+  same_regs = λ i y. hold_same (λ (z : Stand). regs_at z.phase) s.stand p (record { begun = begun; node = own; phase = there }) (still.regs_are ∙ ap regs_at (sym stands)) (d.d_pass y) i
 
   same_queue : queue_of t (record d { from = turn.from }) ≡ queue_from (stored s.mem (send_side.operation c job.round.at service)) d (enq_at d.e_call turn.from there) regs
   same_queue =
-      ap (λ (z : Place). queue_from t.mem d (enq_at d.e_call turn.from z) (regs_of t.stand d)) now
+      ap (λ (z : Phase). queue_from t.mem d (enq_at d.e_call turn.from z) (regs_of t.stand d)) now
       ∙ ap (λ (r : ℕ → Regs). queue_from t.mem d (enq_at d.e_call turn.from there) r) same_regs
 
   pub send_serves : OnwardBy c s k t (links service)
@@ -69,14 +69,14 @@ module _ (c : Config) (s : State) (p begun own : ℕ) (job : Job) (service : Sen
       told = turn.told;
       list = subst (λ (v : Queue). ListHolds c.capacity c.life (further c) v turn.told) (sym same_queue) turn.list;
       serving = record {
-        e_only = hold_all (λ (q : ℕ) (z : Stand). q ≢ d.e_pass → IsServing z.place → ⊥) s.stand p _ (λ ne u. ne mine) (λ q ne n u. k.serving.e_only q n u);
+        e_only = hold_all (λ (q : ℕ) (z : Stand). q ≢ d.e_pass → IsServing z.phase → ⊥) s.stand p _ (λ ne u. ne mine) (λ q ne n u. k.serving.e_only q n u);
         d_mine = k.serving.d_mine;
-        d_only = λ y. hold_all (λ (q : ℕ) (z : Stand). chain_of c q ≡ Chain.Take y → q ≢ d.d_pass y → IsTaking z.place → ⊥) s.stand p _ (λ e ne u. still.takes u) (λ q ne e n u. k.serving.d_only y q e n u);
+        d_only = λ y. hold_all (λ (q : ℕ) (z : Stand). chain_of c q ≡ Chain.Take y → q ≢ d.d_pass y → IsTaking z.phase → ⊥) s.stand p _ (λ e ne u. still.takes u) (λ q ne e n u. k.serving.d_only y q e n u);
         caller = k.serving.caller;
-        reads = subst (λ (z : Place). ReadsAt c d.e_call turn.from z) (sym now) turn.reads;
-        next_send = subst (λ (z : Place). IsUndecidedAt z → IsNextSend t.history d.e_call) (sym now) turn.next_call;
-        next_take = λ y. hold_all (λ (q : ℕ) (z : Stand). q ≡ d.d_pass y → IsTaking z.place → IsNextTake t.history y (d.d_call y)) s.stand p _ (λ e u. absurd (still.takes u))
-            (λ q ne e u. k.serving.next_take y (subst (λ (j : ℕ). IsTaking (s.stand j).place) e u)) (d.d_pass y) refl;
+        reads = subst (λ (z : Phase). ReadsAt c d.e_call turn.from z) (sym now) turn.reads;
+        next_send = subst (λ (z : Phase). IsUndecidedAt z → IsNextSend t.history d.e_call) (sym now) turn.next_call;
+        next_take = λ y. hold_all (λ (q : ℕ) (z : Stand). q ≡ d.d_pass y → IsTaking z.phase → IsNextTake t.history y (d.d_call y)) s.stand p _ (λ e u. absurd (still.takes u))
+            (λ q ne e u. k.serving.next_take y (subst (λ (j : ℕ). IsTaking (s.stand j).phase) e u)) (d.d_pass y) refl;
       };
       ties = turn.ties;
     };

@@ -3,13 +3,13 @@ use Rattle.std.proofs.Common.{◌≡◌, ◌≢◌, ◌∙◌, inl, inr, None, a
 use Rattle.std.proofs.lemmas.Bool.{cases_eq}
 use Rattle.std.proofs.lemmas.List.{length-set}
 use Rattle.std.specs.List.{slice_get}
-use Rattle.cc_model.specs.Legal.{DAnswers}
+use Rattle.cc_model.specs.Legal.{TakeSideAnswers}
 use Rattle.cc_runs.specs.Words.{groups}
 use Rattle.cc_runs.proofs.Chains.Facts.{noted_none}
 use Rattle.cc_runs.proofs.ListRuns.Decided.{group_mine, group_other}
 use Rattle.cc_model.specs.Record.{Side, Record, of_group, with_call, with_sends, with_takes}
 use Rattle.cc_model.specs.Items.{accepted, handed_by, handed_to_all, is_shut, entries}
-use Rattle.cc_runs.specs.Names.{Config, Pass, Entry, Served, Chain, Word, Job, Round, Request, Place, Sending, Stand}
+use Rattle.cc_runs.specs.Names.{Config, Pass, Entry, Served, Chain, Word, Job, Round, Request, Phase, Sending, Stand}
 use Rattle.cc_model.proofs.Grows.{get_front, e_calls_more, accepted_calls_more, d_calls_more}
 use Rattle.cc_runs.specs.Codes.{further_words}
 use Rattle.cc_runs.specs.State.{State, chain_of, pass_at, hold, noted, word_of}
@@ -33,18 +33,18 @@ use Rattle.cc_runs.proofs.ListRuns.EnterTake.{take_enters}
 
 -- ---- if a combiner goes on
 
-read_tag_still : (job : Job) → StillSend (Place.Sending job Sending.ReadTag)
+read_tag_still : (job : Job) → StillSend (Phase.Sending job Sending.ReadTag)
 read_tag_still job = record { enq_is = λ e from. refl; serves = λ u. u; open_send = λ u. u; reads = λ c e from. tt }
 
-read_body_still : (job : Job) (request : Request) (i : ℕ) → StillSend (Place.Sending job (Sending.ReadBody request i))
+read_body_still : (job : Job) (request : Request) (i : ℕ) → StillSend (Phase.Sending job (Sending.ReadBody request i))
 read_body_still job request i = record { enq_is = λ e from. refl; serves = λ u. u; open_send = λ u. u; reads = λ c e from. tt }
 
 next_send_still : (round : Round) (found : ℕ) → StillSend (after_next Served.List Chain.Send round found)
-next_send_still round zero = still_send (Place.HandOver round.at) tt
+next_send_still round zero = still_send (Phase.HandOver round.at) tt
 next_send_still round (suc n) = read_tag_still _
 
 next_take_still : (round : Round) (found : ℕ) → StillTake (after_next Served.List Chain.Send round found)
-next_take_still round zero = still_take (Place.HandOver round.at) tt
+next_take_still round zero = still_take (Phase.HandOver round.at) tt
 next_take_still round (suc n) = in_send _ _
 
 -- ---- an exchange puts a call into the history
@@ -54,10 +54,10 @@ get_more xs x k y is = get_front xs (x ∷ []) k y is
 
 e_call_ties : (c : Config) (h : Record) (e : Entry) (g : Ghosts) → Ties c h g → Ties c (with_sends h (with_call h.sends e)) g
 e_call_ties c h e g t =
-    let same : accepted (with_sends h (with_call h.sends e)) ≡ accepted h = accepted_calls_more c 0 false h.sends.calls h.sends.answers (e ∷ []) t.lawful.sends in
+    let same : accepted (with_sends h (with_call h.sends e)) ≡ accepted h = accepted_calls_more c 0 false h.sends.calls h.sends.answers (e ∷ []) t.legal.sends in
     ties_same c h (with_sends h (with_call h.sends e)) g t refl same refl (λ y. refl) (record {
-      sends = e_calls_more c 0 false h.sends.calls h.sends.answers (e ∷ []) t.lawful.sends;
-      takes = λ y. rw same (t.lawful.takes y);
+      sends = e_calls_more c 0 false h.sends.calls h.sends.answers (e ∷ []) t.legal.sends;
+      takes = λ y. rw same (t.legal.takes y);
     })
 
 -- a history with a call of a group more
@@ -87,11 +87,11 @@ module _ (c : Config) (h : Record) (y : ℕ) (e : Entry) (inside : y < length h.
 
   pub d_call_ties : (g : Ghosts) → Ties c h g → Ties c (called h y e) g
   d_call_ties g t = ties_same c h (called h y e) g t (length-set h.takes y _) refl refl (called_side (λ (s : Side). length (handed_by s.answers)) refl) (record {
-    sends = t.lawful.sends;
+    sends = t.legal.sends;
     takes = λ x. elim (cases_eq x y) [
-      | inl at ↦ subst (λ (z : ℕ). DAnswers (accepted h) (is_shut h) 0 (of_group (called h y e) z).calls (of_group (called h y e) z).answers) (sym at)
-          (subst (λ (s : Side). DAnswers (accepted h) (is_shut h) 0 s.calls s.answers) (sym (group_mine h y (with_call (of_group h y) e) inside)) (d_calls_more (accepted h) (is_shut h) 0 (of_group h y).calls (of_group h y).answers (e ∷ []) (t.lawful.takes y)))
-      | inr ne ↦ subst (λ (s : Side). DAnswers (accepted h) (is_shut h) 0 s.calls s.answers) (sym (group_other h y x (with_call (of_group h y) e) ne)) (t.lawful.takes x)
+      | inl at ↦ subst (λ (z : ℕ). TakeSideAnswers (accepted h) (is_shut h) 0 (of_group (called h y e) z).calls (of_group (called h y e) z).answers) (sym at)
+          (subst (λ (s : Side). TakeSideAnswers (accepted h) (is_shut h) 0 s.calls s.answers) (sym (group_mine h y (with_call (of_group h y) e) inside)) (d_calls_more (accepted h) (is_shut h) 0 (of_group h y).calls (of_group h y).answers (e ∷ []) (t.legal.takes y)))
+      | inr ne ↦ subst (λ (s : Side). TakeSideAnswers (accepted h) (is_shut h) 0 s.calls s.answers) (sym (group_other h y x (with_call (of_group h y) e) ne)) (t.legal.takes x)
     ];
   })
 
@@ -104,43 +104,43 @@ module _ (c : Config) (s : State) (p begun own : ℕ) (within : p < passes (list
   d_callers : (y : ℕ) (e : Entry) → IsNextTake s.history y e → e.known ≤ entries s.history
   d_callers y e is = all_get _ (of_group s.history y).calls (length (of_group s.history y).answers) e (calls.d_known y) is
 
-  abbrev stand_at : Place → Stand
-  stand_at at = record { begun = begun; node = own; place = at }
+  abbrev stand_at : Phase → Stand
+  stand_at at = record { begun = begun; node = own; phase = at }
 
   -- what the step finds
-  abbrev finds : Chain → Place → ℕ
+  abbrev finds : Chain → Phase → ℕ
   finds x at = s.mem (word_of (operation (lists c) x own at))
 
   -- at a place of the chain's own, which leads to one
-  chain_step : (x : Chain) (at : Place) → s.stand p ≡ stand_at at → (mem' : Word → ℕ) (now : Stand)
-      → StillSend at → StillTake at → StillSend now.place → StillTake now.place
+  chain_step : (x : Chain) (at : Phase) → s.stand p ≡ stand_at at → (mem' : Word → ℕ) (now : Stand)
+      → StillSend at → StillTake at → StillSend now.phase → StillTake now.phase
       → ((d : Duty) (e : Enq) (r : ℕ → Regs) → queue_from mem' d e r ≡ queue_from s.mem d e r)
       → Onward c s k (record { mem = mem'; stand = hold s.stand p now; history = s.history })
   chain_step x at stands mem' now a b e f words =
-      let same : at ≡ (s.stand p).place = ap (λ (z : Stand). z.place) (sym stands) in
+      let same : at ≡ (s.stand p).phase = ap (λ (z : Stand). z.phase) (sym stands) in
       quiet c s p now mem' s.history k (subst StillSend same a) (subst StillTake same b) e f words (λ e n. n) (λ y e n. n) (λ t. t)
 
-  pub send_step : (at : Place) → s.stand p ≡ stand_at at → Well s.history Chain.Send (Pass.Sender (p + 1)) begun at → ChainFacts (lists c) s → OnwardBy c s k (stepped_from (lists c) s Chain.Send p (stand_at at)) (links_at at)
-  send_step (Place.Counting job service) stands w facts = absurd w
-  send_step (Place.Taking job service) stands w facts = absurd w
-  send_step (Place.Sending job Sending.ReadTag) stands w facts =
+  pub send_step : (at : Phase) → s.stand p ≡ stand_at at → Well s.history Chain.Send (Pass.Sender (p + 1)) begun at → ChainFacts (lists c) s → OnwardBy c s k (stepped_from (lists c) s Chain.Send p (stand_at at)) (links_at at)
+  send_step (Phase.Counting job service) stands w facts = absurd w
+  send_step (Phase.Taking job service) stands w facts = absurd w
+  send_step (Phase.Sending job Sending.ReadTag) stands w facts =
       chain_step Chain.Send _ stands _ _ (read_tag_still job) (in_send job _) (read_body_still job _ 0) (in_send job _) (λ d e r. refl)
   -- a word of a request: the service begins with the last one
-  send_step (Place.Sending job (Sending.ReadBody request i)) stands w facts =
-      behind_word (λ (z : Sending). Onward c s k (record { mem = s.mem; stand = hold s.stand p (stand_at (Place.Sending job z)); history = s.history })) (further_words request.tag) i _ _
+  send_step (Phase.Sending job (Sending.ReadBody request i)) stands w facts =
+      behind_word (λ (z : Sending). Onward c s k (record { mem = s.mem; stand = hold s.stand p (stand_at (Phase.Sending job z)); history = s.history })) (further_words request.tag) i _ _
       (λ more. chain_step Chain.Send _ stands _ _ (read_body_still job request i) (in_send job _) (read_body_still job _ (i + 1)) (in_send job _) (λ d e r. refl))
-      (λ last. send_enters c s p begun own job request i last (ap (λ (z : Stand). z.place) stands) within facts posts.outside e_callers k)
-  send_step (Place.Sending job service) stands w facts = send_serves c s p begun own job service stands tt k
-  send_step (Place.ReadNext round) stands w facts =
-      chain_step Chain.Send _ stands _ _ (still_send (Place.ReadNext round) tt) (still_take (Place.ReadNext round) tt) (next_send_still round _) (next_take_still round _) (λ d e r. refl)
-  send_step (Place.Exchange e) stands w facts =
-      let same : Place.Exchange e ≡ (s.stand p).place = ap (λ (z : Stand). z.place) (sym stands) in
-      quiet c s p _ _ (with_sends s.history (with_call s.history.sends e)) k (subst StillSend same (still_send (Place.Exchange e) tt)) (subst StillTake same (still_take (Place.Exchange e) tt))
-      (still_send (Place.WriteTag own _) tt) (still_take (Place.WriteTag own _) tt) (λ d e r. refl)
+      (λ last. send_enters c s p begun own job request i last (ap (λ (z : Stand). z.phase) stands) within facts posts.outside e_callers k)
+  send_step (Phase.Sending job service) stands w facts = send_serves c s p begun own job service stands tt k
+  send_step (Phase.ReadNext round) stands w facts =
+      chain_step Chain.Send _ stands _ _ (still_send (Phase.ReadNext round) tt) (still_take (Phase.ReadNext round) tt) (next_send_still round _) (next_take_still round _) (λ d e r. refl)
+  send_step (Phase.Exchange e) stands w facts =
+      let same : Phase.Exchange e ≡ (s.stand p).phase = ap (λ (z : Stand). z.phase) (sym stands) in
+      quiet c s p _ _ (with_sends s.history (with_call s.history.sends e)) k (subst StillSend same (still_send (Phase.Exchange e) tt)) (subst StillTake same (still_take (Phase.Exchange e) tt))
+      (still_send (Phase.WriteTag own _) tt) (still_take (Phase.WriteTag own _) tt) (λ d e r. refl)
       (λ a n. get_more s.history.sends.calls e (length s.history.sends.answers) a n) (λ y a n. n) (e_call_ties c s.history e k.told)
-  send_step (Place.ResetNext e) stands w facts = chain_step Chain.Send _ stands _ _ (still_send (Place.ResetNext e) tt) (still_take (Place.ResetNext e) tt) (still_send (Place.ResetState e) tt) (still_take (Place.ResetState e) tt) (λ d e r. refl)
-  send_step (Place.ResetState e) stands w facts = chain_step Chain.Send _ stands _ _ (still_send (Place.ResetState e) tt) (still_take (Place.ResetState e) tt) (still_send (Place.Exchange e) tt) (still_take (Place.Exchange e) tt) (λ d e r. refl)
-  send_step Place.Idle stands w facts = chain_step Chain.Send _ stands _ _ (still_send Place.Idle tt) (still_take Place.Idle tt) (still_send Place.Idle tt) (still_take Place.Idle tt) (λ d e r. refl)
+  send_step (Phase.ResetNext e) stands w facts = chain_step Chain.Send _ stands _ _ (still_send (Phase.ResetNext e) tt) (still_take (Phase.ResetNext e) tt) (still_send (Phase.ResetState e) tt) (still_take (Phase.ResetState e) tt) (λ d e r. refl)
+  send_step (Phase.ResetState e) stands w facts = chain_step Chain.Send _ stands _ _ (still_send (Phase.ResetState e) tt) (still_take (Phase.ResetState e) tt) (still_send (Phase.Exchange e) tt) (still_take (Phase.Exchange e) tt) (λ d e r. refl)
+  send_step Phase.Idle stands w facts = chain_step Chain.Send _ stands _ _ (still_send Phase.Idle tt) (still_take Phase.Idle tt) (still_send Phase.Idle tt) (still_take Phase.Idle tt) (λ d e r. refl)
   send_step at stands w facts = chain_step Chain.Send _ stands _ _ (still_send at tt) (still_take at tt) (plain_goes c Chain.Send own at (finds Chain.Send at) tt).still_send (plain_goes c Chain.Send own at (finds Chain.Send at) tt).still_take (λ d e r. refl)
 
   -- ---- a step of a receiver of group y
@@ -150,33 +150,33 @@ module _ (c : Config) (s : State) (p begun own : ℕ) (within : p < passes (list
     side_in = omega (arith, inside, k.ties.many)
 
     -- at a place of the chain's own, which leads to one, with nothing for the history
-    quiet_step : (at : Place) → s.stand p ≡ stand_at at → (mem' : Word → ℕ) (now : Stand)
-        → StillSend at → StillTake at → StillSend now.place → StillTake now.place
+    quiet_step : (at : Phase) → s.stand p ≡ stand_at at → (mem' : Word → ℕ) (now : Stand)
+        → StillSend at → StillTake at → StillSend now.phase → StillTake now.phase
         → ((d : Duty) (e : Enq) (r : ℕ → Regs) → queue_from mem' d e r ≡ queue_from s.mem d e r)
         → Onward c s k (record { mem = mem'; stand = hold s.stand p now; history = noted (Chain.Take y) s.history None None })
     quiet_step at stands mem' now a b e f words =
         subst (λ (h : Record). Onward c s k (record { mem = mem'; stand = hold s.stand p now; history = h })) (sym (noted_none (Chain.Take y) s.history)) (chain_step (Chain.Take y) at stands mem' now a b e f words)
 
-    next_step : (round : Round) → s.stand p ≡ stand_at (Place.ReadNext round) → (found : ℕ)
+    next_step : (round : Round) → s.stand p ≡ stand_at (Phase.ReadNext round) → (found : ℕ)
         → ChainFacts (lists c) (record { mem = s.mem; stand = hold s.stand p (stand_at (after_next Served.List (Chain.Take y) round found)); history = noted (Chain.Take y) s.history None None })
         → Onward c s k (record { mem = s.mem; stand = hold s.stand p (stand_at (after_next Served.List (Chain.Take y) round found)); history = noted (Chain.Take y) s.history None None })
-    next_step round stands zero facts = quiet_step _ stands _ _ (still_send (Place.ReadNext round) tt) (still_take (Place.ReadNext round) tt) (still_send (Place.HandOver round.at) tt) (still_take (Place.HandOver round.at) tt) (λ d e r. refl)
+    next_step round stands zero facts = quiet_step _ stands _ _ (still_send (Phase.ReadNext round) tt) (still_take (Phase.ReadNext round) tt) (still_send (Phase.HandOver round.at) tt) (still_take (Phase.HandOver round.at) tt) (λ d e r. refl)
     next_step round stands (suc next) facts =
         subst (λ (h : Record). Onward c s k (record { mem = s.mem; stand = hold s.stand p (stand_at (after_next Served.List (Chain.Take y) round (suc next))); history = h })) (sym (noted_none (Chain.Take y) s.history))
-        (take_enters c s p begun own y chain inside round next (ap (λ (z : Stand). z.place) stands) within posts.outside (d_callers y) k
+        (take_enters c s p begun own y chain inside round next (ap (λ (z : Stand). z.phase) stands) within posts.outside (d_callers y) k
         (subst (λ (h : Record). ChainFacts (lists c) (record { mem = s.mem; stand = hold s.stand p (stand_at (after_next Served.List (Chain.Take y) round (suc next))); history = h })) (noted_none (Chain.Take y) s.history) facts))
 
-    pub take_step : (at : Place) → s.stand p ≡ stand_at at → Well s.history (Chain.Take y) (pass_at c p) begun at → ChainFacts (lists c) (stepped_from (lists c) s (Chain.Take y) p (stand_at at)) → OnwardBy c s k (stepped_from (lists c) s (Chain.Take y) p (stand_at at)) (links_at at)
-    take_step (Place.Counting job service) stands w facts = absurd w
-    take_step (Place.Sending job service) stands w facts = absurd cc
-    take_step (Place.Taking job service) stands w facts = take_serves c s p begun own y chain inside job service stands k
-    take_step (Place.ReadNext round) stands w facts = next_step round stands (finds (Chain.Take y) (Place.ReadNext round)) facts
-    take_step (Place.Exchange e) stands w facts =
-        let same : Place.Exchange e ≡ (s.stand p).place = ap (λ (z : Stand). z.place) (sym stands) in
-        quiet c s p _ _ (called s.history y e) k (subst StillSend same (still_send (Place.Exchange e) tt)) (subst StillTake same (still_take (Place.Exchange e) tt))
-        (still_send (Place.Link own) tt) (still_take (Place.Link own) tt) (λ d e r. refl)
+    pub take_step : (at : Phase) → s.stand p ≡ stand_at at → Well s.history (Chain.Take y) (pass_at c p) begun at → ChainFacts (lists c) (stepped_from (lists c) s (Chain.Take y) p (stand_at at)) → OnwardBy c s k (stepped_from (lists c) s (Chain.Take y) p (stand_at at)) (links_at at)
+    take_step (Phase.Counting job service) stands w facts = absurd w
+    take_step (Phase.Sending job service) stands w facts = absurd cc
+    take_step (Phase.Taking job service) stands w facts = take_serves c s p begun own y chain inside job service stands k
+    take_step (Phase.ReadNext round) stands w facts = next_step round stands (finds (Chain.Take y) (Phase.ReadNext round)) facts
+    take_step (Phase.Exchange e) stands w facts =
+        let same : Phase.Exchange e ≡ (s.stand p).phase = ap (λ (z : Stand). z.phase) (sym stands) in
+        quiet c s p _ _ (called s.history y e) k (subst StillSend same (still_send (Phase.Exchange e) tt)) (subst StillTake same (still_take (Phase.Exchange e) tt))
+        (still_send (Phase.Link own) tt) (still_take (Phase.Link own) tt) (λ d e r. refl)
         (λ a n. n) (called_next c s.history y e side_in) (d_call_ties c s.history y e side_in k.told)
-    take_step (Place.ResetNext e) stands w facts = quiet_step _ stands _ _ (still_send (Place.ResetNext e) tt) (still_take (Place.ResetNext e) tt) (still_send (Place.ResetState e) tt) (still_take (Place.ResetState e) tt) (λ d e r. refl)
-    take_step (Place.ResetState e) stands w facts = quiet_step _ stands _ _ (still_send (Place.ResetState e) tt) (still_take (Place.ResetState e) tt) (still_send (Place.Exchange e) tt) (still_take (Place.Exchange e) tt) (λ d e r. refl)
-    take_step Place.Idle stands w facts = quiet_step _ stands _ _ (still_send Place.Idle tt) (still_take Place.Idle tt) (still_send Place.Idle tt) (still_take Place.Idle tt) (λ d e r. refl)
+    take_step (Phase.ResetNext e) stands w facts = quiet_step _ stands _ _ (still_send (Phase.ResetNext e) tt) (still_take (Phase.ResetNext e) tt) (still_send (Phase.ResetState e) tt) (still_take (Phase.ResetState e) tt) (λ d e r. refl)
+    take_step (Phase.ResetState e) stands w facts = quiet_step _ stands _ _ (still_send (Phase.ResetState e) tt) (still_take (Phase.ResetState e) tt) (still_send (Phase.Exchange e) tt) (still_take (Phase.Exchange e) tt) (λ d e r. refl)
+    take_step Phase.Idle stands w facts = quiet_step _ stands _ _ (still_send Phase.Idle tt) (still_take Phase.Idle tt) (still_send Phase.Idle tt) (still_take Phase.Idle tt) (λ d e r. refl)
     take_step at stands w facts = quiet_step _ stands _ _ (still_send at tt) (still_take at tt) (plain_goes c (Chain.Take y) own at (finds (Chain.Take y) at) tt).still_send (plain_goes c (Chain.Take y) own at (finds (Chain.Take y) at) tt).still_take (λ d e r. refl)

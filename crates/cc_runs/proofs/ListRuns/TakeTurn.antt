@@ -5,8 +5,8 @@ use Rattle.std.proofs.lemmas.List.{length-set}
 use Rattle.std.specs.List.{slice_get}
 use Rattle.cc_model.specs.Record.{Record}
 use Rattle.cc_model.specs.Items.{accepted, is_shut, handed, handed_item}
-use Rattle.cc_model.specs.Legal.{DAnswer}
-use Rattle.cc_runs.specs.Names.{Config, Answer, TakeAnswer, Chain, ItemField, Object, Word, Parcel, Job, Place, Taking}
+use Rattle.cc_model.specs.Legal.{TakeSideAnswer}
+use Rattle.cc_runs.specs.Names.{Config, Answer, TakeAnswer, Chain, ItemField, Object, Word, Parcel, Job, Phase, Taking}
 use Rattle.cc_runs.specs.Words.{groups, put}
 use Rattle.cc_runs.specs.State.{noted, word_of, stored}
 use Rattle.cc_runs.specs.Codes.{item_in, further_words, word, no_words, with_read, behind, parcel as parcel_of}
@@ -27,7 +27,7 @@ use Rattle.cc_runs.proofs.ListRuns.Decided.{told_take, d_handed, d_others, d_dec
 use Rattle.cc_runs.proofs.ListRuns.Ties.{Ties, further, body_at, item_same, word_at, IsTaking, IsNextTake, Linked, ties_same, shut_true}
 
 -- the result of such a step, if the services' registers are these then
-pub record Turn (c : Config) (mem : Word → ℕ) (d : Duty) (e : Enq) (y : ℕ) (r : ℕ → Regs) (h : Record) (g : Ghosts) (at : Place) : Type 0 where
+pub record Turn (c : Config) (mem : Word → ℕ) (d : Duty) (e : Enq) (y : ℕ) (r : ℕ → Regs) (h : Record) (g : Ghosts) (at : Phase) : Type 0 where
   pub told : Ghosts
   pub list : ListHolds c.capacity c.life (further c) (queue_from mem d e r) told
   pub least_up : g.least ≤ told.least
@@ -64,8 +64,8 @@ module _ (c : Config) (mem : Word → ℕ) (d : Duty) (e : Enq) (h : Record) (g 
   stage_is service a = ap (λ (z : Regs). z.stage) a
 
   -- on in the service, with no ghost moved
-  on : (m : Word → ℕ) (there : Taking) → LInv c.capacity c.life (further c + 1) (After m) g → Turn c m d e y r' (noted (Chain.Take y) h None None) g (Place.Taking job there)
-  on m there inv = subst (λ (z : Record). Turn c m d e y r' z g (Place.Taking job there)) (sym (noted_none (Chain.Take y) h)) (record {
+  on : (m : Word → ℕ) (there : Taking) → LInv c.capacity c.life (further c + 1) (After m) g → Turn c m d e y r' (noted (Chain.Take y) h None None) g (Phase.Taking job there)
+  on m there inv = subst (λ (z : Record). Turn c m d e y r' z g (Phase.Taking job there)) (sym (noted_none (Chain.Take y) h)) (record {
     told = g;
     list = record { inv = inv; counted = has.counted };
     least_up = omega arith;
@@ -77,14 +77,14 @@ module _ (c : Config) (mem : Word → ℕ) (d : Duty) (e : Enq) (h : Record) (g 
 
   -- an answer that hands nothing out
   answered : (told : Answer) → LInv c.capacity c.life (further c + 1) (After mem) g
-      → handed_item told ≡ [] → DAnswer (accepted h) (is_shut h) (length (handed h y)) (d.d_call y).known told → Turn c mem d e y r' (told_take h y told) g (Place.WriteAnswer job told)
+      → handed_item told ≡ [] → TakeSideAnswer (accepted h) (is_shut h) (length (handed h y)) (d.d_call y).known told → Turn c mem d e y r' (told_take h y told) g (Phase.WriteAnswer job told)
   answered told inv none_handed fits = record {
     told = g;
     list = record { inv = inv; counted = has.counted };
     least_up = omega arith;
     entries_up = omega arith;
     next_call = λ no. absurd no;
-    ties = ties_same c h (told_take h y told) g ties (length-set h.takes y _) refl refl all_same (d_decided c h ties.lawful y side_in (d.d_call y) told next fits);
+    ties = ties_same c h (told_take h y told) g ties (length-set h.takes y _) refl refl all_same (d_decided c h ties.legal y side_in (d.d_call y) told next fits);
     linked = (refl, λ j l. refl);
   }
     where
@@ -92,15 +92,15 @@ module _ (c : Config) (mem : Word → ℕ) (d : Duty) (e : Enq) (h : Record) (g 
       no_more z = omega (arith, z)
 
       mine : length (handed (told_take h y told) y) ≡ length (handed h y)
-      mine = ap length (d_handed c h ties.lawful y side_in (d.d_call y) told next) ∙ length-append (handed h y) (handed_item told) ∙ no_more (ap length none_handed)
+      mine = ap length (d_handed c h ties.legal y side_in (d.d_call y) told next) ∙ length-append (handed h y) (handed_item told) ∙ no_more (ap length none_handed)
 
       all_same : (x : ℕ) → length (handed (told_take h y told) x) ≡ length (handed h x)
       all_same x = elim (cases_eq x y) [
         | inl is ↦ subst (λ (z : ℕ). length (handed (told_take h y told) z) ≡ length (handed h z)) (sym is) mine
-        | inr ne ↦ ap length (d_others c h ties.lawful y side_in (d.d_call y) told next x ne)
+        | inr ne ↦ ap length (d_others c h ties.legal y side_in (d.d_call y) told next x ne)
       ]
 
-  read_head : From Taking.ReadHead → To (Taking.ReadTaken (mem (Word.Object (Object.Head y)) - 1)) → Turn c mem d e y r' (noted (Chain.Take y) h None None) g (Place.Taking job (Taking.ReadTaken (mem (Word.Object (Object.Head y)) - 1)))
+  read_head : From Taking.ReadHead → To (Taking.ReadTaken (mem (Word.Object (Object.Head y)) - 1)) → Turn c mem d e y r' (noted (Chain.Take y) h None None) g (Phase.Taking job (Taking.ReadTaken (mem (Word.Object (Object.Head y)) - 1)))
   read_head a b =
       let link : (0 < mem (Word.Object (Object.Head y))) × (mem (Word.Object (Object.Head y)) ≤ c.capacity + 1) = limits.head_link c.capacity c.life (further c + 1) Before g has.inv y below (stage_is Taking.ReadHead a) in
       on mem (Taking.ReadTaken (mem (Word.Object (Object.Head y)) - 1)) (keeps.read_head mem d e c (further c + 1) g y below r r' same link.0 a has.inv b)
@@ -159,15 +159,15 @@ module _ (c : Config) (mem : Word → ℕ) (d : Duty) (e : Enq) (h : Record) (g 
         ∙ sym (ap Some (one_item parcel (body_at (g.items (g.handed y))) place_is (word_is 0 (omega arith)) (λ j low. word_is (suc j) (omega (arith, low)) ∙ sym (word_at (g.items (g.handed y)) j (omega (arith, low, few_further parcel.tag))))))
 
     mine : told.handed y ≡ length (handed (told_take h y a) y)
-    mine = omega (arith, u.handed_now, ties.handed_is y, ap length (d_handed c h ties.lawful y side_in (d.d_call y) a next), length-append (handed h y) (item_in parcel ∷ []))
+    mine = omega (arith, u.handed_now, ties.handed_is y, ap length (d_handed c h ties.legal y side_in (d.d_call y) a next), length-append (handed h y) (item_in parcel ∷ []))
 
     all_handed : (x : ℕ) → told.handed x ≡ length (handed (told_take h y a) x)
     all_handed x = elim (cases_eq x y) [
       | inl is ↦ subst (λ (z : ℕ). told.handed z ≡ length (handed (told_take h y a) z)) (sym is) mine
-      | inr ne ↦ u.handed x ne ∙ ties.handed_is x ∙ sym (ap length (d_others c h ties.lawful y side_in (d.d_call y) a next x ne))
+      | inr ne ↦ u.handed x ne ∙ ties.handed_is x ∙ sym (ap length (d_others c h ties.legal y side_in (d.d_call y) a next x ne))
     ]
 
-    add_passed : Turn c (put mem (Word.Item dummy ItemField.Passed) (mem (Word.Item dummy ItemField.Passed) + 1)) d e y r' (told_take h y a) g (Place.WriteAnswer job a)
+    add_passed : Turn c (put mem (Word.Item dummy ItemField.Passed) (mem (Word.Item dummy ItemField.Passed) + 1)) d e y r' (told_take h y a) g (Phase.WriteAnswer job a)
     add_passed = record {
       told = told;
       list = record { inv = keeps.add_passed mem d e c (further c + 1) g y below r r' same told dummy parcel u from has.inv to; counted = grow.gives_counted (further c) g y below has.counted };
@@ -182,7 +182,7 @@ module _ (c : Config) (mem : Word → ℕ) (d : Duty) (e : Enq) (h : Record) (g 
         shut_is = u.log.shut ∙ ties.shut_is;
         tells_is = (λ i a. u.log.tells a i) ∙ ties.tells_is;
         items_are = λ k l. ties.items_are k (omega (arith, l, u.log.accepted)) ∙ sym (ap Some (item_same k (told.items k) (g.items k) (u.log.items k)));
-        lawful = d_decided c h ties.lawful y side_in (d.d_call y) a next (item_is, place_is ∙ ties.handed_is y);
+        legal = d_decided c h ties.legal y side_in (d.d_call y) a next (item_is, place_is ∙ ties.handed_is y);
       };
       linked = (u.log.accepted, λ j l. u.log.node j);
     }
@@ -192,14 +192,14 @@ module _ (c : Config) (mem : Word → ℕ) (d : Duty) (e : Enq) (h : Record) (g 
   pub take_turn : (service : Taking) (found : ℕ) → mem (word_of (operation y service)) ≡ found → From service → r' y ≡ regs_at (goes job service found)
       → Turn c (stored mem (operation y service)) d e y r' (noted (Chain.Take y) h None (decides service found)) g (goes job service found)
   take_turn Taking.ReadHead found is a b =
-      subst (λ (k : ℕ). Turn c mem d e y r' (noted (Chain.Take y) h None None) g (Place.Taking job (Taking.ReadTaken (k - 1)))) is (read_head a (b ∙ sym (ap (λ (k : ℕ). regs_in (Taking.ReadTaken (k - 1))) is)))
+      subst (λ (k : ℕ). Turn c mem d e y r' (noted (Chain.Take y) h None None) g (Phase.Taking job (Taking.ReadTaken (k - 1)))) is (read_head a (b ∙ sym (ap (λ (k : ℕ). regs_in (Taking.ReadTaken (k - 1))) is)))
   take_turn (Taking.ReadTaken dummy) found is a b =
-      subst (λ (k : ℕ). Turn c mem d e y r' (noted (Chain.Take y) h None None) g (Place.Taking job (Taking.ReadDummyNext dummy k))) is
+      subst (λ (k : ℕ). Turn c mem d e y r' (noted (Chain.Take y) h None None) g (Phase.Taking job (Taking.ReadDummyNext dummy k))) is
       (on mem (Taking.ReadDummyNext dummy (mem (Word.Object (Object.Taken y)))) (keeps.read_taken mem d e c (further c + 1) g y below r r' same dummy a has.inv (b ∙ sym (ap (λ (k : ℕ). regs_in (Taking.ReadDummyNext dummy k)) is))))
   take_turn (Taking.ReadDummyNext dummy taken) found is a b = read_next dummy taken found is a b
   take_turn (Taking.ReadItemTag dummy taken at) found is a b = read_tag dummy taken at found is a b
   take_turn (Taking.ReadItemBody dummy at p j) found is a b =
-      subst (λ (k : ℕ). Turn c mem d e y r' (noted (Chain.Take y) h None None) g (Place.Taking job (behind (further_words p.tag) j (Taking.ReadItemBody dummy at (with_read p j k) (j + 1)) (Taking.WriteHead dummy at (with_read p j k))))) is
+      subst (λ (k : ℕ). Turn c mem d e y r' (noted (Chain.Take y) h None None) g (Phase.Taking job (behind (further_words p.tag) j (Taking.ReadItemBody dummy at (with_read p j k) (j + 1)) (Taking.WriteHead dummy at (with_read p j k))))) is
       (on mem _ (keeps.read_body mem d e c (further c + 1) g y below r r' same dummy at p j ties.tells_is a has.inv
       (b ∙ sym (ap (λ (k : ℕ). regs_in (behind (further_words p.tag) j (Taking.ReadItemBody dummy at (with_read p j k) (j + 1)) (Taking.WriteHead dummy at (with_read p j k)))) is))))
   take_turn (Taking.WriteHead dummy at parcel) found is a b = on _ (Taking.WriteTaken dummy parcel) (keeps.write_head mem d e c (further c + 1) g y below r r' same dummy at parcel a has.inv b)

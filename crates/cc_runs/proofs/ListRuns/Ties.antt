@@ -3,13 +3,13 @@ use Rattle.std.proofs.Common.{◌≡◌, ℕ, suc, ◌+◌, ◌-◌, ◌<◌, �
 use Rattle.std.specs.List.{slice_get}
 use Rattle.cc_model.specs.Record.{Record, of_group}
 use Rattle.cc_model.specs.Items.{accepted, is_shut, handed}
-use Rattle.cc_runs.specs.Names.{Config, Entry, Place, Sending, BodyWords}
+use Rattle.cc_runs.specs.Names.{Config, Entry, Phase, Sending, BodyWords}
 use Rattle.cc_runs.specs.Words.{groups}
 use Rattle.cc_runs.specs.Codes.{item_of, further_words, word}
 use Rattle.cc_runs.proofs.Chains.Registers.{HasRequest}
 use Rattle.cc_runs.proofs.ListRuns.View.{long_of}
 use Rattle.cc_runs.proofs.LinkedList.Queue.{Ghosts}
-use Rattle.cc_runs.proofs.ListRuns.Decided.{Lawful}
+use Rattle.cc_runs.proofs.ListRuns.Decided.{LegalSoFar}
 
 -- 1 if the list is shut
 abbrev pub shut_number : Bool → ℕ
@@ -41,7 +41,7 @@ pub record Ties (c : Config) (h : Record) (g : Ghosts) : Type 0 where
   pub shut_is : g.shut ≡ shut_number (is_shut h)
   pub tells_is : g.tells ≡ long_of
   pub items_are : (k : ℕ) → k < g.accepted → slice_get (accepted h) k ≡ Some (item_of k (g.items k 0) (body_at (g.items k)))
-  pub lawful : Lawful c h
+  pub legal : LegalSoFar c h
 
 -- the reads-th node of the scan, round the end, is at
 pub record Scanned (c : Config) (from at reads : ℕ) : Type 0 where
@@ -63,8 +63,8 @@ Reads c e from (Sending.WriteItemTag parcel at) = HasRequest e parcel.tag parcel
 Reads c e from (Sending.WriteItemBody parcel at i) = HasRequest e parcel.tag parcel.body × (i ≤ further_words parcel.tag)
 Reads c e from _ = Unit {0}
 
-abbrev pub ReadsAt : Config → Entry → ℕ → Place → Type 0
-ReadsAt c e from (Place.Sending job service) = Reads c e from service
+abbrev pub ReadsAt : Config → Entry → ℕ → Phase → Type 0
+ReadsAt c e from (Phase.Sending job service) = Reads c e from service
 ReadsAt c e from _ = Unit {0}
 
 -- the service has read its request, and its answer isn't decided
@@ -84,17 +84,17 @@ IsBegun Sending.ReadTag = ⊥
 IsBegun (Sending.ReadBody request i) = ⊥
 IsBegun _ = Unit {0}
 
-abbrev pub IsServing : Place → Type 0
-IsServing (Place.Sending job service) = IsBegun service
+abbrev pub IsServing : Phase → Type 0
+IsServing (Phase.Sending job service) = IsBegun service
 IsServing _ = ⊥
 
-abbrev pub IsUndecidedAt : Place → Type 0
-IsUndecidedAt (Place.Sending job service) = IsUndecided service
+abbrev pub IsUndecidedAt : Phase → Type 0
+IsUndecidedAt (Phase.Sending job service) = IsUndecided service
 IsUndecidedAt _ = ⊥
 
 -- a take is in service
-abbrev pub IsTaking : Place → Type 0
-IsTaking (Place.Taking job service) = Unit {0}
+abbrev pub IsTaking : Phase → Type 0
+IsTaking (Phase.Taking job service) = Unit {0}
 IsTaking _ = ⊥
 
 -- the call that is served is the first one without an answer
@@ -111,8 +111,8 @@ Linked g g' (x ∷ rest) = (rest ≡ []) × (g'.accepted ≡ g.accepted + 1) × 
 
 -- ---- ties of a history that accepted and handed out the same
 
-pub ties_same : (c : Config) (h later : Record) (g : Ghosts) → Ties c h g → length later.takes ≡ length h.takes → accepted later ≡ accepted h → is_shut later ≡ is_shut h → ((y : ℕ) → length (handed later y) ≡ length (handed h y)) → Lawful c later → Ties c later g
-ties_same c h later g t n a s d lawful = record {
+pub ties_same : (c : Config) (h later : Record) (g : Ghosts) → Ties c h g → length later.takes ≡ length h.takes → accepted later ≡ accepted h → is_shut later ≡ is_shut h → ((y : ℕ) → length (handed later y) ≡ length (handed h y)) → LegalSoFar c later → Ties c later g
+ties_same c h later g t n a s d legal = record {
   some = t.some;
   many = n ∙ t.many;
   accepted_is = t.accepted_is ∙ ap length (sym a);
@@ -120,7 +120,7 @@ ties_same c h later g t n a s d lawful = record {
   shut_is = t.shut_is ∙ ap shut_number (sym s);
   tells_is = t.tells_is;
   items_are = λ k l. rw a (t.items_are k l);
-  lawful = lawful;
+  legal = legal;
 }
 
 pub shut_true : (b : Bool) → shut_number b ≡ 1 → b ≡ true

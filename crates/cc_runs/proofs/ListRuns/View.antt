@@ -2,7 +2,7 @@
 use Rattle.std.proofs.Common.{◌≡◌, ◌≢◌, ℕ, zero, suc, ◌+◌, ◌-◌, ◌==◌, ◌&&◌, Bool, true, false, cond, refl, sym, ap, ◌∙◌, subst}
 use Rattle.std.proofs.Math.Bool.{and-false}
 use Rattle.std.proofs.lemmas.Bool.{eq-eqb, ne_eqb, eqb-true, eqb-false}
-use Rattle.cc_runs.specs.Names.{Entry, ItemField, Object as Obj, Word, Place, Sending, Taking, Stand}
+use Rattle.cc_runs.specs.Names.{Entry, ItemField, Object as Obj, Word, Phase, Sending, Taking, Stand}
 use Rattle.cc_runs.specs.Words.{put, object_number}
 use Rattle.cc_runs.specs.State.{State, hold}
 use Rattle.cc_runs.specs.Codes.{request_in, further_words, word}
@@ -53,8 +53,8 @@ enq_in e from (Sending.LinkMark total last) = record (resting e from) { stage = 
 enq_in e from (Sending.WriteLastMark total) = record (resting e from) { stage = 16; seen = total }
 enq_in e from (Sending.WriteShut total) = record (resting e from) { stage = 17; seen = total }
 
-abbrev pub enq_at : Entry → ℕ → Place → Enq
-enq_at e from (Place.Sending job service) = enq_in e from service
+abbrev pub enq_at : Entry → ℕ → Phase → Enq
+enq_at e from (Phase.Sending job service) = enq_in e from service
 enq_at e from _ = resting e from
 
 -- the registers of the service of a take
@@ -79,8 +79,8 @@ regs_in (Taking.WriteHead dummy at parcel) = record { stage = 5; dummy = dummy; 
 regs_in (Taking.WriteTaken dummy parcel) = record { stage = 6; dummy = dummy; seen = parcel.place; after = 0; got = long_of parcel.tag; word = words_of parcel.tag (word parcel.body) }
 regs_in (Taking.AddPassed dummy parcel) = record { stage = 7; dummy = dummy; seen = parcel.place; after = 0; got = long_of parcel.tag; word = words_of parcel.tag (word parcel.body) }
 
-abbrev pub regs_at : Place → Regs
-regs_at (Place.Taking job service) = regs_in service
+abbrev pub regs_at : Phase → Regs
+regs_at (Phase.Taking job service) = regs_in service
 regs_at _ = none
 
 abbrev pub side_from : (head taken : ℕ) → Entry → Regs → Side
@@ -115,10 +115,10 @@ queue_from mem d e r = record {
 
 -- the registers of the groups' services if the passes are so
 abbrev pub regs_of : (ℕ → Stand) → Duty → ℕ → Regs
-regs_of stands d y = regs_at (stands (d.d_pass y)).place
+regs_of stands d y = regs_at (stands (d.d_pass y)).phase
 
 abbrev pub queue_of : State → Duty → Queue
-queue_of s d = queue_from s.mem d (enq_at d.e_call d.from (s.stand d.e_pass).place) (regs_of s.stand d)
+queue_of s d = queue_from s.mem d (enq_at d.e_call d.from (s.stand d.e_pass).phase) (regs_of s.stand d)
 
 -- ---- a store to a word of the object
 

@@ -4,7 +4,7 @@ use Rattle.std.proofs.lemmas.Option.{slice_get_within}
 use Rattle.std.specs.List.{AllByRecursion, slice_get}
 use Rattle.cc_model.specs.Config.{config_fault}
 use Rattle.cc_model.specs.Items.{accepted, accepted_by, accepted_item, shuts, is_shut, handed_item}
-use Rattle.cc_model.specs.Legal.{EAnswer, EAnswers, DAnswer, DAnswers}
+use Rattle.cc_model.specs.Legal.{SendSideAnswer, SendSideAnswers, TakeSideAnswer, TakeSideAnswers}
 use Rattle.cc_runs.specs.Names.{Config, Call, Entry, Item, Answer, SendAnswer, CloseAnswer, TakeAnswer, Setting, Chain}
 use Rattle.cc_runs.specs.Codes.{item_of}
 use Rattle.cc_model.specs.Record.{of_group}
@@ -22,7 +22,7 @@ use Rattle.cc_runs.proofs.ListRuns.Invariant.{Parts}
 use Rattle.cc_runs.proofs.ListRuns.Runs.{Whole}
 use Rattle.cc_runs.proofs.ListRuns.FromChains.{after_runs, of_setting}
 
-e_within : (c : Config) (n : ℕ) (shut : Bool) (known : ℕ) (k : Call) (a : Answer) → EAnswer c n shut known k a → n ≤ c.life → AnswerWithin c.life a
+e_within : (c : Config) (n : ℕ) (shut : Bool) (known : ℕ) (k : Call) (a : Answer) → SendSideAnswer c n shut known k a → n ≤ c.life → AnswerWithin c.life a
 e_within c n true known (Call.Send body) (Answer.Send SendAnswer.Closed) h l = tt
 e_within c n true known Call.Close (Answer.Close (CloseAnswer.Already total)) h l = omega (arith, h, l)
 e_within c n false known Call.Close (Answer.Close (CloseAnswer.Shut total)) h l = omega (arith, h, l)
@@ -31,7 +31,7 @@ e_within c n false known (Call.Send body) (Answer.Send (SendAnswer.Accepted plac
 e_within c n false known (Call.Send body) (Answer.Send SendAnswer.Full) h l = tt
 e_within _ _ _ _ _ _ h l = absurd h
 
-all_e_within : (c : Config) (n : ℕ) (shut : Bool) (calls : List Entry) (answers : List Answer) → EAnswers c n shut calls answers → n + length (accepted_by calls answers) ≤ c.life → AllByRecursion (AnswerWithin c.life) answers
+all_e_within : (c : Config) (n : ℕ) (shut : Bool) (calls : List Entry) (answers : List Answer) → SendSideAnswers c n shut calls answers → n + length (accepted_by calls answers) ≤ c.life → AllByRecursion (AnswerWithin c.life) answers
 all_e_within c n shut calls [] h l = tt
 all_e_within c n shut [] (a ∷ answers) h l = absurd h
 all_e_within c n shut (e ∷ calls) (a ∷ answers) h l = (
@@ -43,13 +43,13 @@ all_e_within c n shut (e ∷ calls) (a ∷ answers) h l = (
 abbrev Small : List Item → Type 0
 Small items = (i : ℕ) (x : Item) → slice_get items i ≡ Some x → IsTellable x
 
-d_within : (items : List Item) (shut : Bool) (n known : ℕ) (a : Answer) (most : ℕ) → DAnswer items shut n known a → Small items → length items ≤ most → AnswerWithin most a
+d_within : (items : List Item) (shut : Bool) (n known : ℕ) (a : Answer) (most : ℕ) → TakeSideAnswer items shut n known a → Small items → length items ≤ most → AnswerWithin most a
 d_within items shut n known (Answer.Take (TakeAnswer.Got item)) most h small l = (omega (arith, h.1, slice_get_within items n item h.0, l), small n item h.0)
 d_within items shut n known (Answer.Take TakeAnswer.Empty) most h small l = tt
 d_within items shut n known (Answer.Take (TakeAnswer.Ended total)) most h small l = omega (arith, h.1, h.2, l)
 d_within _ _ _ _ _ _ h small l = absurd h
 
-all_d_within : (items : List Item) (shut : Bool) (n : ℕ) (calls : List Entry) (answers : List Answer) (most : ℕ) → DAnswers items shut n calls answers → Small items → length items ≤ most → AllByRecursion (AnswerWithin most) answers
+all_d_within : (items : List Item) (shut : Bool) (n : ℕ) (calls : List Entry) (answers : List Answer) (most : ℕ) → TakeSideAnswers items shut n calls answers → Small items → length items ≤ most → AllByRecursion (AnswerWithin most) answers
 all_d_within items shut n calls [] most h small l = tt
 all_d_within items shut n [] (a ∷ answers) most h small l = absurd h
 all_d_within items shut n (e ∷ calls) (a ∷ answers) most h small l = (d_within items shut n e.known a most h.0 small l, all_d_within items shut (n + length (handed_item a)) calls answers most h.1 small l)
@@ -75,8 +75,8 @@ within c s w =
         }
 
     by_chain : length (accepted s.history) ≤ c.life → (x : Chain) → AllByRecursion (AnswerWithin c.life) (answers_on x s.history)
-    by_chain life Chain.Send = all_e_within c 0 false s.history.sends.calls s.history.sends.answers w.parts.ties.lawful.sends (omega (arith, life))
-    by_chain life (Chain.Take y) = all_d_within (accepted s.history) (is_shut s.history) 0 (of_group s.history y).calls (of_group s.history y).answers c.life (w.parts.ties.lawful.takes y) small life
+    by_chain life Chain.Send = all_e_within c 0 false s.history.sends.calls s.history.sends.answers w.parts.ties.legal.sends (omega (arith, life))
+    by_chain life (Chain.Take y) = all_d_within (accepted s.history) (is_shut s.history) 0 (of_group s.history y).calls (of_group s.history y).answers c.life (w.parts.ties.legal.takes y) small life
 
 pub numbers_stay_within : NumbersStayWithin
 numbers_stay_within c moves serves checked run =

@@ -1,5 +1,5 @@
 use Rattle.cc_audit.proofs.Clean.{no_fault}
-use Rattle.cc_audit.proofs.Lawful.{fair_of}
+use Rattle.cc_audit.proofs.Legal.{fair_of}
 use Rattle.cc_audit.proofs.laws.legal_gives_clean.Goals as goal
 
 pub returns : goal.returns

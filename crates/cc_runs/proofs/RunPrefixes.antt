@@ -4,30 +4,30 @@ use Rattle.std.proofs.lemmas.Bool.{cases_eq, cases_lt}
 use Rattle.std.proofs.lemmas.List.{length-set, get_or_past}
 use Rattle.cc_runs.proofs.ListRuns.Decided.{group_mine, group_other}
 use Rattle.cc_model.specs.Record.{Side, Record, silent, of_group, with_takes}
-use Rattle.cc_model.specs.Items.{IsFront, SideBegins, Begins}
+use Rattle.cc_model.specs.Items.{IsPrefix, SideBegins, Begins}
 use Rattle.cc_runs.specs.Names.{Entry, Answer, Setting, Chain, Move}
 use Rattle.cc_runs.specs.State.{State, appended, noted, chain_of}
 use Rattle.cc_runs.specs.Run.{moved, reached, history_of, IsRun}
-use Rattle.cc_runs.specs.MachineLaws.{FrontsBegin}
+use Rattle.cc_runs.specs.MachineLaws.{PrefixesBegin}
 
-pub front_self : {X : Type 0} (xs : List X) → IsFront xs xs
-front_self xs = ([], sym (append-nil xs))
+pub prefix_self : {X : Type 0} (xs : List X) → IsPrefix xs xs
+prefix_self xs = ([], sym (append-nil xs))
 
-pub front_more : {X : Type 0} (xs ys zs : List X) → IsFront xs ys → IsFront ys zs → IsFront xs zs
-front_more {X} xs ys zs a b = (a.0 ++ b.0, b.1 ∙ ap (λ (l : List X). l ++ b.0) a.1 ∙ append_assoc xs a.0 b.0)
+pub prefix_more : {X : Type 0} (xs ys zs : List X) → IsPrefix xs ys → IsPrefix ys zs → IsPrefix xs zs
+prefix_more {X} xs ys zs a b = (a.0 ++ b.0, b.1 ∙ ap (λ (l : List X). l ++ b.0) a.1 ∙ append_assoc xs a.0 b.0)
 
-front_appended : {X : Type 0} (xs : List X) (x : Option X) → IsFront xs (appended xs x)
-front_appended xs None = front_self xs
+front_appended : {X : Type 0} (xs : List X) (x : Option X) → IsPrefix xs (appended xs x)
+front_appended xs None = prefix_self xs
 front_appended xs (Some x) = (x ∷ [], refl)
 
 side_self : (s : Side) → SideBegins s s
-side_self s = record { calls = front_self s.calls; answers = front_self s.answers }
+side_self s = record { calls = prefix_self s.calls; answers = prefix_self s.answers }
 
 begins_self : (h : Record) → Begins h h
 begins_self h = record { sends = side_self h.sends; takes = λ y. side_self (of_group h y); groups = refl }
 
 side_more : (s l m : Side) → SideBegins s l → SideBegins l m → SideBegins s m
-side_more s l m a b = record { calls = front_more s.calls l.calls m.calls a.calls b.calls; answers = front_more s.answers l.answers m.answers a.answers b.answers }
+side_more s l m a b = record { calls = prefix_more s.calls l.calls m.calls a.calls b.calls; answers = prefix_more s.answers l.answers m.answers a.answers b.answers }
 
 begins_more : (h l m : Record) → Begins h l → Begins l m → Begins h m
 begins_more h l m a b = record {
@@ -70,8 +70,8 @@ begins_moved c s (Move.Begin p call known) = begins_self s.history
 begins_moved c s (Move.Take p) = begins_self s.history
 begins_moved c s (Move.Step p) = begins_noted (chain_of c.config p) s.history _ _
 
-pub fronts_begin : FrontsBegin
-fronts_begin c [] earlier r = (r, begins_self (history_of c earlier))
-fronts_begin c (m ∷ later) earlier r =
-    let so_far : IsRun c earlier × Begins (history_of c earlier) (history_of c (later ++ earlier)) = fronts_begin c later earlier r.0 in
+pub prefixes_begin : PrefixesBegin
+prefixes_begin c [] earlier r = (r, begins_self (history_of c earlier))
+prefixes_begin c (m ∷ later) earlier r =
+    let so_far : IsRun c earlier × Begins (history_of c earlier) (history_of c (later ++ earlier)) = prefixes_begin c later earlier r.0 in
     (so_far.0, begins_more (history_of c earlier) (history_of c (later ++ earlier)) (history_of c (m ∷ (later ++ earlier))) so_far.1 (begins_moved c (reached c (later ++ earlier)) m))

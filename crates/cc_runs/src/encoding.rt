@@ -1,8 +1,9 @@
+//! Requests, items and answers as words, and back.
 ghost use Rattle.std.specs.Prelude.{◌≡◌, ◌<◌, ◌≤◌, ◌^◌, slice_index_or};
 ghost use Rattle.cc_model.specs.Body.{further_of, IsBody};
 ghost use Rattle.cc_runs.specs.Codes as codes;
 
-use crate::place::{BodyWords, Parcel, Request};
+use crate::phase::{BodyWords, Parcel, Request};
 use crate::setting::Served;
 use cc_model::{
     Answer, Body, Call, CloseAnswer, Entry, Item, Pass, SendAnswer, TakeAnswer, pack_words,

@@ -1,3 +1,4 @@
+//! The kinds of atomic steps, and the phases of a pass in its call, each with the values that it has read.
 use cc_model::{Answer, Entry, Item};
 
 /// The kinds of atomic step. Each is one load, store, swap or addition on one word.
@@ -92,7 +93,7 @@ pub struct Job {
     pub next: u64,
 }
 
-/// The place of the combiner in the service of one request to the counter. The words of a request are read as those of a send
+/// The phase of the combiner in the service of one request to the counter. The words of a request are read as those of a send
 /// are, and aren't used.
 #[derive(Clone, Copy)]
 pub enum Counting {
@@ -102,7 +103,7 @@ pub enum Counting {
     WriteCount { count: u64 },
 }
 
-/// The place of the senders' combiner in the service of one request to the list.
+/// The phase of the senders' combiner in the service of one request to the list.
 #[derive(Clone, Copy)]
 pub enum Sending {
     ReadTag,
@@ -178,7 +179,7 @@ pub enum Sending {
     },
 }
 
-/// The place of a group's combiner in the service of one take.
+/// The phase of a group's combiner in the service of one take.
 #[derive(Clone, Copy)]
 pub enum Taking {
     ReadHead,
@@ -215,9 +216,9 @@ pub enum Taking {
     },
 }
 
-/// The place of a pass: the step that it does next, with its registers for later steps.
+/// The phase of a pass: the step that it does next, with its registers for later steps.
 #[derive(Clone, Copy)]
-pub enum Place {
+pub enum Phase {
     Idle,
     ResetNext {
         call: Entry,
@@ -288,10 +289,10 @@ pub enum Place {
     },
 }
 
-/// A pass: the sends that it began, its node (its own one before the exchange, and from then on the one that it got), and its place.
+/// A pass: the sends that it began, its node (its own one before the exchange, and from then on the one that it got), and its phase.
 #[derive(Clone, Copy)]
 pub struct Stand {
     pub begun: u32,
     pub node: u64,
-    pub place: Place,
+    pub phase: Phase,
 }

@@ -9,8 +9,8 @@ use Rattle.cc_model.specs.Items.{SideBegins, Begins, accepted_by, accepted_item,
 use Rattle.cc_model.proofs.Grows.{any-append, handed_by-append}
 use Rattle.cc_runs.specs.State.{pass_at}
 use Rattle.cc_runs.specs.Run.{history_of}
-use Rattle.cc_runs.specs.Passes.{FrontsKnowNoMore}
-use Rattle.cc_runs.proofs.RunFronts.{fronts_begin}
+use Rattle.cc_runs.specs.Passes.{PrefixesKnowNoMore}
+use Rattle.cc_runs.proofs.RunPrefixes.{prefixes_begin}
 use Rattle.cc_runs.proofs.ChainLaws.{chain_laws}
 use Rattle.cc_runs.proofs.ListRuns.Least.{counts_get}
 
@@ -56,6 +56,6 @@ known_grow h later (Pass.Receiver n) order b =
     let mark : ◌≡◌ {A = ℕ} (if list_any shuts later.sends.answers then 1 else 0) (if list_any shuts h.sends.answers || list_any shuts answers.0 then 1 else 0) = ap (λ (x : Bool). if x then 1 else 0) shut in
     omega (arith, items, mark, accepted_grow h.sends.calls calls.0 h.sends.answers answers.0 order, shut_grow (list_any shuts h.sends.answers) (list_any shuts answers.0))
 
-pub fronts_know : FrontsKnowNoMore
-fronts_know c checked more seen r p =
-    let f = fronts_begin c more seen r in known_grow (history_of c seen) (history_of c (more ++ seen)) (pass_at c.config p) ((chain_laws c checked seen f.0).ordered Chain.Send) f.1
+pub prefixes_know : PrefixesKnowNoMore
+prefixes_know c checked more seen r p =
+    let f = prefixes_begin c more seen r in known_grow (history_of c seen) (history_of c (more ++ seen)) (pass_at c.config p) ((chain_laws c checked seen f.0).ordered Chain.Send) f.1

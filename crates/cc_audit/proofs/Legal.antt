@@ -3,11 +3,11 @@ use Rattle.std.proofs.Common.{◌≡◌, ℕ, zero, suc, ◌+◌, ◌<◌, ◌�
 use Rattle.std.specs.List.{slice_get, AllByRecursion}
 use Rattle.std.proofs.lemmas.Bool.{eqb-false}
 use Rattle.cc_model.specs.Record.{Record, of_group}
-use Rattle.cc_model.specs.Items.{IsFront, accepted, accepted_by, accepted_item, handed_by, handed_item, of_sender}
-use Rattle.cc_model.specs.Legal.{Legal, LegalTakes, EAnswer, EAnswers, DAnswer, DAnswers, IsReceivers}
+use Rattle.cc_model.specs.Items.{IsPrefix, accepted, accepted_by, accepted_item, handed_by, handed_item, of_sender}
+use Rattle.cc_model.specs.Legal.{Legal, LegalTakes, SendSideAnswer, SendSideAnswers, TakeSideAnswer, TakeSideAnswers, IsReceivers}
 use Rattle.cc_model.specs.Fifo.{RisesFrom}
 use Rattle.cc_audit.specs.Names.{Config, Pass, Call, Item, Entry, Answer, SendAnswer, CloseAnswer, TakeAnswer, TakeReceipt}
-use Rattle.cc_model.proofs.Fronts.{map-append}
+use Rattle.cc_model.proofs.Prefixes.{map-append}
 use Rattle.cc_model.proofs.Grows.{accepted_places}
 use Rattle.cc_model.proofs.InOrder.{handed_front, accepted_rise}
 use Rattle.cc_audit.specs.Receipts.{take_receipt, takes_by, takes_of, total_by, total_of}
@@ -15,14 +15,14 @@ use Rattle.cc_audit.proofs.Clean.{Fair}
 
 -- ---- the items on the take receipts are those handed out
 
-item_taken : (cfg : Config) (g : ℕ) (items : List Item) (shut : Bool) (n known : ℕ) (p : Pass) (k : Call) (a : Answer) → IsReceivers cfg g p k → DAnswer items shut n known a → map (λ (t : TakeReceipt). t.item) (take_receipt p a) ≡ handed_item a
+item_taken : (cfg : Config) (g : ℕ) (items : List Item) (shut : Bool) (n known : ℕ) (p : Pass) (k : Call) (a : Answer) → IsReceivers cfg g p k → TakeSideAnswer items shut n known a → map (λ (t : TakeReceipt). t.item) (take_receipt p a) ≡ handed_item a
 item_taken cfg g items shut n known (Pass.Sender s) k a is h = absurd is
 item_taken cfg g items shut n known (Pass.Receiver r) k (Answer.Take (TakeAnswer.Got item)) is h = refl
 item_taken cfg g items shut n known (Pass.Receiver r) k (Answer.Take TakeAnswer.Empty) is h = refl
 item_taken cfg g items shut n known (Pass.Receiver r) k (Answer.Take (TakeAnswer.Ended total)) is h = refl
 item_taken cfg g items shut n known (Pass.Receiver r) k _ is h = absurd h
 
-items_taken : (cfg : Config) (g : ℕ) (items : List Item) (shut : Bool) (n : ℕ) (calls : List Entry) (answers : List Answer) → DAnswers items shut n calls answers → AllByRecursion (λ c. IsReceivers cfg g c.pass c.call) calls
+items_taken : (cfg : Config) (g : ℕ) (items : List Item) (shut : Bool) (n : ℕ) (calls : List Entry) (answers : List Answer) → TakeSideAnswers items shut n calls answers → AllByRecursion (λ c. IsReceivers cfg g c.pass c.call) calls
     → map (λ (t : TakeReceipt). t.item) (takes_by calls answers) ≡ handed_by answers
 items_taken cfg g items shut n [] [] h all = refl
 items_taken cfg g items shut n (c ∷ calls) [] h all = refl
@@ -71,28 +71,28 @@ apart s low (z ∷ items) i j x y up lt is_x is_y own_x own_y =
 
 -- ---- the total is all that was accepted
 
-no_accept : (cfg : Config) (n known place : ℕ) (k : Call) → EAnswer cfg n true known k (Answer.Send (SendAnswer.Accepted place)) → ⊥
+no_accept : (cfg : Config) (n known place : ℕ) (k : Call) → SendSideAnswer cfg n true known k (Answer.Send (SendAnswer.Accepted place)) → ⊥
 no_accept cfg n known place (Call.Send body) h = h
 no_accept cfg n known place Call.Close h = h
 no_accept cfg n known place Call.Take h = h
 
-none_accepted : (cfg : Config) (n known : ℕ) (c : Entry) (a : Answer) → EAnswer cfg n true known c.call a → accepted_item c a ≡ []
+none_accepted : (cfg : Config) (n known : ℕ) (c : Entry) (a : Answer) → SendSideAnswer cfg n true known c.call a → accepted_item c a ≡ []
 none_accepted cfg n known c (Answer.Send (SendAnswer.Accepted place)) h = absurd (no_accept cfg n known place c.call h)
 none_accepted cfg n known c _ h = refl
 
 -- nothing is accepted after a close
-closed : (cfg : Config) (n : ℕ) (calls : List Entry) (answers : List Answer) → EAnswers cfg n true calls answers → accepted_by calls answers ≡ []
+closed : (cfg : Config) (n : ℕ) (calls : List Entry) (answers : List Answer) → SendSideAnswers cfg n true calls answers → accepted_by calls answers ≡ []
 closed cfg n [] [] h = refl
 closed cfg n (c ∷ calls) [] h = refl
 closed cfg n [] (a ∷ answers) h = absurd h
 closed cfg n (c ∷ calls) (a ∷ answers) h = ap (λ (l : List Item). l ++ accepted_by calls answers) (none_accepted cfg n c.known c a h.0) ∙ closed cfg (n + length (accepted_item c a)) calls answers h.1
 
-total_told : (cfg : Config) (n known total : ℕ) (k : Call) → EAnswer cfg n false known k (Answer.Close (CloseAnswer.Shut total)) → total ≡ n
+total_told : (cfg : Config) (n known total : ℕ) (k : Call) → SendSideAnswer cfg n false known k (Answer.Close (CloseAnswer.Shut total)) → total ≡ n
 total_told cfg n known total (Call.Send body) h = absurd h
 total_told cfg n known total Call.Close h = h
 total_told cfg n known total Call.Take h = absurd h
 
-total_is : (cfg : Config) (n : ℕ) (calls : List Entry) (answers : List Answer) (t : ℕ) → EAnswers cfg n false calls answers → total_by answers ≡ Some t → t ≡ n + length (accepted_by calls answers)
+total_is : (cfg : Config) (n : ℕ) (calls : List Entry) (answers : List Answer) (t : ℕ) → SendSideAnswers cfg n false calls answers → total_by answers ≡ Some t → t ≡ n + length (accepted_by calls answers)
 total_is cfg n calls [] t h is = cc
 total_is cfg n [] (a ∷ answers) t h is = absurd h
 total_is cfg n (c ∷ calls) (Answer.Close (CloseAnswer.Shut total) ∷ answers) t h is =
@@ -108,7 +108,7 @@ fair_of cfg h g inside legal =
     let of : LegalTakes cfg h g = legal.takes g inside in
     record {
       places = λ i x is. accepted_places cfg 0 false h.sends.calls h.sends.answers legal.answers i x is ∙ omega arith;
-      front = subst (λ (l : List Item). IsFront l (accepted h)) (sym (items_taken cfg g _ _ 0 (of_group h g).calls (of_group h g).answers of.answers of.receivers)) (handed_front _ _ 0 (of_group h g).calls (of_group h g).answers of.answers);
+      front = subst (λ (l : List Item). IsPrefix l (accepted h)) (sym (items_taken cfg g _ _ 0 (of_group h g).calls (of_group h g).answers of.answers of.receivers)) (handed_front _ _ 0 (of_group h g).calls (of_group h g).answers of.answers);
       numbers = λ i j x y lt is_x is_y same. apart y.sender 1 (accepted h) i j x y (accepted_rise y.sender 1 h.sends.calls h.sends.answers (legal.numbers y.sender)) lt is_x is_y same refl;
       all = λ n is. total_is cfg 0 h.sends.calls h.sends.answers n legal.answers is ∙ omega arith;
     }
