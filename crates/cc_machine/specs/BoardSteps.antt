@@ -1,7 +1,7 @@
 -- The state that a board shows, and what its steps ask for and do.
 use Rattle.std.specs.Prelude.{List, ◌≡◌, ◌≢◌, ℕ, ◌<◌, slice_index_or, length}
 use Rattle.cc_model.specs.HistoryRoom.{SideRoom, HistoryRoom, room_of_group, lists}
-use Rattle.cc_machine.specs.Names.{Setting, Chain, Kind, Event, Stand, Place, Board, Stepper}
+use Rattle.cc_machine.specs.Names.{Setting, Chain, Kind, Event, Stand, Phase, Board, Stepper}
 use Rattle.cc_runs.specs.Words.{IsSmall, layout_of, size, groups}
 use Rattle.cc_runs.specs.State.{State, first_node, chain_of}
 use Rattle.cc_runs.specs.Lines.{event_at}
@@ -38,31 +38,31 @@ HasCallRoom h x = length (side_room x h).lists.calls < (side_room x h).room
 abbrev pub HasAnswerRoom : HistoryRoom → Chain → Type 0
 HasAnswerRoom h x = length (side_room x h).lists.answers < (side_room x h).room
 
--- room for what the step at this place puts into the history
-abbrev pub HasRoom : HistoryRoom → Chain → Place → Type 0
-HasRoom h x (Place.Exchange call) = HasCallRoom h x
+-- room for what the step in this phase puts into the history
+abbrev pub HasRoom : HistoryRoom → Chain → Phase → Type 0
+HasRoom h x (Phase.Exchange call) = HasCallRoom h x
 HasRoom h x at = WhileUndecided at (HasAnswerRoom h x)
 
--- a pass during its step, at this place
-abbrev pub stand_of : Stepper → Place → Stand
-stand_of who at = record { begun = who.begun; node = who.node; place = at }
+-- a pass during its step, in this phase
+abbrev pub stand_of : Stepper → Phase → Stand
+stand_of who at = record { begun = who.begun; node = who.node; phase = at }
 
--- its place before its step
-abbrev pub place_of : Board → Stepper → Place
-place_of b who = ((state_of b).stand who.pass).place
+-- its phase before its step
+abbrev pub phase_of : Board → Stepper → Phase
+phase_of b who = ((state_of b).stand who.pass).phase
 
 -- it serves a request of a sender
-abbrev pub IsSending : Place → Type 0
-IsSending (Place.Sending job service) = Unit {0}
+abbrev pub IsSending : Phase → Type 0
+IsSending (Phase.Sending job service) = Unit {0}
 IsSending _ = ⊥
 
 -- it serves a take
-abbrev pub IsTaking : Place → Type 0
-IsTaking (Place.Taking job service) = Unit {0}
+abbrev pub IsTaking : Phase → Type 0
+IsTaking (Phase.Taking job service) = Unit {0}
 IsTaking _ = ⊥
 
--- the step of this stepper, at this place, can be done
-pub record CanStep (b : Board) (who : Stepper) (at : Place) : Type 0 where
+-- the step of this stepper, in this phase, can be done
+pub record CanStep (b : Board) (who : Stepper) (at : Phase) : Type 0 where
   pub laid : IsLaid b
   pub pass : who.pass < passes b.setting
   pub safe : IsSafe b.setting (state_of b) who.chain who.node at
@@ -76,8 +76,8 @@ pub record Keeps (old new : Board) : Type 0 where
   pub rooms : (x : Chain) → (side_room x new.history).room ≡ (side_room x old.history).room
   pub groups : length new.history.takes ≡ length old.history.takes
 
--- the step of this stepper, at this place, was done
-pub record Stepped (old : Board) (who : Stepper) (at : Place) (kind : Kind) (new : Board) : Type 0 where
+-- the step of this stepper, in this phase, was done
+pub record Stepped (old : Board) (who : Stepper) (at : Phase) (kind : Kind) (new : Board) : Type 0 where
   pub kind_is : event_at at ≡ Event.Did kind
   pub state : state_of new ≡ stepped_from old.setting (state_of old) who.chain who.pass (stand_of who at)
   pub keeps : Keeps old new
@@ -88,7 +88,7 @@ stepper_at b p = record { pass = p; chain = chain_of b.setting.config p; begun =
 
 -- an event is the one step of its pass, and Idle if the pass has none: then nothing changes
 pub record Moved (old : Board) (p : ℕ) (event : Event) (new : Board) : Type 0 where
-  pub event_is : event ≡ event_at ((state_of old).stand p).place
+  pub event_is : event ≡ event_at ((state_of old).stand p).phase
   pub state : event ≢ Event.Idle → state_of new ≡ stepped old.setting (state_of old) p
   pub idle : event ≡ Event.Idle → new ≡ old
   pub keeps : Keeps old new
@@ -96,4 +96,4 @@ pub record Moved (old : Board) (p : ℕ) (event : Event) (new : Board) : Type 0 
 -- the places at the opening, of a list that ends there
 pub record StandFirst (c : Setting) (stands : List Stand) : Type 0 where
   pub all : length stands ≡ passes c
-  pub each : (p : ℕ) → p < passes c → slice_index_or stands p nowhere ≡ record { begun = 0; node = first_node c.config p; place = Place.Idle }
+  pub each : (p : ℕ) → p < passes c → slice_index_or stands p nowhere ≡ record { begun = 0; node = first_node c.config p; phase = Phase.Idle }

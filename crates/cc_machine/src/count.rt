@@ -1,19 +1,20 @@
+//! The steps of a combiner that serves a call to the counter.
 ghost use Rattle.cc_machine.specs.BoardSteps.{CanStep, Stepped};
 
 use crate::board::{Board, Stepper};
 use cc_model::{Answer, SendAnswer};
-use cc_runs::{Chain, Counting, Job, Kind, NodeField, Object, Place, Word, further_words};
+use cc_runs::{Chain, Counting, Job, Kind, NodeField, Object, Phase, Word, further_words};
 
 /// The steps of the combiner in the service of one request to the counter.
 impl Board {
     fn read_count_tag(&mut self, who: Stepper, job: Job) -> Kind
-        requires { CanStep self.old who (Place.Counting job Counting.ReadTag) }
-        ensures { Stepped self.old who (Place.Counting job Counting.ReadTag) result self.new }
+        requires { CanStep self.old who (Phase.Counting job Counting.ReadTag) }
+        ensures { Stepped self.old who (Phase.Counting job Counting.ReadTag) result self.new }
     {
         let tag = self.load(Word::Node(Chain::Send, job.round.at, NodeField::Tag));
         self.go(
             who,
-            Place::Counting {
+            Phase::Counting {
                 job,
                 service: Counting::ReadBody { tag, index: 0 },
             },
@@ -22,8 +23,8 @@ impl Board {
     }
 
     fn read_count_body(&mut self, who: Stepper, job: Job, tag: u64, index: u32) -> Kind
-        requires { CanStep self.old who (Place.Counting job (Counting.ReadBody tag index)) }
-        ensures { Stepped self.old who (Place.Counting job (Counting.ReadBody tag index)) result self.new }
+        requires { CanStep self.old who (Phase.Counting job (Counting.ReadBody tag index)) }
+        ensures { Stepped self.old who (Phase.Counting job (Counting.ReadBody tag index)) result self.new }
     {
         let _word = self.load(Word::Node(Chain::Send, job.round.at, NodeField::Body(index)));
         let service = if index < further_words(tag) {
@@ -34,18 +35,18 @@ impl Board {
         } else {
             Counting::ReadCount
         };
-        self.go(who, Place::Counting { job, service });
+        self.go(who, Phase::Counting { job, service });
         Kind::ReadRequest
     }
 
     fn read_number(&mut self, who: Stepper, job: Job) -> Kind
-        requires { CanStep self.old who (Place.Counting job Counting.ReadCount) }
-        ensures { Stepped self.old who (Place.Counting job Counting.ReadCount) result self.new }
+        requires { CanStep self.old who (Phase.Counting job Counting.ReadCount) }
+        ensures { Stepped self.old who (Phase.Counting job Counting.ReadCount) result self.new }
     {
         let count = self.load(Word::Object(Object::Count));
         self.go(
             who,
-            Place::Counting {
+            Phase::Counting {
                 job,
                 service: Counting::WriteCount { count },
             },
@@ -54,19 +55,19 @@ impl Board {
     }
 
     fn write_number(&mut self, who: Stepper, job: Job, count: u64) -> Kind
-        requires { CanStep self.old who (Place.Counting job (Counting.WriteCount count)) }
-        ensures { Stepped self.old who (Place.Counting job (Counting.WriteCount count)) result self.new }
+        requires { CanStep self.old who (Phase.Counting job (Counting.WriteCount count)) }
+        ensures { Stepped self.old who (Phase.Counting job (Counting.WriteCount count)) result self.new }
     {
         let answer = Answer::Send(SendAnswer::Accepted { place: count });
         self.decide(who.chain, answer);
-        self.go(who, Place::WriteAnswer { job, answer });
+        self.go(who, Phase::WriteAnswer { job, answer });
         self.store(Word::Object(Object::Count), count + 1);
         Kind::WriteObject
     }
 
     pub fn count(&mut self, who: Stepper, job: Job, service: Counting) -> Kind
-        requires { CanStep self.old who (Place.Counting job service) }
-        ensures { Stepped self.old who (Place.Counting job service) result self.new }
+        requires { CanStep self.old who (Phase.Counting job service) }
+        ensures { Stepped self.old who (Phase.Counting job service) result self.new }
     {
         match service {
             Counting::ReadTag => self.read_count_tag(who, job),

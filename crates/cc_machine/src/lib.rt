@@ -7,7 +7,7 @@
 
 mod begins;
 mod board;
-mod calls;
+mod chain_steps;
 mod count;
 mod counter;
 mod event;
@@ -18,8 +18,8 @@ mod named;
 mod open;
 mod reads;
 mod row;
-mod send;
-mod take;
+mod send_service;
+mod take_service;
 
 pub use cc_runs::{Event, Kind, OpenFault};
 pub use counter::CounterMachine;

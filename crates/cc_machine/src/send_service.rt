@@ -1,18 +1,19 @@
+//! The steps of the senders' combiner that serves a send or a close on the list.
 ghost use Rattle.std.specs.Prelude.{◌<◌, length};
-ghost use Rattle.cc_machine.specs.BoardSteps.{place_of, IsSending, CanStep, Stepped};
+ghost use Rattle.cc_machine.specs.BoardSteps.{phase_of, IsSending, CanStep, Stepped};
 
 use crate::board::{Board, Stepper};
 use cc_model::{Answer, CloseAnswer, SendAnswer};
 use cc_runs::{
-    BodyWords, Chain, ItemField, Job, Kind, NodeField, Object, Parcel, Place, Request, Sending,
+    BodyWords, Chain, ItemField, Job, Kind, NodeField, Object, Parcel, Phase, Request, Sending,
     Word, further_words, node_after,
 };
 
 /// The steps of the senders' combiner in the service of one request.
 impl Board {
     fn read_tag(&mut self, who: Stepper, job: Job) -> Kind
-        requires { CanStep self.old who (Place.Sending job Sending.ReadTag) }
-        ensures { Stepped self.old who (Place.Sending job Sending.ReadTag) result self.new }
+        requires { CanStep self.old who (Phase.Sending job Sending.ReadTag) }
+        ensures { Stepped self.old who (Phase.Sending job Sending.ReadTag) result self.new }
     {
         let tag = self.load(Word::Node(Chain::Send, job.round.at, NodeField::Tag));
         let request = Request {
@@ -21,7 +22,7 @@ impl Board {
         };
         self.go(
             who,
-            Place::Sending {
+            Phase::Sending {
                 job,
                 service: Sending::ReadBody { request, index: 0 },
             },
@@ -30,8 +31,8 @@ impl Board {
     }
 
     fn read_body(&mut self, who: Stepper, job: Job, request: Request, index: u32) -> Kind
-        requires { CanStep self.old who (Place.Sending job (Sending.ReadBody request index)) }
-        ensures { Stepped self.old who (Place.Sending job (Sending.ReadBody request index)) result self.new }
+        requires { CanStep self.old who (Phase.Sending job (Sending.ReadBody request index)) }
+        ensures { Stepped self.old who (Phase.Sending job (Sending.ReadBody request index)) result self.new }
     {
         let found = self.load(Word::Node(Chain::Send, job.round.at, NodeField::Body(index)));
         let request = Request {
@@ -46,83 +47,83 @@ impl Board {
         } else {
             Sending::ReadShut { request }
         };
-        self.go(who, Place::Sending { job, service });
+        self.go(who, Phase::Sending { job, service });
         Kind::ReadRequest
     }
 
     #[tactic(auto, using(cc_runs::proofs::Chains::Facts::noted_none))]
     fn read_shut(&mut self, who: Stepper, job: Job, request: Request) -> Kind
-        requires { CanStep self.old who (Place.Sending job (Sending.ReadShut request)) }
-        ensures { Stepped self.old who (Place.Sending job (Sending.ReadShut request)) result self.new }
+        requires { CanStep self.old who (Phase.Sending job (Sending.ReadShut request)) }
+        ensures { Stepped self.old who (Phase.Sending job (Sending.ReadShut request)) result self.new }
     {
-        let place = if self.load(Word::Object(Object::Shut)) == 0 {
-            Place::Sending {
+        let phase = if self.load(Word::Object(Object::Shut)) == 0 {
+            Phase::Sending {
                 job,
                 service: Sending::ReadCount { request },
             }
         } else if request.tag == 0 {
-            Place::Sending {
+            Phase::Sending {
                 job,
                 service: Sending::ReadTotal,
             }
         } else {
             let answer = Answer::Send(SendAnswer::Closed);
             self.decide(who.chain, answer);
-            Place::WriteAnswer { job, answer }
+            Phase::WriteAnswer { job, answer }
         };
-        self.go(who, place);
+        self.go(who, phase);
         Kind::ReadObject
     }
 
     fn read_total(&mut self, who: Stepper, job: Job) -> Kind
-        requires { CanStep self.old who (Place.Sending job Sending.ReadTotal) }
-        ensures { Stepped self.old who (Place.Sending job Sending.ReadTotal) result self.new }
+        requires { CanStep self.old who (Phase.Sending job Sending.ReadTotal) }
+        ensures { Stepped self.old who (Phase.Sending job Sending.ReadTotal) result self.new }
     {
         let total = self.load(Word::Object(Object::Count));
         let answer = Answer::Close(CloseAnswer::Already { total });
         self.decide(who.chain, answer);
-        self.go(who, Place::WriteAnswer { job, answer });
+        self.go(who, Phase::WriteAnswer { job, answer });
         Kind::ReadObject
     }
 
     #[tactic(auto, using(cc_runs::proofs::Chains::Facts::noted_none))]
     fn read_count(&mut self, who: Stepper, job: Job, request: Request) -> Kind
-        requires { CanStep self.old who (Place.Sending job (Sending.ReadCount request)) }
-        ensures { Stepped self.old who (Place.Sending job (Sending.ReadCount request)) result self.new }
+        requires { CanStep self.old who (Phase.Sending job (Sending.ReadCount request)) }
+        ensures { Stepped self.old who (Phase.Sending job (Sending.ReadCount request)) result self.new }
     {
         let count = self.load(Word::Object(Object::Count));
-        let place = if request.tag == 0 {
-            Place::Sending {
+        let phase = if request.tag == 0 {
+            Phase::Sending {
                 job,
                 service: Sending::ReadLastToClose { total: count },
             }
         } else if count == self.setting.config.life {
             let answer = Answer::Send(SendAnswer::Spent);
             self.decide(who.chain, answer);
-            Place::WriteAnswer { job, answer }
+            Phase::WriteAnswer { job, answer }
         } else {
             let parcel = Parcel {
                 place: count,
                 tag: request.tag,
                 body: request.body,
             };
-            Place::Sending {
+            Phase::Sending {
                 job,
                 service: Sending::ReadCursor { parcel },
             }
         };
-        self.go(who, place);
+        self.go(who, phase);
         Kind::ReadObject
     }
 
     fn read_last_to_close(&mut self, who: Stepper, job: Job, total: u64) -> Kind
-        requires { CanStep self.old who (Place.Sending job (Sending.ReadLastToClose total)) }
-        ensures { Stepped self.old who (Place.Sending job (Sending.ReadLastToClose total)) result self.new }
+        requires { CanStep self.old who (Phase.Sending job (Sending.ReadLastToClose total)) }
+        ensures { Stepped self.old who (Phase.Sending job (Sending.ReadLastToClose total)) result self.new }
     {
         let last = self.load(Word::Object(Object::Last));
         self.go(
             who,
-            Place::Sending {
+            Phase::Sending {
                 job,
                 service: Sending::LinkMark {
                     total,
@@ -134,15 +135,15 @@ impl Board {
     }
 
     fn link_mark(&mut self, who: Stepper, job: Job, total: u64, last: u64) -> Kind
-        requires { CanStep self.old who (Place.Sending job (Sending.LinkMark total last)) }
-        ensures { Stepped self.old who (Place.Sending job (Sending.LinkMark total last)) result self.new }
+        requires { CanStep self.old who (Phase.Sending job (Sending.LinkMark total last)) }
+        ensures { Stepped self.old who (Phase.Sending job (Sending.LinkMark total last)) result self.new }
     {
         let answer = Answer::Close(CloseAnswer::Shut { total });
         self.decide(who.chain, answer);
         let mark = self.setting.config.capacity as u64 + 1;
         self.go(
             who,
-            Place::Sending {
+            Phase::Sending {
                 job,
                 service: Sending::WriteLastMark { total },
             },
@@ -152,13 +153,13 @@ impl Board {
     }
 
     fn write_last_mark(&mut self, who: Stepper, job: Job, total: u64) -> Kind
-        requires { CanStep self.old who (Place.Sending job (Sending.WriteLastMark total)) }
-        ensures { Stepped self.old who (Place.Sending job (Sending.WriteLastMark total)) result self.new }
+        requires { CanStep self.old who (Phase.Sending job (Sending.WriteLastMark total)) }
+        ensures { Stepped self.old who (Phase.Sending job (Sending.WriteLastMark total)) result self.new }
     {
         let mark = self.setting.config.capacity as u64 + 1;
         self.go(
             who,
-            Place::Sending {
+            Phase::Sending {
                 job,
                 service: Sending::WriteShut { total },
             },
@@ -168,23 +169,23 @@ impl Board {
     }
 
     fn write_shut(&mut self, who: Stepper, job: Job, total: u64) -> Kind
-        requires { CanStep self.old who (Place.Sending job (Sending.WriteShut total)) }
-        ensures { Stepped self.old who (Place.Sending job (Sending.WriteShut total)) result self.new }
+        requires { CanStep self.old who (Phase.Sending job (Sending.WriteShut total)) }
+        ensures { Stepped self.old who (Phase.Sending job (Sending.WriteShut total)) result self.new }
     {
         let answer = Answer::Close(CloseAnswer::Shut { total });
-        self.go(who, Place::WriteAnswer { job, answer });
+        self.go(who, Phase::WriteAnswer { job, answer });
         self.store(Word::Object(Object::Shut), 1);
         Kind::WriteObject
     }
 
     fn read_cursor(&mut self, who: Stepper, job: Job, parcel: Parcel) -> Kind
-        requires { CanStep self.old who (Place.Sending job (Sending.ReadCursor parcel)) }
-        ensures { Stepped self.old who (Place.Sending job (Sending.ReadCursor parcel)) result self.new }
+        requires { CanStep self.old who (Phase.Sending job (Sending.ReadCursor parcel)) }
+        ensures { Stepped self.old who (Phase.Sending job (Sending.ReadCursor parcel)) result self.new }
     {
         let node = self.load(Word::Object(Object::Cursor));
         self.go(
             who,
-            Place::Sending {
+            Phase::Sending {
                 job,
                 service: Sending::ReadPassed {
                     parcel,
@@ -198,24 +199,24 @@ impl Board {
 
     #[tactic(auto, using(cc_runs::proofs::Chains::Facts::noted_none))]
     fn read_passed(&mut self, who: Stepper, job: Job, parcel: Parcel, node: u64, reads: u32) -> Kind
-        requires { CanStep self.old who (Place.Sending job (Sending.ReadPassed parcel node reads)) }
-        ensures { Stepped self.old who (Place.Sending job (Sending.ReadPassed parcel node reads)) result self.new }
+        requires { CanStep self.old who (Phase.Sending job (Sending.ReadPassed parcel node reads)) }
+        ensures { Stepped self.old who (Phase.Sending job (Sending.ReadPassed parcel node reads)) result self.new }
     {
         let ordinary = self.setting.config.capacity as u64 + 1;
-        let place = if self.load(Word::Item(node, ItemField::Passed))
+        let phase = if self.load(Word::Item(node, ItemField::Passed))
             == self.setting.config.groups as u64
         {
-            Place::Sending {
+            Phase::Sending {
                 job,
                 service: Sending::ResetPassed { parcel, node },
             }
         } else if reads as u64 == ordinary {
             let answer = Answer::Send(SendAnswer::Full);
             self.decide(who.chain, answer);
-            Place::WriteAnswer { job, answer }
+            Phase::WriteAnswer { job, answer }
         } else {
             let node = node_after(node, ordinary);
-            Place::Sending {
+            Phase::Sending {
                 job,
                 service: Sending::ReadPassed {
                     parcel,
@@ -224,17 +225,17 @@ impl Board {
                 },
             }
         };
-        self.go(who, place);
+        self.go(who, phase);
         Kind::ReadPassed
     }
 
     fn reset_passed(&mut self, who: Stepper, job: Job, parcel: Parcel, node: u64) -> Kind
-        requires { CanStep self.old who (Place.Sending job (Sending.ResetPassed parcel node)) }
-        ensures { Stepped self.old who (Place.Sending job (Sending.ResetPassed parcel node)) result self.new }
+        requires { CanStep self.old who (Phase.Sending job (Sending.ResetPassed parcel node)) }
+        ensures { Stepped self.old who (Phase.Sending job (Sending.ResetPassed parcel node)) result self.new }
     {
         self.go(
             who,
-            Place::Sending {
+            Phase::Sending {
                 job,
                 service: Sending::ResetItemNext { parcel, node },
             },
@@ -244,12 +245,12 @@ impl Board {
     }
 
     fn reset_item_next(&mut self, who: Stepper, job: Job, parcel: Parcel, node: u64) -> Kind
-        requires { CanStep self.old who (Place.Sending job (Sending.ResetItemNext parcel node)) }
-        ensures { Stepped self.old who (Place.Sending job (Sending.ResetItemNext parcel node)) result self.new }
+        requires { CanStep self.old who (Phase.Sending job (Sending.ResetItemNext parcel node)) }
+        ensures { Stepped self.old who (Phase.Sending job (Sending.ResetItemNext parcel node)) result self.new }
     {
         self.go(
             who,
-            Place::Sending {
+            Phase::Sending {
                 job,
                 service: Sending::WriteItemTag { parcel, node },
             },
@@ -259,12 +260,12 @@ impl Board {
     }
 
     fn write_item_tag(&mut self, who: Stepper, job: Job, parcel: Parcel, node: u64) -> Kind
-        requires { CanStep self.old who (Place.Sending job (Sending.WriteItemTag parcel node)) }
-        ensures { Stepped self.old who (Place.Sending job (Sending.WriteItemTag parcel node)) result self.new }
+        requires { CanStep self.old who (Phase.Sending job (Sending.WriteItemTag parcel node)) }
+        ensures { Stepped self.old who (Phase.Sending job (Sending.WriteItemTag parcel node)) result self.new }
     {
         self.go(
             who,
-            Place::Sending {
+            Phase::Sending {
                 job,
                 service: Sending::WriteItemBody {
                     parcel,
@@ -285,8 +286,8 @@ impl Board {
         node: u64,
         index: u32,
     ) -> Kind
-        requires { CanStep self.old who (Place.Sending job (Sending.WriteItemBody parcel node index)) }
-        ensures { Stepped self.old who (Place.Sending job (Sending.WriteItemBody parcel node index)) result self.new }
+        requires { CanStep self.old who (Phase.Sending job (Sending.WriteItemBody parcel node index)) }
+        ensures { Stepped self.old who (Phase.Sending job (Sending.WriteItemBody parcel node index)) result self.new }
     {
         let service = if index < further_words(parcel.tag) {
             Sending::WriteItemBody {
@@ -300,7 +301,7 @@ impl Board {
                 node,
             }
         };
-        self.go(who, Place::Sending { job, service });
+        self.go(who, Phase::Sending { job, service });
         self.store(
             Word::Item(node, ItemField::Body(index)),
             parcel.body.word(index),
@@ -309,13 +310,13 @@ impl Board {
     }
 
     fn read_last(&mut self, who: Stepper, job: Job, place: u64, node: u64) -> Kind
-        requires { CanStep self.old who (Place.Sending job (Sending.ReadLast place node)) }
-        ensures { Stepped self.old who (Place.Sending job (Sending.ReadLast place node)) result self.new }
+        requires { CanStep self.old who (Phase.Sending job (Sending.ReadLast place node)) }
+        ensures { Stepped self.old who (Phase.Sending job (Sending.ReadLast place node)) result self.new }
     {
         let last = self.load(Word::Object(Object::Last));
         self.go(
             who,
-            Place::Sending {
+            Phase::Sending {
                 job,
                 service: Sending::LinkItem {
                     place,
@@ -328,14 +329,14 @@ impl Board {
     }
 
     fn link_item(&mut self, who: Stepper, job: Job, place: u64, node: u64, last: u64) -> Kind
-        requires { CanStep self.old who (Place.Sending job (Sending.LinkItem place node last)) }
-        ensures { Stepped self.old who (Place.Sending job (Sending.LinkItem place node last)) result self.new }
+        requires { CanStep self.old who (Phase.Sending job (Sending.LinkItem place node last)) }
+        ensures { Stepped self.old who (Phase.Sending job (Sending.LinkItem place node last)) result self.new }
     {
         let answer = Answer::Send(SendAnswer::Accepted { place });
         self.decide(who.chain, answer);
         self.go(
             who,
-            Place::Sending {
+            Phase::Sending {
                 job,
                 service: Sending::WriteLast { place, node },
             },
@@ -345,12 +346,12 @@ impl Board {
     }
 
     fn write_last(&mut self, who: Stepper, job: Job, place: u64, node: u64) -> Kind
-        requires { CanStep self.old who (Place.Sending job (Sending.WriteLast place node)) }
-        ensures { Stepped self.old who (Place.Sending job (Sending.WriteLast place node)) result self.new }
+        requires { CanStep self.old who (Phase.Sending job (Sending.WriteLast place node)) }
+        ensures { Stepped self.old who (Phase.Sending job (Sending.WriteLast place node)) result self.new }
     {
         self.go(
             who,
-            Place::Sending {
+            Phase::Sending {
                 job,
                 service: Sending::WriteCount { place, node },
             },
@@ -360,12 +361,12 @@ impl Board {
     }
 
     fn write_count(&mut self, who: Stepper, job: Job, place: u64, node: u64) -> Kind
-        requires { CanStep self.old who (Place.Sending job (Sending.WriteCount place node)) }
-        ensures { Stepped self.old who (Place.Sending job (Sending.WriteCount place node)) result self.new }
+        requires { CanStep self.old who (Phase.Sending job (Sending.WriteCount place node)) }
+        ensures { Stepped self.old who (Phase.Sending job (Sending.WriteCount place node)) result self.new }
     {
         self.go(
             who,
-            Place::Sending {
+            Phase::Sending {
                 job,
                 service: Sending::WriteCursor { place, node },
             },
@@ -375,12 +376,12 @@ impl Board {
     }
 
     fn write_cursor(&mut self, who: Stepper, job: Job, place: u64, node: u64) -> Kind
-        requires { CanStep self.old who (Place.Sending job (Sending.WriteCursor place node)) }
-        ensures { Stepped self.old who (Place.Sending job (Sending.WriteCursor place node)) result self.new }
+        requires { CanStep self.old who (Phase.Sending job (Sending.WriteCursor place node)) }
+        ensures { Stepped self.old who (Phase.Sending job (Sending.WriteCursor place node)) result self.new }
     {
         let ordinary = self.setting.config.capacity as u64 + 1;
         let answer = Answer::Send(SendAnswer::Accepted { place });
-        self.go(who, Place::WriteAnswer { job, answer });
+        self.go(who, Phase::WriteAnswer { job, answer });
         self.store(Word::Object(Object::Cursor), node_after(node, ordinary));
         Kind::WriteObject
     }
@@ -388,11 +389,11 @@ impl Board {
     #[tactic(auto, using(crate::proofs::Stands::stands_at))]
     pub fn send(&mut self, who: Stepper) -> Kind
         requires pass { who.pass < length self.old.stands.items }
-        requires at { IsSending (place_of self.old who) }
-        requires can { CanStep self.old who (place_of self.old who) }
-        ensures { Stepped self.old who (place_of self.old who) result self.new }
+        requires at { IsSending (phase_of self.old who) }
+        requires can { CanStep self.old who (phase_of self.old who) }
+        ensures { Stepped self.old who (phase_of self.old who) result self.new }
     {
-        let Place::Sending { job, service } = &self.stands[who.pass].place else {
+        let Phase::Sending { job, service } = &self.stands[who.pass].phase else {
             unreachable!()
         };
         let job = *job;

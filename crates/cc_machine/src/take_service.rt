@@ -1,22 +1,23 @@
+//! The steps of a group's combiner that serves a take on the list.
 ghost use Rattle.std.specs.Prelude.{◌<◌, length};
-ghost use Rattle.cc_machine.specs.BoardSteps.{place_of, IsTaking, CanStep, Stepped};
+ghost use Rattle.cc_machine.specs.BoardSteps.{phase_of, IsTaking, CanStep, Stepped};
 
 use crate::board::{Board, Stepper};
 use cc_model::{Answer, TakeAnswer};
 use cc_runs::{
-    BodyWords, ItemField, Job, Kind, Object, Parcel, Place, Taking, Word, further_words, item_of,
+    BodyWords, ItemField, Job, Kind, Object, Parcel, Phase, Taking, Word, further_words, item_of,
 };
 
 /// The steps of a group's combiner in the service of one take.
 impl Board {
     fn read_head(&mut self, who: Stepper, job: Job) -> Kind
-        requires { CanStep self.old who (Place.Taking job Taking.ReadHead) }
-        ensures { Stepped self.old who (Place.Taking job Taking.ReadHead) result self.new }
+        requires { CanStep self.old who (Phase.Taking job Taking.ReadHead) }
+        ensures { Stepped self.old who (Phase.Taking job Taking.ReadHead) result self.new }
     {
         let head = self.load(Word::Object(Object::Head(who.group())));
         self.go(
             who,
-            Place::Taking {
+            Phase::Taking {
                 job,
                 service: Taking::ReadTaken { dummy: head - 1 },
             },
@@ -25,13 +26,13 @@ impl Board {
     }
 
     fn read_taken(&mut self, who: Stepper, job: Job, dummy: u64) -> Kind
-        requires { CanStep self.old who (Place.Taking job (Taking.ReadTaken dummy)) }
-        ensures { Stepped self.old who (Place.Taking job (Taking.ReadTaken dummy)) result self.new }
+        requires { CanStep self.old who (Phase.Taking job (Taking.ReadTaken dummy)) }
+        ensures { Stepped self.old who (Phase.Taking job (Taking.ReadTaken dummy)) result self.new }
     {
         let taken = self.load(Word::Object(Object::Taken(who.group())));
         self.go(
             who,
-            Place::Taking {
+            Phase::Taking {
                 job,
                 service: Taking::ReadDummyNext { dummy, taken },
             },
@@ -41,16 +42,16 @@ impl Board {
 
     #[tactic(auto, using(cc_runs::proofs::Chains::Facts::noted_none))]
     fn read_dummy_next(&mut self, who: Stepper, job: Job, dummy: u64, taken: u64) -> Kind
-        requires { CanStep self.old who (Place.Taking job (Taking.ReadDummyNext dummy taken)) }
-        ensures { Stepped self.old who (Place.Taking job (Taking.ReadDummyNext dummy taken)) result self.new }
+        requires { CanStep self.old who (Phase.Taking job (Taking.ReadDummyNext dummy taken)) }
+        ensures { Stepped self.old who (Phase.Taking job (Taking.ReadDummyNext dummy taken)) result self.new }
     {
         let next = self.load(Word::Item(dummy, ItemField::Next));
-        let place = if next == 0 {
+        let phase = if next == 0 {
             let answer = Answer::Take(TakeAnswer::Empty);
             self.decide(who.chain, answer);
-            Place::WriteAnswer { job, answer }
+            Phase::WriteAnswer { job, answer }
         } else {
-            Place::Taking {
+            Phase::Taking {
                 job,
                 service: Taking::ReadItemTag {
                     dummy,
@@ -59,27 +60,27 @@ impl Board {
                 },
             }
         };
-        self.go(who, place);
+        self.go(who, phase);
         Kind::ReadDummyNext
     }
 
     #[tactic(auto, using(cc_runs::proofs::Chains::Facts::noted_none))]
     fn read_item_tag(&mut self, who: Stepper, job: Job, dummy: u64, taken: u64, node: u64) -> Kind
-        requires { CanStep self.old who (Place.Taking job (Taking.ReadItemTag dummy taken node)) }
-        ensures { Stepped self.old who (Place.Taking job (Taking.ReadItemTag dummy taken node)) result self.new }
+        requires { CanStep self.old who (Phase.Taking job (Taking.ReadItemTag dummy taken node)) }
+        ensures { Stepped self.old who (Phase.Taking job (Taking.ReadItemTag dummy taken node)) result self.new }
     {
         let tag = self.load(Word::Item(node, ItemField::Tag));
-        let place = if tag == 0 {
+        let phase = if tag == 0 {
             let answer = Answer::Take(TakeAnswer::Ended { total: taken });
             self.decide(who.chain, answer);
-            Place::WriteAnswer { job, answer }
+            Phase::WriteAnswer { job, answer }
         } else {
             let parcel = Parcel {
                 place: taken,
                 tag,
                 body: BodyWords::none(),
             };
-            Place::Taking {
+            Phase::Taking {
                 job,
                 service: Taking::ReadItemBody {
                     dummy,
@@ -89,7 +90,7 @@ impl Board {
                 },
             }
         };
-        self.go(who, place);
+        self.go(who, phase);
         Kind::ReadItem
     }
 
@@ -102,8 +103,8 @@ impl Board {
         parcel: Parcel,
         index: u32,
     ) -> Kind
-        requires { CanStep self.old who (Place.Taking job (Taking.ReadItemBody dummy node parcel index)) }
-        ensures { Stepped self.old who (Place.Taking job (Taking.ReadItemBody dummy node parcel index)) result self.new }
+        requires { CanStep self.old who (Phase.Taking job (Taking.ReadItemBody dummy node parcel index)) }
+        ensures { Stepped self.old who (Phase.Taking job (Taking.ReadItemBody dummy node parcel index)) result self.new }
     {
         let found = self.load(Word::Item(node, ItemField::Body(index)));
         let parcel = Parcel {
@@ -124,17 +125,17 @@ impl Board {
                 parcel,
             }
         };
-        self.go(who, Place::Taking { job, service });
+        self.go(who, Phase::Taking { job, service });
         Kind::ReadItem
     }
 
     fn write_head(&mut self, who: Stepper, job: Job, dummy: u64, node: u64, parcel: Parcel) -> Kind
-        requires { CanStep self.old who (Place.Taking job (Taking.WriteHead dummy node parcel)) }
-        ensures { Stepped self.old who (Place.Taking job (Taking.WriteHead dummy node parcel)) result self.new }
+        requires { CanStep self.old who (Phase.Taking job (Taking.WriteHead dummy node parcel)) }
+        ensures { Stepped self.old who (Phase.Taking job (Taking.WriteHead dummy node parcel)) result self.new }
     {
         self.go(
             who,
-            Place::Taking {
+            Phase::Taking {
                 job,
                 service: Taking::WriteTaken { dummy, parcel },
             },
@@ -144,12 +145,12 @@ impl Board {
     }
 
     fn write_taken(&mut self, who: Stepper, job: Job, dummy: u64, parcel: Parcel) -> Kind
-        requires { CanStep self.old who (Place.Taking job (Taking.WriteTaken dummy parcel)) }
-        ensures { Stepped self.old who (Place.Taking job (Taking.WriteTaken dummy parcel)) result self.new }
+        requires { CanStep self.old who (Phase.Taking job (Taking.WriteTaken dummy parcel)) }
+        ensures { Stepped self.old who (Phase.Taking job (Taking.WriteTaken dummy parcel)) result self.new }
     {
         self.go(
             who,
-            Place::Taking {
+            Phase::Taking {
                 job,
                 service: Taking::AddPassed { dummy, parcel },
             },
@@ -159,14 +160,14 @@ impl Board {
     }
 
     fn add_passed(&mut self, who: Stepper, job: Job, dummy: u64, parcel: Parcel) -> Kind
-        requires { CanStep self.old who (Place.Taking job (Taking.AddPassed dummy parcel)) }
-        ensures { Stepped self.old who (Place.Taking job (Taking.AddPassed dummy parcel)) result self.new }
+        requires { CanStep self.old who (Phase.Taking job (Taking.AddPassed dummy parcel)) }
+        ensures { Stepped self.old who (Phase.Taking job (Taking.AddPassed dummy parcel)) result self.new }
     {
         let word = Word::Item(dummy, ItemField::Passed);
         let found = self.load(word);
         let answer = Answer::Take(TakeAnswer::Got(item_of(parcel.place, parcel.tag, parcel.body)));
         self.decide(who.chain, answer);
-        self.go(who, Place::WriteAnswer { job, answer });
+        self.go(who, Phase::WriteAnswer { job, answer });
         self.store(word, found + 1);
         Kind::AddPassed
     }
@@ -174,11 +175,11 @@ impl Board {
     #[tactic(auto, using(crate::proofs::Stands::stands_at))]
     pub fn take(&mut self, who: Stepper) -> Kind
         requires pass { who.pass < length self.old.stands.items }
-        requires at { IsTaking (place_of self.old who) }
-        requires can { CanStep self.old who (place_of self.old who) }
-        ensures { Stepped self.old who (place_of self.old who) result self.new }
+        requires at { IsTaking (phase_of self.old who) }
+        requires can { CanStep self.old who (phase_of self.old who) }
+        ensures { Stepped self.old who (phase_of self.old who) result self.new }
     {
-        let Place::Taking { job, service } = &self.stands[who.pass].place else {
+        let Phase::Taking { job, service } = &self.stands[who.pass].phase else {
             unreachable!()
         };
         let job = *job;

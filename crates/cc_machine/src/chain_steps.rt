@@ -1,3 +1,4 @@
+//! The steps of a call on its combining chain, from the reset of its node to the read of its answer.
 ghost use Rattle.cc_machine.specs.BoardSteps.{CanStep, Stepped};
 ghost use Rattle.std.specs.Prelude.{◌≡◌};
 ghost use Rattle.cc_runs.specs.Lines.{serves};
@@ -5,16 +6,16 @@ ghost use Rattle.cc_runs.specs.Lines.{serves};
 use crate::board::{Board, Stepper};
 use cc_model::{Answer, Entry, Item, TakeAnswer};
 use cc_runs::{
-    BodyWords, CODE, Chain, Counting, Job, Kind, NodeField, Parcel, Place, Request, Round, Sending,
+    BodyWords, CODE, Chain, Counting, Job, Kind, NodeField, Parcel, Phase, Request, Round, Sending,
     Served, Taking, Word, body_words, further_words, item_of, request_in, ret_of, sender_reads,
     tag_of,
 };
 
-/// The first place of a combiner: with its own node.
-fn first_round(node: u64) -> Place
-    ensures { result ≡ Place.ReadNext record { at = node; served = 0 } }
+/// The first phase of a combiner: with its own node.
+fn first_round(node: u64) -> Phase
+    ensures { result ≡ Phase.ReadNext record { at = node; served = 0 } }
 {
-    Place::ReadNext {
+    Phase::ReadNext {
         round: Round {
             at: node,
             served: 0,
@@ -25,55 +26,55 @@ fn first_round(node: u64) -> Place
 /// The steps of a call on its chain.
 impl Board {
     pub fn reset_next(&mut self, who: Stepper, call: Entry) -> Kind
-        requires { CanStep self.old who (Place.ResetNext call) }
-        ensures { Stepped self.old who (Place.ResetNext call) result self.new }
+        requires { CanStep self.old who (Phase.ResetNext call) }
+        ensures { Stepped self.old who (Phase.ResetNext call) result self.new }
     {
-        self.go(who, Place::ResetState { call });
+        self.go(who, Phase::ResetState { call });
         self.store(Word::Node(who.chain, who.node, NodeField::Next), 0);
         Kind::ResetNext
     }
 
     pub fn reset_state(&mut self, who: Stepper, call: Entry) -> Kind
-        requires { CanStep self.old who (Place.ResetState call) }
-        ensures { Stepped self.old who (Place.ResetState call) result self.new }
+        requires { CanStep self.old who (Phase.ResetState call) }
+        ensures { Stepped self.old who (Phase.ResetState call) result self.new }
     {
-        self.go(who, Place::Exchange { call });
+        self.go(who, Phase::Exchange { call });
         self.store(Word::Node(who.chain, who.node, NodeField::State), 1);
         Kind::ResetState
     }
 
     pub fn exchange(&mut self, who: Stepper, call: Entry) -> Kind
-        requires { CanStep self.old who (Place.Exchange call) }
-        ensures { Stepped self.old who (Place.Exchange call) result self.new }
+        requires { CanStep self.old who (Phase.Exchange call) }
+        ensures { Stepped self.old who (Phase.Exchange call) result self.new }
     {
         let word = Word::Tail(who.chain);
         let found = self.load(word);
         self.enter(who.chain, call);
-        let place = match who.chain {
-            Chain::Send => Place::WriteTag {
+        let phase = match who.chain {
+            Chain::Send => Phase::WriteTag {
                 put: who.node,
                 request: request_in(call),
             },
-            Chain::Take(_) => Place::Link { put: who.node },
+            Chain::Take(_) => Phase::Link { put: who.node },
         };
         self.go(
             Stepper {
                 node: found - 1,
                 ..who
             },
-            place,
+            phase,
         );
         self.store(word, who.node + 1);
         Kind::Exchange
     }
 
     pub fn write_tag(&mut self, who: Stepper, put: u64, request: Request) -> Kind
-        requires { CanStep self.old who (Place.WriteTag put request) }
-        ensures { Stepped self.old who (Place.WriteTag put request) result self.new }
+        requires { CanStep self.old who (Phase.WriteTag put request) }
+        ensures { Stepped self.old who (Phase.WriteTag put request) result self.new }
     {
         self.go(
             who,
-            Place::WriteBody {
+            Phase::WriteBody {
                 put,
                 request,
                 index: 0,
@@ -84,19 +85,19 @@ impl Board {
     }
 
     pub fn write_body(&mut self, who: Stepper, put: u64, request: Request, index: u32) -> Kind
-        requires { CanStep self.old who (Place.WriteBody put request index) }
-        ensures { Stepped self.old who (Place.WriteBody put request index) result self.new }
+        requires { CanStep self.old who (Phase.WriteBody put request index) }
+        ensures { Stepped self.old who (Phase.WriteBody put request index) result self.new }
     {
-        let place = if index < further_words(request.tag) {
-            Place::WriteBody {
+        let phase = if index < further_words(request.tag) {
+            Phase::WriteBody {
                 put,
                 request,
                 index: index + 1,
             }
         } else {
-            Place::Link { put }
+            Phase::Link { put }
         };
-        self.go(who, place);
+        self.go(who, phase);
         self.store(
             Word::Node(who.chain, who.node, NodeField::Body(index)),
             request.body.word(index),
@@ -105,41 +106,41 @@ impl Board {
     }
 
     pub fn link(&mut self, who: Stepper, put: u64) -> Kind
-        requires { CanStep self.old who (Place.Link put) }
-        ensures { Stepped self.old who (Place.Link put) result self.new }
+        requires { CanStep self.old who (Phase.Link put) }
+        ensures { Stepped self.old who (Phase.Link put) result self.new }
     {
-        self.go(who, Place::ReadState);
+        self.go(who, Phase::ReadState);
         self.store(Word::Node(who.chain, who.node, NodeField::Next), put + 1);
         Kind::Link
     }
 
     pub fn read_state(&mut self, who: Stepper) -> Kind
-        requires { CanStep self.old who Place.ReadState }
-        ensures { Stepped self.old who Place.ReadState result self.new }
+        requires { CanStep self.old who Phase.ReadState }
+        ensures { Stepped self.old who Phase.ReadState result self.new }
     {
-        let place = match self.load(Word::Node(who.chain, who.node, NodeField::State)) {
+        let phase = match self.load(Word::Node(who.chain, who.node, NodeField::State)) {
             0 => first_round(who.node),
-            1 => Place::ReadState,
-            _ => Place::ReadAnswer,
+            1 => Phase::ReadState,
+            _ => Phase::ReadAnswer,
         };
-        self.go(who, place);
+        self.go(who, phase);
         Kind::ReadState
     }
 
-    /// The first place of the service of a request.
-    fn serves(&self, chain: Chain, job: Job) -> Place
+    /// The first phase of the service of a request.
+    fn serves(&self, chain: Chain, job: Job) -> Phase
         ensures { result ≡ serves self.now.setting.served chain job }
     {
         match (self.setting.served, chain) {
-            (Served::Counter, _) => Place::Counting {
+            (Served::Counter, _) => Phase::Counting {
                 job,
                 service: Counting::ReadTag,
             },
-            (Served::List, Chain::Send) => Place::Sending {
+            (Served::List, Chain::Send) => Phase::Sending {
                 job,
                 service: Sending::ReadTag,
             },
-            (Served::List, Chain::Take(_)) => Place::Taking {
+            (Served::List, Chain::Take(_)) => Phase::Taking {
                 job,
                 service: Taking::ReadHead,
             },
@@ -148,12 +149,12 @@ impl Board {
 
     #[tactic(auto, using(cc_runs::proofs::Chains::Facts::noted_none))]
     pub fn read_next(&mut self, who: Stepper, round: Round) -> Kind
-        requires { CanStep self.old who (Place.ReadNext round) }
-        ensures { Stepped self.old who (Place.ReadNext round) result self.new }
+        requires { CanStep self.old who (Phase.ReadNext round) }
+        ensures { Stepped self.old who (Phase.ReadNext round) result self.new }
     {
         let next = self.load(Word::Node(who.chain, round.at, NodeField::Next));
-        let place = if next == 0 {
-            Place::HandOver { at: round.at }
+        let phase = if next == 0 {
+            Phase::HandOver { at: round.at }
         } else {
             let job = Job {
                 round,
@@ -161,19 +162,19 @@ impl Board {
             };
             self.serves(who.chain, job)
         };
-        self.go(who, place);
+        self.go(who, phase);
         Kind::ReadNext
     }
 
     pub fn write_answer(&mut self, who: Stepper, job: Job, answer: Answer) -> Kind
-        requires { CanStep self.old who (Place.WriteAnswer job answer) }
-        ensures { Stepped self.old who (Place.WriteAnswer job answer) result self.new }
+        requires { CanStep self.old who (Phase.WriteAnswer job answer) }
+        ensures { Stepped self.old who (Phase.WriteAnswer job answer) result self.new }
     {
-        let place = match answer {
-            Answer::Take(TakeAnswer::Got(item)) => Place::WriteAnswerTag { job, item },
-            _ => Place::MarkDone { job },
+        let phase = match answer {
+            Answer::Take(TakeAnswer::Got(item)) => Phase::WriteAnswerTag { job, item },
+            _ => Phase::MarkDone { job },
         };
-        self.go(who, place);
+        self.go(who, phase);
         self.store(
             Word::Node(who.chain, job.round.at, NodeField::Ret),
             ret_of(self.setting.served, answer),
@@ -182,12 +183,12 @@ impl Board {
     }
 
     pub fn write_answer_tag(&mut self, who: Stepper, job: Job, item: Item) -> Kind
-        requires { CanStep self.old who (Place.WriteAnswerTag job item) }
-        ensures { Stepped self.old who (Place.WriteAnswerTag job item) result self.new }
+        requires { CanStep self.old who (Phase.WriteAnswerTag job item) }
+        ensures { Stepped self.old who (Phase.WriteAnswerTag job item) result self.new }
     {
         self.go(
             who,
-            Place::WriteAnswerBody {
+            Phase::WriteAnswerBody {
                 job,
                 item,
                 index: 0,
@@ -202,19 +203,19 @@ impl Board {
 
     #[tactic(auto, using(cc_runs::proofs::Chains::Facts::noted_none))]
     pub fn write_answer_body(&mut self, who: Stepper, job: Job, item: Item, index: u32) -> Kind
-        requires { CanStep self.old who (Place.WriteAnswerBody job item index) }
-        ensures { Stepped self.old who (Place.WriteAnswerBody job item index) result self.new }
+        requires { CanStep self.old who (Phase.WriteAnswerBody job item index) }
+        ensures { Stepped self.old who (Phase.WriteAnswerBody job item index) result self.new }
     {
-        let place = if index < further_words(tag_of(item)) {
-            Place::WriteAnswerBody {
+        let phase = if index < further_words(tag_of(item)) {
+            Phase::WriteAnswerBody {
                 job,
                 item,
                 index: index + 1,
             }
         } else {
-            Place::MarkDone { job }
+            Phase::MarkDone { job }
         };
-        self.go(who, place);
+        self.go(who, phase);
         self.store(
             Word::Node(who.chain, job.round.at, NodeField::Body(index)),
             body_words(item).word(index),
@@ -223,60 +224,60 @@ impl Board {
     }
 
     pub fn mark_done(&mut self, who: Stepper, job: Job) -> Kind
-        requires { CanStep self.old who (Place.MarkDone job) }
-        ensures { Stepped self.old who (Place.MarkDone job) result self.new }
+        requires { CanStep self.old who (Phase.MarkDone job) }
+        ensures { Stepped self.old who (Phase.MarkDone job) result self.new }
     {
         let served = job.round.served + 1;
-        let place = if served == self.setting.config.bound {
-            Place::HandOver { at: job.next }
+        let phase = if served == self.setting.config.bound {
+            Phase::HandOver { at: job.next }
         } else {
-            Place::ReadNext {
+            Phase::ReadNext {
                 round: Round {
                     at: job.next,
                     served,
                 },
             }
         };
-        self.go(who, place);
+        self.go(who, phase);
         self.store(Word::Node(who.chain, job.round.at, NodeField::State), 2);
         Kind::MarkDone
     }
 
     pub fn hand_over(&mut self, who: Stepper, at: u64) -> Kind
-        requires { CanStep self.old who (Place.HandOver at) }
-        ensures { Stepped self.old who (Place.HandOver at) result self.new }
+        requires { CanStep self.old who (Phase.HandOver at) }
+        ensures { Stepped self.old who (Phase.HandOver at) result self.new }
     {
-        self.go(who, Place::ReadAnswer);
+        self.go(who, Phase::ReadAnswer);
         self.store(Word::Node(who.chain, at, NodeField::State), 0);
         Kind::HandOver
     }
 
     pub fn read_answer(&mut self, who: Stepper) -> Kind
-        requires { CanStep self.old who Place.ReadAnswer }
-        ensures { Stepped self.old who Place.ReadAnswer result self.new }
+        requires { CanStep self.old who Phase.ReadAnswer }
+        ensures { Stepped self.old who Phase.ReadAnswer result self.new }
     {
         let ret = self.load(Word::Node(who.chain, who.node, NodeField::Ret));
-        let place = match who.chain {
-            Chain::Send => Place::Finished {
+        let phase = match who.chain {
+            Chain::Send => Phase::Finished {
                 answer: sender_reads(self.setting.served, ret),
             },
             Chain::Take(_) => match ret / CODE {
-                1 => Place::ReadAnswerTag { place: ret % CODE },
-                2 => Place::Finished {
+                1 => Phase::ReadAnswerTag { place: ret % CODE },
+                2 => Phase::Finished {
                     answer: Answer::Take(TakeAnswer::Empty),
                 },
-                _ => Place::Finished {
+                _ => Phase::Finished {
                     answer: Answer::Take(TakeAnswer::Ended { total: ret % CODE }),
                 },
             },
         };
-        self.go(who, place);
+        self.go(who, phase);
         Kind::ReadAnswer
     }
 
     pub fn read_answer_tag(&mut self, who: Stepper, place: u64) -> Kind
-        requires { CanStep self.old who (Place.ReadAnswerTag place) }
-        ensures { Stepped self.old who (Place.ReadAnswerTag place) result self.new }
+        requires { CanStep self.old who (Phase.ReadAnswerTag place) }
+        ensures { Stepped self.old who (Phase.ReadAnswerTag place) result self.new }
     {
         let tag = self.load(Word::Node(who.chain, who.node, NodeField::Tag));
         let parcel = Parcel {
@@ -284,31 +285,31 @@ impl Board {
             tag,
             body: BodyWords::none(),
         };
-        self.go(who, Place::ReadAnswerBody { parcel, index: 0 });
+        self.go(who, Phase::ReadAnswerBody { parcel, index: 0 });
         Kind::ReadAnswer
     }
 
     pub fn read_answer_body(&mut self, who: Stepper, parcel: Parcel, index: u32) -> Kind
-        requires { CanStep self.old who (Place.ReadAnswerBody parcel index) }
-        ensures { Stepped self.old who (Place.ReadAnswerBody parcel index) result self.new }
+        requires { CanStep self.old who (Phase.ReadAnswerBody parcel index) }
+        ensures { Stepped self.old who (Phase.ReadAnswerBody parcel index) result self.new }
     {
         let found = self.load(Word::Node(who.chain, who.node, NodeField::Body(index)));
         let parcel = Parcel {
             body: parcel.body.with_word(index, found),
             ..parcel
         };
-        let place = if index < further_words(parcel.tag) {
-            Place::ReadAnswerBody {
+        let phase = if index < further_words(parcel.tag) {
+            Phase::ReadAnswerBody {
                 parcel,
                 index: index + 1,
             }
         } else {
             let item = item_of(parcel.place, parcel.tag, parcel.body);
-            Place::Finished {
+            Phase::Finished {
                 answer: Answer::Take(TakeAnswer::Got(item)),
             }
         };
-        self.go(who, place);
+        self.go(who, phase);
         Kind::ReadAnswer
     }
 }
