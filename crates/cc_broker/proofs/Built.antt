@@ -81,5 +81,5 @@ next_opened asked n d topics topics' passes passes' t p some so name one ts ps =
     (opened_push (take n asked) topics passes (slice_index_or asked n d) t p so name one)
 
 -- and if its configuration is in range, all so far are
-pub next_lawful : (asked : List (Bor (List ℕ) × Config)) (n : ℕ) (d : Bor (List ℕ) × Config) → n < length asked → All (λ a. config_fault a.1 ≡ Ok tt) (take n asked) → config_fault (slice_index_or asked n d).1 ≡ Ok tt → All (λ a. config_fault a.1 ≡ Ok tt) (take (n + 1) asked)
-next_lawful asked n d some so one = subst (All (λ a. config_fault a.1 ≡ Ok tt)) (sym (next_place asked n d some)) (All-push (λ a. config_fault a.1 ≡ Ok tt) (take n asked) (slice_index_or asked n d) so one)
+pub next_valid : (asked : List (Bor (List ℕ) × Config)) (n : ℕ) (d : Bor (List ℕ) × Config) → n < length asked → All (λ a. config_fault a.1 ≡ Ok tt) (take n asked) → config_fault (slice_index_or asked n d).1 ≡ Ok tt → All (λ a. config_fault a.1 ≡ Ok tt) (take (n + 1) asked)
+next_valid asked n d some so one = subst (All (λ a. config_fault a.1 ≡ Ok tt)) (sym (next_place asked n d some)) (All-push (λ a. config_fault a.1 ≡ Ok tt) (take n asked) (slice_index_or asked n d) so one)

@@ -37,7 +37,7 @@ AreTheirPasses _ _ = ⊥
 pub record HasOpened (asked : List (Bor (List ℕ) × Config)) (o : OpenedBroker) : Type 0 where
   pub few : length asked ≤ 64
   pub distinct : AreDistinct (asked_names asked)
-  pub lawful : All (λ a. config_fault a.1 ≡ Ok tt) asked
+  pub valid : All (λ a. config_fault a.1 ≡ Ok tt) asked
   pub names_are : names o.broker ≡ asked_names asked
   pub settings_are : settings o.broker ≡ asked_settings asked
   pub passes : AreTheirPasses (queues o.broker) o.passes.items
@@ -47,12 +47,12 @@ pub record IsTopicFault (asked : List (Bor (List ℕ) × Config)) (place : ℕ) 
   pub topic : Bor (List ℕ) × Config
   pub there : slice_get asked place ≡ Some topic
   pub fault : IsOpenFault topic.1 cause
-  pub lawful : All (λ a. config_fault a.1 ≡ Ok tt) (take place asked)
+  pub valid : All (λ a. config_fault a.1 ≡ Ok tt) (take place asked)
 
 -- the topics up to this place can be opened: their configurations are legal
 pub record CanOpenUpTo (asked : List (Bor (List ℕ) × Config)) (place : ℕ) : Type 0 where
   pub within : place < length asked
-  pub lawful : All (λ a. config_fault a.1 ≡ Ok tt) (take (place + 1) asked)
+  pub valid : All (λ a. config_fault a.1 ≡ Ok tt) (take (place + 1) asked)
 
 -- Too many topics are refused first, then a double name, and then the topics are opened in order. Other memory than for
 -- an opening is asked for only after the opening of a topic.

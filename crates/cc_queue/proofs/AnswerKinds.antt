@@ -5,7 +5,7 @@ use Rattle.cc_model.specs.Record.{Side, Record, silent, of_group}
 use Rattle.std.proofs.lemmas.Bool.{cases_lt}
 use Rattle.std.proofs.lemmas.List.{get_or_past}
 use Rattle.cc_model.specs.Items.{all_answered, answered, calls_of, is_pass, accepted, accepted_item, shuts, is_shut, handed_item}
-use Rattle.cc_model.specs.Legal.{Legal, EAnswer, EAnswers, DAnswer, DAnswers, IsReceivers}
+use Rattle.cc_model.specs.Legal.{Legal, SendSideAnswer, SendSideAnswers, TakeSideAnswer, TakeSideAnswers, IsReceivers}
 use Rattle.cc_queue.specs.Names.{Config, Call, Pass, Item, Entry, Answer, SendAnswer, CloseAnswer}
 use Rattle.cc_runs.specs.ChainLaws.{IsLastAnswer}
 use Rattle.cc_queue.specs.Passes.{MadeLast, IsSend, IsClose}
@@ -24,7 +24,7 @@ SuitsIt (e, Some a) = Suits e.call a
 
 -- ---- each answer of a side
 
-e_suits : (cfg : Config) (count : ℕ) (shut : Bool) (known : ℕ) (c : Call) (a : Answer) → EAnswer cfg count shut known c a → Suits c a
+e_suits : (cfg : Config) (count : ℕ) (shut : Bool) (known : ℕ) (c : Call) (a : Answer) → SendSideAnswer cfg count shut known c a → Suits c a
 e_suits cfg count true known (Call.Send body) (Answer.Send SendAnswer.Closed) k = tt
 e_suits cfg count true known Call.Close (Answer.Close (CloseAnswer.Already total)) k = tt
 e_suits cfg count false known Call.Close (Answer.Close (CloseAnswer.Shut total)) k = tt
@@ -33,18 +33,18 @@ e_suits cfg count false known (Call.Send body) (Answer.Send (SendAnswer.Accepted
 e_suits cfg count false known (Call.Send body) (Answer.Send SendAnswer.Full) k = tt
 e_suits cfg count shut known c a k = absurd k
 
-e_all : (cfg : Config) (count : ℕ) (shut : Bool) (calls : List Entry) (answers : List Answer) → EAnswers cfg count shut calls answers → AllByRecursion SuitsIt (answered calls answers)
+e_all : (cfg : Config) (count : ℕ) (shut : Bool) (calls : List Entry) (answers : List Answer) → SendSideAnswers cfg count shut calls answers → AllByRecursion SuitsIt (answered calls answers)
 e_all cfg count shut [] answers k = tt
 e_all cfg count shut (e ∷ calls) [] k = (tt, e_all cfg count shut calls [] tt)
 e_all cfg count shut (e ∷ calls) (a ∷ answers) k = (e_suits cfg count shut e.known e.call a k.0, e_all cfg (count + length (accepted_item e a)) (shut || shuts a) calls answers k.1)
 
-d_suits : (cfg : Config) (g : ℕ) (items : List Item) (shut : Bool) (count known : ℕ) (p : Pass) (c : Call) (a : Answer) → IsReceivers cfg g p c → DAnswer items shut count known a → Suits c a
+d_suits : (cfg : Config) (g : ℕ) (items : List Item) (shut : Bool) (count known : ℕ) (p : Pass) (c : Call) (a : Answer) → IsReceivers cfg g p c → TakeSideAnswer items shut count known a → Suits c a
 d_suits cfg g items shut count known (Pass.Receiver r) Call.Take (Answer.Take a) is k = tt
 d_suits cfg g items shut count known (Pass.Receiver r) Call.Take (Answer.Send a) is k = absurd k
 d_suits cfg g items shut count known (Pass.Receiver r) Call.Take (Answer.Close a) is k = absurd k
 d_suits cfg g items shut count known p c a is k = absurd is
 
-d_all : (cfg : Config) (g : ℕ) (items : List Item) (shut : Bool) (count : ℕ) (calls : List Entry) (answers : List Answer) → AllByRecursion (λ c. IsReceivers cfg g c.pass c.call) calls → DAnswers items shut count calls answers → AllByRecursion SuitsIt (answered calls answers)
+d_all : (cfg : Config) (g : ℕ) (items : List Item) (shut : Bool) (count : ℕ) (calls : List Entry) (answers : List Answer) → AllByRecursion (λ c. IsReceivers cfg g c.pass c.call) calls → TakeSideAnswers items shut count calls answers → AllByRecursion SuitsIt (answered calls answers)
 d_all cfg g items shut count [] answers r k = tt
 d_all cfg g items shut count (e ∷ calls) [] r k = (tt, d_all cfg g items shut count calls [] r.1 tt)
 d_all cfg g items shut count (e ∷ calls) (a ∷ answers) r k = (d_suits cfg g items shut count e.known e.pass e.call a r.0 k.0, d_all cfg g items shut (count + length (handed_item a)) calls answers r.1 k.1)

@@ -11,8 +11,8 @@ use Rattle.cc_model.proofs.After.{later_tells}
 use Rattle.cc_queue.specs.Names.{Config, Call, Pass, Entry, Answer, SendAnswer, TakeAnswer, Move, Setting}
 use Rattle.cc_runs.specs.State.{pass_at}
 use Rattle.cc_runs.specs.Run.{IsRun, history_of}
-use Rattle.cc_runs.proofs.RunFronts.{fronts_begin}
-use Rattle.cc_runs.proofs.KnownFronts.{fronts_know}
+use Rattle.cc_runs.proofs.RunPrefixes.{prefixes_begin}
+use Rattle.cc_runs.proofs.KnownPrefixes.{prefixes_know}
 use Rattle.cc_runs.proofs.ListRuns.Laws.{history_is_legal}
 use Rattle.cc_steps.specs.Noted.{Noted}
 use Rattle.cc_steps.specs.Seen.{GoesOn, Onward, known_in}
@@ -120,8 +120,8 @@ comes_after c p noted mid log zs e told q f g run pass_is known_is last count =
     let h : Record = history_of c noted in
     let m : Record = history_of c mid in
     let l : Record = history_of c log in
-    let to_log = fronts_begin c g.more mid (subst (IsRun c) g.is run) in
-    let to_mid = fronts_begin c f.more noted (subst (IsRun c) f.is to_log.0) in
+    let to_log = prefixes_begin c g.more mid (subst (IsRun c) g.is run) in
+    let to_mid = prefixes_begin c f.more noted (subst (IsRun c) f.is to_log.0) in
     let mid_begins : Begins m l = subst (λ (x : List Move). Begins m (history_of c x)) (sym g.is) to_log.1 in
     let noted_begins : Begins h m = subst (λ (x : List Move). Begins h (history_of c x)) (sym f.is) to_mid.1 in
     let more : SideBegins (side_of cfg who m) (side_of cfg who l) = side_begins cfg who m l mid_begins in
@@ -131,7 +131,7 @@ comes_after c p noted mid log zs e told q f g run pass_is known_is last count =
     let found = found_behind who (side_of cfg who m).calls more.calls.0 (side_of cfg who l).answers zs e told all made in
     let answered : IsAnswered (side_of cfg who l) found.before e told = subst (λ (x : List Entry). IsAnswered (record { calls = x; answers = (side_of cfg who l).answers }) found.before e told) (sym more.calls.1) found.answered in
     let behind : length (side_of cfg who h).calls ≤ length found.before = omega (arith, found.low, ap (λ (x : List Entry). length x) less.calls.1, length-append (side_of cfg who h).calls less.calls.0) in
-    let knew : known_at who h ≤ known_in c p mid = subst (λ (x : List Move). known_at who h ≤ known_at who (history_of c x)) (sym f.is) (fronts_know c q.checked f.more noted (subst (IsRun c) f.is to_log.0) p) in (
+    let knew : known_at who h ≤ known_in c p mid = subst (λ (x : List Move). known_at who h ≤ known_at who (history_of c x)) (sym f.is) (prefixes_know c q.checked f.more noted (subst (IsRun c) f.is to_log.0) p) in (
       found.before,
       record {
         answered = subst (λ (x : Pass). IsAnswered (side_of cfg x l) found.before e told) (sym pass_is) answered;
@@ -191,7 +191,7 @@ heeded_stays n v w calls h s =
 pub noted_goes_on : (n : Noted) (w : Walk) → HasHeeded n w → fresh.GoesOn w.setting.config (noted_history n) (history w)
 noted_goes_on n w h =
     let g = h.onward n.seen (goes_self n.seen) in
-    let front = fronts_begin w.setting g.more n.seen (subst (IsRun w.setting) g.is h.stands.run) in
+    let front = prefixes_begin w.setting g.more n.seen (subst (IsRun w.setting) g.is h.stands.run) in
     record {
       legal = subst (λ (s : Setting). Legal w.setting.config (history_of s n.seen)) (sym h.here.1) (history_is_legal w.setting n.seen h.queue.list h.queue.checked front.0);
       later_legal = h.stands.legal;

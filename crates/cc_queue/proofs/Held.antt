@@ -21,7 +21,7 @@ use Rattle.cc_runs.proofs.Ranges.{in_range}
 use Rattle.cc_audit.specs.Receipts.{send_receipt, take_receipt, sends_of, takes_of, takes_by, total_of}
 use Rattle.cc_audit.specs.Verdict.{IsVerdict, Holds, double_accept, double_take, stranger, altered, gap, disorder, overrun}
 use Rattle.cc_audit.proofs.Clean.{no_fault}
-use Rattle.cc_audit.proofs.Lawful.{fair_of}
+use Rattle.cc_audit.proofs.Legal.{fair_of}
 use Rattle.cc_audit.proofs.Orders.{same_verdict}
 use Rattle.cc_steps.specs.Topic.{Topic}
 use Rattle.cc_steps.specs.Walk.{Walk}
@@ -249,9 +249,9 @@ seen_is z [] seen some row one = absurd (omega (arith, some))
 seen_is z (w ∷ ws) seen some row one = seen_at z 0 z.setting.config.senders (w ∷ ws) seen row one 0 w (omega arith)
 
 -- the history that the first of them has seen is legal
-lawful_seen : (z : Topic) (ws : List Walk) → 0 < length ws → AreInRow z 0 z.setting.config.senders ws → All (λ w. StandsInOne w [] w) ws → Legal z.setting.config (seen_by ws)
-lawful_seen z [] some row stand = absurd (omega (arith, some))
-lawful_seen z (w ∷ ws) some row stand = subst (λ (c : Setting). Legal c.config (history w)) (row.are 0 w (omega arith)).1 (stand 0 w (omega arith)).legal
+legal_seen : (z : Topic) (ws : List Walk) → 0 < length ws → AreInRow z 0 z.setting.config.senders ws → All (λ w. StandsInOne w [] w) ws → Legal z.setting.config (seen_by ws)
+legal_seen z [] some row stand = absurd (omega (arith, some))
+legal_seen z (w ∷ ws) some row stand = subst (λ (c : Setting). Legal c.config (history w)) (row.are 0 w (omega arith)).1 (stand 0 w (omega arith)).legal
 
 -- all passes of a queue at the end, live ones and those that were given up, which have met
 module _ (z : Topic) (row : Row) (senders receivers given_up : List Walk) (checked : config_fault z.setting.config ≡ Ok tt) (all : AreAll z row senders receivers given_up) (one : HaveSeenOne senders receivers given_up) (rest : All IsAtRest senders) (ended : All HasEnded given_up) where
@@ -276,8 +276,8 @@ module _ (z : Topic) (row : Row) (senders receivers given_up : List Walk) (check
   here : seen_by their_senders ≡ h
   here = seen_is z their_senders one.seen some all.senders_are senders_have
 
-  lawful : Legal z.setting.config h
-  lawful = subst (Legal z.setting.config) here (lawful_seen z their_senders some all.senders_are (all_stand senders given_up row.senders rest ended all.senders_from))
+  legal : Legal z.setting.config h
+  legal = subst (Legal z.setting.config) here (legal_seen z their_senders some all.senders_are (all_stand senders given_up row.senders rest ended all.senders_from))
 
   sent_row : IsRow Pass.Sender h 1 their_senders
   sent_row = senders_row z their_senders one.seen all.senders_are senders_have
@@ -288,13 +288,13 @@ module _ (z : Topic) (row : Row) (senders receivers given_up : List Walk) (check
   sends_just : All (λ e. Any (λ w. e.pass ≡ name w) their_senders) h.sends.calls
   sends_just =
       all_at (λ e. Any (λ w. e.pass ≡ name w) their_senders) h.sends.calls (all_map (λ e. IsSenders z.setting.config e.pass e.call) (λ e. Any (λ w. e.pass ≡ name w) their_senders) h.sends.calls
-      (λ e is. let s = sender_of z.setting.config e.pass e.call is in subst (λ (p : Pass). Any (λ w. p ≡ name w) their_senders) (sym s.3) (one_called Pass.Sender h their_senders s.0 sent_row s.1 (omega (arith, s.2, all.senders_are.count_is)))) lawful.senders)
+      (λ e is. let s = sender_of z.setting.config e.pass e.call is in subst (λ (p : Pass). Any (λ w. p ≡ name w) their_senders) (sym s.3) (one_called Pass.Sender h their_senders s.0 sent_row s.1 (omega (arith, s.2, all.senders_are.count_is)))) legal.senders)
 
   takes_just : (g : ℕ) → All (λ e. Any (λ w. e.pass ≡ name w) their_receivers) (of_group h g).calls
   takes_just g = elim (cases_lt g z.setting.config.groups) [
     | inl inside ↦ all_at (λ e. Any (λ w. e.pass ≡ name w) their_receivers) (of_group h g).calls (all_map (λ e. IsReceivers z.setting.config g e.pass e.call) (λ e. Any (λ w. e.pass ≡ name w) their_receivers) (of_group h g).calls
-        (λ e is. let r = receiver_of z.setting.config g e.pass e.call is in subst (λ (p : Pass). Any (λ w. p ≡ name w) their_receivers) (sym r.4) (one_called Pass.Receiver h their_receivers r.0 got_row r.1 (omega (arith, r.2, all.receivers_are.count_is)))) (lawful.takes g inside).receivers)
-    | inr far ↦ subst (λ (s : Side). All (λ e. Any (λ w. e.pass ≡ name w) their_receivers) s.calls) (sym (get_or_past h.takes g silent (omega (arith, far, lawful.groups)))) (λ k d less. absurd (omega (arith, less)))
+        (λ e is. let r = receiver_of z.setting.config g e.pass e.call is in subst (λ (p : Pass). Any (λ w. p ≡ name w) their_receivers) (sym r.4) (one_called Pass.Receiver h their_receivers r.0 got_row r.1 (omega (arith, r.2, all.receivers_are.count_is)))) (legal.takes g inside).receivers)
+    | inr far ↦ subst (λ (s : Side). All (λ e. Any (λ w. e.pass ≡ name w) their_receivers) s.calls) (sym (get_or_past h.takes g silent (omega (arith, far, legal.groups)))) (λ k d less. absurd (omega (arith, less)))
   ]
 
   -- what they have seen is the history of their calls
@@ -365,7 +365,7 @@ pub are_clean : (z : Topic) (row : Row) (senders receivers given_up : List Walk)
 are_clean z row senders receivers given_up group sends takes total checked low high all one rest ended same also last =
     let cfg : Config = z.setting.config in
     let h : Record = history_of z.setting one.seen in
-    let l : Legal cfg h = lawful z row senders receivers given_up checked all one rest ended in
+    let l : Legal cfg h = legal z row senders receivers given_up checked all one rest ended in
     let part : List Last = in_group cfg group row.receivers in
     let left : List SendReceipt = receipts_left sent row.senders in
     let left' : List TakeReceipt = receipts_left got part in

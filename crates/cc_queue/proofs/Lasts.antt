@@ -5,7 +5,7 @@ use Rattle.std.proofs.lemmas.List.Sorted.{IsPermutation-refl, IsPermutation-tran
 use Rattle.std.specs.List.{All}
 use Rattle.cc_model.specs.Record.{Record}
 use Rattle.cc_model.specs.Items.{calls_of}
-use Rattle.cc_queue.specs.Names.{Config, Place}
+use Rattle.cc_queue.specs.Names.{Config, Phase}
 use Rattle.cc_runs.specs.Words.{groups}
 use Rattle.cc_steps.specs.Topic.{Topic}
 use Rattle.cc_steps.specs.Walk.{Walk}
@@ -60,8 +60,8 @@ all_just h live gone ps seen a b from k d less =
 
 -- ---- receipts that are held, and those that are left
 
-told_left : (at : Place) (calls : List Told) → told_of at calls ++ left_of at calls ≡ calls
-told_left Place.Idle calls = append-nil calls
+told_left : (at : Phase) (calls : List Told) → told_of at calls ++ left_of at calls ≡ calls
+told_left Phase.Idle calls = append-nil calls
 told_left at calls = take-append-drop (length calls - 1) calls
 
 in_two : {X : Type 0} (receipts : Told → List X) (xs ys : List Told) → receipts_in receipts (xs ++ ys) ≡ receipts_in receipts xs ++ receipts_in receipts ys
@@ -72,7 +72,7 @@ its_receipts : {X : Type 0} (receipts : Told → List X) (p : Last) → receipts
 its_receipts receipts (Live w) = sym (append-nil (receipts_in receipts (calls_of (name w) (history w))))
 its_receipts receipts (Gone w) =
     let calls : List Told = calls_of (name w) (history w) in
-    ap (receipts_in receipts) (sym (told_left w.stand.place calls)) ∙ in_two receipts (told_of w.stand.place calls) (left_of w.stand.place calls)
+    ap (receipts_in receipts) (sym (told_left w.stand.phase calls)) ∙ in_two receipts (told_of w.stand.phase calls) (left_of w.stand.phase calls)
 
 interchange : {X : Type 0} (a t b l : List X) → IsPermutation ((a ++ t) ++ (b ++ l)) ((a ++ b) ++ (t ++ l))
 interchange a t b l =

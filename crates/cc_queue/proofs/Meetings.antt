@@ -5,7 +5,7 @@ use Rattle.std.proofs.lemmas.List.{get_or_default}
 use Rattle.std.specs.List.{All}
 use native.Mathlib.Decide.{ℕ_discrete}
 use Rattle.cc_runs.specs.CallsMade.{to_exchange}
-use Rattle.cc_queue.specs.Names.{Move, Served, Stand, Place, SenderSeat, ReceiverSeat}
+use Rattle.cc_queue.specs.Names.{Move, Served, Stand, Phase, SenderSeat, ReceiverSeat}
 use Rattle.cc_steps.specs.Seen.{Later, Onward}
 use Rattle.cc_steps.specs.Shown.{longer}
 use Rattle.cc_steps.specs.Topic.{Topic}
@@ -21,20 +21,20 @@ use Rattle.cc_queue.proofs.Headline.{answers_in, stands_in_one, stands_more, sti
 -- a pass that doesn't move, whose seat has seen more
 pub met_stopped : (u v w : Walk) → v ≡ u → HasStopped v → Sees v w → HasMet u w
 met_stopped u v w is stop s = subst (λ (x : Walk). HasMet x w) is (record {
-  stands = stands_in_one v w [] s.sound (ap (λ (x : Walk). x.setting.served) s.same ∙ stop.list) (ap (λ (x : Walk). to_exchange x.stand.place) s.same ∙ still_out v.stand.place stop.still)
+  stands = stands_in_one v w [] s.sound (ap (λ (x : Walk). x.setting.served) s.same ∙ stop.list) (ap (λ (x : Walk). to_exchange x.stand.phase) s.same ∙ still_out v.stand.phase stop.still)
       (ap (λ (x : Walk). x.table_id) s.same, ap (λ (x : Walk). x.setting) s.same, ap (λ (x : Walk). x.number) s.same) s.onward (ap (λ (x : Walk). x.made) s.same ∙ sym (append-nil v.made));
   same = s.same;
 })
 
 -- an idle pass doesn't move
-idle_stopped : (v : Walk) → v.setting.served ≡ Served.List → v.stand.place ≡ Place.Idle → HasStopped v
+idle_stopped : (v : Walk) → v.setting.served ≡ Served.List → v.stand.phase ≡ Phase.Idle → HasStopped v
 idle_stopped v list at = record { list = list; still = subst IsStill (sym at) tt }
 
-pub idle_sender : (s : SenderSeat) → KeepsSender s Place.Idle → HasStopped s.seat
-idle_sender s k = idle_stopped s.seat k.list (ap (λ (z : Stand). z.place) k.stand)
+pub idle_sender : (s : SenderSeat) → KeepsSender s Phase.Idle → HasStopped s.seat
+idle_sender s k = idle_stopped s.seat k.list (ap (λ (z : Stand). z.phase) k.stand)
 
-pub idle_receiver : (r : ReceiverSeat) → KeepsReceiver r Place.Idle → HasStopped r.seat
-idle_receiver r k = idle_stopped r.seat k.list (ap (λ (z : Stand). z.place) k.stand)
+pub idle_receiver : (r : ReceiverSeat) → KeepsReceiver r Phase.Idle → HasStopped r.seat
+idle_receiver r k = idle_stopped r.seat k.list (ap (λ (z : Stand). z.phase) k.stand)
 
 -- the pass of a seat, which doesn't move
 pub met_on : (v w : Walk) → HasStopped v → Sees v w → HasMet v w
@@ -43,7 +43,7 @@ met_on v w stop s = met_stopped v v w refl stop s
 pub still_stopped : (v w : Walk) → HasStopped v → w ≡ record v { seen = w.seen } → HasStopped w
 still_stopped v w stop same = record {
   list = ap (λ (x : Walk). x.setting.served) same ∙ stop.list;
-  still = subst (λ (x : Walk). IsStill x.stand.place) (sym same) stop.still;
+  still = subst (λ (x : Walk). IsStill x.stand.phase) (sym same) stop.still;
 }
 
 -- one that has seen no more has met itself
@@ -51,10 +51,10 @@ met_still : (u v : Walk) → v ≡ u → HasStopped v → IsSound v → HasMet u
 met_still u v is stop s = subst (λ (x : Walk). HasMet x x) is (met_stopped v v v refl stop (record { same = refl; onward = λ first k. k; sound = s }))
 
 -- an idle pass, which a caller knows as u, has met itself and come to rest
-pub rests_so : (u v : Walk) (begun node : ℕ) → v ≡ u → v.setting.served ≡ Served.List → v.stand ≡ record { begun = begun; node = node; place = Place.Idle } → IsSound v → HasMet u u × IsAtRest u
+pub rests_so : (u v : Walk) (begun node : ℕ) → v ≡ u → v.setting.served ≡ Served.List → v.stand ≡ record { begun = begun; node = node; phase = Phase.Idle } → IsSound v → HasMet u u × IsAtRest u
 rests_so u v begun node is list stand s =
-    let met = met_still u v is (idle_stopped v list (ap (λ (z : Stand). z.place) stand)) s in
-    (met, record { stands = met.stands; answered = subst (λ (x : Walk). AllByRecursion HasAnswer (calls_of (name x) (history x))) is (answers_in v s (subst (λ (x : Stand). IsOut x.place) (sym stand) tt)) })
+    let met = met_still u v is (idle_stopped v list (ap (λ (z : Stand). z.phase) stand)) s in
+    (met, record { stands = met.stands; answered = subst (λ (x : Walk). AllByRecursion HasAnswer (calls_of (name x) (history x))) is (answers_in v s (subst (λ (x : Stand). IsOut x.phase) (sym stand) tt)) })
 
 pub met_more : (a b c : Walk) → HasMet a b → HasMet b c → HasMet a c
 met_more a b c f g = record { stands = stands_more a b c [] [] f.stands g.stands; same = g.same ∙ (λ i. record (f.same i) { seen = c.seen }) }

@@ -5,7 +5,7 @@ use Rattle.std.proofs.lemmas.Bool.{le-ltb}
 use Rattle.std.proofs.lemmas.Nat.{div_below}
 use Rattle.std.specs.List.{remove}
 use Rattle.cc_model.specs.Config.{config_fault}
-use Rattle.cc_queue.specs.Names.{Chain, Config, Pass, Place, Served, Setting}
+use Rattle.cc_queue.specs.Names.{Chain, Config, Pass, Phase, Served, Setting}
 use Rattle.cc_runs.specs.State.{chain_of, first_node, pass_at}
 use Rattle.cc_runs.specs.Words.{groups}
 use Rattle.cc_runs.proofs.Ranges.{InRange, in_range}
@@ -52,12 +52,12 @@ module _ (z : Topic) (c : Config) (w : Walk) (p : ℕ) (topic : z.setting ≡ re
       ∙ ap (λ (b : Bool). cond b (Pass.Sender (c.senders + p + 1)) (Pass.Receiver (c.senders + p - c.senders + 1))) behind_senders
       ∙ ap (λ (n : ℕ). Pass.Receiver (n + 1)) place_is
 
-  pub receivers_stand : w.stand ≡ record { begun = 0; node = p % c.receivers + 1; place = Place.Idle }
+  pub receivers_stand : w.stand ≡ record { begun = 0; node = p % c.receivers + 1; phase = Phase.Idle }
   receivers_stand =
       ap (λ (x : Walk). x.stand) is
-      ∙ ap (λ (x : Setting). record { begun = 0; node = first_node x.config (c.senders + p); place = Place.Idle }) topic
-      ∙ ap (λ (b : Bool). record { begun = 0; node = cond b (c.senders + p + 1) ((c.senders + p - c.senders) % c.receivers + 1); place = Place.Idle }) behind_senders
-      ∙ ap (λ (n : ℕ). record { begun = 0; node = n % c.receivers + 1; place = Place.Idle }) place_is
+      ∙ ap (λ (x : Setting). record { begun = 0; node = first_node x.config (c.senders + p); phase = Phase.Idle }) topic
+      ∙ ap (λ (b : Bool). record { begun = 0; node = cond b (c.senders + p + 1) ((c.senders + p - c.senders) % c.receivers + 1); phase = Phase.Idle }) behind_senders
+      ∙ ap (λ (n : ℕ). record { begun = 0; node = n % c.receivers + 1; phase = Phase.Idle }) place_is
 
 -- of a checked configuration: requests can be served, groups have receivers, and the places of all receivers and their groups are few
 pub some_bound : (c : Config) → config_fault c ≡ Ok tt → 0 < c.bound

@@ -1,7 +1,7 @@
 -- The number of sends that a pass has begun is kept at its place.
 use Rattle.std.proofs.Common.{◌≡◌, ℕ, ◌+◌, Bool, true, false, ◌==◌, cond, nat_lt, List, [], ◌∷◌, ◌++◌, refl, sym, ap, ◌∙◌, arith}
 use Rattle.std.proofs.lemmas.Bool.{eqb-true}
-use Rattle.cc_queue.specs.Names.{Call, Entry, Setting, Move, Stand, Place}
+use Rattle.cc_queue.specs.Names.{Call, Entry, Setting, Move, Stand, Phase}
 use Rattle.cc_runs.specs.State.{State, chain_of, pass_at, first_node, word_of}
 use Rattle.cc_runs.specs.Lines.{operation}
 use Rattle.cc_runs.specs.Step.{advanced}
@@ -40,14 +40,14 @@ none_yet true at is = is
 none_yet false at is = refl
 
 counted : (c : Setting) (moves : List Move) (p : ℕ) → ((reached c moves).stand p).begun ≡ sends_in (made c moves p)
-counted c [] p = none_yet (nat_lt p (passes c)) record { begun = 0; node = first_node c.config p; place = Place.Idle } refl
+counted c [] p = none_yet (nat_lt p (passes c)) record { begun = 0; node = first_node c.config p; phase = Phase.Idle } refl
 counted c (Move.Begin q what known ∷ earlier) p =
     let s : State = reached c earlier in
     let e : Entry = record { pass = pass_at c.config q; call = what; number = number_of what (s.stand q).begun; known = known } in
     begin_counts (q == p) (begins c.config q what known (s.stand q)) (s.stand q) (s.stand p) (made c earlier p) e (λ t. ap s.stand (eqb-true q p t)) (after_begin what (s.stand q).begun) (counted c earlier p)
 counted c (Move.Step q ∷ earlier) p =
     let s : State = reached c earlier in
-    other (q == p) (advanced c (chain_of c.config q) (s.stand q) (s.mem (word_of (operation c (chain_of c.config q) (s.stand q).node (s.stand q).place)))) (s.stand q) (s.stand p) (λ t. ap s.stand (eqb-true q p t)) refl
+    other (q == p) (advanced c (chain_of c.config q) (s.stand q) (s.mem (word_of (operation c (chain_of c.config q) (s.stand q).node (s.stand q).phase)))) (s.stand q) (s.stand p) (λ t. ap s.stand (eqb-true q p t)) refl
     ∙ counted c earlier p
 counted c (Move.Take q ∷ earlier) p =
     let s : State = reached c earlier in

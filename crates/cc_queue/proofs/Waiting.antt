@@ -5,7 +5,7 @@ use Rattle.std.specs.List.{AllByRecursion}
 use Rattle.cc_model.specs.Record.{Side, Record}
 use Rattle.cc_model.specs.Items.{HasAnswer, Begins, SideBegins, calls_of, is_pass}
 use Rattle.cc_model.specs.Legal.{Legal}
-use Rattle.cc_queue.specs.Names.{Config, Entry, Answer, Pass, Place, Move, Setting, Served}
+use Rattle.cc_queue.specs.Names.{Config, Entry, Answer, Pass, Phase, Move, Setting, Served}
 use Rattle.cc_model.specs.After.{side_of}
 use Rattle.cc_runs.specs.State.{pass_at, first_node}
 use Rattle.cc_runs.specs.Run.{IsRun, reached, history_of, passes, nowhere, begins, number_of}
@@ -13,7 +13,7 @@ use Rattle.cc_runs.specs.CallsMade.{made, to_exchange}
 use Rattle.cc_runs.specs.ChainLaws.{IsOut}
 use Rattle.cc_runs.proofs.CallsMade.{calls_made}
 use Rattle.cc_runs.proofs.EndAnswered.{calls_end}
-use Rattle.cc_runs.proofs.RunFronts.{fronts_begin}
+use Rattle.cc_runs.proofs.RunPrefixes.{prefixes_begin}
 use Rattle.cc_runs.proofs.ListRuns.Laws.{history_is_legal}
 use Rattle.cc_steps.specs.Seen.{made_in}
 use Rattle.cc_steps.specs.Walk.{Walk, IsSound}
@@ -29,7 +29,7 @@ record Front (c : Setting) (moves : List Move) (p : ℕ) : Type 0 where
   pub later : List Move
   pub earlier : List Move
   pub is : moves ≡ later ++ earlier
-  pub out : IsOut ((reached c earlier).stand p).place
+  pub out : IsOut ((reached c earlier).stand p).phase
   pub same : made c moves p ≡ made c earlier p
 
 -- one move more, by which the pass begins nothing
@@ -39,7 +39,7 @@ front_on c m moves p same f = record { later = m ∷ f.later; earlier = f.earlie
 front : (c : Setting) (moves : List Move) (p : ℕ) → Front c moves p
 front c [] p = record { later = []; earlier = []; is = refl; out = idle (nat_lt p (passes c)); same = refl }
   where
-    idle : (b : Bool) → IsOut (if b then (record { begun = 0; node = first_node c.config p; place = Place.Idle }) else nowhere).place
+    idle : (b : Bool) → IsOut (if b then (record { begun = 0; node = first_node c.config p; phase = Phase.Idle }) else nowhere).phase
     idle true = tt
     idle false = tt
 front c (Move.Begin q call known ∷ moves) p = go (q == p) refl (front c moves p)
@@ -49,7 +49,7 @@ front c (Move.Begin q call known ∷ moves) p = go (q == p) refl (front c moves 
       later = [];
       earlier = Move.Begin q call known ∷ moves;
       is = refl;
-      out = subst (λ (b : Bool). IsOut (if b then begins c.config q call known ((reached c moves).stand q) else (reached c moves).stand p).place) (sym e) tt;
+      out = subst (λ (b : Bool). IsOut (if b then begins c.config q call known ((reached c moves).stand q) else (reached c moves).stand p).phase) (sym e) tt;
       same = refl;
     }
     go false e f = front_on c (Move.Begin q call known) moves p (ap (λ (b : Bool). if b then made c moves p ++ record { pass = pass_at c.config q; call = call; number = number_of call ((reached c moves).stand q).begun; known = known } ∷ [] else made c moves p) e) f
@@ -93,39 +93,39 @@ empty_short l is = subst (λ (m : List Entry). length m ≤ 1) (sym is) (omega a
 one_short : (e : Entry) → length (e ∷ []) ≤ 1
 one_short e = omega arith
 
-exchange_short : (at : Place) → length (to_exchange at) ≤ 1
-exchange_short (Place.ResetNext call) = one_short call
-exchange_short (Place.ResetState call) = one_short call
-exchange_short (Place.Exchange call) = one_short call
+exchange_short : (at : Phase) → length (to_exchange at) ≤ 1
+exchange_short (Phase.ResetNext call) = one_short call
+exchange_short (Phase.ResetState call) = one_short call
+exchange_short (Phase.Exchange call) = one_short call
 exchange_short at = empty_short (to_exchange at) refl
 
-but_last : (w : Walk) → IsSound w → w.setting.served ≡ Served.List → to_exchange w.stand.place ≡ [] → AllByRecursion HasAnswer (take (length (calls_of (name w) (history w)) - 1) (calls_of (name w) (history w)))
+but_last : (w : Walk) → IsSound w → w.setting.served ≡ Served.List → to_exchange w.stand.phase ≡ [] → AllByRecursion HasAnswer (take (length (calls_of (name w) (history w)) - 1) (calls_of (name w) (history w)))
 unfolding made_in
 but_last w s list none =
     let c : Setting = w.setting in
     let f : Front c w.seen w.number = front c w.seen w.number in
-    let begin = fronts_begin c f.later f.earlier (subst (IsRun c) f.is s.run) in
+    let begin = prefixes_begin c f.later f.earlier (subst (IsRun c) f.is s.run) in
     let h : Record = history_of c f.earlier in
     let here : Begins h (history w) = subst (λ (l : List Move). Begins h (history_of c l)) (sym f.is) begin.1 in
     let all : AllByRecursion HasAnswer (calls_of (name w) h) = calls_end c s.checked f.earlier begin.0 w.number s.below f.out in
-    let were : made c f.earlier w.number ≡ map (λ z. z.0) (calls_of (name w) h) ++ to_exchange ((reached c f.earlier).stand w.number).place = calls_made c s.checked f.earlier begin.0 w.number s.below in
+    let were : made c f.earlier w.number ≡ map (λ z. z.0) (calls_of (name w) h) ++ to_exchange ((reached c f.earlier).stand w.number).phase = calls_made c s.checked f.earlier begin.0 w.number s.below in
     let are : map (λ z. z.0) (calls_of (name w) (history w)) ≡ made c w.seen w.number = calls_in w s none ∙ s.shows.1 in
-    let both : map (λ z. z.0) (calls_of (name w) (history w)) ≡ map (λ z. z.0) (calls_of (name w) h) ++ to_exchange ((reached c f.earlier).stand w.number).place = are ∙ f.same ∙ were in
+    let both : map (λ z. z.0) (calls_of (name w) (history w)) ≡ map (λ z. z.0) (calls_of (name w) h) ++ to_exchange ((reached c f.earlier).stand w.number).phase = are ∙ f.same ∙ were in
     let long : length (calls_of (name w) (history w)) ≡ length (map (λ z. z.0) (calls_of (name w) (history w))) = sym (length-map (calls_of (name w) (history w)) (λ z. z.0)) in
     let was : length (map (λ z. z.0) (calls_of (name w) h)) ≡ length (calls_of (name w) h) = length-map (calls_of (name w) h) (λ z. z.0) in
-    let sum = ap length both ∙ length-append (map (λ z. z.0) (calls_of (name w) h)) (to_exchange ((reached c f.earlier).stand w.number).place) in
-    let short = exchange_short ((reached c f.earlier).stand w.number).place in
+    let sum = ap length both ∙ length-append (map (λ z. z.0) (calls_of (name w) h)) (to_exchange ((reached c f.earlier).stand w.number).phase) in
+    let short = exchange_short ((reached c f.earlier).stand w.number).phase in
     all_fewer (length (calls_of (name w) (history w)) - 1) (length (calls_of (name w) h)) (calls_of (name w) (history w)) (omega (arith, long, was, sum, short))
     (stay_answered c.config (name w) h (history w) (history_is_legal c f.earlier list s.checked begin.0) (history_is_legal c w.seen list s.checked s.run) here all)
 
-told_answered : (at : Place) (calls : List Told) → IsStill at → (IsOut at → AllByRecursion HasAnswer calls) → AllByRecursion HasAnswer (take (length calls - 1) calls) → AllByRecursion HasAnswer (told_of at calls)
-told_answered Place.Idle calls is whole rest = whole tt
-told_answered Place.ReadState calls is whole rest = rest
+told_answered : (at : Phase) (calls : List Told) → IsStill at → (IsOut at → AllByRecursion HasAnswer calls) → AllByRecursion HasAnswer (take (length calls - 1) calls) → AllByRecursion HasAnswer (told_of at calls)
+told_answered Phase.Idle calls is whole rest = whole tt
+told_answered Phase.ReadState calls is whole rest = rest
 told_answered at calls is whole rest = absurd is
 
 -- a pass that was given up, which a caller knows as u
 pub ended_so : (u v : Walk) → v ≡ u → HasStopped v → IsSound v → HasEnded u
 ended_so u v is stop s = subst HasEnded is (record {
   stands = stopped_stands v v refl stop s;
-  answered = told_answered v.stand.place (calls_of (name v) (history v)) stop.still (λ out. answers_in v s out) (but_last v s stop.list (still_out v.stand.place stop.still));
+  answered = told_answered v.stand.phase (calls_of (name v) (history v)) stop.still (λ out. answers_in v s out) (but_last v s stop.list (still_out v.stand.phase stop.still));
 })

@@ -1,7 +1,7 @@
 -- A loop over the words of a body: the places after a step on a word.
 use Rattle.std.proofs.Common.{◌≡◌, ℕ, ◌+◌, ◌<◌, Bool, true, false, cond, nat_lt, None, ap, ◌∙◌, subst, arith}
 use Rattle.std.proofs.lemmas.Bool.{lt-ltb}
-use Rattle.cc_queue.specs.Names.{Event, Kind, Place, Stand}
+use Rattle.cc_queue.specs.Names.{Event, Kind, Phase, Stand}
 use Rattle.cc_runs.specs.Codes.{behind}
 use Rattle.cc_runs.specs.Lines.{event_at}
 use Rattle.cc_runs.specs.State.{chain_of}
@@ -12,10 +12,10 @@ use Rattle.cc_queue.proofs.Service.{one_step}
 use Rattle.cc_queue.specs.Work.{Serves, reads, marks, hands, scans}
 
 -- a pass that came to the first place is at the second one, once an answer is taken
-abbrev pub Settles : Place → Place → Type 0
-Settles p q = (z : Stand) → settled (record z { place = p }) ≡ record z { place = q }
+abbrev pub Settles : Phase → Phase → Type 0
+Settles p q = (z : Stand) → settled (record z { phase = p }) ≡ record z { phase = q }
 
-settles_either : (b : Bool) (p q x y : Place) → Settles p q → Settles x y → Settles (cond b p x) (cond b q y)
+settles_either : (b : Bool) (p q x y : Phase) → Settles p q → Settles x y → Settles (cond b p x) (cond b q y)
 settles_either true p q x y one other = one
 settles_either false p q x y one other = other
 
@@ -24,17 +24,17 @@ abbrev pub IsUncounted : Kind → Type 0
 IsUncounted k = (reads k ≡ 0) × (marks k ≡ 0) × (hands k ≡ 0) × (scans k ≡ 0)
 
 -- one step, which isn't counted
-stepped : (v s r : Walk) (k : Kind) (here to on : Place) (found : ℕ) → Serves v here 0 s → r ≡ walked_to s None found r.seen → Onward s.seen r.seen → event_at here ≡ Event.Did k → IsUncounted k
-    → ((z : Stand) → advanced v.setting (chain_of v.setting.config v.number) (record z { place = here }) found ≡ record z { place = to }) → Settles to on → Serves v on 0 r
+stepped : (v s r : Walk) (k : Kind) (here to on : Phase) (found : ℕ) → Serves v here 0 s → r ≡ walked_to s None found r.seen → Onward s.seen r.seen → event_at here ≡ Event.Did k → IsUncounted k
+    → ((z : Stand) → advanced v.setting (chain_of v.setting.config v.number) (record z { phase = here }) found ≡ record z { phase = to }) → Settles to on → Serves v on 0 r
 stepped v s r k here to on found at step later event uncounted goes settles =
     subst (λ (n : ℕ). Serves v on n r) (omega (arith, uncounted.3))
     (one_step v s r k here on 0 found at step later event (uncounted.0, uncounted.1, uncounted.2) (λ z. ap settled (goes z) ∙ settles z))
 
 -- a word after others, while there is one left
-pub at_word : (v s : Walk) (here on : Place) (further i : ℕ) → Serves v (behind further i here on) 0 s → i < further → Serves v here 0 s
+pub at_word : (v s : Walk) (here on : Phase) (further i : ℕ) → Serves v (behind further i here on) 0 s → i < further → Serves v here 0 s
 at_word v s here on further i at less = subst (λ (b : Bool). Serves v (cond b here on) 0 s) (lt-ltb i further less) at
 
-pub next_word : (v s r : Walk) (k : Kind) (here before next last on : Place) (further i found : ℕ) → Serves v (behind further i here before) 0 s → i < further → r ≡ walked_to s None found r.seen → Onward s.seen r.seen → event_at here ≡ Event.Did k → IsUncounted k
-    → ((z : Stand) → advanced v.setting (chain_of v.setting.config v.number) (record z { place = here }) found ≡ record z { place = behind further (i + 1) next last }) → Settles next next → Settles last on → Serves v (behind further (i + 1) next on) 0 r
+pub next_word : (v s r : Walk) (k : Kind) (here before next last on : Phase) (further i found : ℕ) → Serves v (behind further i here before) 0 s → i < further → r ≡ walked_to s None found r.seen → Onward s.seen r.seen → event_at here ≡ Event.Did k → IsUncounted k
+    → ((z : Stand) → advanced v.setting (chain_of v.setting.config v.number) (record z { phase = here }) found ≡ record z { phase = behind further (i + 1) next last }) → Settles next next → Settles last on → Serves v (behind further (i + 1) next on) 0 r
 next_word v s r k here before next last on further i found at less step later event uncounted goes stays ends =
     stepped v s r k here (behind further (i + 1) next last) (behind further (i + 1) next on) found (at_word v s here before further i at less) step later event uncounted goes (settles_either (nat_lt (i + 1) further) next next last on stays ends)

@@ -1,6 +1,6 @@
 -- The results of the begin of a call and of each of its turns.
 use Rattle.std.specs.Prelude.{◌≡◌, ℕ, ◌+◌, ◌*◌, ◌≤◌, ◌==◌, if◌then◌else◌, List, [], ◌∷◌, ◌++◌}
-use Rattle.cc_queue.specs.Names.{Body, Call, Entry, SendAnswer, TakeAnswer, Answer, Kind, Place}
+use Rattle.cc_queue.specs.Names.{Body, Call, Entry, SendAnswer, TakeAnswer, Answer, Kind, Phase}
 use Rattle.cc_runs.specs.ChainLaws.{IsLastAnswer}
 use Rattle.cc_runs.specs.ChainLaws.{IsLastPending}
 use Rattle.cc_runs.specs.Run.{begun_after}
@@ -16,12 +16,12 @@ use Rattle.cc_queue.specs.Headline.{StandsInOne, entry_of, name, history}
 pub record Begun (v : Walk) (call : Call) (w : Walk) : Type 0 where
   pub stands : StandsInOne v (entry_of v call ∷ []) w
   pub pending : IsLastPending (name w) (history w)
-  pub linked : w.stand.place ≡ Place.ReadState
+  pub linked : w.stand.phase ≡ Phase.ReadState
   pub begun : w.stand.begun ≡ begun_after call v.stand.begun
   pub reads : tally reads w.did ≡ tally reads v.did
   pub marks : tally marks w.did ≡ tally marks v.did
 
--- A turn that waits did one step, a read of the state which gave 1: the call is in its place.
+-- A turn that waits did one step, a read of the state which gave 1: the call is in its phase.
 pub record Waited (v w : Walk) : Type 0 where
   pub stands : StandsInOne v [] w
   pub still : w.stand ≡ v.stand

@@ -1,8 +1,8 @@
 -- Each answer belongs to one history, that of a run of single steps, which begins with all that the caller had seen.
-use Rattle.std.specs.Prelude.{◌≡◌, List, [], ◌++◌, map}
+use Rattle.std.specs.Prelude.{◌≡◌, List, [], ◌++◌}
 use Rattle.std.specs.List.{AllByRecursion}
 use Rattle.cc_model.specs.Record.{Record}
-use Rattle.cc_model.specs.Items.{HasAnswer, Begins, calls_of}
+use Rattle.cc_model.specs.Items.{HasAnswer, Begins, calls_of, calls_made_by}
 use Rattle.cc_model.specs.Legal.{Legal}
 use Rattle.cc_model.specs.Fifo.{Fifo}
 use Rattle.cc_queue.specs.Names.{Call, Entry, Pass}
@@ -33,10 +33,11 @@ pub record StandsInOne (v : Walk) (calls : List Entry) (w : Walk) : Type 0 where
   pub onward : Onward v.seen w.seen
   pub begins : Begins (history v) (history w)
   pub legal : Legal w.setting.config (history w)
+  -- follows from `legal` (LegalGivesFifo)
   pub fifo : Fifo (history w)
   pub linearizable : IsLinearizable w.setting w.seen
   pub made : w.made ≡ v.made ++ calls
-  pub calls_are : map (λ z. z.0) (calls_of (name w) (history w)) ≡ w.made
+  pub calls_are : calls_made_by (name w) (history w) ≡ w.made
 
 -- A pass has come to rest: all that it has seen is one history, in which each of its calls has its answer.
 pub record IsAtRest (w : Walk) : Type 0 where

@@ -4,6 +4,7 @@ use Rattle.std.specs.List.{All}
 use Rattle.cc_queue.specs.Names.{Move}
 use Rattle.cc_steps.specs.Topic.{Topic}
 use Rattle.cc_steps.specs.Seen.{Onward, Later}
+use Rattle.cc_steps.specs.Shown.{longer}
 use Rattle.cc_steps.specs.Walk.{Walk, IsOf, IsSound}
 use Rattle.cc_queue.specs.Headline.{StandsInOne}
 use Rattle.cc_queue.specs.Passes.{HasStopped}
@@ -29,7 +30,14 @@ pub record HasMet (v w : Walk) : Type 0 where
   pub stands : StandsInOne v [] w
   pub same : w ≡ record v { seen = w.seen }
 
--- each pass of a list did
+-- Two passes have met: both have seen now what the one that knew more had seen.
+pub record HaveMet (v w v' w' : Walk) : Type 0 where
+  pub one : HasMet v v'
+  pub other : HasMet w w'
+  pub seen : w'.seen ≡ v'.seen
+  pub longest : v'.seen ≡ longer v.seen w.seen
+
+-- each pass of a list has seen more, and did nothing
 abbrev pub EachHasMet : List Walk → List Walk → Type 0
 EachHasMet old new = (k : ℕ) (d : Walk) → k < length old → HasMet (slice_index_or old k d) (slice_index_or new k d)
 

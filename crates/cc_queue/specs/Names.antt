@@ -1,4 +1,4 @@
--- The types that specs, proofs and contracts of this crate speak of. A variant comes after its type, as `Place.Idle`.
+-- The types that specs, proofs and contracts of this crate speak of. A variant comes after its type, as `Phase.Idle`.
 pub use Rattle.cc_model.specs.declared.body.Body.{Body}
 pub use Rattle.cc_model.specs.declared.call.Pass.{Pass}
 pub use Rattle.cc_model.specs.declared.call.Call.{Call}
@@ -9,16 +9,16 @@ pub use Rattle.cc_model.specs.declared.call.TakeAnswer.{TakeAnswer}
 pub use Rattle.cc_model.specs.declared.call.Answer.{Answer}
 pub use Rattle.cc_model.specs.declared.call.Entry.{Entry}
 pub use Rattle.cc_model.specs.declared.config.Config.{Config}
-pub use Rattle.cc_runs.specs.declared.place.Kind.{Kind}
-pub use Rattle.cc_runs.specs.declared.place.Event.{Event}
-pub use Rattle.cc_runs.specs.declared.place.BodyWords.{BodyWords}
-pub use Rattle.cc_runs.specs.declared.place.Parcel.{Parcel}
-pub use Rattle.cc_runs.specs.declared.place.Round.{Round}
-pub use Rattle.cc_runs.specs.declared.place.Job.{Job}
-pub use Rattle.cc_runs.specs.declared.place.Sending.{Sending}
-pub use Rattle.cc_runs.specs.declared.place.Taking.{Taking}
-pub use Rattle.cc_runs.specs.declared.place.Place.{Place}
-pub use Rattle.cc_runs.specs.declared.place.Stand.{Stand}
+pub use Rattle.cc_runs.specs.declared.phase.Kind.{Kind}
+pub use Rattle.cc_runs.specs.declared.phase.Event.{Event}
+pub use Rattle.cc_runs.specs.declared.phase.BodyWords.{BodyWords}
+pub use Rattle.cc_runs.specs.declared.phase.Parcel.{Parcel}
+pub use Rattle.cc_runs.specs.declared.phase.Round.{Round}
+pub use Rattle.cc_runs.specs.declared.phase.Job.{Job}
+pub use Rattle.cc_runs.specs.declared.phase.Sending.{Sending}
+pub use Rattle.cc_runs.specs.declared.phase.Taking.{Taking}
+pub use Rattle.cc_runs.specs.declared.phase.Phase.{Phase}
+pub use Rattle.cc_runs.specs.declared.phase.Stand.{Stand}
 pub use Rattle.cc_runs.specs.declared.run.Move.{Move}
 pub use Rattle.cc_runs.specs.declared.setting.Served.{Served}
 pub use Rattle.cc_runs.specs.declared.setting.Setting.{Setting}

@@ -2,7 +2,7 @@
 use Rattle.std.specs.Arc.{arc_value}
 use Rattle.std.specs.Prelude.{◌≡◌, ◌<◌, ◌≤◌, List, [], ◌∷◌, ◌++◌, Ok}
 use Rattle.cc_model.specs.Config.{config_fault}
-use Rattle.cc_queue.specs.Names.{Config, Call, Entry, Pass, Served, Chain, Place, SenderSeat, ReceiverSeat}
+use Rattle.cc_queue.specs.Names.{Config, Call, Entry, Pass, Served, Chain, Phase, SenderSeat, ReceiverSeat}
 use Rattle.cc_steps.specs.Topic.{Topic}
 use Rattle.cc_steps.specs.Walk.{Walk, IsOf}
 use Rattle.cc_queue.specs.Work.{IsOn}
@@ -15,11 +15,11 @@ pub record KeepsQueue (z : Topic) (c : Config) : Type 0 where
   pub bound : 0 < c.bound
 
 -- This is the sender of this seat. The seat is one of its queue's words.
-pub record KeepsSender (s : SenderSeat) (at : Place) : Type 0 where
+pub record KeepsSender (s : SenderSeat) (at : Phase) : Type 0 where
   pub here : IsOf (arc_value s.words) s.seat
   pub list : s.seat.setting.served ≡ Served.List
   pub chain : IsOn s.seat Chain.Send
-  pub stand : s.seat.stand ≡ record { begun = s.begun; node = s.node; place = at }
+  pub stand : s.seat.stand ≡ record { begun = s.begun; node = s.node; phase = at }
   pub limit_is : s.limit ≡ s.seat.setting.config.per_sender
   pub few : s.begun ≤ s.limit
   pub named : name s.seat ≡ Pass.Sender s.number
@@ -27,24 +27,24 @@ pub record KeepsSender (s : SenderSeat) (at : Place) : Type 0 where
   pub high : s.number ≤ 64
 
 -- This is the receiver of this seat.
-pub record KeepsReceiver (r : ReceiverSeat) (at : Place) : Type 0 where
+pub record KeepsReceiver (r : ReceiverSeat) (at : Phase) : Type 0 where
   pub here : IsOf (arc_value r.words) r.seat
   pub list : r.seat.setting.served ≡ Served.List
   pub chain : IsOn r.seat (Chain.Take r.group)
   pub few : r.group < 8
-  pub stand : r.seat.stand ≡ record { begun = 0; node = r.node; place = at }
+  pub stand : r.seat.stand ≡ record { begun = 0; node = r.node; phase = at }
   pub named : name r.seat ≡ Pass.Receiver r.number
 
 -- a pass can be abandoned if it has no call, and if its call waits
-abbrev pub IsStill : Place → Type 0
-IsStill Place.Idle = Unit {0}
-IsStill Place.ReadState = Unit {0}
+abbrev pub IsStill : Phase → Type 0
+IsStill Phase.Idle = Unit {0}
+IsStill Phase.ReadState = Unit {0}
 IsStill _ = ⊥
 
 -- a pass of a list that is so
 pub record HasStopped (w : Walk) : Type 0 where
   pub list : w.setting.served ≡ Served.List
-  pub still : IsStill w.stand.place
+  pub still : IsStill w.stand.phase
 
 -- a pass that was given up, by its name
 pub record KeepsGivenUp (w : Walk) (p : Pass) : Type 0 where

@@ -2,8 +2,8 @@
 use Rattle.std.specs.Prelude.{◌≡◌, ℕ, ◌+◌, ◌*◌, ◌-◌, ◌<◌, List, [], ◌∷◌, ◌++◌, length, map, take, drop, slice_index_or, slice_range, Option, Some, None}
 use Rattle.std.specs.List.{All, AllByRecursion, Any}
 use Rattle.cc_model.specs.Record.{Record, empty, of_group}
-use Rattle.cc_model.specs.Items.{HasAnswer, accepted_item, calls_of}
-use Rattle.cc_queue.specs.Names.{Entry, Answer, Place, SendReceipt, TakeReceipt, Config}
+use Rattle.cc_model.specs.Items.{HasAnswer, accepted_item, calls_of, calls_made_by}
+use Rattle.cc_queue.specs.Names.{Entry, Answer, Phase, SendReceipt, TakeReceipt, Config}
 use Rattle.cc_audit.specs.Receipts.{send_receipt, take_receipt, total_of}
 use Rattle.cc_runs.specs.Words.{groups}
 use Rattle.cc_steps.specs.Topic.{Topic}
@@ -73,23 +73,23 @@ receipts_by receipts [] = []
 receipts_by receipts (w ∷ ws) = receipts_in receipts (calls_of (name w) (history w)) ++ receipts_by receipts ws
 
 -- of the calls of a pass that was abandoned here: those whose answers it got, which are all but one that it left waiting
-abbrev pub told_of : Place → List (Entry × Option Answer) → List (Entry × Option Answer)
-told_of Place.Idle calls = calls
+abbrev pub told_of : Phase → List (Entry × Option Answer) → List (Entry × Option Answer)
+told_of Phase.Idle calls = calls
 told_of _ calls = take (length calls - 1) calls
 
 -- and that one, which may have its answer meanwhile
-abbrev pub left_of : Place → List (Entry × Option Answer) → List (Entry × Option Answer)
-left_of Place.Idle calls = []
+abbrev pub left_of : Phase → List (Entry × Option Answer) → List (Entry × Option Answer)
+left_of Phase.Idle calls = []
 left_of _ calls = drop (length calls - 1) calls
 
 -- the same of a pass at the end, in a history: a live one got all its answers
 abbrev pub told_in : Record → Last → List (Entry × Option Answer)
 told_in h (Live w) = calls_of (name w) h
-told_in h (Gone w) = told_of w.stand.place (calls_of (name w) h)
+told_in h (Gone w) = told_of w.stand.phase (calls_of (name w) h)
 
 abbrev pub left_in : Record → Last → List (Entry × Option Answer)
 left_in h (Live w) = []
-left_in h (Gone w) = left_of w.stand.place (calls_of (name w) h)
+left_in h (Gone w) = left_of w.stand.phase (calls_of (name w) h)
 
 -- the receipts that these passes hold: of the calls whose answers they got
 abbrev pub receipts_told : {X : Type 0} → (Entry × Option Answer → List X) → List Last → List X
@@ -108,7 +108,7 @@ IsTotal h (Some total) = total_of h ≡ Some total
 
 -- The history has of a pass exactly the calls that it made, and each whose answer it got has its answer.
 pub record HasJustItsCalls (h : Record) (p : Last) : Type 0 where
-  pub made : map (λ z. z.0) (calls_of (name (walk_at p)) h) ≡ (walk_at p).made
+  pub made : calls_made_by (name (walk_at p)) h ≡ (walk_at p).made
   pub answered : AllByRecursion HasAnswer (told_in h p)
 
 -- The history is that of these passes: each call is of one of them, and of each of them it has exactly those that it made.
@@ -122,4 +122,4 @@ pub record HasJustCallsOf (row : Row) (h : Record) : Type 0 where
 -- A pass was abandoned here: all that it has seen is one history, in which each call whose answer it got has its answer.
 pub record HasEnded (w : Walk) : Type 0 where
   pub stands : StandsInOne w [] w
-  pub answered : AllByRecursion HasAnswer (told_of w.stand.place (calls_of (name w) (history w)))
+  pub answered : AllByRecursion HasAnswer (told_of w.stand.phase (calls_of (name w) (history w)))

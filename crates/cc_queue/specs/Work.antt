@@ -1,6 +1,6 @@
--- A part of a call, as its seat sees it: the place that its pass has come to, and the steps that it did.
-use Rattle.std.specs.Prelude.{◌≡◌, ℕ, ◌≤◌, ◌+◌, ◌==◌, if◌then◌else◌, ◌*◌, List, [], ◌∷◌, ◌++◌}
-use Rattle.cc_queue.specs.Names.{Call, Config, Served, Chain, Place, Stand, Kind}
+-- A part of a call, as its seat sees it: the phase that its pass has come to, and the steps that it did.
+use Rattle.std.specs.Prelude.{◌≡◌, ℕ, ◌<◌, ◌≤◌, ◌+◌, ◌==◌, if◌then◌else◌, ◌*◌, List, [], ◌∷◌, ◌++◌}
+use Rattle.cc_queue.specs.Names.{Call, Config, Served, Chain, Phase, Stand, Kind}
 use Rattle.cc_runs.specs.State.{chain_of}
 use Rattle.cc_steps.specs.Seen.{Onward}
 use Rattle.cc_steps.specs.Topic.{Topic}
@@ -27,6 +27,12 @@ pub record IsServing (z : Topic) (c : Config) (x : Chain) (w : Walk) : Type 0 wh
   pub list : IsListWith w c
   pub chain : IsOn w x
 
+-- the pass of this seat can do a turn: it is on this chain of a list with this configuration, and reads the state of this node next
+pub record CanTurn (z : Topic) (c : Config) (x : Chain) (n : ℕ) (w : Walk) : Type 0 where
+  pub here : IsServing z c x w
+  pub at : w.stand ≡ record { begun = w.stand.begun; node = n; phase = Phase.ReadState }
+  pub bound : 0 < c.bound
+
 -- how often it did such steps
 abbrev pub tally : (Kind → ℕ) → List Kind → ℕ
 tally f [] = 0
@@ -52,13 +58,13 @@ abbrev pub scans : Kind → ℕ
 scans Kind.ReadPassed = 1
 scans _ = 0
 
--- the pass has gone on in its call to this place, and has seen and done more
-abbrev pub worked_to : Walk → Place → Walk → Walk
-worked_to v at w = record v { seen = w.seen; did = w.did; stand = record v.stand { place = at } }
+-- the pass has gone on in its call to this phase, and has seen and done more
+abbrev pub worked_to : Walk → Phase → Walk → Walk
+worked_to v at w = record v { seen = w.seen; did = w.did; stand = record v.stand { phase = at } }
 
--- the place of a combiner at the end of a round
-abbrev pub round_place : ℕ → ℕ → ℕ → Place
-round_place bound at served = if served == bound then Place.HandOver at else Place.ReadNext record { at = at; served = served }
+-- the phase of a combiner at the end of a round
+abbrev pub round_phase : ℕ → ℕ → ℕ → Phase
+round_phase bound at served = if served == bound then Phase.HandOver at else Phase.ReadNext record { at = at; served = served }
 
 -- Of the steps that are counted: how many states a pass read, requests it marked, hand-overs it made, and at most how often it
 -- looked whether a list node is free.
@@ -80,8 +86,8 @@ combined c served hands = record { reads = 0; marks = served; hands = hands; sca
 abbrev pub turned : Config → (served : ℕ) → Tally
 turned c served = record { reads = 1; marks = served; hands = if served == 0 then 0 else 1; scans = served * (c.capacity + 1) }
 
--- Within its call the pass has gone on to this place, and did so much on the way.
-pub record Works (v : Walk) (at : Place) (done : Tally) (w : Walk) : Type 0 where
+-- Within its call the pass has gone on to this phase, and did so much on the way.
+pub record Works (v : Walk) (at : Phase) (done : Tally) (w : Walk) : Type 0 where
   pub worked : w ≡ worked_to v at w
   pub reads : tally reads w.did ≡ done.reads + tally reads v.did
   pub marks : tally marks w.did ≡ done.marks + tally marks v.did
@@ -90,16 +96,16 @@ pub record Works (v : Walk) (at : Place) (done : Tally) (w : Walk) : Type 0 wher
   pub later : Onward v.seen w.seen
 
 -- the same within the service of one request
-abbrev pub Serves : Walk → Place → (most : ℕ) → Walk → Type 0
+abbrev pub Serves : Walk → Phase → (most : ℕ) → Walk → Type 0
 Serves v at most w = Works v at (looked most) w
 
 -- the pass read its state once, which says that its call waits
 pub record Waits (v w : Walk) : Type 0 where
-  pub worked : w ≡ worked_to v Place.ReadState w
+  pub worked : w ≡ worked_to v Phase.ReadState w
   pub did : w.did ≡ Kind.ReadState ∷ v.did
   pub later : Onward v.seen w.seen
 
--- the pass began this call, by which it came to this place, and neither read a state nor marked a request
+-- the pass began this call, by which it came to this phase, and neither read a state nor marked a request
 pub record Enters (v : Walk) (call : Call) (at : Stand) (w : Walk) : Type 0 where
   pub same : IsSameSeat v w
   pub stand : w.stand ≡ at

@@ -1,6 +1,6 @@
 //! The begin of a call, over its seat: from the reset of the own node to its link.
 ghost use Rattle.std.specs.Prelude.{◌≡◌, ◌+◌, ◌<◌, ◌≤◌, ◌^◌, ◌∷◌, ◌++◌, [], Some, None};
-ghost use Rattle.cc_queue.specs.Names.{Call, Chain, Place};
+ghost use Rattle.cc_queue.specs.Names.{Call, Chain, Phase};
 ghost use Rattle.cc_runs.specs.Codes.{request_in};
 ghost use Rattle.cc_runs.specs.Lines.{after_exchange};
 ghost use Rattle.cc_runs.specs.Run.{begun_after};
@@ -21,9 +21,9 @@ use cc_steps::words::Words;
 fn exchange(words: &Words, seat: &mut PassSeat, chain: Chain, node: u64, call: Call) -> u64
     requires here { IsOf words.now seat.old }
     requires chain { IsOn seat.old chain }
-    requires idle { seat.old.stand ≡ record { begun = seat.old.stand.begun; node = node; place = Place.Idle } }
+    requires idle { seat.old.stand ≡ record { begun = seat.old.stand.begun; node = node; phase = Phase.Idle } }
     requires may { CanStart seat.old.setting seat.old.number (Some call) seat.old.stand }
-    ensures entered { Enters seat.old call record { begun = begun_after call seat.old.stand.begun; node = result; place = after_exchange chain node (entry_of seat.old call) } seat.new }
+    ensures entered { Enters seat.old call record { begun = begun_after call seat.old.stand.begun; node = result; phase = after_exchange chain node (entry_of seat.old call) } seat.new }
     ensures ready { IsReadyToStep seat.new }
 {
     steps::reset_next(words, seat, chain, node, call);
@@ -43,10 +43,10 @@ pub fn begin_request(
 ) -> u64
     requires here { IsOf words.now seat.old }
     requires chain { IsOn seat.old Chain.Send }
-    requires idle { seat.old.stand ≡ record { begun = seat.old.stand.begun; node = node; place = Place.Idle } }
+    requires idle { seat.old.stand ≡ record { begun = seat.old.stand.begun; node = node; phase = Phase.Idle } }
     requires may { CanStart seat.old.setting seat.old.number (Some call) seat.old.stand }
     requires request { request ≡ request_in (entry_of seat.old call) }
-    ensures entered { Enters seat.old call record { begun = begun_after call seat.old.stand.begun; node = result; place = Place.ReadState } seat.new }
+    ensures entered { Enters seat.old call record { begun = begun_after call seat.old.stand.begun; node = result; phase = Phase.ReadState } seat.new }
     ensures pending { IsPendingIn seat.new }
 {
     let got = exchange(words, seat, Chain::Send, node, call);
@@ -59,9 +59,9 @@ pub fn begin_request(
 /// Begins a take: links the node that the exchange left, which is given, to the own one.
 pub fn begin_take(words: &Words, seat: &mut PassSeat, group: u32, node: u64) -> u64
     requires here { IsOnList words.now (Chain.Take group) seat.old }
-    requires idle { seat.old.stand ≡ record { begun = seat.old.stand.begun; node = node; place = Place.Idle } }
+    requires idle { seat.old.stand ≡ record { begun = seat.old.stand.begun; node = node; phase = Phase.Idle } }
     requires few { seat.old.stand.begun ≤ seat.old.setting.config.per_sender }
-    ensures entered { Enters seat.old Call.Take record { begun = seat.old.stand.begun; node = result; place = Place.ReadState } seat.new }
+    ensures entered { Enters seat.old Call.Take record { begun = seat.old.stand.begun; node = result; phase = Phase.ReadState } seat.new }
     ensures pending { IsPendingIn seat.new }
 {
     let chain = Chain::Take(group);

@@ -1,87 +1,17 @@
-//! Calls that wait for their answer: turns, with a back-off between them.
-ghost use Rattle.std.specs.Prelude.{◌≡◌, ◌<◌, ◌≤◌, [], IfOk, OnOk, IfErr, OnErr};
+//! Calls that wait for their answer.
+ghost use Rattle.std.specs.Prelude.{◌≡◌, ◌<◌, ◌≤◌, IfOk, OnOk, IfErr, OnErr};
 ghost use Rattle.cc_queue.specs.Names.{Answer, Call, SendAnswer};
 ghost use Rattle.cc_steps.specs.Walk.{IsOf};
-ghost use Rattle.cc_queue.specs.Headline.{StandsInOne};
-ghost use Rattle.cc_queue.specs.Calls.{Completed, Ended, SentUntil, TakenUntil, Tried};
+ghost use Rattle.cc_queue.specs.Calls.{Completed, SentUntil, TakenUntil, Tried};
 
-use crate::passes::{
-    CloseTurn, PendingClose, PendingSend, PendingTake, Receiver, SendTurn, Sender, TakeTurn,
-};
+use crate::passes::{Receiver, Sender};
+use crate::pending::wait_for_answer;
 use crate::queue::Queue;
-use crate::receiver::{begin_take, turn_take};
-use crate::sender::{begin_close, begin_send, turn_close, turn_send};
+use crate::receiver::begin_take;
+use crate::sender::{begin_close, begin_send};
 use cc_model::{Body, CloseAnswer, SendAnswer, TakeAnswer};
 use crossbeam_utils::Backoff;
 use std::sync::Wait;
-
-/// Waits for the answer of a send.
-#[inline(always)]
-fn await_send<R: Wait>(queue: &Queue, rt: &R, pending: PendingSend) -> (Sender, SendAnswer)
-    requires { IsOf queue.now pending }
-    ensures { Ended pending (Answer.Send result.1) result.0 }
-{
-    let backoff = Backoff::new();
-    let mut pending = pending;
-    pending.is_sound();
-    for _ in rt.forever() {
-        match turn_send(queue, pending) {
-            SendTurn::Waiting(same) => pending = same,
-            SendTurn::Done {
-                sender,
-                answer,
-                served: _,
-            } => return (sender, answer),
-        }
-        backoff.snooze();
-    }
-    unreachable!()
-}
-
-/// Waits for the answer of a close.
-fn await_close<R: Wait>(queue: &Queue, rt: &R, pending: PendingClose) -> (Sender, CloseAnswer)
-    requires { IsOf queue.now pending }
-    ensures { Ended pending (Answer.Close result.1) result.0 }
-{
-    let backoff = Backoff::new();
-    let mut pending = pending;
-    pending.is_sound();
-    for _ in rt.forever() {
-        match turn_close(queue, pending) {
-            CloseTurn::Waiting(same) => pending = same,
-            CloseTurn::Done {
-                sender,
-                answer,
-                served: _,
-            } => return (sender, answer),
-        }
-        backoff.snooze();
-    }
-    unreachable!()
-}
-
-/// Waits for the answer of a take.
-#[inline(always)]
-fn await_take<R: Wait>(queue: &Queue, rt: &R, pending: PendingTake) -> (Receiver, TakeAnswer)
-    requires { IsOf queue.now pending }
-    ensures { Ended pending (Answer.Take result.1) result.0 }
-{
-    let backoff = Backoff::new();
-    let mut pending = pending;
-    pending.is_sound();
-    for _ in rt.forever() {
-        match turn_take(queue, pending) {
-            TakeTurn::Waiting(same) => pending = same,
-            TakeTurn::Done {
-                receiver,
-                answer,
-                served: _,
-            } => return (receiver, answer),
-        }
-        backoff.snooze();
-    }
-    unreachable!()
-}
 
 /// Sends this body, and waits for the answer; it doesn't try again if the queue was full. Err hands the sender back
 /// unchanged, if it has begun as many sends as one sender may.
@@ -99,7 +29,8 @@ pub fn send<R: Wait>(
     ensures worn { OnErr result (sender.setting.config.per_sender ≤ sender.stand.begun) }
 {
     let pending = begin_send(queue, sender, body)?;
-    Ok(await_send(queue, rt, pending))
+    pending.is_sound();
+    Ok(wait_for_answer(queue, rt, pending))
 }
 
 /// Closes the queue, and waits for the answer.
@@ -108,7 +39,8 @@ pub fn close<R: Wait>(queue: &Queue, rt: &R, sender: Sender) -> (Sender, CloseAn
     ensures { Completed sender Call.Close (Answer.Close result.1) result.0 }
 {
     let pending = begin_close(queue, sender);
-    await_close(queue, rt, pending)
+    pending.is_sound();
+    wait_for_answer(queue, rt, pending)
 }
 
 /// Takes, and waits for the answer.
@@ -118,7 +50,8 @@ pub fn take<R: Wait>(queue: &Queue, rt: &R, receiver: Receiver) -> (Receiver, Ta
     ensures { Completed receiver Call.Take (Answer.Take result.1) result.0 }
 {
     let pending = begin_take(queue, receiver);
-    await_take(queue, rt, pending)
+    pending.is_sound();
+    wait_for_answer(queue, rt, pending)
 }
 
 /// Lets time pass between two tries of a call that found nothing to take, or no room.

@@ -1,10 +1,11 @@
 //! The words of a body, one after another: the first one, and the further ones that the tag counts.
 ghost use Rattle.std.specs.Prelude.{◌≡◌};
-ghost use Rattle.cc_queue.specs.Names.{Answer, TakeAnswer, Chain, Place, Sending, Taking};
+ghost use Rattle.cc_queue.specs.Names.{Answer, TakeAnswer, Chain, Phase, Sending, Taking};
 ghost use Rattle.cc_runs.specs.Codes as codes;
 ghost use Rattle.cc_steps.specs.Walk.{IsOf, IsReadyToStep, IsToldAt};
 ghost use Rattle.cc_queue.specs.Work.{IsOn, IsOnList, Serves};
 
+use crate::takes::Head;
 use cc_runs::{BodyWords, Chain, ItemField, Job, NodeField, Parcel, Request, further_words};
 use cc_steps::seats::PassSeat;
 use cc_steps::steps;
@@ -15,8 +16,8 @@ use cc_steps::words::Words;
 pub fn write_request(words: &Words, seat: &mut PassSeat, node: u64, put: u64, request: Request)
     requires here { IsOf words.now seat.old }
     requires chain { IsOn seat.old Chain.Send }
-    requires at { seat.old.stand ≡ record { begun = seat.old.stand.begun; node = node; place = Place.WriteBody put request 0 } }
-    ensures written { Serves seat.old (Place.Link put) 0 seat.new }
+    requires at { seat.old.stand ≡ record { begun = seat.old.stand.begun; node = node; phase = Phase.WriteBody put request 0 } }
+    ensures written { Serves seat.old (Phase.Link put) 0 seat.new }
     ensures ready { IsReadyToStep seat.new }
 {
     let _ = put;
@@ -37,8 +38,8 @@ pub fn write_request(words: &Words, seat: &mut PassSeat, node: u64, put: u64, re
 #[inline(always)]
 pub fn read_request(words: &Words, seat: &mut PassSeat, job: Job, tag: u64) -> BodyWords
     requires here { IsOnList words.now Chain.Send seat.old }
-    requires at { seat.old.stand.place ≡ Place.Sending job (Sending.ReadBody record { tag = tag; body = codes.no_words } 0) }
-    ensures read { Serves seat.old (Place.Sending job (Sending.ReadShut record { tag = tag; body = result })) 0 seat.new }
+    requires at { seat.old.stand.phase ≡ Phase.Sending job (Sending.ReadBody record { tag = tag; body = codes.no_words } 0) }
+    ensures read { Serves seat.old (Phase.Sending job (Sending.ReadShut record { tag = tag; body = result })) 0 seat.new }
     ensures ready { IsReadyToStep seat.new }
 {
     let at = job.round.at;
@@ -56,8 +57,8 @@ pub fn read_request(words: &Words, seat: &mut PassSeat, job: Job, tag: u64) -> B
 #[inline(always)]
 pub fn write_item(words: &Words, seat: &mut PassSeat, job: Job, parcel: Parcel, node: u64)
     requires here { IsOnList words.now Chain.Send seat.old }
-    requires at { seat.old.stand.place ≡ Place.Sending job (Sending.WriteItemBody parcel node 0) }
-    ensures written { Serves seat.old (Place.Sending job (Sending.ReadLast parcel.place node)) 0 seat.new }
+    requires at { seat.old.stand.phase ≡ Phase.Sending job (Sending.WriteItemBody parcel node 0) }
+    ensures written { Serves seat.old (Phase.Sending job (Sending.ReadLast parcel.place node)) 0 seat.new }
     ensures ready { IsReadyToStep seat.new }
 {
     let _ = job;
@@ -74,33 +75,31 @@ pub fn write_item(words: &Words, seat: &mut PassSeat, job: Job, parcel: Parcel, 
     }
 }
 
-/// A group's combiner reads the body of the item after the dummy. `job` and `dummy` are here for the clauses alone.
+/// A group's combiner reads the body of the item at its head. `group` and `job` are here for the clauses alone.
 #[inline(always)]
 pub fn read_item(
     words: &Words,
     seat: &mut PassSeat,
     group: u32,
     job: Job,
-    dummy: u64,
-    node: u64,
-    at: u64,
+    head: Head,
     tag: u64,
 ) -> Parcel
     requires here { IsOnList words.now (Chain.Take group) seat.old }
-    requires at { seat.old.stand.place ≡ Place.Taking job (Taking.ReadItemBody dummy node (codes.parcel at tag codes.no_words) 0) }
-    ensures read { Serves seat.old (Place.Taking job (Taking.WriteHead dummy node result)) 0 seat.new }
+    requires at { seat.old.stand.phase ≡ Phase.Taking job (Taking.ReadItemBody head.dummy head.node (codes.parcel head.taken tag codes.no_words) 0) }
+    ensures read { Serves seat.old (Phase.Taking job (Taking.WriteHead head.dummy head.node result)) 0 seat.new }
     ensures ready { IsReadyToStep seat.new }
 {
-    let _ = (group, job, dummy);
-    let found = steps::read_item(words, seat, node, ItemField::Body(0));
+    let _ = (group, job);
+    let found = steps::read_item(words, seat, head.node, ItemField::Body(0));
     let mut body = BodyWords::one(found);
     for done in 0..further_words(tag) {
         let index = done + 1;
-        let found = steps::read_item(words, seat, node, ItemField::Body(index));
+        let found = steps::read_item(words, seat, head.node, ItemField::Body(index));
         body = body.with_word(index, found);
     }
     Parcel {
-        place: at,
+        place: head.taken,
         tag,
         body,
     }
@@ -110,8 +109,8 @@ pub fn read_item(
 #[inline(always)]
 pub fn write_answer(words: &Words, seat: &mut PassSeat, chain: Chain, job: Job, item: Parcel)
     requires here { IsOnList words.now chain seat.old }
-    requires at { seat.old.stand.place ≡ Place.WriteAnswerBody job (codes.item_in item) 0 }
-    ensures written { Serves seat.old (Place.MarkDone job) 0 seat.new }
+    requires at { seat.old.stand.phase ≡ Phase.WriteAnswerBody job (codes.item_in item) 0 }
+    ensures written { Serves seat.old (Phase.MarkDone job) 0 seat.new }
     ensures ready { IsReadyToStep seat.new }
 {
     let at = job.round.at;
@@ -135,9 +134,9 @@ pub fn read_answer(
     tag: u64,
 ) -> BodyWords
     requires here { IsOnList words.now (Chain.Take group) seat.old }
-    requires at { seat.old.stand ≡ record { begun = seat.old.stand.begun; node = node; place = Place.ReadAnswerBody (codes.parcel at tag codes.no_words) 0 } }
-    ensures read { Serves seat.old Place.Idle 0 seat.new }
-    ensures told { IsToldAt seat.new (Place.Finished (Answer.Take (TakeAnswer.Got (codes.item_of at tag result)))) }
+    requires at { seat.old.stand ≡ record { begun = seat.old.stand.begun; node = node; phase = Phase.ReadAnswerBody (codes.parcel at tag codes.no_words) 0 } }
+    ensures read { Serves seat.old Phase.Idle 0 seat.new }
+    ensures told { IsToldAt seat.new (Phase.Finished (Answer.Take (TakeAnswer.Got (codes.item_of at tag result)))) }
 {
     let chain = Chain::Take(group);
     let found = steps::read_answer(words, seat, chain, node, NodeField::Body(0));

@@ -1,6 +1,6 @@
 //! The combining loop of CC-Synch, for either chain.
 ghost use Rattle.std.specs.Prelude.{◌≡◌, ◌≢◌, ◌+◌, ◌*◌, ◌<◌, ◌≤◌, ◌^◌, ◌==◌, if◌then◌else◌, Some, None};
-ghost use Rattle.cc_queue.specs.Names.{Place, Served};
+ghost use Rattle.cc_queue.specs.Names.{Phase, Served};
 ghost use Rattle.cc_runs.specs.Lines.{serves};
 ghost use Rattle.cc_queue.specs.Work.{IsServing, Serves, Works, combined};
 
@@ -16,8 +16,8 @@ use cc_steps::words::Words;
 #[inline(always)]
 fn serve(words: &Words, seat: &mut PassSeat, config: &Config, chain: Chain, job: Job)
     requires here { IsServing words.now config.now chain seat.old }
-    requires at { seat.old.stand.place ≡ serves Served.List chain job }
-    ensures { Serves seat.old (Place.MarkDone job) (config.now.capacity + 1) seat.new }
+    requires at { seat.old.stand.phase ≡ serves Served.List chain job }
+    ensures { Serves seat.old (Phase.MarkDone job) (config.now.capacity + 1) seat.new }
 {
     match chain {
         Chain::Send => serve_request(words, seat, config, job),
@@ -29,9 +29,9 @@ fn serve(words: &Words, seat: &mut PassSeat, config: &Config, chain: Chain, job:
 #[inline(always)]
 pub fn combine(words: &Words, seat: &mut PassSeat, config: &Config, chain: Chain, node: u64) -> u32
     requires here { IsServing words.now config.now chain seat.old }
-    requires at { seat.old.stand.place ≡ Place.ReadNext record { at = node; served = 0 } }
+    requires at { seat.old.stand.phase ≡ Phase.ReadNext record { at = node; served = 0 } }
     requires bound { 0 < config.now.bound }
-    ensures worked { Works seat.old Place.ReadAnswer (combined config.now result 1) seat.new }
+    ensures worked { Works seat.old Phase.ReadAnswer (combined config.now result 1) seat.new }
     ensures some { 0 < result }
     ensures few { result ≤ config.now.bound }
 {

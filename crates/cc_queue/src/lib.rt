@@ -12,12 +12,12 @@
 mod begins;
 mod blocking;
 mod bodies;
-mod codes;
 mod combine;
 mod given_up;
 mod meets;
 mod notes;
 mod passes;
+mod pending;
 mod queue;
 mod receipts;
 mod receiver;
@@ -37,7 +37,8 @@ pub use notes::{again, heeded_is_fresh, heeded_stays, send_after, take_after, tu
 pub use passes::{
     CloseTurn, PendingClose, PendingSend, PendingTake, Receiver, SendTurn, Sender, TakeTurn,
 };
+pub use pending::Pending;
 pub use queue::{Opened, Queue};
-pub use receipts::audit_all;
+pub use receipts::{AllPasses, Receipts, audit_all};
 pub use receiver::{begin_take, turn_take};
 pub use sender::{begin_close, begin_send, turn_close, turn_send};

@@ -2,7 +2,7 @@
 ghost use Rattle.std.specs.Prelude.{◌≡◌, [], length};
 ghost use Rattle.cc_steps.specs.Shown.{longer};
 ghost use Rattle.cc_steps.specs.Walk.{IsOf, IsSound};
-ghost use Rattle.cc_queue.specs.Met.{HasMet, EachHasMet, AreOf, IsOfOne, MayMeet, Sees, Swept, Gathered, HaveSeenOne};
+ghost use Rattle.cc_queue.specs.Met.{HaveMet, EachHasMet, AreOf, IsOfOne, MayMeet, Sees, Swept, Gathered, HaveSeenOne};
 
 use crate::given_up::GivenUp;
 use crate::passes::{Receiver, Sender};
@@ -28,10 +28,7 @@ fn meet_seats(words: &Words, one: &mut PassSeat, other: &mut PassSeat)
 /// Afterwards the sender and the receiver have seen one history, which begins with what each had seen.
 pub fn meet(one: &mut Sender, other: &mut Receiver)
     requires { IsOfOne one.old other.old }
-    ensures one { HasMet one.old one.new }
-    ensures other { HasMet other.old other.new }
-    ensures seen { other.new.seen ≡ one.new.seen }
-    ensures longest { one.new.seen ≡ longer one.old.seen other.old.seen }
+    ensures { HaveMet one.old other.old one.new other.new }
 {
     meet_seats(&one.at.words, &mut one.at.seat, &mut other.at.seat);
 }
@@ -39,10 +36,7 @@ pub fn meet(one: &mut Sender, other: &mut Receiver)
 /// The same of two senders.
 pub fn meet_senders(one: &mut Sender, other: &mut Sender)
     requires { IsOfOne one.old other.old }
-    ensures one { HasMet one.old one.new }
-    ensures other { HasMet other.old other.new }
-    ensures seen { other.new.seen ≡ one.new.seen }
-    ensures longest { one.new.seen ≡ longer one.old.seen other.old.seen }
+    ensures { HaveMet one.old other.old one.new other.new }
 {
     meet_seats(&one.at.words, &mut one.at.seat, &mut other.at.seat);
 }
@@ -50,10 +44,7 @@ pub fn meet_senders(one: &mut Sender, other: &mut Sender)
 /// The same of two receivers.
 pub fn meet_receivers(one: &mut Receiver, other: &mut Receiver)
     requires { IsOfOne one.old other.old }
-    ensures one { HasMet one.old one.new }
-    ensures other { HasMet other.old other.new }
-    ensures seen { other.new.seen ≡ one.new.seen }
-    ensures longest { one.new.seen ≡ longer one.old.seen other.old.seen }
+    ensures { HaveMet one.old other.old one.new other.new }
 {
     meet_seats(&one.at.words, &mut one.at.seat, &mut other.at.seat);
 }

@@ -42,14 +42,14 @@ pub struct Sender {
 
 impl Model for Sender {
     ghost use Rattle.cc_steps.specs.Walk.{Walk};
-    ghost use Rattle.cc_queue.specs.Names.{Place};
+    ghost use Rattle.cc_queue.specs.Names.{Phase};
     ghost use Rattle.cc_queue.specs.Passes.{KeepsSender};
 
     ghost Value = { Walk };
 
     ghost view = { λ s. s.at.seat };
 
-    ghost invariant = { λ s. KeepsSender s.at Place.Idle };
+    ghost invariant = { λ s. KeepsSender s.at Phase.Idle };
 }
 
 /// A sender whose send is pending. It must be used up, by a turn or by `abandon`.
@@ -59,14 +59,14 @@ pub struct PendingSend {
 
 impl Model for PendingSend {
     ghost use Rattle.cc_steps.specs.Walk.{Walk};
-    ghost use Rattle.cc_queue.specs.Names.{Place};
+    ghost use Rattle.cc_queue.specs.Names.{Phase};
     ghost use Rattle.cc_queue.specs.Passes.{KeepsSender, MadeLast, IsSend};
 
     ghost Value = { Walk };
 
     ghost view = { λ s. s.at.seat };
 
-    ghost invariant = { λ s. KeepsSender s.at Place.ReadState × MadeLast IsSend s.at.seat.made };
+    ghost invariant = { λ s. KeepsSender s.at Phase.ReadState × MadeLast IsSend s.at.seat.made };
 }
 
 /// A sender whose close is pending. It must be used up, by a turn or by `abandon`.
@@ -76,14 +76,14 @@ pub struct PendingClose {
 
 impl Model for PendingClose {
     ghost use Rattle.cc_steps.specs.Walk.{Walk};
-    ghost use Rattle.cc_queue.specs.Names.{Place};
+    ghost use Rattle.cc_queue.specs.Names.{Phase};
     ghost use Rattle.cc_queue.specs.Passes.{KeepsSender, MadeLast, IsClose};
 
     ghost Value = { Walk };
 
     ghost view = { λ s. s.at.seat };
 
-    ghost invariant = { λ s. KeepsSender s.at Place.ReadState × MadeLast IsClose s.at.seat.made };
+    ghost invariant = { λ s. KeepsSender s.at Phase.ReadState × MadeLast IsClose s.at.seat.made };
 }
 
 /// A receiver of a queue that has no call, numbered from 1.
@@ -94,14 +94,14 @@ pub struct Receiver {
 
 impl Model for Receiver {
     ghost use Rattle.cc_steps.specs.Walk.{Walk};
-    ghost use Rattle.cc_queue.specs.Names.{Place};
+    ghost use Rattle.cc_queue.specs.Names.{Phase};
     ghost use Rattle.cc_queue.specs.Passes.{KeepsReceiver};
 
     ghost Value = { Walk };
 
     ghost view = { λ r. r.at.seat };
 
-    ghost invariant = { λ r. KeepsReceiver r.at Place.Idle };
+    ghost invariant = { λ r. KeepsReceiver r.at Phase.Idle };
 }
 
 /// A receiver whose take is pending. It must be used up, by a turn or by `abandon`.
@@ -111,14 +111,14 @@ pub struct PendingTake {
 
 impl Model for PendingTake {
     ghost use Rattle.cc_steps.specs.Walk.{Walk};
-    ghost use Rattle.cc_queue.specs.Names.{Place};
+    ghost use Rattle.cc_queue.specs.Names.{Phase};
     ghost use Rattle.cc_queue.specs.Passes.{KeepsReceiver};
 
     ghost Value = { Walk };
 
     ghost view = { λ r. r.at.seat };
 
-    ghost invariant = { λ r. KeepsReceiver r.at Place.ReadState };
+    ghost invariant = { λ r. KeepsReceiver r.at Phase.ReadState };
 }
 
 /// The result of a turn of a send. `served` is how many requests this turn served: 0 if another pass had served the call,

@@ -41,40 +41,51 @@ fn all_given_up_stand(given_up: &[GivenUp])
     }
 }
 
-/// The audit of all receipts of a queue: those of its senders, those of the receivers of one group, each in any order, and the
-/// total of a close, if one returned it. All passes of the queue have met, live ones and abandoned ones, in the order of its
-/// row (`passes`). The history that they have seen is made of their calls, each with its answer, but for at most one that each
+/// All passes of a queue: those that are live, and those that were given up.
+#[derive(Clone, Copy)]
+pub struct AllPasses<'a> {
+    pub senders: &'a [Sender],
+    pub receivers: &'a [Receiver],
+    pub given_up: &'a [GivenUp],
+}
+
+/// The receipts of a queue: those of its senders, those of the receivers of one group, each in any order, and the total of a
+/// close, if one returned it. `group` is what `Receiver::group` returns.
+#[derive(Clone, Copy)]
+pub struct Receipts<'a> {
+    pub group: u32,
+    pub sends: &'a [SendReceipt],
+    pub takes: &'a [TakeReceipt],
+    pub total: Option<u64>,
+}
+
+/// The audit of all receipts of a queue. All its passes have met, live ones and abandoned ones, in the order of its row
+/// (`passes`). The history that they have seen is made of their calls, each with its answer, but for at most one that each
 /// abandoned pass left waiting. In addition to the receipts that are given there are those of calls that were left waiting and
-/// served all the same: nobody holds them. With these the verdict is Clean. So it is Clean if there are none. `group` is what
-/// `Receiver::group` returns. It takes memory in proportion to the receipts.
+/// served all the same: nobody holds them. With these the verdict is Clean. So it is Clean if there are none. It takes memory
+/// in proportion to the receipts.
 pub fn audit_all(
     alloc: Global,
     queue: &Queue,
-    senders: &[Sender],
-    receivers: &[Receiver],
-    given_up: &[GivenUp],
-    group: u32,
-    sends: &[SendReceipt],
-    takes: &[TakeReceipt],
-    total: Option<u64>,
+    all: &AllPasses<'_>,
+    receipts: &Receipts<'_>,
 ) -> Result<Verdict, AllocError>
     ghost passes: { Row }
-    requires all { AreAll queue.now passes senders.now receivers.now given_up.now }
-    requires one { HaveSeenOne senders.now receivers.now given_up.now }
-    requires low { 1 ≤ group }
-    requires high { group ≤ groups queue.now.setting.config }
-    requires sends { IsPermutation (receipts_told sent passes.senders) sends.now }
-    requires takes { IsPermutation (receipts_told got (in_group queue.now.setting.config group passes.receivers)) takes.now }
-    requires total { IsTotal (seen_by (map walk_at passes.senders)) total }
+    requires all { AreAll queue.now passes all.now.senders.now all.now.receivers.now all.now.given_up.now }
+    requires one { HaveSeenOne all.now.senders.now all.now.receivers.now all.now.given_up.now }
+    requires low { 1 ≤ receipts.now.group }
+    requires high { receipts.now.group ≤ groups queue.now.setting.config }
+    requires sends { IsPermutation (receipts_told sent passes.senders) receipts.now.sends.now }
+    requires takes { IsPermutation (receipts_told got (in_group queue.now.setting.config receipts.now.group passes.receivers)) receipts.now.takes.now }
+    requires total { IsTotal (seen_by (map walk_at passes.senders)) receipts.now.total }
     ensures just { HasJustCallsOf passes (seen_by (map walk_at passes.senders)) }
-    ensures clean { IsVerdict (sends.now ++ receipts_left sent passes.senders) (takes.now ++ receipts_left got (in_group queue.now.setting.config group passes.receivers)) total Verdict.Clean }
-    ensures told { IfOk result (λ v. IsVerdict sends.now takes.now total v) }
-    ensures none_left { receipts_left sent passes.senders ≡ [] → receipts_left got (in_group queue.now.setting.config group passes.receivers) ≡ [] → IfOk result (λ v. v ≡ Verdict.Clean) }
+    ensures clean { IsVerdict (receipts.now.sends.now ++ receipts_left sent passes.senders) (receipts.now.takes.now ++ receipts_left got (in_group queue.now.setting.config receipts.now.group passes.receivers)) receipts.now.total Verdict.Clean }
+    ensures told { IfOk result (λ v. IsVerdict receipts.now.sends.now receipts.now.takes.now receipts.now.total v) }
+    ensures none_left { receipts_left sent passes.senders ≡ [] → receipts_left got (in_group queue.now.setting.config receipts.now.group passes.receivers) ≡ [] → IfOk result (λ v. v ≡ Verdict.Clean) }
 {
-    let _ = group;
     queue.is_sound();
-    all_senders_stand(senders);
-    all_receivers_stand(receivers);
-    all_given_up_stand(given_up);
-    audit(alloc, sends, takes, total)
+    all_senders_stand(all.senders);
+    all_receivers_stand(all.receivers);
+    all_given_up_stand(all.given_up);
+    audit(alloc, receipts.sends, receipts.takes, receipts.total)
 }

@@ -5,10 +5,9 @@ ghost use Rattle.cc_steps.specs.Walk.{IsOf};
 ghost use Rattle.cc_queue.specs.Calls.{Begun, TurnedSend, TurnedClose};
 
 use crate::begins::begin_request;
-use crate::codes::{close_answer, send_answer};
 use crate::passes::{CloseTurn, PendingClose, PendingSend, SendTurn, Sender};
 use crate::queue::Queue;
-use crate::turns::turn_request;
+use crate::turns::{close_answer, send_answer, turn_request};
 use cc_model::{Body, Call};
 use cc_runs::{BodyWords, Request, packed, words_in};
 

@@ -1,6 +1,6 @@
 //! The service of a sender's request: CC-Queue's enqueue, by the combiner of the senders' chain.
 ghost use Rattle.std.specs.Prelude.{◌≡◌, ◌+◌, ◌<◌, ◌≤◌, ◌^◌, ◌==◌, if◌then◌else◌, IfSome, IfNone, Some, None};
-ghost use Rattle.cc_queue.specs.Names.{Answer, SendAnswer, Chain, Place, Sending};
+ghost use Rattle.cc_queue.specs.Names.{Answer, SendAnswer, Chain, Phase, Sending};
 ghost use Rattle.cc_steps.specs.Walk.{IsReadyToStep};
 ghost use Rattle.cc_queue.specs.Work.{IsOnList, IsServing, Serves};
 
@@ -15,8 +15,8 @@ use cc_steps::words::Words;
 /// Serves one request up to its mark: reads it, and decides why not if the queue is closed.
 pub fn serve_request(words: &Words, seat: &mut PassSeat, config: &Config, job: Job)
     requires here { IsServing words.now config.now Chain.Send seat.old }
-    requires at { seat.old.stand.place ≡ Place.Sending job Sending.ReadTag }
-    ensures { Serves seat.old (Place.MarkDone job) (config.now.capacity + 1) seat.new }
+    requires at { seat.old.stand.phase ≡ Phase.Sending job Sending.ReadTag }
+    ensures { Serves seat.old (Phase.MarkDone job) (config.now.capacity + 1) seat.new }
 {
     let tag = steps::read_request(words, seat, job.round.at, NodeField::Tag);
     let body = bodies::read_request(words, seat, job, tag);
@@ -34,8 +34,8 @@ pub fn serve_request(words: &Words, seat: &mut PassSeat, config: &Config, job: J
 #[inline(always)]
 fn serve_open(words: &Words, seat: &mut PassSeat, config: &Config, job: Job, request: Request)
     requires here { IsServing words.now config.now Chain.Send seat.old }
-    requires at { seat.old.stand.place ≡ Place.Sending job (Sending.ReadCount request) }
-    ensures { Serves seat.old (Place.MarkDone job) (config.now.capacity + 1) seat.new }
+    requires at { seat.old.stand.phase ≡ Phase.Sending job (Sending.ReadCount request) }
+    ensures { Serves seat.old (Phase.MarkDone job) (config.now.capacity + 1) seat.new }
 {
     let count = steps::read_object(words, seat, Object::Count);
     if request.tag == 0 {
@@ -58,12 +58,12 @@ fn serve_open(words: &Words, seat: &mut PassSeat, config: &Config, job: Job, req
     }
 }
 
-/// Tells a send that the queue is closed, and a close that it was closed already and with how many items.
+/// Answers a send after the close by Closed, and a further close by Already with the number of items.
 fn refuse_after_close(words: &Words, seat: &mut PassSeat, job: Job, tag: u64)
     requires here { IsOnList words.now Chain.Send seat.old }
-    requires at { seat.old.stand.place ≡ (if tag == 0 then Place.Sending job Sending.ReadTotal else Place.WriteAnswer job (Answer.Send SendAnswer.Closed)) }
+    requires at { seat.old.stand.phase ≡ (if tag == 0 then Phase.Sending job Sending.ReadTotal else Phase.WriteAnswer job (Answer.Send SendAnswer.Closed)) }
     requires ready { IsReadyToStep seat.old }
-    ensures { Serves seat.old (Place.MarkDone job) 0 seat.new }
+    ensures { Serves seat.old (Phase.MarkDone job) 0 seat.new }
 {
     let answer = if tag == 0 {
         let total = steps::read_object(words, seat, Object::Count);
@@ -77,8 +77,8 @@ fn refuse_after_close(words: &Words, seat: &mut PassSeat, job: Job, tag: u64)
 /// Closes: links the reserved node after the last one, and sets `shut`.
 fn link_mark(words: &Words, seat: &mut PassSeat, config: &Config, job: Job, total: u64)
     requires here { IsServing words.now config.now Chain.Send seat.old }
-    requires at { seat.old.stand.place ≡ Place.Sending job (Sending.ReadLastToClose total) }
-    ensures { Serves seat.old (Place.MarkDone job) 0 seat.new }
+    requires at { seat.old.stand.phase ≡ Phase.Sending job (Sending.ReadLastToClose total) }
+    ensures { Serves seat.old (Phase.MarkDone job) 0 seat.new }
 {
     let mark = config.capacity as u64 + 1;
     let last = steps::read_object(words, seat, Object::Last) - 1;
@@ -92,8 +92,8 @@ fn link_mark(words: &Words, seat: &mut PassSeat, config: &Config, job: Job, tota
 /// Appends the item in the first free node from the cursor on, or decides that the queue is full.
 fn scan(words: &Words, seat: &mut PassSeat, config: &Config, job: Job, parcel: Parcel)
     requires here { IsServing words.now config.now Chain.Send seat.old }
-    requires at { seat.old.stand.place ≡ Place.Sending job (Sending.ReadCursor parcel) }
-    ensures { Serves seat.old (Place.MarkDone job) (config.now.capacity + 1) seat.new }
+    requires at { seat.old.stand.phase ≡ Phase.Sending job (Sending.ReadCursor parcel) }
+    ensures { Serves seat.old (Phase.MarkDone job) (config.now.capacity + 1) seat.new }
 {
     match find_free(words, seat, config, job, parcel) {
         Some(node) => prepare(words, seat, config, job, parcel, node),
@@ -117,17 +117,16 @@ fn find_free(
     parcel: Parcel,
 ) -> Option<u64>
     requires here { IsServing words.now config.now Chain.Send seat.old }
-    requires at { seat.old.stand.place ≡ Place.Sending job (Sending.ReadCursor parcel) }
-    ensures free { IfSome result (λ node. Serves seat.old (Place.Sending job (Sending.ResetPassed parcel node)) (config.now.capacity + 1) seat.new) }
-    ensures full { IfNone result (Serves seat.old (Place.WriteAnswer job (Answer.Send SendAnswer.Full)) (config.now.capacity + 1) seat.new) }
+    requires at { seat.old.stand.phase ≡ Phase.Sending job (Sending.ReadCursor parcel) }
+    ensures free { IfSome result (λ node. Serves seat.old (Phase.Sending job (Sending.ResetPassed parcel node)) (config.now.capacity + 1) seat.new) }
+    ensures full { IfNone result (Serves seat.old (Phase.WriteAnswer job (Answer.Send SendAnswer.Full)) (config.now.capacity + 1) seat.new) }
     ensures ready { IsReadyToStep seat.new }
 {
     let _ = (job, parcel);
     let nodes = config.capacity as u64 + 1;
     let groups = config.groups as u64;
     let mut node = steps::read_object(words, seat, Object::Cursor);
-    for reads in 1..nodes {
-        let _ = reads;
+    for _reads in 1..nodes {
         if steps::read_passed(words, seat, node) == groups {
             return Some(node);
         }
@@ -144,8 +143,8 @@ fn find_free(
 #[inline(always)]
 fn prepare(words: &Words, seat: &mut PassSeat, config: &Config, job: Job, parcel: Parcel, node: u64)
     requires here { IsServing words.now config.now Chain.Send seat.old }
-    requires at { seat.old.stand.place ≡ Place.Sending job (Sending.ResetPassed parcel node) }
-    ensures { Serves seat.old (Place.MarkDone job) 0 seat.new }
+    requires at { seat.old.stand.phase ≡ Phase.Sending job (Sending.ResetPassed parcel node) }
+    ensures { Serves seat.old (Phase.MarkDone job) 0 seat.new }
 {
     steps::reset_list_node(words, seat, node, ItemField::Passed);
     steps::reset_list_node(words, seat, node, ItemField::Next);
@@ -158,8 +157,8 @@ fn prepare(words: &Words, seat: &mut PassSeat, config: &Config, job: Job, parcel
 #[inline(always)]
 fn append(words: &Words, seat: &mut PassSeat, config: &Config, job: Job, count: u64, node: u64)
     requires here { IsServing words.now config.now Chain.Send seat.old }
-    requires at { seat.old.stand.place ≡ Place.Sending job (Sending.ReadLast count node) }
-    ensures { Serves seat.old (Place.MarkDone job) 0 seat.new }
+    requires at { seat.old.stand.phase ≡ Phase.Sending job (Sending.ReadLast count node) }
+    ensures { Serves seat.old (Phase.MarkDone job) 0 seat.new }
 {
     let last = steps::read_object(words, seat, Object::Last) - 1;
     steps::link_last(words, seat, last, node + 1);

@@ -1,6 +1,6 @@
 //! The answer of a request that is served.
 ghost use Rattle.std.specs.Prelude.{◌≡◌};
-ghost use Rattle.cc_queue.specs.Names.{Place, Served};
+ghost use Rattle.cc_queue.specs.Names.{Phase, Served};
 ghost use Rattle.cc_runs.specs.Lines.{after_answer};
 ghost use Rattle.cc_steps.specs.Walk.{IsReadyToStep};
 ghost use Rattle.cc_queue.specs.Work.{IsOnList, Serves};
@@ -11,14 +11,14 @@ use cc_steps::seats::PassSeat;
 use cc_steps::steps;
 use cc_steps::words::Words;
 
-/// Tells an answer that is one word, which goes into the node that is served.
+/// Writes an answer of one word into the node that is served.
 #[inline(always)]
 pub fn tell(words: &Words, seat: &mut PassSeat, chain: Chain, job: Job, answer: Answer)
     requires here { IsOnList words.now chain seat.old }
-    requires at { seat.old.stand.place ≡ Place.WriteAnswer job answer }
-    requires alone { after_answer job answer ≡ Place.MarkDone job }
+    requires at { seat.old.stand.phase ≡ Phase.WriteAnswer job answer }
+    requires alone { after_answer job answer ≡ Phase.MarkDone job }
     requires ready { IsReadyToStep seat.old }
-    ensures { Serves seat.old (Place.MarkDone job) 0 seat.new }
+    ensures { Serves seat.old (Phase.MarkDone job) 0 seat.new }
 {
     let word = ret_of(Served::List, answer);
     steps::write_answer(words, seat, chain, job.round.at, NodeField::Ret, word);

@@ -1,13 +1,14 @@
 //! A turn, over its seat.
 ghost use Rattle.std.specs.Prelude.{◌≡◌, ◌≢◌, ◌+◌, ◌*◌, ◌<◌, ◌≤◌, ◌^◌, ◌∷◌, ◌==◌, if◌then◌else◌, IfSome, OnSome, IfNone, Some, None};
-ghost use Rattle.cc_queue.specs.Names.{Chain, Place, Served, Answer};
+ghost use Rattle.cc_queue.specs.Names.{Chain, Phase, Served, Answer};
 ghost use Rattle.cc_runs.specs.Codes.{list_reads};
 ghost use Rattle.cc_steps.specs.Walk.{IsToldAt};
-ghost use Rattle.cc_queue.specs.Work.{IsOnList, IsServing, Works, Waits, looked, turned};
+ghost use Rattle.cc_queue.specs.Codes.{IsSendAnswer, IsCloseAnswer};
+ghost use Rattle.cc_queue.specs.Work.{CanTurn, IsOnList, Works, Waits, looked, turned};
 
 use crate::bodies;
 use crate::combine::combine;
-use cc_model::{Config, TakeAnswer};
+use cc_model::{CloseAnswer, Config, SendAnswer, TakeAnswer};
 use cc_runs::{CODE, Chain, NodeField, item_of};
 use cc_steps::seats::PassSeat;
 use cc_steps::steps;
@@ -23,11 +24,9 @@ pub fn await_answer(
     chain: Chain,
     node: u64,
 ) -> Option<u32>
-    requires here { IsServing words.now config.now chain seat.old }
-    requires at { seat.old.stand ≡ record { begun = seat.old.stand.begun; node = node; place = Place.ReadState } }
-    requires bound { 0 < config.now.bound }
+    requires { CanTurn words.now config.now chain node seat.old }
     ensures waits { IfNone result (Waits seat.old seat.new) }
-    ensures done { IfSome result (λ n. Works seat.old Place.ReadAnswer (turned config.now n) seat.new) }
+    ensures done { IfSome result (λ n. Works seat.old Phase.ReadAnswer (turned config.now n) seat.new) }
     ensures few { IfSome result (λ n. n ≤ config.now.bound) }
 {
     match steps::read_state(words, seat, chain, node) {
@@ -40,11 +39,9 @@ pub fn await_answer(
 /// `await_answer` on the senders' chain: compiled for it alone, and once for all who call.
 #[inline(never)]
 fn await_request(words: &Words, seat: &mut PassSeat, config: &Config, node: u64) -> Option<u32>
-    requires here { IsServing words.now config.now Chain.Send seat.old }
-    requires at { seat.old.stand ≡ record { begun = seat.old.stand.begun; node = node; place = Place.ReadState } }
-    requires bound { 0 < config.now.bound }
+    requires { CanTurn words.now config.now Chain.Send node seat.old }
     ensures waits { IfNone result (Waits seat.old seat.new) }
-    ensures done { IfSome result (λ n. Works seat.old Place.ReadAnswer (turned config.now n) seat.new) }
+    ensures done { IfSome result (λ n. Works seat.old Phase.ReadAnswer (turned config.now n) seat.new) }
     ensures few { IfSome result (λ n. n ≤ config.now.bound) }
 {
     await_answer(words, seat, config, Chain::Send, node)
@@ -59,11 +56,9 @@ fn await_item(
     group: u32,
     node: u64,
 ) -> Option<u32>
-    requires here { IsServing words.now config.now (Chain.Take group) seat.old }
-    requires at { seat.old.stand ≡ record { begun = seat.old.stand.begun; node = node; place = Place.ReadState } }
-    requires bound { 0 < config.now.bound }
+    requires { CanTurn words.now config.now (Chain.Take group) node seat.old }
     ensures waits { IfNone result (Waits seat.old seat.new) }
-    ensures done { IfSome result (λ n. Works seat.old Place.ReadAnswer (turned config.now n) seat.new) }
+    ensures done { IfSome result (λ n. Works seat.old Phase.ReadAnswer (turned config.now n) seat.new) }
     ensures few { IfSome result (λ n. n ≤ config.now.bound) }
 {
     await_answer(words, seat, config, Chain::Take(group), node)
@@ -73,9 +68,9 @@ fn await_item(
 #[inline(always)]
 pub fn read_request_answer(words: &Words, seat: &mut PassSeat, node: u64) -> u64
     requires here { IsOnList words.now Chain.Send seat.old }
-    requires at { seat.old.stand ≡ record { begun = seat.old.stand.begun; node = node; place = Place.ReadAnswer } }
-    ensures worked { Works seat.old Place.Idle (looked 0) seat.new }
-    ensures told { IsToldAt seat.new (Place.Finished (list_reads result)) }
+    requires at { seat.old.stand ≡ record { begun = seat.old.stand.begun; node = node; phase = Phase.ReadAnswer } }
+    ensures worked { Works seat.old Phase.Idle (looked 0) seat.new }
+    ensures told { IsToldAt seat.new (Phase.Finished (list_reads result)) }
 {
     steps::read_answer(words, seat, Chain::Send, node, NodeField::Ret)
 }
@@ -84,9 +79,9 @@ pub fn read_request_answer(words: &Words, seat: &mut PassSeat, node: u64) -> u64
 #[inline(always)]
 pub fn read_take_answer(words: &Words, seat: &mut PassSeat, group: u32, node: u64) -> TakeAnswer
     requires here { IsOnList words.now (Chain.Take group) seat.old }
-    requires at { seat.old.stand ≡ record { begun = seat.old.stand.begun; node = node; place = Place.ReadAnswer } }
-    ensures worked { Works seat.old Place.Idle (looked 0) seat.new }
-    ensures told { IsToldAt seat.new (Place.Finished (Answer.Take result)) }
+    requires at { seat.old.stand ≡ record { begun = seat.old.stand.begun; node = node; phase = Phase.ReadAnswer } }
+    ensures worked { Works seat.old Phase.Idle (looked 0) seat.new }
+    ensures told { IsToldAt seat.new (Phase.Finished (Answer.Take result)) }
 {
     let chain = Chain::Take(group);
     let ret = steps::read_answer(words, seat, chain, node, NodeField::Ret);
@@ -110,13 +105,11 @@ pub fn turn_request(
     config: &Config,
     node: u64,
 ) -> Option<(u64, u32)>
-    requires here { IsServing words.now config.now Chain.Send seat.old }
-    requires at { seat.old.stand ≡ record { begun = seat.old.stand.begun; node = node; place = Place.ReadState } }
-    requires bound { 0 < config.now.bound }
+    requires { CanTurn words.now config.now Chain.Send node seat.old }
     ensures waits { IfNone result (Waits seat.old seat.new) }
-    ensures done { IfSome result (λ r. Works seat.old Place.Idle (turned config.now r.1) seat.new) }
+    ensures done { IfSome result (λ r. Works seat.old Phase.Idle (turned config.now r.1) seat.new) }
     ensures few { IfSome result (λ r. r.1 ≤ config.now.bound) }
-    ensures told { IfSome result (λ r. IsToldAt seat.new (Place.Finished (list_reads r.0))) }
+    ensures told { IfSome result (λ r. IsToldAt seat.new (Phase.Finished (list_reads r.0))) }
 {
     let served = await_request(words, seat, config, node)?;
     Some((read_request_answer(words, seat, node), served))
@@ -131,14 +124,38 @@ pub fn turn_take(
     group: u32,
     node: u64,
 ) -> Option<(TakeAnswer, u32)>
-    requires here { IsServing words.now config.now (Chain.Take group) seat.old }
-    requires at { seat.old.stand ≡ record { begun = seat.old.stand.begun; node = node; place = Place.ReadState } }
-    requires bound { 0 < config.now.bound }
+    requires { CanTurn words.now config.now (Chain.Take group) node seat.old }
     ensures waits { IfNone result (Waits seat.old seat.new) }
-    ensures done { IfSome result (λ r. Works seat.old Place.Idle (turned config.now r.1) seat.new) }
+    ensures done { IfSome result (λ r. Works seat.old Phase.Idle (turned config.now r.1) seat.new) }
     ensures few { IfSome result (λ r. r.1 ≤ config.now.bound) }
-    ensures told { IfSome result (λ r. IsToldAt seat.new (Place.Finished (Answer.Take r.0))) }
+    ensures told { IfSome result (λ r. IsToldAt seat.new (Phase.Finished (Answer.Take r.0))) }
 {
     let served = await_item(words, seat, config, group, node)?;
     Some((read_take_answer(words, seat, group, node), served))
+}
+
+/// The answer of a send that an answer word is.
+pub fn send_answer(ret: u64) -> SendAnswer
+    requires { IsSendAnswer (list_reads ret) }
+    ensures { list_reads ret ≡ Answer.Send result }
+{
+    match ret / CODE {
+        1 => SendAnswer::Accepted { place: ret % CODE },
+        2 => SendAnswer::Full,
+        3 => SendAnswer::Closed,
+        4 => SendAnswer::Spent,
+        _ => unreachable!(),
+    }
+}
+
+/// The answer of a close that an answer word is.
+pub fn close_answer(ret: u64) -> CloseAnswer
+    requires { IsCloseAnswer (list_reads ret) }
+    ensures { list_reads ret ≡ Answer.Close result }
+{
+    match ret / CODE {
+        1..=4 => unreachable!(),
+        5 => CloseAnswer::Shut { total: ret % CODE },
+        _ => CloseAnswer::Already { total: ret % CODE },
+    }
 }

@@ -2,4 +2,4 @@ use Rattle.cc_queue.proofs.Headline.{completed_so}
 use Rattle.cc_queue.proofs.blocking.close.Goals as goal
 
 pub returns : goal.returns
-returns g c = completed_so _ _ _ _ _ c.begin_close-pending.ensures c.await_close.ensures
+returns g c = completed_so _ _ _ _ _ c.begin_close-pending.ensures c.wait_for_answer.ensures

@@ -11,4 +11,4 @@ loop-done-preserved c =
     let less : c.loop-done.done < further_words c.args.tag = omega (arith, c.loop-done-test.true, c.further_words-done-end.ensures.words) in
     let at = (at_word _ _ _ _ _ _ c.loop-done.invariant.0 less).worked in
     let told = e.told (ap (λ (z : Walk). z.setting.served) at ∙ c.requires.here.list) in
-    rw c.with_word-body.ensures (next_word _ _ _ Kind.ReadAnswer _ _ _ _ _ _ _ _ c.loop-done.invariant.0 less e.step e.later refl (refl, refl, refl, refl) (λ z. refl) (λ z. refl) (λ z. refl), rw (ap (λ (z : Walk). z.stand.place) at) at told)
+    rw c.with_word-body.ensures (next_word _ _ _ Kind.ReadAnswer _ _ _ _ _ _ _ _ c.loop-done.invariant.0 less e.step e.later refl (refl, refl, refl, refl) (λ z. refl) (λ z. refl) (λ z. refl), rw (ap (λ (z : Walk). z.stand.phase) at) at told)

@@ -1,5 +1,5 @@
 use Rattle.std.proofs.Common.{◌+◌}
-use Rattle.cc_queue.specs.Names.{Answer, TakeAnswer, Place}
+use Rattle.cc_queue.specs.Names.{Answer, TakeAnswer, Phase}
 use Rattle.cc_runs.specs.Codes.{further_words, behind, parcel, item_in}
 use Rattle.cc_steps.specs.Walk.{IsToldAt}
 use Rattle.cc_queue.specs.Work.{Serves}
@@ -7,5 +7,5 @@ use Rattle.cc_queue.proofs.bodies.read_answer.Given as goal
 
 abbrev pub invariant-loop-done : goal.invariant-loop-done
 invariant-loop-done l =
-    Serves l.fn.seat (behind (further_words l.fn.tag) l.done (Place.ReadAnswerBody (parcel l.fn.at l.fn.tag l.body) (l.done + 1)) (Place.Idle)) 0 l.seat
-    × IsToldAt l.seat (behind (further_words l.fn.tag) l.done (Place.ReadAnswerBody (parcel l.fn.at l.fn.tag l.body) (l.done + 1)) (Place.Finished (Answer.Take (TakeAnswer.Got (item_in (parcel l.fn.at l.fn.tag l.body))))))
+    Serves l.fn.seat (behind (further_words l.fn.tag) l.done (Phase.ReadAnswerBody (parcel l.fn.at l.fn.tag l.body) (l.done + 1)) (Phase.Idle)) 0 l.seat
+    × IsToldAt l.seat (behind (further_words l.fn.tag) l.done (Phase.ReadAnswerBody (parcel l.fn.at l.fn.tag l.body) (l.done + 1)) (Phase.Finished (Answer.Take (TakeAnswer.Got (item_in (parcel l.fn.at l.fn.tag l.body))))))

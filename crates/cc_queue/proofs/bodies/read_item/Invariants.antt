@@ -1,5 +1,5 @@
 use Rattle.std.proofs.Common.{◌+◌}
-use Rattle.cc_queue.specs.Names.{Place, Taking}
+use Rattle.cc_queue.specs.Names.{Phase, Taking}
 use Rattle.cc_runs.specs.Codes.{further_words, behind, parcel}
 use Rattle.cc_steps.specs.Walk.{IsReadyToStep}
 use Rattle.cc_queue.specs.Work.{Serves}
@@ -7,5 +7,5 @@ use Rattle.cc_queue.proofs.bodies.read_item.Given as goal
 
 abbrev pub invariant-loop-done : goal.invariant-loop-done
 invariant-loop-done l =
-    Serves l.fn.seat (behind (further_words l.fn.tag) l.done (Place.Taking l.fn.job (Taking.ReadItemBody l.fn.dummy l.fn.node (parcel l.fn.at l.fn.tag l.body) (l.done + 1))) (Place.Taking l.fn.job (Taking.WriteHead l.fn.dummy l.fn.node (parcel l.fn.at l.fn.tag l.body)))) 0 l.seat
+    Serves l.fn.seat (behind (further_words l.fn.tag) l.done (Phase.Taking l.fn.job (Taking.ReadItemBody l.fn.head.dummy l.fn.head.node (parcel l.fn.head.taken l.fn.tag l.body) (l.done + 1))) (Phase.Taking l.fn.job (Taking.WriteHead l.fn.head.dummy l.fn.head.node (parcel l.fn.head.taken l.fn.tag l.body)))) 0 l.seat
     × IsReadyToStep l.seat

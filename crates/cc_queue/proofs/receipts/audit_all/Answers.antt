@@ -11,7 +11,7 @@ pub returns-clause-clean : goal.returns-clause-clean
 returns-clause-clean g c =
     let low = c.requires.1.1 in
     let same = low.1.1 in
-    are_clean _ g.passes _ _ _ c.args.group _ _ _ c.is_sound.ensures low.0 low.1.0 c.requires.0 c.requires.1.0 c.all_senders_stand.ensures c.all_given_up_stand.ensures same.0 same.1.0 same.1.1
+    are_clean _ g.passes _ _ _ c.args.receipts.now.group _ _ _ c.is_sound.ensures low.0 low.1.0 c.requires.0 c.requires.1.0 c.all_senders_stand.ensures c.all_given_up_stand.ensures same.0 same.1.0 same.1.1
 
 pub returns-clause-none_left : goal.returns-clause-none_left
 returns-clause-none_left g c none none' =

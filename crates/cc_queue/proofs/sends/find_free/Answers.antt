@@ -6,8 +6,8 @@ pub loop-reads-preserved : goal.loop-reads-preserved
 loop-reads-preserved c =
     let i = c.loop-reads.invariant in
     let looked = c.read_passed.ensures in
-    let less : c.loop-reads.reads < c.args.config.now.capacity + 1 = c.loop-reads-test.true in (
-      looks_further _ _ _ _ _ _ _ _ _ (c.loop-reads.reads + 1 - 1) c.requires.here.list i.0 looked.step looked.later i.2 (omega arith) _ c.if-read_passed-groups.false (λ last. omega (arith, last, less)) c.node_after-node.ensures,
+    let less : c.loop-reads._reads < c.args.config.now.capacity + 1 = c.loop-reads-test.true in (
+      looks_further _ _ _ _ _ _ _ _ _ (c.loop-reads._reads + 1 - 1) c.requires.here.list i.0 looked.step looked.later i.2 (omega arith) _ c.if-read_passed-groups.false (λ last. omega (arith, last, less)) c.node_after-node.ensures,
       looked.found.walked.ready,
       omega arith,
       omega (arith, less),

@@ -1,0 +1,156 @@
+//! A call that waits for its answer, be it a send, a close or a take: its turns, and the loop that waits.
+ghost use Rattle.std.specs.Prelude.{[]};
+ghost use Rattle.cc_steps.specs.Walk.{IsOf};
+ghost use Rattle.cc_queue.specs.Headline.{StandsInOne};
+ghost use Rattle.cc_queue.specs.Calls.{Ended};
+
+use crate::passes::{
+    CloseTurn, PendingClose, PendingSend, PendingTake, Receiver, SendTurn, Sender, TakeTurn,
+};
+use crate::queue::Queue;
+use crate::receiver::turn_take;
+use crate::sender::{turn_close, turn_send};
+use cc_model::{CloseAnswer, SendAnswer, TakeAnswer};
+use crossbeam_utils::Backoff;
+use std::sync::Wait;
+
+/// A call that waits for its answer.
+pub trait Pending: Sized {
+    ghost use Rattle.std.specs.Prelude.{ℕ, IfOk, IfErr};
+    ghost use Rattle.cc_steps.specs.Walk.{Walk, IsOf};
+    ghost use Rattle.cc_queue.specs.Calls.{Answered, Waited};
+    ghost use Rattle.cc_queue.specs.Names.{Answer};
+
+    /// The pass, which comes back with the answer.
+    type Pass: Drop;
+    /// The possible answers of the call.
+    type Told: Copy;
+
+    /// The view that clauses have of the call, of its pass, and of its answer.
+    ghost call: { Self → Walk };
+
+    ghost pass: { Self.Pass → Walk };
+
+    ghost told: { Self.Told → Answer };
+
+    /// Makes one turn: the pass with the answer, or the call if it still waits.
+    fn turn(self, queue: &Queue) -> Result<(Self::Pass, Self::Told), Self>
+        requires { IsOf queue.now (call self) }
+        ensures done { IfOk result (λ r. (served : ℕ) × Answered (call self) (told r.1) served (pass r.0)) }
+        ensures waits { IfErr result (λ same. Waited (call self) (call same)) };
+
+    /// Gives the pass up with its call.
+    fn give_up(self);
+}
+
+impl Pending for PendingSend {
+    ghost use Rattle.cc_queue.specs.Names.{Answer};
+
+    type Pass = Sender;
+
+    type Told = SendAnswer;
+
+    ghost call = { λ p. p };
+
+    ghost pass = { λ s. s };
+
+    ghost told = { λ a. Answer.Send a };
+
+    #[inline(always)]
+    fn turn(self, queue: &Queue) -> Result<(Sender, SendAnswer), PendingSend> {
+        match turn_send(queue, self) {
+            SendTurn::Waiting(same) => Err(same),
+            SendTurn::Done {
+                sender,
+                answer,
+                served: _,
+            } => Ok((sender, answer)),
+        }
+    }
+
+    fn give_up(self) {
+        self.abandon();
+    }
+}
+
+impl Pending for PendingClose {
+    ghost use Rattle.cc_queue.specs.Names.{Answer};
+
+    type Pass = Sender;
+
+    type Told = CloseAnswer;
+
+    ghost call = { λ p. p };
+
+    ghost pass = { λ s. s };
+
+    ghost told = { λ a. Answer.Close a };
+
+    fn turn(self, queue: &Queue) -> Result<(Sender, CloseAnswer), PendingClose> {
+        match turn_close(queue, self) {
+            CloseTurn::Waiting(same) => Err(same),
+            CloseTurn::Done {
+                sender,
+                answer,
+                served: _,
+            } => Ok((sender, answer)),
+        }
+    }
+
+    fn give_up(self) {
+        self.abandon();
+    }
+}
+
+impl Pending for PendingTake {
+    ghost use Rattle.cc_queue.specs.Names.{Answer};
+
+    type Pass = Receiver;
+
+    type Told = TakeAnswer;
+
+    ghost call = { λ p. p };
+
+    ghost pass = { λ r. r };
+
+    ghost told = { λ a. Answer.Take a };
+
+    #[inline(always)]
+    fn turn(self, queue: &Queue) -> Result<(Receiver, TakeAnswer), PendingTake> {
+        match turn_take(queue, self) {
+            TakeTurn::Waiting(same) => Err(same),
+            TakeTurn::Done {
+                receiver,
+                answer,
+                served: _,
+            } => Ok((receiver, answer)),
+        }
+    }
+
+    fn give_up(self) {
+        self.abandon();
+    }
+}
+
+/// Waits for the answer: turns, with a back-off between them.
+#[inline(always)]
+pub(crate) fn wait_for_answer<P: Pending, R: Wait>(
+    queue: &Queue,
+    rt: &R,
+    pending: P,
+) -> (P::Pass, P::Told)
+    requires here { IsOf queue.now (P.call pending) }
+    requires sound { StandsInOne (P.call pending) [] (P.call pending) }
+    ensures { Ended (P.call pending) (P.told result.1) (P.pass result.0) }
+{
+    let backoff = Backoff::new();
+    let mut pending = pending;
+    for _ in rt.forever() {
+        match pending.turn(queue) {
+            Err(same) => pending = same,
+            Ok(done) => return done,
+        }
+        backoff.snooze();
+    }
+    unreachable!()
+}
