@@ -17,7 +17,7 @@ use Rattle.cc_plan.specs.declared.tokens.head.Head.{Head}
 use Rattle.cc_plan.proofs.Heads.{tests_word}
 use Rattle.cc_plan.proofs.Listed.{gets_opened, gets_unopened}
 use Rattle.cc_plan.proofs.Gathered.{either_none}
-use Rattle.cc_plan.proofs.Lawful.{each_length}
+use Rattle.cc_plan.proofs.Valid.{each_length}
 
 was_some : (o : Option Body) → IsSome (option_map Call.Send o) → IsSome o
 was_some None some = some

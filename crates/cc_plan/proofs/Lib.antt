@@ -1,5 +1,5 @@
 pub mod Trees
-pub mod Kept
+pub mod CompactCalls
 pub mod Spelled
 pub mod Passed
 pub mod Finite
@@ -16,5 +16,6 @@ pub mod CallLists
 pub mod Keyed
 pub mod Digits
 pub mod Lines
-pub mod Lawful
+pub mod Valid
 pub mod Copied
+pub mod Positions

@@ -1,8 +1,8 @@
 -- The texts of a list's elements, written one after another.
 use Rattle.std.proofs.Common.{◌≡◌, ◌<◌, ◌≤◌, ◌+◌, ℕ, List, [], ◌++◌, length, get_or, drop, refl, sym, ap, ◌∙◌, subst, append_assoc, append-nil, add-one, drop-cons}
 use Rattle.std.proofs.lemmas.List.{drop_all}
-use Rattle.cc_device.specs.Written.{Desk, Pens}
-use Rattle.cc_device.proofs.Writing.{then, still}
+use Rattle.cc_io.specs.Written.{Desk, Pens}
+use Rattle.cc_io.proofs.Writing.{then, still}
 use Rattle.cc_plan.specs.Report.{texts}
 
 -- the pen went on by the texts of the elements before place i

@@ -8,7 +8,9 @@ pub mod Shapes
 pub mod Closures
 pub mod Refusal
 pub mod Answers
-pub mod Kept
+pub mod Why
+pub mod Position
+pub mod CompactCall
 pub mod Calls
 pub mod Plan
 pub mod PlanShape

@@ -14,7 +14,7 @@ IsOfSender Call.Take = ⊥
 -- the version is 1, and then there is one group, or 2; the configuration is legal, lets each sender send 2^32 - 1 times, and
 -- has as many senders, and in all groups as many receivers, as are listed; the lists are no longer than the limits, and each
 -- sender's calls are those of senders; each entry names a pass of the configuration and a number of steps in its range
-pub record Lawful (p : PlanValue) : Type 0 where
+pub record Valid (p : PlanValue) : Type 0 where
   pub version : (p.version ≡ 1) ⊎ (p.version ≡ 2)
   pub config : config_fault p.config ≡ Ok tt
   pub limit : p.config.per_sender ≡ 2 ^ 32 - 1

@@ -2,6 +2,7 @@
 use Rattle.std.specs.Prelude.{ℕ, List, codes, length, nat_lt, if◌then◌else◌, Option, Some, None, option_and_then, Result, Ok, Err}
 use Rattle.serde_json.specs.Data.{Data}
 use Rattle.serde_json.specs.Find.{get}
+use Rattle.cc_io.specs.Input.{input_limit}
 use Rattle.cc_plan.specs.Json.{json_of}
 
 pub data Refusal : Type 0 where
@@ -23,9 +24,6 @@ or_range key None = Err (out_of_range key)
 -- what is read of the tree at the key
 abbrev pub value_at : {A : Type 0} → (Data → Option A) → List ℕ → Data → Result A Refusal
 value_at read key d = or_range key (option_and_then read (get key d))
-
-abbrev pub input_limit : ℕ
-input_limit = 16777216
 
 abbrev pub or_no_json : Option Data → Result Data Refusal
 or_no_json (Some d) = Ok d

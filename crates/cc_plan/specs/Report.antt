@@ -4,7 +4,7 @@ use Rattle.std.specs.List.{slice_get}
 use Rattle.cc_model.specs.Body.{words_of}
 use Rattle.cc_model.specs.Record.{Side, Record}
 use Rattle.cc_plan.specs.Names.{Pass, Call, Item, Entry, Answer, SendAnswer, CloseAnswer, TakeAnswer, Verdict, Caller}
-use Rattle.cc_device.specs.Written.{word_text}
+use Rattle.cc_io.specs.Written.{word_text}
 
 -- the texts of a list's elements, one after another, each by its place, from n
 abbrev pub texts : {A : Type 0} → (ℕ → A → List ℕ) → ℕ → List A → List ℕ

@@ -12,34 +12,34 @@ pub enum PlanFault {
     /// The input is no JSON text: not UTF-8, not JSON's grammar, nested deeper than 127, or with a number too large for a
     /// 64-bit float.
     #[error("no JSON")]
-    P1,
+    NotJson,
     /// The tree has another shape: a key is missing or unknown, a value is of another kind, or a pass name is malformed.
     #[error("of another shape than it should be")]
-    P2,
+    Shape,
     /// The value at this key is out of its range; `input` is the length of the whole input.
     #[error("{0} is out of its range")]
-    P3(&'static str),
+    Range(&'static str),
     /// The schedule entry at this place, counted from 0, names a pass that isn't there.
     #[error("entry {0} names a pass that isn't there")]
-    P4(usize),
+    UnknownPass(usize),
     /// Memory ran out. If a growth was refused, this may come in place of any other answer but that the input is too
     /// long, which is reported before any memory is taken.
     #[error("out of memory")]
-    P5,
+    NoMemory,
 }
 
 impl From<AllocError> for PlanFault {
-    ghost from_gives = { λ _ e. e ≡ PlanFault.P5 };
+    ghost from_gives = { λ _ e. e ≡ PlanFault.NoMemory };
 
     fn from(_: AllocError) -> PlanFault {
-        PlanFault::P5
+        PlanFault::NoMemory
     }
 }
 
 impl<T: Drop> From<AllocFailed<T>> for PlanFault {
-    ghost from_gives = { λ _ e. e ≡ PlanFault.P5 };
+    ghost from_gives = { λ _ e. e ≡ PlanFault.NoMemory };
 
     fn from(_: AllocFailed<T>) -> PlanFault {
-        PlanFault::P5
+        PlanFault::NoMemory
     }
 }

@@ -2,14 +2,19 @@
 #![tactic(auto)]
 
 mod fault;
+mod place;
 mod plan;
+mod reading;
 mod receipts;
 mod report;
 mod tokens;
 mod version;
 
 pub use fault::PlanFault;
-pub use plan::{Calls, Plan, read_values, stranger};
+pub use place::{
+    Check, Explained, Found, Kind, Misfit, Place, Stranger, Table, Trail, ValueKind, Wanted,
+    explain, line_and_column,
+};
+pub use plan::{Calls, Plan, read_plan};
 pub use receipts::{Receipts, read_receipts};
 pub use report::{Report, write_body, write_report, write_verdict};
-pub use tokens::document::INPUT_LIMIT;

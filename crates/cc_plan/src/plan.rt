@@ -1,17 +1,18 @@
 //! A plan, and how it is read.
-ghost use Rattle.std.specs.Prelude.{◌≡◌, ◌≤◌, not, IsErrOf, OnOk, length};
+ghost use Rattle.std.specs.Prelude.{◌≡◌, ◌≤◌, not, IfOk, IsErrOf, OnOk, length};
 ghost use Rattle.std.specs.List.{position};
 ghost use Rattle.cc_plan.specs.Document.{tree};
 ghost use Rattle.cc_plan.specs.Answers.{Gives};
 ghost use Rattle.cc_plan.specs.Plan.{plan_value};
-ghost use Rattle.cc_plan.specs.PlanOf.{values_of, values_of_tree, has_pass};
-ghost use Rattle.cc_plan.specs.Refusal.{input_limit};
+ghost use Rattle.cc_plan.specs.PlanLaws.{Valid};
+ghost use Rattle.cc_plan.specs.PlanOf.{plan_of, values_of, values_of_tree, with_known_passes, has_pass};
+ghost use Rattle.cc_io.specs.Input.{input_limit};
 ghost use Rattle.cc_plan.specs.Names.{PlanFault};
 
 use crate::fault::PlanFault;
+use crate::reading::Reading;
 use crate::tokens::document::{Document, parse};
 use cc_model::{Config, Pass, is_within};
-use json::Scratch;
 use std::alloc::Global;
 
 /// The plan of a run.
@@ -32,43 +33,74 @@ pub struct Plan {
 }
 
 mod calls;
-mod kept;
-mod shape;
+mod compact_call;
+pub mod shape;
 mod values;
 
 pub use calls::Calls;
 use shape::has_plan_shape;
 use values::values;
 
+/// The plan that the bytes describe, or why they describe none: a fault of the whole shape is reported before one
+/// of a range, a range in the order of the keys, and an unknown pass last.
+#[tactic(auto, using(crate::proofs::Valid::valid_if_given))]
+pub fn read_plan(alloc: Global, bytes: &[u8]) -> Result<Plan, PlanFault>
+    ensures plan { Gives plan_value result (plan_of bytes.now) }
+    ensures memory { IsErrOf result PlanFault.NoMemory → length bytes.now ≤ input_limit }
+    ensures valid { IfOk result (λ plan. Valid (plan_value plan)) }
+{
+    let mut reading = Reading::new(alloc);
+    read(alloc, bytes, &mut reading)
+}
+
+/// The same by a reading, which keeps the place of a value that is refused.
+#[tactic(auto, unfolding(crate::specs::PlanOf::plan_of))]
+pub fn read(alloc: Global, bytes: &[u8], reading: &mut Reading) -> Result<Plan, PlanFault>
+    ensures plan { Gives plan_value result (plan_of bytes.now) }
+    ensures memory { IsErrOf result PlanFault.NoMemory → length bytes.now ≤ input_limit }
+{
+    let plan = read_values(alloc, bytes, reading)?;
+    with_known_passes(plan)
+}
+
 /// The values of the plan that the bytes describe, whichever passes its schedule names; or why they describe none: a fault
 /// of the whole shape is reported before one of a range, and a range in the order of the keys.
 #[tactic(auto, unfolding(crate::specs::PlanOf::values_of))]
-pub fn read_values(alloc: Global, bytes: &[u8]) -> Result<Plan, PlanFault>
+fn read_values(alloc: Global, bytes: &[u8], reading: &mut Reading) -> Result<Plan, PlanFault>
     ensures values { Gives plan_value result (values_of bytes.now) }
     ensures short { OnOk result (length bytes.now ≤ input_limit) }
-    ensures memory { IsErrOf result PlanFault.P5 → length bytes.now ≤ input_limit }
+    ensures memory { IsErrOf result PlanFault.NoMemory → length bytes.now ≤ input_limit }
 {
-    let mut scratch = Scratch::new(alloc);
-    let document = parse(bytes, &mut scratch)?;
-    values_in(alloc, &document, &mut scratch)
+    let document = parse(bytes, &mut reading.scratch)?;
+    values_in(alloc, &document, reading)
 }
 
 /// The values that the text describes.
 fn values_in(
     alloc: Global,
     document: &Document<'_>,
-    scratch: &mut Scratch,
+    reading: &mut Reading,
 ) -> Result<Plan, PlanFault>
     ensures { Gives plan_value result (values_of_tree (tree document.now)) }
 {
-    if !has_plan_shape(document, scratch)? {
-        return Err(PlanFault::P2);
+    if !has_plan_shape(document, reading)? {
+        return Err(PlanFault::Shape);
     }
-    values(alloc, document, scratch)
+    values(alloc, document, reading)
+}
+
+/// The plan, unless its schedule names a pass that isn't there.
+fn with_known_passes(plan: Plan) -> Result<Plan, PlanFault>
+    ensures { Gives plan_value result (with_known_passes (plan_value plan)) }
+{
+    match stranger(&plan) {
+        Some(place) => Err(PlanFault::UnknownPass(place)),
+        None => Ok(plan),
+    }
 }
 
 /// The place of the first schedule entry whose pass isn't there.
-pub fn stranger(plan: &Plan) -> Option<usize>
+fn stranger(plan: &Plan) -> Option<usize>
     ensures { result ≡ position (λ e. not (has_pass plan.now.config e.0)) plan.now.schedule.items }
 {
     plan.schedule

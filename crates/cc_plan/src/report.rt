@@ -2,11 +2,11 @@
 ghost use Rattle.std.specs.Prelude.{◌≡◌, ◌<◌, ◌^◌, ◌-◌, false, is_err, slice_get};
 ghost use Rattle.cc_model.specs.Body.{words_of};
 ghost use Rattle.cc_model.specs.HistoryRoom.{lists};
-ghost use Rattle.cc_device.specs.Written.{Writes, Pens, desk};
+ghost use Rattle.cc_io.specs.Written.{Writes, Pens, desk};
 ghost use Rattle.cc_plan.specs.Report.{pass_text, words_text, call_text, item_text, answer_text, caller_in, caller_text, line_text, lines_text, groups_text, verdict_text, report_text};
 
 use cc_audit::Verdict;
-use cc_device::{Pen, Sink, WriteFault};
+use cc_io::{Pen, Sink, WriteFault};
 use cc_model::{
     Answer, Body, Call, CloseAnswer, Entry, History, Item, Pass, SendAnswer, TakeAnswer,
 };
@@ -33,7 +33,7 @@ enum Caller {
 }
 
 /// Writes the text of the report, and stops at the first write that fails.
-#[tactic(auto, using(cc_device::proofs::Writing::all_out))]
+#[tactic(auto, using(cc_io::proofs::Writing::all_out))]
 pub fn write_report<W: Sink>(sink: &mut W, report: &Report<'_>) -> Result<(), WriteFault>
     requires { W.write_failures sink.old < 2 ^ 64 - 1 }
     ensures { Writes (is_err result) (W.bytes_written sink.old) (W.bytes_written sink.new)
@@ -46,7 +46,7 @@ pub fn write_report<W: Sink>(sink: &mut W, report: &Report<'_>) -> Result<(), Wr
 }
 
 /// Writes the line of a verdict alone, and stops at the first write that fails.
-#[tactic(auto, using(cc_device::proofs::Writing::all_out))]
+#[tactic(auto, using(cc_io::proofs::Writing::all_out))]
 pub fn write_verdict<W: Sink>(sink: &mut W, verdict: Verdict) -> Result<(), WriteFault>
     requires { W.write_failures sink.old < 2 ^ 64 - 1 }
     ensures { Writes (is_err result) (W.bytes_written sink.old) (W.bytes_written sink.new)

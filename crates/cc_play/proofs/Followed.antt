@@ -8,7 +8,7 @@ use Rattle.cc_runs.specs.Run.{reached, IsRun}
 use Rattle.cc_machine.specs.Machine.{index_of, IsOpened}
 use Rattle.cc_machine.specs.View.{View, state_in}
 use Rattle.cc_plan.specs.Plan.{PlanValue}
-use Rattle.cc_plan.specs.PlanLaws.{Lawful}
+use Rattle.cc_plan.specs.PlanLaws.{Valid}
 use Rattle.cc_play.specs.Schedule.{setting_of, entry, follow, run_of, IsAt}
 
 -- what a slice of a whole list is after a write
@@ -16,12 +16,12 @@ pub written_back : (n : ℕ) (xs ys : List ℕ) → length ys ≡ length xs → 
 written_back n xs ys same all = grind (arith, common_steps)
 
 -- the opening, with a row for each list of calls
-pub opened : (plan : PlanValue) (m : View) (begun : List ℕ) (senders receivers : ℕ) → Lawful plan → IsOpened Served.List plan.config m → begun ≡ replicate (senders + receivers) 0 → senders ≡ length plan.senders → receivers ≡ length plan.receivers → IsAt plan m begun []
-opened plan m begun senders receivers lawful h zeros s r = record {
+pub opened : (plan : PlanValue) (m : View) (begun : List ℕ) (senders receivers : ℕ) → Valid plan → IsOpened Served.List plan.config m → begun ≡ replicate (senders + receivers) 0 → senders ≡ length plan.senders → receivers ≡ length plan.receivers → IsAt plan m begun []
+opened plan m begun senders receivers valid h zeros s r = record {
   moves = tt;
   setting = h.setting;
   state = h.state;
-  rows = ap length zeros ∙ length-replicate {A = ℕ} (senders + receivers) 0 ∙ (λ i. (s ∙ lawful.senders) i + (r ∙ lawful.receivers) i);
+  rows = ap length zeros ∙ length-replicate {A = ℕ} (senders + receivers) 0 ∙ (λ i. (s ∙ valid.senders) i + (r ∙ valid.receivers) i);
   counts = λ row within.
       let inside : row < senders + receivers = omega (arith, within, ap length zeros, length-replicate {A = ℕ} (senders + receivers) 0) in
       ap (λ (xs : List ℕ). get_or xs row 0) zeros ∙ get_or-replicate {A = ℕ} (senders + receivers) row 0 0 inside;

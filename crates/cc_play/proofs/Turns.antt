@@ -4,7 +4,7 @@ use Rattle.std.proofs.lemmas.Bool.Decides.{nat_tests}
 use Rattle.std.proofs.lemmas.List.{get_or-set_same, get_or-set_other}
 use Rattle.cc_model.specs.Body.{HasBody}
 use Rattle.cc_model.specs.Items.{known_at}
-use Rattle.cc_play.specs.Names.{Answer, Call, Pass, Setting, Event, Kind, Place, Move}
+use Rattle.cc_play.specs.Names.{Answer, Call, Pass, Setting, Event, Kind, Phase, Move}
 use Rattle.cc_runs.specs.Lines.{event_at}
 use Rattle.cc_runs.specs.Step.{stepped as machine_stepped}
 use Rattle.cc_runs.specs.State.{State}
@@ -14,7 +14,7 @@ use Rattle.cc_machine.specs.View.{View, state_in}
 use Rattle.cc_machine.proofs.Rows.{inside}
 use Rattle.cc_machine.proofs.Faults.{may_begin}
 use Rattle.cc_plan.specs.Plan.{PlanValue}
-use Rattle.cc_play.specs.Schedule.{setting_of, place_in, begun_in, next_call, begins_at, begins, steps_at, steps, takes_at, takes, turn, turns, entry, IsAt, HasEnded, HasTurned, IsOnItsWay}
+use Rattle.cc_play.specs.Schedule.{setting_of, phase_in, begun_in, next_call, begins_at, begins, steps_at, steps, takes_at, takes, turn, turns, entry, IsAt, HasEnded, HasTurned, IsOnItsWay}
 
 -- ---- numbers
 
@@ -23,37 +23,37 @@ same_number n = grind (arith, nat_tests)
 
 -- ---- places
 
-begins-busy : (row : ℕ) (at : Place) (kind : Kind) (next : Option Call) (known : ℕ) (run : List Move) → event_at at ≡ Event.Did kind → begins_at row at next known run ≡ run
-begins-busy row Place.Idle kind next known run e = cc
+begins-busy : (row : ℕ) (at : Phase) (kind : Kind) (next : Option Call) (known : ℕ) (run : List Move) → event_at at ≡ Event.Did kind → begins_at row at next known run ≡ run
+begins-busy row Phase.Idle kind next known run e = cc
 begins-busy row _ kind next known run e = refl
 
-begins-none : (row : ℕ) (at : Place) (known : ℕ) (run : List Move) → begins_at row at None known run ≡ run
-begins-none row Place.Idle known run = refl
+begins-none : (row : ℕ) (at : Phase) (known : ℕ) (run : List Move) → begins_at row at None known run ≡ run
+begins-none row Phase.Idle known run = refl
 begins-none row _ known run = refl
 
 -- a call that begins resets its link first
-reset_first : (plan : PlanValue) (row : ℕ) (k : Call) (known : ℕ) (run : List Move) → Event.Did Kind.ResetNext ≡ event_at (place_in plan (Move.Begin row k known ∷ run) row)
-reset_first plan row k known run = sym (ap (λ (b : Bool). event_at (cond b (begun_stand (setting_of plan).config row k known ((reached (setting_of plan) run).stand row)) ((reached (setting_of plan) run).stand row)).place) (same_number row))
+reset_first : (plan : PlanValue) (row : ℕ) (k : Call) (known : ℕ) (run : List Move) → Event.Did Kind.ResetNext ≡ event_at (phase_in plan (Move.Begin row k known ∷ run) row)
+reset_first plan row k known run = sym (ap (λ (b : Bool). event_at (cond b (begun_stand (setting_of plan).config row k known ((reached (setting_of plan) run).stand row)) ((reached (setting_of plan) run).stand row)).phase) (same_number row))
 
 abbrev taken : ℕ → Option Answer → List Move → List Move
 taken row (Some told) run = Move.Take row ∷ run
 taken row None run = run
 
-takes-told : (row : ℕ) (at : Place) (run : List Move) → takes_at row at run ≡ taken row (told_at at) run
-takes-told row (Place.Finished told) run = refl
+takes-told : (row : ℕ) (at : Phase) (run : List Move) → takes_at row at run ≡ taken row (told_at at) run
+takes-told row (Phase.Finished told) run = refl
 takes-told row _ run = refl
 
 -- a pass that has a step has no answer to be taken
-takes-busy : (row : ℕ) (at : Place) (kind : Kind) (run : List Move) → event_at at ≡ Event.Did kind → takes_at row at run ≡ run
-takes-busy row (Place.Finished told) kind run e = cc e
+takes-busy : (row : ℕ) (at : Phase) (kind : Kind) (run : List Move) → event_at at ≡ Event.Did kind → takes_at row at run ≡ run
+takes-busy row (Phase.Finished told) kind run e = cc e
 takes-busy row _ kind run e = refl
 
 did : (e : Event) → e ≢ Event.Idle → (kind : Kind) × (e ≡ Event.Did kind)
 did (Event.Did kind) some = (kind, refl)
 did Event.Idle some = absurd (some refl)
 
-finished_at : (at : Place) (told : Answer) → Some told ≡ told_at at → IsFinished at
-finished_at (Place.Finished answer) told e = tt
+finished_at : (at : Phase) (told : Answer) → Some told ≡ told_at at → IsFinished at
+finished_at (Phase.Finished answer) told e = tt
 finished_at _ told e = absurd (cc)
 
 -- ---- one move of the machine
@@ -69,21 +69,21 @@ module _ (plan : PlanValue) (who : Pass) (row : ℕ) (named : index_of (setting_
   pub stepped : (m m' : View) (begun : List ℕ) (run : List Move) (e : Event) → IsAt plan m begun run → e ≡ event_of m who → HasStepped m (index_of m.setting who) e m' → IsAt plan m' begun (steps plan row run)
   stepped m m' begun run e at is did =
       let here : index_of m.setting who ≡ Some row = index m begun run at in
-      let same : e ≡ event_at (place_in plan run row) = is ∙ ap (event_in m) here ∙ ap (λ (s : State). event_at (s.stand row).place) at.state in
+      let same : e ≡ event_at (phase_in plan run row) = is ∙ ap (event_in m) here ∙ ap (λ (s : State). event_at (s.stand row).phase) at.state in
       subst (λ (x : Event). IsAt plan m' begun (steps_at row x run)) same (core e same (subst (λ (o : Option ℕ). HasStepped m o e m') here did))
     where
-      core : (x : Event) → x ≡ event_at (place_in plan run row) → HasStepped m (Some row) x m' → IsAt plan m' begun (steps_at row x run)
+      core : (x : Event) → x ≡ event_at (phase_in plan run row) → HasStepped m (Some row) x m' → IsAt plan m' begun (steps_at row x run)
       core (Event.Did kind) does h = record { moves = (at.moves, (inside (setting_of plan) who row named, λ none. absurd (cc (does, none)))); setting = h.setting ∙ at.setting; state = moves m m' begun run (Move.Step row) at h; rows = at.rows; counts = at.counts }
       core Event.Idle does h = rw h at
 
   pub answered : (m m' : View) (begun : List ℕ) (run : List Move) (a : Option Answer) → IsAt plan m begun run → a ≡ answer_of m who → HasTaken m (index_of m.setting who) a m' → IsAt plan m' begun (takes plan row run)
   answered m m' begun run a at is did =
       let here : index_of m.setting who ≡ Some row = index m begun run at in
-      let same : a ≡ told_at (place_in plan run row) = is ∙ ap (told_in m) here ∙ ap (λ (s : State). told_at (s.stand row).place) at.state in
-      rw (takes-told row (place_in plan run row) run) (subst (λ (x : Option Answer). IsAt plan m' begun (taken row x run)) same (core a same (subst (λ (o : Option ℕ). HasTaken m o a m') here did)))
+      let same : a ≡ told_at (phase_in plan run row) = is ∙ ap (told_in m) here ∙ ap (λ (s : State). told_at (s.stand row).phase) at.state in
+      rw (takes-told row (phase_in plan run row) run) (subst (λ (x : Option Answer). IsAt plan m' begun (taken row x run)) same (core a same (subst (λ (o : Option ℕ). HasTaken m o a m') here did)))
     where
-      core : (x : Option Answer) → x ≡ told_at (place_in plan run row) → HasTaken m (Some row) x m' → IsAt plan m' begun (taken row x run)
-      core (Some told) read h = record { moves = (at.moves, (inside (setting_of plan) who row named, finished_at (place_in plan run row) told read)); setting = h.setting ∙ at.setting; state = moves m m' begun run (Move.Take row) at h; rows = at.rows; counts = at.counts }
+      core : (x : Option Answer) → x ≡ told_at (phase_in plan run row) → HasTaken m (Some row) x m' → IsAt plan m' begun (taken row x run)
+      core (Some told) read h = record { moves = (at.moves, (inside (setting_of plan) who row named, finished_at (phase_in plan run row) told read)); setting = h.setting ∙ at.setting; state = moves m m' begun run (Move.Take row) at h; rows = at.rows; counts = at.counts }
       core None read h = rw h at
 
   counts_after : (begun : List ℕ) (run : List Move) (k : Call) (known n : ℕ) → ((r : ℕ) → r < length begun → get_or begun r 0 ≡ begun_in r run) → get_or begun row 0 ≡ n → row < length begun
@@ -96,7 +96,7 @@ module _ (plan : PlanValue) (who : Pass) (row : ℕ) (named : index_of (setting_
           rw same (get_or-set_same begun row (n + 1) 0 inside ∙ ap (λ (x : ℕ). x + 1) (sym is ∙ counts row inside))
       by false e = get_or-set_other begun row r (n + 1) 0 (λ same. grind (arith, nat_tests)) ∙ counts r within
 
-  pub begun_now : (m m' : View) (begun : List ℕ) (run : List Move) (n : ℕ) (k : Call) → IsAt plan m begun run → row < length begun → get_or begun row 0 ≡ n → place_in plan run row ≡ Place.Idle → next_call plan who n ≡ Some k → HasBody k → begin_fault m who k ≡ Ok tt
+  pub begun_now : (m m' : View) (begun : List ℕ) (run : List Move) (n : ℕ) (k : Call) → IsAt plan m begun run → row < length begun → get_or begun row 0 ≡ n → phase_in plan run row ≡ Phase.Idle → next_call plan who n ≡ Some k → HasBody k → begin_fault m who k ≡ Ok tt
       → HasBegun m (index_of m.setting who) k (known_at who m.history) m' → IsAt plan m' (set begun row (n + 1)) (begins plan who row run)
   unfolding state_in
   begun_now m m' begun run n k at within is at_rest next whole free did =
@@ -118,31 +118,31 @@ module _ (plan : PlanValue) (who : Pass) (row : ℕ) (named : index_of (setting_
       length_set xs i x = search rules
 
   -- a pass that has a step begins nothing
-  pub did_turn : (run : List Move) (kind : Kind) → event_at (place_in plan run row) ≡ Event.Did kind → turn plan who row run ≡ takes plan row (steps plan row run)
+  pub did_turn : (run : List Move) (kind : Kind) → event_at (phase_in plan run row) ≡ Event.Did kind → turn plan who row run ≡ takes plan row (steps plan row run)
   unfolding turn
   did_turn run kind e = ap (λ (r : List Move). takes plan row (steps plan row r)) (begins-busy row _ kind _ _ run e)
 
   -- a pass without a step and without a call does nothing but have its answer taken
-  pub no_turn : (run : List Move) → event_at (place_in plan run row) ≡ Event.Idle → next_call plan who (begun_in row run) ≡ None → turn plan who row run ≡ takes plan row run
+  pub no_turn : (run : List Move) → event_at (phase_in plan run row) ≡ Event.Idle → next_call plan who (begun_in row run) ≡ None → turn plan who row run ≡ takes plan row run
   unfolding turn
   no_turn run e none =
-      let first : begins plan who row run ≡ run = rw none (begins-none row (place_in plan run row) _ run) in
+      let first : begins plan who row run ≡ run = rw none (begins-none row (phase_in plan run row) _ run) in
       let second : steps plan row run ≡ run = rw e refl in
       ap (λ (r : List Move). takes plan row (steps plan row r)) first ∙ ap (takes plan row) second
 
-  ended_at : (run : List Move) (at : Place) → place_in plan run row ≡ at → event_at at ≡ Event.Idle → next_call plan who (begun_in row run) ≡ None → HasEnded plan who row (takes_at row at run)
-  ended_at run Place.Idle is e none = record { idle = is; none = none }
-  ended_at run (Place.Finished told) is e none = record { idle = ap (λ (b : Bool). (cond b (rests ((reached (setting_of plan) run).stand row)) ((reached (setting_of plan) run).stand row)).place) (same_number row); none = none }
+  ended_at : (run : List Move) (at : Phase) → phase_in plan run row ≡ at → event_at at ≡ Event.Idle → next_call plan who (begun_in row run) ≡ None → HasEnded plan who row (takes_at row at run)
+  ended_at run Phase.Idle is e none = record { idle = is; none = none }
+  ended_at run (Phase.Finished told) is e none = record { idle = ap (λ (b : Bool). (cond b (rests ((reached (setting_of plan) run).stand row)) ((reached (setting_of plan) run).stand row)).phase) (same_number row); none = none }
   ended_at run _ is e none = cc
 
-  pub ended : (run : List Move) → event_at (place_in plan run row) ≡ Event.Idle → next_call plan who (begun_in row run) ≡ None → HasEnded plan who row (turn plan who row run)
-  ended run e none = rw (no_turn run e none) (ended_at run (place_in plan run row) refl e none)
+  pub ended : (run : List Move) → event_at (phase_in plan run row) ≡ Event.Idle → next_call plan who (begun_in row run) ≡ None → HasEnded plan who row (turn plan who row run)
+  ended run e none = rw (no_turn run e none) (ended_at run (phase_in plan run row) refl e none)
 
   -- further turns of a pass that has ended change nothing
   stays : (run : List Move) → HasEnded plan who row run → turn plan who row run ≡ run
   stays run h =
-      let e : event_at (place_in plan run row) ≡ Event.Idle = ap event_at h.idle in
-      no_turn run e h.none ∙ ap (λ (at : Place). takes_at row at run) h.idle
+      let e : event_at (phase_in plan run row) ≡ Event.Idle = ap event_at h.idle in
+      no_turn run e h.none ∙ ap (λ (at : Phase). takes_at row at run) h.idle
 
   pub stays_on : (n more : ℕ) (run : List Move) → HasEnded plan who row (turns plan who row n run) → turns plan who row (n + more) run ≡ turns plan who row n run
   stays_on n zero run h = ap (λ (k : ℕ). turns plan who row k run) (omega arith)
@@ -153,58 +153,58 @@ module _ (plan : PlanValue) (who : Pass) (row : ℕ) (named : index_of (setting_
 
   -- ---- whole turns
 
-  event_here : (m : View) (begun : List ℕ) (run : List Move) → IsAt plan m begun run → event_of m who ≡ event_at (place_in plan run row)
-  event_here m begun run at = ap (event_in m) (index m begun run at) ∙ ap (λ (s : State). event_at (s.stand row).place) at.state
+  event_here : (m : View) (begun : List ℕ) (run : List Move) → IsAt plan m begun run → event_of m who ≡ event_at (phase_in plan run row)
+  event_here m begun run at = ap (event_in m) (index m begun run at) ∙ ap (λ (s : State). event_at (s.stand row).phase) at.state
 
   -- the pass had a step
   pub did_turned : (m m1 m2 : View) (begun : List ℕ) (kind : Kind) (a : Option Answer) → Event.Did kind ≡ event_of m who → HasStepped m (index_of m.setting who) (Event.Did kind) m1
       → a ≡ answer_of m1 who → HasTaken m1 (index_of m1.setting who) a m2 → HasTurned plan who row m m2 begun begun (Event.Did kind)
   did_turned m m1 m2 begun kind a is did told took = record {
     at = λ run at.
-        let does : event_at (place_in plan run row) ≡ Event.Did kind = sym (is ∙ event_here m begun run at) in
+        let does : event_at (phase_in plan run row) ≡ Event.Did kind = sym (is ∙ event_here m begun run at) in
         rw (did_turn run kind does) (answered m1 m2 begun (steps plan row run) a (stepped m m1 begun run (Event.Did kind) at is did) told took);
     told = λ run at.
-        let does : event_at (place_in plan run row) ≡ Event.Did kind = sym (is ∙ event_here m begun run at) in
-        sym (ap (λ (r : List Move). event_at (place_in plan r row)) (begins-busy row _ kind _ _ run does) ∙ does);
+        let does : event_at (phase_in plan run row) ≡ Event.Did kind = sym (is ∙ event_here m begun run at) in
+        sym (ap (λ (r : List Move). event_at (phase_in plan r row)) (begins-busy row _ kind _ _ run does) ∙ does);
     ended = λ run at more. cc;
   }
 
   -- the pass was idle, and had a call to begin
   pub begun_turned : (m m1 m2 m3 : View) (begun : List ℕ) (k : Call) (e : Event) (a : Option Answer) → row < length begun → next_call plan who (get_or begun row 0) ≡ Some k
-      → ((state_in m).stand row).place ≡ Place.Idle → HasBody k → begin_fault m who k ≡ Ok tt → HasBegun m (index_of m.setting who) k (known_at who m.history) m1
+      → ((state_in m).stand row).phase ≡ Phase.Idle → HasBody k → begin_fault m who k ≡ Ok tt → HasBegun m (index_of m.setting who) k (known_at who m.history) m1
       → e ≡ event_of m1 who → HasStepped m1 (index_of m1.setting who) e m2
       → a ≡ answer_of m2 who → HasTaken m2 (index_of m2.setting who) a m3 → HasTurned plan who row m m3 begun (set begun row (get_or begun row 0 + 1)) (Event.Did Kind.ResetNext)
   unfolding turn
   begun_turned m m1 m2 m3 begun k e a within next idle whole free begin is did told took = record {
     at = λ run at.
-        let at_rest : place_in plan run row ≡ Place.Idle = sym (ap (λ (s : State). (s.stand row).place) at.state) ∙ idle in
+        let at_rest : phase_in plan run row ≡ Phase.Idle = sym (ap (λ (s : State). (s.stand row).phase) at.state) ∙ idle in
         let first = begun_now m m1 begun run (get_or begun row 0) k at within refl at_rest next whole free begin in
         let counted : List ℕ = set begun row (get_or begun row 0 + 1) in
         answered m2 m3 counted (steps plan row (begins plan who row run)) a (stepped m1 m2 counted (begins plan who row run) e first is did) told took;
     told = λ run at.
-        let at_rest : place_in plan run row ≡ Place.Idle = sym (ap (λ (s : State). (s.stand row).place) at.state) ∙ idle in
+        let at_rest : phase_in plan run row ≡ Phase.Idle = sym (ap (λ (s : State). (s.stand row).phase) at.state) ∙ idle in
         let call : next_call plan who (begun_in row run) ≡ Some k = ap (next_call plan who) (sym (at.counts row within)) ∙ next in
         rw (at_rest, call) (reset_first plan row k (known_at who (reached (setting_of plan) run).history) run);
     ended = λ run at more. cc;
   }
 
   -- the pass had neither a step nor a call to begin
-  pub none_turned : (m m1 : View) (begun : List ℕ) → row < length begun → told_at ((state_in m).stand row).place ≡ None → Event.Idle ≡ event_of m who → HasStepped m (index_of m.setting who) Event.Idle m1
+  pub none_turned : (m m1 : View) (begun : List ℕ) → row < length begun → told_at ((state_in m).stand row).phase ≡ None → Event.Idle ≡ event_of m who → HasStepped m (index_of m.setting who) Event.Idle m1
       → next_call plan who (get_or begun row 0) ≡ None → HasTurned plan who row m m1 begun begun Event.Idle
   none_turned m m1 begun inside untold is did next = record {
     at = λ run at. rw (unmoved run at) (still run at);
-    told = λ run at. rw (none run at) (sym (ap (λ (r : List Move). event_at (place_in plan r row)) (begins-none row (place_in plan run row) _ run) ∙ stepless run at));
+    told = λ run at. rw (none run at) (sym (ap (λ (r : List Move). event_at (phase_in plan r row)) (begins-none row (phase_in plan run row) _ run) ∙ stepless run at));
     ended = λ run at more. ended run (stepless run at) (none run at);
   }
     where
-      stepless : (run : List Move) → IsAt plan m begun run → event_at (place_in plan run row) ≡ Event.Idle
+      stepless : (run : List Move) → IsAt plan m begun run → event_at (phase_in plan run row) ≡ Event.Idle
       stepless run at = sym (is ∙ event_here m begun run at)
 
       none : (run : List Move) → IsAt plan m begun run → next_call plan who (begun_in row run) ≡ None
       none run at = ap (next_call plan who) (sym (at.counts row inside)) ∙ next
 
       unmoved : (run : List Move) → IsAt plan m begun run → turn plan who row run ≡ run
-      unmoved run at = no_turn run (stepless run at) (none run at) ∙ takes-told row (place_in plan run row) run ∙ ap (λ (told : Option Answer). taken row told run) (sym (ap (λ (s : State). told_at (s.stand row).place) at.state) ∙ untold)
+      unmoved run at = no_turn run (stepless run at) (none run at) ∙ takes-told row (phase_in plan run row) run ∙ ap (λ (told : Option Answer). taken row told run) (sym (ap (λ (s : State). told_at (s.stand row).phase) at.state) ∙ untold)
 
       still : (run : List Move) → IsAt plan m begun run → IsAt plan m1 begun run
       still run at = subst (λ (r : List Move). IsAt plan m1 begun r) (rw (stepless run at) refl) (stepped m m1 begun run Event.Idle at is did)
@@ -212,16 +212,16 @@ module _ (plan : PlanValue) (who : Pass) (row : ℕ) (named : index_of (setting_
   -- ---- an entry
 
   -- a turn of a pass that waits is one read, and leaves all as it was
-  still_turn : (m : View) (begun : List ℕ) (run : List Move) → ((state_in m).stand row).place ≡ Place.ReadState → machine_stepped m.setting (state_in m) row ≡ state_in m
+  still_turn : (m : View) (begun : List ℕ) (run : List Move) → ((state_in m).stand row).phase ≡ Phase.ReadState → machine_stepped m.setting (state_in m) row ≡ state_in m
       → IsAt plan m begun run → IsAt plan m begun (turn plan who row run)
   still_turn m begun run reads same at =
-      let here : place_in plan run row ≡ Place.ReadState = ap (λ (s : State). (s.stand row).place) (sym at.state) ∙ reads in
+      let here : phase_in plan run row ≡ Phase.ReadState = ap (λ (s : State). (s.stand row).phase) (sym at.state) ∙ reads in
       let stays : machine_stepped (setting_of plan) (reached (setting_of plan) run) row ≡ reached (setting_of plan) run =
       subst (λ (s : State). machine_stepped (setting_of plan) s row ≡ s) at.state (subst (λ (c : Setting). machine_stepped c (state_in m) row ≡ state_in m) at.setting same) in
-      let does : event_at (place_in plan run row) ≡ Event.Did Kind.ReadState = ap event_at here in
+      let does : event_at (phase_in plan run row) ≡ Event.Did Kind.ReadState = ap event_at here in
       let one : steps plan row run ≡ Move.Step row ∷ run = ap (λ (e : Event). steps_at row e run) does in
-      let there : place_in plan (Move.Step row ∷ run) row ≡ Place.ReadState = ap (λ (s : State). (s.stand row).place) stays ∙ here in
-      let whole : turn plan who row run ≡ Move.Step row ∷ run = did_turn run Kind.ReadState does ∙ ap (takes plan row) one ∙ ap (λ (p : Place). takes_at row p (Move.Step row ∷ run)) there in
+      let there : phase_in plan (Move.Step row ∷ run) row ≡ Phase.ReadState = ap (λ (s : State). (s.stand row).phase) stays ∙ here in
+      let whole : turn plan who row run ≡ Move.Step row ∷ run = did_turn run Kind.ReadState does ∙ ap (takes plan row) one ∙ ap (λ (p : Phase). takes_at row p (Move.Step row ∷ run)) there in
       rw whole (record {
         moves = (at.moves, (inside (setting_of plan) who row named, λ none. absurd (cc (does, none))));
         setting = at.setting;
@@ -230,7 +230,7 @@ module _ (plan : PlanValue) (who : Pass) (row : ℕ) (named : index_of (setting_
         counts = at.counts;
       })
 
-  still_turns : (m : View) (begun : List ℕ) (run : List Move) → ((state_in m).stand row).place ≡ Place.ReadState → machine_stepped m.setting (state_in m) row ≡ state_in m
+  still_turns : (m : View) (begun : List ℕ) (run : List Move) → ((state_in m).stand row).phase ≡ Phase.ReadState → machine_stepped m.setting (state_in m) row ≡ state_in m
       → (n more : ℕ) → IsAt plan m begun (turns plan who row n run) → IsAt plan m begun (turns plan who row (n + more) run)
   still_turns m begun run reads same n zero at = let none : n ≡ n + zero = omega arith in subst (λ (k : ℕ). IsAt plan m begun (turns plan who row k run)) none at
   still_turns m begun run reads same n (suc more) at =
@@ -247,7 +247,7 @@ module _ (plan : PlanValue) (who : Pass) (row : ℕ) (named : index_of (setting_
 
   -- each of which it had
   abbrev HadEach : ℕ → List Move → Type 0
-  HadEach n run = (k : ℕ) → k < n → event_at (place_in plan (stepping k run) row) ≢ Event.Idle
+  HadEach n run = (k : ℕ) → k < n → event_at (phase_in plan (stepping k run) row) ≢ Event.Idle
 
   leads : (n : ℕ) (run : List Move) → reached (setting_of plan) (stepping n run) ≡ stepped_on (setting_of plan) (reached (setting_of plan) run) row n
   leads zero run = refl
@@ -277,15 +277,15 @@ module _ (plan : PlanValue) (who : Pass) (row : ℕ) (named : index_of (setting_
       same k = ap (λ (c : Setting). stepped_on c (state_in m) row k) at.setting ∙ ap (λ (s : State). stepped_on (setting_of plan) s row k) at.state ∙ sym (leads k run)
 
       each : HadEach n run
-      each k less none = gone.each k less (ap (λ (s : State). event_at (s.stand row).place) (same k) ∙ none)
+      each k less none = gone.each k less (ap (λ (s : State). event_at (s.stand row).phase) (same k) ∙ none)
 
   -- they are as many turns, but for the answer
-  turns_are : (n : ℕ) (run : List Move) → told_at (place_in plan run row) ≡ None → HadEach n run → turns plan who row n run ≡ takes plan row (stepping n run)
-  turns_are zero run none each = sym (takes-told row (place_in plan run row) run ∙ ap (λ (told : Option Answer). taken row told run) none)
+  turns_are : (n : ℕ) (run : List Move) → told_at (phase_in plan run row) ≡ None → HadEach n run → turns plan who row n run ≡ takes plan row (stepping n run)
+  turns_are zero run none each = sym (takes-told row (phase_in plan run row) run ∙ ap (λ (told : Option Answer). taken row told run) none)
   turns_are (suc n) run none each =
       let before = turns_are n run none (λ k less. each k (omega (arith, less))) in
-      let does = did (event_at (place_in plan (stepping n run) row)) (each n (omega arith)) in
-      ap (turn plan who row) (before ∙ takes-busy row (place_in plan (stepping n run) row) does.0 (stepping n run) does.1)
+      let does = did (event_at (phase_in plan (stepping n run) row)) (each n (omega arith)) in
+      ap (turn plan who row) (before ∙ takes-busy row (phase_in plan (stepping n run) row) does.0 (stepping n run) does.1)
       ∙ did_turn (stepping n run) does.0 does.1 ∙ ap (λ (e : Event). takes plan row (steps_at row e (stepping n run))) does.1
 
   -- this number of turns were done
@@ -293,12 +293,12 @@ module _ (plan : PlanValue) (who : Pass) (row : ℕ) (named : index_of (setting_
     pub at : (run : List Move) → IsAt plan m begun run → IsAt plan m1 begun (turns plan who row n run)
 
   -- this number of steps, and the answer taken if there is one then
-  pub gone_turned : (m m1 m2 : View) (begun : List ℕ) (n : ℕ) (a : Option Answer) → told_at ((state_in m).stand row).place ≡ None → HasGoneOn m (index_of m.setting who) n m1
+  pub gone_turned : (m m1 m2 : View) (begun : List ℕ) (n : ℕ) (a : Option Answer) → told_at ((state_in m).stand row).phase ≡ None → HasGoneOn m (index_of m.setting who) n m1
       → a ≡ answer_of m1 who → HasTaken m1 (index_of m1.setting who) a m2 → HasDone m m2 begun n
   gone_turned m m1 m2 begun n a untold gone told took = record {
     at = λ run at.
         let steps = at_steps m m1 begun n run (subst (λ (o : Option ℕ). HasGoneOn m o n m1) (index m begun run at) gone) at in
-        let none : told_at (place_in plan run row) ≡ None = sym (ap (λ (s : State). told_at (s.stand row).place) at.state) ∙ untold in
+        let none : told_at (phase_in plan run row) ≡ None = sym (ap (λ (s : State). told_at (s.stand row).phase) at.state) ∙ untold in
         rw (turns_are n run none steps.0) (answered m1 m2 begun (stepping n run) a steps.1 told took);
   }
 

@@ -8,8 +8,8 @@ ghost use Rattle.cc_runs.specs.Run.{passes, reached, IsRun};
 ghost use Rattle.cc_machine.specs.View.{state_in};
 ghost use Rattle.cc_machine.specs.Machine.{index_of, event_of, HasBegun, IsOpened, begin_fault};
 ghost use Rattle.cc_plan.specs.Plan.{plan_value};
-ghost use Rattle.cc_plan.specs.PlanLaws.{Lawful};
-ghost use Rattle.cc_play.specs.Schedule.{setting_of, next_call, IsAt, IsBetweenTurns, HasTurned, IsOnItsWay, entry, run_of};
+ghost use Rattle.cc_plan.specs.PlanLaws.{Valid};
+ghost use Rattle.cc_play.specs.Schedule.{setting_of, next_call, IsAt, CanFollow, CanTurn, IsBetweenTurns, HasTurned, IsOnItsWay, entry, run_of};
 
 use cc_machine::{BeginFault, Event, Kind, Machine, OpenFault};
 use cc_model::{Call, Config, Pass};
@@ -56,10 +56,7 @@ pub fn turn(
     pass: Pass,
     row: usize,
 ) -> Result<Event, AllocError>
-    requires lawful { Lawful (plan_value plan.now) }
-    requires pass { index_of (setting_of (plan_value plan.now)) pass ≡ Some row }
-    requires row { row < length begun.old }
-    requires between { IsBetweenTurns (plan_value plan.now) machine.old begun.old }
+    requires { CanTurn (plan_value plan.now) pass row machine.old begun.old }
     ensures turned { IfOk result (λ event. HasTurned (plan_value plan.now) pass row machine.old machine.new begun.old begun.new event) }
     ensures between { OnOk result (IsBetweenTurns (plan_value plan.now) machine.new begun.new) }
     ensures rows { length begun.new ≡ length begun.old }
@@ -82,10 +79,7 @@ fn begin_turn(
     pass: Pass,
     row: usize,
 ) -> Result<Event, AllocError>
-    requires lawful { Lawful (plan_value plan.now) }
-    requires pass { index_of (setting_of (plan_value plan.now)) pass ≡ Some row }
-    requires row { row < length begun.old }
-    requires between { IsBetweenTurns (plan_value plan.now) machine.old begun.old }
+    requires can { CanTurn (plan_value plan.now) pass row machine.old begun.old }
     requires idle { Event.Idle ≡ event_of machine.old pass }
     ensures turned { IfOk result (λ event. HasTurned (plan_value plan.now) pass row machine.old machine.new begun.old begun.new event) }
     ensures between { OnOk result (IsBetweenTurns (plan_value plan.now) machine.new begun.new) }
@@ -111,10 +105,7 @@ fn go_on(
     row: usize,
     left: u32,
 ) -> Result<u32, AllocError>
-    requires lawful { Lawful (plan_value plan.now) }
-    requires pass { index_of (setting_of (plan_value plan.now)) pass ≡ Some row }
-    requires row { row < length begun.old }
-    requires between { IsBetweenTurns (plan_value plan.now) machine.old begun.old }
+    requires can { CanTurn (plan_value plan.now) pass row machine.old begun.old }
     requires some { 0 < left }
     ensures fewer { IfOk result (λ rest. rest < left) }
     ensures on { IfOk result (λ rest. IsOnItsWay (plan_value plan.now) pass row machine.old machine.new begun.old begun.new left rest) }
@@ -142,9 +133,7 @@ fn follow_entry(
     pass: Pass,
     events: u32,
 ) -> Result<(), AllocError>
-    requires lawful { Lawful (plan_value plan.now) }
-    requires rows { length begun.old ≡ passes (setting_of (plan_value plan.now)) }
-    requires between { IsBetweenTurns (plan_value plan.now) machine.old begun.old }
+    requires { CanFollow (plan_value plan.now) machine.old begun.old }
     ensures followed { OnOk result ((run : List Move) → IsAt (plan_value plan.now) machine.old begun.old run
         → IsAt (plan_value plan.now) machine.new begun.new (entry (plan_value plan.now) pass (index_of (setting_of (plan_value plan.now)) pass) events run)) }
     ensures between { OnOk result (IsBetweenTurns (plan_value plan.now) machine.new begun.new) }
@@ -162,7 +151,7 @@ fn follow_entry(
 
 /// Plays the schedule of a plan from the opening of its machine. Only memory can be refused.
 pub fn play_schedule(alloc: Global, plan: &Plan) -> Result<Machine, AllocError>
-    requires lawful { Lawful (plan_value plan.now) }
+    requires valid { Valid (plan_value plan.now) }
     ensures run { OnOk result (IsRun (setting_of (plan_value plan.now)) (run_of (plan_value plan.now))) }
     ensures played { IfOk result (λ machine. (machine.setting ≡ setting_of (plan_value plan.now)) × (state_in machine ≡ reached (setting_of (plan_value plan.now)) (run_of (plan_value plan.now)))) }
 {
@@ -186,7 +175,7 @@ fn open(alloc: Global, config: &Config) -> Result<Machine, AllocError>
 /// Follows the whole schedule of a plan on its machine, just opened.
 #[tactic(auto, using(crate::proofs::Followed::finished))]
 fn follow(alloc: Global, machine: &mut Machine, plan: &Plan) -> Result<(), AllocError>
-    requires lawful { Lawful (plan_value plan.now) }
+    requires valid { Valid (plan_value plan.now) }
     requires opened { IsOpened Served.List (plan_value plan.now).config machine.old }
     ensures run { OnOk result (IsRun (setting_of (plan_value plan.now)) (run_of (plan_value plan.now))) }
     ensures played { OnOk result ((machine.new.setting ≡ setting_of (plan_value plan.now)) × (state_in machine.new ≡ reached (setting_of (plan_value plan.now)) (run_of (plan_value plan.now)))) }

@@ -1,23 +1,23 @@
 //! The calls of a sender.
 ghost use Rattle.std.specs.Prelude.{◌≡◌, ◌<◌, ◌++◌, ◌^◌, ◌-◌, IfOk, IfSome, OnOk, [], ◌∷◌, length, get_or, true};
 ghost use Rattle.std.specs.List.{AllByRecursion, list_all, slice_get};
-ghost use Rattle.cc_plan.specs.Kept.{is_kept};
+ghost use Rattle.cc_plan.specs.CompactCall.{has_body};
 
-use super::kept::Kept;
+use super::compact_call::CompactCall;
 use cc_model::{Body, Call};
 use std::alloc::{AllocError, Global};
 
 /// The calls of a sender, in their order. A close and a send of one word take 16 bytes, and another send takes 40 more.
 #[derive(Drop)]
 pub struct Calls {
-    calls: Vec<Kept>,
+    calls: Vec<CompactCall>,
     bodies: Vec<Body>,
-    ghost kept: { list_all (is_kept (length bodies.items)) calls.items ≡ true },
+    ghost kept: { list_all (has_body (length bodies.items)) calls.items ≡ true },
 }
 
 impl Calls {
     ghost use Rattle.cc_plan.specs.Calls.{calls_in};
-    ghost use Rattle.cc_plan.specs.Kept.{kept_in};
+    ghost use Rattle.cc_plan.specs.CompactCall.{call_in};
     ghost use Rattle.cc_plan.specs.Names.{Call};
     ghost use Rattle.cc_plan.specs.PlanLaws.{IsOfSender};
 
@@ -81,15 +81,15 @@ impl Calls {
         self.call_of(self.calls[place])
     }
 
-    /// The call that is kept so.
-    fn call_of(&self, kept: Kept) -> Call
-        requires { is_kept (length self.now.bodies.items) kept ≡ true }
-        ensures { result ≡ kept_in self.now.bodies.items kept }
+    /// The call, whose body may be in the list of bodies.
+    fn call_of(&self, call: CompactCall) -> Call
+        requires { has_body (length self.now.bodies.items) call ≡ true }
+        ensures { result ≡ call_in self.now.bodies.items call }
     {
-        match kept {
-            Kept::Close => Call::Close,
-            Kept::Word(word) => Call::Send(Body::one(word)),
-            Kept::Body(place) => Call::Send(self.bodies[place]),
+        match call {
+            CompactCall::Close => Call::Close,
+            CompactCall::Word(word) => Call::Send(Body::one(word)),
+            CompactCall::Body(place) => Call::Send(self.bodies[place]),
         }
     }
 
@@ -100,7 +100,7 @@ impl Calls {
     {
         match call {
             Call::Send(body) => self.push_send(body),
-            _ => self.push_kept(Kept::Close),
+            _ => self.push_compact(CompactCall::Close),
         }
     }
 
@@ -108,7 +108,7 @@ impl Calls {
         ensures { OnOk result (calls_in self.new ≡ calls_in self.old ++ Call.Send body ∷ []) }
     {
         match body.words() {
-            [word] => self.push_kept(Kept::Word(*word)),
+            [word] => self.push_compact(CompactCall::Word(*word)),
             _ => self.push_body(body),
         }
     }
@@ -118,7 +118,7 @@ impl Calls {
     {
         let place = self.bodies.len();
         self.bodies.push(body)?;
-        self.push_kept(Kept::Body(place))?;
+        self.push_compact(CompactCall::Body(place))?;
         Ok(())
     }
 
@@ -131,11 +131,11 @@ impl Calls {
         self
     }
 
-    fn push_kept(&mut self, kept: Kept) -> Result<(), AllocError>
-        requires { is_kept (length self.old.bodies.items) kept ≡ true }
-        ensures { OnOk result (calls_in self.new ≡ calls_in self.old ++ kept_in self.old.bodies.items kept ∷ []) }
+    fn push_compact(&mut self, call: CompactCall) -> Result<(), AllocError>
+        requires { has_body (length self.old.bodies.items) call ≡ true }
+        ensures { OnOk result (calls_in self.new ≡ calls_in self.old ++ call_in self.old.bodies.items call ∷ []) }
     {
-        self.calls.push(kept)?;
+        self.calls.push(call)?;
         Ok(())
     }
 }

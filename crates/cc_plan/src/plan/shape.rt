@@ -4,38 +4,38 @@ ghost use Rattle.cc_plan.specs.Document.{tree};
 ghost use Rattle.cc_plan.specs.Json.{has_only};
 ghost use Rattle.cc_plan.specs.PlanShape.{is_plan_key, has_groups, has_numbers, has_lists, has_plan_shape};
 
+use crate::reading::Reading;
 use crate::tokens::document::Document;
 use crate::tokens::keyed::has;
 use crate::tokens::shape::{Call, Entry, ListOf, Number};
 use crate::version::table;
-use json::Scratch;
 use std::alloc::AllocError;
 
 /// Whether the root is an object of the keys of its table, each but `version` there, with values of their shapes.
 #[tactic(auto, unfolding(crate::specs::PlanShape::has_plan_shape))]
-pub fn has_plan_shape(document: &Document<'_>, scratch: &mut Scratch) -> Result<bool, AllocError>
+pub fn has_plan_shape(document: &Document<'_>, reading: &mut Reading) -> Result<bool, AllocError>
     ensures { IfOk result (λ has. has ≡ has_plan_shape (tree document.now)) }
 {
-    let version = table(document, scratch)?;
-    let keys = has_plan_keys(document, version, scratch)?;
-    let numbers = has_numbers(document, version, scratch)?;
-    let lists = has_lists(document, version, scratch)?;
+    let version = table(document, &mut reading.scratch)?;
+    let keys = has_plan_keys(document, version, reading)?;
+    let numbers = has_numbers(document, version, reading)?;
+    let lists = has_lists(document, version, reading)?;
     Ok(keys && numbers && lists)
 }
 
 fn has_plan_keys(
     document: &Document<'_>,
     version: u32,
-    scratch: &mut Scratch,
+    reading: &mut Reading,
 ) -> Result<bool, AllocError>
     ensures { IfOk result (λ has. has ≡ has_only (is_plan_key version) (tree document.now)) }
 {
-    let only = document.has_only(|key| is_plan_key(key, version), scratch)?;
+    let only = document.has_only(|key| is_plan_key(key, version), &mut reading.scratch)?;
     Ok(only)
 }
 
 /// Whether a plan of this version may have the key.
-fn is_plan_key(key: &str, version: u32) -> bool
+pub fn is_plan_key(key: &str, version: u32) -> bool
     ensures { result ≡ is_plan_key version key.now }
 {
     matches!(
@@ -49,15 +49,15 @@ fn is_plan_key(key: &str, version: u32) -> bool
 fn has_numbers(
     document: &Document<'_>,
     version: u32,
-    scratch: &mut Scratch,
+    reading: &mut Reading,
 ) -> Result<bool, AllocError>
     ensures { IfOk result (λ has. has ≡ has_numbers version (tree document.now)) }
 {
-    let named = has(document, "version", &Number, true, scratch)?;
-    let groups = has_groups(document, version, scratch)?;
-    let capacity = has(document, "capacity", &Number, false, scratch)?;
-    let bound = has(document, "bound", &Number, false, scratch)?;
-    let life = has(document, "life", &Number, false, scratch)?;
+    let named = has(document, "version", &Number, true, reading)?;
+    let groups = has_groups(document, version, reading)?;
+    let capacity = has(document, "capacity", &Number, false, reading)?;
+    let bound = has(document, "bound", &Number, false, reading)?;
+    let life = has(document, "life", &Number, false, reading)?;
     Ok(named && groups && capacity && bound && life)
 }
 
@@ -65,12 +65,12 @@ fn has_numbers(
 fn has_groups(
     document: &Document<'_>,
     version: u32,
-    scratch: &mut Scratch,
+    reading: &mut Reading,
 ) -> Result<bool, AllocError>
     ensures { IfOk result (λ has. has ≡ has_groups version (tree document.now)) }
 {
     if version == 2 {
-        has(document, "groups", &Number, false, scratch)
+        has(document, "groups", &Number, false, reading)
     } else {
         Ok(true)
     }
@@ -81,13 +81,13 @@ fn has_groups(
 fn has_lists(
     document: &Document<'_>,
     version: u32,
-    scratch: &mut Scratch,
+    reading: &mut Reading,
 ) -> Result<bool, AllocError>
     ensures { IfOk result (λ has. has ≡ has_lists version (tree document.now)) }
 {
     let calls = ListOf(Call { version });
-    let senders = has(document, "senders", &ListOf(calls), false, scratch)?;
-    let receivers = has(document, "receivers", &ListOf(Number), false, scratch)?;
-    let schedule = has(document, "schedule", &ListOf(Entry), false, scratch)?;
+    let senders = has(document, "senders", &ListOf(calls), false, reading)?;
+    let receivers = has(document, "receivers", &ListOf(Number), false, reading)?;
+    let schedule = has(document, "schedule", &ListOf(Entry), false, reading)?;
     Ok(senders && receivers && schedule)
 }

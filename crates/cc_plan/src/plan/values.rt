@@ -12,6 +12,7 @@ ghost use Rattle.cc_plan.specs.Spelled.{Gets, each_of_few};
 
 use super::{Calls, Plan};
 use crate::fault::PlanFault;
+use crate::reading::{Reading, Stop, note_range};
 use crate::tokens::call::{Takes, each_calls};
 use crate::tokens::document::Document;
 use crate::tokens::keyed::{array_at, number_at};
@@ -19,7 +20,7 @@ use crate::tokens::row::Entry;
 use crate::tokens::value::opens;
 use crate::version::version;
 use cc_model::{Config, Pass, is_within};
-use json::{Reader, Scratch};
+use json::Reader;
 use std::alloc::{AllocError, Global};
 
 /// The values in their ranges, or the first key whose value is out of its range.
@@ -27,24 +28,24 @@ use std::alloc::{AllocError, Global};
 pub fn values(
     alloc: Global,
     document: &Document<'_>,
-    scratch: &mut Scratch,
+    reading: &mut Reading,
 ) -> Result<Plan, PlanFault>
     ensures { Gives plan_value result (plan_of_values (tree document.now)) }
 {
-    let Some(version) = version(document, scratch)? else {
-        return Err(PlanFault::P3("version"));
+    let Some(version) = version(document, &mut reading.scratch)? else {
+        return Err(PlanFault::Range("version"));
     };
-    let Some(groups) = groups(document, version, scratch)? else {
-        return Err(PlanFault::P3("groups"));
+    let Some(groups) = groups(document, version, reading)? else {
+        return Err(PlanFault::Range("groups"));
     };
-    let Some(capacity) = number_at(document, "capacity", 4096, scratch)? else {
-        return Err(PlanFault::P3("capacity"));
+    let Some(capacity) = number_at(document, "capacity", 4096, &mut reading.scratch)? else {
+        return Err(PlanFault::Range("capacity"));
     };
-    let Some(bound) = number_at(document, "bound", 1024, scratch)? else {
-        return Err(PlanFault::P3("bound"));
+    let Some(bound) = number_at(document, "bound", 1024, &mut reading.scratch)? else {
+        return Err(PlanFault::Range("bound"));
     };
-    let Some(life) = number_at(document, "life", 1 << 48, scratch)? else {
-        return Err(PlanFault::P3("life"));
+    let Some(life) = number_at(document, "life", 1 << 48, &mut reading.scratch)? else {
+        return Err(PlanFault::Range("life"));
     };
     let numbers = Numbers {
         version,
@@ -53,7 +54,7 @@ pub fn values(
         bound: bound as u32,
         life,
     };
-    with_lists(alloc, document, numbers, scratch)
+    with_lists(alloc, document, numbers, reading)
 }
 
 /// The values of a plan that are numbers.
@@ -72,20 +73,20 @@ fn with_lists(
     alloc: Global,
     document: &Document<'_>,
     numbers: Numbers,
-    scratch: &mut Scratch,
+    reading: &mut Reading,
 ) -> Result<Plan, PlanFault>
     requires { (1 ≤ numbers.groups) × (numbers.groups ≤ 8) }
     ensures { Gives plan_value result (plan_of_lists numbers.version numbers.groups numbers.capacity numbers.bound
         numbers.life (tree document.now)) }
 {
-    let Some(senders) = senders(alloc, document, numbers.version, scratch)? else {
-        return Err(PlanFault::P3("senders"));
+    let Some(senders) = senders(alloc, document, numbers.version, reading)? else {
+        return Err(PlanFault::Range("senders"));
     };
-    let Some(receivers) = receivers(alloc, document, numbers.groups, scratch)? else {
-        return Err(PlanFault::P3("receivers"));
+    let Some(receivers) = receivers(alloc, document, numbers.groups, reading)? else {
+        return Err(PlanFault::Range("receivers"));
     };
-    let Some(schedule) = schedule(alloc, document, scratch)? else {
-        return Err(PlanFault::P3("schedule"));
+    let Some(schedule) = schedule(alloc, document, reading)? else {
+        return Err(PlanFault::Range("schedule"));
     };
     let config = config(numbers, senders.len(), receivers.len());
     Ok(Plan {
@@ -118,7 +119,7 @@ fn config(numbers: Numbers, senders: usize, receivers: usize) -> Config
 fn groups(
     document: &Document<'_>,
     version: u32,
-    scratch: &mut Scratch,
+    reading: &mut Reading,
 ) -> Result<Option<usize>, AllocError>
     ensures value { IfOk result (λ groups. groups ≡ groups_of version (tree document.now)) }
     ensures range { IfOk result (λ groups. IfSome groups (λ n. (1 ≤ n) × (n ≤ 8))) }
@@ -126,7 +127,7 @@ fn groups(
     if version != 2 {
         return Ok(Some(1));
     }
-    match number_at(document, "groups", 8, scratch)? {
+    match number_at(document, "groups", 8, &mut reading.scratch)? {
         Some(n) => Ok(Some(n as usize)),
         None => Ok(None),
     }
@@ -137,15 +138,21 @@ fn senders(
     alloc: Global,
     document: &Document<'_>,
     version: u32,
-    scratch: &mut Scratch,
+    reading: &mut Reading,
 ) -> Result<Option<Vec<Calls>>, AllocError>
     ensures value { IfOk result (λ all. option_map (λ v. map calls_in v.items) all
         ≡ option_and_then (senders_of version) (get (codes "senders") (tree document.now))) }
     ensures range { IfOk result (λ all. IfSome all (λ v. length v.items ≤ 64)) }
 {
-    match document.at("senders", scratch)? {
+    match document.at("senders", &mut reading.scratch)? {
         Some(mut reader) => {
             let all = senders_at(alloc, &mut reader, version)?;
+            let (key, offset) = ("senders", reader.offset());
+            note_range(
+                &mut reading.out_of_range,
+                all.is_some(),
+                Stop { key, offset },
+            );
             Ok(if_any(all))
         }
         None => Ok(None),
@@ -186,7 +193,7 @@ fn receivers(
     alloc: Global,
     document: &Document<'_>,
     groups: usize,
-    scratch: &mut Scratch,
+    reading: &mut Reading,
 ) -> Result<Option<Vec<u32>>, AllocError>
     requires { (1 ≤ groups) × (groups ≤ 8) }
     ensures value { IfOk result (λ all. option_map (λ v. v.items) all
@@ -194,7 +201,7 @@ fn receivers(
     ensures range { IfOk result (λ all. IfSome all (λ v. length v.items / groups ≤ 64)) }
 {
     let most = Some(64 * groups);
-    let all = array_at(alloc, document, "receivers", &Takes, most, scratch)?;
+    let all = array_at(alloc, document, "receivers", &Takes, most, reading)?;
     Ok(if_filled(all, groups))
 }
 
@@ -225,11 +232,11 @@ fn fill_groups(count: usize, groups: usize) -> bool
 fn schedule(
     alloc: Global,
     document: &Document<'_>,
-    scratch: &mut Scratch,
+    reading: &mut Reading,
 ) -> Result<Option<Vec<(Pass, u32)>>, AllocError>
     ensures { IfOk result (λ all. option_map (λ v. v.items) all
         ≡ option_and_then schedule_of (get (codes "schedule") (tree document.now))) }
 {
-    let all = array_at(alloc, document, "schedule", &Entry, Some(65_536), scratch)?;
+    let all = array_at(alloc, document, "schedule", &Entry, Some(65_536), reading)?;
     Ok(all)
 }

@@ -9,13 +9,13 @@ ghost use Rattle.cc_plan.specs.ReceiptsOf.{receipts_of_values};
 
 use super::Receipts;
 use crate::fault::PlanFault;
+use crate::reading::Reading;
 use crate::tokens::document::Document;
 use crate::tokens::keyed::array_at;
 use crate::tokens::row::{SendRow, TakeRow};
 use crate::tokens::value::total;
 use crate::version::version;
 use cc_audit::{SendReceipt, TakeReceipt};
-use json::Scratch;
 use std::alloc::{AllocError, Global};
 
 /// The values in their ranges, or the first key whose value is out of its range.
@@ -23,21 +23,21 @@ use std::alloc::{AllocError, Global};
 pub fn values(
     alloc: Global,
     document: &Document<'_>,
-    scratch: &mut Scratch,
+    reading: &mut Reading,
 ) -> Result<Receipts, PlanFault>
     ensures { Gives receipts_value result (receipts_of_values (tree document.now)) }
 {
-    let Some(version) = version(document, scratch)? else {
-        return Err(PlanFault::P3("version"));
+    let Some(version) = version(document, &mut reading.scratch)? else {
+        return Err(PlanFault::Range("version"));
     };
-    let Some(total) = total_at(document, scratch)? else {
-        return Err(PlanFault::P3("total"));
+    let Some(total) = total_at(document, reading)? else {
+        return Err(PlanFault::Range("total"));
     };
-    let Some(accepted) = accepted(alloc, document, version, scratch)? else {
-        return Err(PlanFault::P3("accepted"));
+    let Some(accepted) = accepted(alloc, document, version, reading)? else {
+        return Err(PlanFault::Range("accepted"));
     };
-    let Some(taken) = taken(alloc, document, version, scratch)? else {
-        return Err(PlanFault::P3("taken"));
+    let Some(taken) = taken(alloc, document, version, reading)? else {
+        return Err(PlanFault::Range("taken"));
     };
     Ok(Receipts {
         accepted,
@@ -49,11 +49,11 @@ pub fn values(
 /// The total, if one is given.
 fn total_at(
     document: &Document<'_>,
-    scratch: &mut Scratch,
+    reading: &mut Reading,
 ) -> Result<Option<Option<u64>>, AllocError>
     ensures { IfOk result (λ given. given ≡ total_of (tree document.now)) }
 {
-    match document.at("total", scratch)? {
+    match document.at("total", &mut reading.scratch)? {
         Some(mut reader) => Ok(total(&mut reader)),
         None => Ok(Some(None)),
     }
@@ -64,13 +64,13 @@ fn accepted(
     alloc: Global,
     document: &Document<'_>,
     version: u32,
-    scratch: &mut Scratch,
+    reading: &mut Reading,
 ) -> Result<Option<Vec<SendReceipt>>, AllocError>
     ensures { IfOk result (λ all. option_map (λ v. v.items) all
         ≡ option_and_then (accepted_of version) (get (codes "accepted") (tree document.now))) }
 {
     let row = SendRow { version };
-    let all = array_at(alloc, document, "accepted", &row, None, scratch)?;
+    let all = array_at(alloc, document, "accepted", &row, None, reading)?;
     Ok(all)
 }
 
@@ -79,12 +79,12 @@ fn taken(
     alloc: Global,
     document: &Document<'_>,
     version: u32,
-    scratch: &mut Scratch,
+    reading: &mut Reading,
 ) -> Result<Option<Vec<TakeReceipt>>, AllocError>
     ensures { IfOk result (λ all. option_map (λ v. v.items) all
         ≡ option_and_then (taken_of version) (get (codes "taken") (tree document.now))) }
 {
     let row = TakeRow { version };
-    let all = array_at(alloc, document, "taken", &row, None, scratch)?;
+    let all = array_at(alloc, document, "taken", &row, None, reading)?;
     Ok(all)
 }

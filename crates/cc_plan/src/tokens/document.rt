@@ -6,10 +6,11 @@ ghost use Rattle.json.specs.Lex.{tokens};
 ghost use Rattle.json.specs.Reads.{token_of};
 ghost use Rattle.serde_json.specs.Find.{get};
 ghost use Rattle.serde_json.specs.Read.{read};
+ghost use Rattle.cc_io.specs.Input.{input_limit};
 ghost use Rattle.cc_plan.specs.Answers.{Gives};
 ghost use Rattle.cc_plan.specs.Closures.{TestsText};
 ghost use Rattle.cc_plan.specs.Json.{json_of, has_only};
-ghost use Rattle.cc_plan.specs.Refusal.{tree_of, or_no_json, input_limit};
+ghost use Rattle.cc_plan.specs.Refusal.{tree_of, or_no_json};
 ghost use Rattle.cc_plan.specs.Names.{PlanFault};
 ghost use Rattle.cc_plan.specs.Members.{after_begin_object, value_in};
 ghost use Rattle.cc_plan.specs.Document.{tree, is_value, fits, IsRoot, IsAt, IsPlace};
@@ -17,12 +18,10 @@ ghost use Rattle.cc_plan.specs.Document.{tree, is_value, fits, IsRoot, IsAt, IsP
 use crate::fault::PlanFault;
 use crate::tokens::members::{have_known_keys, last_place, skip_to_value};
 use crate::tokens::number::is_finite;
+use cc_io::INPUT_LIMIT;
 use json::{Reader, Scratch, Token};
 use std::alloc::AllocError;
 use std::marker::Model;
-
-/// The length in bytes beyond which an input is refused.
-pub const INPUT_LIMIT: usize = 16_777_216;
 
 /// How deep arrays and objects may nest in a text.
 const MAX_DEPTH: usize = 127;
@@ -49,10 +48,10 @@ impl<'a> Model for Document<'a> {
 pub fn parse<'a>(bytes: &'a [u8], scratch: &mut Scratch) -> Result<Document<'a>, PlanFault>
     ensures tree { Gives tree result (tree_of bytes.now) }
     ensures short { OnOk result (length bytes.now ≤ input_limit) }
-    ensures memory { IsErrOf result PlanFault.P5 → length bytes.now ≤ input_limit }
+    ensures memory { IsErrOf result PlanFault.NoMemory → length bytes.now ≤ input_limit }
 {
     if bytes.len() > INPUT_LIMIT {
-        return Err(PlanFault::P3("input"));
+        return Err(PlanFault::Range("input"));
     }
     read_text(bytes, scratch)
 }
@@ -62,15 +61,15 @@ fn read_text<'a>(bytes: &'a [u8], scratch: &mut Scratch) -> Result<Document<'a>,
     ensures { Gives tree result (or_no_json (json_of bytes.now)) }
 {
     let Ok(text) = simdutf8::compat::from_utf8(bytes) else {
-        return Err(PlanFault::P1);
+        return Err(PlanFault::NotJson);
     };
     if !is_json(text, scratch)? {
-        return Err(PlanFault::P1);
+        return Err(PlanFault::NotJson);
     }
     Ok(Document { text })
 }
 
-/// Tells whether a text is JSON.
+/// Whether a text is JSON.
 #[tactic(auto, using(crate::proofs::Finite::read_is))]
 fn is_json(text: &str, scratch: &mut Scratch) -> Result<bool, AllocError>
     ensures { IfOk result (λ json. json ≡ is_some (read text.now)) }
@@ -82,7 +81,7 @@ fn is_json(text: &str, scratch: &mut Scratch) -> Result<bool, AllocError>
     Ok(has_finite_numbers(&mut reader))
 }
 
-/// Tells whether a text is one value of the grammar of JSON, whatever its numbers are.
+/// Whether a text is one value of the grammar of JSON, whatever its numbers are.
 fn is_value(text: &str, scratch: &mut Scratch) -> Result<bool, AllocError>
     ensures { IfOk result (λ is. is ≡ is_value text.now) }
 {
@@ -90,7 +89,7 @@ fn is_value(text: &str, scratch: &mut Scratch) -> Result<bool, AllocError>
     Ok(reader.skip_value(MAX_DEPTH).is_ok() && reader.next().is_none())
 }
 
-/// Tells whether none of the numbers that are left is too large for a float of 64 bits.
+/// Whether none of the numbers that are left is too large for a float of 64 bits.
 fn has_finite_numbers(reader: &mut Reader<'_>) -> bool
     ensures { result ≡ list_all fits reader.old }
 {
@@ -102,7 +101,7 @@ fn has_finite_numbers(reader: &mut Reader<'_>) -> bool
     true
 }
 
-/// Tells whether a token isn't a number too large for a float of 64 bits.
+/// Whether a token isn't a number too large for a float of 64 bits.
 fn fits(token: &Token<'_>) -> bool
     ensures { result ≡ fits (token_of token.now) }
 {
@@ -155,6 +154,13 @@ impl<'a> Document<'a> {
         }
     }
 
+    /// The text.
+    pub fn text(&self) -> &'a str
+        ensures { result.now ≡ self.now }
+    {
+        self.text
+    }
+
     /// How many members of the root come before the last one with the key, if there is one.
     fn place_of(&self, key: &str, scratch: &mut Scratch) -> Result<Option<usize>, AllocError>
         ensures { IfOk result (λ place. IsPlace self.now key.now place) }
@@ -185,7 +191,7 @@ impl<'a> Document<'a> {
     }
 
     /// A reader of the members of the root, if that is an object.
-    fn members<'s>(&self, scratch: &'s mut Scratch) -> Result<Option<Reader<'s>>, AllocError>
+    pub fn members<'s>(&self, scratch: &'s mut Scratch) -> Result<Option<Reader<'s>>, AllocError>
     where
         'a: 's,
         ensures found { IfOk result (λ found. found ≡ after_begin_object (tokens self.now)) }

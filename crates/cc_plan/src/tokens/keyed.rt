@@ -5,6 +5,7 @@ ghost use Rattle.cc_plan.specs.Document.{tree};
 ghost use Rattle.cc_plan.specs.Json.{elements, number_in};
 ghost use Rattle.cc_plan.specs.Spelled.{each_of_few};
 
+use crate::reading::{Reading, Stop, note_missing, note_range, note_shape};
 use crate::tokens::array::array_of;
 use crate::tokens::document::Document;
 use crate::tokens::list::Shape;
@@ -16,16 +17,24 @@ use std::alloc::{AllocError, Global};
 /// Whether the value at the key has the shape; `if_absent` if there is no value.
 pub fn has<S: Shape>(
     document: &Document<'_>,
-    key: &str,
+    key: &'static str,
     shape: &S,
     if_absent: bool,
-    scratch: &mut Scratch,
+    reading: &mut Reading,
 ) -> Result<bool, AllocError>
     ensures { IfOk result (λ has. has ≡ unwrap_or (option_map (S.test shape.now) (get key.now (tree document.now))) if_absent) }
 {
-    match document.at(key, scratch)? {
-        Some(mut reader) => Ok(shape.passes(&mut reader)),
-        None => Ok(if_absent),
+    match document.at(key, &mut reading.scratch)? {
+        Some(mut reader) => {
+            let passes = shape.passes(&mut reader);
+            let offset = reader.offset();
+            note_shape(&mut reading.misshaped, passes, Stop { key, offset });
+            Ok(passes)
+        }
+        None => {
+            note_missing(&mut reading.missing, if_absent, key);
+            Ok(if_absent)
+        }
     }
 }
 
@@ -49,18 +58,24 @@ pub fn number_at(
 pub fn array_at<P: Part>(
     alloc: Global,
     document: &Document<'_>,
-    key: &str,
+    key: &'static str,
     part: &P,
     most: Option<usize>,
-    scratch: &mut Scratch,
+    reading: &mut Reading,
 ) -> Result<Option<Vec<P::Value>>, AllocError>
     ensures { IfOk result (λ all. option_map (λ v. v.items) all
         ≡ option_and_then (λ d. option_and_then (each_of_few most (P.value part.now)) (elements d))
         (get key.now (tree document.now))) }
 {
-    match document.at(key, scratch)? {
+    match document.at(key, &mut reading.scratch)? {
         Some(mut reader) => {
             let all = array_of(alloc, &mut reader, part, most)?;
+            let offset = reader.offset();
+            note_range(
+                &mut reading.out_of_range,
+                all.is_some(),
+                Stop { key, offset },
+            );
             Ok(all)
         }
         None => Ok(None),

@@ -22,7 +22,7 @@ fn skip_key(reader: &mut Reader<'_>) -> bool
 }
 
 /// Passes over the value of a member, whatever its numbers are, and returns whether there is one.
-fn skip_value(reader: &mut Reader<'_>) -> bool
+pub fn skip_value(reader: &mut Reader<'_>) -> bool
     ensures passes { MatchBool result (skip_value 126 reader.old ≡ Some reader.new) (skip_value 126 reader.old ≡ None) }
     ensures shorter { IsTrue result → length reader.new < length reader.old }
 {

@@ -1,5 +1,5 @@
 use Rattle.std.specs.Prelude.{codes}
-use Rattle.cc_device.specs.Written.{desk, word_text}
+use Rattle.cc_io.specs.Written.{desk, word_text}
 use Rattle.cc_plan.proofs.Lines.{UpTo}
 use Rattle.cc_plan.proofs.report.write_body.Given as goal
 

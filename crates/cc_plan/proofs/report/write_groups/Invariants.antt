@@ -1,5 +1,5 @@
 use Rattle.cc_model.specs.HistoryRoom.{lists}
-use Rattle.cc_device.specs.Written.{desk}
+use Rattle.cc_io.specs.Written.{desk}
 use Rattle.cc_plan.specs.Report.{caller_in, lines_text}
 use Rattle.cc_plan.proofs.Lines.{UpTo}
 use Rattle.cc_plan.proofs.report.write_groups.Given as goal

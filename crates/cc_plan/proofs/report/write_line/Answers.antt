@@ -1,4 +1,4 @@
-use Rattle.cc_device.proofs.Writing.{then}
+use Rattle.cc_io.proofs.Writing.{then}
 use Rattle.cc_plan.specs.Report.{line_text}
 use Rattle.cc_plan.proofs.report.write_line.Goals as goal
 

@@ -1,5 +1,5 @@
 use Rattle.std.specs.List.{slice_get}
-use Rattle.cc_device.specs.Written.{desk}
+use Rattle.cc_io.specs.Written.{desk}
 use Rattle.cc_plan.specs.Report.{line_text}
 use Rattle.cc_plan.proofs.Lines.{UpTo}
 use Rattle.cc_plan.proofs.report.write_lines.Given as goal

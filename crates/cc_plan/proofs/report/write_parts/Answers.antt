@@ -1,4 +1,4 @@
-use Rattle.cc_device.proofs.Writing.{then}
+use Rattle.cc_io.proofs.Writing.{then}
 use Rattle.cc_plan.specs.Report.{report_text}
 use Rattle.cc_plan.proofs.report.write_parts.Goals as goal
 

@@ -1,5 +1,5 @@
 use Rattle.std.proofs.Common.{is_err}
-use Rattle.cc_device.proofs.Writing.{then, all_out}
+use Rattle.cc_io.proofs.Writing.{then, all_out}
 use Rattle.cc_play.proofs.outcome.refused_key.Goals as goal
 
 pub returns-clause-told : goal.returns-clause-told

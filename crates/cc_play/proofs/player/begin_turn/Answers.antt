@@ -6,14 +6,14 @@ use Rattle.cc_play.proofs.player.begin_turn.Goals as goal
 
 pub begin-requires : goal.begin-requires
 begin-requires c =
-    may_begin (plan_value c.args.plan.now) c.args.pass c.args.row c.args.machine.now c.args.begun.now c.in-Some.call c.requires.lawful c.requires.pass c.requires.between
+    may_begin (plan_value c.args.plan.now) c.args.pass c.args.row c.args.machine.now c.args.begun.now c.in-Some.call c.requires.can.valid c.requires.can.pass c.requires.can.between
     c.requires.idle (sym c.next_call.ensures.call ∙ c.in-Some.is)
 
 pub returns-clause-turned : goal.returns-clause-turned
 returns-clause-turned c =
-    begun_turned (plan_value c.args.plan.now) c.args.pass c.args.row c.requires.pass _ _ _ _ _ c.in-Some.call _ _ c.requires.row (sym c.next_call.ensures.call ∙ c.in-Some.is)
-    (idle_between (plan_value c.args.plan.now) c.args.pass c.args.row c.requires.pass _ _ c.requires.between c.requires.idle)
+    begun_turned (plan_value c.args.plan.now) c.args.pass c.args.row c.requires.can.pass _ _ _ _ _ c.in-Some.call _ _ c.requires.can.row (sym c.next_call.ensures.call ∙ c.in-Some.is)
+    (idle_between (plan_value c.args.plan.now) c.args.pass c.args.row c.requires.can.pass _ _ c.requires.can.between c.requires.idle)
     c.in_ok-begin.ensures.body
-    (may_begin (plan_value c.args.plan.now) c.args.pass c.args.row c.args.machine.now c.args.begun.now c.in-Some.call c.requires.lawful c.requires.pass c.requires.between c.requires.idle (sym c.next_call.ensures.call ∙ c.in-Some.is))
+    (may_begin (plan_value c.args.plan.now) c.args.pass c.args.row c.args.machine.now c.args.begun.now c.in-Some.call c.requires.can.valid c.requires.can.pass c.requires.can.between c.requires.idle (sym c.next_call.ensures.call ∙ c.in-Some.is))
     c.in_ok-begin.ensures.begun
     c.event.ensures.event c.event.ensures.state c.answer.ensures.answer c.answer.ensures.state

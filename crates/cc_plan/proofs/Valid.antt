@@ -18,7 +18,7 @@ use Rattle.cc_plan.specs.PlanShape.{named, has_plan_shape}
 use Rattle.cc_plan.specs.PlanValues.{groups_of, counted, call_of, calls_of, senders_of, fill_groups, receivers_of, entry_of, schedule_of}
 use Rattle.cc_plan.specs.Version.{version_in, version_of}
 use Rattle.cc_plan.specs.PlanOf.{config_of, plan_of_lists, plan_of_values, has_pass, known_passes, with_known_passes, values_of_tree, values_of, plan_of}
-use Rattle.cc_plan.specs.PlanLaws.{IsOfSender, Lawful}
+use Rattle.cc_plan.specs.PlanLaws.{IsOfSender, Valid}
 
 -- ---- steps that gave something
 
@@ -182,9 +182,9 @@ record Valued (p : PlanValue) : Type 0 where
   entries : length p.schedule ≤ 65536
   steps : All (λ e. (1 ≤ e.1) × (e.1 ≤ 100000)) p.schedule
 
-fields_lawful : (groups senders receivers capacity bound life : ℕ) → within 1 8 groups ≡ true → within 1 64 senders ≡ true → within 1 64 receivers ≡ true → within 1 4096 capacity ≡ true → within 1 1024 bound ≡ true → within 1 (2 ^ 48) life ≡ true
+fields_valid : (groups senders receivers capacity bound life : ℕ) → within 1 8 groups ≡ true → within 1 64 senders ≡ true → within 1 64 receivers ≡ true → within 1 4096 capacity ≡ true → within 1 1024 bound ≡ true → within 1 (2 ^ 48) life ≡ true
     → config_fault (config_of groups senders receivers capacity bound life) ≡ Ok tt
-fields_lawful groups senders receivers capacity bound life g a b c d e = rw (a, b, c, d, e, g) refl
+fields_valid groups senders receivers capacity bound life g a b c d e = rw (a, b, c, d, e, g) refl
 
 -- what each key gave, and the plan of it
 record Given (d : Data) (p : PlanValue) : Type 0 where
@@ -237,8 +237,8 @@ values_given d p e =
       plan_is = ok_same _ p schedule.2;
     }
 
-given_lawful : (d : Data) (p : PlanValue) → Given d p → Valued p
-given_lawful d p g =
+given_valid : (d : Data) (p : PlanValue) → Given d p → Valued p
+given_valid d p g =
     let capacity_at = at_key (number_in 1 4096) (codes "capacity") d g.capacity g.capacity_is in
     let bound_at = at_key (number_in 1 1024) (codes "bound") d g.bound g.bound_is in
     let life_at = at_key (number_in 1 (2 ^ 48)) (codes "life") d g.life g.life_is in
@@ -255,7 +255,7 @@ given_lawful d p g =
     let t = some_step (counted 0 65536 schedule_at.0) (each entry_of) g.schedule schedule_at.1 in
     subst Valued g.plan_is (record {
       version = known_version (get (codes "version") d) g.version known;
-      config = fields_lawful g.groups (length g.senders) (length g.receivers / g.groups) g.capacity g.bound g.life
+      config = fields_valid g.groups (length g.senders) (length g.receivers / g.groups) g.capacity g.bound g.life
           grouped.0
           (sym (ap (within 1 64) (each_length (calls_of g.version) s.0 g.senders s.2)) ∙ count_within 1 64 senders_at.0 s.0 s.1)
           (sym (ap (λ (n : ℕ). within 1 64 (n / g.groups)) all_receivers) ∙ parts.1)
@@ -273,10 +273,10 @@ given_lawful d p g =
       steps = each_all (λ x. (1 ≤ x.1) × (x.1 ≤ 100000)) entry_of entry_steps t.0 g.schedule t.2;
     })
 
-with_passes : (q p : PlanValue) → Valued q → with_known_passes q ≡ Ok p → Lawful p
+with_passes : (q p : PlanValue) → Valued q → with_known_passes q ≡ Ok p → Valid p
 with_passes q p v e =
     let known = known_ones (position (λ x. not (has_pass q.config x.0)) q.schedule) q p e in
-    subst Lawful known.1 (record {
+    subst Valid known.1 (record {
       version = v.version;
       config = v.config;
       limit = v.limit;
@@ -296,14 +296,14 @@ shaped true r p e = e
 shaped false r p e = cc e
 
 -- the plan of an input is legal
-plan_lawful : (bytes : List ℕ) (p : PlanValue) → plan_of bytes ≡ Ok p → Lawful p
+plan_valid : (bytes : List ℕ) (p : PlanValue) → plan_of bytes ≡ Ok p → Valid p
 unfolding plan_of values_of
-plan_lawful bytes p e =
+plan_valid bytes p e =
     let values = ok_step (values_of bytes) with_known_passes p e in
     let tree = ok_step (tree_of bytes) values_of_tree values.0 values.1 in
-    with_passes values.0 p (given_lawful tree.0 values.0 (values_given tree.0 values.0 (shaped (has_plan_shape tree.0) _ values.0 tree.2))) values.2
+    with_passes values.0 p (given_valid tree.0 values.0 (values_given tree.0 values.0 (shaped (has_plan_shape tree.0) _ values.0 tree.2))) values.2
 
 -- the result of a reading function is legal
-pub lawful_if_given : (r : Result Plan PlanFault) (bytes : List ℕ) → Gives plan_value r (plan_of bytes) → IfOk r (λ p. Lawful (plan_value p))
-lawful_if_given (Ok p) bytes given = plan_lawful bytes (plan_value p) given
-lawful_if_given (Err fault) bytes given = tt
+pub valid_if_given : (r : Result Plan PlanFault) (bytes : List ℕ) → Gives plan_value r (plan_of bytes) → IfOk r (λ p. Valid (plan_value p))
+valid_if_given (Ok p) bytes given = plan_valid bytes (plan_value p) given
+valid_if_given (Err fault) bytes given = tt
