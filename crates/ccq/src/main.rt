@@ -1,18 +1,19 @@
-//! Plays plans, audits receipts, judges logs of calls, and drives queues by threads.
+//! Plays and shows plans, audits receipts, judges logs of calls, and drives queues by threads.
 #![tactic(auto)]
 
 ghost use Rattle.std.specs.Prelude.{◌<◌, ◌-◌, ◌^◌};
 
-use cc_command::not_text;
-use cc_command::reading::{decline, decline_file};
-use cc_command::run::run;
-use cc_command::words::{spelled, without_file};
-use cc_device::{Device, Sink, Source};
+use cc_cli::hint::{hint, is_explained};
+use cc_cli::reading::{decline, decline_file};
+use cc_cli::run::run;
+use cc_cli::words::{CommandLine, spelled, without_file, without_form};
+use cc_cli::{judging, not_text};
+use cc_io::{Device, Sink, Source};
 use clap::Error;
 use std::alloc::{AllocError, Global};
 use std::env;
 use std::fs::{File, Files};
-use std::io::ErrorKind;
+use std::io::{ErrorKind, IsTerminal};
 use std::process::ExitCode;
 use std::sync::Wait;
 use std::thread::Threads;
@@ -22,14 +23,13 @@ fn main(rt: HostRuntime) -> ExitCode {
     let mut sink = Device::new(rt.stdout());
     let mut errors = Device::new(rt.stderr());
     let status = match words(&rt) {
-        Ok(words) => answer(
-            &rt,
-            rt.alloc(),
-            words.as_slice(),
-            &mut source,
-            &mut sink,
-            &mut errors,
-        ),
+        Ok(words) => {
+            let hints = rt.stderr().is_terminal() && is_explained(&words);
+            match answer(&rt, rt.alloc(), words, &mut source, &mut sink, &mut errors) {
+                2 if hints => hint(&mut Device::new(rt.stderr())),
+                status => status,
+            }
+        }
         Err(error) => decline(rt.alloc(), &error, &mut sink, &mut errors),
     };
     ExitCode::from(status)
@@ -49,6 +49,41 @@ fn words(rt: &HostRuntime) -> Result<Vec<String>, Error> {
 fn answer<R: Threads + Wait + Sync + Files, S: Source, W: Sink, E: Sink>(
     rt: &R,
     alloc: Global,
+    words: Vec<String>,
+    standard: &mut S,
+    sink: &mut W,
+    errors: &mut E,
+) -> u8
+    requires reads { S.read_failures standard.old < 2 ^ 64 - 1 }
+    requires writes { W.write_failures sink.old < 2 ^ 64 - 1 }
+    requires errors { E.write_failures errors.old < 2 ^ 64 - 1 }
+{
+    if judging::has_options(words.as_slice()) {
+        return judge(rt, alloc, words.as_slice(), standard, sink, errors);
+    }
+    let formed = without_form(words);
+    let parted = without_file(formed.words.as_slice());
+    let line = CommandLine {
+        words: parted.words,
+        form: formed.form,
+    };
+    let Some(name) = parted.file else {
+        return run(rt, alloc, line, standard, sink, errors);
+    };
+    match File::open(rt, name) {
+        Ok(file) => {
+            let mut source = Device::new(file);
+            run(rt, alloc, line, &mut source, sink, errors)
+        }
+        Err(error) => decline_file(alloc, errors, name.as_bytes(), &error),
+    }
+}
+
+/// Judges a log by options, over the file that the line names, or over standard input if it names none, and answers the exit
+/// status.
+fn judge<R: Files, S: Source, W: Sink, E: Sink>(
+    rt: &R,
+    alloc: Global,
     words: &[String],
     standard: &mut S,
     sink: &mut W,
@@ -58,15 +93,14 @@ fn answer<R: Threads + Wait + Sync + Files, S: Source, W: Sink, E: Sink>(
     requires writes { W.write_failures sink.old < 2 ^ 64 - 1 }
     requires errors { E.write_failures errors.old < 2 ^ 64 - 1 }
 {
-    let line = without_file(words);
-    let Some(name) = line.file else {
-        return run(rt, alloc, line.words, standard, sink, errors);
+    let Some(asked) = judging::asked(words) else {
+        return judging::decline_options(errors);
+    };
+    let Some(name) = asked.file else {
+        return judging::judge(alloc, asked, standard, sink, errors);
     };
     match File::open(rt, name) {
-        Ok(file) => {
-            let mut source = Device::new(file);
-            run(rt, alloc, line.words, &mut source, sink, errors)
-        }
+        Ok(file) => judging::judge(alloc, asked, &mut Device::new(file), sink, errors),
         Err(error) => decline_file(alloc, errors, name.as_bytes(), &error),
     }
 }

@@ -1,7 +1,0 @@
-use Rattle.std.proofs.Common.{All}
-use Rattle.cc_steps.specs.Walk.{IsOf}
-use Rattle.cc_bench.specs.Work.{Belongs}
-use Rattle.cc_bench.proofs.work.add_senders.Given as goal
-
-abbrev pub invariant-loop : goal.invariant-loop
-invariant-loop l = All (λ w. IsOf l.fn.queue w) l.senders.items × All (λ w. Belongs l.fn.queue w) l.workers.items

@@ -1,5 +1,0 @@
-use Rattle.cc_steps.specs.Walk.{IsOf}
-use Rattle.cc_bench.proofs.work.take_all.Given as goal
-
-abbrev pub invariant-loop : goal.invariant-loop
-invariant-loop g l = IsOf l.fn.queue l.receiver

@@ -1,0 +1,7 @@
+-- The types in specs, proofs and contracts of this crate. A variant comes after its type, as `Task.Play`.
+pub use Rattle.cc_audit.specs.declared.receipt.Verdict.{Verdict}
+pub use Rattle.cc_plan.specs.declared.fault.PlanFault.{PlanFault}
+pub use Rattle.cc_play.specs.declared.fault.PlayFault.{PlayFault}
+pub use Rattle.cc_show.specs.declared.fault.ShowFault.{ShowFault}
+pub use Rattle.cc_show.specs.declared.form.Form.{Form}
+pub use Rattle.cc_cli.specs.declared.command_line.Task.{Task}

@@ -1,0 +1,151 @@
+//! The run that a line of a drive asks for.
+ghost use Rattle.std.specs.Prelude.{◌≡◌, IfOk, IfSome, map, string_bytes};
+ghost use Rattle.cc_cli.specs.Line.{IsAsked, IsGiven, asks_to_drive};
+
+use cc_drive::DriveConfig;
+use clap::builder::ValueParser;
+use clap::error::ErrorKind;
+use clap::{Arg, ArgAction, ArgMatches, Command, Error, value_parser};
+use std::alloc::{AllocError, Global};
+
+/// How many turns each worker of the program may make: more than any run comes to.
+const LIMIT: u64 = 1 << 48;
+
+/// Whether the first of the words, without the program's name, asks for a drive.
+pub fn asks_to_drive(words: &[String]) -> bool
+    ensures { result ≡ asks_to_drive (map string_bytes words.now) }
+{
+    match words.first() {
+        Some(word) => word.as_str() == "drive",
+        None => false,
+    }
+}
+
+/// The run that a line asks for: the numbers that its options give, or else their defaults. Its first word is `drive`. Or
+/// why there is no run: help is asked for, a word is wrong, a number is out of its range, or memory was refused.
+pub fn asked(alloc: Global, words: &[String]) -> Result<DriveConfig, Error>
+    ensures { IfOk result IsAsked }
+{
+    let mut command = drive_command(alloc)?;
+    let matches = command.try_get_matches_from_mut(words)?;
+    match given(&matches) {
+        Some(config) => Ok(config),
+        None => Err(command.error(ErrorKind::MissingRequiredArgument, "a number is missing")?),
+    }
+}
+
+/// The run with the numbers that were found for the options. There is one for each, since each has a default.
+fn given(matches: &ArgMatches) -> Option<DriveConfig>
+    ensures { IfSome result (IsGiven matches.now) }
+{
+    Some(DriveConfig {
+        senders: matches.get_one("senders")?,
+        receivers: matches.get_one("receivers")?,
+        items: matches.get_one("items")?,
+        capacity: matches.get_one("capacity")?,
+        bound: matches.get_one("bound")?,
+        limit: LIMIT,
+    })
+}
+
+/// The command, with its options and the texts of its help.
+fn drive_command<'a>(alloc: Global) -> Result<Command<'a>, AllocError> {
+    Command::new(alloc, "drive")
+        .about(
+            "Drives a queue by threads that send and threads that take, and audits their receipts",
+        )
+        .after_help(DETAILS)
+        .bin_name("ccq drive")?
+        .arg(number(
+            alloc,
+            "senders",
+            value_parser!(u32).range(1..=63),
+            "4",
+            "Threads that send, 1 to 63",
+        ))?
+        .arg(number(
+            alloc,
+            "receivers",
+            value_parser!(u32).range(1..=64),
+            "4",
+            "Threads that take, 1 to 64",
+        ))?
+        .arg(number(
+            alloc,
+            "items",
+            value_parser!(u64).range(0..=1_000_000),
+            "1000",
+            "Items that each sender sends, 0 to 1000000",
+        ))?
+        .arg(number(
+            alloc,
+            "capacity",
+            value_parser!(u32).range(1..=4096),
+            "64",
+            "Items that may wait in the queue, 1 to 4096",
+        ))?
+        .arg(number(
+            alloc,
+            "bound",
+            value_parser!(u32).range(1..=1024),
+            "8",
+            "Calls that one combiner serves in a row, 1 to 1024",
+        ))
+}
+
+/// An option that takes a number of this range.
+fn number<'a>(
+    alloc: Global,
+    name: &'a str,
+    range: ValueParser<'a>,
+    default: &'a str,
+    help: &'a str,
+) -> Arg<'a> {
+    option(alloc, name, help)
+        .value_parser(range)
+        .default_value(default)
+}
+
+/// An option that takes a value.
+fn option<'a>(alloc: Global, name: &'a str, help: &'a str) -> Arg<'a> {
+    Arg::new(alloc, name)
+        .long(name)
+        .action(ArgAction::Set)
+        .value_name("N")
+        .help(help)
+}
+
+const DETAILS: &str = "\
+Each sender sends the bodies 1 to the number of items, in a thread of its own; each receiver takes,
+in a thread of its own, until the queue has ended. The queue is closed when all senders are done.
+
+The answer is three lines:
+  sent N       how many sends were accepted
+  taken N      how many items were taken
+  audit clean  the verdict on the receipts of all threads; else the line of a fault, as `ccq audit`
+               prints it
+
+A drive measures what the threads received, each item that was sent and each that was taken, and
+whether these receipts fit together. It doesn't measure times, or the order of the threads' steps,
+which is another in each run.
+
+A combiner serves as many calls as the bound allows, and hands over to the next in line. With
+more threads than processors, a bound below a quarter of a side's threads is slow: the next in line
+is often a thread that doesn't run, and the side waits for it.
+
+Each thread has a stack as large as the limit on stacks (`ulimit -s`); 128 KiB are enough. At
+8 MiB the stacks of 127 threads are 1 GB of address space, of which little is used, and with what
+the C library reserves such a run needs up to 3.5 GB of it on four processors. Under a limit on
+that (`ulimit -v`) a thread may be refused; with small stacks 100 MB are enough:
+  (ulimit -s 128; ulimit -v 100000; ccq drive --senders 63 --receivers 64)
+
+Exit status:
+  0   done, and the verdict is clean
+  1   the audit found a fault
+  3   memory or a thread was refused, or a worker reached its limit: 281474976710656 turns, or
+      4294967295 sends
+  4   writing failed
+  64  the command line is refused
+
+Example:
+  ccq drive --senders 3 --receivers 2 --items 100 --capacity 4 --bound 2";

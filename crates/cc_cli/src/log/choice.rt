@@ -1,0 +1,195 @@
+//! Which calls the page of a judged log shows: those that the fault names, those of the same items, and some at the same times.
+
+use crate::log::line::{Body, Said};
+use crate::log::parse::Log;
+use cc_judge::{Fault, Stay};
+use indexmap::IndexSet;
+use std::alloc::{AllocError, Global};
+
+/// How many calls are shown at most only because they overlap one that the fault names.
+const BESIDE_LIMIT: usize = 300;
+
+/// How many calls are shown at most of a log without a fault.
+const FIRST: usize = 100;
+
+/// The calls that a page shows.
+#[derive(Drop)]
+pub struct Choice {
+    /// Of each call of the log whether the page shows it.
+    pub marks: Vec<bool>,
+    /// How many calls that overlap one of the fault's are left out.
+    pub left_out: usize,
+}
+
+/// The times of a call that the fault names.
+#[derive(Clone, Copy)]
+struct Span {
+    begin: u64,
+    /// The last end of this call and of those that began before it.
+    end: u64,
+}
+
+/// Marks the call at a place.
+fn mark(marks: &mut Vec<bool>, place: usize) {
+    if place < marks.len() {
+        marks[place] = true;
+    }
+}
+
+/// Marks the calls of a stay.
+fn mark_stay(marks: &mut Vec<bool>, stay: &Stay) {
+    match stay {
+        Stay::Taken { send, take } => {
+            mark(marks, *send);
+            mark(marks, *take);
+        }
+        Stay::Left { sends, next } => {
+            for send in sends {
+                mark(marks, *send);
+            }
+            if let Some(next) = next {
+                mark(marks, *next);
+            }
+        }
+    }
+}
+
+/// Marks the calls that a fault names.
+fn mark_named(marks: &mut Vec<bool>, fault: &Fault) {
+    match fault {
+        Fault::NeverSent { take } => mark(marks, *take),
+        Fault::TakenBeforeSent { send, take } => {
+            mark(marks, *send);
+            mark(marks, *take);
+        }
+        Fault::TakenTwice { first, second } => {
+            mark(marks, *first);
+            mark(marks, *second);
+        }
+        Fault::Overtaken {
+            stay,
+            later_send,
+            later_take,
+        } => {
+            mark_stay(marks, stay);
+            mark(marks, *later_send);
+            mark(marks, *later_take);
+        }
+        Fault::NotEmpty { call, stays } => {
+            mark(marks, *call);
+            for stay in stays {
+                mark_stay(marks, stay);
+            }
+        }
+        Fault::Reopened { closed, send } => {
+            mark(marks, *closed);
+            mark(marks, *send);
+        }
+        Fault::ClosedEarly { call } | Fault::NotFull { call } => mark(marks, *call),
+    }
+}
+
+/// The body of the item that a line sent, offered or took.
+fn body_of(said: Said) -> Option<Body> {
+    match said {
+        Said::Send(body) | Said::Took(body) | Said::Full(body) | Said::Closed(body) => Some(body),
+        Said::FoundNone | Said::Taking | Said::Ended | Said::Close => None,
+    }
+}
+
+/// The bodies of the items of the marked calls.
+fn bodies(alloc: Global, log: &Log, marks: &[bool]) -> Result<IndexSet<Body>, AllocError> {
+    let mut bodies = IndexSet::new(alloc);
+    for (shown, marked) in log.shown.iter().zip(marks.iter()) {
+        if *marked {
+            if let Some(body) = body_of(shown.line.said) {
+                let _new = bodies.insert(body)?;
+            }
+        }
+    }
+    Ok(bodies)
+}
+
+/// The times of the marked calls, in the order of their begins. One that hasn't returned counts at its begin alone, since it
+/// overlaps all that follows.
+fn spans(alloc: Global, log: &Log, marks: &[bool]) -> Result<Vec<Span>, AllocError> {
+    let mut spans = Vec::new(alloc);
+    for (call, marked) in log.calls.iter().zip(marks.iter()) {
+        if *marked {
+            spans.push(Span {
+                begin: call.begin,
+                end: call.end.unwrap_or(call.begin),
+            })?;
+        }
+    }
+    spans.sort_by_key(|span| span.begin)?;
+    let mut last = 0;
+    for at in 0..spans.len() {
+        if let Some(span) = spans.as_mut_slice().get_mut(at) {
+            last = last.max(span.end);
+            span.end = last;
+        }
+    }
+    Ok(spans)
+}
+
+/// Whether a call of these times overlaps one of the spans.
+fn overlaps(spans: &[Span], begin: u64, end: u64) -> bool {
+    let (mut low, mut high) = (0usize, spans.len());
+    for _ in 0..64 {
+        if high <= low {
+            break;
+        }
+        let middle = low.saturating_add((high - low) / 2);
+        match spans.get(middle) {
+            Some(span) if span.begin <= end => low = middle.saturating_add(1),
+            _ => high = middle,
+        }
+    }
+    match spans.get(low.saturating_sub(1)) {
+        Some(span) => low != 0 && begin <= span.end,
+        None => false,
+    }
+}
+
+/// Marks the calls of these items, and some that overlap one of the spans. Returns how many of the latter are left out.
+fn mark_beside(log: &Log, bodies: &IndexSet<Body>, spans: &[Span], marks: &mut Vec<bool>) -> usize {
+    let (mut beside, mut left_out) = (0usize, 0usize);
+    for (place, (shown, call)) in log.shown.iter().zip(log.calls.iter()).enumerate() {
+        let same = match body_of(shown.line.said) {
+            Some(body) => bodies.contains(&body),
+            None => false,
+        };
+        if place >= marks.len() || marks[place] {
+            continue;
+        }
+        if same {
+            marks[place] = true;
+        } else if overlaps(spans, call.begin, call.end.unwrap_or(u64::MAX)) {
+            if beside < BESIDE_LIMIT {
+                marks[place] = true;
+                beside = beside.saturating_add(1);
+            } else {
+                left_out = left_out.saturating_add(1);
+            }
+        }
+    }
+    left_out
+}
+
+/// The calls that the page of a fault shows: those that the fault names, those of the same items, and of the others that overlap
+/// one of those that it names the first 300 in the log's order.
+pub fn beside_fault(alloc: Global, log: &Log, fault: &Fault) -> Result<Choice, AllocError> {
+    let mut marks = vec![in alloc; false; log.calls.len()]?;
+    mark_named(&mut marks, fault);
+    let bodies = bodies(alloc, log, marks.as_slice())?;
+    let spans = spans(alloc, log, marks.as_slice())?;
+    let left_out = mark_beside(log, &bodies, spans.as_slice(), &mut marks);
+    Ok(Choice { marks, left_out })
+}
+
+/// The first calls of the log.
+pub fn first_calls(alloc: Global, log: &Log) -> Result<Choice, AllocError> {
+    let marks = vec![in alloc; true; log.calls.len().min(FIRST)]?;
+    Ok(Choice { marks, left_out: 0 })
+}

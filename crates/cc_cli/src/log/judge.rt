@@ -1,0 +1,117 @@
+//! Judging the log on an input.
+ghost use Rattle.std.specs.Prelude.{◌≡◌, ◌<◌, ◌-◌, ◌^◌, IfOk};
+ghost use Rattle.cc_judge.specs.Verdict.{IsVerdict};
+ghost use Rattle.cc_cli.specs.Judged.{IsJudged, told_status, verdict_status};
+
+use crate::log::fault::LogFault;
+use crate::log::page::{AnswerFault, write_page};
+use crate::log::parse::{Log, Options, read_log};
+use crate::log::verdict_line::text_of;
+use cc_io::{Sink, Source, out_of_memory, told, write_bytes};
+use cc_judge::{Verdict, judge};
+use std::alloc::{AllocError, Global};
+
+/// A verdict, and its line.
+#[derive(Drop)]
+struct Found {
+    verdict: Verdict,
+    line: String,
+}
+
+/// The exit status of a verdict: 0 if it is clean, 1 for a fault, 2 if the log can't be judged, 5 if it is undecided.
+fn status_of(verdict: &Verdict) -> u8
+    ensures { result ≡ verdict_status verdict.now }
+{
+    match verdict {
+        Verdict::Clean(_) => 0,
+        Verdict::Fault(_) => 1,
+        Verdict::SentTwice(..) | Verdict::Stray(_) => 2,
+        Verdict::Undecided => 5,
+    }
+}
+
+/// The verdict on a log, and its line.
+fn verdict_on(alloc: Global, log: &Log) -> Result<Found, AllocError>
+    ensures { IfOk result (λ found. IsVerdict log.now.rules log.now.calls.items found.verdict) }
+{
+    let verdict = judge(alloc, &log.rules, log.calls.as_slice(), log.items)?;
+    let line = text_of(alloc, log, &verdict)?;
+    Ok(Found { verdict, line })
+}
+
+/// Reports why an input is no log, and returns the status.
+fn refused<E: Sink>(alloc: Global, errors: &mut E, fault: &LogFault) -> u8
+    requires { E.write_failures errors.old < 2 ^ 64 - 1 }
+{
+    match (fault, format!(in alloc; "ccq: log refused: {fault}\n")) {
+        (LogFault::Memory, _) | (_, Err(_)) => out_of_memory(errors),
+        (LogFault::Read, _) => told(errors, b"ccq: reading failed\n", 4),
+        (_, Ok(line)) => told(errors, line.as_bytes(), 2),
+    }
+}
+
+/// Writes a verdict, as its line or as a page, as the options of the log say.
+fn write_found<W: Sink>(
+    alloc: Global,
+    log: &Log,
+    found: &Found,
+    sink: &mut W,
+) -> Result<(), AnswerFault>
+    requires { W.write_failures sink.old < 2 ^ 64 - 1 }
+{
+    if log.options.page {
+        return write_page(alloc, sink, log, &found.verdict, found.line.as_str());
+    }
+    write_bytes(sink, found.line.as_bytes())?;
+    Ok(())
+}
+
+/// Reports whether an answer was written, and returns the status: this one if it was.
+fn tell_written<E: Sink>(errors: &mut E, status: u8, outcome: Result<(), AnswerFault>) -> u8
+    requires { E.write_failures errors.old < 2 ^ 64 - 1 }
+    ensures { result ≡ told_status status outcome }
+{
+    match outcome {
+        Ok(()) => status,
+        Err(AnswerFault::Memory) => out_of_memory(errors),
+        Err(AnswerFault::Write) => told(errors, b"ccq: writing failed\n", 4),
+    }
+}
+
+/// Writes the verdict on a log, and returns the status, which is the verdict's whether that is written as a line or as a page.
+#[tactic(auto, using(crate::proofs::Judged::told))]
+fn judge_log<W: Sink, E: Sink>(alloc: Global, log: &Log, sink: &mut W, errors: &mut E) -> u8
+    requires writes { W.write_failures sink.old < 2 ^ 64 - 1 }
+    requires errors { E.write_failures errors.old < 2 ^ 64 - 1 }
+    ensures { IsJudged log.now.rules log.now.calls.items result }
+{
+    let Ok(found) = verdict_on(alloc, log) else {
+        return out_of_memory(errors);
+    };
+    let status = status_of(&found.verdict);
+    if status == 2 {
+        return told(errors, found.line.as_bytes(), status);
+    }
+    let outcome = write_found(alloc, log, &found, sink);
+    tell_written(errors, status, outcome)
+}
+
+/// Reads a log from the source, judges it, and writes the verdict to the sink, as a line or as a page. It returns the exit status: 0
+/// if the log is linearizable, 1 if it isn't, 2 if the log is refused, 3 if memory is, 4 if a device fails, and 5 if the
+/// verdict is undecided. A refusal or a failure is reported on `errors`.
+pub fn judge_input<R: Source, W: Sink, E: Sink>(
+    alloc: Global,
+    options: Options,
+    source: &mut R,
+    sink: &mut W,
+    errors: &mut E,
+) -> u8
+    requires reads { R.read_failures source.old < 2 ^ 64 - 1 }
+    requires writes { W.write_failures sink.old < 2 ^ 64 - 1 }
+    requires errors { E.write_failures errors.old < 2 ^ 64 - 1 }
+{
+    match read_log(alloc, source, options) {
+        Ok(log) => judge_log(alloc, &log, sink, errors),
+        Err(fault) => refused(alloc, errors, &fault),
+    }
+}

@@ -1,0 +1,316 @@
+//! The page of a judged log, written piece by piece: a text before the fault, the fault as a line of JSON, a text, a line of JSON for
+//! each shown call, and a text. `choice` has which calls are shown.
+ghost use Rattle.std.specs.Prelude.{◌≡◌, ◌<◌, ◌-◌, ◌^◌, OnOk};
+
+use crate::log::choice::{Choice, beside_fault, first_calls};
+use crate::log::fault_page::{BACK, FRONT, MIDDLE};
+use crate::log::line::{Body, Said};
+use crate::log::parse::{Log, Shown};
+use cc_io::{Sink, WriteFault, write_bytes};
+use cc_judge::{Fault, Stay, Verdict};
+use std::alloc::{AllocError, Global};
+
+/// Why an answer isn't written, or not whole.
+#[derive(Clone, Copy, Debug, PartialEq, Eq)]
+pub enum AnswerFault {
+    /// Memory was refused.
+    Memory,
+    /// A write failed.
+    Write,
+}
+
+impl From<AllocError> for AnswerFault {
+    fn from(_: AllocError) -> AnswerFault {
+        AnswerFault::Memory
+    }
+}
+
+impl From<WriteFault> for AnswerFault {
+    fn from(_: WriteFault) -> AnswerFault {
+        AnswerFault::Write
+    }
+}
+
+/// Whether a character isn't written as it is: JSON escapes it, or the page would end its text there.
+fn is_escaped(c: char) -> bool {
+    c < ' ' || c == '"' || c == '\\' || c == '<'
+}
+
+/// A text in quotes, as JSON has it in a page.
+fn quoted(alloc: Global, plain: &str) -> Result<String, AllocError> {
+    let mut text = String::from_str(alloc, "\"")?;
+    for piece in plain.split_inclusive(is_escaped) {
+        match piece.strip_suffix(is_escaped) {
+            Some(front) => {
+                text.push_str(front)?;
+                let byte = piece.as_bytes().last().copied().unwrap_or(0);
+                let code = format!(in alloc; "\\u{byte:04x}")?;
+                text.push_str(code.as_str())?;
+            }
+            None => text.push_str(piece)?,
+        }
+    }
+    text.push_str("\"")?;
+    Ok(text)
+}
+
+/// Appends a key and the number of the line of the call at a place.
+fn push_line(
+    alloc: Global,
+    text: &mut String,
+    log: &Log,
+    key: &str,
+    place: usize,
+) -> Result<(), AllocError> {
+    let one = format!(in alloc; ",\"{key}\":{}", log.line_of(place))?;
+    text.push_str(one.as_str())
+}
+
+/// Appends a stay.
+fn push_stay(alloc: Global, text: &mut String, log: &Log, stay: &Stay) -> Result<(), AllocError> {
+    text.push_str("{\"sends\":[")?;
+    match stay {
+        Stay::Taken { send, take } => {
+            let send = format!(in alloc; "{}]", log.line_of(*send))?;
+            text.push_str(send.as_str())?;
+            push_line(alloc, text, log, "take", *take)?;
+        }
+        Stay::Left { sends, next } => {
+            for (at, send) in sends.iter().enumerate() {
+                text.push_str(if at == 0 { "" } else { "," })?;
+                let send = format!(in alloc; "{}", log.line_of(*send))?;
+                text.push_str(send.as_str())?;
+            }
+            text.push_str("]")?;
+            if let Some(next) = next {
+                push_line(alloc, text, log, "next", *next)?;
+            }
+        }
+    }
+    text.push_str("}")
+}
+
+/// Appends the lines of two calls, each with its key.
+fn push_two(
+    alloc: Global,
+    text: &mut String,
+    log: &Log,
+    first: (&str, usize),
+    second: (&str, usize),
+) -> Result<(), AllocError> {
+    push_line(alloc, text, log, first.0, first.1)?;
+    push_line(alloc, text, log, second.0, second.1)
+}
+
+/// Appends stays.
+fn push_stays(
+    alloc: Global,
+    text: &mut String,
+    log: &Log,
+    stays: &[Stay],
+) -> Result<(), AllocError> {
+    text.push_str(",\"stays\":[")?;
+    for (at, stay) in stays.iter().enumerate() {
+        text.push_str(if at == 0 { "" } else { "," })?;
+        push_stay(alloc, text, log, stay)?;
+    }
+    text.push_str("]")
+}
+
+/// Appends a fault: its pattern, and the lines that it names.
+fn push_fault(
+    alloc: Global,
+    text: &mut String,
+    log: &Log,
+    fault: &Fault,
+) -> Result<(), AllocError> {
+    match fault {
+        Fault::NeverSent { take } => {
+            text.push_str(",\"kind\":\"never sent\"")?;
+            push_line(alloc, text, log, "take", *take)
+        }
+        Fault::TakenBeforeSent { send, take } => {
+            text.push_str(",\"kind\":\"taken before sent\"")?;
+            push_two(alloc, text, log, ("send", *send), ("take", *take))
+        }
+        Fault::TakenTwice { first, second } => {
+            text.push_str(",\"kind\":\"taken twice\"")?;
+            push_two(alloc, text, log, ("first", *first), ("second", *second))
+        }
+        Fault::Overtaken {
+            stay,
+            later_send,
+            later_take,
+        } => {
+            text.push_str(",\"kind\":\"overtaken\"")?;
+            push_two(
+                alloc,
+                text,
+                log,
+                ("send", *later_send),
+                ("take", *later_take),
+            )?;
+            text.push_str(",\"stays\":[")?;
+            push_stay(alloc, text, log, stay)?;
+            text.push_str("]")
+        }
+        Fault::NotEmpty { call, stays } => {
+            text.push_str(",\"kind\":\"not empty\"")?;
+            push_line(alloc, text, log, "take", *call)?;
+            push_stays(alloc, text, log, stays.as_slice())
+        }
+        Fault::Reopened { closed, send } => {
+            text.push_str(",\"kind\":\"open after closed\"")?;
+            push_two(alloc, text, log, ("closed", *closed), ("send", *send))
+        }
+        Fault::ClosedEarly { call } => {
+            text.push_str(",\"kind\":\"closed early\"")?;
+            push_line(alloc, text, log, "call", *call)
+        }
+        Fault::NotFull { call } => {
+            let kind = format!(in alloc;
+                ",\"kind\":\"not full\",\"capacity\":{}",
+                log.rules.capacity.unwrap_or(0)
+            )?;
+            text.push_str(kind.as_str())?;
+            push_line(alloc, text, log, "call", *call)
+        }
+    }
+}
+
+/// The line of JSON of a verdict, whose line of text is given.
+fn verdict_json(
+    alloc: Global,
+    log: &Log,
+    verdict: &Verdict,
+    line: &str,
+    left_out: usize,
+) -> Result<String, AllocError> {
+    let mut text = String::from_str(alloc, "{\"line\":")?;
+    text.push_str(quoted(alloc, line.trim_end())?.as_str())?;
+    if let Verdict::Fault(fault) = verdict {
+        push_fault(alloc, &mut text, log, fault)?;
+    }
+    let counts = format!(in alloc;
+        ",\"skew\":\"{}\",\"calls\":{},\"left_out\":{left_out}",
+        log.options.skew,
+        log.lines.len()
+    )?;
+    text.push_str(counts.as_str())?;
+    text.push_str("}\n")?;
+    Ok(text)
+}
+
+/// A body as an array of texts of numbers.
+fn body_json(alloc: Global, body: Body) -> Result<String, AllocError> {
+    let (count, a, b, c, d) = body;
+    match count {
+        1 => format!(in alloc; "[\"{a}\"]"),
+        2 => format!(in alloc; "[\"{a}\",\"{b}\"]"),
+        3 => format!(in alloc; "[\"{a}\",\"{b}\",\"{c}\"]"),
+        _ => format!(in alloc; "[\"{a}\",\"{b}\",\"{c}\",\"{d}\"]"),
+    }
+}
+
+/// The act of a call, as JSON.
+fn act_json(alloc: Global, said: Said) -> Result<String, AllocError> {
+    match said {
+        Said::Send(body) => format!(in alloc; "\"send\":{}", body_json(alloc, body)?),
+        Said::Full(body) => {
+            format!(in alloc; "\"send\":{},\"answer\":\"full\"", body_json(alloc, body)?)
+        }
+        Said::Closed(body) => {
+            format!(in alloc;
+                "\"send\":{},\"answer\":\"closed\"",
+                body_json(alloc, body)?
+            )
+        }
+        Said::Took(body) => format!(in alloc; "\"take\":{}", body_json(alloc, body)?),
+        Said::FoundNone | Said::Taking => String::from_str(alloc, "\"take\":null"),
+        Said::Ended => String::from_str(alloc, "\"take\":null,\"answer\":\"ended\""),
+        Said::Close => String::from_str(alloc, "\"close\":true"),
+    }
+}
+
+/// The line of JSON of a call: its times and the words of its item are texts, since a browser's numbers have 53 bits.
+fn call_json(alloc: Global, log: &Log, line: usize, shown: Shown) -> Result<String, AllocError> {
+    let name = match log.names.get_index(shown.thread as usize) {
+        Some(name) => quoted(alloc, name.as_str())?,
+        None => quoted(alloc, "")?,
+    };
+    let mut text = String::from_str(alloc, "{")?;
+    let front = format!(in alloc;
+        "\"line\":{line},\"thread\":{name},\"begin\":\"{}\",",
+        shown.line.begin
+    )?;
+    text.push_str(front.as_str())?;
+    if let Some(end) = shown.line.end {
+        let end = format!(in alloc; "\"end\":\"{end}\",")?;
+        text.push_str(end.as_str())?;
+    }
+    text.push_str(act_json(alloc, shown.line.said)?.as_str())?;
+    text.push_str("}\n")?;
+    Ok(text)
+}
+
+/// Writes the line of a call.
+fn write_call<W: Sink>(
+    alloc: Global,
+    sink: &mut W,
+    log: &Log,
+    line: usize,
+    shown: Shown,
+) -> Result<(), AnswerFault>
+    requires { W.write_failures sink.old < 2 ^ 64 - 1 }
+    ensures { OnOk result (W.write_failures sink.new ≡ W.write_failures sink.old) }
+{
+    let text = call_json(alloc, log, line, shown)?;
+    write_bytes(sink, text.as_bytes())?;
+    Ok(())
+}
+
+/// Writes the lines of the chosen calls.
+fn write_calls<W: Sink>(
+    alloc: Global,
+    sink: &mut W,
+    log: &Log,
+    marks: &[bool],
+) -> Result<(), AnswerFault>
+    requires { W.write_failures sink.old < 2 ^ 64 - 1 }
+    ensures { OnOk result (W.write_failures sink.new ≡ W.write_failures sink.old) }
+{
+    for (place, (shown, marked)) in log.shown.iter().zip(marks.iter()).enumerate() {
+        if *marked {
+            write_call(alloc, sink, log, log.line_of(place), *shown)?;
+        }
+    }
+    Ok(())
+}
+
+/// The calls that the page of a verdict shows.
+fn chosen(alloc: Global, log: &Log, verdict: &Verdict) -> Result<Choice, AllocError> {
+    match verdict {
+        Verdict::Fault(fault) => beside_fault(alloc, log, fault),
+        _ => first_calls(alloc, log),
+    }
+}
+
+/// Writes the page of a verdict, whose line of text is given. Of the page no more than a line is in memory at a time.
+pub fn write_page<W: Sink>(
+    alloc: Global,
+    sink: &mut W,
+    log: &Log,
+    verdict: &Verdict,
+    line: &str,
+) -> Result<(), AnswerFault>
+    requires { W.write_failures sink.old < 2 ^ 64 - 1 }
+{
+    let choice = chosen(alloc, log, verdict)?;
+    let fault = verdict_json(alloc, log, verdict, line, choice.left_out)?;
+    write_bytes(sink, FRONT)?;
+    write_bytes(sink, fault.as_bytes())?;
+    write_bytes(sink, MIDDLE)?;
+    write_calls(alloc, sink, log, choice.marks.as_slice())?;
+    write_bytes(sink, BACK)?;
+    Ok(())
+}

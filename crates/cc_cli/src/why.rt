@@ -1,0 +1,67 @@
+//! From an input to the line with the place of its fault.
+ghost use Rattle.std.specs.Prelude.{◌≡◌, ◌<◌, ◌-◌, ◌^◌, IfOk, IsSome, None};
+ghost use Rattle.cc_cli.specs.Why.{Explains, Found};
+
+use crate::why_line::line_of;
+use cc_io::{InputFault, Sink, Source, out_of_memory, read_input, told, write_bytes};
+use cc_plan::{PlanFault, explain};
+use std::alloc::Global;
+
+/// Why an input is refused, if it is.
+#[derive(Drop)]
+struct Answer {
+    /// The fault that its reader finds.
+    fault: Option<PlanFault>,
+    /// The line with its place.
+    line: String,
+}
+
+/// The fault of the input on the source, read to its end.
+fn answer_from<R: Source>(alloc: Global, source: &mut R) -> Result<Answer, InputFault>
+    requires { R.read_failures source.old < 2 ^ 64 - 1 }
+    ensures { IfOk result (λ answer. Found (R.bytes_left source.old) (R.bytes_left source.new) answer.fault) }
+{
+    let input = read_input(alloc, source)?;
+    let why = explain(alloc, &input)?;
+    let line = line_of(alloc, &input, &why)?;
+    Ok(Answer {
+        fault: why.fault,
+        line,
+    })
+}
+
+/// Writes the line of an answer, and returns the status.
+fn write_answer<W: Sink, E: Sink>(answer: &Answer, sink: &mut W, errors: &mut E) -> u8
+    requires writes { W.write_failures sink.old < 2 ^ 64 - 1 }
+    requires errors { E.write_failures errors.old < 2 ^ 64 - 1 }
+    ensures none { result ≡ 0 → answer.now.fault ≡ None }
+    ensures some { result ≡ 1 → IsSome answer.now.fault }
+{
+    if write_bytes(sink, answer.line.as_bytes()).is_err() {
+        return told(errors, b"ccq: writing failed\n", 4);
+    }
+    match answer.fault {
+        Some(_) => 1,
+        None => 0,
+    }
+}
+
+/// Reads an input from the source, and writes the place at which it is refused to the sink. It returns the exit status: 0 if it isn't
+/// refused, 1 if it is, 3 if memory is refused and 4 if a device fails. A failure is reported on `errors`.
+pub fn why_input<R: Source, W: Sink, E: Sink>(
+    alloc: Global,
+    source: &mut R,
+    sink: &mut W,
+    errors: &mut E,
+) -> u8
+    requires reads { R.read_failures source.old < 2 ^ 64 - 1 }
+    requires writes { W.write_failures sink.old < 2 ^ 64 - 1 }
+    requires errors { E.write_failures errors.old < 2 ^ 64 - 1 }
+    ensures { Explains (R.bytes_left source.old) (R.bytes_left source.new) result }
+{
+    match answer_from(alloc, source) {
+        Ok(answer) => write_answer(&answer, sink, errors),
+        Err(InputFault::Read) => told(errors, b"ccq: reading failed\n", 4),
+        Err(InputFault::NoMemory) => out_of_memory(errors),
+    }
+}

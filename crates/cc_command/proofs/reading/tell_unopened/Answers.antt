@@ -1,9 +1,0 @@
-use Rattle.std.proofs.Common.{is_err}
-use Rattle.cc_device.proofs.Writing.{then, all_out}
-use Rattle.cc_command.proofs.reading.tell_unopened.Goals as goal
-
-pub returns-clause-told : goal.returns-clause-told
-returns-clause-told g c = record {
-  failed = is_err c.finish-outcome.result;
-  writes = all_out _ _ _ _ _ _ _ _ _ _ (rw c.new-pen.ensures at (then (then (then (then c.text.ensures c.text-2.ensures) c.text-3.ensures) c.text-4.ensures) c.text-5.ensures)) c.finish-outcome.ensures;
-}

@@ -1,4 +1,0 @@
--- The types in specs, proofs and contracts of this crate. A variant comes after its type, as `Task.Play`.
-pub use Rattle.cc_audit.specs.declared.receipt.Verdict.{Verdict}
-pub use Rattle.cc_play.specs.declared.fault.PlayFault.{PlayFault}
-pub use Rattle.cc_command.specs.declared.command_line.Task.{Task}

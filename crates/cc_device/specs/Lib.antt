@@ -1,4 +1,0 @@
-pub mod Names
-pub mod Device
-pub mod DeviceParts
-pub mod Written

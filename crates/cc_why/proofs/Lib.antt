@@ -1,2 +1,0 @@
-mod Explained
-pub mod Listed

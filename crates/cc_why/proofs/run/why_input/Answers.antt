@@ -1,5 +1,0 @@
-use Rattle.cc_why.proofs.Explained.{explained}
-use Rattle.cc_why.proofs.run.why_input.Goals as goal
-
-pub returns-in-Ok : goal.returns-in-Ok
-returns-in-Ok g c = explained _ _ c.in-Ok.answer.fault _ c.in-Ok.ensures c.write_answer.ensures.none c.write_answer.ensures.some
