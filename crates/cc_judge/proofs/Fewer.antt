@@ -23,7 +23,7 @@ without_in p q (x ∷ xs) (inr later) (inl there) apart = inl there
 without_in p q (x ∷ xs) (inr later) (inr rest) apart = inr (without_in p q xs later rest apart)
 
 -- no element is in the list twice
-abbrev Once : List ℕ → Type 0
+abbrev pub Once : List ℕ → Type 0
 Once [] = Unit {0}
 Once (x ∷ xs) = (In x xs → ⊥) × Once xs
 
@@ -41,7 +41,7 @@ pub record Another (R : ℕ → ℕ → Type 0) (More : ℕ → Type 0) : Type 0
   pub took : R send take
   pub more : More take
 
-once_another : (R : ℕ → ℕ → Type 0) (More : ℕ → Type 0) (sends may : List ℕ) → Once sends → length may < length sends → ((s : ℕ) → In s sends → (p : ℕ) × R s p) → ((s t p : ℕ) → R s p → R t p → s ≡ t) → ((s p : ℕ) → In s sends → R s p → In p may ⊎ More p) → Another R More
+pub once_another : (R : ℕ → ℕ → Type 0) (More : ℕ → Type 0) (sends may : List ℕ) → Once sends → length may < length sends → ((s : ℕ) → In s sends → (p : ℕ) × R s p) → ((s t p : ℕ) → R s p → R t p → s ≡ t) → ((s p : ℕ) → In s sends → R s p → In p may ⊎ More p) → Another R More
 once_another R More [] may once fewer each own others = absurd (omega (arith, fewer))
 once_another R More (s ∷ sends) may once fewer each own others =
     let r = each s (inl refl) in

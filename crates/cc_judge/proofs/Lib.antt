@@ -6,3 +6,7 @@ pub mod Fewer
 pub mod Stays
 pub mod NoOrder
 pub mod Tables
+pub mod Lines
+pub mod Shut
+pub mod Full
+pub mod Fullness

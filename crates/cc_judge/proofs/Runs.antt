@@ -1,9 +1,10 @@
 -- The facts that the run of one queue gives of the order of its calls: an item is taken after it was sent, at most as
 -- often as it was sent, after each that was sent before it; and none is found only after the takes of all that were
 -- sent.
-use Rattle.std.proofs.Common.{◌≡◌, ◌≢◌, ℕ, ◌⊎◌, inl, inr, List, [], ◌∷◌, ◌++◌, refl, sym, ap, ◌∙◌, subst}
+use Rattle.std.proofs.Common.{◌≡◌, ◌≢◌, ℕ, ◌⊎◌, inl, inr, List, [], ◌∷◌, ◌++◌, Option, None, refl, sym, ap, ◌∙◌, subst}
 use Rattle.cc_judge.specs.Names.{Act, Step}
 use Rattle.cc_judge.specs.Order.{Does, IsRun}
+use Rattle.cc_judge.specs.Faults.{FindsNone}
 use Rattle.cc_judge.proofs.Places.{In, Before, before_first, in_snoc, in_last, in_more}
 
 -- a step of this act before t
@@ -12,32 +13,40 @@ pub record Earlier (steps : List Step) (t : Step) (act : Act) : Type 0 where
   pub before : Before step t steps
   pub act_is : step.act ≡ act
 
-later : (x t : Step) (steps : List Step) (act : Act) → Earlier steps t act → Earlier (x ∷ steps) t act
+pub later : (x t : Step) (steps : List Step) (act : Act) → Earlier steps t act → Earlier (x ∷ steps) t act
 later x t steps act e = record { step = e.step; before = inr e.before; act_is = e.act_is }
 
-first : (x t : Step) (steps : List Step) (act : Act) → x.act ≡ act → In t steps → Earlier (x ∷ steps) t act
+pub first : (x t : Step) (steps : List Step) (act : Act) → x.act ≡ act → In t steps → Earlier (x ∷ steps) t act
 first x t steps act is within = record { step = x; before = inl (refl, within); act_is = is }
 
 -- what the queue holds after a step was held before it, or was sent by it
-pub from_where : (held next : List ℕ) (act : Act) (item : ℕ) → Does held act next → In item next → In item held ⊎ (act ≡ Act.Send item)
-from_where held next (Act.Send v) item does within = elim (in_snoc item v held (subst (In item) does within)) [ inl old ↦ inl old | inr new ↦ inr (ap Act.Send new) ]
+pub from_where : (held next : List ℕ) (act : Act) (item : ℕ) → Does None held act next → In item next → In item held ⊎ (act ≡ Act.Send item)
+from_where held next (Act.Send v) item does within = elim (in_snoc item v held (subst (In item) does.0 within)) [ inl old ↦ inl old | inr new ↦ inr (ap Act.Send new) ]
 from_where held next (Act.Took v) item does within = inl (subst (In item) (sym does) (inr within))
 from_where held next Act.FoundNone item does within = absurd (subst (In item) does.1 within)
 from_where held next Act.Taking item does within = absurd does
+from_where held next Act.Full item does within = inl (subst (In item) does.0 within)
+from_where held next Act.Closed item does within = inl (subst (In item) does within)
+from_where held next Act.Ended item does within = absurd (subst (In item) does.1 within)
+from_where held next Act.Close item does within = inl (subst (In item) does within)
 
 -- what the queue holds is held after a step too, unless the step took it
-pub to_where : (held next : List ℕ) (act : Act) (item : ℕ) → Does held act next → In item held → In item next ⊎ (act ≡ Act.Took item)
-to_where held next (Act.Send v) item does within = inl (subst (In item) (sym does) (in_more item v held within))
+pub to_where : (held next : List ℕ) (act : Act) (item : ℕ) → Does None held act next → In item held → In item next ⊎ (act ≡ Act.Took item)
+to_where held next (Act.Send v) item does within = inl (subst (In item) (sym does.0) (in_more item v held within))
 to_where held next (Act.Took v) item does within = elim (subst (In item) does within) [ inl here ↦ inr (ap Act.Took here) | inr rest ↦ inl rest ]
 to_where held next Act.FoundNone item does within = absurd (subst (In item) does.0 within)
 to_where held next Act.Taking item does within = absurd does
+to_where held next Act.Full item does within = inl (subst (In item) (sym does.0) within)
+to_where held next Act.Closed item does within = inl (subst (In item) (sym does) within)
+to_where held next Act.Ended item does within = absurd (subst (In item) does.0 within)
+to_where held next Act.Close item does within = inl (subst (In item) (sym does) within)
 
-takes_front : (held next : List ℕ) (act : Act) (item : ℕ) → Does held act next → act ≡ Act.Took item → In item held
-takes_front held next act item does is = let d : Does held (Act.Took item) next = subst (λ (a : Act). Does held a next) is does in subst (In item) (sym d) (inl refl)
+pub takes_front : (held next : List ℕ) (act : Act) (item : ℕ) → Does None held act next → act ≡ Act.Took item → In item held
+takes_front held next act item does is = let d : Does None held (Act.Took item) next = subst (λ (a : Act). Does None held a next) is does in subst (In item) (sym d) (inl refl)
 
 -- ---- an item that is taken was held at first, or was sent before
 
-pub sent_before : (held : List ℕ) (steps : List Step) (t : Step) (item : ℕ) → IsRun held steps → In t steps → t.act ≡ Act.Took item → In item held ⊎ Earlier steps t (Act.Send item)
+pub sent_before : (held : List ℕ) (steps : List Step) (t : Step) (item : ℕ) → IsRun None held steps → In t steps → t.act ≡ Act.Took item → In item held ⊎ Earlier steps t (Act.Send item)
 sent_before held [] t item run within is = absurd within
 sent_before held (x ∷ steps) t item run (inl here) is = inl (takes_front held run.0 x.act item run.1 (ap (λ (s : Step). s.act) here ∙ is))
 sent_before held (x ∷ steps) t item run (inr rest) is = elim (sent_before run.0 steps t item run.2 rest is) [
@@ -47,20 +56,23 @@ sent_before held (x ∷ steps) t item run (inr rest) is = elim (sent_before run.
 
 -- ---- after the send of an item none is found only if the item was taken between
 
-held_taken : (held : List ℕ) (steps : List Step) (t : Step) (item : ℕ) → IsRun held steps → In item held → In t steps → t.act ≡ Act.FoundNone → Earlier steps t (Act.Took item)
+none_held : (held next : List ℕ) (act : Act) → Does None held act next → FindsNone act → held ≡ []
+none_held held next act does (inl none) = (subst (λ (a : Act). Does None held a next) none does).0
+none_held held next act does (inr none) = (subst (λ (a : Act). Does None held a next) none does).0
+
+held_taken : (held : List ℕ) (steps : List Step) (t : Step) (item : ℕ) → IsRun None held steps → In item held → In t steps → FindsNone t.act → Earlier steps t (Act.Took item)
 held_taken held [] t item run has within is = absurd within
 held_taken held (x ∷ steps) t item run has (inl here) is =
-    let d : Does held Act.FoundNone run.0 = subst (λ (a : Act). Does held a run.0) (ap (λ (s : Step). s.act) here ∙ is) run.1 in
-    absurd (subst (In item) d.0 has)
+    absurd (subst (In item) (none_held held run.0 x.act run.1 (subst (λ (s : Step). FindsNone s.act) (sym here) is)) has)
 held_taken held (x ∷ steps) t item run has (inr rest) is = elim (to_where held run.0 x.act item run.1 has) [
   | inl still ↦ later x t steps (Act.Took item) (held_taken run.0 steps t item run.2 still rest is)
   | inr took ↦ first x t steps (Act.Took item) took rest
 ]
 
-sends_last : (held next : List ℕ) (act : Act) (item : ℕ) → Does held act next → act ≡ Act.Send item → next ≡ held ++ item ∷ []
-sends_last held next act item does is = subst (λ (a : Act). Does held a next) is does
+sends_last : (held next : List ℕ) (act : Act) (item : ℕ) → Does None held act next → act ≡ Act.Send item → next ≡ held ++ item ∷ []
+sends_last held next act item does is = (subst (λ (a : Act). Does None held a next) is does).0
 
-pub taken_before_none : (held : List ℕ) (steps : List Step) (s t : Step) (item : ℕ) → IsRun held steps → Before s t steps → s.act ≡ Act.Send item → t.act ≡ Act.FoundNone → Earlier steps t (Act.Took item)
+pub taken_before_none : (held : List ℕ) (steps : List Step) (s t : Step) (item : ℕ) → IsRun None held steps → Before s t steps → s.act ≡ Act.Send item → FindsNone t.act → Earlier steps t (Act.Took item)
 taken_before_none held [] s t item run order sent none = absurd order
 taken_before_none held (x ∷ steps) s t item run (inl here) sent none =
     let put = sends_last held run.0 x.act item run.1 (ap (λ (y : Step). y.act) here.0 ∙ sent) in
@@ -84,16 +96,20 @@ ahead_last a b [] none = inl refl
 ahead_last a b (x ∷ xs) none = inr (λ same. none (inl same), ahead_last a b xs (λ within. none (inr within)))
 
 -- after a step it is still so, unless the step took a; and b was not taken
-ahead_on : (held next : List ℕ) (act : Act) (a b : ℕ) → Does held act next → Ahead a b held → a ≢ b → (Ahead a b next ⊎ (act ≡ Act.Took a)) × (act ≢ Act.Took b)
-ahead_on held next (Act.Send v) a b does ahead apart = (inl (subst (Ahead a b) (sym does) (ahead_more a b v held ahead)), λ e. cc)
+ahead_on : (held next : List ℕ) (act : Act) (a b : ℕ) → Does None held act next → Ahead a b held → a ≢ b → (Ahead a b next ⊎ (act ≡ Act.Took a)) × (act ≢ Act.Took b)
+ahead_on held next (Act.Send v) a b does ahead apart = (inl (subst (Ahead a b) (sym does.0) (ahead_more a b v held ahead)), λ e. cc)
 ahead_on held next (Act.Took v) a b does ahead apart = elim (subst (Ahead a b) does ahead) [
   | inl here ↦ (inr (ap Act.Took here), λ (e : Act.Took v ≡ Act.Took b). let w : v ≡ b = cc in apart (sym here ∙ w))
   | inr rest ↦ (inl rest.1, λ (e : Act.Took v ≡ Act.Took b). let w : v ≡ b = cc in rest.0 w)
 ]
 ahead_on held next Act.FoundNone a b does ahead apart = absurd (subst (Ahead a b) does.0 ahead)
 ahead_on held next Act.Taking a b does ahead apart = absurd does
+ahead_on held next Act.Full a b does ahead apart = (inl (subst (Ahead a b) (sym does.0) ahead), λ e. cc)
+ahead_on held next Act.Closed a b does ahead apart = (inl (subst (Ahead a b) (sym does) ahead), λ e. cc)
+ahead_on held next Act.Ended a b does ahead apart = absurd (subst (Ahead a b) does.0 ahead)
+ahead_on held next Act.Close a b does ahead apart = (inl (subst (Ahead a b) (sym does) ahead), λ e. cc)
 
-ahead_taken : (held : List ℕ) (steps : List Step) (t : Step) (a b : ℕ) → IsRun held steps → Ahead a b held → a ≢ b → In t steps → t.act ≡ Act.Took b → Earlier steps t (Act.Took a)
+ahead_taken : (held : List ℕ) (steps : List Step) (t : Step) (a b : ℕ) → IsRun None held steps → Ahead a b held → a ≢ b → In t steps → t.act ≡ Act.Took b → Earlier steps t (Act.Took a)
 ahead_taken held [] t a b run ahead apart within is = absurd within
 ahead_taken held (x ∷ steps) t a b run ahead apart (inl here) is = absurd ((ahead_on held run.0 x.act a b run.1 ahead apart).1 (ap (λ (s : Step). s.act) here ∙ is))
 ahead_taken held (x ∷ steps) t a b run ahead apart (inr rest) is = elim (ahead_on held run.0 x.act a b run.1 ahead apart).0 [
@@ -101,7 +117,7 @@ ahead_taken held (x ∷ steps) t a b run ahead apart (inr rest) is = elim (ahead
   | inr took ↦ first x t steps (Act.Took a) took rest
 ]
 
-pub first_taken_first : (held : List ℕ) (steps : List Step) (s t : Step) (a b : ℕ) → IsRun held steps → (In b held → ⊥) → In s steps → In t steps → s.act ≡ Act.Send a → ((u : Step) → Before u s steps → u.act ≢ Act.Send b) → a ≢ b → t.act ≡ Act.Took b → Earlier steps t (Act.Took a)
+pub first_taken_first : (held : List ℕ) (steps : List Step) (s t : Step) (a b : ℕ) → IsRun None held steps → (In b held → ⊥) → In s steps → In t steps → s.act ≡ Act.Send a → ((u : Step) → Before u s steps → u.act ≢ Act.Send b) → a ≢ b → t.act ≡ Act.Took b → Earlier steps t (Act.Took a)
 first_taken_first held [] s t a b run none sending taking sent not_before apart took = absurd sending
 first_taken_first held (x ∷ steps) s t a b run none (inl here) (inl there) sent not_before apart took =
     let one : s ≡ t = sym here ∙ there in
@@ -119,14 +135,14 @@ first_taken_first held (x ∷ steps) s t a b run none (inr sending) (inr taking)
 -- ---- an item that is sent once is taken once
 
 -- an item that isn't held, and isn't sent, isn't taken
-not_taken : (held : List ℕ) (steps : List Step) (t : Step) (item : ℕ) → IsRun held steps → (In item held → ⊥) → ((u : Step) → In u steps → u.act ≢ Act.Send item) → In t steps → t.act ≢ Act.Took item
+not_taken : (held : List ℕ) (steps : List Step) (t : Step) (item : ℕ) → IsRun None held steps → (In item held → ⊥) → ((u : Step) → In u steps → u.act ≢ Act.Send item) → In t steps → t.act ≢ Act.Took item
 not_taken held steps t item run none unsent within is = elim (sent_before held steps t item run within is) [
   | inl old ↦ none old
   | inr e ↦ unsent e.step (before_first e.step t steps e.before) e.act_is
 ]
 
 -- the item is in the list at most once
-abbrev AtMostOnce : ℕ → List ℕ → Type 0
+abbrev pub AtMostOnce : ℕ → List ℕ → Type 0
 AtMostOnce a [] = Unit {0}
 AtMostOnce a (x ∷ xs) = (x ≡ a → In a xs → ⊥) × AtMostOnce a xs
 
@@ -138,18 +154,22 @@ once_more a y (x ∷ xs) once apart = (
 )
 
 -- of an item that is held no send is left, and at most one send is
-record Single (item : ℕ) (held : List ℕ) (steps : List Step) : Type 0 where
-  once : AtMostOnce item held
-  no_more : In item held → (u : Step) → In u steps → u.act ≢ Act.Send item
-  one : (s t : Step) → Before s t steps → s.act ≡ Act.Send item → t.act ≢ Act.Send item
+pub record Single (item : ℕ) (held : List ℕ) (steps : List Step) : Type 0 where
+  pub once : AtMostOnce item held
+  pub no_more : In item held → (u : Step) → In u steps → u.act ≢ Act.Send item
+  pub one : (s t : Step) → Before s t steps → s.act ≡ Act.Send item → t.act ≢ Act.Send item
 
-kept_once : (held next : List ℕ) (act : Act) (item : ℕ) → Does held act next → AtMostOnce item held → (act ≡ Act.Send item → In item held → ⊥) → AtMostOnce item next
-kept_once held next (Act.Send v) item does once apart = subst (AtMostOnce item) (sym does) (once_more item v held once (λ new. apart (ap Act.Send new)))
+kept_once : (held next : List ℕ) (act : Act) (item : ℕ) → Does None held act next → AtMostOnce item held → (act ≡ Act.Send item → In item held → ⊥) → AtMostOnce item next
+kept_once held next (Act.Send v) item does once apart = subst (AtMostOnce item) (sym does.0) (once_more item v held once (λ new. apart (ap Act.Send new)))
 kept_once held next (Act.Took v) item does once apart = (subst (AtMostOnce item) does once).1
 kept_once held next Act.FoundNone item does once apart = subst (AtMostOnce item) (sym does.1) tt
 kept_once held next Act.Taking item does once apart = absurd does
+kept_once held next Act.Full item does once apart = subst (AtMostOnce item) (sym does.0) once
+kept_once held next Act.Closed item does once apart = subst (AtMostOnce item) (sym does) once
+kept_once held next Act.Ended item does once apart = subst (AtMostOnce item) (sym does.1) tt
+kept_once held next Act.Close item does once apart = subst (AtMostOnce item) (sym does) once
 
-single_next : (item : ℕ) (held next : List ℕ) (x : Step) (steps : List Step) → Does held x.act next → Single item held (x ∷ steps) → Single item next steps
+pub single_next : (item : ℕ) (held next : List ℕ) (x : Step) (steps : List Step) → Does None held x.act next → Single item held (x ∷ steps) → Single item next steps
 single_next item held next x steps does single = record {
   once = kept_once held next x.act item does single.once (λ sent within. single.no_more within x (inl refl) sent);
   no_more = λ within u later. elim (from_where held next x.act item does within) [
@@ -159,12 +179,12 @@ single_next item held next x steps does single = record {
   one = λ s t order. single.one s t (inr order);
 }
 
-gone : (held next : List ℕ) (act : Act) (item : ℕ) → Does held act next → AtMostOnce item held → act ≡ Act.Took item → In item next → ⊥
+pub gone : (held next : List ℕ) (act : Act) (item : ℕ) → Does None held act next → AtMostOnce item held → act ≡ Act.Took item → In item next → ⊥
 gone held next act item does once is within =
-    let d : held ≡ item ∷ next = subst (λ (a : Act). Does held a next) is does in
+    let d : held ≡ item ∷ next = subst (λ (a : Act). Does None held a next) is does in
     (subst (AtMostOnce item) d once).0 refl within
 
-taken_once_from : (held : List ℕ) (steps : List Step) (s t : Step) (item : ℕ) → IsRun held steps → Single item held steps → Before s t steps → s.act ≡ Act.Took item → t.act ≢ Act.Took item
+taken_once_from : (held : List ℕ) (steps : List Step) (s t : Step) (item : ℕ) → IsRun None held steps → Single item held steps → Before s t steps → s.act ≡ Act.Took item → t.act ≢ Act.Took item
 taken_once_from held [] s t item run single order took again = absurd order
 taken_once_from held (x ∷ steps) s t item run single (inl here) took again =
     let is : x.act ≡ Act.Took item = ap (λ (y : Step). y.act) here.0 ∙ took in
@@ -172,5 +192,21 @@ taken_once_from held (x ∷ steps) s t item run single (inl here) took again =
     not_taken run.0 steps t item run.2 (gone held run.0 x.act item run.1 single.once is) (λ u later. single.no_more had u (inr later)) here.1 again
 taken_once_from held (x ∷ steps) s t item run single (inr rest) took again = taken_once_from run.0 steps s t item run.2 (single_next item held run.0 x steps run.1 single) rest took again
 
-pub taken_once : (steps : List Step) (s t : Step) (item : ℕ) → IsRun [] steps → ((u v : Step) → Before u v steps → u.act ≡ Act.Send item → v.act ≢ Act.Send item) → Before s t steps → s.act ≡ Act.Took item → t.act ≢ Act.Took item
+pub taken_once : (steps : List Step) (s t : Step) (item : ℕ) → IsRun None [] steps → ((u v : Step) → Before u v steps → u.act ≡ Act.Send item → v.act ≢ Act.Send item) → Before s t steps → s.act ≡ Act.Took item → t.act ≢ Act.Took item
 taken_once steps s t item run one order = taken_once_from [] steps s t item run (record { once = tt; no_more = λ within. absurd within; one = one }) order
+
+-- ---- a queue of a capacity answers as one of whatever capacity
+
+pub loosened : (capacity : Option ℕ) (held next : List ℕ) (act : Act) → Does capacity held act next → Does None held act next
+loosened capacity held next (Act.Send v) does = (does.0, tt)
+loosened capacity held next (Act.Took v) does = does
+loosened capacity held next Act.FoundNone does = does
+loosened capacity held next Act.Taking does = does
+loosened capacity held next Act.Full does = (does.0, tt)
+loosened capacity held next Act.Closed does = does
+loosened capacity held next Act.Ended does = does
+loosened capacity held next Act.Close does = does
+
+pub of_whatever_capacity : (capacity : Option ℕ) (held : List ℕ) (steps : List Step) → IsRun capacity held steps → IsRun None held steps
+of_whatever_capacity capacity held [] run = tt
+of_whatever_capacity capacity held (x ∷ steps) run = (run.0, loosened capacity held run.0 x.act run.1, of_whatever_capacity capacity run.0 steps run.2)

@@ -2,7 +2,7 @@
 use Rattle.std.proofs.Common.{◌≡◌, ◌≢◌, ℕ, ◌+◌, ◌<◌, ◌≤◌, ◌⊎◌, inl, inr, List, length, get_or, Option, Some, None, sym, ap, ◌∙◌, subst, arith}
 use Rattle.std.specs.List.{slice_get, slice_set}
 use Rattle.std.proofs.lemmas.Option.{slice_get-get_or, slice_get_within}
-use Rattle.cc_judge.specs.Names.{Act, Call, Kind}
+use Rattle.cc_judge.specs.Names.{Act, Call, Kind, Rules}
 use Rattle.cc_judge.specs.Faults.{Did, IsLeft, NeverSent, Returned, SentBefore}
 use Rattle.cc_judge.specs.Table.{act_of, IsTable, Twice}
 use Rattle.cc_judge.proofs.Turns.{below_or_at, nat_cases, set_at, set_elsewhere}
@@ -96,5 +96,5 @@ absent calls kind table item is none place did = let both : Some (Some place) �
 pub never_sent_so : (calls : List Call) (table : List (Option ℕ)) (take item : ℕ) → IsTable calls Kind.Send table → Returned calls take (Act.Took item) → slice_get table item ≡ Some None → NeverSent calls take
 never_sent_so calls table take item is took none = record { item = item; took = took; none = absent calls Kind.Send table item is none }
 
-pub left_so : (calls : List Call) (table : List (Option ℕ)) (from send item : ℕ) → IsTable calls Kind.Take table → SentBefore calls send from item → slice_get table item ≡ Some None → IsLeft calls from send
-left_so calls table from send item is sent none = record { item = item; sent_before = sent; untaken = absent calls Kind.Take table item is none }
+pub left_so : (rules : Rules) (calls : List Call) (table : List (Option ℕ)) (from send item : ℕ) → IsTable calls Kind.Take table → SentBefore rules calls send from item → slice_get table item ≡ Some None → IsLeft rules calls from send
+left_so rules calls table from send item is sent none = record { item = item; sent_before = sent; untaken = absent calls Kind.Take table item is none }

@@ -4,7 +4,7 @@ use Rattle.std.specs.List.{slice_get, slice_set}
 use Rattle.std.proofs.lemmas.Bool.{cases_lt}
 use Rattle.std.proofs.lemmas.Option.{get_or_from_slice_get, slice_get-get_or, slice_get_within}
 use Rattle.cc_judge.specs.Names.{Act, Call, Step}
-use Rattle.cc_judge.specs.Order.{EndsBefore, Has, IsOnce, IsTimely}
+use Rattle.cc_judge.specs.Order.{EndsBefore, HasStepOf, IsOnce, RespectsRealTime}
 use Rattle.cc_judge.specs.Faults.{Did, IsIn, Fewer}
 use Rattle.cc_judge.specs.Checks.{GoesOn, Marks, BeginsFrom}
 
@@ -48,7 +48,7 @@ timely_on calls order i latest next d so_far on = record {
   ];
 }
 
-pub all_timely : (calls : List Call) (order : List Step) (i latest : ℕ) → length order ≤ i → TimelyTo calls order i latest → IsTimely calls order
+pub all_timely : (calls : List Call) (order : List Step) (i latest : ℕ) → length order ≤ i → TimelyTo calls order i latest → RespectsRealTime calls order
 all_timely calls order i latest end so_far j k s t less s_is t_is = let within : k < length order = slice_get_within order k t t_is in so_far.timely j k s t less (omega (arith, within, end)) s_is t_is
 
 -- ---- marks
@@ -67,7 +67,7 @@ set_elsewhere (z ∷ xs) (suc p) (suc q) y apart = set_elsewhere xs p q y (λ sa
 
 -- only calls of steps are marked, those of the steps so far are, and no two of these are of one call
 pub record MarkedTo (order : List Step) (marks : List Bool) (upto : ℕ) : Type 0 where
-  pub has : (place : ℕ) → slice_get marks place ≡ Some true → Has order place
+  pub has : (place : ℕ) → slice_get marks place ≡ Some true → HasStepOf order place
   pub marked : (k : ℕ) (s : Step) → k < upto → slice_get order k ≡ Some s → slice_get marks s.place ≡ Some true
   pub once : (j k : ℕ) (s t : Step) → j < k → k < upto → slice_get order j ≡ Some s → slice_get order k ≡ Some t → s.place ≢ t.place
 

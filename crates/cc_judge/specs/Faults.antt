@@ -1,7 +1,7 @@
--- The faults of a log: five patterns, each of which leaves it without a legal order (Henzinger, Sezgin and Vafeiadis,
--- CONCUR 2013).
-use Rattle.std.specs.Prelude.{◌≡◌, ◌≢◌, ℕ, ◌<◌, ◌⊎◌, List, [], ◌∷◌, length, Some, IsSome, slice_get}
-use Rattle.cc_judge.specs.Names.{Act, Call, Stay}
+-- The faults of a log: patterns, each of which leaves it without a legal order. Five are those of Henzinger, Sezgin and
+-- Vafeiadis (CONCUR 2013), and three are of closes and of a capacity.
+use Rattle.std.specs.Prelude.{◌≡◌, ◌≢◌, ℕ, ◌<◌, ◌≤◌, ◌⊎◌, List, [], ◌∷◌, true, length, Some, IsSome, slice_get}
+use Rattle.cc_judge.specs.Names.{Act, Call, Rules, Stay}
 use Rattle.cc_judge.specs.Order.{EndsBefore}
 
 -- the call at this place has exactly this act
@@ -45,15 +45,34 @@ pub record TakenTwice (calls : List Call) (first second : ℕ) : Type 0 where
   pub took : Returned calls first (Act.Took item)
   pub took_again : Returned calls second (Act.Took item)
 
--- the call at one place sent the item, and had ended before the call `from` began
-pub record SentBefore (calls : List Call) (send from item : ℕ) : Type 0 where
-  pub sent : Did calls send (Act.Send item)
-  pub before : EndsBefore calls send from
+-- the act closes the queue, or answers that it is closed
+abbrev pub ShowsClosed : Act → Type 0
+ShowsClosed act = (act ≡ Act.Close) ⊎ (act ≡ Act.Closed) ⊎ (act ≡ Act.Ended)
 
--- the call at one place sent an item before the call `from` began, and no call took it that returned
-pub record IsLeft (calls : List Call) (from send : ℕ) : Type 0 where
+-- the call at this place returned, and the queue was closed by its end
+pub record WasClosed (calls : List Call) (place : ℕ) : Type 0 where
+  pub act : Act
+  pub shows : ShowsClosed act
+  pub returned : Returned calls place act
+
+-- a send that was accepted comes before the call `from`, since the queue was closed by the end of that call, or of one that
+-- had ended before it began
+pub record SentWhileOpen (rules : Rules) (calls : List Call) (send from item : ℕ) : Type 0 where
+  pub judged : rules.closes ≡ true
+  pub returned : Returned calls send (Act.Send item)
+  pub closed : ℕ
+  pub was_closed : WasClosed calls closed
+  pub by : (closed ≡ from) ⊎ EndsBefore calls closed from
+
+-- the call at one place sent the item before the call `from`: it had ended before that began, or the queue was closed since
+pub record SentBefore (rules : Rules) (calls : List Call) (send from item : ℕ) : Type 0 where
+  pub sent : Did calls send (Act.Send item)
+  pub before : EndsBefore calls send from ⊎ SentWhileOpen rules calls send from item
+
+-- the call at one place sent an item before the call `from`, and no call took it that returned
+pub record IsLeft (rules : Rules) (calls : List Call) (from send : ℕ) : Type 0 where
   pub item : ℕ
-  pub sent_before : SentBefore calls send from item
+  pub sent_before : SentBefore rules calls send from item
   pub untaken : (i : ℕ) → Did calls i (Act.Took item) → ⊥
 
 -- the element is in the list
@@ -71,15 +90,15 @@ abbrev pub IsRising : List ℕ → Type 0
 IsRising xs = (j k x y : ℕ) → j < k → slice_get xs j ≡ Some x → slice_get xs k ≡ Some y → x < y
 
 -- no call took these items, and too few takes may have; of each other take that may have more is known
-pub record Left (calls : List Call) (sends : List ℕ) (from : ℕ) (more : ℕ → Type 0) : Type 0 where
-  pub each : (k send : ℕ) → slice_get sends k ≡ Some send → IsLeft calls from send
+pub record Left (rules : Rules) (calls : List Call) (sends : List ℕ) (from : ℕ) (more : ℕ → Type 0) : Type 0 where
+  pub each : (k send : ℕ) → slice_get sends k ≡ Some send → IsLeft rules calls from send
   pub apart : IsRising sends
   pub fewer : Fewer calls (length sends) more
 
--- an item was sent before the call `from` began; one of which more is known took it, or none did
-abbrev pub Stays : List Call → Stay → (from : ℕ) → (more : ℕ → Type 0) → Type 0
-Stays calls (Stay.Taken send take) from more = (item : ℕ) × SentBefore calls send from item × Returned calls take (Act.Took item) × more take
-Stays calls (Stay.Left sends next) from more = Left calls sends.items from more
+-- an item was sent before the call `from`; one of which more is known took it, or none did
+abbrev pub Stays : Rules → List Call → Stay → (from : ℕ) → (more : ℕ → Type 0) → Type 0
+Stays rules calls (Stay.Taken send take) from more = (item : ℕ) × SentBefore rules calls send from item × Returned calls take (Act.Took item) × more take
+Stays rules calls (Stay.Left sends next) from more = Left rules calls sends.items from more
 
 -- the call at one place is another, and began after the first had ended
 pub record Follows (calls : List Call) (first second : ℕ) : Type 0 where
@@ -87,18 +106,73 @@ pub record Follows (calls : List Call) (first second : ℕ) : Type 0 where
   pub after : EndsBefore calls first second
 
 -- two items were sent one after the other; the later one was taken, and the earlier one after that, or never
-pub record Overtaken (calls : List Call) (stay : Stay) (later_send later_take : ℕ) : Type 0 where
+pub record Overtaken (rules : Rules) (calls : List Call) (stay : Stay) (later_send later_take : ℕ) : Type 0 where
   pub later : Passed calls later_send later_take
-  pub stays : Stays calls stay later_send (Follows calls later_take)
+  pub stays : Stays rules calls stay later_send (Follows calls later_take)
 
--- Items were in the queue at all times of a call: the send of the first ended before the call `from` began; the send of
--- each further one ended before the take of the one before it began; and the call had ended before the last was taken.
-abbrev pub Covers : List Call → (call from : ℕ) → List Stay → Type 0
-Covers calls call from [] = EndsBefore calls call from
-Covers calls call from (x ∷ rest) = Stays calls x from (λ take. Covers calls call take rest)
+-- Items were in the queue at all times of a call: the first was sent before the call `from`; each further one was sent before
+-- the take of the one before it; and the call had ended before the last was taken.
+abbrev pub Covers : Rules → List Call → (call from : ℕ) → List Stay → Type 0
+Covers rules calls call from [] = EndsBefore calls call from
+Covers rules calls call from (x ∷ rest) = Stays rules calls x from (λ take. Covers rules calls call take rest)
+
+-- a take found none, whether or not the queue was closed
+abbrev pub FindsNone : Act → Type 0
+FindsNone act = (act ≡ Act.FoundNone) ⊎ (act ≡ Act.Ended)
 
 -- a take found none, and items were in the queue at all of its times
-pub record NotEmpty (calls : List Call) (call : ℕ) (stays : List Stay) : Type 0 where
-  pub found_none : Returned calls call Act.FoundNone
+pub record NotEmpty (rules : Rules) (calls : List Call) (call : ℕ) (stays : List Stay) : Type 0 where
+  pub act : Act
+  pub finds_none : FindsNone act
+  pub found_none : Returned calls call act
   pub some : stays ≢ []
-  pub covers : Covers calls call call stays
+  pub covers : Covers rules calls call call stays
+
+-- a send that found the queue open: it found it full, or was accepted, as the log says or since its item was taken
+abbrev pub WasOpen : List Call → (send : ℕ) → Type 0
+WasOpen calls send = Returned calls send Act.Full ⊎ ((item : ℕ) × Returned calls send (Act.Send item)) ⊎ ((take : ℕ) × Passed calls send take)
+
+-- the queue was closed by the end of one call, and a send that began after that found it open
+pub record Reopened (rules : Rules) (calls : List Call) (closed send : ℕ) : Type 0 where
+  pub judged : rules.closes ≡ true
+  pub was_closed : WasClosed calls closed
+  pub after : EndsBefore calls closed send
+  pub was_open : WasOpen calls send
+
+-- a call was answered that the queue is closed, and each close began after that
+pub record ClosedEarly (rules : Rules) (calls : List Call) (call : ℕ) : Type 0 where
+  pub judged : rules.closes ≡ true
+  pub act : Act
+  pub answered : (act ≡ Act.Closed) ⊎ (act ≡ Act.Ended)
+  pub returned : Returned calls call act
+  pub later : (close : ℕ) → Did calls close Act.Close → EndsBefore calls call close
+
+-- the call at this place began by this time
+pub record BeganBy (calls : List Call) (place time : ℕ) : Type 0 where
+  pub call : Call
+  pub call_is : slice_get calls place ≡ Some call
+  pub by : call.begin ≤ time
+
+-- the call at this place ended before this time
+pub record EndedBy (calls : List Call) (place time : ℕ) : Type 0 where
+  pub call : Call
+  pub call_is : slice_get calls place ≡ Some call
+  pub end : ℕ
+  pub ended : call.end ≡ Some end
+  pub by : end < time
+
+-- At a time fewer items than this number may be in the queue: each other one whose send began by then was taken before.
+pub record FewerAt (calls : List Call) (number time : ℕ) : Type 0 where
+  pub may : List ℕ
+  pub fewer : length may < number
+  pub others : (send item : ℕ) → Did calls send (Act.Send item) → BeganBy calls send time → IsIn item may ⊎ ((take : ℕ) × Returned calls take (Act.Took item) × EndedBy calls take time)
+
+-- a send found the queue full, and at each of its times fewer items than it holds may have been in it
+pub record NotFull (rules : Rules) (calls : List Call) (call : ℕ) : Type 0 where
+  pub capacity : ℕ
+  pub capacity_is : rules.capacity ≡ Some capacity
+  pub begin : ℕ
+  pub end : ℕ
+  pub full : (one : Call) × (slice_get calls call ≡ Some one) × (one.act ≡ Act.Full) × (one.begin ≡ begin) × (one.end ≡ Some end)
+  pub at_begin : FewerAt calls capacity begin
+  pub at_sends : (send item : ℕ) (one : Call) → slice_get calls send ≡ Some one → one.act ≡ Act.Send item → begin ≤ one.begin → one.begin ≤ end → FewerAt calls capacity one.begin

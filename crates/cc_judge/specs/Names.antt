@@ -1,6 +1,8 @@
 -- The types in specs, proofs and contracts of this crate. A variant comes after its type, as `Act.Send`.
 pub use Rattle.cc_judge.specs.declared.log.Act.{Act}
 pub use Rattle.cc_judge.specs.declared.log.Call.{Call}
+pub use Rattle.cc_judge.specs.declared.log.Tie.{Tie}
+pub use Rattle.cc_judge.specs.declared.log.Rules.{Rules}
 pub use Rattle.cc_judge.specs.declared.log.Stay.{Stay}
 pub use Rattle.cc_judge.specs.declared.log.Step.{Step}
 pub use Rattle.cc_judge.specs.declared.table.Kind.{Kind}

@@ -5,15 +5,19 @@ ghost use Rattle.cc_judge.specs.Table.{IsIndex};
 ghost use Rattle.cc_judge.specs.Faults.{Differ};
 ghost use Rattle.cc_judge.specs.Verdict.{IsVerdict, Stands, Indexes, FaultsHaveNoOrder};
 
+use crate::closing::{is_closed_early, is_reopened, was_open};
+use crate::crowd::not_full;
 use crate::faults::{
     Index, is_never_sent, is_not_empty, is_overtaken, is_taken_before_sent, is_taken_twice,
 };
 use crate::order::is_order;
 use crate::pick::{Pair, overtaken, stays};
-use crate::search::{Sought, place_of, seek};
-use crate::share::{Shares, share};
+use crate::room::{capacity_of, is_not_full};
+use crate::search::{Sought, seek};
+use crate::share::{Shares, place_of, share};
 use crate::table::{Found, Kind, find};
-use crate::{Act, Call, Stay, Step};
+use crate::times::{View, first_closed, view_of};
+use crate::{Act, Call, Rules, Stay, Step};
 use std::alloc::{AllocError, Global};
 
 /// Why a log has no legal order, by the places of the calls that show it.
@@ -44,6 +48,19 @@ pub enum Fault {
         call: usize,
         stays: Vec<Stay>,
     },
+    /// A send found the queue open, and began after a call had ended that closed it or found it closed.
+    Reopened {
+        closed: usize,
+        send: usize,
+    },
+    /// A call found the queue closed, and each close began after that.
+    ClosedEarly {
+        call: usize,
+    },
+    /// A send found the queue full, and at each of its times fewer items than the queue holds may have been in it.
+    NotFull {
+        call: usize,
+    },
 }
 
 /// The verdict on a log.
@@ -71,9 +88,9 @@ pub enum Indexed {
 }
 
 /// The verdict if two calls took one item.
-fn twice(calls: &[Call], first: usize, second: usize) -> Verdict
+fn twice(rules: &Rules, calls: &[Call], first: usize, second: usize) -> Verdict
     requires { Differ calls.now }
-    ensures { IsVerdict calls.now result }
+    ensures { IsVerdict rules.now calls.now result }
 {
     if is_taken_twice(calls, first, second) {
         Verdict::Fault(Fault::TakenTwice { first, second })
@@ -83,8 +100,13 @@ fn twice(calls: &[Call], first: usize, second: usize) -> Verdict
 }
 
 /// Finds the places at which each item was sent and taken, or the verdict that is due without that.
-fn index_of(alloc: Global, calls: &[Call], items: usize) -> Result<Indexed, AllocError>
-    ensures { IfOk result (Indexes calls.now) }
+fn index_of(
+    alloc: Global,
+    rules: &Rules,
+    calls: &[Call],
+    items: usize,
+) -> Result<Indexed, AllocError>
+    ensures { IfOk result (Indexes rules.now calls.now) }
 {
     let sends = match find(alloc, calls, items, Kind::Send)? {
         Found::Each(sends) => sends,
@@ -93,10 +115,14 @@ fn index_of(alloc: Global, calls: &[Call], items: usize) -> Result<Indexed, Allo
     };
     let takes = match find(alloc, calls, items, Kind::Take)? {
         Found::Each(takes) => takes,
-        Found::Twice(first, second) => return Ok(Indexed::Due(twice(calls, first, second))),
+        Found::Twice(first, second) => return Ok(Indexed::Due(twice(rules, calls, first, second))),
         Found::Stray(place) => return Ok(Indexed::Due(Verdict::Stray(place))),
     };
-    Ok(Indexed::Index(Index { sends, takes }))
+    Ok(Indexed::Index(Index {
+        sends,
+        takes,
+        closed: first_closed(calls),
+    }))
 }
 
 /// The law: a fault leaves a log of items that differ without a legal order.
@@ -106,9 +132,9 @@ pub fn faults_have_no_order()
 {}
 
 /// The first take whose item no call sent, or whose item was sent by a call that began after the take had ended.
-fn take_fault(calls: &[Call], index: &Index) -> Option<Fault>
+fn take_fault(rules: &Rules, calls: &[Call], index: &Index) -> Option<Fault>
     requires { IsIndex calls.now index.now }
-    ensures { IfSome result (Stands calls.now) }
+    ensures { IfSome result (Stands rules.now calls.now) }
 {
     for (take, call) in calls.iter().enumerate() {
         if let Act::Took(item) = call.act {
@@ -125,17 +151,53 @@ fn take_fault(calls: &[Call], index: &Index) -> Option<Fault>
     None
 }
 
+/// The first call that found the queue closed too early, or open after it was closed.
+fn close_fault(rules: &Rules, calls: &[Call], index: &Index) -> Option<Fault>
+    ensures { IfSome result (Stands rules.now calls.now) }
+{
+    let closed = index.closed?;
+    if is_closed_early(rules, calls, closed) {
+        return Some(Fault::ClosedEarly { call: closed });
+    }
+    match latest_open(calls, index) {
+        Some(send) if is_reopened(rules, calls, index, closed, send) => {
+            Some(Fault::Reopened { closed, send })
+        }
+        _ => None,
+    }
+}
+
+/// The call that found the queue open and began last.
+fn latest_open(calls: &[Call], index: &Index) -> Option<usize> {
+    let mut latest: Option<(u64, usize)> = None;
+    for (place, call) in calls.iter().enumerate() {
+        if was_open(calls, index, place) {
+            let later = match latest {
+                Some((begin, _)) => begin < call.begin,
+                None => true,
+            };
+            if later {
+                latest = Some((call.begin, place));
+            }
+        }
+    }
+    match latest {
+        Some((_, place)) => Some(place),
+        None => None,
+    }
+}
+
 /// Two items of which the later one overtook the earlier one.
 fn pair_fault(
     alloc: Global,
-    calls: &[Call],
-    index: &Index,
+    rules: &Rules,
+    view: &View<'_>,
     shares: &Shares,
 ) -> Result<Option<Fault>, AllocError>
-    requires { IsIndex calls.now index.now }
-    ensures { IfOk result (λ found. IfSome found (Stands calls.now)) }
+    requires { IsIndex view.now.calls.now view.now.index.now }
+    ensures { IfOk result (λ found. IfSome found (Stands rules.now view.now.calls.now)) }
 {
-    let Some(pair) = overtaken(alloc, calls, index, shares)? else {
+    let Some(pair) = overtaken(alloc, view, shares)? else {
         return Ok(None);
     };
     let Pair {
@@ -143,7 +205,7 @@ fn pair_fault(
         later_send,
         later_take,
     } = pair;
-    if !is_overtaken(calls, index, &stay, later_send, later_take) {
+    if !is_overtaken(rules, view.calls, view.index, &stay, later_send, later_take) {
         return Ok(None);
     }
     Ok(Some(Fault::Overtaken {
@@ -156,16 +218,16 @@ fn pair_fault(
 /// That the call at this place found none, though the queue can't have been empty.
 fn none_fault(
     alloc: Global,
-    calls: &[Call],
-    index: &Index,
+    rules: &Rules,
+    view: &View<'_>,
     shares: &Shares,
     call: usize,
 ) -> Result<Option<Fault>, AllocError>
-    requires { IsIndex calls.now index.now }
-    ensures { IfOk result (λ found. IfSome found (Stands calls.now)) }
+    requires { IsIndex view.now.calls.now view.now.index.now }
+    ensures { IfOk result (λ found. IfSome found (Stands rules.now view.now.calls.now)) }
 {
-    let stays = stays(alloc, calls, index, shares, call)?;
-    if !is_not_empty(calls, index, call, stays.as_slice()) {
+    let stays = stays(alloc, view, shares, call)?;
+    if !is_not_empty(rules, view.calls, view.index, call, stays.as_slice()) {
         return Ok(None);
     }
     Ok(Some(Fault::NotEmpty { call, stays }))
@@ -174,25 +236,40 @@ fn none_fault(
 /// The fault of a log in which the search got stuck at a call.
 fn fault_at(
     alloc: Global,
-    calls: &[Call],
-    index: &Index,
+    rules: &Rules,
+    view: &View<'_>,
     shares: &Shares,
     stuck: usize,
 ) -> Result<Option<Fault>, AllocError>
-    requires { IsIndex calls.now index.now }
-    ensures { IfOk result (λ found. IfSome found (Stands calls.now)) }
+    requires { IsIndex view.now.calls.now view.now.index.now }
+    ensures { IfOk result (λ found. IfSome found (Stands rules.now view.now.calls.now)) }
 {
-    match pair_fault(alloc, calls, index, shares)? {
+    match pair_fault(alloc, rules, view, shares)? {
         Some(fault) => Ok(Some(fault)),
-        None => none_fault(alloc, calls, index, shares, stuck),
+        None => none_fault(alloc, rules, view, shares, stuck),
+    }
+}
+
+/// That a send found the queue full, though it can't have been.
+fn full_fault(alloc: Global, rules: &Rules, view: &View<'_>) -> Result<Option<Fault>, AllocError>
+    ensures { IfOk result (λ found. IfSome found (Stands rules.now view.now.calls.now)) }
+{
+    let Some(capacity) = capacity_of(rules) else {
+        return Ok(None);
+    };
+    match not_full(alloc, view, capacity)? {
+        Some(call) if is_not_full(rules, view.calls, view.index, call) => {
+            Ok(Some(Fault::NotFull { call }))
+        }
+        _ => Ok(None),
     }
 }
 
 /// The verdict if this fault was found.
-fn verdict_of(calls: &[Call], index: &Index, found: Option<Fault>) -> Verdict
+fn verdict_of(rules: &Rules, calls: &[Call], index: &Index, found: Option<Fault>) -> Verdict
     requires index { IsIndex calls.now index.now }
-    requires stands { IfSome found (Stands calls.now) }
-    ensures { IsVerdict calls.now result }
+    requires stands { IfSome found (Stands rules.now calls.now) }
+    ensures { IsVerdict rules.now calls.now result }
 {
     match found {
         Some(fault) => Verdict::Fault(fault),
@@ -200,35 +277,81 @@ fn verdict_of(calls: &[Call], index: &Index, found: Option<Fault>) -> Verdict
     }
 }
 
+/// The verdict if this is the order that was found: it is checked.
+fn checked(
+    alloc: Global,
+    rules: &Rules,
+    calls: &[Call],
+    order: Vec<Step>,
+) -> Result<Verdict, AllocError>
+    ensures { IfOk result (IsVerdict rules.now calls.now) }
+{
+    if is_order(alloc, rules, calls, order.as_slice())? {
+        Ok(Verdict::Clean(order))
+    } else {
+        Ok(Verdict::Undecided)
+    }
+}
+
+/// The fault of a log in which the search got stuck at a call, or at none.
+fn found(
+    alloc: Global,
+    rules: &Rules,
+    view: &View<'_>,
+    shares: &Shares,
+    stuck: Option<usize>,
+) -> Result<Option<Fault>, AllocError>
+    requires { IsIndex view.now.calls.now view.now.index.now }
+    ensures { IfOk result (λ found. IfSome found (Stands rules.now view.now.calls.now)) }
+{
+    match stuck {
+        Some(stuck) => fault_at(alloc, rules, view, shares, stuck),
+        None => full_fault(alloc, rules, view),
+    }
+}
+
+/// The verdict on a log that is viewed so, whose takes and closes have no fault of their own.
+fn sought(alloc: Global, rules: &Rules, view: &View<'_>) -> Result<Verdict, AllocError>
+    requires { IsIndex view.now.calls.now view.now.index.now }
+    ensures { IfOk result (IsVerdict rules.now view.now.calls.now) }
+{
+    let shares = share(alloc, view)?;
+    let Sought { order, stuck } = seek(alloc, view, &shares)?;
+    match found(alloc, rules, view, &shares, stuck)? {
+        Some(fault) => Ok(verdict_of(rules, view.calls, view.index, Some(fault))),
+        None if stuck.is_none() => checked(alloc, rules, view.calls, order),
+        None => Ok(Verdict::Undecided),
+    }
+}
+
 /// The verdict on a log whose items are below `items`. It takes memory in proportion to the log, and O(n log n), or O(n) for
 /// each take that hasn't returned if one of the others found none though items were left.
 ///
 /// A log has an order exactly if it has none of the faults (after Henzinger, Sezgin and Vafeiadis, CONCUR 2013, for calls that
-/// all returned), and no log is known whose verdict is neither, unless more than a thousand takes haven't returned: then what
-/// shows the fault may be too long (`pick`). That isn't proved, so the verdict may be undecided.
-pub fn judge(alloc: Global, calls: &[Call], items: usize) -> Result<Verdict, AllocError>
-    ensures { IfOk result (IsVerdict calls.now) }
+/// all returned), and no log without ties is known whose verdict is neither, unless a send of a closed queue hasn't returned,
+/// though its item was taken, or more than a thousand takes haven't: then the items that show the fault may be too many
+/// (`pick`). That isn't proved, so the verdict may be undecided. Of a
+/// capacity only that is judged that a send which found the queue full may have done so.
+pub fn judge(
+    alloc: Global,
+    rules: &Rules,
+    calls: &[Call],
+    items: usize,
+) -> Result<Verdict, AllocError>
+    ensures { IfOk result (IsVerdict rules.now calls.now) }
 {
-    let index = match index_of(alloc, calls, items)? {
+    let index = match index_of(alloc, rules, calls, items)? {
         Indexed::Index(index) => index,
         Indexed::Due(verdict) => return Ok(verdict),
     };
-    if let Some(fault) = take_fault(calls, &index) {
-        return Ok(verdict_of(calls, &index, Some(fault)));
+    if let Some(fault) = take_fault(rules, calls, &index) {
+        return Ok(verdict_of(rules, calls, &index, Some(fault)));
     }
-    let shares = share(alloc, calls, &index)?;
-    let Sought { order, stuck } = seek(alloc, calls, &index, &shares)?;
-    match stuck {
-        Some(stuck) => {
-            let found = fault_at(alloc, calls, &index, &shares, stuck)?;
-            Ok(verdict_of(calls, &index, found))
-        }
-        None => {
-            if is_order(alloc, calls, order.as_slice())? {
-                Ok(Verdict::Clean(order))
-            } else {
-                Ok(Verdict::Undecided)
-            }
+    if rules.closes {
+        if let Some(fault) = close_fault(rules, calls, &index) {
+            return Ok(verdict_of(rules, calls, &index, Some(fault)));
         }
     }
+    let view = view_of(rules, calls, &index);
+    sought(alloc, rules, &view)
 }

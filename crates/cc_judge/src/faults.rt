@@ -1,24 +1,26 @@
 //! Whether a log has a fault: each is confirmed by the calls that it names.
-ghost use Rattle.std.specs.Prelude.{◌≡◌, ℕ, IsTrue, IfSome, slice_get, Some, None};
+ghost use Rattle.std.specs.Prelude.{◌≡◌, ◌⊎◌, ℕ, IsTrue, IfSome, slice_get, Some, None};
 ghost use Rattle.cc_judge.specs.Names.{Call, Act, Kind, Stay, Leave};
 ghost use Rattle.cc_judge.specs.Order.{EndsBefore};
-ghost use Rattle.cc_judge.specs.Faults.{Did, Returned, Differ, NeverSent, TakenBeforeSent, TakenTwice, SentBefore, IsLeft, IsRising, Fewer, Stays, Passed, Overtaken, Covers, NotEmpty};
+ghost use Rattle.cc_judge.specs.Faults.{Did, Returned, Differ, NeverSent, TakenBeforeSent, TakenTwice, ShowsClosed, WasClosed, SentWhileOpen, SentBefore, IsLeft, IsRising, Fewer, Stays, Passed, Overtaken, Covers, FindsNone, NotEmpty};
 ghost use Rattle.cc_judge.specs.Checks.{BeginsFrom, Until};
 ghost use Rattle.cc_judge.specs.Table.{IsTable, IsIndex};
 
-use crate::{Act, Call, Stay};
+use crate::{Act, Call, Rules, Stay};
 
 /// The places at which each item of a log was sent and taken.
 #[derive(Debug, Drop)]
 pub struct Index {
     /// Of each item the place of its send, if there is one.
-    pub sends: Vec<Option<usize>>,
+    pub sends: Vec<Option<u32>>,
     /// Of each item the place of its take, if there is one.
-    pub takes: Vec<Option<usize>>,
+    pub takes: Vec<Option<u32>>,
+    /// The call that shows first that the queue is closed: of those the one that ended first.
+    pub closed: Option<usize>,
 }
 
 /// The item that the call at this place sent.
-pub fn sent(calls: &[Call], place: usize) -> Option<usize>
+pub fn sent(calls: &[Call], place: usize) -> Option<u32>
     ensures { IfSome result (λ item. Did calls.now place (Act.Send item)) }
 {
     match calls.get(place).copied()?.act {
@@ -28,7 +30,7 @@ pub fn sent(calls: &[Call], place: usize) -> Option<usize>
 }
 
 /// The item that the call at this place took, if it returned.
-fn taken(calls: &[Call], place: usize) -> Option<usize>
+pub fn taken(calls: &[Call], place: usize) -> Option<u32>
     ensures { IfSome result (λ item. Returned calls.now place (Act.Took item)) }
 {
     let call = calls.get(place).copied()?;
@@ -38,13 +40,23 @@ fn taken(calls: &[Call], place: usize) -> Option<usize>
     }
 }
 
-/// Whether the call at this place found no item, and returned.
-fn found_none(calls: &[Call], place: usize) -> bool
-    ensures { IsTrue result → Returned calls.now place Act.FoundNone }
+/// Whether an act is a take that found none.
+fn finds_none(act: Act) -> bool
+    ensures { IsTrue result → FindsNone act }
 {
-    match calls.get(place).copied() {
-        Some(call) => matches!(call.act, Act::FoundNone) && call.end.is_some(),
-        None => false,
+    matches!(act, Act::FoundNone | Act::Ended)
+}
+
+/// The act of the call at this place, if it found no item, and returned.
+fn found_none(calls: &[Call], place: usize) -> Option<Act>
+    ensures none { IfSome result FindsNone }
+    ensures returned { IfSome result (Returned calls.now place) }
+{
+    let call = calls.get(place).copied()?;
+    if finds_none(call.act) && call.end.is_some() {
+        Some(call.act)
+    } else {
+        None
     }
 }
 
@@ -62,10 +74,10 @@ pub fn ends_before(calls: &[Call], first: usize, second: usize) -> bool
 }
 
 /// Whether the item has no place in a table of all calls of one kind.
-fn is_absent(table: &Vec<Option<usize>>, item: usize) -> bool
+fn is_absent(table: &Vec<Option<u32>>, item: u32) -> bool
     ensures { IsTrue result → slice_get table.now.items item ≡ Some None }
 {
-    matches!(table.get(item), Some(None))
+    matches!(table.get(item as usize), Some(None))
 }
 
 /// Whether the call at this place took an item that no call sent.
@@ -81,7 +93,7 @@ pub fn is_never_sent(calls: &[Call], index: &Index, take: usize) -> bool
 }
 
 /// Whether the call at one place took the item that the call at the other sent.
-fn passed(calls: &[Call], send: usize, take: usize) -> bool
+pub fn passed(calls: &[Call], send: usize, take: usize) -> bool
     ensures { IsTrue result → Passed calls.now send take }
 {
     match (sent(calls, send), taken(calls, take)) {
@@ -107,35 +119,107 @@ pub fn is_taken_twice(calls: &[Call], first: usize, second: usize) -> bool
     }
 }
 
-/// The item that the call at one place sent, if that had ended before the call `from` began.
-fn sent_before(calls: &[Call], send: usize, from: usize) -> Option<usize>
-    ensures { IfSome result (SentBefore calls.now send from) }
+/// Whether an act closes the queue, or answers that it is closed.
+pub fn shows_closed(act: Act) -> bool
+    ensures { IsTrue result → ShowsClosed act }
 {
-    if !ends_before(calls, send, from) {
-        return None;
-    }
-    sent(calls, send)
+    matches!(act, Act::Close | Act::Closed | Act::Ended)
 }
 
-/// Whether the call at one place sent an item that no call took, and had ended before the call `from` began.
-#[tactic(auto, using(crate::proofs::Tables::left_so))]
-fn is_left(calls: &[Call], index: &Index, send: usize, from: usize) -> bool
-    requires { IsIndex calls.now index.now }
-    ensures { IsTrue result → IsLeft calls.now from send }
+/// Whether the call at this place returned, and the queue was closed by its end.
+pub fn was_closed(calls: &[Call], place: usize) -> bool
+    ensures { IsTrue result → WasClosed calls.now place }
 {
-    match sent_before(calls, send, from) {
+    match calls.get(place).copied() {
+        Some(call) => shows_closed(call.act) && call.end.is_some(),
+        None => false,
+    }
+}
+
+/// The item that the call at this place sent, if it returned.
+pub fn accepted(calls: &[Call], place: usize) -> Option<u32>
+    ensures { IfSome result (λ item. Returned calls.now place (Act.Send item)) }
+{
+    let call = calls.get(place).copied()?;
+    match (call.act, call.end) {
+        (Act::Send(item), Some(_)) => Some(item),
+        _ => None,
+    }
+}
+
+/// The call that shows that the queue was closed by the end of the call `from`, or before it began: that itself, or the first
+/// that shows it.
+fn closed_by(calls: &[Call], index: &Index, from: usize) -> Option<usize>
+    ensures shows { IfSome result (WasClosed calls.now) }
+    ensures before { IfSome result (λ closed. (closed ≡ from) ⊎ EndsBefore calls.now closed from) }
+{
+    if was_closed(calls, from) {
+        return Some(from);
+    }
+    let closed = index.closed?;
+    if was_closed(calls, closed) && ends_before(calls, closed, from) {
+        Some(closed)
+    } else {
+        None
+    }
+}
+
+/// The item that the call at one place sent and that was accepted, if the queue was closed by the end of the call `from`, or
+/// before it began.
+fn sent_while_open(
+    rules: &Rules,
+    calls: &[Call],
+    index: &Index,
+    send: usize,
+    from: usize,
+) -> Option<u32>
+    ensures { IfSome result (SentWhileOpen rules.now calls.now send from) }
+{
+    if !rules.closes {
+        return None;
+    }
+    let item = accepted(calls, send)?;
+    match closed_by(calls, index, from) {
+        Some(_) => Some(item),
+        None => None,
+    }
+}
+
+/// The item that the call at one place sent, if that had ended before the call `from` began, or the queue was closed since.
+fn sent_before(
+    rules: &Rules,
+    calls: &[Call],
+    index: &Index,
+    send: usize,
+    from: usize,
+) -> Option<u32>
+    ensures { IfSome result (SentBefore rules.now calls.now send from) }
+{
+    if ends_before(calls, send, from) {
+        return sent(calls, send);
+    }
+    sent_while_open(rules, calls, index, send, from)
+}
+
+/// Whether the call at one place sent an item that no call took, before the call `from`.
+#[tactic(auto, using(crate::proofs::Tables::left_so))]
+fn is_left(rules: &Rules, calls: &[Call], index: &Index, send: usize, from: usize) -> bool
+    requires { IsIndex calls.now index.now }
+    ensures { IsTrue result → IsLeft rules.now calls.now from send }
+{
+    match sent_before(rules, calls, index, send, from) {
         Some(item) => is_absent(&index.takes, item),
         None => false,
     }
 }
 
-/// Whether each of these calls sent an item that no call took, and had ended before the call `from` began.
-fn are_left(calls: &[Call], index: &Index, sends: &[usize], from: usize) -> bool
+/// Whether each of these calls sent an item that no call took, before the call `from`.
+fn are_left(rules: &Rules, calls: &[Call], index: &Index, sends: &[usize], from: usize) -> bool
     requires { IsIndex calls.now index.now }
-    ensures { IsTrue result → (k send : ℕ) → slice_get sends.now k ≡ Some send → IsLeft calls.now from send }
+    ensures { IsTrue result → (k send : ℕ) → slice_get sends.now k ≡ Some send → IsLeft rules.now calls.now from send }
 {
     for send in sends {
-        if !is_left(calls, index, *send, from) {
+        if !is_left(rules, calls, index, *send, from) {
             return false;
         }
     }
@@ -159,7 +243,8 @@ fn is_rising(places: &[usize]) -> bool
     true
 }
 
-/// Whether the call at one place began no earlier than the call at another, if there is one.
+/// Whether the call at one place began no earlier than the call at another, if there is one, and that is a take that hasn't
+/// returned.
 fn begins_from(calls: &[Call], next: Option<usize>, place: usize) -> bool
     ensures { IsTrue result → BeginsFrom calls.now next place }
 {
@@ -167,7 +252,7 @@ fn begins_from(calls: &[Call], next: Option<usize>, place: usize) -> bool
         return false;
     };
     match (calls.get(next).copied(), calls.get(place).copied()) {
-        (Some(one), Some(other)) => one.begin <= other.begin,
+        (Some(one), Some(other)) => { matches!(one.act, Act::Taking) && one.begin <= other.begin }
         _ => false,
     }
 }
@@ -209,13 +294,13 @@ pub enum Leave {
 }
 
 /// When the item of a stay left the queue, if it was sent before the call `from` began.
-fn leave_of(calls: &[Call], index: &Index, stay: &Stay, from: usize) -> Option<Leave>
+fn leave_of(rules: &Rules, calls: &[Call], index: &Index, stay: &Stay, from: usize) -> Option<Leave>
     requires { IsIndex calls.now index.now }
-    ensures { IfSome result (λ l. Stays calls.now stay.now from (Until calls.now l)) }
+    ensures { IfSome result (λ l. Stays rules.now calls.now stay.now from (Until calls.now l)) }
 {
     match stay {
         Stay::Taken { send, take } => {
-            let item = sent_before(calls, *send, from)?;
+            let item = sent_before(rules, calls, index, *send, from)?;
             if taken(calls, *take) != Some(item) {
                 return None;
             }
@@ -224,7 +309,7 @@ fn leave_of(calls: &[Call], index: &Index, stay: &Stay, from: usize) -> Option<L
         Stay::Left { sends, next } => {
             let sends = sends.as_slice();
             if !is_rising(sends)
-                || !are_left(calls, index, sends, from)
+                || !are_left(rules, calls, index, sends, from)
                 || !are_fewer(calls, *next, sends.len())
             {
                 return None;
@@ -241,6 +326,7 @@ fn leave_of(calls: &[Call], index: &Index, stay: &Stay, from: usize) -> Option<L
 /// never.
 #[tactic(auto, using(crate::proofs::Stays::overtaken_by, crate::proofs::Stays::overtaken_never))]
 pub fn is_overtaken(
+    rules: &Rules,
     calls: &[Call],
     index: &Index,
     stay: &Stay,
@@ -248,12 +334,12 @@ pub fn is_overtaken(
     later_take: usize,
 ) -> bool
     requires { IsIndex calls.now index.now }
-    ensures { IsTrue result → Overtaken calls.now stay.now later_send later_take }
+    ensures { IsTrue result → Overtaken rules.now calls.now stay.now later_send later_take }
 {
     if !passed(calls, later_send, later_take) {
         return false;
     }
-    match leave_of(calls, index, stay, later_send) {
+    match leave_of(rules, calls, index, stay, later_send) {
         Some(Leave::By(take)) => take != later_take && ends_before(calls, later_take, take),
         Some(Leave::Never) => true,
         None => false,
@@ -261,13 +347,13 @@ pub fn is_overtaken(
 }
 
 /// Whether at all times of the call at this place some of these items were in the queue.
-fn covers(calls: &[Call], index: &Index, call: usize, stays: &[Stay]) -> bool
+fn covers(rules: &Rules, calls: &[Call], index: &Index, call: usize, stays: &[Stay]) -> bool
     requires { IsIndex calls.now index.now }
-    ensures { IsTrue result → Covers calls.now call call stays.now }
+    ensures { IsTrue result → Covers rules.now calls.now call call stays.now }
 {
     let mut from = call;
     for stay in stays {
-        match leave_of(calls, index, stay, from) {
+        match leave_of(rules, calls, index, stay, from) {
             Some(Leave::By(take)) => from = take,
             Some(Leave::Never) => return true,
             None => return false,
@@ -277,9 +363,17 @@ fn covers(calls: &[Call], index: &Index, call: usize, stays: &[Stay]) -> bool
 }
 
 /// Whether the call at this place found none, though at all of its times some of these items were in the queue.
-pub fn is_not_empty(calls: &[Call], index: &Index, call: usize, stays: &[Stay]) -> bool
+pub fn is_not_empty(
+    rules: &Rules,
+    calls: &[Call],
+    index: &Index,
+    call: usize,
+    stays: &[Stay],
+) -> bool
     requires { IsIndex calls.now index.now }
-    ensures { IsTrue result → NotEmpty calls.now call stays.now }
+    ensures { IsTrue result → NotEmpty rules.now calls.now call stays.now }
 {
-    found_none(calls, call) && !stays.is_empty() && covers(calls, index, call, stays)
+    found_none(calls, call).is_some()
+        && !stays.is_empty()
+        && covers(rules, calls, index, call, stays)
 }

@@ -2,18 +2,23 @@
 //!
 //! A log has the calls of several threads on one queue, each with the time at which it began and, if it returned, the
 //! time at which it ended. It is linearizable if its calls have a legal order: one that a queue of one thread would
-//! answer so, and in which no call comes after one that began after it had ended (Herlihy and Wing, TOPLAS 1990).
+//! answer so, and that agrees with real time: a call that ended before another began comes first (Herlihy and Wing, TOPLAS
+//! 1990).
 #![tactic(auto)]
 
+mod closing;
+mod crowd;
 mod decide;
 mod faults;
 mod log;
 mod order;
 mod pick;
+mod room;
 mod search;
 mod share;
 mod table;
+mod times;
 
 pub use decide::{Fault, Verdict, faults_have_no_order, judge};
-pub use log::{Act, Call, Stay, Step};
+pub use log::{Act, Call, Rules, Stay, Step, Tie};
 pub use order::is_order;

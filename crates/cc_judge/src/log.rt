@@ -1,16 +1,24 @@
-//! The calls of a log.
+//! The calls of a log, and what else is known of it.
 
 /// The act of a call. Items are numbered.
 #[derive(Clone, Copy, Debug, PartialEq, Eq, Drop)]
 pub enum Act {
     /// It sent this item, and was accepted.
-    Send(usize),
+    Send(u32),
     /// It took this item.
-    Took(usize),
+    Took(u32),
     /// It took, and found no item.
     FoundNone,
     /// It is a take that hasn't returned.
     Taking,
+    /// It is a send that found the queue full.
+    Full,
+    /// It is a send that found the queue closed.
+    Closed,
+    /// It is a take that found the queue closed and empty.
+    Ended,
+    /// It closed the queue, or found it closed.
+    Close,
 }
 
 /// A call of a log.
@@ -22,6 +30,26 @@ pub struct Call {
     pub end: Option<u64>,
     /// Its act.
     pub act: Act,
+}
+
+/// Two calls of one thread, the later of which began at the very time at which the earlier one ended.
+#[derive(Clone, Copy, Debug, PartialEq, Eq, Drop)]
+pub struct Tie {
+    /// The place of the earlier call.
+    pub earlier: u32,
+    /// The place of the later call.
+    pub later: u32,
+}
+
+/// The rest that is known of a log.
+#[derive(Debug, Drop)]
+pub struct Rules {
+    /// How many items the queue holds, if that is known.
+    pub capacity: Option<u32>,
+    /// Whether the log has each close of the queue, so that the answers Closed and Ended are judged.
+    pub closes: bool,
+    /// The calls that their times leave unordered, and their lines don't.
+    pub ties: Vec<Tie>,
 }
 
 /// The stay of an item in the queue, from its send to its take; or of several, of which the last to leave counts.
@@ -48,7 +76,7 @@ pub enum Stay {
 #[derive(Clone, Copy, Debug, PartialEq, Eq, Drop)]
 pub struct Step {
     /// The place of the call in the log.
-    pub place: usize,
+    pub place: u32,
     /// Its act: for a take that hasn't returned, the one that it would have.
     pub act: Act,
 }

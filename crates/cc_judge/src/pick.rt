@@ -1,23 +1,26 @@
 //! The signs that a log has no order. Each is confirmed in `faults`, so nothing is asked of it here but that it is safe and
 //! ends.
 
-use crate::faults::{Index, sent};
-use crate::search::{ByTime, NEVER, place_of, span};
-use crate::share::{Shares, stay_of};
-use crate::{Act, Call, Stay};
+use crate::faults::sent;
+use crate::share::{Shares, place_of, stay_of, take_of};
+use crate::table::narrow;
+use crate::times::{ByTime, NEVER, View};
+use crate::{Act, Stay};
 use std::alloc::{AllocError, Global};
 
 /// The calls that sent, sorted by their begins, or by their ends.
-fn sends_by(alloc: Global, calls: &[Call], by_end: bool) -> Result<ByTime, AllocError> {
+fn sends_by(alloc: Global, view: &View<'_>, by_end: bool) -> Result<ByTime, AllocError> {
     let mut list = Vec::new(alloc);
-    for (place, call) in calls.iter().enumerate() {
-        if let Act::Send(_) = call.act {
-            let time = if by_end {
-                call.end.unwrap_or(NEVER)
+    for (place, call) in view.calls.iter().enumerate() {
+        if let (Act::Send(_), Some(at)) = (call.act, narrow(place)) {
+            let time = if by_end && call.end.is_none() {
+                NEVER
+            } else if by_end {
+                view.end(call)
             } else {
-                call.begin
+                view.begin(place, call)
             };
-            list.push((time, 0, place))?;
+            list.push((time, 0, at))?;
         }
     }
     list.sort()?;
@@ -34,19 +37,20 @@ struct Latest {
 }
 
 /// The begin of the take of the item that was sent at a place.
-fn leaves(calls: &[Call], shares: &Shares, send: usize) -> Option<u64> {
-    let item = sent(calls, send)?;
-    Some(span(calls, place_of(&shares.takes, item)).0)
+fn leaves(view: &View<'_>, shares: &Shares, send: usize) -> Option<u64> {
+    let item = sent(view.calls, send)?;
+    Some(view.span(take_of(view, shares, item)).0)
 }
 
-/// Goes on to all sends that ended before a time.
-fn advance(latest: &mut Latest, calls: &[Call], shares: &Shares, time: u64) {
+/// Goes on to all sends that ended before a moment.
+fn advance(latest: &mut Latest, view: &View<'_>, shares: &Shares, time: u64) {
     while latest.at < latest.sends.len() {
         let (end, _, send) = latest.sends[latest.at];
         if time <= end {
             return;
         }
-        if let Some(begin) = leaves(calls, shares, send) {
+        let send = send as usize;
+        if let Some(begin) = leaves(view, shares, send) {
             let later = match latest.best {
                 Some((best, _)) => best < begin,
                 None => true,
@@ -72,14 +76,13 @@ pub struct Pair {
 
 /// The send of the best of the earlier items, and the take of the later one, if the earlier one left after that.
 fn pair_of(
-    calls: &[Call],
-    index: &Index,
+    view: &View<'_>,
     best: Option<(u64, usize)>,
     later_send: usize,
 ) -> Option<(usize, usize)> {
     let (begin, send) = best?;
-    let later_take = place_of(&index.takes, sent(calls, later_send)?)?;
-    if begin <= span(calls, Some(later_take)).1 {
+    let later_take = place_of(&view.index.takes, sent(view.calls, later_send)?)?;
+    if begin <= view.span(Some(later_take)).1 {
         return None;
     }
     Some((send, later_take))
@@ -89,25 +92,25 @@ fn pair_of(
 /// O(n log n).
 pub fn overtaken(
     alloc: Global,
-    calls: &[Call],
-    index: &Index,
+    view: &View<'_>,
     shares: &Shares,
 ) -> Result<Option<Pair>, AllocError> {
     let mut latest = Latest {
-        sends: sends_by(alloc, calls, true)?,
+        sends: sends_by(alloc, view, true)?,
         at: 0,
         best: None,
     };
-    let begun = sends_by(alloc, calls, false)?;
+    let begun = sends_by(alloc, view, false)?;
     for (begin, _, later_send) in &begun {
-        advance(&mut latest, calls, shares, *begin);
-        if let Some((send, later_take)) = pair_of(calls, index, latest.best, *later_send) {
-            let Some(item) = sent(calls, send) else {
+        let later_send = *later_send as usize;
+        advance(&mut latest, view, shares, *begin);
+        if let Some((send, later_take)) = pair_of(view, latest.best, later_send) {
+            let Some(item) = sent(view.calls, send) else {
                 break;
             };
             return Ok(Some(Pair {
-                stay: stay_of(alloc, index, shares, send, item)?,
-                later_send: *later_send,
+                stay: stay_of(alloc, view.index, shares, send, item)?,
+                later_send,
                 later_take,
             }));
         }
@@ -130,35 +133,34 @@ fn size(stay: &Stay) -> usize {
 /// the log has calls, and more than 2^20, so that they take memory in proportion to the log.
 pub fn stays(
     alloc: Global,
-    calls: &[Call],
-    index: &Index,
+    view: &View<'_>,
     shares: &Shares,
     call: usize,
 ) -> Result<Vec<Stay>, AllocError> {
     let mut found = Vec::new(alloc);
     let mut latest = Latest {
-        sends: sends_by(alloc, calls, true)?,
+        sends: sends_by(alloc, view, true)?,
         at: 0,
         best: None,
     };
-    let (begin, end) = span(calls, Some(call));
+    let (begin, end) = view.span(Some(call));
     let (mut from, mut named) = (begin, 0usize);
-    for _ in 0..calls.len() {
-        advance(&mut latest, calls, shares, from);
+    for _ in 0..view.calls.len() {
+        advance(&mut latest, view, shares, from);
         let Some((begin, send)) = latest.best else {
             break;
         };
-        let Some(item) = sent(calls, send) else {
+        let Some(item) = sent(view.calls, send) else {
             break;
         };
         if begin <= from {
             break;
         }
-        let stay = stay_of(alloc, index, shares, send, item)?;
+        let stay = stay_of(alloc, view.index, shares, send, item)?;
         named = named.saturating_add(size(&stay));
         found.push(stay)?;
         from = begin;
-        if end < from || MOST.max(calls.len()) < named {
+        if end < from || MOST.max(view.calls.len()) < named {
             break;
         }
     }

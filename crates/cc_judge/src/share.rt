@@ -3,28 +3,37 @@
 //! here but that it is safe and ends.
 
 use crate::faults::{Index, sent};
-use crate::search::{ByTime, place_of};
-use crate::{Act, Call, Stay};
+use crate::table::narrow;
+use crate::times::{ByTime, View};
+use crate::{Act, Stay};
 use std::alloc::{AllocError, Global};
 
-/// Which takes have which items.
+/// Which takes that haven't returned have which items.
 #[derive(Drop)]
 pub struct Shares {
-    /// Of each item the place of the call that has it, if one has.
-    pub takes: Vec<Option<usize>>,
+    /// The items that such takes have, in order, with the places of the takes.
+    takes: Vec<(u32, u32)>,
     /// The sends of the items that are left, by their ends.
     left: ByTime,
     /// The takes that haven't returned, by their begins.
     taking: ByTime,
 }
 
+/// The place of an item's call.
+pub fn place_of(table: &Vec<Option<u32>>, item: u32) -> Option<usize> {
+    match table.get(item as usize) {
+        Some(Some(place)) => Some(*place as usize),
+        _ => None,
+    }
+}
+
 /// The sends that ended whose items no call took, by their ends.
-fn sends_left(alloc: Global, calls: &[Call], index: &Index) -> Result<ByTime, AllocError> {
+fn sends_left(alloc: Global, view: &View<'_>) -> Result<ByTime, AllocError> {
     let mut list = Vec::new(alloc);
-    for (place, call) in calls.iter().enumerate() {
-        if let (Act::Send(item), Some(end)) = (call.act, call.end) {
-            if place_of(&index.takes, item).is_none() {
-                list.push((end, 0, place))?;
+    for (place, call) in view.calls.iter().enumerate() {
+        if let (Act::Send(item), Some(_), Some(at)) = (call.act, call.end, narrow(place)) {
+            if place_of(&view.index.takes, item).is_none() {
+                list.push((view.end(call), 0, at))?;
             }
         }
     }
@@ -33,11 +42,11 @@ fn sends_left(alloc: Global, calls: &[Call], index: &Index) -> Result<ByTime, Al
 }
 
 /// The takes that haven't returned, by their begins.
-fn takes_open(alloc: Global, calls: &[Call]) -> Result<ByTime, AllocError> {
+fn takes_open(alloc: Global, view: &View<'_>) -> Result<ByTime, AllocError> {
     let mut list = Vec::new(alloc);
-    for (place, call) in calls.iter().enumerate() {
-        if matches!(call.act, Act::Taking) {
-            list.push((call.begin, 0, place))?;
+    for (place, call) in view.calls.iter().enumerate() {
+        if let (Act::Taking, Some(at)) = (call.act, narrow(place)) {
+            list.push((view.begin(place, call), 0, at))?;
         }
     }
     list.sort()?;
@@ -45,22 +54,45 @@ fn takes_open(alloc: Global, calls: &[Call]) -> Result<ByTime, AllocError> {
 }
 
 /// Gives the items that are left to the takes that haven't returned.
-pub fn share(alloc: Global, calls: &[Call], index: &Index) -> Result<Shares, AllocError> {
-    let left = sends_left(alloc, calls, index)?;
-    let taking = takes_open(alloc, calls)?;
-    let mut takes = index.takes.clone()?;
+pub fn share(alloc: Global, view: &View<'_>) -> Result<Shares, AllocError> {
+    let left = sends_left(alloc, view)?;
+    let taking = takes_open(alloc, view)?;
+    let mut takes = Vec::new(alloc);
     for ((_, _, send), (_, _, take)) in left.iter().zip(taking.iter()) {
-        if let Some(item) = sent(calls, *send) {
-            if item < takes.len() {
-                takes[item] = Some(*take);
-            }
+        if let Some(item) = sent(view.calls, *send as usize) {
+            takes.push((item, *take))?;
         }
     }
+    takes.sort()?;
     Ok(Shares {
         takes,
         left,
         taking,
     })
+}
+
+/// The place of the call that has an item: that took it, or that hasn't returned.
+pub fn take_of(view: &View<'_>, shares: &Shares, item: u32) -> Option<usize> {
+    if let Some(take) = place_of(&view.index.takes, item) {
+        return Some(take);
+    }
+    let (mut low, mut high) = (0usize, shares.takes.len());
+    for _ in 0..64 {
+        if high <= low {
+            return None;
+        }
+        let middle = low.saturating_add((high - low) / 2);
+        let (other, take) = shares.takes.get(middle).copied()?;
+        if other == item {
+            return Some(take as usize);
+        }
+        if other < item {
+            low = middle.saturating_add(1);
+        } else {
+            high = middle;
+        }
+    }
+    None
 }
 
 /// The stay of the item that was sent at a place.
@@ -69,7 +101,7 @@ pub fn stay_of(
     index: &Index,
     shares: &Shares,
     send: usize,
-    item: usize,
+    item: u32,
 ) -> Result<Stay, AllocError> {
     if let Some(take) = place_of(&index.takes, item) {
         return Ok(Stay::Taken { send, take });
@@ -77,9 +109,10 @@ pub fn stay_of(
     let mut sends = Vec::new(alloc);
     let mut next = None;
     for (at, (_, _, place)) in shares.left.iter().enumerate() {
-        sends.push(*place)?;
-        next = shares.taking.get(at).map(|(_, _, take)| *take);
-        if *place == send || next.is_none() {
+        let place = *place as usize;
+        sends.push(place)?;
+        next = shares.taking.get(at).map(|(_, _, take)| *take as usize);
+        if place == send || next.is_none() {
             break;
         }
     }

@@ -30,7 +30,7 @@ pub enum Entry {
 #[derive(Debug, Drop)]
 pub enum Found {
     /// Of each item the place of its call, if there is one.
-    Each(Vec<Option<usize>>),
+    Each(Vec<Option<u32>>),
     /// Two calls have one item.
     Twice(usize, usize),
     /// A call has an item past the number of items.
@@ -38,7 +38,7 @@ pub enum Found {
 }
 
 /// The item of a call of this kind.
-fn item_of(kind: Kind, act: Act) -> Option<usize>
+fn item_of(kind: Kind, act: Act) -> Option<u32>
     ensures some { IfSome result (λ item. act ≡ act_of kind item) }
     ensures none { IfNone result ((item : ℕ) → act ≢ act_of kind item) }
 {
@@ -48,16 +48,31 @@ fn item_of(kind: Kind, act: Act) -> Option<usize>
     }
 }
 
-/// Enters the place of an item, unless it has one.
-fn enter(table: &mut Vec<Option<usize>>, item: usize, place: usize) -> Entry
-    ensures { Enters table.old.items item place table.new.items result }
+/// A number in 32 bits, if it fits them.
+pub fn narrow(number: usize) -> Option<u32>
+    ensures { IfSome result (λ n. n ≡ number) }
 {
+    if number <= u32::MAX as usize {
+        Some(number as u32)
+    } else {
+        None
+    }
+}
+
+/// Enters the place of an item, unless it has one. A place past 2^32 counts as one for which there is no memory.
+fn enter(table: &mut Vec<Option<u32>>, item: u32, place: usize) -> Result<Entry, AllocError>
+    ensures { IfOk result (Enters table.old.items item place table.new.items) }
+{
+    let Some(here) = narrow(place) else {
+        return Err(AllocError);
+    };
+    let item = item as usize;
     match table.get(item) {
-        None => Entry::Stray,
-        Some(Some(had)) => Entry::Had(*had),
+        None => Ok(Entry::Stray),
+        Some(Some(had)) => Ok(Entry::Had(*had as usize)),
         Some(None) => {
-            table[item] = Some(place);
-            Entry::New
+            table[item] = Some(here);
+            Ok(Entry::New)
         }
     }
 }
@@ -70,7 +85,7 @@ pub fn find(alloc: Global, calls: &[Call], items: usize, kind: Kind) -> Result<F
     let mut table = vec![in alloc; None; items]?;
     for (place, call) in calls.iter().enumerate() {
         if let Some(item) = item_of(kind, call.act) {
-            match enter(&mut table, item, place) {
+            match enter(&mut table, item, place)? {
                 Entry::New => {}
                 Entry::Had(first) => return Ok(Found::Twice(first, place)),
                 Entry::Stray => return Ok(Found::Stray(place)),

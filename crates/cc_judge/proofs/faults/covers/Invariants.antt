@@ -4,4 +4,4 @@ use Rattle.cc_judge.proofs.faults.covers.Given as goal
 
 -- from the take of the last stay on the rest has to cover the call
 abbrev pub invariant-loop-stay : goal.invariant-loop-stay
-invariant-loop-stay l = Covers l.calls l.call l.from (drop l.stay-index l.stays) → Covers l.calls l.call l.call l.stays
+invariant-loop-stay l = Covers l.rules l.calls l.call l.from (drop l.stay-index l.stays) → Covers l.rules l.calls l.call l.call l.stays

@@ -1,13 +1,13 @@
 use Rattle.std.proofs.Common.{ℕ, ◌+◌, List, Option, sym, ap, subst}
 use Rattle.cc_judge.proofs.Tables.{TabledTo, tabled_skip, tabled_new, tabled_end}
 use Rattle.cc_judge.proofs.table.find.Goals as goal
-use Rattle.cc_judge.proofs.table.find.Goals.{in-Some+in-New, in_default}
+use Rattle.cc_judge.proofs.table.find.Goals.{in-Some+in_ok-enter+in-New, in_default}
 
 pub loop-place-preserved : goal.loop-place-preserved
 loop-place-preserved c =
     let Goes : List (Option ℕ) → Type 0 = λ t. TabledTo c.args.calls.now c.args.kind t (c.loop-place.place + 1) in
     elim c.match-item_of.branch [
-      | in-Some+in-New w ↦ subst Goes (ap (λ t. t.items) (sym w.table-is)) (tabled_new _ _ _ _ _ _ _ c.loop-place-test.true w.in-Some.ensures.some w.in-New.ensures.0 w.in-New.ensures.1 c.loop-place.invariant)
+      | in-Some+in_ok-enter+in-New w ↦ subst Goes (ap (λ t. t.items) (sym w.table-is)) (tabled_new _ _ _ _ _ _ _ c.loop-place-test.true w.in-Some.ensures.some (rw w.in-New.is at w.in_ok-enter.ensures).0 (rw w.in-New.is at w.in_ok-enter.ensures).1 c.loop-place.invariant)
       | in_default w ↦ subst Goes (ap (λ t. t.items) (sym w.table-is)) (tabled_skip _ _ _ _ _ w.in_default.ensures.none c.loop-place.invariant)
     ]
 

@@ -1,0 +1,130 @@
+-- A queue that was closed stays so: which steps come before which by that.
+use Rattle.std.proofs.Common.{◌≡◌, ◌≢◌, ℕ, ◌⊎◌, inl, inr, List, [], ◌∷◌, Bool, true, false, refl, sym, ap, ◌∙◌, subst}
+use Rattle.cc_judge.specs.Names.{Act, Call, Rules, Step}
+use Rattle.cc_judge.specs.Order.{EndsBefore, Allows, Closes, closed_after, IsOrder}
+use Rattle.cc_judge.specs.Faults.{Did, Returned, ShowsClosed, WasClosed, SentWhileOpen, SentBefore}
+use Rattle.cc_judge.proofs.Places.{In, Before, before_first, before_second, in_order}
+use Rattle.cc_judge.proofs.Orders.{StepOf, returned_step, ended_step, in_time, on_before, apart}
+use Rattle.cc_judge.proofs.Runs.{Earlier}
+
+-- the queue has to be open for this
+abbrev pub WantsOpen : Act → Type 0
+WantsOpen act = ((item : ℕ) × (act ≡ Act.Send item)) ⊎ (act ≡ Act.Full)
+
+open_then : (closed : Bool) (act : Act) → Allows closed act → WantsOpen act → closed ≡ false
+open_then closed act allows (inl sent) = subst (λ (a : Act). Allows closed a) sent.1 allows
+open_then closed act allows (inr full) = subst (λ (a : Act). Allows closed a) full allows
+
+stays_closed : (act : Act) → closed_after true act ≡ true
+stays_closed (Act.Send v) = refl
+stays_closed (Act.Took v) = refl
+stays_closed Act.FoundNone = refl
+stays_closed Act.Taking = refl
+stays_closed Act.Full = refl
+stays_closed Act.Closed = refl
+stays_closed Act.Ended = refl
+stays_closed Act.Close = refl
+
+shows_after : (closed : Bool) (act : Act) → Allows closed act → ShowsClosed act → closed_after closed act ≡ true
+shows_after closed act allows (inl close) = ap (closed_after closed) close
+shows_after closed act allows (inr (inl answered)) = ap (closed_after closed) answered ∙ subst (λ (a : Act). Allows closed a) answered allows
+shows_after closed act allows (inr (inr ended)) = ap (closed_after closed) ended ∙ subst (λ (a : Act). Allows closed a) ended allows
+
+shut_for_good : (steps : List Step) (t : Step) → Closes true steps → In t steps → WantsOpen t.act → ⊥
+shut_for_good [] t closes within wants = absurd within
+shut_for_good (x ∷ steps) t closes (inl here) wants =
+    let o : true ≡ false = open_then true x.act closes.0 (subst (λ (s : Step). WantsOpen s.act) (sym here) wants) in
+    cc
+shut_for_good (x ∷ steps) t closes (inr later) wants = shut_for_good steps t (subst (λ (b : Bool). Closes b steps) (stays_closed x.act) closes.1) later wants
+
+-- no step that wants the queue open comes after one that shows it closed
+pub not_after : (closed : Bool) (steps : List Step) (s t : Step) → Closes closed steps → Before s t steps → ShowsClosed s.act → WantsOpen t.act → ⊥
+not_after closed [] s t closes first shows wants = absurd first
+not_after closed (x ∷ steps) s t closes (inl here) shows wants =
+    let shut : closed_after closed x.act ≡ true = shows_after closed x.act closes.0 (subst (λ (y : Step). ShowsClosed y.act) (sym here.0) shows) in
+    shut_for_good steps t (subst (λ (b : Bool). Closes b steps) shut closes.1) here.1 wants
+not_after closed (x ∷ steps) s t closes (inr later) shows wants = not_after (closed_after closed x.act) steps s t closes.1 later shows wants
+
+-- it was answered that the queue is closed
+abbrev pub Answers : Act → Type 0
+Answers act = (act ≡ Act.Closed) ⊎ (act ≡ Act.Ended)
+
+closed_then : (closed : Bool) (act : Act) → Allows closed act → Answers act → closed ≡ true
+closed_then closed act allows (inl answered) = subst (λ (a : Act). Allows closed a) answered allows
+closed_then closed act allows (inr ended) = subst (λ (a : Act). Allows closed a) ended allows
+
+still_open : (act : Act) → act ≢ Act.Close → closed_after false act ≡ false
+still_open (Act.Send v) other = refl
+still_open (Act.Took v) other = refl
+still_open Act.FoundNone other = refl
+still_open Act.Taking other = refl
+still_open Act.Full other = refl
+still_open Act.Closed other = refl
+still_open Act.Ended other = refl
+still_open Act.Close other = absurd (other refl)
+
+is_close : (act : Act) → (act ≡ Act.Close) ⊎ (act ≢ Act.Close)
+is_close (Act.Send v) = inr (λ e. cc)
+is_close (Act.Took v) = inr (λ e. cc)
+is_close Act.FoundNone = inr (λ e. cc)
+is_close Act.Taking = inr (λ e. cc)
+is_close Act.Full = inr (λ e. cc)
+is_close Act.Closed = inr (λ e. cc)
+is_close Act.Ended = inr (λ e. cc)
+is_close Act.Close = inl refl
+
+-- a close comes before each step that answers so, of a queue that is open at first
+pub closed_first : (steps : List Step) (t : Step) → Closes false steps → In t steps → Answers t.act → Earlier steps t Act.Close
+closed_first [] t closes within answers = absurd within
+closed_first (x ∷ steps) t closes (inl here) answers =
+    let shut : false ≡ true = closed_then false x.act closes.0 (subst (λ (s : Step). Answers s.act) (sym here) answers) in
+    cc
+closed_first (x ∷ steps) t closes (inr later) answers = elim (is_close x.act) [
+  | inl close ↦ record { step = x; before = inl (refl, later); act_is = close }
+  | inr other ↦
+      let e = closed_first steps t (subst (λ (b : Bool). Closes b steps) (still_open x.act other) closes.1) later answers in
+      record { step = e.step; before = inr e.before; act_is = e.act_is }
+]
+
+-- ---- of an order
+
+not_taking : (act : Act) → ShowsClosed act → act ≢ Act.Taking
+not_taking act (inl close) taking = let e : Act.Close ≡ Act.Taking = sym close ∙ taking in cc
+not_taking act (inr (inl answered)) taking = let e : Act.Closed ≡ Act.Taking = sym answered ∙ taking in cc
+not_taking act (inr (inr ended)) taking = let e : Act.Ended ≡ Act.Taking = sym ended ∙ taking in cc
+
+pub shown_step : (rules : Rules) (calls : List Call) (order : List Step) → IsOrder rules calls order → (place : ℕ) → (w : WasClosed calls place) → StepOf order place w.act
+shown_step rules calls order o place w = returned_step rules calls order o place w.act (not_taking w.act w.shows) w.returned
+
+sent_open : (act : Act) (item : ℕ) → act ≡ Act.Send item → WantsOpen act
+sent_open act item is = inl (item, is)
+
+-- the step of an accepted send whose call comes before another
+pub sent_step : (rules : Rules) (calls : List Call) (order : List Step) → IsOrder rules calls order → (send from item : ℕ) → SentBefore rules calls send from item → StepOf order send (Act.Send item)
+sent_step rules calls order o send from item s = elim s.before [
+  | inl ends ↦ ended_step rules calls order o send from (Act.Send item) (λ is. cc) s.sent ends
+  | inr w ↦ returned_step rules calls order o send (Act.Send item) (λ is. cc) w.returned
+]
+
+-- no step of the other call comes before it
+pub sent_first : (rules : Rules) (calls : List Call) (order : List Step) → IsOrder rules calls order → (send from item : ℕ) → SentBefore rules calls send from item → (s f : Step) → s.place ≡ send → s.act ≡ Act.Send item → f.place ≡ from → Before f s order → ⊥
+sent_first rules calls order o send from item b s f s_place s_act f_place first = elim b.before [
+  | inl ends ↦ in_time rules calls order o f s first (subst (λ (x : ℕ × ℕ). EndsBefore calls x.0 x.1) (λ i. (sym s_place i, sym f_place i)) ends)
+  | inr w ↦ while_open w
+]
+  where
+    while_open : SentWhileOpen rules calls send from item → ⊥
+    while_open w =
+        let h = shown_step rules calls order o w.closed w.was_closed in
+        let shows : ShowsClosed h.step.act = subst ShowsClosed (sym h.act_is) w.was_closed.shows in
+        let closes = o.closing w.judged in
+        elim (in_order h.step f order h.within (before_first f s order first)) [
+          | inl same ↦ not_after false order f s closes first (subst (λ (x : Step). ShowsClosed x.act) same shows) (sent_open s.act item s_act)
+          | inr placed ↦ elim placed [
+            | inl earlier ↦ not_after false order h.step s closes (on_before rules calls order o h.step f s earlier first) shows (sent_open s.act item s_act)
+            | inr later ↦ elim w.by [
+              | inl here ↦ apart rules calls order o f h.step later (f_place ∙ sym here ∙ sym h.place_is)
+              | inr ends ↦ in_time rules calls order o f h.step later (subst (λ (x : ℕ × ℕ). EndsBefore calls x.0 x.1) (λ i. (sym h.place_is i, sym f_place i)) ends)
+            ]
+          ]
+        ]
